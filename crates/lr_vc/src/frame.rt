@@ -1,0 +1,58 @@
+ghost use Rattle.std.specs.Prelude.{◌<◌, ◌^◌};
+
+use lr_bits::field;
+
+/// The bytes of a frame.
+pub const FRAME_BYTES: usize = 892;
+
+/// The bytes of a frame's packet zone.
+pub const ZONE_BYTES: usize = 884;
+
+/// The version of a frame, which isn't 1.
+#[derive(Clone, Copy)]
+pub struct BadVersion(pub u8);
+
+/// A transfer frame of version 1 (CCSDS 732.0-B, section 4.1). Its type keeps that each number fits its field.
+#[derive(Clone, Copy)]
+pub struct TransferFrame {
+    pub spacecraft: u8,
+    /// The virtual channel, six bits. Channel 63 is fill.
+    pub vc: u8,
+    /// The frames of a channel are counted in 24 bits.
+    pub counter: u32,
+    pub replay: bool,
+    /// The seven bits behind the replay flag, which nothing here interprets.
+    pub rest: u8,
+    /// The place in the zone at which the first packet header begins, or 2047 where none does, or 2046 for idle data.
+    pub pointer: u16,
+    pub zone: [u8; ZONE_BYTES],
+    ghost vc_fits: { vc < 2 ^ 6 },
+    ghost counter_fits: { counter < 2 ^ 24 },
+    ghost rest_fits: { rest < 2 ^ 7 },
+    ghost pointer_fits: { pointer < 2 ^ 11 },
+}
+
+impl TransferFrame {
+    ghost use Rattle.lr_vc.specs.Reading.{IsReadFrom};
+
+    /// The fields of these bytes. `BadVersion` exactly where their version isn't 1, with that version.
+    pub fn read(bytes: &[u8; FRAME_BYTES]) -> Result<Self, BadVersion>
+        ensures { IsReadFrom bytes.now result }
+    {
+        let version = field(bytes, 0, 2) as u8;
+        if version != 1 {
+            return Err(BadVersion(version));
+        }
+        let mut zone = [0; ZONE_BYTES];
+        zone.copy_from_slice(&bytes[8..]);
+        Ok(TransferFrame {
+            spacecraft: field(bytes, 2, 8) as u8,
+            vc: field(bytes, 10, 6) as u8,
+            counter: field(bytes, 16, 24) as u32,
+            replay: field(bytes, 40, 1) == 1,
+            rest: field(bytes, 41, 7) as u8,
+            pointer: field(bytes, 53, 11) as u16,
+            zone,
+        })
+    }
+}
