@@ -1,0 +1,14 @@
+//! Where bytes come from and where they go: a source and a sink, in memory and over std's streams.
+//!
+//! Each object has a count of its own faults, a number of 64 bits that never falls, and may tell its bytes: what a
+//! source has left, what a sink holds. A call fails only where the count rises. What a call says of bytes holds for an
+//! object that tells them, and whether it does never changes. `MemSource`, `MemSink` and `SureSource` tell their bytes;
+//! `ReadSource`, `WriteSink` and `SureSink` tell nothing. The layers above rest on `Source::take` and on `put_all`.
+#![tactic(auto)]
+
+mod places;
+mod sink;
+mod source;
+
+pub use sink::{MemSink, Sink, SureSink, WriteSink, put_all};
+pub use source::{MemSource, ReadSource, Source, SureSource};

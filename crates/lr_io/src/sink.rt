@@ -1,0 +1,197 @@
+ghost use Rattle.std.specs.Prelude.{◌≡◌, ◌≤◌, ◌<◌, ◌++◌, List, [], ℕ, length, take, IfOk, OnOk, OnErr, vec_capacity};
+ghost use Rattle.lr_bits.specs.Faults.{HasCause};
+ghost use Rattle.lr_io.specs.Pieces.{PutsPart};
+
+use crate::places::{reach, strike};
+use lr_bits::{Failed, NoMemory};
+use std::alloc::Global;
+use std::io::Write;
+
+/// Where bytes go.
+pub trait Sink {
+    /// How often it has failed.
+    ghost faults: { Self → ℕ };
+
+    /// Whether it tells the bytes that it holds.
+    ghost tells: { Self → Type 0 };
+
+    /// The bytes that it holds, where it tells them.
+    ghost contents: { Self → List ℕ };
+
+    /// Appends the first bytes of the piece, one at least, and answers how many. Where it fails nothing was appended.
+    fn put(&mut self, piece: &[u8]) -> Result<usize, Failed>
+        requires { 0 < length piece.now }
+        ensures cause { HasCause (faults self.old) (faults self.new) result }
+        ensures some { IfOk result (λ n. 0 < n) }
+        ensures within { IfOk result (λ n. n ≤ length piece.now) }
+        ensures told { tells self.old → tells self.new }
+        ensures untold { tells self.new → tells self.old }
+        ensures appended { tells self.old → IfOk result (λ n. contents self.new ≡ contents self.old ++ take n piece.now) }
+        ensures failed { tells self.old → OnErr result (contents self.new ≡ contents self.old) };
+}
+
+/// Appends all bytes. Where it fails a front of them that isn't all of them was appended.
+pub fn put_all<O: Sink>(sink: &mut O, bytes: &[u8]) -> Result<(), Failed>
+    ensures cause { HasCause (O.faults sink.old) (O.faults sink.new) result }
+    ensures told { O.tells sink.old → O.tells sink.new }
+    ensures untold { O.tells sink.new → O.tells sink.old }
+    ensures appended { O.tells sink.old → OnOk result (O.contents sink.new ≡ O.contents sink.old ++ bytes.now) }
+    ensures failed { O.tells sink.old → OnErr result (PutsPart bytes.now (O.contents sink.old) (O.contents sink.new)) }
+{
+    let mut rest = bytes;
+    while rest.len() > 0 {
+        let count = sink.put(rest)?;
+        rest = &rest[count..];
+    }
+    Ok(())
+}
+
+/// A writer of std as a sink, which writes and flushes each piece. It tells nothing of what it holds, and
+/// counts each `Err` and each write of nothing.
+#[derive(Drop)]
+pub struct WriteSink<T: Write> {
+    writer: T,
+    faults: u64,
+}
+
+impl<T: Write> WriteSink<T> {
+    ghost use Rattle.std.specs.Prelude.{◌≡◌};
+    ghost use Rattle.lr_io.specs.Streams.{write_faults};
+
+    pub fn of(writer: T) -> Self
+        ensures { write_faults result ≡ 0 }
+    {
+        WriteSink { writer, faults: 0 }
+    }
+}
+
+fn write_and_flush<T: Write>(writer: &mut T, piece: &[u8]) -> std::io::Result<usize>
+    ensures within { IfOk result (λ n. n ≤ length piece.now) }
+{
+    let count = writer.write(piece)?;
+    writer.flush()?;
+    Ok(count)
+}
+
+impl<T: Write> Sink for WriteSink<T> {
+    ghost faults = { λ s. s.faults };
+
+    ghost tells = { λ _. ⊥ };
+
+    ghost contents = { λ _. [] };
+
+    fn put(&mut self, piece: &[u8]) -> Result<usize, Failed> {
+        match write_and_flush(&mut self.writer, piece) {
+            Ok(count) if count > 0 => Ok(count),
+            _ => {
+                self.faults = self.faults.saturating_add(1);
+                Err(Failed)
+            }
+        }
+    }
+}
+
+/// Bytes in memory as a sink with a room. It can be told to fail at stated places. A place is a number of bytes
+/// held so far.
+#[derive(Drop)]
+pub struct MemSink {
+    bytes: Vec<u8>,
+    room: usize,
+    failing: Vec<u64>,
+    faults: u64,
+    ghost taken: { room ≤ vec_capacity bytes },
+    ghost inside: { length bytes.items ≤ room },
+}
+
+impl MemSink {
+    ghost use Rattle.std.specs.Prelude.{◌≡◌, [], IfOk};
+    ghost use Rattle.lr_io.specs.MemSink.{held_by, room_of, failing_places, faults_of};
+
+    /// An empty sink, which takes its room now, with one failed call at each place of `failing`.
+    pub fn of(alloc: Global, failing: Vec<u64>, room: usize) -> Result<Self, NoMemory>
+        ensures empty { IfOk result (λ sink. held_by sink ≡ []) }
+        ensures room { IfOk result (λ sink. room_of sink ≡ room) }
+        ensures failing { IfOk result (λ sink. failing_places sink ≡ failing.items) }
+        ensures faults { IfOk result (λ sink. faults_of sink ≡ 0) }
+    {
+        Ok(MemSink {
+            bytes: Vec::with_capacity(alloc, room)?,
+            room,
+            failing,
+            faults: 0,
+        })
+    }
+
+    pub fn as_slice(&self) -> &[u8]
+        ensures { result.now ≡ held_by self.now }
+    {
+        &self.bytes
+    }
+}
+
+impl Sink for MemSink {
+    ghost use Rattle.std.specs.Prelude.{◌≡◌, ◌↔◌, ◌⊎◌, ◌≤◌, ◌<◌, ◌++◌, Contains, EachIndex, slice_index, length, take, IfOk, OnErr, OnOk, IsErr, if◌then◌else◌, is_err, filter, not, ◌==◌};
+    ghost use Rattle.lr_bits.specs.Faults.{HasCause};
+    ghost use Rattle.lr_io.specs.MemSink.{held_by, room_of, faults_of, failing_places};
+
+    ghost faults = { λ s. s.faults };
+
+    ghost tells = { λ _. Unit {0} };
+
+    ghost contents = { held_by };
+
+    /// It fails exactly at a stated place that hasn't failed yet and where its room is full, and passes no such place. It
+    /// takes no memory.
+    fn put(&mut self, piece: &[u8]) -> Result<usize, Failed>
+        requires { 0 < length piece.now }
+        ensures cause { HasCause (faults_of self.old) (faults_of self.new) result }
+        ensures some { IfOk result (λ n. 0 < n) }
+        ensures within { IfOk result (λ n. n ≤ length piece.now) }
+        ensures appended { IfOk result (λ n. held_by self.new ≡ held_by self.old ++ take n piece.now) }
+        ensures failed { OnErr result (held_by self.new ≡ held_by self.old) }
+
+        ensures exact { IsErr result ↔ (Contains (failing_places self.old) (length (held_by self.old))
+            ⊎ (length (held_by self.old) ≡ room_of self.old)) }
+        ensures spent { failing_places self.new ≡ (if is_err result
+            then filter (λ p. not (p == length (held_by self.old))) (failing_places self.old) else failing_places self.old) }
+        ensures room { room_of self.new ≡ room_of self.old }
+        ensures stops { OnOk result (EachIndex (failing_places self.old) (λ k.
+            length (held_by self.old) < slice_index (failing_places self.old) k
+            → length (held_by self.new) ≤ slice_index (failing_places self.old) k)) }
+    {
+        let place = self.bytes.len() as u64;
+        let most = piece.len().min(self.room - self.bytes.len());
+        if most == 0 || self.failing.contains(&place) {
+            strike(&mut self.failing, place);
+            self.faults = self.faults.saturating_add(1);
+            return Err(Failed);
+        }
+        let count = reach(&self.failing, place, most);
+        if self.bytes.extend_from_slice(&piece[..count]).is_err() {
+            unreachable!();
+        }
+        Ok(count)
+    }
+}
+
+/// A sink that never fails. It keeps no bytes and tells none.
+#[derive(Drop)]
+pub struct SureSink;
+
+impl SureSink {
+    pub fn new() -> Self {
+        SureSink
+    }
+}
+
+impl Sink for SureSink {
+    ghost faults = { λ _. 0 };
+
+    ghost tells = { λ _. ⊥ };
+
+    ghost contents = { λ _. [] };
+
+    fn put(&mut self, piece: &[u8]) -> Result<usize, Failed> {
+        Ok(piece.len())
+    }
+}

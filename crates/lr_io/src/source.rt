@@ -1,0 +1,188 @@
+ghost use Rattle.std.specs.Prelude.{◌≡◌, ◌↔◌, ◌≤◌, ◌<◌, ◌++◌, List, [], ℕ, length, take, IfOk, OnErr};
+ghost use Rattle.lr_bits.specs.Faults.{HasCause};
+
+use crate::places::{reach, strike};
+use lr_bits::Failed;
+use std::io::Read;
+
+/// Bytes that come in pieces.
+pub trait Source {
+    /// How often it has failed.
+    ghost faults: { Self → ℕ };
+
+    /// Whether it tells the bytes that are left.
+    ghost tells: { Self → Type 0 };
+
+    /// The bytes that are left, where it tells them.
+    ghost left: { Self → List ℕ };
+
+    /// Moves the next bytes to the front of `into`, and answers how many. A source that tells its bytes moves none only
+    /// at its end. Where it fails nothing was taken.
+    fn take(&mut self, into: &mut [u8]) -> Result<usize, Failed>
+        requires { 0 < length into.old }
+        ensures cause { HasCause (faults self.old) (faults self.new) result }
+        ensures within { IfOk result (λ n. n ≤ length into.new) }
+        ensures told { tells self.old → tells self.new }
+        ensures untold { tells self.new → tells self.old }
+        ensures moved { tells self.old → IfOk result (λ n. left self.old ≡ take n into.new ++ left self.new) }
+        ensures ended { tells self.old → IfOk result (λ n. (n ≡ 0) ↔ (left self.old ≡ [])) }
+        ensures failed { tells self.old → OnErr result (left self.new ≡ left self.old) };
+}
+
+/// A reader of std as a source. It tells nothing of what is left, and counts each `Err`.
+#[derive(Drop)]
+pub struct ReadSource<T: Read> {
+    reader: T,
+    faults: u64,
+}
+
+impl<T: Read> ReadSource<T> {
+    ghost use Rattle.std.specs.Prelude.{◌≡◌};
+    ghost use Rattle.lr_io.specs.Streams.{read_faults};
+
+    pub fn of(reader: T) -> Self
+        ensures { read_faults result ≡ 0 }
+    {
+        ReadSource { reader, faults: 0 }
+    }
+}
+
+impl<T: Read> Source for ReadSource<T> {
+    ghost faults = { λ s. s.faults };
+
+    ghost tells = { λ _. ⊥ };
+
+    ghost left = { λ _. [] };
+
+    fn take(&mut self, into: &mut [u8]) -> Result<usize, Failed> {
+        match self.reader.read(into) {
+            Ok(count) => Ok(count),
+            Err(_) => {
+                self.faults = self.faults.saturating_add(1);
+                Err(Failed)
+            }
+        }
+    }
+}
+
+/// Bytes in memory as a source. It can be told to cut its pieces, and to fail, at stated places. A place is a
+/// number of bytes moved so far.
+#[derive(Drop)]
+pub struct MemSource {
+    bytes: Vec<u8>,
+    at: usize,
+    cuts: Vec<u64>,
+    failing: Vec<u64>,
+    faults: u64,
+    ghost inside: { at ≤ length bytes.items },
+}
+
+impl MemSource {
+    ghost use Rattle.std.specs.Prelude.{◌≡◌};
+    ghost use Rattle.lr_io.specs.MemSource.{moved, left_of, cut_places, failing_places, faults_of};
+
+    /// These bytes, in pieces that end at the cuts, with one failed call at each place of `failing`.
+    pub fn of(bytes: Vec<u8>, cuts: Vec<u64>, failing: Vec<u64>) -> Self
+        ensures moved { moved result ≡ 0 }
+        ensures left { left_of result ≡ bytes.items }
+        ensures cuts { cut_places result ≡ cuts.items }
+        ensures failing { failing_places result ≡ failing.items }
+        ensures faults { faults_of result ≡ 0 }
+    {
+        MemSource {
+            bytes,
+            at: 0,
+            cuts,
+            failing,
+            faults: 0,
+        }
+    }
+}
+
+impl Source for MemSource {
+    ghost use Rattle.std.specs.Prelude.{◌≡◌, ◌↔◌, ◌+◌, ◌≤◌, ◌<◌, ◌++◌, Contains, EachIndex, slice_index, length, take, IfOk, OnErr, OnOk, IsErr, [], if◌then◌else◌, is_err, filter, not, ◌==◌};
+    ghost use Rattle.lr_bits.specs.Faults.{HasCause};
+    ghost use Rattle.lr_io.specs.MemSource.{moved, left_of, cut_places, faults_of, failing_places};
+
+    ghost faults = { λ s. s.faults };
+
+    ghost tells = { λ _. Unit {0} };
+
+    ghost left = { left_of };
+
+    /// It fails exactly at a stated place that hasn't failed yet, and passes neither such a place nor a cut. It takes no
+    /// memory.
+    fn take(&mut self, into: &mut [u8]) -> Result<usize, Failed>
+        requires { 0 < length into.old }
+        ensures cause { HasCause (faults_of self.old) (faults_of self.new) result }
+        ensures within { IfOk result (λ n. n ≤ length into.new) }
+        ensures moved { IfOk result (λ n. left_of self.old ≡ take n into.new ++ left_of self.new) }
+        ensures ended { IfOk result (λ n. (n ≡ 0) ↔ (left_of self.old ≡ [])) }
+        ensures failed { OnErr result (left_of self.new ≡ left_of self.old) }
+
+        ensures exact { IsErr result ↔ Contains (failing_places self.old) (moved self.old) }
+        ensures spent { failing_places self.new ≡ (if is_err result
+            then filter (λ p. not (p == moved self.old)) (failing_places self.old) else failing_places self.old) }
+        ensures count { IfOk result (λ n. moved self.new ≡ moved self.old + n) }
+        ensures stays { OnErr result (moved self.new ≡ moved self.old) }
+        ensures same_cuts { cut_places self.new ≡ cut_places self.old }
+        ensures stops { OnOk result (EachIndex (failing_places self.old) (λ k.
+            moved self.old < slice_index (failing_places self.old) k → moved self.new ≤ slice_index (failing_places self.old) k)) }
+        ensures cuts { OnOk result (EachIndex (cut_places self.old) (λ k.
+            moved self.old < slice_index (cut_places self.old) k → moved self.new ≤ slice_index (cut_places self.old) k)) }
+    {
+        let place = self.at as u64;
+        if self.failing.contains(&place) {
+            strike(&mut self.failing, place);
+            self.faults = self.faults.saturating_add(1);
+            return Err(Failed);
+        }
+        let most = into.len().min(self.bytes.len() - self.at);
+        if most == 0 {
+            return Ok(0);
+        }
+        let count = reach(&self.cuts, place, reach(&self.failing, place, most));
+        let end = self.at + count;
+        into[..count].copy_from_slice(&self.bytes[self.at..end]);
+        self.at = end;
+        Ok(count)
+    }
+}
+
+/// Bytes in memory as a source that never fails.
+#[derive(Drop)]
+pub struct SureSource {
+    bytes: Vec<u8>,
+    at: usize,
+    ghost inside: { at ≤ length bytes.items },
+}
+
+impl SureSource {
+    ghost use Rattle.std.specs.Prelude.{◌≡◌};
+    ghost use Rattle.lr_io.specs.SureSource.{left_of};
+
+    /// These bytes, and then their end.
+    pub fn of(bytes: Vec<u8>) -> Self
+        ensures { left_of result ≡ bytes.items }
+    {
+        SureSource { bytes, at: 0 }
+    }
+}
+
+impl Source for SureSource {
+    ghost use Rattle.lr_io.specs.SureSource.{left_of};
+
+    ghost faults = { λ _. 0 };
+
+    ghost tells = { λ _. Unit {0} };
+
+    ghost left = { left_of };
+
+    fn take(&mut self, into: &mut [u8]) -> Result<usize, Failed> {
+        let count = into.len().min(self.bytes.len() - self.at);
+        let end = self.at + count;
+        into[..count].copy_from_slice(&self.bytes[self.at..end]);
+        self.at = end;
+        Ok(count)
+    }
+}
