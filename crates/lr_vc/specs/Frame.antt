@@ -1,6 +1,6 @@
 -- A transfer frame of 892 bytes (CCSDS 732.0-B, section 4.1). Each field is the number in these bits, the first of which is
 -- bit 0.
-use Rattle.std.specs.Prelude.{ℕ, Bool, List, drop, ◌==◌}
+use Rattle.std.specs.Prelude.{ℕ, Bool, List, drop, ◌==◌, Result, Ok, Err, if◌then◌else◌}
 use Rattle.lr_bits.specs.Bits.{field_of}
 
 -- the fields of a frame, but for its version
@@ -28,3 +28,7 @@ fields_of bytes = record {
   pointer = field_of bytes 53 11;
   zone = drop 8 bytes;
 }
+
+-- the fields of a frame of version 1, or another version
+abbrev pub frame_of : List ℕ → Result Fields ℕ
+frame_of bytes = if version_of bytes == 1 then Ok (fields_of bytes) else Err (version_of bytes)

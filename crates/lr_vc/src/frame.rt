@@ -33,11 +33,13 @@ pub struct TransferFrame {
 }
 
 impl TransferFrame {
-    ghost use Rattle.lr_vc.specs.Reading.{IsReadFrom};
+    ghost use Rattle.std.specs.Prelude.{◌≡◌};
+    ghost use Rattle.lr_vc.specs.Frame.{frame_of};
+    ghost use Rattle.lr_vc.specs.Reading.{read_as};
 
     /// The fields of these bytes. `BadVersion` exactly where their version isn't 1, with that version.
     pub fn read(bytes: &[u8; FRAME_BYTES]) -> Result<Self, BadVersion>
-        ensures { IsReadFrom bytes.now result }
+        ensures { read_as result ≡ frame_of bytes.now }
     {
         let version = field(bytes, 0, 2) as u8;
         if version != 1 {

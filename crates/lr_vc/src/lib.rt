@@ -1,8 +1,8 @@
 //! Transfer frames of 892 bytes (CCSDS 732.0-B).
 //!
 //! A frame comes as bytes, most significant bit first, and leaves as its fields, in a type that keeps each of them
-//! within its width; the only refusal is a version that isn't 1. The layer above rests on `Reading.IsReadFrom`, which
-//! ties the two by the table of fields in `Frame`.
+//! within its width; the only refusal is a version that isn't 1. The layer above rests on `TransferFrame::read`, which
+//! answers what `Frame.frame_of` says, by the table of fields there.
 #![tactic(auto)]
 
 mod frame;

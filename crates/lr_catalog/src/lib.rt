@@ -1,0 +1,13 @@
+//! The printed lines, each as a definition over numbers and lists of bytes, and the call that composes it.
+//!
+//! Every line ends with one line feed, words stand one space apart, and numbers are decimal without leading zeros. Each
+//! call appends exactly its line to the bytes that it is given, or leaves them as they were where memory is refused.
+#![tactic(auto)]
+
+mod frames;
+mod stop;
+mod summary;
+
+pub use frames::frame_line;
+pub use stop::Stop;
+pub use summary::{Summary, summary_line};
