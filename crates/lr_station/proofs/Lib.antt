@@ -1,0 +1,4 @@
+pub mod FramesText
+pub mod Gathering
+pub mod Printed
+pub mod UnitsOf
