@@ -1,0 +1,64 @@
+// One call of the station over the memory forms.
+use lr_io::{MemSink, MemSource};
+use lr_station::station;
+use std::alloc::{AllocError, Global};
+use std::test::Fail;
+
+/// What the call reads: its words and bytes, the length of its reads, and the place at which the source fails once.
+#[derive(Drop)]
+pub struct Input<'a> {
+    pub words: &'a [&'a str],
+    pub bytes: Vec<u8>,
+    pub reads: u64,
+    pub fault: u64,
+}
+
+/// What must come of it: all of `out`, the status, and the line on `err`.
+#[derive(Clone, Copy)]
+pub struct Outcome<'a> {
+    pub out: &'a str,
+    pub status: u8,
+    pub line: &'a str,
+}
+
+/// A place that no source and no sink of these trials reaches.
+pub const NEVER: u64 = 1_000_000_000;
+
+/// The places at which reads of this length end, up to the length of these bytes.
+fn cuts(alloc: Global, bytes: usize, reads: u64) -> Result<Vec<u64>, AllocError> {
+    let mut cuts = Vec::new(alloc);
+    for k in 1..=bytes as u64 {
+        let place = k.saturating_mul(reads);
+        if place <= bytes as u64 {
+            cuts.push(place)?;
+        }
+    }
+    Ok(cuts)
+}
+
+fn owned(alloc: Global, words: &[&str]) -> Result<Vec<String>, AllocError> {
+    let mut all = Vec::new(alloc);
+    for word in words {
+        all.push(String::from_str(alloc, word)?)?;
+    }
+    Ok(all)
+}
+
+/// Whether the call gives that outcome, over an `out` of this room that fails once at this place.
+pub fn gives(
+    alloc: Global,
+    input: Input<'_>,
+    room: usize,
+    fault: u64,
+    wanted: Outcome<'_>,
+) -> Result<bool, Fail> {
+    let words = owned(alloc, input.words)?;
+    let cuts = cuts(alloc, input.bytes.len(), input.reads)?;
+    let mut source = MemSource::of(input.bytes, cuts, vec![in alloc; input.fault]?);
+    let mut out = MemSink::of(alloc, vec![in alloc; fault]?, room)?;
+    let mut err = MemSink::of(alloc, Vec::new(alloc), 100)?;
+    let status = station(alloc, &words, &mut source, &mut out, &mut err);
+    Ok(status == wanted.status
+        && out.as_slice() == wanted.out.as_bytes()
+        && err.as_slice() == wanted.line.as_bytes())
+}

@@ -1,0 +1,108 @@
+// `frames`.
+use crate::call::{Input, NEVER, Outcome, gives};
+use std::alloc::Global;
+use std::test::Fail;
+
+const GOOD: &str =
+    "frame 0 vc 0 counter 4210752 spacecraft 1 replay 0 pointer 64\nframes 1 left 1 stop end\n";
+
+const ZEROS: &str = "frame 0 version 0 refused\nframes 1 left 0 stop end\n";
+
+const FILL: &str =
+    "frame 0 vc 63 counter 8355711 spacecraft 253 replay 0 pointer 1919\nframes 1 left 0 stop end\n";
+
+fn frames(
+    alloc: Global,
+    byte: u8,
+    count: usize,
+    reads: u64,
+    fault: u64,
+    wanted: Outcome<'_>,
+) -> Result<bool, Fail> {
+    let input = Input {
+        words: &["frames"],
+        bytes: vec![in alloc; byte; count]?,
+        reads,
+        fault,
+    };
+    gives(alloc, input, 500, NEVER, wanted)
+}
+
+fn prints(alloc: Global, byte: u8, count: usize, reads: u64, out: &str) -> Result<bool, Fail> {
+    let wanted = Outcome {
+        out,
+        status: 0,
+        line: "",
+    };
+    frames(alloc, byte, count, reads, NEVER, wanted)
+}
+
+#[test]
+fn each_frame_has_its_line_however_the_reads_are_cut(rt: HostRuntime) -> Result<(), Fail> {
+    let alloc = rt.alloc();
+    for reads in [1, 892, 893] {
+        assert!(rt; prints(alloc, 0x40, 893, reads, GOOD)?);
+        assert!(rt; prints(alloc, 0, 892, reads, ZEROS)?);
+        assert!(rt; prints(alloc, 0x7f, 892, reads, FILL)?);
+        assert!(rt; prints(alloc, 0, 0, reads, "frames 0 left 0 stop end\n")?);
+    }
+    Ok(())
+}
+
+#[test]
+fn a_source_that_fails_ends_the_input(rt: HostRuntime) -> Result<(), Fail> {
+    let wanted = Outcome {
+        out: "frames 0 left 400 stop fault\n",
+        status: 3,
+        line: "station: source failed\n",
+    };
+    assert!(rt; frames(rt.alloc(), 0x40, 893, 893, 400, wanted)?);
+    Ok(())
+}
+
+fn output_fails(alloc: Global, room: usize, fault: u64, out: &str) -> Result<bool, Fail> {
+    let input = Input {
+        words: &["frames"],
+        bytes: vec![in alloc; 0; 892]?,
+        reads: 892,
+        fault: NEVER,
+    };
+    let wanted = Outcome {
+        out,
+        status: 5,
+        line: "station: output failed\n",
+    };
+    gives(alloc, input, room, fault, wanted)
+}
+
+#[test]
+fn an_output_that_fails_got_a_front(rt: HostRuntime) -> Result<(), Fail> {
+    let alloc = rt.alloc();
+    assert!(rt; output_fails(alloc, 500, 8, "frame 0 ")?);
+    assert!(rt; output_fails(alloc, 30, NEVER, "frame 0 version 0 refused\nfram")?);
+    Ok(())
+}
+
+fn refused(alloc: Global, words: &[&str]) -> Result<bool, Fail> {
+    let input = Input {
+        words,
+        bytes: vec![in alloc; 0; 892]?,
+        reads: 892,
+        fault: NEVER,
+    };
+    let wanted = Outcome {
+        out: "",
+        status: 2,
+        line: "station: usage: SHELF COMMAND [WORDS]\n",
+    };
+    gives(alloc, input, 500, NEVER, wanted)
+}
+
+#[test]
+fn other_words_are_refused(rt: HostRuntime) -> Result<(), Fail> {
+    let alloc = rt.alloc();
+    assert!(rt; refused(alloc, &[])?);
+    assert!(rt; refused(alloc, &["frame"])?);
+    assert!(rt; refused(alloc, &["frames", "frames"])?);
+    Ok(())
+}

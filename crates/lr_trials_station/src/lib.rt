@@ -1,0 +1,9 @@
+//! Trials of the station: calls of `station` over sources and sinks in memory, and over real files.
+#![tactic(auto)]
+
+#[cfg(test)]
+mod call;
+#[cfg(test)]
+mod frames;
+#[cfg(test)]
+mod streams;
