@@ -4,10 +4,15 @@
 //! call appends exactly its line to the bytes that it is given, or leaves them as they were where memory is refused.
 #![tactic(auto)]
 
+mod files;
 mod frames;
+mod hex;
+mod packets;
 mod stop;
 mod summary;
 
+pub use files::received_line;
 pub use frames::frame_line;
+pub use packets::packet_line;
 pub use stop::Stop;
 pub use summary::{Summary, summary_line};

@@ -1,0 +1,66 @@
+ghost use Rattle.lr_packet.specs.Reading.{IsHeadOf, IsVerdictOf};
+ghost use Rattle.lr_packet.specs.Verdict.{GoodPacketsAreJoined};
+
+use crate::{GoodPacket, PacketFault, PacketHead};
+use byteorder::{BigEndian, ByteOrder};
+use lr_bits::{RawPacket, crc16, field};
+
+/// The application that sends nothing.
+const IDLE: u16 = 2047;
+
+/// The bytes of a header.
+const HEAD_BYTES: usize = 6;
+
+/// The bytes of a checksum.
+const CRC_BYTES: usize = 2;
+
+/// The fields of the packet's header.
+pub fn head(raw: &RawPacket) -> PacketHead
+    ensures { IsHeadOf raw.now result }
+{
+    let bytes = raw.as_slice();
+    PacketHead {
+        version: field(bytes, 0, 3) as u8,
+        kind: field(bytes, 3, 1) == 1,
+        secondary: field(bytes, 4, 1) == 1,
+        apid: field(bytes, 5, 11) as u16,
+        flags: field(bytes, 16, 2) as u8,
+        count: field(bytes, 18, 14) as u16,
+        length: u32::from(BigEndian::read_u16(&bytes[4..])) + 1,
+    }
+}
+
+/// The packet with its body, where it is good, and otherwise the first rule that it breaks.
+pub fn check(raw: &RawPacket) -> Result<GoodPacket<'_>, PacketFault>
+    ensures { IsVerdictOf raw.now result }
+{
+    let head = head(raw);
+    if head.version != 0 {
+        return Err(PacketFault::Version(head.version));
+    }
+    if head.apid == IDLE {
+        return Err(PacketFault::Idle);
+    }
+    let data = &raw.as_slice()[HEAD_BYTES..];
+    if data.len() < CRC_BYTES {
+        return Err(PacketFault::TooShort);
+    }
+    let (body, last) = data.split_at(data.len() - CRC_BYTES);
+    let stored = BigEndian::read_u16(last);
+    let computed = crc16(body);
+    if stored != computed {
+        return Err(PacketFault::Crc { stored, computed });
+    }
+    Ok(GoodPacket {
+        vc: raw.vc(),
+        apid: head.apid,
+        flags: head.flags,
+        count: head.count,
+        body,
+    })
+}
+
+/// That the good packets of two lists in a row are those of the first and then those of the second.
+pub fn good_packets_are_joined()
+    ensures { GoodPacketsAreJoined }
+{}

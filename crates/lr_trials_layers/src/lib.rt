@@ -1,0 +1,5 @@
+//! Tests of the layers from bits to packets, over their public calls alone.
+#![tactic(auto)]
+
+#[cfg(test)]
+mod types;
