@@ -1,4 +1,9 @@
+pub mod Adding
 pub mod FramesText
 pub mod Gathering
+pub mod Outcomes
+pub mod PacketsCounted
+pub mod PacketsLoop
+pub mod PacketsText
 pub mod Printed
 pub mod UnitsOf

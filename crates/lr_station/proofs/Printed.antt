@@ -1,5 +1,5 @@
 -- How a command that prints a text of the units read goes on, and how it ends.
-use Rattle.std.proofs.Common.{◌≡◌, ℕ, ◌+◌, ◌<◌, ◌≤◌, List, [], ◌∷◌, ◌++◌, length, ap, ◌∙◌, sym, refl, subst, arith, append_assoc, append-nil, length-append, inl, inr}
+use Rattle.std.proofs.Common.{◌≡◌, ℕ, ◌+◌, ◌*◌, ◌<◌, ◌≤◌, List, [], ◌∷◌, ◌++◌, length, ap, ◌∙◌, sym, refl, subst, arith, append_assoc, append-nil, length-append, inl, inr}
 use Rattle.std.specs.Prelude.{All}
 use Rattle.std.specs.List.{concat}
 use Rattle.std.proofs.lemmas.List.Folds.{concat-append}
@@ -17,7 +17,7 @@ use Rattle.lr_station.specs.Gathered.{Gathered}
 use Rattle.lr_station.specs.Reading.{IsRead, EndsFor, units_of}
 use Rattle.lr_station.specs.Printing.{PrintsAll, Prints}
 use Rattle.lr_station.specs.Progress.{Gathers, GathersFor, ReadsUnits, EndsUnits, Puts, PutStops}
-use Rattle.lr_station.proofs.UnitsOf.{units_are}
+use Rattle.lr_station.proofs.UnitsOf.{units_are, length-concat}
 
 -- the bytes of one unit more
 concat-push : (units : List (List ℕ)) (unit : List ℕ) → concat (units ++ unit ∷ []) ++ [] ≡ concat units ++ unit
@@ -187,8 +187,7 @@ module _ {S O : Type 0} (source : SourceOf S) (out : SinkOf O) (n limit : ℕ) (
     }
 
 -- a command that prints a text of units has read so many, begun no other, and put their text
-pub record SoFar {S O : Type 0} (source : SourceOf S) (out : SinkOf O) (n limit : ℕ) (text : List (List ℕ) → List ℕ) (place : ℕ) (now : Gathered) (s s' : S) (o o' : O) : Type 0 where
-  pub units : List (List ℕ)
+pub record SoFar {S O : Type 0} (source : SourceOf S) (out : SinkOf O) (n limit : ℕ) (text : List (List ℕ) → List ℕ) (place : ℕ) (units : List (List ℕ)) (now : Gathered) (s s' : S) (o o' : O) : Type 0 where
   pub count : place ≡ length units
   pub empty : now.held ≡ []
   pub reads : ReadsUnits source n limit units now s s'
@@ -196,30 +195,28 @@ pub record SoFar {S O : Type 0} (source : SourceOf S) (out : SinkOf O) (n limit 
 
 module _ {S O : Type 0} (source : SourceOf S) (out : SinkOf O) (n limit : ℕ) (positive : 0 < n) (text : List (List ℕ) → List ℕ) (last : List ℕ → Stop → List ℕ) where
   -- it begins
-  pub so_far_begun : text [] ≡ [] → (now : Gathered) → now ≡ record { held = []; taken = 0; most = limit } → (s : S) (o : O) → SoFar source out n limit text 0 now s s o o
+  pub so_far_begun : text [] ≡ [] → (now : Gathered) → now ≡ record { held = []; taken = 0; most = limit } → (s : S) (o : O) → SoFar source out n limit text 0 [] now s s o o
   so_far_begun none now fresh s o = record {
-    units = [];
     count = refl;
     empty = ap (λ (g : Gathered). g.held) fresh;
     reads = subst (λ (g : Gathered). ReadsUnits source n limit [] g s s) (sym fresh) (begun source n limit s);
     put = nothing_put source out n limit positive text last none o;
   }
 
-  module _ {place : ℕ} {before now : Gathered} {s t s' : S} {o p : O} (so_far : SoFar source out n limit text place before s t o p) (more : Gathers source before now t s')
-      (whole : length now.held ≡ n) (kept : source.faults s' ≡ source.faults t) (unit line : List ℕ) (is : unit ≡ now.held) (grows : text (so_far.units ++ unit ∷ []) ≡ text so_far.units ++ line) where
-    reads_now : ReadsUnits source n limit so_far.units now s s'
+  module _ {place : ℕ} {units : List (List ℕ)} {before now : Gathered} {s t s' : S} {o p : O} (so_far : SoFar source out n limit text place units before s t o p) (more : Gathers source before now t s')
+      (whole : length now.held ≡ n) (kept : source.faults s' ≡ source.faults t) (unit line : List ℕ) (is : unit ≡ now.held) (grows : text (units ++ unit ∷ []) ≡ text units ++ line) where
+    reads_now : ReadsUnits source n limit units now s s'
     reads_now = gathered_more source n limit so_far.reads more kept
 
-    grows_now : text (so_far.units ++ now.held ∷ []) ≡ text so_far.units ++ line
-    grows_now = ap (λ u. text (so_far.units ++ u ∷ [])) (sym is) ∙ grows
+    grows_now : text (units ++ now.held ∷ []) ≡ text units ++ line
+    grows_now = ap (λ u. text (units ++ u ∷ [])) (sym is) ∙ grows
 
     -- a unit was gathered and its line put
-    pub so_far_more : (cleared_now : Gathered) → cleared_now ≡ record { held = []; taken = now.taken; most = now.most } → (o' : O) → Puts out line p o' → SoFar source out n limit text (place + 1) cleared_now s s' o o'
+    pub so_far_more : (cleared_now : Gathered) → cleared_now ≡ record { held = []; taken = now.taken; most = now.most } → (o' : O) → Puts out line p o' → SoFar source out n limit text (place + 1) (units ++ now.held ∷ []) cleared_now s s' o o'
     so_far_more cleared_now is_cleared o' put = record {
-      units = so_far.units ++ now.held ∷ [];
-      count = omega (arith, so_far.count, length-append so_far.units (now.held ∷ []));
+      count = omega (arith, so_far.count, length-append units (now.held ∷ []));
       empty = ap (λ (g : Gathered). g.held) is_cleared;
-      reads = subst (λ (g : Gathered). ReadsUnits source n limit (so_far.units ++ now.held ∷ []) g s s') (sym is_cleared) (cleared source n limit reads_now whole);
+      reads = subst (λ (g : Gathered). ReadsUnits source n limit (units ++ now.held ∷ []) g s s') (sym is_cleared) (cleared source n limit reads_now whole);
       put = subst (λ l. Puts out l o o') (sym grows_now) (put_behind source out n limit positive text last so_far.put put);
     }
 
@@ -227,10 +224,14 @@ module _ {S O : Type 0} (source : SourceOf S) (out : SinkOf O) (n limit : ℕ) (
     pub so_far_stopped : (o' : O) (cause : Cause) → PutStops out line cause p o' → Prints source out (λ bytes. text (units_of n bytes)) last limit cause s s' o o'
     so_far_stopped o' cause stop = line_stopped source out n limit positive text last reads_now whole line o p o' grows_now so_far.put cause stop
 
+    -- the bytes of the units are within the limit
+    pub units_fit : n * (place + 1) ≤ limit
+    units_fit = omega (arith, ap (λ k. n * k) so_far.count, reads_now.few, reads_now.taken, length-append (concat units) now.held, length-concat n units so_far.reads.whole, whole)
+
     -- there are no more units than bytes
     pub few_units : place < limit
     few_units =
-        omega (arith, so_far.count, reads_now.few, reads_now.taken, length-append (concat so_far.units) now.held, long_enough so_far.units so_far.reads.whole, whole, positive)
+        omega (arith, so_far.count, reads_now.few, reads_now.taken, length-append (concat units) now.held, long_enough units so_far.reads.whole, whole, positive)
       where
         long_enough : (units : List (List ℕ)) → All (λ (u : List ℕ). length u ≡ n) units → length units ≤ length (concat units)
         long_enough [] all = omega arith

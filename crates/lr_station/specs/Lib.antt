@@ -1,6 +1,9 @@
+pub mod Added
 pub mod Causes
 pub mod Frames
 pub mod Gathered
+pub mod Packets
+pub mod PacketsRead
 pub mod Printing
 pub mod Progress
 pub mod Reading

@@ -6,7 +6,9 @@
 #![tactic(auto)]
 
 mod cause;
+mod counted;
 mod frames;
+mod packets;
 mod put;
 mod top;
 mod units;

@@ -7,6 +7,7 @@ ghost use Rattle.lr_station.specs.Words.{command_of};
 
 use crate::cause::Cause;
 use crate::frames::frames;
+use crate::packets::packets;
 use crate::words::{Command, read_words};
 use lr_io::{Sink, Source, put_all};
 use std::alloc::Global;
@@ -24,6 +25,7 @@ fn run<S: Source, O: Sink>(
     match command {
         None => Cause::Usage,
         Some(Command::Frames { most }) => frames(alloc, most, source, out),
+        Some(Command::Packets { most }) => packets(alloc, most, source, out),
     }
 }
 

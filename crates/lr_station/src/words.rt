@@ -9,6 +9,8 @@ const MOST_BYTES: u64 = 1_099_511_627_776;
 pub enum Command {
     /// A line for each transfer frame; at most so many bytes are taken.
     Frames { most: u64 },
+    /// A line for each packet of the transfer frames; at most so many bytes are taken.
+    Packets { most: u64 },
 }
 
 /// The command that the words give, or `None` where they aren't accepted.
@@ -17,6 +19,7 @@ pub fn read_words(words: &[String]) -> Option<Command>
 {
     match words {
         [word] if word.as_str() == "frames" => Some(Command::Frames { most: MOST_BYTES }),
+        [word] if word.as_str() == "packets" => Some(Command::Packets { most: MOST_BYTES }),
         _ => None,
     }
 }

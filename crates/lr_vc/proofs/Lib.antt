@@ -1,0 +1,11 @@
+pub mod Carried
+pub mod Crossing
+pub mod Endings
+pub mod Few
+pub mod Grown
+pub mod History
+pub mod Inside
+pub mod LastRun
+pub mod Lists
+pub mod Stands
+pub mod Starts

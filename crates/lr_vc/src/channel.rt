@@ -1,0 +1,199 @@
+ghost use Rattle.std.specs.Prelude.{◌≡◌, ◌+◌, ◌<◌, ◌≤◌, ◌++◌, Some, None, IsTrue, OnOk, IfOk, length, if◌then◌else◌, ◌==◌, ◌&&◌, nat_lt};
+ghost use Rattle.std.specs.Option.{option_to_list};
+ghost use Rattle.lr_vc.specs.Reading.{fields};
+ghost use Rattle.lr_vc.specs.Standing.{IsShort, nothing_kept};
+ghost use Rattle.lr_vc.specs.Steps.{KeepsFront, TakesFrame, follows, ended, gone_on, packets_inside, met_by, all_ended, all_gone_on, opened, packets_with, open_behind};
+
+use crate::zone::{copied, end_across, push_inside, whole};
+use crate::{TransferFrame, ZONE_BYTES};
+use lr_bits::{Bytes, NoMemory, RawPacket};
+use std::alloc::Global;
+use std::marker::Model;
+
+/// The pointer of a zone in which no packet starts.
+const NO_START: usize = 2047;
+
+/// Counters have 24 bits.
+const COUNTERS: u64 = 1 << 24;
+
+/// Whether this counter follows the last one, if there is one.
+fn is_next(last: Option<u32>, counter: u32) -> bool
+    ensures { result ≡ follows last counter }
+{
+    match last {
+        Some(last) => u64::from(counter) == (u64::from(last) + 1) % COUNTERS,
+        None => false,
+    }
+}
+
+/// Whether a zone's pointer agrees with a packet of which so many bytes lie before the zone, and that ends with it or in it.
+fn agrees(so_far: usize, end: usize, pointer: usize) -> bool
+    requires small { so_far ≤ 65541 }
+    ensures value { result ≡ (if end == so_far + 884
+        then pointer == 2047
+        else nat_lt pointer 884 && end == so_far + pointer) }
+    ensures behind { IsTrue result → so_far ≤ end }
+    ensures within { IsTrue result → end ≤ so_far + 884 }
+{
+    if end == so_far + ZONE_BYTES {
+        return pointer == NO_START;
+    }
+    pointer < ZONE_BYTES && end == so_far + pointer
+}
+
+/// What the next zone of its run makes of an open packet: it goes on behind the zone, or ends with it and is appended, or
+/// is dropped since the zone's pointer doesn't agree with it. The result is the open packet, if it goes on.
+fn carry(
+    mut bytes: Bytes,
+    frame: &TransferFrame,
+    packets: &mut Vec<RawPacket>,
+) -> Result<Option<Bytes>, NoMemory>
+    requires { length bytes ≤ 65541 }
+    ensures packets { OnOk result (packets.new.items ≡
+        packets.old.items ++ ended frame.now.vc frame.now.zone frame.now.pointer bytes) }
+    ensures open_packet { IfOk result (λ o. option_to_list o ≡ gone_on frame.now.zone frame.now.pointer bytes) }
+    ensures short { IfOk result IsShort }
+    ensures kept { KeepsFront packets.old.items packets.new.items }
+{
+    let so_far = bytes.as_slice().len();
+    let end = end_across(bytes.as_slice(), &frame.zone);
+    let pointer = usize::from(frame.pointer);
+    if end > so_far + ZONE_BYTES {
+        let goes_on = pointer == NO_START;
+        if !goes_on {
+            return Ok(None);
+        }
+        bytes.extend(&frame.zone)?;
+        return Ok(Some(bytes));
+    }
+    if !agrees(so_far, end, pointer) {
+        return Ok(None);
+    }
+    bytes.extend(&frame.zone[..end - so_far])?;
+    packets.push(whole(frame.vc, bytes))?;
+    Ok(None)
+}
+
+/// The same of the open packet that a frame meets, if any.
+fn carry_met(
+    met: Option<Bytes>,
+    frame: &TransferFrame,
+    packets: &mut Vec<RawPacket>,
+) -> Result<Option<Bytes>, NoMemory>
+    requires { IsShort met }
+    ensures packets { OnOk result (packets.new.items ≡
+        packets.old.items ++ all_ended (fields frame.now) (option_to_list met)) }
+    ensures open_packet { IfOk result (λ o. option_to_list o ≡ all_gone_on (fields frame.now) (option_to_list met)) }
+    ensures short { IfOk result IsShort }
+    ensures kept { KeepsFront packets.old.items packets.new.items }
+{
+    match met {
+        Some(bytes) => carry(bytes, frame, packets),
+        None => Ok(None),
+    }
+}
+
+/// Appends the packets that start and end in this zone. The result is the one that starts in it and goes on behind it.
+fn open_inside(
+    alloc: Global,
+    frame: &TransferFrame,
+    packets: &mut Vec<RawPacket>,
+) -> Result<Option<Bytes>, NoMemory>
+    requires { frame.now.pointer < 884 }
+    ensures packets { OnOk result (packets.new.items ≡
+        packets.old.items ++ packets_inside frame.now.vc frame.now.zone frame.now.pointer) }
+    ensures open_packet { IfOk result (λ o. option_to_list o ≡ opened (fields frame.now)) }
+    ensures short { IfOk result IsShort }
+    ensures kept { KeepsFront packets.old.items packets.new.items }
+{
+    let first = usize::from(frame.pointer);
+    let start = push_inside(alloc, frame.vc, &frame.zone, first, packets)?;
+    if start == ZONE_BYTES {
+        return Ok(None);
+    }
+    let bytes = copied(alloc, &frame.zone[start..])?;
+    Ok(Some(bytes))
+}
+
+/// Appends the packets that end in this frame, which meets this open packet. The result is the packet that is open behind
+/// it.
+fn next_open(
+    alloc: Global,
+    met: Option<Bytes>,
+    frame: &TransferFrame,
+    packets: &mut Vec<RawPacket>,
+) -> Result<Option<Bytes>, NoMemory>
+    requires { IsShort met }
+    ensures packets { OnOk result (packets.new.items ≡
+        packets.old.items ++ packets_with (fields frame.now) (option_to_list met)) }
+    ensures open_packet { IfOk result (λ o. option_to_list o ≡ open_behind (fields frame.now) (option_to_list met)) }
+    ensures short { IfOk result IsShort }
+    ensures kept { KeepsFront packets.old.items packets.new.items }
+{
+    let carried = carry_met(met, frame, packets)?;
+    if usize::from(frame.pointer) >= ZONE_BYTES {
+        return Ok(carried);
+    }
+    open_inside(alloc, frame, packets)
+}
+
+/// What is kept of one channel: the counter of its last frame, and the bytes so far of its open packet.
+#[derive(Drop)]
+pub struct Channel {
+    counter: Option<u32>,
+    open_packet: Option<Bytes>,
+}
+
+impl Model for Channel {
+    ghost use Rattle.lr_vc.specs.Standing.{KeptChannel};
+
+    ghost Value = { KeptChannel };
+
+    ghost view = { λ c. record { counter = c.counter; open_packet = c.open_packet } };
+}
+
+impl Channel {
+    pub fn new() -> Self
+        ensures { result ≡ nothing_kept }
+    {
+        Channel {
+            counter: None,
+            open_packet: None,
+        }
+    }
+
+    /// Takes out the open packet that the channel's next frame meets, which has this counter.
+    fn meet(&mut self, counter: u32) -> Option<Bytes>
+        ensures met { option_to_list result ≡ met_by self.old counter }
+        ensures short { IsShort self.old.open_packet → IsShort result }
+        ensures left { self.new ≡ record { counter = Some counter; open_packet = None } }
+    {
+        let last = self.counter;
+        self.counter = Some(counter);
+        let open_packet = self.open_packet.take();
+        if is_next(last, counter) {
+            open_packet
+        } else {
+            None
+        }
+    }
+
+    /// Appends the packets of this channel that end in this frame, its next one.
+    pub fn push(
+        &mut self,
+        alloc: Global,
+        frame: &TransferFrame,
+        packets: &mut Vec<RawPacket>,
+    ) -> Result<(), NoMemory>
+        requires { IsShort self.old.open_packet }
+        ensures frame { OnOk result (TakesFrame self.old self.new (fields frame.now)) }
+        ensures packets { OnOk result (packets.new.items ≡
+            packets.old.items ++ packets_with (fields frame.now) (met_by self.old frame.now.counter)) }
+        ensures short { IsShort self.new.open_packet }
+        ensures kept { KeepsFront packets.old.items packets.new.items }
+    {
+        let met = self.meet(frame.counter);
+        self.open_packet = next_open(alloc, met, frame, packets)?;
+        Ok(())
+    }
+}

@@ -1,0 +1,127 @@
+ghost use Rattle.std.specs.Prelude.{◌≡◌, ◌≢◌, ℕ, ◌<◌, ◌≤◌, ◌+◌, ◌++◌, [], ◌∷◌, List, OnOk, OnErr, IsErr, length};
+ghost use Rattle.lr_vc.specs.Frame.{Fields};
+ghost use Rattle.lr_vc.specs.Reading.{fields};
+ghost use Rattle.lr_vc.specs.Packets.{packets_at};
+ghost use Rattle.lr_vc.specs.Standing.{StandsFor, IsSpent, IsSmall, kept_at};
+ghost use Rattle.lr_vc.specs.Steps.{KeepsFront, TakesFrame, met_by, packets_with};
+
+use crate::TransferFrame;
+use crate::channel::Channel;
+use lr_bits::{NoMemory, RawPacket};
+use std::alloc::Global;
+use std::marker::Model;
+
+/// The channel of fill frames.
+const FILL: u8 = 63;
+
+/// Makes room for a channel, of which nothing is kept yet.
+fn reach(channels: &mut Vec<Channel>, channel: usize) -> Result<(), NoMemory>
+    requires channel { channel < 63 }
+    requires small { IsSmall channels.old.items }
+    ensures reached { OnOk result (channel < length channels.new.items) }
+    ensures same { (k : ℕ) → kept_at channels.new.items k ≡ kept_at channels.old.items k }
+    ensures small { IsSmall channels.new.items }
+{
+    while channels.len() <= channel {
+        channels.push(Channel::new())?;
+    }
+    Ok(())
+}
+
+/// Gives a frame to its channel, and appends the packets that end in it.
+fn push_to_channel(
+    alloc: Global,
+    channels: &mut Vec<Channel>,
+    frame: &TransferFrame,
+    packets: &mut Vec<RawPacket>,
+) -> Result<(), NoMemory>
+    requires channel { frame.now.vc < 63 }
+    requires small { IsSmall channels.old.items }
+    ensures own { OnOk result (TakesFrame (kept_at channels.old.items frame.now.vc)
+        (kept_at channels.new.items frame.now.vc) (fields frame.now)) }
+    ensures others { (k : ℕ) → k ≢ frame.now.vc → kept_at channels.new.items k ≡ kept_at channels.old.items k }
+    ensures packets { OnOk result (packets.new.items ≡ packets.old.items ++ packets_with (fields frame.now)
+        (met_by (kept_at channels.old.items frame.now.vc) frame.now.counter)) }
+    ensures small { IsSmall channels.new.items }
+    ensures kept { KeepsFront packets.old.items packets.new.items }
+{
+    let place = usize::from(frame.vc);
+    reach(channels, place)?;
+    let channel = &mut channels[place];
+    channel.push(alloc, frame, packets)
+}
+
+/// The packets of the frames of all channels (CCSDS 732.0-B, section 4.1.4, and 133.0-B, section 4.1). A packet may lie across
+/// the zones of a run, the neighbours of a channel whose counters follow one another.
+///
+/// Of each channel it keeps the counter of the last frame and at most one open packet. After `NoMemory` it is spent, and
+/// every later call answers `NoMemory`.
+#[derive(Drop)]
+pub struct Channels {
+    alloc: Global,
+    channels: Vec<Channel>,
+    spent: bool,
+}
+
+impl Model for Channels {
+    ghost use Rattle.lr_vc.specs.Standing.{Kept, IsSmall};
+
+    ghost Value = { Kept };
+
+    ghost view = { λ c. record { spent = c.spent; channels = c.channels.items } };
+
+    ghost invariant = { λ c. IsSmall c.channels.items };
+}
+
+impl Channels {
+    /// No frames yet. This takes no memory.
+    pub fn new(alloc: Global) -> Self
+        ensures { StandsFor result [] }
+    {
+        Channels {
+            alloc,
+            channels: Vec::new(alloc),
+            spent: false,
+        }
+    }
+
+    /// Appends the packets that end in this frame, the next one of the history for which the object stands.
+    ///
+    /// `NoMemory`: memory was wanting in this call or in an earlier one. The packets are as they were.
+    pub fn push(
+        &mut self,
+        frame: &TransferFrame,
+        packets: &mut Vec<RawPacket>,
+    ) -> Result<(), NoMemory>
+        ensures stands { (history : List Fields) → StandsFor self.old history →
+            OnOk result (StandsFor self.new (history ++ fields frame.now ∷ [])) }
+        ensures packets { (history : List Fields) → StandsFor self.old history →
+            OnOk result (packets.new.items ≡ packets.old.items ++
+            packets_at (history ++ fields frame.now ∷ []) (length history)) }
+
+        // Fill adds nothing and changes nothing.
+        ensures fill { frame.now.vc ≡ 63 → (self.new ≡ self.old) × (packets.new.items ≡ packets.old.items) }
+
+        // At most the open packet and one for each byte of the zone.
+        ensures few { OnOk result (length packets.new.items ≤ length packets.old.items + 885) }
+
+        ensures refused { OnErr result (packets.new.items ≡ packets.old.items) }
+        ensures spends { OnErr result (IsSpent self.new) }
+        ensures stays_spent { IsSpent self.old → IsErr result × IsSpent self.new }
+        ensures small { IsSmall self.new.channels }
+    {
+        if self.spent {
+            return Err(NoMemory);
+        }
+        if frame.vc == FILL {
+            return Ok(());
+        }
+        let count = packets.len();
+        if push_to_channel(self.alloc, &mut self.channels, frame, packets).is_err() {
+            self.spent = true;
+            packets.truncate(count);
+            return Err(NoMemory);
+        }
+        Ok(())
+    }
+}

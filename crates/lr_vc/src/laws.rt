@@ -1,0 +1,11 @@
+ghost use Rattle.lr_vc.specs.Laws.{FramesAddTheirPackets, PacketsKeepTheirOrder};
+
+/// One frame more adds exactly the packets that end in it, behind those of the frames before.
+pub fn frames_add_their_packets()
+    ensures { FramesAddTheirPackets }
+{}
+
+/// The packets of the first frames of a history are the first of its packets.
+pub fn packets_keep_their_order()
+    ensures { PacketsKeepTheirOrder }
+{}
