@@ -6,4 +6,8 @@ mod call;
 #[cfg(test)]
 mod frames;
 #[cfg(test)]
+mod packets;
+#[cfg(test)]
+mod stated;
+#[cfg(test)]
 mod streams;

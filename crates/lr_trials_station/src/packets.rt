@@ -1,0 +1,86 @@
+// `packets`.
+use crate::call::{Input, NEVER, Outcome, gives};
+use crate::stated::{DIGITS, frame, idle};
+use std::alloc::{AllocError, Global};
+use std::test::Fail;
+
+const BOTH: &str = "packet 0 vc 0 apid 100 flags 3 count 0 length 11 ok\n\
+packet 1 vc 0 apid 2047 flags 3 count 0 length 861 fault idle\n\
+frames 1 packets 2 good 1 left 0 stop end\n";
+
+const DAMAGED: &str = "packet 0 vc 0 apid 100 flags 3 count 0 length 11 fault crc stored 29B0 computed 29B1\n\
+packet 1 vc 0 apid 2047 flags 3 count 0 length 861 fault idle\n\
+frames 1 packets 2 good 0 left 0 stop end\n";
+
+const ACROSS: &str = "packet 0 vc 0 apid 2047 flags 3 count 0 length 875 fault idle\n\
+packet 1 vc 0 apid 100 flags 3 count 0 length 11 ok\n\
+packet 2 vc 0 apid 2047 flags 3 count 0 length 864 fault idle\n\
+frames 2 packets 3 good 1 left 0 stop end\n";
+
+const BROKEN: &str = "packet 0 vc 0 apid 2047 flags 3 count 0 length 875 fault idle\n\
+packet 1 vc 0 apid 2047 flags 3 count 0 length 864 fault idle\n\
+frames 2 packets 2 good 0 left 0 stop end\n";
+
+const ENDED: &str = "packet 0 vc 0 apid 2047 flags 3 count 0 length 875 fault idle\n\
+frames 2 packets 1 good 0 left 0 stop end\n";
+
+fn prints(alloc: Global, bytes: Vec<u8>, reads: u64, out: &str) -> Result<bool, Fail> {
+    let input = Input {
+        words: &["packets"],
+        bytes,
+        reads,
+        fault: NEVER,
+    };
+    let wanted = Outcome {
+        out,
+        status: 0,
+        line: "",
+    };
+    gives(alloc, input, 500, NEVER, wanted)
+}
+
+// A packet, and an idle one behind it.
+fn one_frame(alloc: Global, last: u8) -> Result<Vec<u8>, AllocError> {
+    let (packet, _) = DIGITS.split_at(16);
+    frame(
+        alloc,
+        [0, 0, 0],
+        [0, 0],
+        &[packet, &[last], &idle([0x03, 0x5C])],
+    )
+}
+
+// A packet that lies across the zones of two frames, between idle ones.
+fn two_frames(alloc: Global, counter: [u8; 3], pointer: [u8; 2]) -> Result<Vec<u8>, AllocError> {
+    let (start, rest) = DIGITS.split_at(3);
+    let zeros = [0; 875];
+    let mut bytes = frame(
+        alloc,
+        [0xFF, 0xFF, 0xFF],
+        [0, 0],
+        &[&idle([0x03, 0x6A]), &zeros, start],
+    )?;
+    let second = frame(alloc, counter, pointer, &[rest, &idle([0x03, 0x5F])])?;
+    bytes.extend_from_slice(&second)?;
+    Ok(bytes)
+}
+
+#[test]
+fn each_packet_has_its_line_however_the_reads_are_cut(rt: HostRuntime) -> Result<(), Fail> {
+    let alloc = rt.alloc();
+    for reads in [1, 892, 893] {
+        assert!(rt; prints(alloc, one_frame(alloc, 0xB1)?, reads, BOTH)?);
+        assert!(rt; prints(alloc, two_frames(alloc, [0, 0, 0], [0, 14])?, reads, ACROSS)?);
+    }
+    assert!(rt; prints(alloc, one_frame(alloc, 0xB0)?, 892, DAMAGED)?);
+    Ok(())
+}
+
+#[test]
+fn a_gap_or_another_pointer_drops_an_open_packet(rt: HostRuntime) -> Result<(), Fail> {
+    let alloc = rt.alloc();
+    assert!(rt; prints(alloc, two_frames(alloc, [0, 0, 1], [0, 14])?, 892, BROKEN)?);
+    assert!(rt; prints(alloc, two_frames(alloc, [0xFF, 0xFF, 0xFF], [0, 14])?, 892, BROKEN)?);
+    assert!(rt; prints(alloc, two_frames(alloc, [0, 0, 0], [0x07, 0xFE])?, 892, ENDED)?);
+    Ok(())
+}
