@@ -1,5 +1,5 @@
 -- What the next zone makes of an open packet, by where the packet ends.
-use Rattle.std.proofs.Common.{◌≡◌, ℕ, ◌+◌, ◌-◌, ◌<◌, ◌≤◌, Bool, true, false, cond, ◌&&◌, List, [], ◌∷◌, ◌++◌, length, take, drop, map, flat_map, refl, sym, ap, ap₂, ◌∙◌, ⊎_elim, arith, append-nil, length-append, ltb, eqb, lt-ltb, le-ltb, eq-eqb, ne_eqb, eqb-true}
+use Rattle.std.proofs.Common.{◌≡◌, ℕ, ◌+◌, ◌-◌, ◌<◌, ◌≤◌, Bool, false, cond, ◌&&◌, List, [], ◌∷◌, ◌++◌, length, take, drop, map, flat_map, refl, sym, ap, ◌∙◌, ⊎_elim, arith, append-nil, length-append, ltb, eqb, lt-ltb, le-ltb, eq-eqb, ne_eqb, suc}
 use Rattle.std.proofs.lemmas.Bool.{cases_lt, and_right, and_left}
 use Rattle.lr_bits.specs.Packet.{Packet, IsPacket}
 use Rattle.lr_vc.specs.Packets.{packet_end, packet_at}
@@ -13,7 +13,7 @@ use Rattle.lr_vc.proofs.Inside.{is_packet_at}
 take_across : (xs ys : List ℕ) (n : ℕ) → length xs ≤ n → take n (xs ++ ys) ≡ xs ++ take (n - length xs) ys
 take_across [] ys n h = ap (λ k. take k ys) (omega arith)
 take_across (x ∷ xs) ys n h =
-    let one : n ≡ Rattle.std.proofs.Common.suc (n - 1) = omega arith in
+    let one : n ≡ suc (n - 1) = omega arith in
     let rest : (n - 1) - length xs ≡ n - length (x ∷ xs) = omega arith in
     ap (λ k. take k (x ∷ (xs ++ ys))) one ∙ ap (λ zs. x ∷ zs) (take_across xs ys (n - 1) (omega arith) ∙ ap (λ k. xs ++ take k ys) rest)
 

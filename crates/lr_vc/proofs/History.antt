@@ -1,5 +1,5 @@
 -- One frame more in a history: the packets that end in it, and what then stands of its channel.
-use Rattle.std.proofs.Common.{◌≡◌, ℕ, zero, suc, ◌+◌, ◌<◌, ◌≤◌, Bool, true, false, cond, List, [], ◌∷◌, ◌++◌, map, length, filter, flat_map, Option, Some, None, refl, sym, ap, ap₂, ◌∙◌, subst, ⊎_elim, arith, append-nil, append_assoc, zero-add, eqb, eq-eqb, ne_eqb, eqb-true, ltb}
+use Rattle.std.proofs.Common.{◌≡◌, ℕ, ◌+◌, ◌<◌, ◌≤◌, Bool, true, false, cond, List, [], ◌∷◌, ◌++◌, length, filter, flat_map, Some, refl, sym, ap, ap₂, ◌∙◌, subst, ⊎_elim, arith, append-nil, append_assoc, zero-add, eqb, eq-eqb, ne_eqb, ltb}
 use Rattle.std.proofs.lemmas.List.Concat.{flat_map-append}
 use Rattle.std.proofs.lemmas.List.Elements.{filter-append, recursion_from_All, All-from_recursion}
 use Rattle.std.proofs.lemmas.Bool.{cases_eq}
@@ -7,10 +7,10 @@ use Rattle.std.specs.List.{AllByRecursion as Each, enumerate_from}
 use Rattle.lr_bits.specs.Packet.{Packet}
 use Rattle.lr_vc.specs.Frame.{Fields}
 use Rattle.lr_vc.specs.Runs.{Run, AreFrames, channel_frames, runs_of}
-use Rattle.lr_vc.specs.Packets.{packets_ending, packets_in, packets_at, packets_of, place_of}
+use Rattle.lr_vc.specs.Packets.{packets_ending, packets_in, packets_at, packets_of, place_of, starts_of}
 use Rattle.lr_vc.specs.Standing.{open_packets, last_counter, last_run}
-use Rattle.lr_vc.specs.Steps.{follows, ended, gone_on, packets_inside, starts_unfinished}
-use Rattle.lr_vc.proofs.Lists.{Each-append, Each_weaker, Each_left, Each-filter, Each_any, filter_none, flat_map_same, enumerate_from-append, Each-enumerate_from}
+use Rattle.lr_vc.specs.Steps.{follows, ended, gone_on, packets_inside, opened}
+use Rattle.lr_vc.proofs.Lists.{Each_weaker, Each_left, Each-filter, filter_none, flat_map_same, enumerate_from-append, Each-enumerate_from, Each_right}
 use Rattle.lr_vc.proofs.Grown.{AreZones}
 use Rattle.lr_vc.proofs.Endings.{packets_ending-earlier, packets_ending-new, open_packets-more}
 use Rattle.lr_vc.proofs.LastRun.{last_run-more, Each-runs_of, zones_of-last_run, places_of-last_run, flat_map-runs_same, flat_map-runs_last, place_of_below, packets_ending_none}
@@ -75,11 +75,11 @@ abbrev pub met : List (ℕ × Fields) → ℕ → List (List ℕ)
 met fs counter = cond (follows (last_counter fs) counter) (open_packets (last_run (runs_of fs))) []
 
 pub open_none : open_packets [] ≡ []
-unfolding open_packets Rattle.lr_vc.specs.Packets.starts_of
+unfolding open_packets starts_of
 open_none = refl
 
 ending_none : (channel place : ℕ) → packets_ending channel place [] ≡ []
-unfolding packets_ending Rattle.lr_vc.specs.Packets.starts_of
+unfolding packets_ending starts_of
 ending_none channel place = refl
 
 module _ (fs : List (ℕ × Fields)) (g : ℕ × Fields) (zones : AreZones fs) (long : length g.1.zone ≡ 884) where
@@ -88,10 +88,10 @@ module _ (fs : List (ℕ × Fields)) (g : ℕ × Fields) (zones : AreZones fs) (
 
   pub open_packets-next :
       open_packets (last_run (runs_of (fs ++ g ∷ [])))
-      ≡ flat_map (gone_on g.1.zone g.1.pointer) (met fs g.1.counter) ++ cond (ltb g.1.pointer 884) (map (λ s. Rattle.std.proofs.Common.drop s g.1.zone) (starts_unfinished g.1.zone g.1.pointer)) []
+      ≡ flat_map (gone_on g.1.zone g.1.pointer) (met fs g.1.counter) ++ cond (ltb g.1.pointer 884) (opened g.1) []
   open_packets-next =
       let last = last_run (runs_of fs) in
-      let inside = cond (ltb g.1.pointer 884) (map (λ s. Rattle.std.proofs.Common.drop s g.1.zone) (starts_unfinished g.1.zone g.1.pointer)) [] in
+      let inside = cond (ltb g.1.pointer 884) (opened g.1) [] in
       let joins = follows (last_counter fs) g.1.counter in
       let G = gone_on g.1.zone g.1.pointer in
       let Q : Bool → Type 0 = λ j. open_packets (cond j (last ++ g ∷ []) (g ∷ [])) ≡ flat_map G (cond j (open_packets last) []) ++ inside in
@@ -170,7 +170,7 @@ last_counter-own history f = ap last_counter (channel_frames-own history f) ∙ 
 
 pub open_packets-own : (history : List Fields) (f : Fields) → AreFrames history → length f.zone ≡ 884 →
     open_packets (last_run (runs_of (channel_frames f.vc (history ++ f ∷ []))))
-    ≡ flat_map (gone_on f.zone f.pointer) (met (channel_frames f.vc history) f.counter) ++ cond (ltb f.pointer 884) (map (λ s. Rattle.std.proofs.Common.drop s f.zone) (starts_unfinished f.zone f.pointer)) []
+    ≡ flat_map (gone_on f.zone f.pointer) (met (channel_frames f.vc history) f.counter) ++ cond (ltb f.pointer 884) (opened f) []
 open_packets-own history f frames long =
     ap (λ cs. open_packets (last_run (runs_of cs))) (channel_frames-own history f)
     ∙ open_packets-next (channel_frames f.vc history) (length history, f) (zones_of_channel f.vc history (zones_each history frames)) long
@@ -200,7 +200,7 @@ packets_of-more history f frames =
     let all = zones_each (history ++ f ∷ []) frames in
     let P : Fields → Type 0 = λ f. length f.zone ≡ 884 in
     let zones : HaveZones history = Each_left P history (f ∷ []) all in
-    let long : length f.zone ≡ 884 = (Rattle.lr_vc.proofs.Lists.Each_right P history (f ∷ []) all).0 in
+    let long : length f.zone ≡ 884 = (Each_right P history (f ∷ []) all).0 in
     let I = packets_in (history ++ f ∷ []) in
     let same : flat_map I (enumerate_from 0 history) ≡ flat_map (packets_in history) (enumerate_from 0 history) =
     flat_map_same I (packets_in history) (enumerate_from 0 history)

@@ -1,19 +1,19 @@
 -- What is kept stands for the history, and goes on to stand for it with one frame more.
-use Rattle.std.proofs.Common.{◌≡◌, ℕ, ◌+◌, ◌<◌, ◌≤◌, Bool, true, false, cond, List, [], ◌∷◌, ◌++◌, map, length, flat_map, drop, Option, Some, None, Result, OnOk, is_err, refl, sym, ap, ap₂, ◌∙◌, subst, ⊎_elim, arith, true≢false, ltb, slice_index_or}
+use Rattle.std.proofs.Common.{◌≡◌, ℕ, ◌<◌, false, cond, List, [], ◌∷◌, ◌++◌, length, flat_map, Result, OnOk, is_err, sym, ap, ap₂, ◌∙◌, subst, ⊎_elim, arith, true≢false, ltb, Ok, Err}
 use Rattle.std.specs.Option.{option_to_list}
 use Rattle.std.proofs.lemmas.Bool.{cases_eq}
 use Rattle.std.proofs.lemmas.List.Elements.{All-nil, All-push}
 use Rattle.lr_vc.specs.Frame.{Fields}
 use Rattle.lr_vc.specs.Runs.{AreFrames, channel_frames, runs_of}
 use Rattle.lr_vc.specs.Packets.{packets_at}
-use Rattle.lr_vc.specs.Standing.{Kept, KeptChannel, kept_at, StandsFor, open_packets, last_run, last_counter}
-use Rattle.lr_vc.specs.Steps.{follows, met_by, packets_with, open_behind, ended, gone_on, packets_inside, starts_unfinished, TakesFrame}
+use Rattle.lr_vc.specs.Standing.{Kept, kept_at, StandsFor, open_packets, last_run, last_counter}
+use Rattle.lr_vc.specs.Steps.{follows, met_by, packets_with, open_behind, ended, gone_on, packets_inside, TakesFrame, opened}
 use Rattle.lr_vc.proofs.History.{met, open_none, channel_frames-other, last_counter-own, open_packets-own, packets_at-next}
 
 -- what holds of an `Ok` holds where the result is no `Err`
 pub at_ok : {T E P : Type 0} (r : Result T E) → is_err r ≡ false → OnOk r P → P
-at_ok (Rattle.std.proofs.Common.Ok x) _ h = h
-at_ok (Rattle.std.proofs.Common.Err x) e _ = absurd (true≢false e)
+at_ok (Ok x) _ h = h
+at_ok (Err x) e _ = absurd (true≢false e)
 
 frames_more : (history : List Fields) (f : Fields) → length f.zone ≡ 884 → AreFrames history → AreFrames (history ++ f ∷ [])
 frames_more history f long h = All-push (λ f. length f.zone ≡ 884) history f h long
@@ -24,8 +24,8 @@ stands_new kept unspent none =
     record {
       frames = All-nil (λ f. length f.zone ≡ 884);
       unspent = unspent;
-      counters = λ channel _. ap (λ cs. (slice_index_or cs channel Rattle.lr_vc.specs.Standing.nothing_kept).counter) none;
-      packets = λ channel _. ap (λ cs. option_to_list (slice_index_or cs channel Rattle.lr_vc.specs.Standing.nothing_kept).open_packet) none ∙ sym open_none;
+      counters = λ channel _. ap (λ cs. (kept_at cs channel).counter) none;
+      packets = λ channel _. ap (λ cs. option_to_list (kept_at cs channel).open_packet) none ∙ sym open_none;
     }
 
 pub stands_fill : (kept : Kept) (history : List Fields) (f : Fields) → f.vc ≡ 63 → length f.zone ≡ 884 → StandsFor kept history → StandsFor kept (history ++ f ∷ [])
@@ -56,7 +56,7 @@ open_next : (kept : Kept) (history : List Fields) (f : Fields) → f.vc < 63 →
     open_behind f (met_by (kept_at kept.channels f.vc) f.counter) ≡ open_packets (last_run (runs_of (channel_frames f.vc (history ++ f ∷ []))))
 unfolding open_behind
 open_next kept history f below long h =
-    ap (λ os. flat_map (gone_on f.zone f.pointer) os ++ cond (ltb f.pointer 884) (map (λ s. drop s f.zone) (starts_unfinished f.zone f.pointer)) []) (met_is kept history f below h)
+    ap (λ os. flat_map (gone_on f.zone f.pointer) os ++ cond (ltb f.pointer 884) (opened f) []) (met_is kept history f below h)
     ∙ sym (open_packets-own history f h.frames long)
 
 pub stands_next : (old new : Kept) (history : List Fields) (f : Fields) → f.vc < 63 → length f.zone ≡ 884 → new.spent ≡ false →

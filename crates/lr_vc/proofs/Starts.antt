@@ -1,10 +1,11 @@
 -- Places in joined bytes: what more bytes behind them, or before them, change.
-use Rattle.std.proofs.Common.{◌≡◌, ℕ, zero, suc, ◌+◌, ◌-◌, ◌*◌, ◌<◌, ◌≤◌, Bool, true, false, cond, ◌&&◌, List, [], ◌∷◌, ◌++◌, map, length, take, drop, get_or, refl, sym, ap, ap₂, ◌∙◌, arith, add-zero, length-append, length-drop, drop-drop, drop_at, get_or-drop, ltb, leb, le-ltb, le-leb, leb-true, leb-false, ltb-true, ⊎_elim}
+use Rattle.lr_vc.specs.Runs.{Run}
+use Rattle.std.proofs.Common.{◌≡◌, ℕ, zero, suc, ◌+◌, ◌-◌, ◌*◌, ◌<◌, ◌≤◌, Bool, true, false, cond, ◌&&◌, List, [], ◌∷◌, ◌++◌, map, length, take, drop, get_or, refl, sym, ap, ap₂, ◌∙◌, arith, add-zero, length-append, length-drop, drop-drop, drop_at, get_or-drop, ltb, leb, le-ltb, lt-ltb, le-leb, leb-true, leb-false, ltb-true, ⊎_elim, Contains, inl, inr, ◌⊎◌, subst}
 use Rattle.std.proofs.lemmas.List.{get_or_append_left, drop-append-le, take-append-le}
 use Rattle.std.proofs.lemmas.Bool.{and_parts, and_from, and_left, and_right, lt-leb, cases_lt, cond_both}
 use Rattle.std.specs.List.{AllByRecursion as Each}
 use Rattle.lr_bits.specs.Packet.{length_field_at}
-use Rattle.lr_vc.specs.Packets.{packet_end, has_header, is_whole, starts_from, packet_at}
+use Rattle.lr_vc.specs.Packets.{packet_end, has_header, is_whole, starts_from, packet_at, zones_of, pointer_of, starts_in_zone}
 
 cond_same : {X : Type 0} {x : X} (b : Bool) → cond b x x ≡ x
 cond_same true = refl
@@ -204,3 +205,67 @@ starts_from_steps xs edge (suc steps) zero s h k = starts_from_past xs edge (suc
 starts_from_steps xs edge (suc steps) (suc more) s h k =
     let far = packet_end_is xs s in
     rw (starts_from_steps xs edge steps more (packet_end xs s) (omega (arith, far)) (omega (arith, far))) refl
+
+-- ---- no start is left out: the end of a packet before the edge is a start too
+
+contains_later : (x y : ℕ) (xs : List ℕ) → Contains xs x → Contains (y ∷ xs) x
+contains_later x y xs h = (suc h.0, omega (arith, h.1), h.2)
+
+contains_rest : (x y : ℕ) (xs : List ℕ) → Contains (y ∷ xs) x → (y ≡ x) ⊎ Contains xs x
+contains_rest x y xs (zero, h, e) = inl e
+contains_rest x y xs (suc k, h, e) = inr (k, omega (arith, h), e)
+
+contains_none : (x : ℕ) → Contains [] x → ⊥
+contains_none x (k, h, e) = omega (arith, h)
+
+starts_from_next : (xs : List ℕ) (edge steps s : ℕ) → s < edge → s + 6 ≤ length xs → starts_from xs edge (suc steps) s ≡ s ∷ starts_from xs edge steps (packet_end xs s)
+unfolding starts_from
+starts_from_next xs edge steps s h k = rw (lt-ltb s edge h, has_header_if xs s k) refl
+
+starts_from_last : (xs : List ℕ) (edge steps s : ℕ) → s < edge → length xs < s + 6 → starts_from xs edge (suc steps) s ≡ s ∷ []
+unfolding starts_from
+starts_from_last xs edge steps s h k = rw (lt-ltb s edge h, has_header_not xs s k) refl
+
+first_start : (xs : List ℕ) (edge steps s : ℕ) → s < edge → Contains (starts_from xs edge (suc steps) s) s
+unfolding starts_from
+first_start xs edge steps s h = rw (lt-ltb s edge h) (0, omega arith, refl)
+
+pub starts_from-closed : (xs : List ℕ) (edge steps s start : ℕ) → edge ≤ steps + s → Contains (starts_from xs edge steps s) start →
+    start + 6 ≤ length xs → packet_end xs start < edge → Contains (starts_from xs edge steps s) (packet_end xs start)
+starts_from-closed xs edge zero s start enough is_start header before =
+    absurd (contains_none start (subst (λ ks. Contains ks start) (starts_from_past xs edge 0 s (omega arith)) is_start))
+starts_from-closed xs edge (suc steps) s start enough is_start header before =
+    let goal = λ (ks : List ℕ). Contains ks (packet_end xs start) in
+    let far = packet_end_is xs s in
+    ⊎_elim
+    (λ inside. ⊎_elim
+    (λ short.
+    let only : (s ≡ start) ⊎ Contains [] start = contains_rest start s [] (subst (λ ks. Contains ks start) (starts_from_last xs edge steps s inside short) is_start) in
+    ⊎_elim (λ same. absurd (omega (arith, header))) (λ none. absurd (contains_none start none)) only)
+    (λ there.
+    let rest = starts_from xs edge steps (packet_end xs s) in
+    let next = starts_from_next xs edge steps s inside there in
+    let which : (s ≡ start) ⊎ Contains rest start = contains_rest start s rest (subst (λ ks. Contains ks start) next is_start) in
+    let in_rest : goal rest =
+    ⊎_elim (λ same.
+    let end : packet_end xs s ≡ packet_end xs start = ap (packet_end xs) same in
+    let one : suc (steps - 1) ≡ steps = omega (arith, before) in
+    subst (λ n. goal (starts_from xs edge n (packet_end xs s))) one
+    (subst (λ e. Contains (starts_from xs edge (suc (steps - 1)) (packet_end xs s)) e) end (first_start xs edge (steps - 1) (packet_end xs s) (omega (arith, before)))))
+    (λ later. starts_from-closed xs edge steps (packet_end xs s) start (omega arith) later header before) which in
+    subst goal (sym next) (contains_later (packet_end xs start) s rest in_rest))
+    (cases_lt (length xs) (s + 6)))
+    (λ past. absurd (contains_none start (subst (λ ks. Contains ks start) (starts_from_past xs edge (suc steps) s past) is_start)))
+    (cases_lt s edge)
+
+pub starts_in_zone-closed : (run : Run) (zone start : ℕ) → Contains (starts_in_zone run zone) start → start + 6 ≤ length (zones_of run) →
+    packet_end (zones_of run) start < 884 * zone + 884 → Contains (starts_in_zone run zone) (packet_end (zones_of run) start)
+unfolding starts_in_zone
+starts_in_zone-closed run zone start is_start header before =
+    let all = zones_of run in
+    let first = 884 * zone + pointer_of run zone in
+    let from = starts_from all (884 * zone + 884) 884 first in
+    let Closed : Bool → Type 0 = λ b. Contains (cond b from []) start → Contains (cond b from []) (packet_end all start) in
+    let cases : (b : Bool) → Closed b =
+    λ b. elim b as Closed [ true ↦ λ h. starts_from-closed all (884 * zone + 884) 884 first start (omega arith) h header before | false ↦ λ h. absurd (contains_none start h) ] in
+    cases (ltb (pointer_of run zone) 884) is_start

@@ -1,9 +1,10 @@
 -- The packets of a history that grows.
-use Rattle.std.specs.Prelude.{◌≡◌, List, [], ◌∷◌, ◌++◌, length}
+use Rattle.std.specs.List.{Contains}
+use Rattle.std.specs.Prelude.{◌≡◌, List, [], ◌∷◌, ◌++◌, length, ℕ, ◌+◌, ◌*◌, ◌<◌, ◌≤◌}
 use Rattle.lr_bits.specs.Packet.{Packet}
 use Rattle.lr_vc.specs.Frame.{Fields}
-use Rattle.lr_vc.specs.Runs.{AreFrames}
-use Rattle.lr_vc.specs.Packets.{packets_at, packets_of}
+use Rattle.lr_vc.specs.Runs.{AreFrames, Run}
+use Rattle.lr_vc.specs.Packets.{packets_at, packets_of, zones_of, packet_end, starts_in_zone}
 
 -- one frame more adds exactly the packets that end in it
 abbrev pub FramesAddTheirPackets : Type 0
@@ -14,3 +15,9 @@ FramesAddTheirPackets = (history : List Fields) (frame : Fields) → AreFrames (
 abbrev pub PacketsKeepTheirOrder : Type 0
 PacketsKeepTheirOrder = (history later : List Fields) → AreFrames (history ++ later) →
     (more : List Packet) × (packets_of (history ++ later) ≡ packets_of history ++ more)
+
+-- In each zone the starts go on: where the header at a start is there, and its packet ends before the end of the zone, that end is a
+-- start of the zone too.
+abbrev pub StartsGoOn : Type 0
+StartsGoOn = (run : Run) (zone start : ℕ) → Contains (starts_in_zone run zone) start → start + 6 ≤ length (zones_of run) →
+    packet_end (zones_of run) start < 884 * zone + 884 → Contains (starts_in_zone run zone) (packet_end (zones_of run) start)

@@ -1,4 +1,4 @@
--- What is kept of the frames so far.
+-- What is kept of the frames so far, and the history for which it stands.
 use Rattle.std.specs.Prelude.{◌≡◌, ℕ, ◌<◌, ◌≤◌, Bool, true, false, not, ◌&&◌, Option, Some, None, List, [], ◌∷◌, length, drop, map, slice_index_or, ◌==◌}
 use Rattle.std.specs.Option.{option_to_list, ForSome}
 use Rattle.std.specs.List.{All, filter, list_all}
@@ -6,17 +6,17 @@ use Rattle.lr_vc.specs.Frame.{Fields}
 use Rattle.lr_vc.specs.Runs.{Run, AreFrames, channel_frames, runs_of}
 use Rattle.lr_vc.specs.Packets.{zones_of, pointer_of, is_whole, starts_of, zones_behind}
 
--- of one channel: the counter of its last frame, and the bytes so far of its open packet
+-- What is kept of one channel: the counter of its last frame, and the bytes so far of its open packet
 pub record KeptChannel : Type 0 where
   pub counter : Option ℕ
   pub open_packet : Option (List ℕ)
 
--- of all channels, by their numbers, and whether memory was wanting
+-- and of all channels, by their numbers, with a mark once memory was wanting
 pub record Kept : Type 0 where
   pub spent : Bool
   pub channels : List KeptChannel
 
--- a channel of which nothing is kept
+-- what is kept of a channel without frames
 abbrev pub nothing_kept : KeptChannel
 nothing_kept = record { counter = None; open_packet = None }
 
@@ -57,12 +57,13 @@ is_open run start =
 unfoldable pub open_packets : Run → List (List ℕ)
 open_packets run = map (λ start. drop start (zones_of run)) (filter (is_open run) (starts_of run))
 
--- What is kept stands for this history of frames: it is their last counters and the open packets of their last runs, of which
--- there is at most one.
+-- What is kept stands for this history of frames: it is, of each channel, the counter of the last frame and the open packet of the
+-- last run. So a run has at most one open packet.
 pub record StandsFor (kept : Kept) (history : List Fields) : Type 0 where
   pub frames : AreFrames history
   pub unspent : kept.spent ≡ false
   pub counters : (channel : ℕ) → channel < 63 →
       (kept_at kept.channels channel).counter ≡ last_counter (channel_frames channel history)
   pub packets : (channel : ℕ) → channel < 63 →
-      option_to_list (kept_at kept.channels channel).open_packet ≡ open_packets (last_run (runs_of (channel_frames channel history)))
+      option_to_list (kept_at kept.channels channel).open_packet
+      ≡ open_packets (last_run (runs_of (channel_frames channel history)))

@@ -1,4 +1,4 @@
-ghost use Rattle.lr_vc.specs.Laws.{FramesAddTheirPackets, PacketsKeepTheirOrder};
+ghost use Rattle.lr_vc.specs.Laws.{FramesAddTheirPackets, PacketsKeepTheirOrder, StartsGoOn};
 
 /// One frame more adds exactly the packets that end in it, behind those of the frames before.
 pub fn frames_add_their_packets()
@@ -8,4 +8,9 @@ pub fn frames_add_their_packets()
 /// The packets of the first frames of a history are the first of its packets.
 pub fn packets_keep_their_order()
     ensures { PacketsKeepTheirOrder }
+{}
+
+/// In each zone of a run the starts go on to the zone's end: none is left out.
+pub fn starts_go_on()
+    ensures { StartsGoOn }
 {}

@@ -17,4 +17,4 @@ mod zone;
 
 pub use channels::Channels;
 pub use frame::{BadVersion, FRAME_BYTES, TransferFrame, ZONE_BYTES};
-pub use laws::{frames_add_their_packets, packets_keep_their_order};
+pub use laws::{frames_add_their_packets, packets_keep_their_order, starts_go_on};

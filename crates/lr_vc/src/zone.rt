@@ -61,7 +61,7 @@ pub fn end_across(so_far: &[u8], zone: &[u8; ZONE_BYTES]) -> usize
     SHORTEST_PACKET + length_of(high, low)
 }
 
-/// The packet of bytes that are one.
+/// The packet that these bytes are.
 pub fn whole(vc: u8, bytes: Bytes) -> RawPacket
     requires { IsPacket (record { vc = vc; bytes = bytes }) }
     ensures { result ≡ record { vc = vc; bytes = bytes } }

@@ -1,0 +1,5 @@
+pub mod FileLaws
+pub mod Histories
+pub mod KeyLemmas
+pub mod OpenLemmas
+pub mod Stretches

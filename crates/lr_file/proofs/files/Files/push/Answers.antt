@@ -1,0 +1,34 @@
+use Rattle.std.proofs.Common.{◌≤◌, Option, length, sym, ◌∙◌, subst, rules, arith}
+use Rattle.lr_bits.specs.File.{File}
+use Rattle.lr_packet.specs.Reading.{good}
+use Rattle.lr_file.specs.Standing.{Open, Kept, StandsFor}
+use Rattle.lr_file.specs.Steps.{IsFileOf, ended}
+use Rattle.lr_file.proofs.KeyLemmas.{on_ok, if_ok}
+use Rattle.lr_file.proofs.Histories.{stands_next, file_at-built}
+use Rattle.lr_file.proofs.files.Files.push.Goals as goal
+
+pub returns-clause-stands : goal.returns-clause-stands
+returns-clause-stands c =
+    let p = good c.args.packet.now in
+    let short : length p.body ≤ 67108864 = omega (arith, c.args.packet.now.body_fits) in
+    let old : Kept = record { spent = c.self.inside.spent; files = c.self.inside.files.entries } in
+    let new : Kept = record { spent = c.is_err-self-inside.result; files = c.join-result.new.files.entries } in
+    λ packets stands.
+    on_ok c.join-result.result
+    (λ fine sets. stands_next old new packets p short (c.is_err-self-inside.ensures.value ∙ fine) sets (subst (λ (kept : Kept). StandsFor kept packets) (sym c.self.view_is) stands))
+    c.join-result.ensures.files
+
+pub returns-clause-file : goal.returns-clause-file
+returns-clause-file c =
+    let p = good c.args.packet.now in
+    let short : length p.body ≤ 67108864 = omega (arith, c.args.packet.now.body_fits) in
+    let old : Kept = record { spent = c.self.inside.spent; files = c.self.inside.files.entries } in
+    λ packets stands.
+    let before = subst (λ (kept : Kept). StandsFor kept packets) (sym c.self.view_is) stands in
+    if_ok c.join-result.result
+    (λ (file : Option File) built.
+    file_at-built packets p file short (subst (λ (kept : Option Open). IsFileOf p (ended kept p) file) (before.files p.vc p.apid) built))
+    c.join-result.ensures.file
+
+pub returns-clause-spends : goal.returns-clause-spends
+returns-clause-spends c = search (rules, arith)

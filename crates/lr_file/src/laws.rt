@@ -1,0 +1,21 @@
+ghost use Rattle.lr_file.specs.Laws.{FilesKeepTheirOrder, OneFileEnds, OneFileIsOpen, PacketAddsItsFile};
+
+/// One packet more adds the file that ends with it, if one does, behind those of the packets before.
+pub fn a_packet_adds_its_file()
+    ensures { PacketAddsItsFile }
+{}
+
+/// The files of the first packets of a list are the first of its files.
+pub fn files_keep_their_order()
+    ensures { FilesKeepTheirOrder }
+{}
+
+/// At most one file ends with a packet.
+pub fn one_file_ends_with_a_packet()
+    ensures { OneFileEnds }
+{}
+
+/// At most one file of a channel and application is open.
+pub fn one_file_is_open()
+    ensures { OneFileIsOpen }
+{}

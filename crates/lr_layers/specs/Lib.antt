@@ -1,0 +1,4 @@
+pub mod Laws
+pub mod Layers
+pub mod Standing
+pub mod Steps

@@ -1,0 +1,43 @@
+-- What is kept of the outcomes so far.
+use Rattle.std.specs.Prelude.{◌≡◌, ◌≤◌, ◌+◌, ◌*◌, ℕ, Bool, true, false, List, [], ◌∷◌, ◌++◌, length, take}
+use Rattle.lr_bits.specs.declared.outcome.Outcome.{Outcome}
+use Rattle.lr_bits.specs.File.{File}
+use Rattle.lr_vc.specs.Standing.{Kept as KeptChannels, StandsFor as ChannelsStandFor}
+use Rattle.lr_packet.specs.Verdict.{Good}
+use Rattle.lr_file.specs.Files.{files_of}
+use Rattle.lr_file.specs.Standing.{Kept as KeptFiles, StandsFor as FilesStandFor}
+use Rattle.lr_layers.specs.declared.counts.Counts.{Counts}
+use Rattle.lr_layers.specs.Layers.{Numbers, numbers_of, frames_of_outcomes, good_of_outcomes, files_of_outcomes}
+
+-- the numbers that the program counts
+abbrev pub numbers : Counts → Numbers
+numbers c = record { restored = c.restored; lost = c.lost; bad_versions = c.bad_versions; fill = c.fill; packets = c.packets; files = c.files }
+
+-- of frames and packets what their layers keep, the numbers so far, and whether memory was wanting
+pub record Kept : Type 0 where
+  pub spent : Bool
+  pub channels : KeptChannels
+  pub files : KeptFiles
+  pub numbers : Numbers
+
+-- memory was wanting in an earlier call
+abbrev pub IsSpent : Kept → Type 0
+IsSpent kept = kept.spent ≡ true
+
+-- a frame ends at most 885 packets, and a packet at most one file
+pub record AreFew (numbers : Numbers) : Type 0 where
+  pub packets : numbers.packets ≤ 885 * numbers.restored
+  pub files : numbers.files ≤ numbers.packets
+
+-- what is kept stands for these outcomes
+pub record StandsFor (kept : Kept) (outcomes : List Outcome) : Type 0 where
+  pub unspent : kept.spent ≡ false
+  pub channels : ChannelsStandFor kept.channels (frames_of_outcomes outcomes)
+  pub files : FilesStandFor kept.files (good_of_outcomes outcomes)
+  pub numbers : kept.numbers ≡ numbers_of outcomes
+
+-- the files that one outcome more adds were appended
+pub record AddsFiles (outcomes : List Outcome) (outcome : Outcome) (old new : List File) : Type 0 where
+  pub more : List File
+  pub added : new ≡ old ++ more
+  pub files : files_of_outcomes (outcomes ++ outcome ∷ []) ≡ files_of_outcomes outcomes ++ more

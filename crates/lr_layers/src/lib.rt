@@ -1,0 +1,12 @@
+//! From the outcomes of blocks to mission files, by the layers between them.
+//!
+//! An outcome is a restored frame of 892 bytes, or a lost block, which is simply absent. Frames of version 1 are read as
+//! packets (CCSDS 732.0-B, 133.0-B), the good ones among them are joined to files (CGMS 03), and the files leave in the order
+//! of their last packets. The layer above rests on `Layers.files_of_outcomes`, which composes the definitions of the layers,
+//! and on `Laws.FilesGoOn`: the files of the first outcomes are the first files.
+#![tactic(auto)]
+
+mod counts;
+mod packets;
+
+pub use counts::Counts;
