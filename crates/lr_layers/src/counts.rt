@@ -11,3 +11,10 @@ pub struct Counts {
     pub packets: u64,
     pub files: u64,
 }
+
+/// How many good packets and files one frame more adds.
+#[derive(Clone, Copy)]
+pub(crate) struct Gained {
+    pub packets: u64,
+    pub files: u64,
+}

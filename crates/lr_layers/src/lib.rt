@@ -7,6 +7,7 @@
 #![tactic(auto)]
 
 mod counts;
+mod frames;
 mod packets;
 
 pub use counts::Counts;

@@ -1,5 +1,5 @@
 // The packets of a frame, one after another.
-ghost use Rattle.std.specs.Prelude.{◌≡◌, ◌++◌, ◌∷◌, [], List, ℕ, IfOk, OnOk, length, if◌then◌else◌};
+ghost use Rattle.std.specs.Prelude.{◌≡◌, ◌≤◌, ◌+◌, ◌++◌, ◌∷◌, [], List, ℕ, IfOk, OnOk, length, if◌then◌else◌};
 ghost use Rattle.lr_packet.specs.Verdict.{Good, good_packets};
 ghost use Rattle.lr_file.specs.Standing.{StandsFor};
 ghost use Rattle.lr_layers.specs.Steps.{Appends, KeepsFront};
@@ -17,6 +17,7 @@ fn push_packet(
     ensures stands { (before : List Good) → StandsFor files.old before → OnOk result (StandsFor files.new (before ++ good_packets (raw.now ∷ []))) }
     ensures files { (before : List Good) → StandsFor files.old before → OnOk result (Appends before (good_packets (raw.now ∷ [])) out.old.items out.new.items) }
     ensures good { IfOk result (λ good. (if good then 1 else 0) ≡ length (good_packets (raw.now ∷ []))) }
+    ensures few { IfOk result (λ good. length out.new.items ≤ length out.old.items + (if good then 1 else 0)) }
     ensures kept { KeepsFront out.old.items out.new.items }
 {
     match check(raw) {
@@ -39,6 +40,8 @@ pub(crate) fn push_packets(
     ensures stands { (before : List Good) → StandsFor files.old before → OnOk result (StandsFor files.new (before ++ good_packets packets.now)) }
     ensures files { (before : List Good) → StandsFor files.old before → OnOk result (Appends before (good_packets packets.now) out.old.items out.new.items) }
     ensures good { IfOk result (λ good. good ≡ length (good_packets packets.now)) }
+    ensures few { IfOk result (λ good. good ≤ length packets.now) }
+    ensures few_files { IfOk result (λ good. length out.new.items ≤ length out.old.items + good) }
     ensures kept { KeepsFront out.old.items out.new.items }
 {
     let mut good = 0;

@@ -1,0 +1,12 @@
+pub mod Tests
+pub mod Linear
+pub mod Laws
+pub mod Powers
+pub mod DualLaws
+pub mod SumLaws
+pub mod Values
+pub mod Vanishing
+pub mod Roots
+pub mod Elimination
+pub mod Reduction
+pub mod Solving

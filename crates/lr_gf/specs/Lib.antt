@@ -1,0 +1,5 @@
+pub mod Sums
+pub mod Field
+pub mod Dual
+pub mod Systems
+pub mod RowOperations

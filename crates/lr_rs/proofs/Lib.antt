@@ -1,0 +1,9 @@
+pub mod Locators
+pub mod Remainders
+pub mod Unique
+pub mod KeyEquation
+pub mod ErrorValues
+pub mod Correcting
+pub mod Exactness
+pub mod CheckBytes
+pub mod TermSteps

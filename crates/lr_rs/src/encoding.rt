@@ -1,0 +1,48 @@
+//! Encoding: the information, and behind it the check bytes.
+#![tactic(auto)]
+
+ghost use Rattle.std.specs.Prelude.{◌≡◌, ℕ, ◌+◌, ◌<◌, ◌≤◌, slice_index, take, List};
+ghost use Rattle.lr_gf.specs.Dual.{conventional_of};
+ghost use Rattle.lr_rs.specs.Words.{IsWord, IsCodeword};
+
+use crate::division::remainder_of;
+use lr_gf::{Gf, to_dual};
+
+/// Writes the information, and zeros behind it.
+fn put_information(information: &[u8; 223], word: &mut [u8; 255])
+    ensures begins { (i : ℕ) → i < 223 → slice_index word.new i ≡ slice_index information.now i }
+    ensures zeros { (i : ℕ) → 223 ≤ i → slice_index word.new i ≡ 0 }
+{
+    let zeros = [0u8; 255];
+    *word = zeros;
+    for i in 0..223 {
+        word[i] = information[i];
+    }
+}
+
+/// Writes the check bytes behind the information.
+fn put_check(word: &mut [u8; 255], check: &[Gf; 32])
+    ensures kept { (i : ℕ) → i < 223 → slice_index word.new i ≡ slice_index word.old i }
+    ensures bytes { (k : ℕ) → k < 32 → slice_index word.new (223 + k) < 256 }
+    ensures check { (k : ℕ) → k < 32
+        → conventional_of (slice_index word.new (223 + k)) ≡ slice_index check.now k }
+{
+    for k in 0..32 {
+        let coefficient = check[k];
+        word[223 + k] = to_dual(coefficient.0);
+    }
+}
+
+/// Encodes: the codeword that begins with the information.
+pub fn encode(information: &[u8; 223], word: &mut [u8; 255])
+    ensures begins { take 223 word.new ≡ information.now }
+    ensures word { IsWord word.new }
+    ensures codeword { IsCodeword word.new }
+    ensures only { (c : List ℕ) → IsWord c → IsCodeword c → take 223 c ≡ information.now
+        → c ≡ word.new }
+{
+    put_information(information, word);
+    let mut check = [Gf(0); 32];
+    remainder_of(word, &mut check);
+    put_check(word, &check);
+}
