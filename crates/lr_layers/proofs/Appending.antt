@@ -1,5 +1,5 @@
 -- Files that packets add, one packet after another.
-use Rattle.std.proofs.Common.{◌≡◌, ℕ, ◌+◌, ◌≤◌, ◌<◌, arith, length-take, get_or, List, [], ◌∷◌, ◌++◌, length, take, ap, ◌∙◌, sym, refl, subst, append-nil, append_assoc, Option, Some, None, Result, Ok, Err}
+use Rattle.std.proofs.Common.{◌≡◌, ℕ, ◌+◌, ◌≤◌, ◌<◌, arith, length-take, get_or, List, [], ◌∷◌, ◌++◌, length, take, ap, ◌∙◌, sym, append-nil, append_assoc, Result, Ok}
 use Rattle.std.specs.Option.{option_to_list}
 use Rattle.std.proofs.Math.Seq.{take-length, take-append_seam}
 use Rattle.std.proofs.lemmas.List.{take-take, take_more}

@@ -1,10 +1,8 @@
 -- What is kept of the outcomes so far.
-use Rattle.std.specs.Prelude.{◌≡◌, ◌≤◌, ◌+◌, ◌*◌, ℕ, Bool, true, false, List, [], ◌∷◌, ◌++◌, length, take}
+use Rattle.std.specs.Prelude.{◌≡◌, ◌≤◌, ◌*◌, Bool, true, false, List, [], ◌∷◌, ◌++◌}
 use Rattle.lr_bits.specs.declared.outcome.Outcome.{Outcome}
 use Rattle.lr_bits.specs.File.{File}
 use Rattle.lr_vc.specs.Standing.{Kept as KeptChannels, StandsFor as ChannelsStandFor}
-use Rattle.lr_packet.specs.Verdict.{Good}
-use Rattle.lr_file.specs.Files.{files_of}
 use Rattle.lr_file.specs.Standing.{Kept as KeptFiles, StandsFor as FilesStandFor}
 use Rattle.lr_layers.specs.declared.counts.Counts.{Counts}
 use Rattle.lr_layers.specs.Layers.{Numbers, numbers_of, frames_of_outcomes, good_of_outcomes, files_of_outcomes}
@@ -24,8 +22,10 @@ pub record Kept : Type 0 where
 abbrev pub IsSpent : Kept → Type 0
 IsSpent kept = kept.spent ≡ true
 
--- a frame ends at most 885 packets, and a packet at most one file
+-- a frame is of another version or of fill once at most, and ends at most 885 packets; a packet ends at most one file
 pub record AreFew (numbers : Numbers) : Type 0 where
+  pub bad_versions : numbers.bad_versions ≤ numbers.restored
+  pub fill : numbers.fill ≤ numbers.restored
   pub packets : numbers.packets ≤ 885 * numbers.restored
   pub files : numbers.files ≤ numbers.packets
 

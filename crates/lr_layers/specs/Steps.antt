@@ -1,5 +1,5 @@
 -- What packets that are pushed one after another add. The contracts of the private functions cite these words.
-use Rattle.std.specs.Prelude.{◌≡◌, ℕ, ◌+◌, List, [], ◌∷◌, ◌++◌, length, take, if◌then◌else◌}
+use Rattle.std.specs.Prelude.{◌≡◌, ℕ, ◌+◌, List, [], ◌++◌, length, take, if◌then◌else◌}
 use Rattle.lr_bits.specs.declared.outcome.Outcome.TheVariants.{Restored}
 use Rattle.lr_bits.specs.File.{File}
 use Rattle.lr_vc.specs.Frame.{Fields}

@@ -57,10 +57,10 @@ pub(crate) fn push_frame(
 {
     packets.clear();
     channels.push(frame, packets)?;
-    let before = out.len();
+    let before = out.as_slice().len();
     let good = push_packets(packets, files, out)?;
     Ok(Gained {
         packets: good,
-        files: (out.len() - before) as u64,
+        files: (out.as_slice().len() - before) as u64,
     })
 }

@@ -3,15 +3,12 @@ ghost use Rattle.lr_bits.specs.declared.outcome.Outcome.{Outcome as Outcome'};
 ghost use Rattle.lr_layers.specs.Standing.{StandsFor, IsSpent, AddsFiles, AreFew, numbers};
 
 use crate::counts::Counts;
-use crate::packets::push_packets;
+use crate::frames::{push_frame, read_frame};
 use lr_bits::{MissionFile, NoMemory, Outcome, RawPacket};
 use lr_file::Files;
-use lr_vc::{Channels, FRAME_BYTES, TransferFrame};
+use lr_vc::Channels;
 use std::alloc::Global;
 use std::marker::Model;
-
-/// The channel of fill frames.
-const FILL: u8 = 63;
 
 /// The mission files of outcomes, which are pushed one after another.
 ///
@@ -66,32 +63,6 @@ impl Layers {
         self.counts
     }
 
-    // A restored frame.
-    fn push_frame(
-        &mut self,
-        frame: &[u8; FRAME_BYTES],
-        files: &mut Vec<MissionFile>,
-    ) -> Result<(), NoMemory>
-    {
-        let frame = match TransferFrame::read(frame) {
-            Ok(frame) => frame,
-            Err(_) => {
-                self.counts.bad_versions += 1;
-                return Ok(());
-            }
-        };
-        if frame.vc == FILL {
-            self.counts.fill += 1;
-        }
-        self.packets.clear();
-        self.channels.push(&frame, &mut self.packets)?;
-        let before = files.len();
-        let good = push_packets(&self.packets, &mut self.files, files)?;
-        self.counts.packets += good;
-        self.counts.files += (files.len() - before) as u64;
-        Ok(())
-    }
-
     /// Appends the files that end with this outcome, the next one of those for which the object stands. Fewer than 2^48
     /// outcomes were pushed before.
     ///
@@ -113,20 +84,37 @@ impl Layers {
         if self.spent {
             return Err(NoMemory);
         }
-        let frame = match outcome {
-            Outcome::Restored(_, frame) => frame,
+        let bytes = match outcome {
+            Outcome::Restored(_, bytes) => bytes,
             Outcome::Lost(_) => {
                 self.counts.lost += 1;
                 return Ok(());
             }
         };
+        let read = read_frame(bytes, &mut self.counts);
         self.counts.restored += 1;
+        let Some(frame) = read else {
+            return Ok(());
+        };
         let before = files.len();
-        if self.push_frame(frame, files).is_err() {
-            self.spent = true;
-            files.truncate(before);
-            return Err(NoMemory);
+        let gained = push_frame(
+            &frame,
+            &mut self.channels,
+            &mut self.packets,
+            &mut self.files,
+            files,
+        );
+        match gained {
+            Ok(gained) => {
+                self.counts.packets += gained.packets;
+                self.counts.files += gained.files;
+                Ok(())
+            }
+            Err(NoMemory) => {
+                self.spent = true;
+                files.truncate(before);
+                Err(NoMemory)
+            }
         }
-        Ok(())
     }
 }

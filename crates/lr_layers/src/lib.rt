@@ -8,6 +8,10 @@
 
 mod counts;
 mod frames;
+mod laws;
+mod layers;
 mod packets;
 
 pub use counts::Counts;
+pub use laws::files_go_on;
+pub use layers::Layers;

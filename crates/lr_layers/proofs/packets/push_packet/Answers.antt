@@ -1,4 +1,4 @@
-use Rattle.std.proofs.Common.{◌≡◌, ◌++◌, ◌∷◌, [], List, ap, ◌∙◌, sym, subst, append-nil}
+use Rattle.std.proofs.Common.{◌++◌, List, ap, ◌∙◌, sym, subst, append-nil}
 use Rattle.std.specs.Option.{option_to_list}
 use Rattle.lr_packet.specs.Reading.{good}
 use Rattle.lr_packet.specs.Verdict.{Good}
