@@ -14,11 +14,14 @@ use Rattle.lr_file.proofs.Stretches.{flags, counts, zeros, are_zeros, and_left, 
 pub files_behind-append : (before xs ys : List Good) → files_behind before (xs ++ ys) ≡ files_behind before xs ++ files_behind (before ++ xs) ys
 files_behind-append before [] ys = ap (λ b. files_behind b ys) (sym (append-nil before))
 files_behind-append before (x ∷ xs) ys =
-    ap (λ fs. option_to_list (file_at before x) ++ fs) (files_behind-append (before ++ x ∷ []) xs ys ∙ ap (λ b. files_behind (before ++ x ∷ []) xs ++ files_behind b ys) (append_assoc before (x ∷ []) xs))
+    ap (λ fs. option_to_list (file_at before x) ++ fs)
+    (files_behind-append (before ++ x ∷ []) xs ys
+    ∙ ap (λ b. files_behind (before ++ x ∷ []) xs ++ files_behind b ys) (append_assoc before (x ∷ []) xs))
     ∙ sym (append_assoc (option_to_list (file_at before x)) (files_behind (before ++ x ∷ []) xs) (files_behind (before ++ x ∷ xs) ys))
 
 -- one packet more adds the file that ends with it
-pub files_of-more : (packets : List Good) (packet : Good) → files_of (packets ++ packet ∷ []) ≡ files_of packets ++ option_to_list (file_at packets packet)
+pub files_of-more : (packets : List Good) (packet : Good) →
+    files_of (packets ++ packet ∷ []) ≡ files_of packets ++ option_to_list (file_at packets packet)
 unfolding files_of
 files_of-more packets packet =
     files_behind-append [] packets (packet ∷ []) ∙ ap (λ fs. files_behind [] packets ++ fs) (append-nil (option_to_list (file_at packets packet)))
@@ -34,7 +37,8 @@ none_open [] h = refl
 none_open (q ∷ qs) h =
     rw (not_open q qs (begun_by_one q (and_left _ _ h))) (none_open qs (and_right _ _ h))
 
-one_open : (q : Good) (qs : List Good) (o : Bool) → is_open (q ∷ qs) ≡ o → length (filter is_open (last_stretches qs)) ≤ 1 → length (filter is_open (last_stretches (q ∷ qs))) ≤ 1
+one_open : (q : Good) (qs : List Good) (o : Bool) → is_open (q ∷ qs) ≡ o →
+    length (filter is_open (last_stretches qs)) ≤ 1 → length (filter is_open (last_stretches (q ∷ qs))) ≤ 1
 one_open q qs true o h = rw (o, none_open qs (zeros_behind q qs o)) (omega arith)
 one_open q qs false o h = rw o h
 
@@ -58,7 +62,8 @@ several_flags q r rs =
 not_file_of_several : (q r : Good) (rs : List Good) → eqb q.flags 1 ≡ false → is_file (q ∷ r ∷ rs) ≡ false
 unfolding is_file
 not_file_of_several q r rs h =
-    ap (λ (b : Bool). (((b && are_counted_on (counts (q ∷ r ∷ rs))) && leb (length (q ∷ r ∷ rs)) 1048576) && leb 10 (size_of (q ∷ r ∷ rs))) && leb (size_of (q ∷ r ∷ rs)) 67108864)
+    let stretch = q ∷ r ∷ rs in
+    ap (λ (b : Bool). (((b && are_counted_on (counts stretch)) && leb (length stretch) 1048576) && leb 10 (size_of stretch)) && leb (size_of stretch) 67108864)
     (several_flags q r rs ∙ ap (λ (b : Bool). b && end_with_two r rs) h)
 
 not_file_of_one : (q : Good) → (eqb q.flags 2 && true) ≡ true → is_file (q ∷ []) ≡ false
@@ -79,7 +84,8 @@ none_behind q [] h = refl
 none_behind q (r ∷ rs) h =
     none_files r rs (and_right (eqb q.flags 1) (end_with_two r rs) (sym (several_flags q r rs) ∙ and_left _ _ (and_left _ _ (and_left _ _ (and_left _ _ h)))))
 
-one_file : (q : Good) (qs : List Good) (o : Bool) → is_file (q ∷ qs) ≡ o → length (filter is_file (last_stretches qs)) ≤ 1 → length (filter is_file (last_stretches (q ∷ qs))) ≤ 1
+one_file : (q : Good) (qs : List Good) (o : Bool) → is_file (q ∷ qs) ≡ o →
+    length (filter is_file (last_stretches qs)) ≤ 1 → length (filter is_file (last_stretches (q ∷ qs))) ≤ 1
 one_file q qs true o h = rw (o, none_behind q qs o) (omega arith)
 one_file q qs false o h = rw o h
 

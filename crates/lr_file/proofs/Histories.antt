@@ -25,7 +25,8 @@ packets_of_key-own packets p =
     filter-append (is_of_key p.vc p.apid) packets (p ∷ [])
     ∙ ap (λ (b : Bool). packets_of_key p.vc p.apid packets ++ cond b (p ∷ []) []) (own p.vc p.apid)
 
-packets_of_key-other : (vc apid : ℕ) (packets : List Good) (p : Good) → is_of_key vc apid p ≡ false → packets_of_key vc apid (packets ++ p ∷ []) ≡ packets_of_key vc apid packets
+packets_of_key-other : (vc apid : ℕ) (packets : List Good) (p : Good) → is_of_key vc apid p ≡ false →
+    packets_of_key vc apid (packets ++ p ∷ []) ≡ packets_of_key vc apid packets
 packets_of_key-other vc apid packets p other =
     filter-append (is_of_key vc apid) packets (p ∷ [])
     ∙ ap (λ (b : Bool). packets_of_key vc apid packets ++ cond b (p ∷ []) []) other
@@ -69,7 +70,8 @@ goes_on s p true = ap Some (open_from-end s p)
 goes_on s p false = refl
 
 -- the open file of a stretch with one packet more, where there may be a stretch
-longer_open : (p : Good) → length p.body ≤ 67108864 → (first between : Bool) → eqb p.flags 1 ≡ first → eqb p.flags 0 ≡ between → (o : Option (List Good)) →
+longer_open : (p : Good) → length p.body ≤ 67108864 →
+    (first between : Bool) → eqb p.flags 1 ≡ first → eqb p.flags 0 ≡ between → (o : Option (List Good)) →
     option_map open_from (longer (λ s. eqb p.flags 0 && is_next (open_from s) p) p (is_open (p ∷ [])) o) ≡ next_open (option_map open_from o) p
 longer_open p short true true f b o = absurd (no_flags p.flags 0 1 (omega arith) b f)
 longer_open p short true false f b None = rw (open_alone p short, f) (ap Some (open_from-one p))
@@ -80,7 +82,8 @@ longer_open p short false false f b None = rw (open_alone p short, f, b) refl
 longer_open p short false false f b (Some s) = rw (open_alone p short, f, b) refl
 
 -- the open file behind one packet more of its key
-open_file-own : (packets : List Good) (p : Good) → length p.body ≤ 67108864 → open_file p.vc p.apid (packets ++ p ∷ []) ≡ next_open (open_file p.vc p.apid packets) p
+open_file-own : (packets : List Good) (p : Good) → length p.body ≤ 67108864 →
+    open_file p.vc p.apid (packets ++ p ∷ []) ≡ next_open (open_file p.vc p.apid packets) p
 unfolding open_file
 open_file-own packets p short =
     ap (λ ps. option_map open_from (find is_open (last_stretches ps))) (packets_of_key-own packets p)
@@ -128,7 +131,8 @@ built_end s p file true h =
 built_end s p file false h = h
 
 -- the file of a stretch with one packet more, where there may be a stretch
-longer_file : (p : Good) → length p.body ≤ 67108864 → (single last : Bool) → eqb p.flags 3 ≡ single → eqb p.flags 2 ≡ last → (o : Option (List Good)) (file : Option File) →
+longer_file : (p : Good) → length p.body ≤ 67108864 →
+    (single last : Bool) → eqb p.flags 3 ≡ single → eqb p.flags 2 ≡ last → (o : Option (List Good)) (file : Option File) →
     IsFileOf p (ended (option_map open_from o) p) file →
     file ≡ option_map (file_from p.vc p.apid) (longer (λ s. (eqb p.flags 2 && is_next (open_from s) p) && leb 10 (size_of (s ++ p ∷ []))) p (is_file (p ∷ [])) o)
 longer_file p short true true s l o file h = absurd (no_flags p.flags 2 3 (omega arith) l s)
@@ -145,7 +149,8 @@ pub file_at-built : (packets : List Good) (p : Good) (file : Option File) → le
 unfolding file_at open_file
 file_at-built packets p file short h =
     longer_file p short (eqb p.flags 3) (eqb p.flags 2) refl refl (find is_open (last_stretches (packets_of_key p.vc p.apid packets))) file h
-    ∙ sym (ap (option_map (file_from p.vc p.apid)) (find-end is_file (λ s. (eqb p.flags 2 && is_next (open_from s) p) && leb 10 (size_of (s ++ p ∷ []))) p (λ q qs. is_file-end q qs p) (packets_of_key p.vc p.apid packets)))
+    ∙ sym (ap (option_map (file_from p.vc p.apid))
+    (find-end is_file (λ s. (eqb p.flags 2 && is_next (open_from s) p) && leb 10 (size_of (s ++ p ∷ []))) p (λ q qs. is_file-end q qs p) (packets_of_key p.vc p.apid packets)))
     ∙ sym (ap (λ ps. option_map (file_from p.vc p.apid) (find is_file (last_stretches ps))) (packets_of_key-own packets p))
 
 pub stands_new : (kept : Kept) → kept.spent ≡ false → kept.files ≡ [] → AreAscending kept.files → StandsFor kept []

@@ -32,7 +32,8 @@ limits-lengths file p short next is =
       counted = is.counted;
     }
 
-pub limits-joined : (file : Open) (p : Good) → length p.body < 65535 → p.count < 16384 → IsTrue (is_next file p) → IsWithinLimits file → IsWithinLimits (joined file p)
+pub limits-joined : (file : Open) (p : Good) → length p.body < 65535 → p.count < 16384 → IsTrue (is_next file p) →
+    IsWithinLimits file → IsWithinLimits (joined file p)
 limits-joined file p short counted next is =
     let longer = limits-lengths file p short next is in
     record {

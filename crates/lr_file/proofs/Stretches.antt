@@ -36,7 +36,8 @@ and_assoc : (a b c : Bool) → ((a && b) && c) ≡ (a && (b && c))
 and_assoc true b c = refl
 and_assoc false b c = refl
 
-flags-end : (qs : List Good) (p : Good) (k : ℕ) → bytes_eq (flags (qs ++ p ∷ [])) (zeros (length qs) ++ k ∷ []) ≡ (are_zeros qs && eqb p.flags k)
+flags-end : (qs : List Good) (p : Good) (k : ℕ) →
+    bytes_eq (flags (qs ++ p ∷ [])) (zeros (length qs) ++ k ∷ []) ≡ (are_zeros qs && eqb p.flags k)
 flags-end [] p k = and_true (eqb p.flags k)
 flags-end (q ∷ qs) p k = ap (λ b. eqb q.flags 0 && b) (flags-end qs p k) ∙ sym (and_assoc (eqb q.flags 0) (are_zeros qs) (eqb p.flags k))
 
@@ -75,7 +76,8 @@ file_flags-end q qs p =
     ∙ ap (λ b. eqb q.flags 1 && b) (flags-end qs p 2)
     ∙ sym (and_assoc (eqb q.flags 1) (are_zeros qs) (eqb p.flags 2))
 
-counted-end : (q : Good) (qs : List Good) (p : Good) → are_counted_on (counts (q ∷ qs ++ p ∷ [])) ≡ (are_counted_on (counts (q ∷ qs)) && is_counted_on (q ∷ qs) p)
+counted-end : (q : Good) (qs : List Good) (p : Good) →
+    are_counted_on (counts (q ∷ qs ++ p ∷ [])) ≡ (are_counted_on (counts (q ∷ qs)) && is_counted_on (q ∷ qs) p)
 counted-end q [] p = and_true (eqb p.count ((q.count + 1) % 16384))
 counted-end q (r ∷ qs) p =
     let here = eqb r.count ((q.count + 1) % 16384) in
@@ -213,7 +215,9 @@ abbrev pub longer : (List Good → Bool) → Good → Bool → Option (List Good
 longer Q p alone None = cond alone (Some (p ∷ [])) None
 longer Q p alone (Some s) = cond (Q s) (Some (s ++ p ∷ [])) (cond alone (Some (p ∷ [])) None)
 
-turn : (P Q : List Good → Bool) (p x : Good) (xs : List Good) (o k : Bool) → is_open (x ∷ xs) ≡ o → Q (x ∷ xs) ≡ k → P (x ∷ xs ++ p ∷ []) ≡ (o && k) →
+-- a step of `find-end`, by cases on the longest stretch
+turn : (P Q : List Good → Bool) (p x : Good) (xs : List Good) (o k : Bool) →
+    is_open (x ∷ xs) ≡ o → Q (x ∷ xs) ≡ k → P (x ∷ xs ++ p ∷ []) ≡ (o && k) →
     find P (last_stretches (xs ++ p ∷ [])) ≡ longer Q p (P (p ∷ [])) (find is_open (last_stretches xs)) →
     find P (last_stretches (x ∷ xs ++ p ∷ [])) ≡ longer Q p (P (p ∷ [])) (find is_open (last_stretches (x ∷ xs)))
 turn P Q p x xs true true o k both below = rw (both, o, k) refl

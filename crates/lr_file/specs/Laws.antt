@@ -7,11 +7,13 @@ use Rattle.lr_file.specs.Standing.{is_open}
 
 -- one packet more adds the file that ends with it, if one does
 abbrev pub PacketAddsItsFile : Type 0
-PacketAddsItsFile = (packets : List Good) (packet : Good) → files_of (packets ++ packet ∷ []) ≡ files_of packets ++ option_to_list (file_at packets packet)
+PacketAddsItsFile = (packets : List Good) (packet : Good) →
+    files_of (packets ++ packet ∷ []) ≡ files_of packets ++ option_to_list (file_at packets packet)
 
 -- the files of a prefix are a prefix of the files
 abbrev pub FilesKeepTheirOrder : Type 0
-FilesKeepTheirOrder = (packets later : List Good) → (more : List File) × (files_of (packets ++ later) ≡ files_of packets ++ more)
+FilesKeepTheirOrder = (packets later : List Good) →
+    (more : List File) × (files_of (packets ++ later) ≡ files_of packets ++ more)
 
 -- of the stretches that end with the same packet at most one is a file
 abbrev pub OneFileEnds : Type 0

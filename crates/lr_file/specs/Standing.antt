@@ -49,7 +49,8 @@ pub record IsWithinLimits (file : Open) : Type 0 where
 abbrev pub flags_of_open : ℕ → List ℕ
 flags_of_open n = 1 ∷ replicate (n - 1) 0
 
--- a stretch of the packets of one channel and application is an open file: it is a file's but for its end
+-- a stretch of the packets of one channel and application is an open file: no end yet, counts that follow one another, and no
+-- limit passed
 unfoldable pub is_open : List Good → Bool
 is_open stretch =
     bytes_eq (map (λ p. p.flags) stretch) (flags_of_open (length stretch)) && are_counted_on (map (λ p. p.count) stretch)

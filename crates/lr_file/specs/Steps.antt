@@ -35,11 +35,13 @@ ended kept packet = if packet.flags == 3 then Some (begun packet) else if packet
 -- the open file of the packet's channel and application is set to this, and the others stay
 pub record SetsFile (old new : List ((ℕ × ℕ) × Open)) (packet : Good) (file : Option Open) : Type 0 where
   pub once : AreAscending new
-  pub files : (vc apid : ℕ) → kept_file new vc apid ≡ (if (packet.vc == vc) && (packet.apid == apid) then file else kept_file old vc apid)
+  pub files : (vc apid : ℕ) →
+      kept_file new vc apid ≡ (if (packet.vc == vc) && (packet.apid == apid) then file else kept_file old vc apid)
 
 -- The file is that of the bodies, of which there is at least one, if they have at least ten bytes.
 abbrev pub IsBuilt : ℕ → ℕ → Open → Option File → Type 0
-IsBuilt vc apid open_file file = (bodies : List (List ℕ)) → 0 < length bodies → open_file.lengths ≡ map length bodies → open_file.bytes ≡ concat bodies →
+IsBuilt vc apid open_file file = (bodies : List (List ℕ)) →
+    0 < length bodies → open_file.lengths ≡ map length bodies → open_file.bytes ≡ concat bodies →
     SomeIff file (10 ≤ length open_file.bytes) (record { vc = vc; apid = apid; bodies = bodies })
 
 -- the file of the bodies that a packet ends, if it ends some

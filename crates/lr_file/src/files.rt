@@ -26,7 +26,8 @@ type OpenFiles = BTreeMap<(u8, u16), OpenFile>;
 
 /// Opens a file with its first packet, in place of one that was open.
 fn open_first(alloc: Global, files: &mut OpenFiles, packet: &GoodPacket) -> Result<(), NoMemory>
-    ensures { OnOk result (SetsFile files.old.entries files.new.entries (good packet.now) (Some (begun (good packet.now)))) }
+    ensures { OnOk result (SetsFile files.old.entries files.new.entries (good packet.now)
+        (Some (begun (good packet.now)))) }
 {
     let file = OpenFile::begin(alloc, packet)?;
     files.insert((packet.vc, packet.apid), file)?;
@@ -35,7 +36,8 @@ fn open_first(alloc: Global, files: &mut OpenFiles, packet: &GoodPacket) -> Resu
 
 /// Goes on with the open file, or drops it where the packet doesn't follow.
 fn go_on(files: &mut OpenFiles, packet: &GoodPacket) -> Result<(), NoMemory>
-    ensures { OnOk result (SetsFile files.old.entries files.new.entries (good packet.now) (gone_on (kept_file files.old.entries packet.now.vc packet.now.apid) (good packet.now))) }
+    ensures { OnOk result (SetsFile files.old.entries files.new.entries (good packet.now)
+        (gone_on (kept_file files.old.entries packet.now.vc packet.now.apid) (good packet.now))) }
 {
     let key = (packet.vc, packet.apid);
     let Some(file) = files.get_mut(&key) else {
@@ -51,7 +53,8 @@ fn go_on(files: &mut OpenFiles, packet: &GoodPacket) -> Result<(), NoMemory>
 /// Takes the open file out, and ends it with its last packet, where that follows.
 fn end(files: &mut OpenFiles, packet: &GoodPacket) -> Result<Option<MissionFile>, NoMemory>
     ensures files { SetsFile files.old.entries files.new.entries (good packet.now) None }
-    ensures file { IfOk result (IsFileOf (good packet.now) (gone_on (kept_file files.old.entries packet.now.vc packet.now.apid) (good packet.now))) }
+    ensures file { IfOk result (IsFileOf (good packet.now)
+        (gone_on (kept_file files.old.entries packet.now.vc packet.now.apid) (good packet.now))) }
 {
     let Some(mut file) = files.remove(&(packet.vc, packet.apid)) else {
         return Ok(None);
@@ -77,14 +80,16 @@ fn whole(
     Ok(file.finish(packet.vc, packet.apid))
 }
 
-/// What its flags say of the packet.
+/// Does with the packet what its flags say: 1 opens a file, 0 goes on with the open one, 2 ends it, and 3 is a file alone.
 fn join(
     alloc: Global,
     files: &mut OpenFiles,
     packet: &GoodPacket,
 ) -> Result<Option<MissionFile>, NoMemory>
-    ensures files { OnOk result (SetsFile files.old.entries files.new.entries (good packet.now) (next_open (kept_file files.old.entries packet.now.vc packet.now.apid) (good packet.now))) }
-    ensures file { IfOk result (IsFileOf (good packet.now) (ended (kept_file files.old.entries packet.now.vc packet.now.apid) (good packet.now))) }
+    ensures files { OnOk result (SetsFile files.old.entries files.new.entries (good packet.now)
+        (next_open (kept_file files.old.entries packet.now.vc packet.now.apid) (good packet.now))) }
+    ensures file { IfOk result (IsFileOf (good packet.now)
+        (ended (kept_file files.old.entries packet.now.vc packet.now.apid) (good packet.now))) }
 {
     match packet.flags {
         FIRST => {
@@ -135,8 +140,10 @@ impl Files {
     ///
     /// `NoMemory`: memory was wanting in this call or in an earlier one.
     pub fn push(&mut self, packet: &GoodPacket) -> Result<Option<MissionFile>, NoMemory>
-        ensures stands { (packets : List Good) → StandsFor self.old packets → OnOk result (StandsFor self.new (packets ++ good packet.now ∷ [])) }
-        ensures file { (packets : List Good) → StandsFor self.old packets → IfOk result (λ file. file ≡ file_at packets (good packet.now)) }
+        ensures stands { (packets : List Good) → StandsFor self.old packets →
+            OnOk result (StandsFor self.new (packets ++ good packet.now ∷ [])) }
+        ensures file { (packets : List Good) → StandsFor self.old packets →
+            IfOk result (λ file. file ≡ file_at packets (good packet.now)) }
         ensures spends { OnErr result (IsSpent self.new) }
         ensures stays_spent { IsSpent self.old → IsErr result × IsSpent self.new }
     {

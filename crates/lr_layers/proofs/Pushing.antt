@@ -145,3 +145,8 @@ module _ (outcomes : List Outcome) (outcome : Outcome) (n m : Numbers) (before :
 
     pub adds_some : AddsFiles outcomes outcome old new
     adds_some = record { more = takes.more; added = takes.added; files = more_files }
+
+-- without outcomes there are no files
+pub no_files : files_of_outcomes [] ≡ []
+unfolding files_of_outcomes good_of_outcomes frames_of_outcomes packets_of files_of
+no_files = refl

@@ -1,5 +1,5 @@
 // A restored frame, and the packets that end in it.
-ghost use Rattle.std.specs.Prelude.{◌≡◌, ◌≤◌, ◌<◌, ◌+◌, ◌^◌, ◌++◌, ◌∷◌, [], List, IfOk, OnErr};
+ghost use Rattle.std.specs.Prelude.{◌≡◌, ◌≤◌, ◌<◌, ◌+◌, ◌^◌, ◌++◌, ◌∷◌, [], List, IfOk, length};
 ghost use Rattle.std.specs.Option.{option_map};
 ghost use Rattle.std.specs.Result.{result_ok};
 ghost use Rattle.lr_vc.specs.Frame.{Fields, frame_of};
@@ -52,6 +52,7 @@ pub(crate) fn push_frame(
     ensures took { (frames : List Fields) → ChannelsStandFor channels.old frames → FilesStandFor files.old (good_packets (packets_of frames))
         → IfOk result (λ gained. Takes frames (frames ++ fields frame.now ∷ []) channels.new files.new out.old.items out.new.items gained) }
     ensures few { IfOk result (λ gained. gained.packets ≤ 885) }
+    ensures few_new { IfOk result (λ _. length out.new.items ≤ length out.old.items + 885) }
     ensures few_files { IfOk result (λ gained. gained.files ≤ gained.packets) }
     ensures kept { KeepsFront out.old.items out.new.items }
 {

@@ -1,4 +1,4 @@
-ghost use Rattle.std.specs.Prelude.{◌≡◌, ◌+◌, ◌^◌, ◌<◌, ◌++◌, ◌∷◌, [], List, OnOk, OnErr, IsErr};
+ghost use Rattle.std.specs.Prelude.{◌≡◌, ◌+◌, ◌^◌, ◌<◌, ◌≤◌, ◌++◌, ◌∷◌, [], List, OnOk, OnErr, IsErr, length};
 ghost use Rattle.lr_bits.specs.declared.outcome.Outcome.{Outcome as Outcome'};
 ghost use Rattle.lr_layers.specs.Standing.{StandsFor, IsSpent, AddsFiles, AreFew, numbers};
 
@@ -77,6 +77,9 @@ impl Layers {
             OnOk result (StandsFor self.new (outcomes ++ outcome.now ∷ [])) }
         ensures files { (outcomes : List Outcome') → StandsFor self.old outcomes →
             OnOk result (AddsFiles outcomes outcome.now files.old.items files.new.items) }
+        // A frame ends at most 885 packets.
+        ensures few { OnOk result (length files.new.items ≤ length files.old.items + 885) }
+
         ensures refused { OnErr result (files.new.items ≡ files.old.items) }
         ensures spends { OnErr result (IsSpent self.new) }
         ensures stays_spent { IsSpent self.old → IsErr result × IsSpent self.new }

@@ -1,4 +1,6 @@
 pub mod Adding
+pub mod FilesLoop
+pub mod FilesText
 pub mod FramesText
 pub mod Gathering
 pub mod Outcomes

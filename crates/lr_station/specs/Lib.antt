@@ -1,5 +1,6 @@
 pub mod Added
 pub mod Causes
+pub mod FilesAdded
 pub mod Frames
 pub mod Gathered
 pub mod Packets
@@ -7,5 +8,6 @@ pub mod PacketsRead
 pub mod Printing
 pub mod Progress
 pub mod Reading
+pub mod Receive
 pub mod Runs
 pub mod Words

@@ -6,10 +6,11 @@ use Rattle.lr_io.specs.declared.sink.Sink.{Ghosts as SinkOf}
 use Rattle.lr_station.specs.declared.cause.Cause.{Cause}
 use Rattle.lr_station.specs.declared.cause.Cause.TheVariants.{Usage}
 use Rattle.lr_station.specs.declared.words.Command.{Command}
-use Rattle.lr_station.specs.declared.words.Command.TheVariants.{Frames, Packets}
+use Rattle.lr_station.specs.declared.words.Command.TheVariants.{Frames, Packets, Receive}
 use Rattle.lr_station.specs.Causes.{status_of, line_of, IsCaused}
 use Rattle.lr_station.specs.Frames.{frames_text, frames_last}
 use Rattle.lr_station.specs.Packets.{packets_text, packets_last}
+use Rattle.lr_station.specs.Receive.{receive_text, receive_last}
 use Rattle.lr_station.specs.Printing.{Prints, PutsFront}
 
 module _ {E : Type 0} (err : SinkOf E) where
@@ -30,6 +31,7 @@ module _ {S O : Type 0} (source : SourceOf S) (out : SinkOf O) where
   Runs None cause s s' o o' = Refuses cause s s' o o'
   Runs (Some (Frames most)) cause s s' o o' = Prints source out frames_text frames_last most cause s s' o o'
   Runs (Some (Packets most)) cause s s' o o' = Prints source out packets_text packets_last most cause s s' o o'
+  Runs (Some (Receive most)) cause s s' o o' = Prints source out receive_text receive_last most cause s s' o o'
 
 -- A whole call: the command does what it does for some cause, a cause that names an object comes only where that object's
 -- count rose, `err` gets the cause's line, and the call answers the cause's status.

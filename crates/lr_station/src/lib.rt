@@ -10,6 +10,7 @@ mod counted;
 mod frames;
 mod packets;
 mod put;
+mod receive;
 mod top;
 mod units;
 mod words;

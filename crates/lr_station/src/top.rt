@@ -3,11 +3,12 @@ ghost use Rattle.std.specs.Prelude.{◌≡◌, ◌⊎◌, ◌↔◌, IsNone, IsS
 ghost use Rattle.lr_bits.specs.Faults.{Rose};
 ghost use Rattle.lr_station.specs.Causes.{IsCaused};
 ghost use Rattle.lr_station.specs.Runs.{Runs, Tells, Stations};
-ghost use Rattle.lr_station.specs.Words.{command_of};
+ghost use Rattle.lr_station.specs.Words.{command_of, TakesFew};
 
 use crate::cause::Cause;
 use crate::frames::frames;
 use crate::packets::packets;
+use crate::receive::receive;
 use crate::words::{Command, read_words};
 use lr_io::{Sink, Source, put_all};
 use std::alloc::Global;
@@ -19,6 +20,7 @@ fn run<S: Source, O: Sink>(
     source: &mut S,
     out: &mut O,
 ) -> Cause
+    requires few { TakesFew command }
     ensures caused { IsCaused result (S.faults source.old) (S.faults source.new) (O.faults out.old) (O.faults out.new) }
     ensures runs { Runs S.Source O.Sink command result source.old source.new out.old out.new }
 {
@@ -26,6 +28,7 @@ fn run<S: Source, O: Sink>(
         None => Cause::Usage,
         Some(Command::Frames { most }) => frames(alloc, most, source, out),
         Some(Command::Packets { most }) => packets(alloc, most, source, out),
+        Some(Command::Receive { most }) => receive(alloc, most, source, out),
     }
 }
 

@@ -58,7 +58,9 @@ pub fn gives(
     let mut out = MemSink::of(alloc, vec![in alloc; fault]?, room)?;
     let mut err = MemSink::of(alloc, Vec::new(alloc), 100)?;
     let status = station(alloc, &words, &mut source, &mut out, &mut err);
-    Ok(status == wanted.status
-        && out.as_slice() == wanted.out.as_bytes()
-        && err.as_slice() == wanted.line.as_bytes())
+    Ok(
+        status == wanted.status
+            && out.as_slice() == wanted.out.as_bytes()
+            && err.as_slice() == wanted.line.as_bytes(),
+    )
 }

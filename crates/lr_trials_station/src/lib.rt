@@ -8,6 +8,8 @@ mod frames;
 #[cfg(test)]
 mod packets;
 #[cfg(test)]
+mod receive;
+#[cfg(test)]
 mod stated;
 #[cfg(test)]
 mod streams;

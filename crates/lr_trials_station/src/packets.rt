@@ -8,7 +8,8 @@ const BOTH: &str = "packet 0 vc 0 apid 100 flags 3 count 0 length 11 ok\n\
 packet 1 vc 0 apid 2047 flags 3 count 0 length 861 fault idle\n\
 frames 1 packets 2 good 1 left 0 stop end\n";
 
-const DAMAGED: &str = "packet 0 vc 0 apid 100 flags 3 count 0 length 11 fault crc stored 29B0 computed 29B1\n\
+const DAMAGED: &str =
+    "packet 0 vc 0 apid 100 flags 3 count 0 length 11 fault crc stored 29B0 computed 29B1\n\
 packet 1 vc 0 apid 2047 flags 3 count 0 length 861 fault idle\n\
 frames 1 packets 2 good 0 left 0 stop end\n";
 
@@ -80,7 +81,21 @@ fn each_packet_has_its_line_however_the_reads_are_cut(rt: HostRuntime) -> Result
 fn a_gap_or_another_pointer_drops_an_open_packet(rt: HostRuntime) -> Result<(), Fail> {
     let alloc = rt.alloc();
     assert!(rt; prints(alloc, two_frames(alloc, [0, 0, 1], [0, 14])?, 892, BROKEN)?);
-    assert!(rt; prints(alloc, two_frames(alloc, [0xFF, 0xFF, 0xFF], [0, 14])?, 892, BROKEN)?);
-    assert!(rt; prints(alloc, two_frames(alloc, [0, 0, 0], [0x07, 0xFE])?, 892, ENDED)?);
+    assert!(rt;
+        prints(
+            alloc,
+            two_frames(alloc, [0xFF, 0xFF, 0xFF], [0, 14])?,
+            892,
+            BROKEN
+        )?
+    );
+    assert!(rt;
+        prints(
+            alloc,
+            two_frames(alloc, [0, 0, 0], [0x07, 0xFE])?,
+            892,
+            ENDED
+        )?
+    );
     Ok(())
 }
