@@ -1,0 +1,48 @@
+//! Draws histories of frames for `Channels` and lists of good packets for `Files`, and prints for each kind how many there
+//! were, with a checksum of what came of them. `reference/packets.py` and `reference/files.py` draw the same ones, and compute
+//! the same lines from the definitions alone.
+#![tactic(auto)]
+
+mod draw;
+mod files;
+mod packets;
+mod sender;
+
+use files::{LISTS, add_lists};
+use packets::{HISTORIES, add_histories};
+use std::io;
+
+fn print_packets(rt: &HostRuntime) -> io::Result<()> {
+    match add_histories(rt.alloc()) {
+        Ok(tally) => {
+            let packets::Tally {
+                frames,
+                packets,
+                checksum,
+            } = tally;
+            println!(rt;
+                "histories {HISTORIES} frames {frames} packets {packets} checksum {checksum}"
+            )
+        }
+        Err(_) => println!(rt; "no memory"),
+    }
+}
+
+fn print_files(rt: &HostRuntime) -> io::Result<()> {
+    match add_lists(rt.alloc()) {
+        Ok(tally) => {
+            let files::Tally {
+                packets,
+                files,
+                checksum,
+            } = tally;
+            println!(rt; "lists {LISTS} packets {packets} files {files} checksum {checksum}")
+        }
+        Err(_) => println!(rt; "no memory"),
+    }
+}
+
+fn main(rt: HostRuntime) -> io::Result<()> {
+    print_packets(&rt)?;
+    print_files(&rt)
+}
