@@ -1,4 +1,4 @@
--- The files of the first outcomes are the first files.
+-- The packets and files of the first outcomes are the first ones.
 use Rattle.std.proofs.Common.{◌≡◌, List, ◌++◌, ap, ◌∙◌, subst}
 use Rattle.std.proofs.lemmas.List.Elements.{filter_map-append}
 use Rattle.lr_bits.specs.declared.outcome.Outcome.{Outcome}
@@ -25,4 +25,4 @@ go_on outcomes later frames =
     let packets = packets_of-append front (frames_of_outcomes later) (subst (λ (l : List Fields). AreFrames l) split frames) in
     let good = ap (λ l. good_packets (packets_of l)) split ∙ ap good_packets packets.1 ∙ good_packets-append (packets_of front) packets.0 in
     let files = files_of-append (good_packets (packets_of front)) (good_packets packets.0) in
-    record { more_good = good_packets packets.0; good = good; more_files = files.0; files = ap files_of good ∙ files.1 }
+    record { more_packets = packets.0; packets = ap packets_of split ∙ packets.1; more_good = good_packets packets.0; good = good; more_files = files.0; files = ap files_of good ∙ files.1 }

@@ -1,6 +1,6 @@
 ghost use Rattle.lr_layers.specs.Laws.{FilesGoOn};
 
-/// That the good packets and the files of the first outcomes are the first good packets and files.
+/// The packets, the good packets and the files of the first outcomes are the first ones.
 pub fn files_go_on()
     ensures { FilesGoOn }
 {}
