@@ -1,0 +1,4 @@
+pub mod Interleaving
+pub mod Outcomes
+pub mod Searching
+pub mod Sequence

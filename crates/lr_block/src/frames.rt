@@ -1,0 +1,13 @@
+//! The frame in a block.
+#![tactic(auto)]
+
+ghost use Rattle.std.specs.Prelude.{◌≡◌, ◌<◌, ℕ, take};
+ghost use Rattle.lr_block.specs.Blocks.{information_of, word_of};
+
+/// Copies the information out of a block: the first 223 bytes of each word, interleaved as in the block.
+pub fn information(block: &[u8; 1020], frame: &mut [u8; 892])
+    ensures frame { frame.new ≡ take 892 block.now }
+    ensures words { (k : ℕ) → k < 4 → information_of frame.new k ≡ take 223 (word_of block.now k) }
+{
+    frame.copy_from_slice(&block[..892]);
+}
