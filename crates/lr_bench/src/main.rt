@@ -1,98 +1,14 @@
-//! Restores drawn words many times over, to be timed from outside.
+//! Works through drawn input many times over, to be timed from outside.
 //!
-//! The words: a name and a number of rounds. `rs0`, `rs1`, `rs8`, `rs16` and `rs17` restore words
-//! with that many wrong bytes, `rs` all five in turn. A line for each says the name, the rounds and
-//! a checksum of what was answered.
+//! The words: a name and a number of rounds. `rs0`, `rs1`, `rs8`, `rs16` and `rs17` restore Reed-Solomon words with that many
+//! wrong bytes, `rs` all five in turn; `path` decodes windows of symbols; `all` does both. A line for each says the name, the
+//! rounds and a checksum of what was answered.
 #![tactic(auto)]
 
-ghost use Rattle.std.specs.Prelude.{◌≡◌, ◌<◌, ◌≤◌, length};
+mod path;
+mod words;
 
-use lr_rs::{RsScratch, encode, restore};
-use std::alloc::{AllocError, Global};
 use std::{env, io};
-
-/// How many words are drawn; the rounds go through them again and again.
-const WORDS: usize = 16;
-
-/// The next state of the generator that the input is drawn from.
-fn next(state: u64) -> u64 {
-    state
-        .wrapping_mul(6364136223846793005)
-        .wrapping_add(1442695040888963407)
-}
-
-/// Draws a word: encoded information, and then so many wrong bytes, each fifteen places after the
-/// one before.
-fn drawn_word(start: u64, wrong: usize) -> [u8; 255] {
-    let mut state = start;
-    let mut information = [0u8; 223];
-    for place in 0..223usize {
-        state = next(state);
-        information[place] = (state >> 56) as u8;
-    }
-    let mut word = [0u8; 255];
-    encode(&information, &mut word);
-    state = next(state);
-    let first = (state >> 56) as usize;
-    for k in 0..wrong {
-        state = next(state);
-        let change = 1 + ((state >> 56) % 255) as u8;
-        word[(first % 255).wrapping_add(k.wrapping_mul(15)) % 255] ^= change;
-    }
-    word
-}
-
-/// Draws all words.
-fn drawn_words(alloc: Global, wrong: usize) -> Result<Vec<[u8; 255]>, AllocError> {
-    let mut words = Vec::new(alloc);
-    let mut start = 1u64;
-    for _ in 0..WORDS {
-        words.push(drawn_word(start, wrong))?;
-        start = next(start) ^ 0x5555;
-    }
-    Ok(words)
-}
-
-/// Restores the words, round after round, and gives a checksum of the answers and of a byte of each
-/// word.
-fn checksum_of(words: &[[u8; 255]], rounds: u32) -> u64 {
-    let mut scratch = RsScratch::new();
-    let mut mix = 0u64;
-    if words.len() < WORDS {
-        return mix;
-    }
-    for round in 0..rounds {
-        let mut word = words[round as usize % WORDS];
-        let answer = match restore(&mut word, &mut scratch) {
-            Ok(changed) => changed,
-            Err(_) => 255,
-        };
-        let seen = word[round as usize % 255];
-        mix = mix.wrapping_mul(31).wrapping_add(u64::from(answer));
-        mix = mix.wrapping_mul(31).wrapping_add(u64::from(seen));
-    }
-    mix
-}
-
-/// Runs one of the names.
-fn run(rt: &(impl Print + AllocGlobal), wrong: usize, rounds: u32) -> io::Result<()> {
-    let words = drawn_words(rt.alloc(), wrong)?;
-    let mix = checksum_of(&words, rounds);
-    println!(rt; "rs{wrong} {rounds} {mix:016x}")
-}
-
-/// The numbers of wrong bytes that a name stands for.
-fn wrong_of(name: &str) -> &'static [usize] {
-    match name {
-        "rs0" => &[0],
-        "rs1" => &[1],
-        "rs8" => &[8],
-        "rs16" => &[16],
-        "rs17" => &[17],
-        "rs" => &[0, 1, 8, 16, 17],
-        _ => &[],
-    }
-}
 
 fn main(rt: HostRuntime) -> io::Result<()> {
     let mut args = env::args(&rt)?.skip(1);
@@ -100,8 +16,9 @@ fn main(rt: HostRuntime) -> io::Result<()> {
         return eprintln!(rt; "usage: NAME ROUNDS");
     };
     let rounds = rounds.as_str().parse::<u32>().unwrap_or(0);
-    for wrong in wrong_of(name.as_str()) {
-        run(&rt, *wrong, rounds)?;
+    words::run(&rt, name.as_str(), rounds)?;
+    match name.as_str() {
+        "path" | "all" => path::run(&rt, rounds),
+        _ => Ok(()),
     }
-    Ok(())
 }

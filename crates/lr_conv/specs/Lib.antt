@@ -1,0 +1,3 @@
+pub mod Convolution
+pub mod Encoder
+pub mod Marker

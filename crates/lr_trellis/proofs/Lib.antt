@@ -1,0 +1,4 @@
+pub mod Best
+pub mod OnePath
+pub mod Strings
+pub mod Words

@@ -1,0 +1,47 @@
+ghost use Rattle.std.specs.Prelude.{◌≡◌, ◌+◌, ◌*◌, ◌<◌, ◌≤◌, ℕ, true, false, slice_index};
+ghost use Rattle.lr_conv.specs.Convolution.{first_of_seven, second_of_seven};
+ghost use Rattle.lr_trellis.specs.Path.{symbol_cost};
+ghost use Rattle.lr_trellis.specs.Words.{branch_by, pair_of};
+
+/// What a 0 and what a 1 costs against a symbol.
+#[inline(always)]
+fn symbol_costs(symbol: i8) -> (u32, u32)
+    ensures zero { result.0 ≡ symbol_cost false symbol }
+    ensures one { result.1 ≡ symbol_cost true symbol }
+    ensures sum { result.0 + result.1 ≡ 254 }
+{
+    let value = i32::from(symbol.max(-127));
+    ((127 + value) as u32, (127 - value) as u32)
+}
+
+/// What the pairs 00, 01, 10 and 11 cost against two symbols.
+#[inline(always)]
+pub(crate) fn pair_costs(first: i8, second: i8) -> [u32; 4]
+    ensures value { (m : ℕ) → branch_by result m ≡ symbol_cost (first_of_seven m) first + symbol_cost (second_of_seven m) second }
+    ensures most { (m : ℕ) → branch_by result m ≤ 508 }
+{
+    let (zero, one) = symbol_costs(first);
+    let (then_zero, then_one) = symbol_costs(second);
+    [
+        zero + then_zero,
+        zero + then_one,
+        one + then_zero,
+        one + then_one,
+    ]
+}
+
+/// The pair of symbols of a step from one of the states 0 to 31 with the bit 0. A step with the bit 1, and one from the
+/// state 32 above, has both symbols complemented.
+#[inline(always)]
+pub(crate) fn pair(state: usize) -> usize
+    requires { state < 32 }
+    ensures value { result ≡ pair_of (2 * state) }
+    ensures below { result < 4 }
+{
+    usize::from(PAIRS[state])
+}
+
+/// What `pair` answers, for each state.
+const PAIRS: [u8; 32] = [
+    1, 3, 2, 0, 2, 0, 1, 3, 1, 3, 2, 0, 2, 0, 1, 3, 0, 2, 3, 1, 3, 1, 0, 2, 0, 2, 3, 1, 3, 1, 0, 2,
+];
