@@ -1,24 +1,27 @@
-//! Works through drawn input many times over, to be timed from outside.
+//! Works through fixed input many times over, to be timed from outside.
 //!
 //! The words: a name and a number of rounds. `rs0`, `rs1`, `rs8`, `rs16` and `rs17` restore Reed-Solomon words with that many
-//! wrong bytes, `rs` all five in turn; `path` decodes windows of symbols; `all` does both. A line for each says the name, the
-//! rounds and a checksum of what was answered.
+//! wrong bytes, `rs` all five in turn; `path` decodes windows of symbols; `shelf-memory` and `shelf-file` put that many small
+//! files on a new shelf, the latter in the file `shelf.bench` of the working folder, and `shelf-load` loads what stands there;
+//! `all` does all but the last two. A line for each says the rounds and what came of them, or a checksum of it.
 #![tactic(auto)]
 
 mod path;
+mod shelf;
 mod words;
 
-use std::{env, io};
+use shelf::Trouble;
+use std::env;
 
-fn main(rt: HostRuntime) -> io::Result<()> {
+fn main(rt: HostRuntime) -> Result<(), Trouble> {
     let mut args = env::args(&rt)?.skip(1);
     let (Some(name), Some(rounds)) = (args.next(), args.next()) else {
-        return eprintln!(rt; "usage: NAME ROUNDS");
+        return Ok(eprintln!(rt; "usage: NAME ROUNDS")?);
     };
     let rounds = rounds.as_str().parse::<u32>().unwrap_or(0);
     words::run(&rt, name.as_str(), rounds)?;
-    match name.as_str() {
-        "path" | "all" => path::run(&rt, rounds),
-        _ => Ok(()),
+    if matches!(name.as_str(), "path" | "all") {
+        path::run(&rt, rounds)?;
     }
+    shelf::run(&rt, name.as_str(), u64::from(rounds))
 }

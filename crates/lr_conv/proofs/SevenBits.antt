@@ -7,6 +7,7 @@ use Rattle.std.proofs.Math.Seq.{get_or-append_right}
 use Rattle.std.specs.Int.{bit_at}
 use Rattle.std.specs.List.{sum_by}
 use Rattle.std.proofs.str.Laws.{order}
+use mir.Val.{bool_byte}
 use Rattle.lr_conv.specs.Convolution.{bit, earlier_bit, first_generator, second_generator, first_symbol, second_symbol, first_of_seven, second_of_seven, symbols}
 use Rattle.lr_conv.specs.Encoder.{past_of}
 
@@ -64,6 +65,10 @@ bit_same false false e = refl
 bit_same false true e = cc
 bit_same true false e = cc
 bit_same true true e = refl
+
+pub byte_is_bit : (b : Bool) → bool_byte b ≡ bit b
+byte_is_bit false = refl
+byte_is_bit true = refl
 
 bit_cases : (m : ℕ) (t : Bool) → eqb m 1 ≡ t → m < 2 → bit t ≡ m
 bit_cases m true e l = sym (eqb-true m 1 e)

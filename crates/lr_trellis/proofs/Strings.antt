@@ -168,81 +168,94 @@ near_cases : (s : ℕ) (t : Bool) → eqb s 29 ≡ t → cond t 0 4148329 ≤ 41
 near_cases s true e l = eqb-true s 29 e
 near_cases s false e l = absurd (omega arith)
 
-module _ (w : List ℤ) (n : ℕ) (x tail : List Bool) (s1 s0 : ℕ) (most : (i m : ℕ) → i < n + 6 → branch_of w i m ≤ 508) (few : n ≤ 8160) (long : length w ≡ 2 * n + 12) (size : length x ≡ n) (six_tail : length tail ≡ 6) (low : s0 < 64) (end_walk : kept start_of (branch_of w) (n + 6) 6 ≡ reverse tail ++ kept start_of (branch_of w) n s1) (data_walk : kept start_of (branch_of w) n s1 ≡ reverse x ++ kept start_of (branch_of w) 0 s0) where
-  abbrev found : List Bool
-  found = kept start_of (branch_of w) (n + 6) 6
+module _
+    (w : List ℤ)
+    (n : ℕ)
+    (x tail : List Bool)
+    (s1 s0 : ℕ)
+    (most : (i m : ℕ) → i < n + 6 → branch_of w i m ≤ 508)
+    (few : n ≤ 8160)
+    (long : length w ≡ 2 * n + 12)
+    (size : length x ≡ n)
+    (six_tail : length tail ≡ 6)
+    (low : s0 < 64)
+    (end_walk : kept start_of (branch_of w) (n + 6) 6 ≡ reverse tail ++ kept start_of (branch_of w) n s1)
+    (data_walk : kept start_of (branch_of w) n s1 ≡ reverse x ++ kept start_of (branch_of w) 0 s0)
+  where
+    abbrev found : List Bool
+    found = kept start_of (branch_of w) (n + 6) 6
 
-  abbrev past : List Bool
-  past = kept start_of (branch_of w) 0 s0
+    abbrev past : List Bool
+    past = kept start_of (branch_of w) 0 s0
 
-  best_found : IsBest start_of (branch_of w) (n + 6) 6 found
-  best_found = kept_is_best start_of (branch_of w) (n + 6) 6 (omega arith)
+    best_found : IsBest start_of (branch_of w) (n + 6) 6 found
+    best_found = kept_is_best start_of (branch_of w) (n + 6) 6 (omega arith)
 
-  best_past : IsBest start_of (branch_of w) 0 s0 past
-  best_past = kept_is_best start_of (branch_of w) 0 s0 low
+    best_past : IsBest start_of (branch_of w) 0 s0 past
+    best_past = kept_is_best start_of (branch_of w) 0 s0 low
 
-  split : found ≡ (reverse tail ++ reverse x) ++ past
-  split = end_walk ∙ ap (λ z. reverse tail ++ z) data_walk ∙ sym (append_assoc (reverse tail) (reverse x) past)
+    split : found ≡ (reverse tail ++ reverse x) ++ past
+    split = end_walk ∙ ap (λ z. reverse tail ++ z) data_walk ∙ sym (append_assoc (reverse tail) (reverse x) past)
 
-  tail_is : reverse tail ≡ front
-  tail_is =
-      let long_tail : length (reverse tail) ≡ 6 = length-reverse tail ∙ six_tail in
-      let e : number (reverse tail ++ kept start_of (branch_of w) n s1) % 64 ≡ 6 = ap (λ z. number z % 64) (sym end_walk) ∙ best_found.state in
-      number_inj (reverse tail) front long_tail (sym (number_six (reverse tail) (kept start_of (branch_of w) n s1) long_tail) ∙ e)
+    tail_is : reverse tail ≡ front
+    tail_is =
+        let long_tail : length (reverse tail) ≡ 6 = length-reverse tail ∙ six_tail in
+        let e : number (reverse tail ++ kept start_of (branch_of w) n s1) % 64 ≡ 6 = ap (λ z. number z % 64) (sym end_walk) ∙ best_found.state in
+        number_inj (reverse tail) front long_tail (sym (number_six (reverse tail) (kept start_of (branch_of w) n s1) long_tail) ∙ e)
 
-  size_of : (y : List Bool) → length y ≡ n → length (y ++ marker_start) ≡ n + 6
-  size_of y e = omega (arith, length-append y marker_start)
+    size_of : (y : List Bool) → length y ≡ n → length (y ++ marker_start) ≡ n + 6
+    size_of y e = omega (arith, length-append y marker_start)
 
-  whole_size : (y : List Bool) → length y ≡ n → length (whole y) ≡ n + 6 + 6
-  whole_size y e = omega (arith, length-append (front ++ reverse y) back_end, length_front_y y, size_of y e)
+    whole_size : (y : List Bool) → length y ≡ n → length (whole y) ≡ n + 6 + 6
+    whole_size y e = omega (arith, length-append (front ++ reverse y) back_end, length_front_y y, size_of y e)
 
-  whole_state : (y : List Bool) → number (whole y) % 64 ≡ 6
-  whole_state y = ap (λ z. number z % 64) (append_assoc front (reverse y) back_end) ∙ number_six front (reverse y ++ back_end) refl
+    whole_state : (y : List Bool) → number (whole y) % 64 ≡ 6
+    whole_state y = ap (λ z. number z % 64) (append_assoc front (reverse y) back_end) ∙ number_six front (reverse y ++ back_end) refl
 
-  cost_of : (y : List Bool) → length y ≡ n → steps_cost start_of (branch_of w) (n + 6) (whole y) ≡ path_cost w y
-  cost_of y e = subst (λ k. steps_cost start_of (branch_of w) k (whole y) ≡ path_cost w y) (size_of y e) (string_cost w y (omega (arith, size_of y e)))
+    cost_of : (y : List Bool) → length y ≡ n → steps_cost start_of (branch_of w) (n + 6) (whole y) ≡ path_cost w y
+    cost_of y e = subst (λ k. steps_cost start_of (branch_of w) k (whole y) ≡ path_cost w y) (size_of y e) (string_cost w y (omega (arith, size_of y e)))
 
-  start_low : start_of s0 ≤ 4148328
-  start_low =
-      let rt = reverse tail in
-      let rx = reverse x in
-      let len : length (rt ++ rx) ≡ n + 6 = omega (arith, length-append rt rx, length-reverse tail, length-reverse x) in
-      let low_0 = steps_cost_low start_of (branch_of w) (rt ++ rx) past in
-      let low_1 : start_of (number past % 64) ≤ steps_cost start_of (branch_of w) (n + 6) ((rt ++ rx) ++ past) = subst (λ k. start_of (number past % 64) ≤ steps_cost start_of (branch_of w) k ((rt ++ rx) ++ past)) len low_0 in
-      let low_2 : start_of (number past % 64) ≤ steps_cost start_of (branch_of w) (n + 6) found = subst (λ z. start_of (number past % 64) ≤ steps_cost start_of (branch_of w) (n + 6) z) (sym split) low_1 in
-      let own = ap start_of best_past.state in
-      let size_x : length (front ++ rx) ≡ n + 6 = length_front_y x ∙ size_of x size in
-      let high_0 = steps_cost_high start_of (branch_of w) (n + 6) most (front ++ rx) back_end (omega arith) in
-      let high_1 : steps_cost start_of (branch_of w) (n + 6) (whole x) ≤ start_of (number back_end % 64) + 508 * (n + 6) = subst (λ k. steps_cost start_of (branch_of w) k (whole x) ≤ start_of (number back_end % 64) + 508 * k) size_x high_0 in
-      let least = best_found.least (whole x) (whole_size x size) (whole_state x) in
-      omega (arith, own, low_2, least, high_1)
+    start_low : start_of s0 ≤ 4148328
+    start_low =
+        let rt = reverse tail in
+        let rx = reverse x in
+        let len : length (rt ++ rx) ≡ n + 6 = omega (arith, length-append rt rx, length-reverse tail, length-reverse x) in
+        let low_0 = steps_cost_low start_of (branch_of w) (rt ++ rx) past in
+        let low_1 : start_of (number past % 64) ≤ steps_cost start_of (branch_of w) (n + 6) ((rt ++ rx) ++ past) = subst (λ k. start_of (number past % 64) ≤ steps_cost start_of (branch_of w) k ((rt ++ rx) ++ past)) len low_0 in
+        let low_2 : start_of (number past % 64) ≤ steps_cost start_of (branch_of w) (n + 6) found = subst (λ z. start_of (number past % 64) ≤ steps_cost start_of (branch_of w) (n + 6) z) (sym split) low_1 in
+        let own = ap start_of best_past.state in
+        let size_x : length (front ++ rx) ≡ n + 6 = length_front_y x ∙ size_of x size in
+        let high_0 = steps_cost_high start_of (branch_of w) (n + 6) most (front ++ rx) back_end (omega arith) in
+        let high_1 : steps_cost start_of (branch_of w) (n + 6) (whole x) ≤ start_of (number back_end % 64) + 508 * (n + 6) = subst (λ k. steps_cost start_of (branch_of w) k (whole x) ≤ start_of (number back_end % 64) + 508 * k) size_x high_0 in
+        let least = best_found.least (whole x) (whole_size x size) (whole_state x) in
+        omega (arith, own, low_2, least, high_1)
 
-  past_is : past ≡ back_end
-  past_is = ap (kept start_of (branch_of w) 0) (near_cases s0 (eqb s0 29) refl start_low)
+    past_is : past ≡ back_end
+    past_is = ap (kept start_of (branch_of w) 0) (near_cases s0 (eqb s0 29) refl start_low)
 
-  found_is : found ≡ whole x
-  found_is = split ∙ ap (λ z. (z ++ reverse x) ++ past) tail_is ∙ ap (λ z. (front ++ reverse x) ++ z) past_is
+    found_is : found ≡ whole x
+    found_is = split ∙ ap (λ z. (z ++ reverse x) ++ past) tail_is ∙ ap (λ z. (front ++ reverse x) ++ z) past_is
 
-  found_cost : steps_cost start_of (branch_of w) (n + 6) found ≡ path_cost w x
-  found_cost = ap (steps_cost start_of (branch_of w) (n + 6)) found_is ∙ cost_of x size
+    found_cost : steps_cost start_of (branch_of w) (n + 6) found ≡ path_cost w x
+    found_cost = ap (steps_cost start_of (branch_of w) (n + 6)) found_is ∙ cost_of x size
 
-  least_of : (y : List Bool) → length y ≡ n → path_cost w x ≤ path_cost w y
-  least_of y e = omega (arith, best_found.least (whole y) (whole_size y e) (whole_state y), cost_of y e, found_cost)
+    least_of : (y : List Bool) → length y ≡ n → path_cost w x ≤ path_cost w y
+    least_of y e = omega (arith, best_found.least (whole y) (whole_size y e) (whole_state y), cost_of y e, found_cost)
 
-  first_of_equals : (y : List Bool) → length y ≡ n → path_cost w y ≡ path_cost w x → NotAfter (reverse x) (reverse y)
-  first_of_equals y e same =
-      let costs : steps_cost start_of (branch_of w) (n + 6) (whole y) ≡ steps_cost start_of (branch_of w) (n + 6) found = cost_of y e ∙ same ∙ sym found_cost in
-      let order = best_found.first (whole y) (whole_size y e) (whole_state y) costs in
-      let order_x : NotAfter (whole x) (whole y) = subst (λ z. NotAfter z (whole y)) found_is order in
-      let len : length (front ++ reverse x) ≡ length (front ++ reverse y) = length_front_y x ∙ size_of x size ∙ sym (length_front_y y ∙ size_of y e) in
-      strip_front front (reverse x) (reverse y) (strip_back (front ++ reverse x) (front ++ reverse y) back_end len order_x)
+    first_of_equals : (y : List Bool) → length y ≡ n → path_cost w y ≡ path_cost w x → NotAfter (reverse x) (reverse y)
+    first_of_equals y e same =
+        let costs : steps_cost start_of (branch_of w) (n + 6) (whole y) ≡ steps_cost start_of (branch_of w) (n + 6) found = cost_of y e ∙ same ∙ sym found_cost in
+        let order = best_found.first (whole y) (whole_size y e) (whole_state y) costs in
+        let order_x : NotAfter (whole x) (whole y) = subst (λ z. NotAfter z (whole y)) found_is order in
+        let len : length (front ++ reverse x) ≡ length (front ++ reverse y) = length_front_y x ∙ size_of x size ∙ sym (length_front_y y ∙ size_of y e) in
+        strip_front front (reverse x) (reverse y) (strip_back (front ++ reverse x) (front ++ reverse y) back_end len order_x)
 
-  pub is_nearest_path : IsNearestPath w x
-  is_nearest_path = record {
-    size = omega (arith, size);
-    least = λ y e. least_of y (e ∙ size);
-    first = λ y e same. first_of_equals y (e ∙ size) same;
-  }
+    pub is_nearest_path : IsNearestPath w x
+    is_nearest_path = record {
+      size = omega (arith, size);
+      least = λ y e. least_of y (e ∙ size);
+      first = λ y e same. first_of_equals y (e ∙ size) same;
+    }
 
 -- ---- what is read back by decisions
 module _ (d e : ℕ → ℕ → Bool) where

@@ -35,6 +35,7 @@ NotAfter (false ∷ x) (true ∷ y) = Unit {0}
 NotAfter (true ∷ x) (false ∷ y) = ⊥
 NotAfter (true ∷ x) (true ∷ y) = NotAfter x y
 
+-- no list of its length costs less, and of those that cost the same none is before it, read from the last bit to the first
 pub record IsNearestPath (window : List ℤ) (x : List Bool) : Type 0 where
   pub size : length window ≡ 2 * length x + 12
   pub least : (y : List Bool) → length y ≡ length x → path_cost window x ≤ path_cost window y

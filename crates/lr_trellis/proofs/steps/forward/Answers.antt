@@ -30,51 +30,61 @@ loop-i-init c = record {
 }
 
 -- ---- one step more
-module _ (w : List ℤ) (i word : ℕ) (old new words costs : List ℕ) (before : Forward w i old words) (branches : (m : ℕ) → branch_by costs m ≡ branch_of w i m) (below : (m : ℕ) → branch_by costs m ≤ 508) (least : (s : ℕ) → s < 64 → slice_index new s ≡ min (slice_index old (s / 2) + branch_by costs s) (slice_index old (s / 2 + 32) + branch_by costs (s + 64))) (chosen : (s : ℕ) → s < 64 → decision_of word s ≡ nat_lt (slice_index old (s / 2 + 32) + branch_by costs (s + 64)) (slice_index old (s / 2) + branch_by costs s)) (room : i < length words) where
-  more_costs : (s : ℕ) → s < 64 → slice_index new s ≡ best start_of (branch_of w) (suc i) s
-  more_costs s l =
-      let low = before.costs (s / 2) (omega arith) in
-      let high = before.costs (s / 2 + 32) (omega arith) in
-      let near = branches s in
-      let far = branches (s + 64) in
-      let all = least s l in
-      cc
+module _
+    (w : List ℤ)
+    (i word : ℕ)
+    (old new words costs : List ℕ)
+    (before : Forward w i old words)
+    (branches : (m : ℕ) → branch_by costs m ≡ branch_of w i m)
+    (below : (m : ℕ) → branch_by costs m ≤ 508)
+    (least : (s : ℕ) → s < 64 → slice_index new s ≡ min (slice_index old (s / 2) + branch_by costs s) (slice_index old (s / 2 + 32) + branch_by costs (s + 64)))
+    (chosen : (s : ℕ) → s < 64 → decision_of word s ≡ nat_lt (slice_index old (s / 2 + 32) + branch_by costs (s + 64)) (slice_index old (s / 2) + branch_by costs s))
+    (room : i < length words)
+  where
+    more_costs : (s : ℕ) → s < 64 → slice_index new s ≡ best start_of (branch_of w) (suc i) s
+    more_costs s l =
+        let low = before.costs (s / 2) (omega arith) in
+        let high = before.costs (s / 2 + 32) (omega arith) in
+        let near = branches s in
+        let far = branches (s + 64) in
+        let all = least s l in
+        cc
 
-  more_bound : (s : ℕ) → s < 64 → slice_index new s ≤ 4148329 + 508 * (i + 1)
-  more_bound s l = omega (arith, least s l, before.bound (s / 2) (omega arith), below s)
+    more_bound : (s : ℕ) → s < 64 → slice_index new s ≤ 4148329 + 508 * (i + 1)
+    more_bound s l = omega (arith, least s l, before.bound (s / 2) (omega arith), below s)
 
-  decided_here : (s : ℕ) → s < 64 → decision_of word s ≡ older_bit start_of (branch_of w) i s
-  decided_here s l =
-      let low = before.costs (s / 2) (omega arith) in
-      let high = before.costs (s / 2 + 32) (omega arith) in
-      let near = branches s in
-      let far = branches (s + 64) in
-      let all = chosen s l in
-      cc
+    decided_here : (s : ℕ) → s < 64 → decision_of word s ≡ older_bit start_of (branch_of w) i s
+    decided_here s l =
+        let low = before.costs (s / 2) (omega arith) in
+        let high = before.costs (s / 2 + 32) (omega arith) in
+        let near = branches s in
+        let far = branches (s + 64) in
+        let all = chosen s l in
+        cc
 
-  other_word : (k : ℕ) → k < i → get_or (slice_set words i word) k 0 ≡ get_or words k 0
-  other_word k l = let ne : k ≢ i = omega arith in rw get_or-set_other refl
+    other_word : (k : ℕ) → k < i → get_or (slice_set words i word) k 0 ≡ get_or words k 0
+    other_word k l = let ne : k ≢ i = omega arith in rw get_or-set_other refl
 
-  this_word : get_or (slice_set words i word) i 0 ≡ word
-  this_word = rw get_or-set_same refl
+    this_word : get_or (slice_set words i word) i 0 ≡ word
+    this_word = rw get_or-set_same refl
 
-  more_decided : (k : ℕ) → k < i + 1 → (s : ℕ) → s < 64 → decisions (slice_set words i word) k s ≡ older_bit start_of (branch_of w) k s
-  unfolding decisions
-  more_decided =
-      below_more _ _
-      (λ k l s m. ap (λ z. decision_of z s) (other_word k l) ∙ before.decided k s l m)
-      (λ s m. ap (λ z. decision_of z s) this_word ∙ decided_here s m)
+    more_decided : (k : ℕ) → k < i + 1 → (s : ℕ) → s < 64 → decisions (slice_set words i word) k s ≡ older_bit start_of (branch_of w) k s
+    unfolding decisions
+    more_decided =
+        below_more _ _
+        (λ k l s m. ap (λ z. decision_of z s) (other_word k l) ∙ before.decided k s l m)
+        (λ s m. ap (λ z. decision_of z s) this_word ∙ decided_here s m)
 
-  more_most : (k : ℕ) → k < i + 1 → (m : ℕ) → branch_of w k m ≤ 508
-  more_most = below_more _ _ (λ k l m. before.most k m l) (λ m. subst (λ x. x ≤ 508) (branches m) (below m))
+    more_most : (k : ℕ) → k < i + 1 → (m : ℕ) → branch_of w k m ≤ 508
+    more_most = below_more _ _ (λ k l m. before.most k m l) (λ m. subst (λ x. x ≤ 508) (branches m) (below m))
 
-  more : Forward w (i + 1) new (slice_set words i word)
-  more = record {
-    costs = λ s l. more_costs s l ∙ ap (λ k. best start_of (branch_of w) k s) (sym (add-one i));
-    bound = more_bound;
-    decided = λ k s l m. more_decided k l s m;
-    most = λ k m l. more_most k l m;
-  }
+    more : Forward w (i + 1) new (slice_set words i word)
+    more = record {
+      costs = λ s l. more_costs s l ∙ ap (λ k. best start_of (branch_of w) k s) (sym (add-one i));
+      bound = more_bound;
+      decided = λ k s l m. more_decided k l s m;
+      most = λ k m l. more_most k l m;
+    }
 
 pub step-requires-clause-old : goal.step-requires-clause-old
 step-requires-clause-old c = λ s l. omega (arith, c.loop-i.invariant.bound s l)

@@ -1,15 +1,10 @@
-use Rattle.std.proofs.Common.{ap, refl, sym, ◌∙◌, ◌≡◌, ℕ, ◌+◌, ◌*◌, ◌%◌, suc, Bool, true, false, List, [], ◌∷◌, ◌++◌, length, drop, arith, append_assoc, length-append, add-one}
+use Rattle.std.proofs.Common.{ap, sym, ◌∙◌, ◌≡◌, ℕ, ◌+◌, ◌*◌, ◌%◌, suc, Bool, List, [], ◌∷◌, ◌++◌, length, drop, arith, append_assoc, length-append, add-one}
 use Rattle.std.proofs.lemmas.List.{drop-drop, drop-append-le}
-use mir.Val.{bool_byte}
 use Rattle.lr_conv.specs.declared.encoder.Encoder.{Encoder}
 use Rattle.lr_conv.specs.Convolution.{bit, code, symbols, first_of_seven, second_of_seven}
 use Rattle.lr_conv.specs.Encoder.{StandsFor, past_of}
-use Rattle.lr_conv.proofs.SevenBits.{symbols-more, first_is, second_is, last_is}
+use Rattle.lr_conv.proofs.SevenBits.{byte_is_bit, symbols-more, first_is, second_is, last_is}
 use Rattle.lr_conv.proofs.encoder.Encoder.push.Goals as goal
-
-byte_of : (b : Bool) → bool_byte b ≡ bit b
-byte_of false = refl
-byte_of true = refl
 
 module _ (encoder : Encoder) (past bits : List Bool) (b : Bool) (stands : StandsFor encoder past bits) where
   abbrev t : List Bool
@@ -44,7 +39,7 @@ module _ (encoder : Encoder) (past bits : List Bool) (b : Bool) (stands : Stands
 
 pub returns-clause-symbols : goal.returns-clause-symbols
 returns-clause-symbols c = λ past bits stands.
-    let seven = ap (λ r. 2 * c.args.self.now.state + r) (c.from.ensures ∙ byte_of c.args.bit) in
+    let seven = ap (λ r. 2 * c.args.self.now.state + r) (c.from.ensures ∙ byte_is_bit c.args.bit) in
     let all = symbols_are c.args.self.now past bits c.args.bit stands in
     let first = c.first_symbol.ensures ∙ ap first_of_seven seven in
     let second = c.second_symbol.ensures ∙ ap second_of_seven seven in
@@ -52,5 +47,5 @@ returns-clause-symbols c = λ past bits stands.
 
 pub returns-clause-history : goal.returns-clause-history
 returns-clause-history c = λ past bits stands.
-    let seven : (2 * c.args.self.now.state + c.from.result) % 64 ≡ (2 * c.args.self.now.state + bit c.args.bit) % 64 = ap (λ r. (2 * c.args.self.now.state + r) % 64) (c.from.ensures ∙ byte_of c.args.bit) in
+    let seven : (2 * c.args.self.now.state + c.from.result) % 64 ≡ (2 * c.args.self.now.state + bit c.args.bit) % 64 = ap (λ r. (2 * c.args.self.now.state + r) % 64) (c.from.ensures ∙ byte_is_bit c.args.bit) in
     record { six = stands.six; last_six = ap past_of seven ∙ last_six_are c.args.self.now past bits c.args.bit stands }

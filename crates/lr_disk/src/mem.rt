@@ -1,0 +1,224 @@
+ghost use Rattle.std.specs.Prelude.{◌≡◌, ◌≤◌, length, vec_len, vec_capacity, IfOk};
+ghost use Rattle.lr_bits.specs.Faults.{Rose};
+ghost use Rattle.lr_disk.specs.Ranges.{ImagesKeepTheRest};
+
+use crate::Disk;
+use crate::past::{Past, extend_within};
+use lr_bits::{Failed, NoMemory};
+use std::alloc::Global;
+
+/// Bytes in memory as a disk, with a room and a number of calls. It keeps what it had at first, each call, and all bytes
+/// that were written, so that it tells what a crash may leave. The room is that for its contents, and again for all bytes
+/// written.
+#[derive(Drop)]
+pub struct MemDisk {
+    past: Past,
+    room: u64,
+    most: u64,
+    faults: u64,
+    ghost few_bytes: { length past.bytes.items ≤ room },
+    ghost few_logged: { length past.log.items ≤ room },
+    ghost few_calls: { length past.calls.items ≤ most },
+    ghost room_for_bytes: { room ≤ vec_capacity past.bytes },
+    ghost room_for_log: { room ≤ vec_capacity past.log },
+    ghost room_for_calls: { most ≤ vec_capacity past.calls },
+}
+
+/// That a crash image of a disk in memory has the bytes of the last sync outside each range written since, and a length
+/// between the least and the greatest since then.
+pub fn images_keep_the_rest()
+    ensures { ImagesKeepTheRest }
+{}
+
+/// One fault more.
+fn count_fault(faults: &mut u64)
+    ensures rose { Rose faults.old faults.new }
+    ensures later { faults.old ≤ faults.new }
+{
+    *faults = faults.saturating_add(1);
+}
+
+impl MemDisk {
+    ghost use Rattle.std.specs.Prelude.{◌≡◌, IfOk};
+    ghost use Rattle.lr_disk.specs.Disk.{Only};
+    ghost use Rattle.std.specs.Prelude.{nat_le};
+    ghost use Rattle.lr_disk.specs.MemDisk.{held_by, images_by, calls_made, calls_allowed, bytes_written, room_of, faults_of};
+
+    /// A disk with these bytes, on which nothing is pending. It takes all memory that its calls will need.
+    pub fn of(alloc: Global, bytes: Vec<u8>, room: u64, calls: u64) -> Result<Self, NoMemory>
+        requires { vec_len bytes ≤ room }
+        ensures contents { IfOk result (λ disk. held_by disk ≡ bytes.items) }
+        ensures durable { IfOk result (λ disk. Only bytes.items (images_by disk)) }
+        ensures room { IfOk result (λ disk. room_of disk ≡ room) }
+        ensures calls { IfOk result (λ disk. calls_allowed disk ≡ calls) }
+        ensures made { IfOk result (λ disk. calls_made disk ≡ 0) }
+        ensures written { IfOk result (λ disk. bytes_written disk ≡ 0) }
+        ensures faults { IfOk result (λ disk. faults_of disk ≡ 0) }
+    {
+        let mut kept = Vec::with_capacity(alloc, room as usize)?;
+        extend_within(&mut kept, &bytes);
+        let log = Vec::with_capacity(alloc, room as usize)?;
+        let list = Vec::with_capacity(alloc, calls as usize)?;
+        Ok(MemDisk {
+            past: Past {
+                first: bytes,
+                log,
+                calls: list,
+                bytes: kept,
+            },
+            room,
+            most: calls,
+            faults: 0,
+        })
+    }
+
+    /// The bytes that reads give.
+    pub fn as_slice(&self) -> &[u8]
+        ensures { result.now ≡ held_by self.now }
+    {
+        &self.past.bytes
+    }
+
+    fn is_used_up(&self) -> bool
+        ensures { result ≡ nat_le (calls_allowed self.now) (calls_made self.now) }
+    {
+        self.past.calls.len() as u64 >= self.most
+    }
+}
+
+impl Disk for MemDisk {
+    ghost use Rattle.std.specs.Prelude.{◌≡◌, ◌↔◌, ◌⊎◌, ◌<◌, ◌≤◌, ◌+◌, ◌-◌, min, length, take, IfOk, OnOk, OnErr, IsErr, is_ok, if◌then◌else◌};
+    ghost use Rattle.lr_bits.specs.Faults.{HasCause};
+    ghost use Rattle.lr_disk.specs.Disk.{Written, Torn, Cut, bytes_at, Follows, SameImages, NoOther, Only, Elapses};
+    ghost use Rattle.lr_disk.specs.Mem.{leaves_its_contents, counts_this_moment, only_this_moment};
+    ghost use Rattle.lr_disk.specs.MemDisk.{held_by, images_by, left_since as left_by, calls_made, faults_of, IsUsedUp, IsPastRoom, CountsCall};
+
+    ghost faults = { faults_of };
+
+    ghost tells = { λ _. Unit {0} };
+
+    ghost contents = { held_by };
+
+    ghost may_leave = { images_by };
+
+    ghost moment = { calls_made };
+
+    ghost left_since = { left_by };
+
+    ghost leaves_contents = { λ d _. leaves_its_contents d.past.first.items d.past.log.items d.past.calls.items d.past.bytes.items d.past.same };
+
+    ghost counts_now = { λ d t c _ le image. counts_this_moment d.past.first.items d.past.log.items d.past.calls.items t c le image };
+
+    ghost only_now = { λ d c _ left. only_this_moment d.past.first.items d.past.log.items d.past.calls.items c left };
+
+    /// It fails exactly where no call is left. This takes no memory, and neither do the other calls.
+    fn length(&mut self) -> Result<u64, Failed>
+        ensures cause { HasCause (faults_of self.old) (faults_of self.new) result }
+        ensures size { IfOk result (λ n. n ≡ length (held_by self.old)) }
+        ensures contents { held_by self.new ≡ held_by self.old }
+        ensures crash { SameImages (images_by self.old) (images_by self.new) }
+        ensures time { Elapses (calls_made self.old) (calls_made self.new) (left_by self.old) (left_by self.new) (images_by self.new) }
+        ensures exact { IsErr result ↔ IsUsedUp self.old }
+        ensures limits { CountsCall 0 self.old self.new }
+    {
+        if self.is_used_up() {
+            count_fault(&mut self.faults);
+            return Err(Failed);
+        }
+        self.past.keep();
+        Ok(self.past.bytes.len() as u64)
+    }
+
+    /// It fails exactly where no call is left.
+    fn read(&mut self, at: u64, into: &mut [u8]) -> Result<usize, Failed>
+        requires { 0 < length into.old }
+        ensures cause { HasCause (faults_of self.old) (faults_of self.new) result }
+        ensures within { IfOk result (λ n. n ≤ length into.new) }
+        ensures count { IfOk result (λ n. n ≡ min (length into.new) (length (held_by self.old) - at)) }
+        ensures bytes { IfOk result (λ n. take n into.new ≡ bytes_at at n (held_by self.old)) }
+        ensures contents { held_by self.new ≡ held_by self.old }
+        ensures crash { SameImages (images_by self.old) (images_by self.new) }
+        ensures time { Elapses (calls_made self.old) (calls_made self.new) (left_by self.old) (left_by self.new) (images_by self.new) }
+        ensures exact { IsErr result ↔ IsUsedUp self.old }
+        ensures limits { CountsCall 0 self.old self.new }
+    {
+        if self.is_used_up() {
+            count_fault(&mut self.faults);
+            return Err(Failed);
+        }
+        self.past.keep();
+        let size = self.past.bytes.len();
+        if at >= size as u64 {
+            return Ok(0);
+        }
+        let from = at as usize;
+        let count = into.len().min(size - from);
+        into[..count].copy_from_slice(&self.past.bytes[from..from + count]);
+        Ok(count)
+    }
+
+    /// It fails exactly where no call is left, or where the bytes would take the contents, or all bytes written so far,
+    /// past the room. Where it fails nothing was written. A gap is filled with zeros.
+    fn write_at(&mut self, at: u64, bytes: &[u8]) -> Result<(), Failed>
+        requires some { 0 < length bytes.now }
+        requires low { at + length bytes.now ≤ 4611686018427387904 }
+        ensures cause { HasCause (faults_of self.old) (faults_of self.new) result }
+        ensures written { OnOk result (Written at bytes.now (held_by self.old) (held_by self.new)) }
+        ensures torn { Torn (min at (length (held_by self.old))) (at + length bytes.now) (held_by self.old) (held_by self.new) }
+        ensures crash { Follows (Torn (min at (length (held_by self.old))) (at + length bytes.now)) (images_by self.old) (images_by self.new) }
+        ensures time { Elapses (calls_made self.old) (calls_made self.new) (left_by self.old) (left_by self.new) (images_by self.new) }
+        ensures exact { IsErr result ↔ (IsUsedUp self.old ⊎ IsPastRoom self.old at (length bytes.now)) }
+        ensures unwritten { OnErr result (held_by self.new ≡ held_by self.old) }
+        ensures limits { CountsCall (if is_ok result then length bytes.now else 0) self.old self.new }
+    {
+        if self.is_used_up() {
+            count_fault(&mut self.faults);
+            return Err(Failed);
+        }
+        let count = bytes.len() as u64;
+        if at + count > self.room || count > self.room - self.past.log.len() as u64 {
+            self.past.keep();
+            count_fault(&mut self.faults);
+            return Err(Failed);
+        }
+        self.past.write(at, bytes);
+        Ok(())
+    }
+
+    /// It fails exactly where no call is left, and then takes nothing away.
+    fn cut(&mut self, length: u64) -> Result<(), Failed>
+        ensures cause { HasCause (faults_of self.old) (faults_of self.new) result }
+        ensures cut { OnOk result (held_by self.new ≡ take length (held_by self.old)) }
+        ensures failed { OnErr result ((held_by self.new ≡ take length (held_by self.old)) ⊎ (held_by self.new ≡ held_by self.old)) }
+        ensures crash { Follows (Cut length) (images_by self.old) (images_by self.new) }
+        ensures time { Elapses (calls_made self.old) (calls_made self.new) (left_by self.old) (left_by self.new) (images_by self.new) }
+        ensures exact { IsErr result ↔ IsUsedUp self.old }
+        ensures uncut { OnErr result (held_by self.new ≡ held_by self.old) }
+        ensures limits { CountsCall 0 self.old self.new }
+    {
+        if self.is_used_up() {
+            count_fault(&mut self.faults);
+            return Err(Failed);
+        }
+        self.past.cut(length);
+        Ok(())
+    }
+
+    /// It fails exactly where no call is left.
+    fn sync(&mut self) -> Result<(), Failed>
+        ensures cause { HasCause (faults_of self.old) (faults_of self.new) result }
+        ensures durable { OnOk result (Only (held_by self.new) (images_by self.new)) }
+        ensures contents { held_by self.new ≡ held_by self.old }
+        ensures crash { NoOther (images_by self.old) (images_by self.new) }
+        ensures time { Elapses (calls_made self.old) (calls_made self.new) (left_by self.old) (left_by self.new) (images_by self.new) }
+        ensures exact { IsErr result ↔ IsUsedUp self.old }
+        ensures limits { CountsCall 0 self.old self.new }
+    {
+        if self.is_used_up() {
+            count_fault(&mut self.faults);
+            return Err(Failed);
+        }
+        self.past.sync();
+        Ok(())
+    }
+}
