@@ -1,6 +1,6 @@
 // `packets`.
 use crate::call::{Input, NEVER, Outcome, gives};
-use crate::stated::{DIGITS, frame, idle};
+use crate::stated::{DIGITS, FRAME, header, idle};
 use std::alloc::{AllocError, Global};
 use std::test::Fail;
 
@@ -42,26 +42,30 @@ fn prints(alloc: Global, bytes: Vec<u8>, reads: u64, out: &str) -> Result<bool, 
 
 // A packet, and an idle one behind it.
 fn one_frame(alloc: Global, last: u8) -> Result<Vec<u8>, AllocError> {
-    let (packet, _) = DIGITS.split_at(16);
-    frame(
-        alloc,
-        [0, 0, 0],
-        [0, 0],
-        &[packet, &[last], &idle([0x03, 0x5C])],
-    )
+    let mut bytes = header(alloc, [0, 0, 0], [0, 0])?;
+    bytes.extend_from_slice(&DIGITS[..16])?;
+    bytes.push(last)?;
+    bytes.extend_from_slice(&idle([0x03, 0x5C]))?;
+    bytes.resize(FRAME, 0)?;
+    Ok(bytes)
+}
+
+// The second of two frames: the rest of a packet, and an idle one behind it.
+fn second_frame(alloc: Global, counter: [u8; 3], pointer: [u8; 2]) -> Result<Vec<u8>, AllocError> {
+    let mut bytes = header(alloc, counter, pointer)?;
+    bytes.extend_from_slice(&DIGITS[3..])?;
+    bytes.extend_from_slice(&idle([0x03, 0x5F]))?;
+    bytes.resize(FRAME, 0)?;
+    Ok(bytes)
 }
 
 // A packet that lies across the zones of two frames, between idle ones.
 fn two_frames(alloc: Global, counter: [u8; 3], pointer: [u8; 2]) -> Result<Vec<u8>, AllocError> {
-    let (start, rest) = DIGITS.split_at(3);
-    let zeros = [0; 875];
-    let mut bytes = frame(
-        alloc,
-        [0xFF, 0xFF, 0xFF],
-        [0, 0],
-        &[&idle([0x03, 0x6A]), &zeros, start],
-    )?;
-    let second = frame(alloc, counter, pointer, &[rest, &idle([0x03, 0x5F])])?;
+    let mut bytes = header(alloc, [0xFF, 0xFF, 0xFF], [0, 0])?;
+    bytes.extend_from_slice(&idle([0x03, 0x6A]))?;
+    bytes.extend_from_slice(&[0; 875])?;
+    bytes.extend_from_slice(&DIGITS[..3])?;
+    let second = second_frame(alloc, counter, pointer)?;
     bytes.extend_from_slice(&second)?;
     Ok(bytes)
 }

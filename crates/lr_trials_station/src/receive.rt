@@ -1,6 +1,6 @@
 // `receive --input frames`.
 use crate::call::{Input, NEVER, Outcome, gives};
-use crate::stated::{DIGITS, frame, idle};
+use crate::stated::{DIGITS, FRAME, header, idle};
 use std::alloc::{AllocError, Global};
 use std::test::Fail;
 
@@ -70,41 +70,81 @@ fn with_file(
         0, file, 0, 0, 0, 0, 0, 0, 0, 136, 0, 0, 0x10, 2, 0, 0, 0, 0x10, 0, 0, 0, 0, 0, 0, 0, 0,
     ];
     let packet = packet(alloc, [0xC0, counter], 27, &body, checksum)?;
-    frame(
-        alloc,
-        [0, 0, counter],
-        [0, 0],
-        &[&packet, &idle([0x03, 0x4B])],
-    )
+    let mut bytes = header(alloc, [0, 0, counter], [0, 0])?;
+    bytes.extend_from_slice(&packet)?;
+    bytes.extend_from_slice(&idle([0x03, 0x4B]))?;
+    bytes.resize(FRAME, 0)?;
+    Ok(bytes)
 }
 
 fn two_frames(alloc: Global) -> Result<Vec<u8>, AllocError> {
     let mut bytes = with_file(alloc, 0, 7, [0x90, 0xB4])?;
-    bytes.extend_from_slice(&with_file(alloc, 1, 8, [0x55, 0x7B])?)?;
+    let second = with_file(alloc, 1, 8, [0x55, 0x7B])?;
+    bytes.extend_from_slice(&second)?;
     Ok(bytes)
 }
 
-// A file of four packets, of which the third has a wrong checksum, and then a file of two packets.
-fn damaged_and_whole(alloc: Global) -> Result<Vec<u8>, AllocError> {
+// The first packet of a file of several, with this count.
+fn begin(alloc: Global, count: u8) -> Result<Vec<u8>, AllocError> {
     let header = [0, 9, 0, 0, 0, 0, 0, 0, 0, 16];
-    let begin = packet(alloc, [0x40, 0], 11, &header, BEGIN)?;
+    packet(alloc, [0x40, count], 11, &header, BEGIN)
+}
+
+// Three packets of a file, the third with a wrong checksum.
+fn damaged(alloc: Global) -> Result<Vec<u8>, AllocError> {
+    let first = begin(alloc, 0)?;
     let middle = packet(alloc, [0x00, 1], 3, &[1, 2], MIDDLE)?;
     let wrong = packet(alloc, [0x00, 2], 3, &[1, 2], [0, 0])?;
+    let mut bytes = header(alloc, [0, 0, 0], [0, 0])?;
+    bytes.extend_from_slice(&first)?;
+    bytes.extend_from_slice(&middle)?;
+    bytes.extend_from_slice(&wrong)?;
+    bytes.extend_from_slice(&idle([0x03, 0x47]))?;
+    bytes.resize(FRAME, 0)?;
+    Ok(bytes)
+}
+
+// The last packet of that file, and then a file of two packets.
+fn whole(alloc: Global) -> Result<Vec<u8>, AllocError> {
     let end = packet(alloc, [0x80, 3], 3, &[1, 2], MIDDLE)?;
-    let next = packet(alloc, [0x40, 4], 11, &header, BEGIN)?;
+    let next = begin(alloc, 4)?;
     let last = packet(alloc, [0x80, 5], 3, &[1, 2], MIDDLE)?;
-    let fill = idle([0x03, 0x47]);
-    let mut bytes = frame(alloc, [0, 0, 0], [0, 0], &[&begin, &middle, &wrong, &fill])?;
-    let second = frame(alloc, [0, 0, 1], [0, 0], &[&end, &next, &last, &fill])?;
+    let mut bytes = header(alloc, [0, 0, 1], [0, 0])?;
+    bytes.extend_from_slice(&end)?;
+    bytes.extend_from_slice(&next)?;
+    bytes.extend_from_slice(&last)?;
+    bytes.extend_from_slice(&idle([0x03, 0x47]))?;
+    bytes.resize(FRAME, 0)?;
+    Ok(bytes)
+}
+
+fn damaged_and_whole(alloc: Global) -> Result<Vec<u8>, AllocError> {
+    let mut bytes = damaged(alloc)?;
+    let second = whole(alloc)?;
     bytes.extend_from_slice(&second)?;
+    Ok(bytes)
+}
+
+// The packet of nine bytes.
+fn digits(alloc: Global) -> Result<Vec<u8>, AllocError> {
+    let mut bytes = header(alloc, [0, 0, 0], [0, 0])?;
+    bytes.extend_from_slice(&DIGITS)?;
+    bytes.extend_from_slice(&idle([0x03, 0x5C]))?;
+    bytes.resize(FRAME, 0)?;
+    Ok(bytes)
+}
+
+// The frame of one file, and eight bytes more.
+fn cut_short(alloc: Global) -> Result<Vec<u8>, AllocError> {
+    let mut bytes = with_file(alloc, 0, 7, [0x90, 0xB4])?;
+    bytes.extend_from_slice(&[0x40; 8])?;
     Ok(bytes)
 }
 
 #[test]
 fn nine_bytes_are_no_file(rt: HostRuntime) -> Result<(), Fail> {
     let alloc = rt.alloc();
-    let bytes = frame(alloc, [0, 0, 0], [0, 0], &[&DIGITS, &idle([0x03, 0x5C])])?;
-    assert!(rt; prints(alloc, bytes, 892, NO_FILE)?);
+    assert!(rt; prints(alloc, digits(alloc)?, 892, NO_FILE)?);
     Ok(())
 }
 
@@ -121,9 +161,7 @@ fn each_file_has_its_line_however_the_reads_are_cut(rt: HostRuntime) -> Result<(
             )?
         );
         assert!(rt; prints(alloc, two_frames(alloc)?, reads, TWO_FILES)?);
-        let mut cut = with_file(alloc, 0, 7, [0x90, 0xB4])?;
-        cut.extend_from_slice(&[0x40; 8])?;
-        assert!(rt; prints(alloc, cut, reads, CUT_SHORT)?);
+        assert!(rt; prints(alloc, cut_short(alloc)?, reads, CUT_SHORT)?);
     }
     Ok(())
 }

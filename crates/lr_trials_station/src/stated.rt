@@ -1,24 +1,16 @@
 // Frames and packets that are written out.
 use std::alloc::{AllocError, Global};
 
-/// A frame of channel 0 with this counter and pointer, whose zone is these bytes and then zeros.
-pub fn frame(
-    alloc: Global,
-    counter: [u8; 3],
-    pointer: [u8; 2],
-    zone: &[&[u8]],
-) -> Result<Vec<u8>, AllocError> {
+/// The bytes of a frame.
+pub const FRAME: usize = 892;
+
+/// The eight bytes in front of the zone of a frame of channel 0 with this counter and pointer.
+pub fn header(alloc: Global, counter: [u8; 3], pointer: [u8; 2]) -> Result<Vec<u8>, AllocError> {
     let mut bytes = Vec::new(alloc);
     bytes.extend_from_slice(&[0x40, 0x40])?;
     bytes.extend_from_slice(&counter)?;
     bytes.extend_from_slice(&[0])?;
     bytes.extend_from_slice(&pointer)?;
-    for part in zone {
-        bytes.extend_from_slice(part)?;
-    }
-    while bytes.len() < 892 {
-        bytes.push(0)?;
-    }
     Ok(bytes)
 }
 
