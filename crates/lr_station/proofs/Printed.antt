@@ -10,7 +10,7 @@ use Rattle.lr_bits.specs.Faults.{Rose}
 use Rattle.lr_catalog.specs.declared.stop.Stop.{Stop}
 use Rattle.lr_catalog.specs.declared.stop.Stop.TheVariants.{End, Limit, Fault}
 use Rattle.lr_station.specs.declared.cause.Cause.{Cause}
-use Rattle.lr_station.specs.declared.cause.Cause.TheVariants.{Done, Usage, SourceFailed, OutputFailed, NoMemory}
+use Rattle.lr_station.specs.declared.cause.Cause.TheVariants.{Done, Usage, SourceFailed, DiskFailed, OutputFailed, NotAShelf, NoSuchFile, NoMemory, Capacity, NotEmpty, BadChecksum}
 use Rattle.lr_station.specs.declared.units.Next.TheVariants.{Ended}
 use Rattle.lr_station.specs.Causes.{cause_at}
 use Rattle.lr_station.specs.Gathered.{Gathered}
@@ -20,7 +20,7 @@ use Rattle.lr_station.specs.Progress.{Gathers, GathersFor, ReadsUnits, EndsUnits
 use Rattle.lr_station.proofs.UnitsOf.{units_are, length-concat}
 
 -- the bytes of one unit more
-concat-push : (units : List (List ℕ)) (unit : List ℕ) → concat (units ++ unit ∷ []) ++ [] ≡ concat units ++ unit
+pub concat-push : (units : List (List ℕ)) (unit : List ℕ) → concat (units ++ unit ∷ []) ++ [] ≡ concat units ++ unit
 concat-push units unit = append-nil (concat (units ++ unit ∷ [])) ∙ concat-append units (unit ∷ []) ∙ ap (λ l. concat units ++ l) (append-nil unit)
 
 module _ {S : Type 0} (source : SourceOf S) (n limit : ℕ) where
@@ -119,6 +119,12 @@ module _ {S O : Type 0} (source : SourceOf S) (out : SinkOf O) (n limit : ℕ) (
     line_stopped line o p o' more put Done stop = absurd stop
     line_stopped line o p o' more put Usage stop = stop
     line_stopped line o p o' more put SourceFailed stop = absurd stop
+    line_stopped line o p o' more put DiskFailed stop = absurd stop
+    line_stopped line o p o' more put (NotAShelf at) stop = absurd stop
+    line_stopped line o p o' more put (NoSuchFile count) stop = absurd stop
+    line_stopped line o p o' more put (Capacity needed capacity) stop = absurd stop
+    line_stopped line o p o' more put (NotEmpty size) stop = absurd stop
+    line_stopped line o p o' more put BadChecksum stop = absurd stop
     line_stopped line o p o' more put OutputFailed stop = inl (record {
       bytes = concat units ++ now.held;
       read = read_so_far;
@@ -161,6 +167,12 @@ module _ {S O : Type 0} (source : SourceOf S) (out : SinkOf O) (n limit : ℕ) (
     last_stopped line o p o' is put Done wrong = absurd wrong
     last_stopped line o p o' is put Usage wrong = wrong
     last_stopped line o p o' is put SourceFailed wrong = absurd wrong
+    last_stopped line o p o' is put DiskFailed wrong = absurd wrong
+    last_stopped line o p o' is put (NotAShelf at) wrong = absurd wrong
+    last_stopped line o p o' is put (NoSuchFile count) wrong = absurd wrong
+    last_stopped line o p o' is put (Capacity needed capacity) wrong = absurd wrong
+    last_stopped line o p o' is put (NotEmpty size) wrong = absurd wrong
+    last_stopped line o p o' is put BadChecksum wrong = absurd wrong
     last_stopped line o p o' is put OutputFailed failed = inr (record {
       bytes = concat units ++ end.held;
       stop = stop;

@@ -1,27 +1,55 @@
 -- Which command the words give, if they are accepted.
-use Rattle.std.specs.Prelude.{ℕ, ◌≤◌, ◌^◌, Bool, ◌&&◌, Option, Some, None, List, [], ◌∷◌, codes, if◌then◌else◌}
+use Rattle.std.specs.Prelude.{ℕ, ◌≤◌, ◌^◌, Bool, Option, Some, None, List, [], ◌∷◌, codes, if◌then◌else◌, option_map}
 use Rattle.std.specs.Str.{bytes_eq}
+use Rattle.lr_station.specs.declared.words.Input.{Input}
+use Rattle.lr_station.specs.declared.words.Input.TheVariants.{Blocks as Blocks', Frames as Frames'}
 use Rattle.lr_station.specs.declared.words.Command.{Command}
-use Rattle.lr_station.specs.declared.words.Command.TheVariants.{Frames, Packets, Receive}
+use Rattle.lr_station.specs.declared.words.Command.TheVariants.{Init, Frames, Packets, Decode, Receive, Extract, Verify}
+use Rattle.lr_station.specs.Numbers.{number_between}
 
 -- the most bytes that a call takes where no word gives another number
 abbrev pub most_bytes : ℕ
 most_bytes = 1099511627776
 
--- `receive --input frames`
-abbrev pub receives_frames : List ℕ → List ℕ → List ℕ → Bool
-receives_frames word option form = bytes_eq word (codes "receive") && bytes_eq option (codes "--input") && bytes_eq form (codes "frames")
+-- what `decode` takes
+abbrev pub coded_input : List ℕ → Option Input
+coded_input form = if bytes_eq form (codes "blocks") then Some Blocks' else None
 
--- `frames` or `packets` alone, or `receive --input frames`
-abbrev pub command_of : List (List ℕ) → Option Command
-command_of (word ∷ []) =
+-- what `receive` takes
+abbrev pub received_input : List ℕ → Option Input
+received_input form = if bytes_eq form (codes "blocks") then Some Blocks' else if bytes_eq form (codes "frames") then Some Frames' else None
+
+-- `frames`, `packets` or `verify`
+abbrev pub of_one : List ℕ → Option Command
+of_one word =
     if bytes_eq word (codes "frames") then Some (Frames most_bytes)
     else if bytes_eq word (codes "packets") then Some (Packets most_bytes)
+    else if bytes_eq word (codes "verify") then Some Verify
     else None
-command_of (word ∷ option ∷ form ∷ []) = if receives_frames word option form then Some (Receive most_bytes) else None
+
+-- `init CAPACITY` or `extract N`
+abbrev pub of_two : List ℕ → List ℕ → Option Command
+of_two word number =
+    if bytes_eq word (codes "init") then option_map (λ capacity. Init capacity) (number_between 20 1099511627776 number)
+    else if bytes_eq word (codes "extract") then option_map (λ n. Extract n) (number_between 0 18446744073709551615 number)
+    else None
+
+-- `decode --input FORM` or `receive --input FORM`
+abbrev pub of_three : List ℕ → List ℕ → List ℕ → Option Command
+of_three word option form =
+    if bytes_eq option (codes "--input") then
+    (if bytes_eq word (codes "decode") then option_map (λ input. Decode input most_bytes) (coded_input form)
+    else if bytes_eq word (codes "receive") then option_map (λ input. Receive input most_bytes) (received_input form)
+    else None)
+    else None
+
+abbrev pub command_of : List (List ℕ) → Option Command
+command_of (word ∷ []) = of_one word
+command_of (word ∷ number ∷ []) = of_two word number
+command_of (word ∷ option ∷ form ∷ []) = of_three word option form
 command_of _ = None
 
 -- what `receive` takes is within the number of outcomes that its layers count
 abbrev pub TakesFew : Option Command → Type 0
-TakesFew (Some (Receive most)) = most ≤ 2 ^ 48
+TakesFew (Some (Receive input most)) = most ≤ 2 ^ 48
 TakesFew _ = Unit {0}

@@ -1,96 +1,87 @@
-// `receive` in the form `frames`: a line for each mission file.
-ghost use Rattle.std.specs.Prelude.{◌≡◌, ◌<◌, ◌≤◌, ◌+◌, ◌*◌, ◌^◌, ◌++◌, ◌∷◌, [], List, ℕ, IfOk, IfErr, OnOk, length};
-ghost use Rattle.lr_layers.specs.Layers.{numbers_of};
-ghost use Rattle.lr_layers.specs.Standing.{StandsFor, numbers};
-ghost use Rattle.lr_station.specs.FilesAdded.{file_lines_added};
-ghost use Rattle.lr_station.specs.Receive.{outcomes_of_frames, file_lines_from, lines_of_files, receive_count, receive_text, receive_last};
-ghost use Rattle.lr_station.specs.Printing.{Prints, PrintsAll};
-ghost use Rattle.lr_station.specs.Progress.{EndsUnits, Puts, PutStops};
+// `receive`: the mission files of the input go onto the shelf.
+ghost use Rattle.std.specs.Prelude.{◌≡◌, ◌≤◌, ◌^◌, false, IfOk, IfErr, OnOk};
+ghost use Rattle.lr_shelf.specs.Kept.{kept_by};
+ghost use Rattle.lr_station.specs.Causes.{cause_at, IsCaused};
+ghost use Rattle.lr_station.specs.Inputs.{unit_bytes, outcome_of_unit};
+ghost use Rattle.lr_station.specs.Receive.{ReceiveRun};
+ghost use Rattle.lr_station.specs.Reception.{ReadsAll, ReadsSome, EndsRun, PutsLast, LastStops};
+ghost use Rattle.lr_station.specs.Shelved.{HasWholeFrame, MayStop};
 
 use crate::cause::Cause;
+use crate::ended::Ended;
 use crate::put::put_text;
+use crate::shelve::shelve_outcome;
 use crate::units::{Next, Units};
-use lr_bits::{Bytes, Corrected, MissionFile, NoMemory, Outcome};
-use lr_catalog::{Stop, Summary, received_line, summary_line};
+use crate::words::Input;
+use lr_bits::{Bytes, Corrected, Outcome};
+use lr_block::outcome_of;
+use lr_catalog::{Stop, Summary, summary_line};
+use lr_disk::Disk;
 use lr_io::{Sink, Source};
-use lr_layers::{Counts, Layers};
-use lr_vc::FRAME_BYTES;
+use lr_layers::Layers;
+use lr_rs::RsScratch;
+use lr_shelf::Shelf;
 use std::alloc::Global;
 
-// How the reading ended: how many bytes were taken, how many frames there were, what the layers counted, how many bytes
-// are no whole frame, and why.
-#[derive(Clone, Copy)]
-struct Ended {
-    taken: u64,
-    frames: u64,
-    counts: Counts,
-    left: u64,
-    stop: Stop,
-}
+/// The bytes of a block, and of a frame.
+const BLOCK_BYTES: usize = 1020;
 
-// The lines of these files, the first of which has that number.
-fn compose(
-    alloc: Global,
-    first: u64,
-    files: &[MissionFile],
-    lines: &mut Bytes,
-) -> Result<(), NoMemory>
-    requires { first + length files.now < 2 ^ 64 }
-    ensures { OnOk result (lines.new ≡ lines.old ++ file_lines_from first files.now) }
+const FRAME_BYTES: usize = 892;
+
+/// What becomes of a block or a frame.
+pub(crate) fn unit_outcome<const N: usize>(
+    input: Input,
+    unit: &[u8; N],
+    scratch: &mut RsScratch,
+) -> Outcome
+    requires { N ≡ unit_bytes input }
+    ensures value { result ≡ outcome_of_unit input unit.now }
+    ensures whole { HasWholeFrame result }
 {
-    for (place, file) in files.iter().enumerate() {
-        received_line(alloc, first + place as u64, file, lines)?;
+    match input {
+        Input::Blocks => {
+            let mut block = [0; BLOCK_BYTES];
+            block.copy_from_slice(&unit[..]);
+            outcome_of(&block, scratch)
+        }
+        Input::Frames => {
+            let mut frame = [0; FRAME_BYTES];
+            frame.copy_from_slice(&unit[..]);
+            Outcome::Restored(Corrected([0; 4]), frame)
+        }
     }
-    Ok(())
 }
 
-// Puts the lines of the files that end in one frame more.
-fn put_frame<O: Sink>(
+// All files of blocks or of frames.
+fn receive_units<const N: usize, S: Source, D: Disk, O: Sink>(
     alloc: Global,
-    frame: &[u8; FRAME_BYTES],
-    layers: &mut Layers,
-    files: &mut Vec<MissionFile>,
-    out: &mut O,
-) -> Result<(), Cause>
-    requires few { layers.old.numbers.restored + layers.old.numbers.lost < 2 ^ 48 }
-    ensures stands { (frames : List (List ℕ)) → StandsFor layers.old (outcomes_of_frames frames)
-        → OnOk result (StandsFor layers.new (outcomes_of_frames (frames ++ frame.now ∷ []))) }
-    ensures put { (frames : List (List ℕ)) → StandsFor layers.old (outcomes_of_frames frames)
-        → OnOk result (Puts O.Sink (file_lines_added frames frame.now) out.old out.new) }
-    ensures stopped { (frames : List (List ℕ)) → StandsFor layers.old (outcomes_of_frames frames)
-        → IfErr result (λ cause. PutStops O.Sink (file_lines_added frames frame.now) cause out.old out.new) }
-{
-    files.clear();
-    let number = layers.counts().files;
-    let outcome = Outcome::Restored(Corrected([0; 4]), *frame);
-    layers.push_outcome(&outcome, files)?;
-    let mut lines = Bytes::new(alloc);
-    compose(alloc, number, files, &mut lines)?;
-    put_text(lines.as_slice(), out)
-}
-
-fn put_each_file<S: Source, O: Sink>(
-    alloc: Global,
+    input: Input,
     most: u64,
+    shelf: &mut Shelf,
     source: &mut S,
+    disk: &mut D,
     out: &mut O,
 ) -> Result<Ended, Cause>
+    requires size { N ≡ unit_bytes input }
     requires few { most ≤ 2 ^ 48 }
-    ensures ended { IfOk result (λ ended. (frames : List (List ℕ))
-        × EndsUnits S.Source 892 most frames ended.left ended.stop source.old source.new
-        × (ended.frames ≡ length frames) × (ended.taken ≡ 892 * length frames + ended.left)
-        × (numbers ended.counts ≡ numbers_of (outcomes_of_frames frames)) × Puts O.Sink (lines_of_files frames) out.old out.new) }
-    ensures stopped { IfErr result (λ cause. Prints S.Source O.Sink receive_text receive_last most cause source.old source.new out.old out.new) }
+    ensures counts { OnOk result ((D.faults disk.new ≡ D.faults disk.old) × (O.faults out.new ≡ O.faults out.old)) }
+    ensures reason { IfOk result (λ ended. IsCaused (cause_at ended.stop) (S.faults source.old) (S.faults source.new) 0 0 0 0) }
+    ensures kind { IfErr result MayStop }
+    ensures cause { (kept_by shelf.old).failed ≡ false
+        → IfErr result (λ cause. IsCaused cause (S.faults source.old) (S.faults source.new) (D.faults disk.old) (D.faults disk.new) (O.faults out.old) (O.faults out.new)) }
+    ensures all { IfOk result (λ ended. ReadsAll S.Source D.Disk O.Sink input most ended shelf.old shelf.new source.old source.new disk.old disk.new out.old out.new) }
+    ensures some { IfErr result (λ cause. ReadsSome S.Source D.Disk O.Sink input most cause shelf.old source.old source.new disk.old disk.new out.old out.new) }
 {
-    let mut units = Units::<FRAME_BYTES>::new(most);
+    let mut units = Units::<N>::new(most);
+    let mut scratch = RsScratch::new();
     let mut layers = Layers::new(alloc);
     let mut files = Vec::new(alloc);
     let mut place = 0u64;
-    'frames: loop {
+    'units: loop {
         match units.next(source) {
             Next::Ended(stop) => {
                 return Ok(Ended {
-                    taken: units.taken(),
+                    symbols: units.taken(),
                     frames: place,
                     counts: layers.counts(),
                     left: units.len() as u64,
@@ -98,8 +89,8 @@ fn put_each_file<S: Source, O: Sink>(
                 });
             }
             Next::Whole => {
-                let frame = units.unit();
-                put_frame(alloc, frame, &mut layers, &mut files, out)?;
+                let outcome = unit_outcome(input, units.unit(), &mut scratch);
+                shelve_outcome(alloc, &outcome, &mut layers, &mut files, shelf, disk, out)?;
                 units.clear();
                 place += 1;
             }
@@ -107,15 +98,43 @@ fn put_each_file<S: Source, O: Sink>(
     }
 }
 
+// All files of the input.
+fn receive_all<S: Source, D: Disk, O: Sink>(
+    alloc: Global,
+    input: Input,
+    most: u64,
+    shelf: &mut Shelf,
+    source: &mut S,
+    disk: &mut D,
+    out: &mut O,
+) -> Result<Ended, Cause>
+    requires few { most ≤ 2 ^ 48 }
+    ensures counts { OnOk result ((D.faults disk.new ≡ D.faults disk.old) × (O.faults out.new ≡ O.faults out.old)) }
+    ensures reason { IfOk result (λ ended. IsCaused (cause_at ended.stop) (S.faults source.old) (S.faults source.new) 0 0 0 0) }
+    ensures kind { IfErr result MayStop }
+    ensures cause { (kept_by shelf.old).failed ≡ false
+        → IfErr result (λ cause. IsCaused cause (S.faults source.old) (S.faults source.new) (D.faults disk.old) (D.faults disk.new) (O.faults out.old) (O.faults out.new)) }
+    ensures all { IfOk result (λ ended. ReadsAll S.Source D.Disk O.Sink input most ended shelf.old shelf.new source.old source.new disk.old disk.new out.old out.new) }
+    ensures some { IfErr result (λ cause. ReadsSome S.Source D.Disk O.Sink input most cause shelf.old source.old source.new disk.old disk.new out.old out.new) }
+{
+    match input {
+        Input::Blocks => receive_units::<BLOCK_BYTES, S, D, O>(
+            alloc, input, most, shelf, source, disk, out,
+        ),
+        Input::Frames => receive_units::<FRAME_BYTES, S, D, O>(
+            alloc, input, most, shelf, source, disk, out,
+        ),
+    }
+}
+
+// The last line.
 fn put_last<O: Sink>(alloc: Global, ended: &Ended, out: &mut O) -> Result<(), Cause>
-    ensures put { (frames : List (List ℕ)) → numbers ended.now.counts ≡ numbers_of (outcomes_of_frames frames)
-        → IfOk result (λ _. Puts O.Sink (receive_count frames ended.now.taken ended.now.frames ended.now.left ended.now.stop) out.old out.new) }
-    ensures stopped { (frames : List (List ℕ)) → numbers ended.now.counts ≡ numbers_of (outcomes_of_frames frames)
-        → IfErr result (λ cause. PutStops O.Sink (receive_count frames ended.now.taken ended.now.frames ended.now.left ended.now.stop) cause out.old out.new) }
+    ensures put { IfOk result (λ _. PutsLast O.Sink ended.now out.old out.new) }
+    ensures stopped { IfErr result (λ cause. LastStops O.Sink ended.now cause out.old out.new) }
 {
     let mut line = Bytes::new(alloc);
     let summary = Summary::Receive {
-        symbols: ended.taken,
+        symbols: ended.symbols,
         frames: ended.frames,
         restored: ended.counts.restored,
         lost: ended.counts.lost,
@@ -127,32 +146,47 @@ fn put_last<O: Sink>(alloc: Global, ended: &Ended, out: &mut O) -> Result<(), Ca
     put_text(line.as_slice(), out)
 }
 
-fn put_received<S: Source, O: Sink>(
+// All of it, onto a shelf that is loaded.
+fn receive_onto<S: Source, D: Disk, O: Sink>(
     alloc: Global,
+    input: Input,
     most: u64,
+    shelf: &mut Shelf,
     source: &mut S,
+    disk: &mut D,
     out: &mut O,
 ) -> Result<Stop, Cause>
     requires few { most ≤ 2 ^ 48 }
-    ensures all { IfOk result (λ stop. PrintsAll S.Source O.Sink receive_text receive_last most stop source.old source.new out.old out.new) }
-    ensures stopped { IfErr result (λ cause. Prints S.Source O.Sink receive_text receive_last most cause source.old source.new out.old out.new) }
+    ensures reason { IfOk result (λ stop. IsCaused (cause_at stop) (S.faults source.old) (S.faults source.new) 0 0 0 0) }
+    ensures kind { IfErr result MayStop }
+    ensures cause { (kept_by shelf.old).failed ≡ false
+        → IfErr result (λ cause. IsCaused cause (S.faults source.old) (S.faults source.new) (D.faults disk.old) (D.faults disk.new) (O.faults out.old) (O.faults out.new)) }
+    ensures done { IfOk result (λ stop. EndsRun S.Source D.Disk O.Sink input most (cause_at stop) shelf.old source.old source.new disk.old disk.new out.old out.new) }
+    ensures stopped { IfErr result (λ cause. EndsRun S.Source D.Disk O.Sink input most cause shelf.old source.old source.new disk.old disk.new out.old out.new) }
 {
-    let ended = put_each_file(alloc, most, source, out)?;
+    let ended = receive_all(alloc, input, most, shelf, source, disk, out)?;
     put_last(alloc, &ended, out)?;
     Ok(ended.stop)
 }
 
-/// A line for each mission file of the frames of the source, and a last line; at most so many bytes are taken.
-pub(crate) fn receive<S: Source, O: Sink>(
+/// Takes at most so many bytes, and puts their mission files onto the shelf that the disk holds.
+pub(crate) fn receive<S: Source, D: Disk, O: Sink>(
     alloc: Global,
+    input: Input,
     most: u64,
     source: &mut S,
+    disk: &mut D,
     out: &mut O,
 ) -> Cause
     requires few { most ≤ 2 ^ 48 }
-    ensures { Prints S.Source O.Sink receive_text receive_last most result source.old source.new out.old out.new }
+    ensures cause { IsCaused result (S.faults source.old) (S.faults source.new) (D.faults disk.old) (D.faults disk.new) (O.faults out.old) (O.faults out.new) }
+    ensures run { ReceiveRun S.Source D.Disk O.Sink input most result source.old source.new disk.old disk.new out.old out.new }
 {
-    match put_received(alloc, most, source, out) {
+    let mut shelf = match Shelf::load(alloc, disk) {
+        Ok(shelf) => shelf,
+        Err(error) => return Cause::from(error),
+    };
+    match receive_onto(alloc, input, most, &mut shelf, source, disk, out) {
         Ok(stop) => Cause::at(stop),
         Err(cause) => cause,
     }

@@ -1,24 +1,110 @@
 ghost use Rattle.std.specs.Prelude.{◌≡◌, map, string_bytes};
-ghost use Rattle.lr_station.specs.Words.{command_of, receives_frames, TakesFew};
+ghost use Rattle.lr_station.specs.Words.{coded_input, received_input, of_one, of_two, of_three, command_of, TakesFew};
+
+use crate::numbers::number_between;
 
 /// The most bytes that a call takes from the source where no word gives another number.
 const MOST_BYTES: u64 = 1_099_511_627_776;
 
+/// The least and the greatest capacity of a shelf, in bytes.
+const LEAST_CAPACITY: u64 = 20;
+
+const MOST_CAPACITY: u64 = 1_099_511_627_776;
+
+/// What the source gives.
+#[derive(Clone, Copy)]
+pub enum Input {
+    /// Blocks of 1,020 bytes as they are received.
+    Blocks,
+    /// Transfer frames of 892 bytes.
+    Frames,
+}
+
 /// A command with its words.
 #[derive(Clone, Copy)]
 pub enum Command {
+    /// Makes an empty shelf of so many bytes.
+    Init { capacity: u64 },
     /// A line for each transfer frame; at most so many bytes are taken.
     Frames { most: u64 },
     /// A line for each packet of the transfer frames; at most so many bytes are taken.
     Packets { most: u64 },
-    /// A line for each mission file of the transfer frames; at most so many bytes are taken.
-    Receive { most: u64 },
+    /// A line for what became of each block; at most so many bytes are taken.
+    Decode { input: Input, most: u64 },
+    /// Puts each mission file onto the shelf; at most so many bytes are taken.
+    Receive { input: Input, most: u64 },
+    /// The bytes of the mission file of this number.
+    Extract { number: u64 },
+    /// A line for each file's checksum.
+    Verify,
 }
 
-fn is_frames_received(word: &String, option: &String, form: &String) -> bool
-    ensures { result ≡ receives_frames (string_bytes word.now) (string_bytes option.now) (string_bytes form.now) }
+fn coded_input(form: &str) -> Option<Input>
+    ensures { result ≡ coded_input form.now }
 {
-    word.as_str() == "receive" && option.as_str() == "--input" && form.as_str() == "frames"
+    if form == "blocks" {
+        Some(Input::Blocks)
+    } else {
+        None
+    }
+}
+
+fn received_input(form: &str) -> Option<Input>
+    ensures { result ≡ received_input form.now }
+{
+    if form == "blocks" {
+        Some(Input::Blocks)
+    } else if form == "frames" {
+        Some(Input::Frames)
+    } else {
+        None
+    }
+}
+
+fn of_one(word: &str) -> Option<Command>
+    ensures { result ≡ of_one word.now }
+{
+    if word == "frames" {
+        Some(Command::Frames { most: MOST_BYTES })
+    } else if word == "packets" {
+        Some(Command::Packets { most: MOST_BYTES })
+    } else if word == "verify" {
+        Some(Command::Verify)
+    } else {
+        None
+    }
+}
+
+fn of_two(word: &str, number: &str) -> Option<Command>
+    ensures { result ≡ of_two word.now number.now }
+{
+    if word == "init" {
+        let capacity = number_between(LEAST_CAPACITY, MOST_CAPACITY, number)?;
+        Some(Command::Init { capacity })
+    } else if word == "extract" {
+        let number = number_between(0, u64::MAX, number)?;
+        Some(Command::Extract { number })
+    } else {
+        None
+    }
+}
+
+fn of_three(word: &str, option: &str, form: &str) -> Option<Command>
+    ensures { result ≡ of_three word.now option.now form.now }
+{
+    if option != "--input" {
+        return None;
+    }
+    let most = MOST_BYTES;
+    if word == "decode" {
+        let input = coded_input(form)?;
+        Some(Command::Decode { input, most })
+    } else if word == "receive" {
+        let input = received_input(form)?;
+        Some(Command::Receive { input, most })
+    } else {
+        None
+    }
 }
 
 /// The command that the words give, or `None` where they aren't accepted.
@@ -27,11 +113,9 @@ pub fn read_words(words: &[String]) -> Option<Command>
     ensures few { TakesFew result }
 {
     match words {
-        [word] if word.as_str() == "frames" => Some(Command::Frames { most: MOST_BYTES }),
-        [word] if word.as_str() == "packets" => Some(Command::Packets { most: MOST_BYTES }),
-        [word, option, form] if is_frames_received(word, option, form) => {
-            Some(Command::Receive { most: MOST_BYTES })
-        }
+        [word] => of_one(word.as_str()),
+        [word, number] => of_two(word.as_str(), number.as_str()),
+        [word, option, form] => of_three(word.as_str(), option.as_str(), form.as_str()),
         _ => None,
     }
 }

@@ -1,0 +1,40 @@
+-- What the bytes that a call reads stand for, in each form in which they may come.
+use Rattle.std.specs.Prelude.{◌≡◌, ℕ, ◌%◌, List, [], ◌∷◌, length, map}
+use Rattle.lr_bits.specs.declared.outcome.Outcome.{Outcome}
+use Rattle.lr_bits.specs.declared.outcome.Outcome.TheVariants.{Restored}
+use Rattle.lr_bits.specs.File.{File}
+use Rattle.lr_block.specs.Outcomes.{outcome_of_block}
+use Rattle.lr_layers.specs.Layers.{files_of_outcomes}
+use Rattle.lr_station.specs.declared.words.Input.{Input}
+use Rattle.lr_station.specs.declared.words.Input.TheVariants.{Blocks, Frames}
+use Rattle.lr_station.specs.Reading.{units_of}
+
+-- how many bytes a block or a frame has
+abbrev pub unit_bytes : Input → ℕ
+unit_bytes Blocks = 1020
+unit_bytes Frames = 892
+
+-- a frame that came as it is: restored with no changed byte
+abbrev pub as_restored : List ℕ → Outcome
+as_restored frame = Restored (record { 0 = 0 ∷ 0 ∷ 0 ∷ 0 ∷ [] }) frame
+
+-- what becomes of a block or a frame
+abbrev pub outcome_of_unit : Input → List ℕ → Outcome
+outcome_of_unit Blocks block = outcome_of_block block
+outcome_of_unit Frames frame = as_restored frame
+
+-- what becomes of these blocks or frames
+unfoldable pub outcomes_of_units : Input → List (List ℕ) → List Outcome
+outcomes_of_units input units = map (outcome_of_unit input) units
+
+-- the outcomes of the bytes read: those of each whole block or frame
+unfoldable pub outcomes_of_bytes : Input → List ℕ → List Outcome
+outcomes_of_bytes input bytes = outcomes_of_units input (units_of (unit_bytes input) bytes)
+
+-- the files of the bytes read: the mission files of these outcomes
+unfoldable pub files_of_bytes : Input → List ℕ → List File
+files_of_bytes input bytes = files_of_outcomes (outcomes_of_bytes input bytes)
+
+-- how many bytes are left that are no whole block or frame
+abbrev pub left_of : Input → List ℕ → ℕ
+left_of input bytes = length bytes % unit_bytes input
