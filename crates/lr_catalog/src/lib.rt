@@ -7,12 +7,14 @@
 mod files;
 mod frames;
 mod hex;
+mod outcomes;
 mod packets;
 mod stop;
 mod summary;
 
-pub use files::received_line;
+pub use files::{check_line, shelved_line};
 pub use frames::frame_line;
+pub use outcomes::{block_line, window_line};
 pub use packets::packet_line;
 pub use stop::Stop;
 pub use summary::{Summary, summary_line};

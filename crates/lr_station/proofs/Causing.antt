@@ -1,5 +1,5 @@
 -- Causes and counts.
-use Rattle.std.proofs.Common.{◌≡◌, inl, inr, ℕ, refl, subst, arith}
+use Rattle.std.proofs.Common.{◌≡◌, ◌≤◌, inl, inr, ℕ, refl, subst, arith}
 use Rattle.lr_bits.specs.Faults.{Rose}
 use Rattle.lr_shelf.specs.declared.error.ShelfError.{ShelfError}
 use Rattle.lr_shelf.specs.declared.error.ShelfError.TheVariants.{Disk as Disk', NotAShelf as NotAShelf', NotEmpty as NotEmpty', Capacity as Capacity', NoSuchFile as NoSuchFile', Crc as Crc', NoMemory as NoMemory', Failed as Failed'}
@@ -51,3 +51,21 @@ caused_by_shelf Failed' d d' o o' rose works = absurd (works refl)
 
 pub rose_later : (s0 s1 s2 : ℕ) → s1 ≡ s0 → Rose s1 s2 → Rose s0 s2
 rose_later s0 s1 s2 same rose = subst (λ (k : ℕ). Rose k s2) same rose
+
+-- a count that went on before
+pub rose_from : (s0 s1 s2 : ℕ) → s0 ≤ s1 → Rose s1 s2 → Rose s0 s2
+rose_from s0 s1 s2 le (inl less) = inl (omega (arith, le, less))
+rose_from s0 s1 s2 le (inr most) = inr most
+
+pub caused_from : (cause : Cause) (d0 d1 d2 o0 o1 o2 : ℕ) → d0 ≤ d1 → o1 ≡ o0 → IsCaused cause 0 0 d1 d2 o1 o2 → IsCaused cause 0 0 d0 d2 o0 o2
+caused_from Done d0 d1 d2 o0 o1 o2 le o c = c
+caused_from Usage d0 d1 d2 o0 o1 o2 le o c = c
+caused_from SourceFailed d0 d1 d2 o0 o1 o2 le o c = c
+caused_from DiskFailed d0 d1 d2 o0 o1 o2 le o c = rose_from d0 d1 d2 le c
+caused_from OutputFailed d0 d1 d2 o0 o1 o2 le o c = rose_later o0 o1 o2 o c
+caused_from (NotAShelf at) d0 d1 d2 o0 o1 o2 le o c = c
+caused_from (NoSuchFile count) d0 d1 d2 o0 o1 o2 le o c = c
+caused_from NoMemory d0 d1 d2 o0 o1 o2 le o c = c
+caused_from (Capacity needed most) d0 d1 d2 o0 o1 o2 le o c = c
+caused_from (NotEmpty size) d0 d1 d2 o0 o1 o2 le o c = c
+caused_from BadChecksum d0 d1 d2 o0 o1 o2 le o c = c

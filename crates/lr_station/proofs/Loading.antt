@@ -1,8 +1,6 @@
 -- What comes of a disk from which no shelf was loaded.
-use Rattle.std.proofs.Common.{◌≡◌, inl, inr, ℕ, ◌<◌, List, [], ◌++◌, length, refl, sym, ◌∙◌, ap, subst, arith, append-nil, Result, Ok, Err, IfOk, OnOk, MatchResult}
-use Rattle.std.specs.Prelude.{All}
+use Rattle.std.proofs.Common.{◌≡◌, inl, ℕ, List, [], ◌++◌, length, refl, sym, ◌∙◌, ap, subst, arith, append-nil, Result, Ok, Err, IfOk, OnOk, MatchResult}
 use Rattle.std.proofs.lemmas.List.Elements.{All-nil}
-use Rattle.lr_bits.specs.Faults.{Rose}
 use Rattle.lr_bits.specs.File.{File}
 use Rattle.lr_io.specs.declared.source.Source.{Ghosts as SourceOf}
 use Rattle.lr_io.specs.declared.sink.Sink.{Ghosts as SinkOf}
@@ -19,13 +17,13 @@ use Rattle.lr_shelf.proofs.Moments.{weaker}
 use Rattle.lr_catalog.specs.declared.stop.Stop.{Stop}
 use Rattle.lr_catalog.specs.declared.stop.Stop.TheVariants.{End, Limit, Fault}
 use Rattle.lr_station.specs.declared.cause.Cause.{Cause}
-use Rattle.lr_station.specs.declared.cause.Cause.TheVariants.{DiskFailed, NotAShelf, NoMemory}
+use Rattle.lr_station.specs.declared.cause.Cause.TheVariants.{Done, Usage, SourceFailed, DiskFailed, OutputFailed, NotAShelf, NoSuchFile, NoMemory, Capacity, NotEmpty, BadChecksum}
 use Rattle.lr_station.specs.declared.words.Input.{Input}
 use Rattle.lr_station.specs.Causes.{cause_of, cause_at}
-use Rattle.lr_station.specs.Inputs.{unit_bytes, outcomes_of_bytes, files_of_bytes}
-use Rattle.lr_station.specs.Reading.{IsRead, units_of}
-use Rattle.lr_station.specs.Shelving.{shelved_lines, StandsForFront, LeavesFronts}
-use Rattle.lr_station.specs.Receive.{Ends, Receives, MayEndBefore, IsRefusedAt, ReceiveRun}
+use Rattle.lr_station.specs.Inputs.{unit_bytes, files_of_bytes}
+use Rattle.lr_station.specs.Reading.{IsRead}
+use Rattle.lr_station.specs.Shelving.{shelved_lines, LeavesFronts}
+use Rattle.lr_station.specs.Receive.{Ends, Receives, MayEndBefore, IsReceiveCause, IsRefusedAt, ReceiveRun}
 use Rattle.lr_station.specs.Reception.{EndsRun}
 use Rattle.lr_station.specs.Shelved.{MayStop}
 use Rattle.lr_station.proofs.ReceiveLoop.{positive, outcomes_are, files_are, outcomes_of_units-none}
@@ -33,6 +31,30 @@ use Rattle.lr_station.proofs.ReceiveEnding.{front_none, loaded}
 use Rattle.lr_station.proofs.ShelvedLines.{shelved_lines-none}
 use Rattle.lr_station.proofs.Headline.{receives}
 use Rattle.lr_station.proofs.UnitsOf.{units_are}
+
+-- what `load` may refuse for ends the call before any byte is read
+pub ended_before : (e : ShelfError) (at : ℕ) → MayRefuseAt at e → MayEndBefore at (cause_of e)
+ended_before Disk' at may = tt
+ended_before (NotAShelf' at') at may = may
+ended_before (NotEmpty' size) at may = absurd may
+ended_before (Capacity' needed most) at may = absurd may
+ended_before (NoSuchFile' count) at may = absurd may
+ended_before (Crc' stored computed) at may = absurd may
+ended_before NoMemory' at may = tt
+ended_before Failed' at may = absurd may
+
+pub may_refuse : (at : ℕ) (r : Result Shelf ShelfError) (e : ShelfError) → r ≡ Err e → MatchResult r (λ _. ⊥) (MayRefuseAt at) → MayRefuseAt at e
+may_refuse at r e is match = subst (λ (x : Result Shelf ShelfError). MatchResult x (λ _. ⊥) (MayRefuseAt at)) is match
+
+load_cause : {D : Type 0} (disk : DiskOf D) (d : D) (e : ShelfError) → IsLoadRefusal disk d e → IsReceiveCause (cause_of e)
+load_cause disk d Disk' refusal = tt
+load_cause disk d (NotAShelf' at) refusal = tt
+load_cause disk d (NotEmpty' size) refusal = absurd refusal
+load_cause disk d (Capacity' needed most) refusal = absurd refusal
+load_cause disk d (NoSuchFile' count) refusal = absurd refusal
+load_cause disk d (Crc' stored computed) refusal = absurd refusal
+load_cause disk d NoMemory' refusal = tt
+load_cause disk d Failed' refusal = absurd refusal
 
 -- no bytes have no files
 pub no_bytes : (input : Input) → files_of_bytes input [] ≡ []
@@ -97,23 +119,11 @@ module _ {S D O : Type 0} (source : SourceOf S) (disk : DiskOf D) (out : SinkOf 
   refused NoMemory' at refusal is = cc (is)
   refused Failed' at refusal is = absurd refusal
 
-  ended_before : (e : ShelfError) (at : ℕ) → MayRefuseAt at e → MayEndBefore at (cause_of e)
-  ended_before Disk' at may = tt
-  ended_before (NotAShelf' at') at may = may
-  ended_before (NotEmpty' size) at may = absurd may
-  ended_before (Capacity' needed most) at may = absurd may
-  ended_before (NoSuchFile' count) at may = absurd may
-  ended_before (Crc' stored computed) at may = absurd may
-  ended_before NoMemory' at may = tt
-  ended_before Failed' at may = absurd may
-
-  may_refuse : (at : ℕ) (r : Result Shelf ShelfError) (e : ShelfError) → r ≡ Err e → MatchResult r (λ _. ⊥) (MayRefuseAt at) → MayRefuseAt at e
-  may_refuse at r e is match = subst (λ (x : Result Shelf ShelfError). MatchResult x (λ _. ⊥) (MayRefuseAt at)) is match
-
   -- no shelf was loaded
   pub not_loaded : (e : ShelfError) → result ≡ Err e → IsLoadRefusal disk d e → ReceiveRun source disk out input limit (cause_of e) s s d d1 o o
   not_loaded e is refusal = record {
     onto_shelf = λ capacity before told durable. nothing capacity before told durable e is refusal;
+    causes = load_cause disk d e refusal;
     refused = λ at named. refused e at refusal named;
     broken = λ at told no. ended_before e at (may_refuse at result e is (loads.broken at told no));
   }
@@ -133,9 +143,10 @@ module _ {S D O : Type 0} (source : SourceOf S) (disk : DiskOf D) (out : SinkOf 
         let all = run.ends capacity before d o begun in
         (run.bytes, receives source disk out input capacity before limit run.bytes s s' d d' o o' cause run.read all.0 all.1)
 
-    pub loaded_run : ((at : ℕ) → cause ≡ NotAShelf at → ⊥) → ReceiveRun source disk out input limit cause s s' d d' o o'
-    loaded_run kind = record {
+    pub loaded_run : IsReceiveCause cause → ((at : ℕ) → cause ≡ NotAShelf at → ⊥) → ReceiveRun source disk out input limit cause s s' d d' o o'
+    loaded_run causes kind = record {
       onto_shelf = onto_shelf;
+      causes = causes;
       refused = λ at named. absurd (kind at named);
       broken = λ at told no. absurd (subst (λ (r : Result Shelf ShelfError). MatchResult r (λ _. ⊥) (MayRefuseAt at)) is (loads.broken at told no));
     }
@@ -149,3 +160,21 @@ done_kind Fault at is = cc (is)
 -- so was one that stopped
 pub stop_kind : (cause : Cause) → MayStop cause → (at : ℕ) → cause ≡ NotAShelf at → ⊥
 stop_kind cause may at is = subst (λ (c : Cause). MayStop c) is may
+
+pub done_cause : (stop : Stop) → IsReceiveCause (cause_at stop)
+done_cause End = tt
+done_cause Limit = tt
+done_cause Fault = tt
+
+pub stop_cause : (cause : Cause) → MayStop cause → IsReceiveCause cause
+stop_cause Done may = absurd may
+stop_cause Usage may = absurd may
+stop_cause SourceFailed may = absurd may
+stop_cause DiskFailed may = tt
+stop_cause OutputFailed may = tt
+stop_cause (NotAShelf at) may = absurd may
+stop_cause (NoSuchFile count) may = absurd may
+stop_cause NoMemory may = tt
+stop_cause (Capacity needed most) may = tt
+stop_cause (NotEmpty size) may = absurd may
+stop_cause BadChecksum may = absurd may

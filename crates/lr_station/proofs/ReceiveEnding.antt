@@ -8,9 +8,8 @@ use Rattle.lr_disk.specs.declared.disk.Disk.{Ghosts as DiskOf}
 use Rattle.lr_disk.specs.Disk.{LeavesOnly}
 use Rattle.lr_layers.specs.Layers.{Numbers, numbers_of}
 use Rattle.lr_layers.specs.Standing.{numbers}
-use Rattle.lr_layers.proofs.Pushing.{no_files}
 use Rattle.lr_shelf_format.specs.Reading.{StandsFor}
-use Rattle.lr_shelf.specs.Shelf.{IsDurable, IsSettled}
+use Rattle.lr_shelf.specs.Shelf.{IsSettled}
 use Rattle.lr_shelf.specs.declared.shelf.Shelf.{Shelf}
 use Rattle.lr_shelf.proofs.Moments.{weaker}
 use Rattle.lr_catalog.specs.declared.stop.Stop.{Stop}
@@ -21,9 +20,8 @@ use Rattle.lr_station.specs.declared.ended.Ended.{Ended}
 use Rattle.lr_station.specs.declared.words.Input.{Input}
 use Rattle.lr_station.specs.Causes.{cause_at}
 use Rattle.lr_station.specs.Inputs.{outcomes_of_bytes, files_of_bytes}
-use Rattle.lr_station.specs.Reading.{IsRead}
-use Rattle.lr_station.specs.Progress.{Puts, PutFails}
-use Rattle.lr_station.specs.Shelving.{shelved_lines, StandsForFront, LeavesFronts, StopsBy}
+use Rattle.lr_station.specs.Progress.{PutFails}
+use Rattle.lr_station.specs.Shelving.{shelved_lines, StandsForFront, StopsBy}
 use Rattle.lr_station.specs.Shelved.{ShelvesSoFar}
 use Rattle.lr_station.specs.Receive.{counts_line, receive_count, receive_last, Finishes, Ends}
 use Rattle.lr_station.specs.Reception.{IsCountOf, ended_line, PutsLast, LastStops, ReadsAll, ReadsSome, EndsRun}
@@ -103,22 +101,24 @@ module _ {S D O : Type 0} (source : SourceOf S) (disk : DiskOf D) (out : SinkOf 
         bytes = all.bytes;
         read = all.read;
         ends = λ capacity before d0 o0 begun.
-            let so_far = all.shelved capacity before d0 o0 begun in
-            (so_far.any_moment, inr (record {
-              stop = ended.stop;
-              reason = all.reason;
-              durable = so_far.settled.on_disk;
-              part = λ t.
-                  let cut = fails.part (so_far.put.told t) in
-                  record {
-                    part = cut.part;
-                    rest = cut.rest;
-                    split = sym line_is ∙ cut.split;
-                    shorter = omega (arith, cut.shorter, ap length line_is);
-                    put = cut.put ∙ ap (λ (l : List ℕ). l ++ cut.part) (so_far.put.put t);
-                  };
-              rose = subst (λ (k : ℕ). Rose k (out.faults o2)) so_far.put.kept fails.rose;
-            }));
+            let so_far = all.shelved capacity before d0 o0 begun in (
+              so_far.any_moment,
+              inr (record {
+                stop = ended.stop;
+                reason = all.reason;
+                durable = so_far.settled.on_disk;
+                part = λ t.
+                    let cut = fails.part (so_far.put.told t) in
+                    record {
+                      part = cut.part;
+                      rest = cut.rest;
+                      split = sym line_is ∙ cut.split;
+                      shorter = omega (arith, cut.shorter, ap length line_is);
+                      put = cut.put ∙ ap (λ (l : List ℕ). l ++ cut.part) (so_far.put.put t);
+                    };
+                rose = subst (λ (k : ℕ). Rose k (out.faults o2)) so_far.put.kept fails.rose;
+              }),
+            );
       }
 
       -- there was no memory for it
@@ -127,14 +127,16 @@ module _ {S D O : Type 0} (source : SourceOf S) (disk : DiskOf D) (out : SinkOf 
         bytes = all.bytes;
         read = all.read;
         ends = λ capacity before d0 o0 begun.
-            let so_far = all.shelved capacity before d0 o0 begun in
-            (so_far.any_moment, record {
-              done = files_of_bytes input all.bytes;
-              rest = [];
-              split = sym (append-nil (files_of_bytes input all.bytes));
-              durable = so_far.settled.on_disk;
-              got = λ t. ap out.contents same ∙ so_far.put.put t;
-            });
+            let so_far = all.shelved capacity before d0 o0 begun in (
+              so_far.any_moment,
+              record {
+                done = files_of_bytes input all.bytes;
+                rest = [];
+                split = sym (append-nil (files_of_bytes input all.bytes));
+                durable = so_far.settled.on_disk;
+                got = λ t. ap out.contents same ∙ so_far.put.put t;
+              },
+            );
       }
 
       -- the last line wasn't put
@@ -158,15 +160,17 @@ module _ {S D O : Type 0} (source : SourceOf S) (disk : DiskOf D) (out : SinkOf 
         read = all.read;
         ends = λ capacity before d0 o0 begun.
             let so_far = all.shelved capacity before d0 o0 begun in
-            let files = files_of_bytes input all.bytes in
-            (so_far.any_moment, ends_at capacity before all.bytes s s' d0 d1 o0 o2 ended.stop (record {
-              reason = all.reason;
-              durable = so_far.settled.on_disk;
-              got = λ t.
-                  put.put (so_far.put.told t) ∙ ap (λ (l : List ℕ). l ++ ended_line ended) (so_far.put.put t)
-                  ∙ append_assoc (out.contents o0) (shelved_lines (length before) files) (ended_line ended)
-                  ∙ ap (λ (l : List ℕ). out.contents o0 ++ (shelved_lines (length before) files ++ l)) line_is;
-              disk_count = so_far.disk_count;
-              out_count = put.kept ∙ so_far.put.kept;
-            }));
+            let files = files_of_bytes input all.bytes in (
+              so_far.any_moment,
+              ends_at capacity before all.bytes s s' d0 d1 o0 o2 ended.stop (record {
+                reason = all.reason;
+                durable = so_far.settled.on_disk;
+                got = λ t.
+                    put.put (so_far.put.told t) ∙ ap (λ (l : List ℕ). l ++ ended_line ended) (so_far.put.put t)
+                    ∙ append_assoc (out.contents o0) (shelved_lines (length before) files) (ended_line ended)
+                    ∙ ap (λ (l : List ℕ). out.contents o0 ++ (shelved_lines (length before) files ++ l)) line_is;
+                disk_count = so_far.disk_count;
+                out_count = put.kept ∙ so_far.put.kept;
+              }),
+            );
       }

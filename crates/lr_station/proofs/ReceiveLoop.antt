@@ -1,9 +1,9 @@
 -- The loop of `receive` over blocks or frames.
-use Rattle.std.proofs.Common.{◌≡◌, ℕ, ◌+◌, ◌*◌, ◌%◌, ◌<◌, ◌≤◌, ◌^◌, List, [], ◌∷◌, ◌++◌, length, map, ap, ◌∙◌, sym, refl, subst, arith, length-append, append-nil, Bool, true, false, not, false}
-use Rattle.std.specs.Prelude.{All, count_by, cond}
+use Rattle.std.proofs.Common.{◌≡◌, ℕ, ◌+◌, ◌*◌, ◌%◌, ◌<◌, ◌≤◌, ◌^◌, List, [], ◌∷◌, ◌++◌, length, ap, ◌∙◌, sym, refl, subst, arith, length-append, Bool, true, false, not, false}
+use Rattle.std.specs.Prelude.{count_by, cond}
 use Rattle.std.specs.List.{concat}
 use Rattle.std.proofs.lemmas.List.{length-map, map-append}
-use Rattle.std.proofs.lemmas.List.Elements.{All-nil, All-push}
+use Rattle.std.proofs.lemmas.List.Elements.{All-push}
 use Rattle.std.proofs.lemmas.List.Sums.{sum_by-cons}
 use Rattle.lr_bits.specs.declared.outcome.Outcome.{Outcome}
 use Rattle.lr_bits.specs.File.{File}
@@ -22,12 +22,12 @@ use Rattle.lr_station.specs.declared.units.Next.TheVariants.{Ended}
 use Rattle.lr_station.specs.declared.words.Input.{Input}
 use Rattle.lr_station.specs.declared.words.Input.TheVariants.{Blocks, Frames}
 use Rattle.lr_station.specs.Gathered.{Gathered}
-use Rattle.lr_station.specs.Reading.{IsRead, EndsFor, units_of}
+use Rattle.lr_station.specs.Reading.{EndsFor, units_of}
 use Rattle.lr_station.specs.Progress.{Gathers, GathersFor, ReadsUnits, EndsUnits}
-use Rattle.lr_station.specs.Inputs.{unit_bytes, outcome_of_unit, outcomes_of_units, outcomes_of_bytes, files_of_bytes, left_of}
+use Rattle.lr_station.specs.Inputs.{unit_bytes, outcome_of_unit, outcomes_of_units, outcomes_of_bytes, files_of_bytes}
 use Rattle.lr_station.specs.Shelving.{Stops}
 use Rattle.lr_station.specs.Shelved.{ShelvesSoFar}
-use Rattle.lr_station.specs.Reception.{IsCountOf, ReadsAll, ReadsSome}
+use Rattle.lr_station.specs.Reception.{ReadsAll, ReadsSome}
 use Rattle.lr_station.proofs.Printed.{begun, gathered_more, cleared, ended, concat-push}
 use Rattle.lr_station.proofs.UnitsOf.{units_are, length-concat, long}
 
@@ -35,12 +35,12 @@ pub outcomes_of_units-none : (input : Input) → outcomes_of_units input [] ≡ 
 unfolding outcomes_of_units
 outcomes_of_units-none input = refl
 
-outcomes_of_units-push : (input : Input) (units : List (List ℕ)) (unit : List ℕ) → outcomes_of_units input (units ++ unit ∷ []) ≡ outcomes_of_units input units ++ outcome_of_unit input unit ∷ []
+pub outcomes_of_units-push : (input : Input) (units : List (List ℕ)) (unit : List ℕ) → outcomes_of_units input (units ++ unit ∷ []) ≡ outcomes_of_units input units ++ outcome_of_unit input unit ∷ []
 unfolding outcomes_of_units
 outcomes_of_units-push input units unit = map-append (outcome_of_unit input) units (unit ∷ [])
 
 -- there is an outcome for each unit
-outcomes_counted : (input : Input) (units : List (List ℕ)) → length (outcomes_of_units input units) ≡ length units
+pub outcomes_counted : (input : Input) (units : List (List ℕ)) → length (outcomes_of_units input units) ≡ length units
 unfolding outcomes_of_units
 outcomes_counted input units = length-map units (outcome_of_unit input)
 
@@ -54,7 +54,7 @@ unfolding files_of_bytes
 files_are input bytes outcomes is = ap files_of_outcomes is
 
 -- an outcome is restored or lost
-both_kinds : (outcomes : List Outcome) → count_by is_restored outcomes + count_by (λ o. not (is_restored o)) outcomes ≡ length outcomes
+pub both_kinds : (outcomes : List Outcome) → count_by is_restored outcomes + count_by (λ o. not (is_restored o)) outcomes ≡ length outcomes
 both_kinds [] = refl
 both_kinds (o ∷ outcomes) =
     omega (
@@ -79,7 +79,7 @@ fewer Blocks n count most is fits = omega (arith, is, ap (λ k. k * count) is, f
 fewer Frames n count most is fits = omega (arith, is, ap (λ k. k * count) is, fits)
 
 -- what is left behind whole units
-rest_of : (input : Input) (n count rest total : ℕ) → n ≡ unit_bytes input → total ≡ n * count + rest → rest < n → rest ≡ total % unit_bytes input
+pub rest_of : (input : Input) (n count rest total : ℕ) → n ≡ unit_bytes input → total ≡ n * count + rest → rest < n → rest ≡ total % unit_bytes input
 rest_of Blocks n count rest total is all short = omega (arith, is, all, ap (λ k. k * count) is, short)
 rest_of Frames n count rest total is all short = omega (arith, is, all, ap (λ k. k * count) is, short)
 

@@ -1,5 +1,5 @@
 -- What the bytes that a call reads stand for, in each form in which they may come.
-use Rattle.std.specs.Prelude.{◌≡◌, ℕ, ◌%◌, List, [], ◌∷◌, length, map}
+use Rattle.std.specs.Prelude.{ℕ, ◌%◌, List, [], ◌∷◌, length, map}
 use Rattle.lr_bits.specs.declared.outcome.Outcome.{Outcome}
 use Rattle.lr_bits.specs.declared.outcome.Outcome.TheVariants.{Restored}
 use Rattle.lr_bits.specs.File.{File}

@@ -1,7 +1,11 @@
 pub mod Added
 pub mod Causes
+pub mod Decode
+pub mod Entries
+pub mod Extract
 pub mod Frames
 pub mod Gathered
+pub mod Init
 pub mod Inputs
 pub mod Numbers
 pub mod Packets
@@ -11,6 +15,10 @@ pub mod Progress
 pub mod Reading
 pub mod Receive
 pub mod Reception
+pub mod Runs
 pub mod Shelved
 pub mod Shelving
+pub mod Statuses
+pub mod Verify
+pub mod Verifying
 pub mod Words

@@ -1,5 +1,5 @@
 -- Which command the words give, if they are accepted.
-use Rattle.std.specs.Prelude.{ℕ, ◌≤◌, ◌^◌, Bool, Option, Some, None, List, [], ◌∷◌, codes, if◌then◌else◌, option_map}
+use Rattle.std.specs.Prelude.{ℕ, ◌≤◌, ◌^◌, Option, Some, None, List, [], ◌∷◌, codes, if◌then◌else◌, option_map}
 use Rattle.std.specs.Str.{bytes_eq}
 use Rattle.lr_station.specs.declared.words.Input.{Input}
 use Rattle.lr_station.specs.declared.words.Input.TheVariants.{Blocks as Blocks', Frames as Frames'}
@@ -49,7 +49,8 @@ command_of (word ∷ number ∷ []) = of_two word number
 command_of (word ∷ option ∷ form ∷ []) = of_three word option form
 command_of _ = None
 
--- what `receive` takes is within the number of outcomes that its layers count
-abbrev pub TakesFew : Option Command → Type 0
-TakesFew (Some (Receive input most)) = most ≤ 2 ^ 48
-TakesFew _ = Unit {0}
+-- The numbers of a command are in their ranges. What `receive` takes is within the number of outcomes that its layers count.
+abbrev pub IsInRange : Option Command → Type 0
+IsInRange (Some (Init capacity)) = (20 ≤ capacity) × (capacity ≤ 1099511627776)
+IsInRange (Some (Receive input most)) = most ≤ 2 ^ 48
+IsInRange _ = Unit {0}

@@ -6,16 +6,22 @@
 
 mod cause;
 mod counted;
+mod decode;
 mod ended;
+mod extract;
 mod frames;
+mod init;
 mod line;
 mod numbers;
 mod packets;
 mod put;
 mod receive;
 mod shelve;
+mod top;
 mod units;
+mod verify;
 mod words;
 
 pub use cause::Cause;
+pub use top::{station, tell};
 pub use words::{Command, Input, read_words};

@@ -24,9 +24,9 @@ use lr_shelf::Shelf;
 use std::alloc::Global;
 
 /// The bytes of a block, and of a frame.
-const BLOCK_BYTES: usize = 1020;
+pub(crate) const BLOCK_BYTES: usize = 1020;
 
-const FRAME_BYTES: usize = 892;
+pub(crate) const FRAME_BYTES: usize = 892;
 
 /// What becomes of a block or a frame.
 pub(crate) fn unit_outcome<const N: usize>(

@@ -1,5 +1,5 @@
 ghost use Rattle.std.specs.Prelude.{◌≡◌, map, string_bytes};
-ghost use Rattle.lr_station.specs.Words.{coded_input, received_input, of_one, of_two, of_three, command_of, TakesFew};
+ghost use Rattle.lr_station.specs.Words.{coded_input, received_input, of_one, of_two, of_three, command_of, IsInRange};
 
 use crate::numbers::number_between;
 
@@ -76,7 +76,8 @@ fn of_one(word: &str) -> Option<Command>
 }
 
 fn of_two(word: &str, number: &str) -> Option<Command>
-    ensures { result ≡ of_two word.now number.now }
+    ensures gives { result ≡ of_two word.now number.now }
+    ensures range { IsInRange result }
 {
     if word == "init" {
         let capacity = number_between(LEAST_CAPACITY, MOST_CAPACITY, number)?;
@@ -110,7 +111,7 @@ fn of_three(word: &str, option: &str, form: &str) -> Option<Command>
 /// The command that the words give, or `None` where they aren't accepted.
 pub fn read_words(words: &[String]) -> Option<Command>
     ensures gives { result ≡ command_of (map string_bytes words.now) }
-    ensures few { TakesFew result }
+    ensures range { IsInRange result }
 {
     match words {
         [word] => of_one(word.as_str()),

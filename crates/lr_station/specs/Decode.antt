@@ -1,0 +1,28 @@
+-- What `decode` prints of the bytes read.
+use Rattle.std.specs.Prelude.{ℕ, not, List, length, map, count_by}
+use Rattle.std.specs.List.{concat, enumerate_from}
+use Rattle.lr_bits.specs.declared.outcome.Outcome.{Outcome}
+use Rattle.lr_layers.specs.Layers.{is_restored}
+use Rattle.lr_catalog.specs.declared.stop.Stop.{Stop}
+use Rattle.lr_catalog.specs.declared.summary.Summary.TheVariants.{Decode}
+use Rattle.lr_catalog.specs.Outcomes.{block_line}
+use Rattle.lr_catalog.specs.Summaries.{summary_line}
+use Rattle.lr_station.specs.declared.words.Input.{Input}
+use Rattle.lr_station.specs.Inputs.{unit_bytes, outcome_of_unit, outcomes_of_bytes, left_of}
+use Rattle.lr_station.specs.Reading.{units_of}
+
+-- the lines of these blocks, each numbered by its place
+unfoldable pub lines_of_units : Input → List (List ℕ) → List ℕ
+lines_of_units input units = concat (map (λ u. block_line u.0 (outcome_of_unit input u.1)) (enumerate_from 0 units))
+
+-- a line for each whole block
+abbrev pub decode_text : Input → List ℕ → List ℕ
+decode_text input bytes = lines_of_units input (units_of (unit_bytes input) bytes)
+
+-- how many bytes were taken, how many outcomes there are, of each kind, and how many bytes are left
+unfoldable pub decode_count : List Outcome → ℕ → ℕ → Stop → List ℕ
+decode_count outcomes symbols left stop =
+    summary_line (Decode symbols (length outcomes) (count_by is_restored outcomes) (count_by (λ o. not (is_restored o)) outcomes) left) stop
+
+abbrev pub decode_last : Input → List ℕ → Stop → List ℕ
+decode_last input bytes stop = decode_count (outcomes_of_bytes input bytes) (length bytes) (left_of input bytes) stop
