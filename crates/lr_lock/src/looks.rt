@@ -1,4 +1,4 @@
-ghost use Rattle.std.specs.Prelude.{◌≡◌, ℕ, ◌+◌, ◌^◌, ◌<◌, ◌≤◌, ℤ, List, length, drop, MatchOption, Option, IfSome};
+ghost use Rattle.std.specs.Prelude.{◌≡◌, ℕ, ◌+◌, ◌^◌, ◌<◌, ◌≤◌, ℤ, List, length, drop, MatchOption, Option, None, Some, IfSome};
 ghost use Rattle.lr_lock.specs.Hits.{hits};
 ghost use Rattle.lr_lock.specs.Frames.{HasFewer};
 ghost use Rattle.lr_lock.specs.Machine.{IsAt, IsSearching};
@@ -60,6 +60,22 @@ pub(crate) fn search(tail: &[bool; 52], symbols: &[i8], start: usize, needed: us
     }
 }
 
+/// A frame at this place of the stream, behind so many of the symbols.
+fn sight_of(passed: usize, place: u64, positive: bool, misses: u8) -> Sight
+    ensures { result ≡ record { passed = passed; frame = Some (record { place = place; positive = positive; misses = misses }); held = None } }
+{
+    let frame = Frame {
+        place,
+        positive,
+        misses,
+    };
+    Sight {
+        passed,
+        frame: Some(frame),
+        held: None,
+    }
+}
+
 /// Searches the symbols from `start` on. They stand at `place` of the stream.
 fn look_further(tail: &[bool; 52], symbols: &[i8], place: u64, start: usize, needed: usize) -> Sight
     requires start { start ≤ length symbols.now }
@@ -73,18 +89,7 @@ fn look_further(tail: &[bool; 52], symbols: &[i8], place: u64, start: usize, nee
 {
     let spot = search(tail, symbols, start, needed);
     match spot.positive {
-        Some(positive) => {
-            let frame = Frame {
-                place: place + spot.place as u64,
-                positive,
-                misses: 0,
-            };
-            Sight {
-                passed: spot.place,
-                frame: Some(frame),
-                held: None,
-            }
-        }
+        Some(positive) => sight_of(spot.place, place + spot.place as u64, positive, 0),
         None => Sight {
             passed: spot.place,
             frame: None,
@@ -120,30 +125,8 @@ pub(crate) fn look(
         };
     }
     match polarity_at(tail, symbols, 0, SEEN) {
-        Some(positive) => {
-            let frame = Frame {
-                place,
-                positive,
-                misses: 0,
-            };
-            Sight {
-                passed: 0,
-                frame: Some(frame),
-                held: None,
-            }
-        }
-        None if last.misses < FORGIVEN => {
-            let frame = Frame {
-                place,
-                positive: last.positive,
-                misses: last.misses + 1,
-            };
-            Sight {
-                passed: 0,
-                frame: Some(frame),
-                held: None,
-            }
-        }
+        Some(positive) => sight_of(0, place, positive, 0),
+        None if last.misses < FORGIVEN => sight_of(0, place, last.positive, last.misses + 1),
         None => look_further(tail, symbols, place, 1, needed),
     }
 }
