@@ -70,9 +70,9 @@ static void feed(void) {
 static int polarity_at(const int8_t *symbols, unsigned least) {
     uint8_t first = 0, second = 0;
     for (int i = 0; i < 52; i++) {
-        bool above = symbols[12 + i] > 0, below = symbols[12 + i] < 0;
-        first += tail[i] ? above : below;
-        second += tail[i] ? below : above;
+        int8_t above = -(symbols[12 + i] > 0), below = -(symbols[12 + i] < 0), one = -tail[i];
+        first -= (above & one) | (below & ~one);
+        second -= (below & one) | (above & ~one);
     }
     return first >= least ? 1 : second >= least ? 0 : -1;
 }

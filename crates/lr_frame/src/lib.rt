@@ -9,5 +9,5 @@
 mod laws;
 mod work;
 
-pub use laws::{marker_is_the_tail, restored_frames_are_whole};
+pub use laws::{given_outcomes_stay, marker_is_the_tail, restored_frames_are_whole};
 pub use work::{FrameDone, FrameWork};
