@@ -24,7 +24,8 @@ pub(crate) struct Sight {
     pub held: Option<Frame>,
 }
 
-/// A place, and the polarity that has enough hits there. With no polarity, it is the first place without enough symbols behind it.
+/// A place, and the polarity that has enough hits there. With no polarity, it is the first place without enough symbols
+/// behind it.
 #[derive(Clone, Copy)]
 pub(crate) struct Spot {
     pub place: usize,
