@@ -9,7 +9,8 @@ use crate::marker::polarity_at;
 
 /// The hits at which a search locks.
 const LOCKING: u8 = 45;
-/// The hits at which a locked machine sees the marker.
+
+/// The hits at which a marker is seen right behind a frame.
 const SEEN: u8 = 37;
 
 /// The misses in succession that still give a frame.
@@ -27,13 +28,13 @@ pub(crate) struct Sight {
 /// A place, and the polarity that has enough hits there. With no polarity, it is the first place without enough symbols
 /// behind it.
 #[derive(Clone, Copy)]
-pub(crate) struct Spot {
-    pub place: usize,
-    pub positive: Option<bool>,
+struct Spot {
+    place: usize,
+    positive: Option<bool>,
 }
 
 /// The first place from `start` on with so many symbols behind it and 45 hits of one polarity.
-pub(crate) fn search(tail: &[bool; 52], symbols: &[i8], start: usize, needed: usize) -> Spot
+fn search(tail: &[bool; 52], symbols: &[i8], start: usize, needed: usize) -> Spot
     requires start { start ≤ length symbols.now }
     requires size { length symbols.now ≤ 65536 }
     requires needed { 16384 ≤ needed }
