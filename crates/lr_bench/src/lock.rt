@@ -1,6 +1,7 @@
 // Two coded frames, or as much noise, fed to a lock again and again; and the window of a frame, led to its outcome.
 ghost use Rattle.std.specs.Prelude.{◌≡◌, ◌+◌, length};
 
+use crate::shelf::Trouble;
 use lr_bits::{NoMemory, Outcome};
 use lr_block::{derandomise, encode_block};
 use lr_conv::Encoder;
@@ -8,7 +9,6 @@ use lr_frame::{FrameDone, FrameWork};
 use lr_gatecore::Work;
 use lr_lock::{Lock, Step, Window};
 use std::alloc::Global;
-use std::io;
 
 /// The symbols of two frames, which are fed at once.
 const SYMBOLS: usize = 32768;
@@ -107,21 +107,16 @@ fn checksum_of(alloc: Global, symbols: &[i8], rounds: u32) -> Result<Seen, NoMem
 }
 
 /// Works through the symbols of a name so many times, and prints what was found.
-fn find(rt: &(impl Print + AllocGlobal), name: &str, rounds: u32) -> io::Result<()> {
+fn find(rt: &(impl Print + AllocGlobal), name: &str, rounds: u32) -> Result<(), Trouble> {
     let symbols = if name == "noise" {
-        noise(rt.alloc())
+        noise(rt.alloc())?
     } else {
-        sent(rt.alloc())
+        sent(rt.alloc())?
     };
-    let Ok(symbols) = symbols else {
-        return Ok(());
-    };
-    let Ok(seen) = checksum_of(rt.alloc(), &symbols, rounds) else {
-        return Ok(());
-    };
+    let seen = checksum_of(rt.alloc(), &symbols, rounds)?;
     let windows = seen.windows;
     let sum = seen.sum;
-    println!(rt; "{name} {rounds} windows {windows} {sum:016x}")
+    Ok(println!(rt; "{name} {rounds} windows {windows} {sum:016x}")?)
 }
 
 /// The checksum with an outcome more: how many bytes were changed in each word, and the frame's first byte.
@@ -166,15 +161,13 @@ fn outcomes_of_sent(alloc: Global, rounds: u32) -> Result<u64, NoMemory> {
     Ok(outcomes(&mut work, window, rounds))
 }
 
-fn decode(rt: &(impl Print + AllocGlobal), rounds: u32) -> io::Result<()> {
-    let Ok(sum) = outcomes_of_sent(rt.alloc(), rounds) else {
-        return Ok(());
-    };
-    println!(rt; "frame {rounds} {sum:016x}")
+fn decode(rt: &(impl Print + AllocGlobal), rounds: u32) -> Result<(), Trouble> {
+    let sum = outcomes_of_sent(rt.alloc(), rounds)?;
+    Ok(println!(rt; "frame {rounds} {sum:016x}")?)
 }
 
 /// Does what the name says, where it is of the lock or of the work on frames.
-pub fn run(rt: &(impl Print + AllocGlobal), name: &str, rounds: u32) -> io::Result<()> {
+pub fn run(rt: &(impl Print + AllocGlobal), name: &str, rounds: u32) -> Result<(), Trouble> {
     if matches!(name, "noise" | "lock" | "all") {
         find(rt, "noise", rounds)?;
     }
