@@ -1,11 +1,14 @@
 //! Works through fixed input many times over, to be timed from outside.
 //!
 //! The words: a name and a number of rounds. `rs0`, `rs1`, `rs8`, `rs16` and `rs17` restore Reed-Solomon words with that many
-//! wrong bytes, `rs` all five in turn; `path` decodes windows of symbols; `shelf-memory` and `shelf-file` put that many small
-//! files on a new shelf, the latter in the file `shelf.bench` of the working folder, and `shelf-load` loads what stands there;
-//! `all` does all but the last two. A line for each says the rounds and what came of them, or a checksum of it.
+//! wrong bytes, `rs` all five in turn; `path` decodes windows of symbols; `noise` and `locked` feed 32,768 symbols to a lock
+//! that many times, `lock` does both, and `frame` leads the window of a frame to its outcome; `shelf-memory` and `shelf-file`
+//! put that many small files on a new shelf, the latter in the file `shelf.bench` of the working folder, and `shelf-load`
+//! loads what stands there; `all` does all but the last two. A line for each says the rounds and what came of them, or a
+//! checksum of it.
 #![tactic(auto)]
 
+mod lock;
 mod path;
 mod shelf;
 mod words;
@@ -23,5 +26,6 @@ fn main(rt: HostRuntime) -> Result<(), Trouble> {
     if matches!(name.as_str(), "path" | "all") {
         path::run(&rt, rounds)?;
     }
+    lock::run(&rt, name.as_str(), rounds)?;
     shelf::run(&rt, name.as_str(), u64::from(rounds))
 }

@@ -1,0 +1,8 @@
+use Rattle.lr_frame.proofs.Whole.{whole_of_block, whole_of_window}
+use Rattle.lr_frame.proofs.laws.restored_frames_are_whole.Goals as goal
+
+pub returns-clause-blocks : goal.returns-clause-blocks
+returns-clause-blocks c block frame corrected e = whole_of_block block frame corrected e
+
+pub returns-clause-windows : goal.returns-clause-windows
+returns-clause-windows c window frame corrected e = whole_of_window window frame corrected e

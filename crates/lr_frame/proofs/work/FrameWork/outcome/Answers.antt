@@ -1,0 +1,11 @@
+use Rattle.std.proofs.Common.{List, ℤ, ap, ◌∙◌}
+use Rattle.lr_block.specs.Outcomes.{outcome_of_block}
+use Rattle.lr_trellis.specs.Path.{nearest_path, bytes_of}
+use Rattle.lr_frame.specs.Outcomes.{outcome_of_window}
+use Rattle.lr_frame.proofs.work.FrameWork.outcome.Goals as goal
+
+pub returns : goal.returns
+unfolding outcome_of_window
+returns c =
+    c.outcome_of.ensures.value
+    ∙ ap outcome_of_block (c.nearest.ensures ∙ ap (λ (w : List ℤ). bytes_of (nearest_path w)) c.symbols.ensures.symbols)

@@ -1,0 +1,9 @@
+pub mod Frames
+pub mod FramesOf
+pub mod Hits
+pub mod Machine
+pub mod Sights
+pub mod Standing
+pub mod Steps
+pub mod Symbols
+pub mod Windows

@@ -1,0 +1,200 @@
+ghost use Rattle.std.specs.Prelude.{◌≡◌, ◌+◌, ◌-◌, ◌^◌, ◌≤◌, ◌++◌, ℤ, List, [], true, false, length, drop, IfOk, vec_capacity};
+ghost use Rattle.lr_lock.specs.Steps.{Answers};
+ghost use Rattle.lr_lock.specs.Standing.{StandsFor};
+ghost use Rattle.lr_lock.specs.Symbols.{symbol_of, symbols_of};
+ghost use Rattle.lr_lock.specs.declared.frame.Frame.{Frame};
+
+use crate::frame::Frame;
+use crate::looks::look;
+use crate::step::Step;
+use crate::window::Window;
+use lr_bits::NoMemory;
+use lr_conv::MARKER_TAIL;
+use std::alloc::Global;
+use std::marker::Model;
+
+/// The symbols that a lock keeps at most.
+const ROOM: usize = 65536;
+
+/// The symbols of a frame.
+const FRAME: usize = 16384;
+
+/// The symbols of the next marker that a window shows.
+const AHEAD: usize = 12;
+
+/// Finds the frames of a stream of symbols that is fed in pieces, and gives their windows in order.
+///
+/// It is a buffer, of which the first `passed` symbols are done with, and the frame that it stands behind, if it doesn't
+/// search.
+#[derive(Drop)]
+pub struct Lock {
+    tail: [bool; 52],
+    symbols: Vec<i8>,
+    passed: usize,
+    place: u64,
+    held: Option<Frame>,
+    finished: bool,
+}
+
+impl Model for Lock {
+    ghost use Rattle.std.specs.Prelude.{◌+◌, ◌-◌, ◌^◌, ◌≤◌, length, drop, vec_capacity};
+    ghost use Rattle.lr_lock.specs.Standing.{LockState};
+
+    ghost Value = { LockState };
+
+    ghost view = { λ l. record { tail = l.tail; place = l.place; kept = drop l.passed l.symbols.items; held = l.held; finished = l.finished } };
+
+    ghost invariant = { λ l. (l.passed ≤ length l.symbols.items) × (length l.symbols.items ≤ 65536) × (65536 ≤ vec_capacity l.symbols) × (l.place + (length l.symbols.items - l.passed) ≤ 2 ^ 62) };
+}
+
+/// Lets go of the first symbols.
+fn let_go(symbols: &mut Vec<i8>, passed: usize)
+    requires { passed ≤ length symbols.old.items }
+    ensures items { symbols.new.items ≡ drop passed symbols.old.items }
+    ensures capacity { vec_capacity symbols.new ≡ vec_capacity symbols.old }
+{
+    let left = symbols.len() - passed;
+    symbols.copy_within(passed.., 0);
+    symbols.truncate(left);
+}
+
+/// A byte read as a signed one.
+fn symbol_of_byte(byte: u8) -> i8
+    ensures { result ≡ symbol_of byte }
+{
+    byte.cast_signed()
+}
+
+/// Puts the bytes, read as signed ones, behind the symbols. There is room for them.
+fn put_bytes(symbols: &mut Vec<i8>, piece: &[u8])
+    requires room { length symbols.old.items + length piece.now ≤ 65536 }
+    requires capacity { 65536 ≤ vec_capacity symbols.old }
+    ensures items { symbols.new.items ≡ symbols.old.items ++ symbols_of piece.now }
+    ensures capacity { 65536 ≤ vec_capacity symbols.new }
+{
+    for byte in piece {
+        if symbols.push(symbol_of_byte(*byte)).is_err() {
+            unreachable!();
+        }
+    }
+}
+
+impl Lock {
+    /// A lock that searches from the start of a stream, for the marker of CCSDS 131.0-B, section 9.3.
+    pub fn new(alloc: Global) -> Result<Self, NoMemory>
+        ensures stands { IfOk result (λ lock. StandsFor lock [] []) }
+        ensures tail { IfOk result (λ lock. lock.tail ≡ MARKER_TAIL) }
+        ensures unfinished { IfOk result (λ lock. lock.finished ≡ false) }
+    {
+        let symbols = Vec::with_capacity(alloc, ROOM)?;
+        Ok(Lock {
+            tail: MARKER_TAIL,
+            symbols,
+            passed: 0,
+            place: 0,
+            held: None,
+            finished: false,
+        })
+    }
+
+    /// How many symbols may be fed.
+    pub fn room(&self) -> usize
+        ensures { result + length self.now.kept ≡ 65536 }
+    {
+        ROOM - (self.symbols.len() - self.passed)
+    }
+
+    /// The symbols that are kept.
+    fn kept(&self) -> &[i8]
+        ensures { result.now ≡ self.now.kept }
+    {
+        &self.symbols[self.passed..]
+    }
+
+    /// Keeps the piece behind the symbols kept.
+    fn append(&mut self, piece: &[i8])
+        requires room { length self.old.kept + length piece.now ≤ 65536 }
+        requires in_all { self.old.place + length self.old.kept + length piece.now ≤ 2 ^ 62 }
+        ensures { self.new ≡ record self.old { kept = self.old.kept ++ piece.now } }
+    {
+        if self.symbols.len() + piece.len() > ROOM {
+            let_go(&mut self.symbols, self.passed);
+            self.passed = 0;
+        }
+        if self.symbols.extend_from_slice(piece).is_err() {
+            unreachable!();
+        }
+    }
+
+    /// Keeps the bytes, read as signed ones, behind the symbols kept.
+    fn append_bytes(&mut self, piece: &[u8])
+        requires room { length self.old.kept + length piece.now ≤ 65536 }
+        requires in_all { self.old.place + length self.old.kept + length piece.now ≤ 2 ^ 62 }
+        ensures { self.new ≡ record self.old { kept = self.old.kept ++ symbols_of piece.now } }
+    {
+        if self.symbols.len() + piece.len() > ROOM {
+            let_go(&mut self.symbols, self.passed);
+            self.passed = 0;
+        }
+        put_bytes(&mut self.symbols, piece);
+    }
+
+    /// Feeds the next symbols of the stream: at most `room`, and at most 2^62 in all.
+    pub fn feed(&mut self, piece: &[i8])
+        requires unfinished { self.old.finished ≡ false }
+        requires room { length self.old.kept + length piece.now ≤ 65536 }
+        requires in_all { self.old.place + length self.old.kept + length piece.now ≤ 2 ^ 62 }
+        ensures value { self.new ≡ record self.old { kept = self.old.kept ++ piece.now } }
+        ensures stands { (fed : List ℤ) (given : List Frame) → StandsFor self.old fed given → StandsFor self.new (fed ++ piece.now) given }
+    {
+        self.append(piece);
+    }
+
+    /// Feeds the next symbols of the stream, each in a byte that is read as a signed one.
+    pub fn feed_bytes(&mut self, piece: &[u8])
+        requires unfinished { self.old.finished ≡ false }
+        requires room { length self.old.kept + length piece.now ≤ 65536 }
+        requires in_all { self.old.place + length self.old.kept + length piece.now ≤ 2 ^ 62 }
+        ensures value { self.new ≡ record self.old { kept = self.old.kept ++ symbols_of piece.now } }
+        ensures stands { (fed : List ℤ) (given : List Frame) → StandsFor self.old fed given → StandsFor self.new (fed ++ symbols_of piece.now) given }
+    {
+        self.append_bytes(piece);
+    }
+
+    /// Says that no more symbols will be fed.
+    pub fn finish(&mut self)
+        ensures value { self.new ≡ record self.old { finished = true } }
+        ensures stands { (fed : List ℤ) (given : List Frame) → StandsFor self.old fed given → StandsFor self.new fed given }
+    {
+        self.finished = true;
+    }
+
+    /// Shows the next frame in the window. Until the stream is finished, a frame is given once its window's last twelve
+    /// symbols, which are the next marker's, were fed too; where it answers `More`, there is room for 49,141 symbols.
+    pub fn next_window(&mut self, window: &mut Window) -> Step
+        ensures answers { (fed : List ℤ) (given : List Frame) → StandsFor self.old fed given → Answers self.old self.new window.new fed given result }
+        ensures tail { self.new.tail ≡ self.old.tail }
+        ensures finished { self.new.finished ≡ self.old.finished }
+        ensures fed { self.new.place + length self.new.kept ≡ self.old.place + length self.old.kept }
+        ensures passes { length self.new.kept ≤ length self.old.kept }
+        ensures shorter { result ≡ Step.Window → length self.new.kept + 16384 ≤ length self.old.kept }
+    {
+        let needed = if self.finished { FRAME } else { FRAME + AHEAD };
+        let sight = look(&self.tail, self.kept(), self.place, self.held, needed);
+        self.passed += sight.passed;
+        self.place += sight.passed as u64;
+        match sight.frame {
+            Some(frame) => {
+                window.show(frame, self.kept());
+                self.passed += FRAME;
+                self.place += FRAME as u64;
+                self.held = Some(frame);
+                Step::Window
+            }
+            None => {
+                self.held = sight.held;
+                if self.finished { Step::End } else { Step::More }
+            }
+        }
+    }
+}
