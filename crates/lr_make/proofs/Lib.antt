@@ -1,0 +1,4 @@
+pub mod Drawn
+pub mod Heads
+pub mod Joining
+pub mod Sources

@@ -1,6 +1,6 @@
 -- The blocks of the stream, with some wrong bytes (CCSDS 131.0-B, section 4 and the pseudo-randomiser).
-use Rattle.std.specs.Prelude.{ℕ, zero, suc, ◌+◌, ◌*◌, ◌/◌, ◌%◌, ◌==◌, ◌&&◌, ◌++◌, Bool, nat_lt, nat_eq, unwrap_or, bit_xor, List, [], map, slice_index, if◌then◌else◌}
-use Rattle.std.specs.List.{range_with_len, find, list_all, starts_with}
+use Rattle.std.specs.Prelude.{ℕ, ◌*◌, ◌/◌, ◌%◌, ◌==◌, ◌&&◌, Bool, nat_lt, unwrap_or, bit_xor, List, [], map, slice_index, if◌then◌else◌}
+use Rattle.std.specs.List.{range_with_len, find, list_all}
 use Rattle.lr_gf.specs.Field.{power}
 use Rattle.lr_rs.specs.Words.{word_value}
 use Rattle.lr_block.specs.Blocks.{word_of}
@@ -11,7 +11,7 @@ use Rattle.lr_make.specs.Frames.{frame_at}
 -- whether a block of 1,020 bytes begins with the frame, and its four words are codewords
 unfoldable pub is_encoded : List ℕ → List ℕ → Bool
 is_encoded frame block =
-    starts_with nat_eq block frame
+    list_all (λ i. slice_index block i == slice_index frame i) (range_with_len 0 892)
     && list_all (λ k. list_all (λ j. word_value (word_of block k) (power 2 (11 * j)) == 0) (range_with_len 112 32)) (range_with_len 0 4)
 
 -- The block of a frame, without the randomiser: the one among all blocks. No program computes this function.

@@ -1,6 +1,6 @@
 -- What stands for how much of the stream. Callers need `StandsFor` alone, and nothing of what is in it; only functions inside
 -- the crate speak of the rest.
-use Rattle.std.specs.Prelude.{◌≡◌, ℕ, ◌+◌, ◌-◌, ◌*◌, ◌/◌, ◌%◌, ◌^◌, ◌<◌, ◌≤◌, ◌++◌, Bool, false, ℤ, min, List, length, map, drop, replicate, slice_index}
+use Rattle.std.specs.Prelude.{◌≡◌, ℕ, ◌+◌, ◌-◌, ◌*◌, ◌/◌, ◌%◌, ◌^◌, ◌<◌, ◌≤◌, ◌++◌, ◌==◌, ◌&&◌, if◌then◌else◌, Bool, false, ℤ, min, List, length, map, drop, replicate, slice_index}
 use Rattle.lr_conv.specs.Convolution.{code}
 use Rattle.lr_conv.specs.Encoder as encoders
 use Rattle.lr_make.specs.declared.channel.Channel.{Channel}
@@ -11,9 +11,10 @@ use Rattle.lr_make.specs.declared.source.Source.{Source}
 use Rattle.lr_make.specs.declared.source.Source.TheVariants as sources
 use Rattle.lr_make.specs.declared.texts.Texts.{Texts}
 use Rattle.lr_make.specs.Drawing.{state_after}
-use Rattle.lr_make.specs.Files.{image_packet, text_packet}
+use Rattle.lr_make.specs.Files.{image_body, image_flags, image_packet, text_packet}
 use Rattle.lr_make.specs.Frames.{text_start}
-use Rattle.lr_make.specs.Streams.{joined}
+use Rattle.lr_make.specs.Packets.{head_of}
+use Rattle.lr_make.specs.Streams.{joined, is_start}
 use Rattle.lr_make.specs.Symbols.{level, sent_bits}
 
 -- so many packets of application 100 were made
@@ -22,6 +23,18 @@ pub record ImagesStandFor (images : Images) (start n : ℕ) : Type 0 where
   pub place : images.place ≡ n % 65
   pub count : images.count ≡ n % 16384
   pub draws : images.draws ≡ state_after start (4096 * (n / 65) + 64 * (n % 65 - 1))
+
+-- the same, and the bytes of the next one are drawn
+pub record ImagesDrawn (images : Images) (start n : ℕ) : Type 0 where
+  pub counter : images.counter ≡ n / 65 % 65536
+  pub place : images.place ≡ n % 65
+  pub count : images.count ≡ n % 16384
+  pub draws : images.draws ≡ state_after start (4096 * (n / 65) + 64 * (n % 65))
+
+-- packet n of application 100 without its checksum
+abbrev pub image_front : ℕ → ℕ → List ℕ
+image_front start n =
+    head_of 100 (image_flags (n % 65)) (n % 16384) (length (image_body start (n / 65) (n % 65))) ++ image_body start (n / 65) (n % 65)
 
 -- so many packets of application 200 were made
 pub record TextsStandFor (texts : Texts) (start n : ℕ) : Type 0 where
@@ -49,6 +62,11 @@ pub record ChannelStandsFor (channel : Channel) (packets : ℕ → List ℕ) (pl
 -- the byte at a place of these packets, joined; each of them has some byte
 abbrev pub byte_at : (ℕ → List ℕ) → ℕ → ℕ
 byte_at packets place = slice_index (joined packets (place + 1)) place
+
+-- The pointer with one place more of the zone, at this place of the packets, joined: where no packet started yet, and one does
+-- there, it is that place.
+abbrev pub pointer_more : (ℕ → List ℕ) → ℕ → ℕ → ℕ → ℕ
+pointer_more packets place pointer in_zone = if (pointer == 2047) && is_start packets place then in_zone else pointer
 
 -- how many of the first n frames are of channel 0, and of channel 5
 abbrev pub image_frames : ℕ → ℕ

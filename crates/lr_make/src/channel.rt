@@ -1,5 +1,4 @@
-ghost use Rattle.std.specs.Prelude.{◌≡◌, ◌<◌, ◌≤◌, ◌+◌, ◌*◌, ◌%◌, ◌^◌, ◌↔◌, ℕ, List, IsTrue, length};
-ghost use Rattle.lr_make.specs.Frames.{packet_frame};
+ghost use Rattle.std.specs.Prelude.{◌≡◌, ◌<◌, ◌≤◌, ◌+◌, ◌*◌, ◌^◌, ℕ, List, length};
 ghost use Rattle.lr_make.specs.Streams.{is_start, pointer_at, zone_at};
 
 use crate::packet::Packet;
@@ -23,7 +22,7 @@ pub struct Channel {
 }
 
 impl Channel {
-    ghost use Rattle.lr_make.specs.Standing.{ChannelStandsFor, SourceStandsFor, byte_at};
+    ghost use Rattle.lr_make.specs.Standing.{ChannelStandsFor, SourceStandsFor, byte_at, pointer_more};
 
     /// A channel that has sent nothing.
     pub fn new(source: Source) -> Channel
@@ -43,18 +42,33 @@ impl Channel {
         self.sent == self.packet.len()
     }
 
+    /// The pointer of a zone with one place more, where the next byte will stand.
+    fn pointer_after(&self, pointer: u16, in_zone: u16) -> u16
+        requires pointer { pointer < 2 ^ 11 }
+        requires in_zone { in_zone < 2 ^ 11 }
+        ensures small { result < 2 ^ 11 }
+        ensures value { (packets : ℕ → List ℕ) (place : ℕ) → ChannelStandsFor self.now packets place → result ≡ pointer_more packets place pointer in_zone }
+    {
+        if pointer == NO_START && self.is_at_start() {
+            in_zone
+        } else {
+            pointer
+        }
+    }
+
     /// The next byte.
     fn next_byte(&mut self) -> u8
         ensures byte { (packets : ℕ → List ℕ) (place : ℕ) → ChannelStandsFor self.old packets place → result ≡ byte_at packets place }
         ensures moves { (packets : ℕ → List ℕ) (place : ℕ) → ChannelStandsFor self.old packets place → ChannelStandsFor self.new packets (place + 1) }
     {
-        if self.sent == self.packet.len() {
-            next_packet(&mut self.source, &mut self.packet);
-            self.sent = 0;
+        if self.sent < self.packet.len() {
+            let byte = self.packet.byte(self.sent);
+            self.sent += 1;
+            return byte;
         }
-        let byte = self.packet.byte(self.sent);
-        self.sent += 1;
-        byte
+        next_packet(&mut self.source, &mut self.packet);
+        self.sent = 1;
+        self.packet.byte(0)
     }
 
     /// Fills the next zone, and answers its pointer.
@@ -66,9 +80,7 @@ impl Channel {
     {
         let mut pointer = NO_START;
         for place in 0..ZONE_BYTES {
-            if pointer == NO_START && self.is_at_start() {
-                pointer = place as u16;
-            }
+            pointer = self.pointer_after(pointer, place as u16);
             zone[place] = self.next_byte();
         }
         pointer

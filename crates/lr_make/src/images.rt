@@ -1,4 +1,4 @@
-ghost use Rattle.std.specs.Prelude.{◌≡◌, ◌<◌, ◌+◌, ◌%◌, ◌^◌, ◌++◌, ℕ, length};
+ghost use Rattle.std.specs.Prelude.{◌≡◌, ◌<◌, ◌≤◌, ◌+◌, ◌%◌, ◌^◌, ◌++◌, ℕ, length};
 ghost use Rattle.lr_make.specs.Drawing.{drawn_bytes, state_after};
 ghost use Rattle.lr_make.specs.Files.{image_flags, image_headers, image_packet};
 
@@ -36,7 +36,7 @@ pub struct Images {
 }
 
 impl Images {
-    ghost use Rattle.lr_make.specs.Standing.{ImagesStandFor};
+    ghost use Rattle.lr_make.specs.Standing.{ImagesDrawn, ImagesStandFor, image_front};
 
     /// The files from the first on, of a generator that starts so.
     pub fn new(start: u64) -> Images
@@ -55,6 +55,18 @@ impl Images {
         ensures packet { (start n : ℕ) → ImagesStandFor self.old start n → packet.new ≡ image_packet start n }
         ensures moves { (start n : ℕ) → ImagesStandFor self.old start n → ImagesStandFor self.new start (n + 1) }
     {
+        self.put_front(packet);
+        packet.end();
+        self.advance();
+    }
+
+    /// Puts the header and the body of the next packet in the place of another.
+    fn put_front(&mut self, packet: &mut Packet)
+        ensures some { 6 ≤ length packet.new }
+        ensures room { length packet.new ≤ 243 }
+        ensures front { (start n : ℕ) → ImagesStandFor self.old start n → packet.new ≡ image_front start n }
+        ensures moves { (start n : ℕ) → ImagesStandFor self.old start n → ImagesDrawn self.new start n }
+    {
         let flags = flags_of(self.place);
         if self.place == 0 {
             packet.begin(IMAGES, flags, self.count, HEADERS.len() as u16 + 2);
@@ -63,7 +75,12 @@ impl Images {
             packet.begin(IMAGES, flags, self.count, LINE_BYTES);
             put_line(packet, &mut self.draws);
         }
-        packet.end();
+    }
+
+    /// Goes on to the packet behind the one that was drawn.
+    fn advance(&mut self)
+        ensures { (start n : ℕ) → ImagesDrawn self.old start n → ImagesStandFor self.new start (n + 1) }
+    {
         self.count = (self.count + 1) % 16_384;
         self.place += 1;
         if self.place == FILE_PACKETS {
@@ -87,7 +104,8 @@ fn flags_of(place: u8) -> u16
 /// Appends the headers of a file.
 fn put_headers(packet: &mut Packet, counter: u16)
     requires { length packet.old < 7 }
-    ensures { (k : ℕ) → counter ≡ k % 65536 → packet.new ≡ packet.old ++ image_headers k }
+    ensures size { length packet.new ≡ length packet.old + 35 }
+    ensures bytes { (k : ℕ) → counter ≡ k % 65536 → packet.new ≡ packet.old ++ image_headers k }
 {
     packet.extend(&counter.to_be_bytes());
     packet.extend(&HEADERS);
@@ -96,6 +114,7 @@ fn put_headers(packet: &mut Packet, counter: u16)
 /// Appends 64 drawn bytes.
 fn put_line(packet: &mut Packet, draws: &mut Draws)
     requires { length packet.old < 7 }
+    ensures size { length packet.new ≡ length packet.old + 64 }
     ensures bytes { (start n : ℕ) → draws.old ≡ state_after start n → packet.new ≡ packet.old ++ drawn_bytes start n 64 }
     ensures draws { (start n : ℕ) → draws.old ≡ state_after start n → draws.new ≡ state_after start (n + 64) }
 {

@@ -70,7 +70,8 @@ impl Texts {
 fn put_headers(packet: &mut Packet, counter: u16, number: u16)
     requires room { length packet.old < 7 }
     requires number { number < 10000 }
-    ensures { (k : ℕ) → counter ≡ k % 65536 → number ≡ k % 10000 → packet.new ≡ packet.old ++ text_headers k }
+    ensures size { length packet.new ≡ length packet.old + 37 }
+    ensures bytes { (k : ℕ) → counter ≡ k % 65536 → number ≡ k % 10000 → packet.new ≡ packet.old ++ text_headers k }
 {
     packet.extend(&counter.to_be_bytes());
     packet.extend(&HEADERS);
@@ -93,6 +94,7 @@ fn digits_of(number: u16) -> [u8; 4]
 /// Appends 200 drawn bytes from 32 to 95.
 fn put_text(packet: &mut Packet, draws: &mut Draws)
     requires { length packet.old < 44 }
+    ensures size { length packet.new ≡ length packet.old + 200 }
     ensures bytes { (start n : ℕ) → draws.old ≡ state_after start n → packet.new ≡ packet.old ++ text_bytes start n 200 }
     ensures draws { (start n : ℕ) → draws.old ≡ state_after start n → draws.new ≡ state_after start (n + 200) }
 {
