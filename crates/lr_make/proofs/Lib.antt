@@ -1,3 +1,4 @@
+pub mod Coding
 pub mod Drawn
 pub mod Heads
 pub mod Joining

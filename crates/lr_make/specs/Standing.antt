@@ -82,6 +82,13 @@ pub record FramesStandFor (frames : Frames) (start n : ℕ) : Type 0 where
   pub round : frames.round ≡ n / 4 % 2 ^ 24
   pub turn : frames.turn ≡ n % 4
 
+-- the same, and the channel of the next frame has sent its zone
+pub record FramesSent (frames : Frames) (start n : ℕ) : Type 0 where
+  pub images : ChannelStandsFor frames.images (image_packet start) (884 * image_frames (n + 1))
+  pub texts : ChannelStandsFor frames.texts (text_packet (text_start start)) (884 * text_frames (n + 1))
+  pub round : frames.round ≡ n / 4 % 2 ^ 24
+  pub turn : frames.turn ≡ n % 4
+
 -- these are the symbols that further bits add to the code of some bits
 abbrev pub IsCodeOf : List Bool → List Bool → List Bool → List ℤ → Type 0
 IsCodeOf past bits more symbols = symbols ≡ map level (drop (2 * length bits) (code past (bits ++ more)))

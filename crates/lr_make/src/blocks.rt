@@ -1,7 +1,6 @@
-ghost use Rattle.std.specs.Prelude.{◌≡◌, ◌≤◌, ◌<◌, ℕ, List};
-ghost use Rattle.lr_block.specs.Blocks.{IsEncoded};
+ghost use Rattle.std.specs.Prelude.{◌≡◌};
 ghost use Rattle.lr_block.specs.Randomiser.{randomised_block};
-ghost use Rattle.lr_make.specs.Blocks.{damaged_block, encoded_block};
+ghost use Rattle.lr_make.specs.Blocks.{damaged_block, damaged_byte, encoded_block};
 
 use crate::frames::FRAME_BYTES;
 use lr_block::{derandomise, encode_block};
@@ -9,14 +8,23 @@ use lr_block::{derandomise, encode_block};
 /// The bytes of a block.
 pub const BLOCK_BYTES: usize = 1020;
 
+/// The byte at a place of a word, made wrong where it is to be.
+fn damaged(byte: u8, place: usize, wrong: u8) -> u8
+    ensures { result ≡ damaged_byte wrong place byte }
+{
+    if place % 15 == 0 && place < 15 * usize::from(wrong) {
+        byte ^ 0x5A
+    } else {
+        byte
+    }
+}
+
 /// Makes so many bytes of each of the block's four words wrong.
 fn damage(block: &mut [u8; BLOCK_BYTES], wrong: u8)
     ensures { block.new ≡ damaged_block wrong block.old }
 {
     for i in 0..BLOCK_BYTES {
-        if i / 4 % 15 == 0 && i / 4 < 15 * usize::from(wrong) {
-            block[i] ^= 0x5A;
-        }
+        block[i] = damaged(block[i], i / 4, wrong);
     }
 }
 

@@ -33,7 +33,7 @@ pub struct Frames {
 
 impl Frames {
     ghost use Rattle.lr_make.specs.Frames.{frame_at};
-    ghost use Rattle.lr_make.specs.Standing.{FramesStandFor};
+    ghost use Rattle.lr_make.specs.Standing.{FramesSent, FramesStandFor};
 
     /// The frames from the first on.
     pub fn new(start: u64) -> Frames
@@ -52,6 +52,15 @@ impl Frames {
         ensures frame { (start n : ℕ) → FramesStandFor self.old start n → frame.new ≡ frame_at start n }
         ensures moves { (start n : ℕ) → FramesStandFor self.old start n → FramesStandFor self.new start (n + 1) }
     {
+        self.put_next(frame);
+        self.advance();
+    }
+
+    /// Writes the next frame, and moves the channel on whose it is.
+    fn put_next(&mut self, frame: &mut [u8; FRAME_BYTES])
+        ensures frame { (start n : ℕ) → FramesStandFor self.old start n → frame.new ≡ frame_at start n }
+        ensures moves { (start n : ℕ) → FramesStandFor self.old start n → FramesSent self.new start n }
+    {
         let mut zone = [0; ZONE_BYTES];
         match self.turn {
             0 | 1 => {
@@ -65,6 +74,12 @@ impl Frames {
             }
             _ => put_frame(frame, 63, self.round, FILL, &zone),
         }
+    }
+
+    /// Goes on to the frame behind the one that was sent.
+    fn advance(&mut self)
+        ensures { (start n : ℕ) → FramesSent self.old start n → FramesStandFor self.new start (n + 1) }
+    {
         self.turn += 1;
         if self.turn == 4 {
             self.turn = 0;

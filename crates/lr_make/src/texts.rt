@@ -53,6 +53,7 @@ impl Texts {
 
     /// Puts the next packet in the place of another.
     pub fn next_packet(&mut self, packet: &mut Packet)
+        ensures some { 0 < length packet.new }
         ensures packet { (start n : ℕ) → TextsStandFor self.old start n → packet.new ≡ text_packet start n }
         ensures moves { (start n : ℕ) → TextsStandFor self.old start n → TextsStandFor self.new start (n + 1) }
     {
