@@ -1,5 +1,5 @@
 -- The block of a frame is the one that is found among all blocks.
-use Rattle.std.proofs.Common.{◌≡◌, ℕ, ◌+◌, ◌*◌, ◌<◌, Bool, true, false, eqb, Some, None, unwrap_or, List, [], length, take, get_or, inl, inr, refl, sym, ap, ◌∙◌, arith, length-take-le}
+use Rattle.std.proofs.Common.{◌≡◌, ℕ, ◌+◌, ◌*◌, ◌/◌, ◌%◌, ◌<◌, Bool, true, false, eqb, Some, None, unwrap_or, List, [], length, take, get_or, inl, inr, refl, sym, ap, ◌∙◌, arith, length-take-le}
 use Rattle.std.specs.List.{range_with_len, find, list_all}
 use Rattle.std.proofs.lemmas.Bool.{and_parts, and_from, eqb-true, eq-eqb, false≢true}
 use Rattle.std.proofs.lemmas.Grind.{same_number_lists}
@@ -68,7 +68,14 @@ passed frame block f long bytes t =
 
 -- an encoded block has bytes
 encoded_bytes : (frame block : List ℕ) → IsEncoded frame block → (i : ℕ) → i < 1020 → get_or block i 0 < 256
-encoded_bytes frame block e i h = ?
+encoded_bytes frame block e i h =
+    let place : 4 * (i / 4) + i % 4 ≡ i = omega arith in
+    omega (
+      arith,
+      ap (λ k. get_or block k 0) place,
+      get_or-every_fourth 255 block (i % 4) (i / 4) (omega arith),
+      (e.words (i % 4) (omega arith)).bytes (i / 4) (omega arith),
+    )
 
 -- the only encoded block of a frame is the one that is found
 pub encoded_block-is : (frame block : List ℕ) → length frame ≡ 892 → IsEncoded frame block → ((b : List ℕ) → IsEncoded frame b → b ≡ block) → block ≡ encoded_block frame

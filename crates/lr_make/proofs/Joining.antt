@@ -9,7 +9,7 @@ use Rattle.std.proofs.lemmas.List.{drop-drop, get_or-drop, get_or-take, get_or_a
 use Rattle.std.proofs.lemmas.List.Folds.{find-append}
 use Rattle.std.proofs.lemmas.List.FromFn.{map-range_with_len_more}
 use Rattle.lr_block.proofs.Searching.{cases_first}
-use Rattle.lr_make.specs.Streams.{joined, zone_at, is_start, pointer_at}
+use Rattle.lr_make.specs.Zones.{joined, zone_at, is_start, pointer_at}
 use Rattle.lr_make.specs.Standing.{byte_at, pointer_more}
 
 -- each packet has some byte

@@ -4,4 +4,5 @@ pub mod Encoding
 pub mod Heads
 pub mod Joining
 pub mod Rounds
+pub mod Sending
 pub mod Sources

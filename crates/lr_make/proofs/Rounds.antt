@@ -4,7 +4,7 @@ use Rattle.std.proofs.lemmas.Bool.{cases_eq}
 use Rattle.lr_make.specs.Files.{image_packet, text_packet}
 use Rattle.lr_make.specs.Frames.{frame_of, packet_frame, fill_frame, text_start, frame_of_round, frame_at}
 use Rattle.lr_make.specs.Standing.{image_frames, text_frames}
-use Rattle.lr_make.specs.Streams.{zone_at, pointer_at}
+use Rattle.lr_make.specs.Zones.{zone_at, pointer_at}
 
 frame_at-turn : (start n j : ℕ) → n % 4 ≡ j → frame_at start n ≡ frame_of_round start (n / 4) j
 unfolding frame_at

@@ -4,5 +4,6 @@ pub mod Files
 pub mod Frames
 pub mod Packets
 pub mod Standing
-pub mod Streams
+pub mod Stream
 pub mod Symbols
+pub mod Zones

@@ -14,7 +14,7 @@ use Rattle.lr_make.specs.Drawing.{state_after}
 use Rattle.lr_make.specs.Files.{image_body, image_flags, image_packet, text_packet}
 use Rattle.lr_make.specs.Frames.{text_start}
 use Rattle.lr_make.specs.Packets.{head_of}
-use Rattle.lr_make.specs.Streams.{joined, is_start}
+use Rattle.lr_make.specs.Zones.{joined, is_start}
 use Rattle.lr_make.specs.Symbols.{level, sent_bits}
 
 -- so many packets of application 100 were made

@@ -3,7 +3,6 @@ use Rattle.std.specs.Prelude.{◌≡◌, ℕ, ℤ, pos, negsuc, zero, suc, ◌+�
 use Rattle.std.specs.List.{range_with_len}
 use Rattle.lr_bits.specs.Bits.{bit_of}
 use Rattle.lr_conv.specs.Convolution.{code}
-use Rattle.lr_make.specs.Frames.{frame_at}
 use Rattle.lr_make.specs.Blocks.{block_at}
 
 -- all bits of these bytes, the most significant of each byte first
@@ -31,20 +30,3 @@ all_symbols start wrong n = map level (code (replicate 6 false) (sent_bits start
 -- the symbols of frame n: of the code of the first n + 1 frames what is behind the code of the first n
 unfoldable pub symbols_at : ℕ → ℕ → ℕ → List ℤ
 symbols_at start wrong n = drop (16384 * n) (all_symbols start wrong (n + 1))
-
--- the frames, blocks and symbols of the first n frames, joined
-unfoldable pub frame_stream : ℕ → ℕ → List ℕ
-frame_stream start zero = []
-frame_stream start (suc n) = frame_stream start n ++ frame_at start n
-
-unfoldable pub block_stream : ℕ → ℕ → ℕ → List ℕ
-block_stream start wrong zero = []
-block_stream start wrong (suc n) = block_stream start wrong n ++ block_at start wrong n
-
-unfoldable pub symbol_stream : ℕ → ℕ → ℕ → List ℤ
-symbol_stream start wrong zero = []
-symbol_stream start wrong (suc n) = symbol_stream start wrong n ++ symbols_at start wrong n
-
--- the law: the symbols of the first n frames, joined, are the one code of all that is sent of them
-abbrev pub SymbolsAreOneCode : Type 0
-SymbolsAreOneCode = (start wrong n : ℕ) → symbol_stream start wrong n ≡ all_symbols start wrong n

@@ -12,10 +12,12 @@ mod channel;
 mod draws;
 mod frames;
 mod images;
+mod laws;
 mod maker;
 mod packet;
 mod source;
 mod symbols;
 mod texts;
 
+pub use laws::symbols_are_one_code;
 pub use maker::Maker;

@@ -2,7 +2,7 @@ use Rattle.std.proofs.Common.{◌≡◌, ◌∙◌, ◌+◌, ◌*◌, ℕ, List,
 use Rattle.std.proofs.lemmas.Bool.{cases_eq}
 use Rattle.std.proofs.lemmas.List.{get_or-set_same, get_or-set_other}
 use Rattle.lr_make.specs.Standing.{ChannelStandsFor, byte_at, pointer_more}
-use Rattle.lr_make.specs.Streams.{pointer_at}
+use Rattle.lr_make.specs.Zones.{pointer_at}
 use Rattle.lr_make.proofs.Joining.{pointer_before, pointer_before-more, zone_at-by_bytes}
 use Rattle.lr_make.proofs.Sources.{have_bytes}
 use Rattle.lr_make.proofs.channel.Channel.fill.Goals as goal

@@ -1,5 +1,5 @@
 use Rattle.std.proofs.Common.{arith, refl}
-use Rattle.lr_make.specs.Streams.{joined}
+use Rattle.lr_make.specs.Zones.{joined}
 use Rattle.lr_make.proofs.channel.Channel.new.Goals as goal
 
 pub returns : goal.returns

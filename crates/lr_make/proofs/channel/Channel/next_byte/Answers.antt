@@ -1,7 +1,7 @@
 use Rattle.std.proofs.Common.{◌≡◌, ◌∙◌, ◌+◌, ℕ, List, length, inl, inr, arith, sym, ap}
 use Rattle.std.proofs.lemmas.Bool.{cases_lt}
 use Rattle.lr_make.specs.Standing.{ChannelStandsFor}
-use Rattle.lr_make.specs.Streams.{joined}
+use Rattle.lr_make.specs.Zones.{joined}
 use Rattle.lr_make.proofs.Joining.{taken, opened, all_sent}
 use Rattle.lr_make.proofs.Sources.{have_bytes}
 use Rattle.lr_make.proofs.channel.Channel.next_byte.Goals as goal
