@@ -1,5 +1,5 @@
 -- The symbols that more bits add to a code.
-use Rattle.std.proofs.Common.{◌≡◌, ℕ, zero, suc, ◌+◌, ◌-◌, ◌*◌, ◌/◌, ◌%◌, ◌^◌, ◌<◌, ◌≤◌, Bool, true, false, eqb, nat_eq, ℤ, List, [], ◌∷◌, ◌++◌, length, take, drop, get_or, map, set, refl, sym, ap, ◌∙◌, arith, length-set, append-nil, append_assoc, length-append, length-drop, bit_and}
+use Rattle.std.proofs.Common.{◌≡◌, ℕ, zero, suc, ◌+◌, ◌-◌, ◌*◌, ◌/◌, ◌%◌, ◌^◌, ◌<◌, ◌≤◌, Bool, nat_eq, ℤ, List, [], ◌∷◌, ◌++◌, length, take, drop, get_or, map, set, refl, sym, ap, ◌∙◌, arith, length-set, append-nil, append_assoc, length-append, length-drop, bit_and}
 use Rattle.std.proofs.Math.Seq.{drop-append-add}
 use Rattle.std.proofs.lemmas.Nat.{and_mask}
 use Rattle.std.specs.Int.{bit_at}
@@ -29,11 +29,10 @@ code-more past x b six =
     let n : ℕ = length x in
     let size : length t ≡ n + 6 = omega (arith, length-append past x, six) in
     let more : length (x ++ b ∷ []) ≡ suc n = omega (arith, length-append x (b ∷ [])) in
-    let all : past ++ (x ++ b ∷ []) ≡ t ++ b ∷ [] = sym (append_assoc past x (b ∷ [])) in
-    (
+    let all : past ++ (x ++ b ∷ []) ≡ t ++ b ∷ [] = sym (append_assoc past x (b ∷ [])) in (
       first_symbol (t ++ b ∷ []) n ∷ second_symbol (t ++ b ∷ []) n ∷ [],
       ap (λ z. symbols z (length (x ++ b ∷ []))) all ∙ ap (symbols (t ++ b ∷ [])) more
-      ∙ ap (λ z. z ++ first_symbol (t ++ b ∷ []) n ∷ second_symbol (t ++ b ∷ []) n ∷ []) (symbols-more b t n (omega (arith, size))),
+          ∙ ap (λ z. z ++ first_symbol (t ++ b ∷ []) n ∷ second_symbol (t ++ b ∷ []) n ∷ []) (symbols-more b t n (omega (arith, size))),
     )
 
 -- nor do more bits change them
@@ -41,8 +40,7 @@ pub code-front : (past x y : List Bool) → length past ≡ 6 → (rest : List B
 code-front past x [] six = ([], ap (code past) (append-nil x) ∙ sym (append-nil (code past x)))
 code-front past x (b ∷ y) six =
     let one = code-more past x b six in
-    let rest = code-front past (x ++ b ∷ []) y six in
-    (
+    let rest = code-front past (x ++ b ∷ []) y six in (
       one.0 ++ rest.0,
       ap (code past) (sym (append_assoc x (b ∷ []) y)) ∙ rest.1 ∙ ap (λ z. z ++ rest.0) one.1 ∙ append_assoc (code past x) one.0 rest.0,
     )
@@ -77,13 +75,13 @@ symbols_more past bits bytes n first second old long small done pushed =
     let before : List Bool = code past (bits ++ first_bits bytes n) in
     let twice : 2 * (n + 1) ≡ 2 * n + 1 + 1 = omega arith in
     let written : take (2 * (n + 1)) (set (set old (2 * n) u) (2 * n + 1) v) ≡ take (2 * n) old ++ u ∷ v ∷ [] =
-        ap (λ k. take k (set (set old (2 * n) u) (2 * n + 1) v)) twice
-        ∙ take_more_set (set old (2 * n) u) (2 * n + 1) v (omega (arith, length-set old (2 * n) u))
-        ∙ ap (λ z. z ++ v ∷ []) (take_more_set old (2 * n) u (omega arith)) ∙ append_assoc (take (2 * n) old) (u ∷ []) (v ∷ []) in
+    ap (λ k. take k (set (set old (2 * n) u) (2 * n + 1) v)) twice
+    ∙ take_more_set (set old (2 * n) u) (2 * n + 1) v (omega (arith, length-set old (2 * n) u))
+    ∙ ap (λ z. z ++ v ∷ []) (take_more_set old (2 * n) u (omega arith)) ∙ append_assoc (take (2 * n) old) (u ∷ []) (v ∷ []) in
     let longer : bits ++ first_bits bytes (n + 1) ≡ (bits ++ first_bits bytes n) ++ nat_eq (bit_of bytes n) 1 ∷ [] =
-        ap (λ z. bits ++ z) (first_bits-more bytes n) ∙ sym (append_assoc bits (first_bits bytes n) (nat_eq (bit_of bytes n) 1 ∷ [])) in
+    ap (λ z. bits ++ z) (first_bits-more bytes n) ∙ sym (append_assoc bits (first_bits bytes n) (nat_eq (bit_of bytes n) 1 ∷ [])) in
     let enough : 2 * length bits ≤ length before =
-        omega (arith, length-code past (bits ++ first_bits bytes n), length-append bits (first_bits bytes n)) in
+    omega (arith, length-code past (bits ++ first_bits bytes n), length-append bits (first_bits bytes n)) in
     written ∙ ap (λ z. z ++ u ∷ v ∷ []) done
     ∙ sym (ap (λ z. map level (drop (2 * length bits) (code past z))) longer ∙ ap (λ z. map level (drop (2 * length bits) z)) pushed
     ∙ ap (map level) (drop-append-le (2 * length bits) before (first ∷ second ∷ []) enough)
@@ -130,6 +128,6 @@ last_six past bits block long six =
     let whole : first_bits (marked block) 8192 ≡ more = bits_of_bytes-all (marked block) 8192 (omega arith) in
     let size : length more ≡ 8192 = sym (ap length whole) ∙ length-first_bits (marked block) 8192 in
     let places : length (bits ++ more) ≡ length (past ++ bits) + 8186 =
-        omega (arith, length-append bits more, length-append past bits) in
+    omega (arith, length-append bits more, length-append past bits) in
     last_bits (marked block) ∙ ap (drop 8186) whole ∙ sym (drop-append-add (past ++ bits) more 8186)
     ∙ ap (λ k. drop k ((past ++ bits) ++ more)) (sym places) ∙ ap (drop (length (bits ++ more))) (append_assoc past bits more)

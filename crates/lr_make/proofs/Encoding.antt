@@ -1,15 +1,15 @@
 -- The block of a frame is the one that is found among all blocks.
-use Rattle.std.proofs.Common.{◌≡◌, ℕ, ◌+◌, ◌*◌, ◌/◌, ◌%◌, ◌<◌, Bool, true, false, eqb, Some, None, unwrap_or, List, [], length, take, get_or, inl, inr, refl, sym, ap, ◌∙◌, arith, length-take-le}
-use Rattle.std.specs.List.{range_with_len, find, list_all}
+use Rattle.std.proofs.Common.{◌≡◌, ℕ, ◌+◌, ◌*◌, ◌/◌, ◌%◌, ◌<◌, Bool, true, eqb, unwrap_or, List, [], length, take, get_or, inl, inr, sym, ap, ◌∙◌, arith, length-take-le}
+use Rattle.std.specs.List.{range_with_len, list_all}
 use Rattle.std.proofs.lemmas.Bool.{and_parts, and_from, eqb-true, eq-eqb, false≢true}
 use Rattle.std.proofs.lemmas.Grind.{same_number_lists}
 use Rattle.std.proofs.lemmas.List.{get_or-take}
 use Rattle.lr_gf.specs.Field.{power}
-use Rattle.lr_rs.specs.Words.{IsWord, IsCodeword, word_value}
+use Rattle.lr_rs.specs.Words.{IsCodeword, word_value}
 use Rattle.lr_block.specs.Blocks.{word_of, IsEncoded}
 use Rattle.lr_block.specs.Outcomes.{all_lists}
-use Rattle.lr_block.proofs.Interleaving.{get_or-every_fourth, length-every_fourth, same_blocks}
-use Rattle.lr_block.proofs.Searching.{Member, member-range, from-range, list_all-member, list_all-from, cases_find, member-all_lists, from-all_lists}
+use Rattle.lr_block.proofs.Interleaving.{get_or-every_fourth, length-every_fourth}
+use Rattle.lr_block.proofs.Searching.{member-range, from-range, list_all-member, list_all-from, cases_find, member-all_lists, from-all_lists}
 use Rattle.lr_make.specs.Blocks.{is_encoded, encoded_block}
 
 -- the tests
@@ -61,9 +61,9 @@ passed frame block f long bytes t =
       };
       codewords = λ k h. codeword_passed (word_of block k) (list_all-member (is_codeword block) (range_with_len 0 4) k parts.1 (member-range 0 4 k (omega arith) (omega arith)));
       begins = same_number_lists (take 892 block) frame (size ∙ sym f) (λ i h.
-      get_or-take 892 block i 0 (omega (arith, size))
-      ∙ eqb-true (get_or block i 0) (get_or frame i 0)
-      (list_all-member (same_at frame block) (range_with_len 0 892) i parts.0 (member-range 0 892 i (omega arith) (omega (arith, size)))));
+          get_or-take 892 block i 0 (omega (arith, size))
+          ∙ eqb-true (get_or block i 0) (get_or frame i 0)
+          (list_all-member (same_at frame block) (range_with_len 0 892) i parts.0 (member-range 0 892 i (omega arith) (omega (arith, size)))));
     }
 
 -- an encoded block has bytes

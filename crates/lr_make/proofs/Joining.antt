@@ -1,15 +1,15 @@
 -- Packets, joined: what stands where.
-use Rattle.std.proofs.Common.{◌≡◌, ℕ, zero, suc, ◌+◌, ◌-◌, ◌*◌, ◌<◌, ◌≤◌, Bool, true, false, cond, eqb, ◌&&◌, Some, None, unwrap_or, List, [], ◌∷◌, ◌++◌, length, take, drop, get_or, map, refl, sym, ap, ◌∙◌, inl, inr, arith, add-one, add-zero, append-nil, append_assoc, length-append, length-drop, length-take-le}
+use Rattle.std.proofs.Common.{◌≡◌, ℕ, zero, suc, ◌+◌, ◌-◌, ◌*◌, ◌<◌, ◌≤◌, Bool, true, false, cond, eqb, ◌&&◌, Some, None, unwrap_or, List, [], ◌∷◌, ◌++◌, length, take, drop, get_or, refl, sym, ap, ◌∙◌, inl, inr, arith, add-one, add-zero, append-nil, append_assoc, length-append, length-drop, length-take-le}
 use Rattle.std.proofs.Math.Seq.{drop-append-add}
 use Rattle.std.specs.List.{range_with_len, list_any, find}
 use Rattle.std.specs.Option.{option_or}
-use Rattle.std.proofs.lemmas.Bool.{cases_Bool, cases_eq, cases_lt, cond-true, cond-false, eq-eqb, ne_eqb, or_left, or_right, or_from}
+use Rattle.std.proofs.lemmas.Bool.{cases_Bool, cases_eq, cases_lt, eq-eqb, ne_eqb, or_left, or_right, or_from}
 use Rattle.std.proofs.lemmas.Grind.{same_number_lists}
 use Rattle.std.proofs.lemmas.List.{drop-drop, get_or-drop, get_or-take, get_or_append_left, get_or-append-add, map-id}
 use Rattle.std.proofs.lemmas.List.Folds.{find-append}
 use Rattle.std.proofs.lemmas.List.FromFn.{map-range_with_len_more}
 use Rattle.lr_block.proofs.Searching.{cases_first}
-use Rattle.lr_make.specs.Zones.{joined, zone_at, is_start, pointer_at}
+use Rattle.lr_make.specs.Zones.{joined, zone_at, is_start}
 use Rattle.lr_make.specs.Standing.{byte_at, pointer_more}
 
 -- each packet has some byte
@@ -24,8 +24,7 @@ joined-split : (packets : ℕ → List ℕ) (m d : ℕ) → (rest : List ℕ) ×
 joined-split packets m zero = ([], ap (joined packets) (add-zero m) ∙ sym (append-nil (joined packets m)))
 joined-split packets m (suc d) =
     let r = joined-split packets m d in
-    let e : m + suc d ≡ m + d + 1 = omega arith in
-    (
+    let e : m + suc d ≡ m + d + 1 = omega arith in (
       r.0 ++ packets (m + d),
       ap (joined packets) e ∙ joined-more packets (m + d) ∙ ap (λ z. z ++ packets (m + d)) r.1 ∙ append_assoc (joined packets m) r.0 (packets (m + d)),
     )
@@ -72,7 +71,7 @@ zone_at-by_bytes packets zone t some long each =
     let all = joined packets (884 * (t + 1)) in
     let enough : 884 * (t + 1) ≤ length all = length-joined-least packets some (884 * (t + 1)) in
     let size : length (take 884 (drop (884 * t) all)) ≡ 884 =
-        length-take-le 884 (drop (884 * t) all) (omega (arith, length-drop (884 * t) all)) in
+    length-take-le 884 (drop (884 * t) all) (omega (arith, length-drop (884 * t) all)) in
     same_number_lists zone (take 884 (drop (884 * t) all)) (long ∙ sym size) (λ i h.
     each i (omega arith) ∙ sym (byte_at-is packets some (884 * (t + 1)) (884 * t + i) (omega arith))
     ∙ sym (get_or-drop (884 * t) all i 0) ∙ sym (get_or-take 884 (drop (884 * t) all) i 0 (omega arith)))
@@ -112,8 +111,8 @@ opened packets packet made place some e p =
     let all = joined packets made in
     let size : length (joined packets (made + 1)) ≡ length all + length (packets made) = ap length (joined-more packets made) ∙ length-append all (packets made) in
     let byte : get_or (joined packets (made + 1)) place 0 ≡ get_or (packets made) 0 0 =
-        ap (λ z. get_or z place 0) (joined-more packets made) ∙ ap (λ k. get_or (all ++ packets made) k 0) (e ∙ sym (add-zero (length all)))
-        ∙ get_or-append-add all (packets made) 0 0 in
+    ap (λ z. get_or z place 0) (joined-more packets made) ∙ ap (λ k. get_or (all ++ packets made) k 0) (e ∙ sym (add-zero (length all)))
+    ∙ get_or-append-add all (packets made) 0 0 in
     let first = some made in
     record {
       byte_is = ap (λ z. get_or z 0 0) p ∙ sym byte ∙ byte_at-is packets some (made + 1) place (omega arith);
@@ -150,7 +149,7 @@ is_start-at packets packet made sent place some within_packet left within starte
           (omega (arith, length-joined-least packets some made)) (eq-eqb (length (joined packets made)) place (sym here)))
       | inr other ↦
           let before : place < length (joined packets made) =
-              omega (arith, other, ap length left, length-drop sent packet, length-drop place (joined packets made)) in
+          omega (arith, other, ap length left, length-drop sent packet, length-drop place (joined packets made)) in
           ne_eqb sent (length packet) other
           ∙ sym (none_range (λ n. eqb (length (joined packets n)) place) 0 (place + 1) (λ n.
           ne_eqb (length (joined packets n)) place (λ e.
@@ -174,7 +173,7 @@ pub pointer_before-more : (packets : ℕ → List ℕ) (first n : ℕ) → n < 2
 pointer_before-more packets first n small =
     let starts : ℕ → Bool = λ place. is_start packets (first + place) in
     let grown : pointer_before packets first (n + 1) ≡ unwrap_or (option_or (find starts (range_with_len 0 n)) (cond (starts n) (Some n) None)) 2047 =
-        ap (λ z. unwrap_or (find starts z) 2047) (range-more n) ∙ ap (λ z. unwrap_or z 2047) (find-append starts (range_with_len 0 n) (n ∷ [])) in
+    ap (λ z. unwrap_or (find starts z) 2047) (range-more n) ∙ ap (λ z. unwrap_or z 2047) (find-append starts (range_with_len 0 n) (n ∷ [])) in
     elim (cases_first starts 0 n) [
       | inl none ↦
           let old : pointer_before packets first n ≡ 2047 = ap (λ z. unwrap_or z 2047) none.0 in

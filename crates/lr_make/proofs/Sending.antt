@@ -1,5 +1,5 @@
 -- What is sent of one frame more.
-use Rattle.std.proofs.Common.{◌≡◌, ℕ, zero, suc, ◌+◌, ◌*◌, Bool, false, ℤ, List, [], ◌∷◌, ◌++◌, length, map, drop, replicate, refl, sym, ap, subst, ◌∙◌, arith, add-one, length-append}
+use Rattle.std.proofs.Common.{◌≡◌, ℕ, zero, suc, ◌+◌, ◌*◌, Bool, false, ℤ, List, ◌++◌, length, map, drop, replicate, refl, sym, ap, subst, ◌∙◌, arith, add-one, length-append}
 use Rattle.std.proofs.lemmas.List.{drop-map, drop_at, length-map, map-append}
 use Rattle.lr_conv.specs.Convolution.{code}
 use Rattle.lr_conv.specs.Encoder as encoders
@@ -11,7 +11,7 @@ use Rattle.lr_make.specs.Blocks.{block_at, damaged_block, encoded_block}
 use Rattle.lr_make.specs.Standing.{IsCodeOf}
 use Rattle.lr_make.specs.Symbols.{bits_of_bytes, marked, sent_bits, level, all_symbols, symbols_at}
 use Rattle.lr_make.specs.Stream.{frame_stream, block_stream, symbol_stream, SymbolsAreOneCode}
-use Rattle.lr_make.proofs.Coding.{bits_of_bytes-all, code-front, first_bits, length-code, length-first_bits}
+use Rattle.lr_make.proofs.Coding.{bits_of_bytes-all, code-front, length-code, length-first_bits}
 
 pub block_at-is : (start wrong n made_wrong : ℕ) (frame block : List ℕ) → frame ≡ frame_at start n → made_wrong ≡ wrong
     → block ≡ randomised_block (damaged_block made_wrong (encoded_block frame)) → block ≡ block_at start wrong n
@@ -80,11 +80,11 @@ symbols_are_one_code start wrong (suc n) =
     let more : List Bool = bits_of_bytes (marked (block_at start wrong n)) in
     let front = code-front zeros (sent_bits start wrong n) more refl in
     let whole : all_symbols start wrong (suc n) ≡ all_symbols start wrong n ++ map level front.0 =
-        ap (map level) front.1 ∙ map-append level (code zeros (sent_bits start wrong n)) front.0 in
+    ap (map level) front.1 ∙ map-append level (code zeros (sent_bits start wrong n)) front.0 in
     let next : n + 1 ≡ suc n = add-one n in
     let last : symbols_at start wrong n ≡ map level front.0 =
-        symbols_at-drop start wrong n ∙ ap (λ k. drop (16384 * n) (all_symbols start wrong k)) next ∙ ap (drop (16384 * n)) whole
-        ∙ drop_at (all_symbols start wrong n) (map level front.0) (16384 * n) (length-all_symbols start wrong n) in
+    symbols_at-drop start wrong n ∙ ap (λ k. drop (16384 * n) (all_symbols start wrong k)) next ∙ ap (drop (16384 * n)) whole
+    ∙ drop_at (all_symbols start wrong n) (map level front.0) (16384 * n) (length-all_symbols start wrong n) in
     ap (λ z. z ++ symbols_at start wrong n) (symbols_are_one_code start wrong n) ∙ ap (λ z. all_symbols start wrong n ++ z) last ∙ sym whole
 
 -- ---- the stream with one frame more

@@ -1,5 +1,5 @@
 -- The symbols of the stream (CCSDS 131.0-B, sections 3.3 and 9.3).
-use Rattle.std.specs.Prelude.{◌≡◌, ℕ, ℤ, pos, negsuc, zero, suc, ◌+◌, ◌*◌, ◌==◌, ◌++◌, Bool, true, false, List, [], ◌∷◌, length, map, drop, replicate}
+use Rattle.std.specs.Prelude.{ℕ, ℤ, pos, negsuc, zero, suc, ◌+◌, ◌*◌, ◌==◌, ◌++◌, Bool, true, false, List, [], ◌∷◌, length, map, drop, replicate}
 use Rattle.std.specs.List.{range_with_len}
 use Rattle.lr_bits.specs.Bits.{bit_of}
 use Rattle.lr_conv.specs.Convolution.{code}

@@ -49,19 +49,41 @@ fn frame_begins(maker: &mut Maker, bytes: &[u8; 24]) -> Result<bool, NoMemory> {
 #[test]
 fn frames_begin_with_their_headers(rt: HostRuntime) -> Result<(), Fail> {
     let mut maker = Maker::new(1, 0)?;
-    assert!(rt; frame_begins(&mut maker, &[
-        0x41, 0xC0, 0, 0, 0, 0, 0, 0, 0, 0x64, 0x40, 0, 0, 0x24, 0, 0, 0, 0, 0, 0, 0, 0, 0x80, 0xC8,
-    ])?);
-    assert!(rt; frame_begins(&mut maker, &[
-        0x41, 0xC0, 0, 0, 1, 0, 0, 0x17, 0x1D, 0xA5, 0x72, 0xD3, 0xFF, 0x3A, 0x25, 0xDC, 0xCD, 0xF7, 0x21, 0xC2, 0x93,
-        0, 0x9B, 0x2C,
-    ])?);
-    assert!(rt; frame_begins(&mut maker, &[
-        0x41, 0xC5, 0, 0, 0, 0, 0, 0, 0, 0xC8, 0xC0, 0, 0, 0xEE, 0, 0, 0, 0, 0, 0, 0, 0, 7, 0x18,
-    ])?);
-    assert!(rt; frame_begins(&mut maker, &[
-        0x41, 0xFF, 0, 0, 0, 0, 7, 0xFE, 0, 0, 0, 0, 0, 0, 0, 0, 0, 0, 0, 0, 0, 0, 0, 0,
-    ])?);
+    assert!(rt;
+        frame_begins(
+            &mut maker,
+            &[
+                0x41, 0xC0, 0, 0, 0, 0, 0, 0, 0, 0x64, 0x40, 0, 0, 0x24, 0, 0, 0, 0, 0, 0, 0, 0,
+                0x80, 0xC8,
+            ]
+        )?
+    );
+    assert!(rt;
+        frame_begins(
+            &mut maker,
+            &[
+                0x41, 0xC0, 0, 0, 1, 0, 0, 0x17, 0x1D, 0xA5, 0x72, 0xD3, 0xFF, 0x3A, 0x25, 0xDC,
+                0xCD, 0xF7, 0x21, 0xC2, 0x93, 0, 0x9B, 0x2C,
+            ]
+        )?
+    );
+    assert!(rt;
+        frame_begins(
+            &mut maker,
+            &[
+                0x41, 0xC5, 0, 0, 0, 0, 0, 0, 0, 0xC8, 0xC0, 0, 0, 0xEE, 0, 0, 0, 0, 0, 0, 0, 0, 7,
+                0x18,
+            ]
+        )?
+    );
+    assert!(rt;
+        frame_begins(
+            &mut maker,
+            &[
+                0x41, 0xFF, 0, 0, 0, 0, 7, 0xFE, 0, 0, 0, 0, 0, 0, 0, 0, 0, 0, 0, 0, 0, 0, 0, 0,
+            ]
+        )?
+    );
     Ok(())
 }
 

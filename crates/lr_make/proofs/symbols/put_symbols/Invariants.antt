@@ -1,4 +1,4 @@
-use Rattle.std.proofs.Common.{◌≡◌, ℕ, ◌*◌, ◌++◌, Bool, List, length, map, take, drop}
+use Rattle.std.proofs.Common.{◌≡◌, ◌*◌, ◌++◌, Bool, List, length, map, take, drop}
 use Rattle.lr_conv.specs.Convolution.{code}
 use Rattle.lr_conv.specs.Encoder.{StandsFor}
 use Rattle.lr_make.specs.Symbols.{level}

@@ -1,4 +1,4 @@
-use Rattle.std.proofs.Common.{false, replicate, refl}
+use Rattle.std.proofs.Common.{false, replicate}
 use Rattle.lr_make.specs.Symbols.{sent_bits}
 use Rattle.lr_make.proofs.Sending.{block_at-is, stands-more, symbols_at-is}
 use Rattle.lr_make.proofs.maker.Maker.next_symbols.Goals as goal
