@@ -3,6 +3,7 @@ pub mod Drawn
 pub mod Encoding
 pub mod Heads
 pub mod Joining
+pub mod Receiving
 pub mod Rounds
 pub mod Sending
 pub mod Sources

@@ -14,11 +14,13 @@ pub struct Maker {
     wrong: u8,
     /// The encoder behind the last frame.
     encoder: Encoder,
+    ghost few_wrong: { wrong ≤ 16 },
 }
 
 impl Maker {
     ghost use Rattle.lr_make.specs.Blocks.{block_at};
     ghost use Rattle.lr_make.specs.Frames.{frame_at};
+    ghost use Rattle.lr_make.specs.Received.{IsReceivedAs};
     ghost use Rattle.lr_make.specs.Standing.{StandsFor};
     ghost use Rattle.lr_make.specs.Symbols.{symbols_at};
 
@@ -48,10 +50,12 @@ impl Maker {
         Ok(())
     }
 
-    /// Writes the block of the next frame of the stream.
+    /// Writes the block of the next frame of the stream. A receiver restores it to the frame, with as many changed bytes in
+    /// each word as were made wrong.
     pub fn next_block(&mut self, block: &mut [u8; BLOCK_BYTES]) -> Result<(), NoMemory>
         ensures ok { IsOk result }
         ensures block { (start wrong n : ℕ) → StandsFor self.old start wrong n → block.new ≡ block_at start wrong n }
+        ensures received { (start wrong n : ℕ) → StandsFor self.old start wrong n → IsReceivedAs wrong (frame_at start n) block.new }
         ensures moves { (start wrong n : ℕ) → StandsFor self.old start wrong n → StandsFor self.new start wrong (n + 1) }
     {
         let mut frame = [0; FRAME_BYTES];
