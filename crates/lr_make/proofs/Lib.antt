@@ -1,0 +1,9 @@
+pub mod Coding
+pub mod Drawn
+pub mod Encoding
+pub mod Heads
+pub mod Joining
+pub mod Receiving
+pub mod Rounds
+pub mod Sending
+pub mod Sources

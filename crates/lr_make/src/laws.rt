@@ -1,0 +1,6 @@
+ghost use Rattle.lr_make.specs.Stream.{SymbolsAreOneCode};
+
+/// That the symbols of frame after frame are one code of all that is sent.
+pub fn symbols_are_one_code()
+    ensures { SymbolsAreOneCode }
+{}
