@@ -1,6 +1,7 @@
 pub mod Adding
 pub mod Causing
 pub mod DecodeLoop
+pub mod Decoding
 pub mod Digits
 pub mod EntryLines
 pub mod Extracting
@@ -24,3 +25,5 @@ pub mod UnitsOf
 pub mod Verifying
 pub mod Ways
 pub mod WholeFrames
+pub mod WindowLines
+pub mod WindowLoop

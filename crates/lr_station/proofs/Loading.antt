@@ -20,7 +20,10 @@ use Rattle.lr_station.specs.declared.cause.Cause.{Cause}
 use Rattle.lr_station.specs.declared.cause.Cause.TheVariants.{Done, Usage, SourceFailed, DiskFailed, OutputFailed, NotAShelf, NoSuchFile, NoMemory, Capacity, NotEmpty, BadChecksum}
 use Rattle.lr_station.specs.declared.words.Input.{Input}
 use Rattle.lr_station.specs.Causes.{cause_of, cause_at}
-use Rattle.lr_station.specs.Inputs.{unit_bytes, files_of_bytes}
+use Rattle.lr_station.specs.declared.words.Input.TheVariants.{Symbols, Units}
+use Rattle.lr_lock.specs.FramesOf.{frames_of}
+use Rattle.lr_frame.specs.Outcomes.{outcomes_of_symbols}
+use Rattle.lr_station.specs.Inputs.{unit_bytes, outcomes_of_bytes, files_of_bytes}
 use Rattle.lr_station.specs.Reading.{IsRead}
 use Rattle.lr_station.specs.Shelving.{shelved_lines, LeavesFronts}
 use Rattle.lr_station.specs.Receive.{Ends, Receives, MayEndBefore, IsReceiveCause, IsRefusedAt, ReceiveRun}
@@ -31,6 +34,7 @@ use Rattle.lr_station.proofs.ReceiveEnding.{front_none, loaded}
 use Rattle.lr_station.proofs.ShelvedLines.{shelved_lines-none}
 use Rattle.lr_station.proofs.Headline.{receives}
 use Rattle.lr_station.proofs.UnitsOf.{units_are}
+use Rattle.lr_station.proofs.WindowLoop.{files_all}
 
 -- what `load` may refuse for ends the call before any byte is read
 pub ended_before : (e : ShelfError) (at : ℕ) → MayRefuseAt at e → MayEndBefore at (cause_of e)
@@ -56,11 +60,28 @@ load_cause disk d (Crc' stored computed) refusal = absurd refusal
 load_cause disk d NoMemory' refusal = tt
 load_cause disk d Failed' refusal = absurd refusal
 
+no_symbols : outcomes_of_bytes Symbols [] ≡ []
+unfolding outcomes_of_bytes outcomes_of_symbols frames_of
+no_symbols = refl
+
 -- no bytes have no files
 pub no_bytes : (input : Input) → files_of_bytes input [] ≡ []
-no_bytes input =
-    let none = units_are (unit_bytes input) (positive input (unit_bytes input) refl) [] [] (All-nil (λ (u : List ℕ). length u ≡ unit_bytes input)) (positive input (unit_bytes input) refl) in
-    files_are input [] [] (outcomes_are input [] [] none ∙ outcomes_of_units-none input) ∙ no_files
+no_bytes Symbols = files_all [] [] no_symbols ∙ no_files
+no_bytes (Units form) =
+    let none = units_are (unit_bytes form) (positive form (unit_bytes form) refl) [] [] (All-nil (λ (u : List ℕ). length u ≡ unit_bytes form)) (positive form (unit_bytes form) refl) in
+    files_are form [] [] (outcomes_are form [] [] none ∙ outcomes_of_units-none form) ∙ no_files
+
+-- memory for reading was refused, before any byte was taken
+pub not_ready : {S D O : Type 0} (source : SourceOf S) (disk : DiskOf D) (out : SinkOf O) (input : Input) (limit : ℕ) (shelf : Shelf) (s : S) (d : D) (o : O)
+    → EndsRun source disk out input limit NoMemory shelf s s d d o o
+not_ready source disk out input limit shelf s d o = record {
+  bytes = [];
+  read = record { moved = λ t. refl; few = omega arith };
+  ends = λ capacity before d0 o0 so_far. (
+    subst (λ (l : List File). LeavesFronts disk capacity before l d0 d) (sym (no_bytes input)) so_far.any_moment,
+    record { done = []; rest = []; split = no_bytes input; durable = so_far.settled.on_disk; got = so_far.put.put },
+  );
+}
 
 module _ {S D O : Type 0} (source : SourceOf S) (disk : DiskOf D) (out : SinkOf O) (input : Input) (limit : ℕ) (s : S) (d d1 : D) (o : O) (result : Result Shelf ShelfError) (loads : Loads disk d d1 result) where
   module _ (capacity : ℕ) (before : List File) (told : disk.tells d) (durable : IsDurable disk capacity before d) where

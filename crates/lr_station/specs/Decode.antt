@@ -1,23 +1,36 @@
 -- What `decode` prints of the bytes read.
-use Rattle.std.specs.Prelude.{ℕ, not, List, length, map, count_by}
+use Rattle.std.specs.Prelude.{ℕ, ℤ, not, List, length, map, count_by}
 use Rattle.std.specs.List.{concat, enumerate_from}
 use Rattle.lr_bits.specs.declared.outcome.Outcome.{Outcome}
 use Rattle.lr_layers.specs.Layers.{is_restored}
 use Rattle.lr_catalog.specs.declared.stop.Stop.{Stop}
 use Rattle.lr_catalog.specs.declared.summary.Summary.TheVariants.{Decode}
-use Rattle.lr_catalog.specs.Outcomes.{block_line}
+use Rattle.lr_catalog.specs.Outcomes.{block_line, window_line}
 use Rattle.lr_catalog.specs.Summaries.{summary_line}
+use Rattle.lr_conv.specs.Marker.{marker_tail}
+use Rattle.lr_lock.specs.FramesOf.{frames_of}
+use Rattle.lr_lock.specs.declared.frame.Frame.{Frame}
+use Rattle.lr_lock.specs.Symbols.{symbols_of}
+use Rattle.lr_frame.specs.Outcomes.{outcome_in}
+use Rattle.lr_station.specs.declared.words.UnitForm.{UnitForm}
 use Rattle.lr_station.specs.declared.words.Input.{Input}
+use Rattle.lr_station.specs.declared.words.Input.TheVariants.{Symbols, Units}
 use Rattle.lr_station.specs.Inputs.{unit_bytes, outcome_of_unit, outcomes_of_bytes, left_of}
 use Rattle.lr_station.specs.Reading.{units_of}
 
 -- the lines of these blocks, each numbered by its place
-unfoldable pub lines_of_units : Input → List (List ℕ) → List ℕ
-lines_of_units input units = concat (map (λ u. block_line u.0 (outcome_of_unit input u.1)) (enumerate_from 0 units))
+unfoldable pub lines_of_units : UnitForm → List (List ℕ) → List ℕ
+lines_of_units form units = concat (map (λ u. block_line u.0 (outcome_of_unit form u.1)) (enumerate_from 0 units))
 
--- a line for each whole block
+-- the lines of the windows of these frames of some symbols, each numbered by its place among the frames
+unfoldable pub lines_of_windows : List ℤ → List Frame → List ℕ
+lines_of_windows symbols frames =
+    concat (map (λ f. window_line f.0 f.1.place f.1.positive (outcome_in symbols f.1)) (enumerate_from 0 frames))
+
+-- a line for the window of each frame of the symbols, or for each whole block
 abbrev pub decode_text : Input → List ℕ → List ℕ
-decode_text input bytes = lines_of_units input (units_of (unit_bytes input) bytes)
+decode_text Symbols bytes = lines_of_windows (symbols_of bytes) (frames_of marker_tail (symbols_of bytes))
+decode_text (Units form) bytes = lines_of_units form (units_of (unit_bytes form) bytes)
 
 -- how many bytes were taken, how many outcomes there are, of each kind, and how many bytes are left
 unfoldable pub decode_count : List Outcome → ℕ → ℕ → Stop → List ℕ

@@ -3,14 +3,18 @@ use Rattle.std.specs.Prelude.{ℕ, ◌%◌, List, [], ◌∷◌, length, map}
 use Rattle.lr_bits.specs.declared.outcome.Outcome.{Outcome}
 use Rattle.lr_bits.specs.declared.outcome.Outcome.TheVariants.{Restored}
 use Rattle.lr_bits.specs.File.{File}
+use Rattle.lr_lock.specs.Symbols.{symbols_of}
+use Rattle.lr_frame.specs.Outcomes.{outcomes_of_symbols}
 use Rattle.lr_block.specs.Outcomes.{outcome_of_block}
 use Rattle.lr_layers.specs.Layers.{files_of_outcomes}
 use Rattle.lr_station.specs.declared.words.Input.{Input}
-use Rattle.lr_station.specs.declared.words.Input.TheVariants.{Blocks, Frames}
+use Rattle.lr_station.specs.declared.words.Input.TheVariants.{Symbols, Units}
+use Rattle.lr_station.specs.declared.words.UnitForm.{UnitForm}
+use Rattle.lr_station.specs.declared.words.UnitForm.TheVariants.{Blocks, Frames}
 use Rattle.lr_station.specs.Reading.{units_of}
 
 -- how many bytes a block or a frame has
-abbrev pub unit_bytes : Input → ℕ
+abbrev pub unit_bytes : UnitForm → ℕ
 unit_bytes Blocks = 1020
 unit_bytes Frames = 892
 
@@ -19,22 +23,24 @@ abbrev pub as_restored : List ℕ → Outcome
 as_restored frame = Restored (record { 0 = 0 ∷ 0 ∷ 0 ∷ 0 ∷ [] }) frame
 
 -- what becomes of a block or a frame
-abbrev pub outcome_of_unit : Input → List ℕ → Outcome
+abbrev pub outcome_of_unit : UnitForm → List ℕ → Outcome
 outcome_of_unit Blocks block = outcome_of_block block
 outcome_of_unit Frames frame = as_restored frame
 
 -- what becomes of these blocks or frames
-unfoldable pub outcomes_of_units : Input → List (List ℕ) → List Outcome
-outcomes_of_units input units = map (outcome_of_unit input) units
+unfoldable pub outcomes_of_units : UnitForm → List (List ℕ) → List Outcome
+outcomes_of_units form units = map (outcome_of_unit form) units
 
--- the outcomes of the bytes read: those of each whole block or frame
+-- The outcomes of the bytes read: those of the windows of all frames of the symbols, or those of each whole block or frame.
 unfoldable pub outcomes_of_bytes : Input → List ℕ → List Outcome
-outcomes_of_bytes input bytes = outcomes_of_units input (units_of (unit_bytes input) bytes)
+outcomes_of_bytes Symbols bytes = outcomes_of_symbols (symbols_of bytes)
+outcomes_of_bytes (Units form) bytes = outcomes_of_units form (units_of (unit_bytes form) bytes)
 
 -- the files of the bytes read: the mission files of these outcomes
 unfoldable pub files_of_bytes : Input → List ℕ → List File
 files_of_bytes input bytes = files_of_outcomes (outcomes_of_bytes input bytes)
 
--- how many bytes are left that are no whole block or frame
+-- how many bytes are left that are no whole block or frame; of symbols none are
 abbrev pub left_of : Input → List ℕ → ℕ
-left_of input bytes = length bytes % unit_bytes input
+left_of Symbols bytes = 0
+left_of (Units form) bytes = length bytes % unit_bytes form

@@ -1,6 +1,7 @@
 pub mod Added
 pub mod Causes
 pub mod Decode
+pub mod Decoding
 pub mod Entries
 pub mod Extract
 pub mod Frames
@@ -12,6 +13,7 @@ pub mod Packets
 pub mod PacketsRead
 pub mod Printing
 pub mod Progress
+pub mod Readers
 pub mod Reading
 pub mod Receive
 pub mod Reception
@@ -21,4 +23,5 @@ pub mod Shelving
 pub mod Statuses
 pub mod Verify
 pub mod Verifying
+pub mod WindowsRead
 pub mod Words

@@ -2,7 +2,8 @@
 use Rattle.std.specs.Prelude.{ℕ, ◌≤◌, ◌^◌, Option, Some, None, List, [], ◌∷◌, codes, if◌then◌else◌, option_map}
 use Rattle.std.specs.Str.{bytes_eq}
 use Rattle.lr_station.specs.declared.words.Input.{Input}
-use Rattle.lr_station.specs.declared.words.Input.TheVariants.{Blocks as Blocks', Frames as Frames'}
+use Rattle.lr_station.specs.declared.words.Input.TheVariants.{Symbols, Units}
+use Rattle.lr_station.specs.declared.words.UnitForm.TheVariants.{Blocks as Blocks', Frames as Frames'}
 use Rattle.lr_station.specs.declared.words.Command.{Command}
 use Rattle.lr_station.specs.declared.words.Command.TheVariants.{Init, Frames, Packets, Decode, Receive, Extract, Verify}
 use Rattle.lr_station.specs.Numbers.{number_between}
@@ -13,17 +14,26 @@ most_bytes = 1099511627776
 
 -- what `decode` takes
 abbrev pub coded_input : List ℕ → Option Input
-coded_input form = if bytes_eq form (codes "blocks") then Some Blocks' else None
+coded_input form =
+    if bytes_eq form (codes "symbols") then Some Symbols
+    else if bytes_eq form (codes "blocks") then Some (Units Blocks')
+    else None
 
 -- what `receive` takes
 abbrev pub received_input : List ℕ → Option Input
-received_input form = if bytes_eq form (codes "blocks") then Some Blocks' else if bytes_eq form (codes "frames") then Some Frames' else None
+received_input form =
+    if bytes_eq form (codes "symbols") then Some Symbols
+    else if bytes_eq form (codes "blocks") then Some (Units Blocks')
+    else if bytes_eq form (codes "frames") then Some (Units Frames')
+    else None
 
--- `frames`, `packets` or `verify`
+-- `frames`, `packets` or `verify`, or `decode` or `receive`, which take symbols where no word gives another form
 abbrev pub of_one : List ℕ → Option Command
 of_one word =
     if bytes_eq word (codes "frames") then Some (Frames most_bytes)
     else if bytes_eq word (codes "packets") then Some (Packets most_bytes)
+    else if bytes_eq word (codes "decode") then Some (Decode Symbols most_bytes)
+    else if bytes_eq word (codes "receive") then Some (Receive Symbols most_bytes)
     else if bytes_eq word (codes "verify") then Some Verify
     else None
 
@@ -49,8 +59,10 @@ command_of (word ∷ number ∷ []) = of_two word number
 command_of (word ∷ option ∷ form ∷ []) = of_three word option form
 command_of _ = None
 
--- The numbers of a command are in their ranges. What `receive` takes is within the number of outcomes that its layers count.
+-- The numbers of a command are in their ranges. What a
+-- command takes is within the number of outcomes that the layers count.
 abbrev pub IsInRange : Option Command → Type 0
 IsInRange (Some (Init capacity)) = (20 ≤ capacity) × (capacity ≤ 1099511627776)
+IsInRange (Some (Decode input most)) = most ≤ 2 ^ 48
 IsInRange (Some (Receive input most)) = most ≤ 2 ^ 48
 IsInRange _ = Unit {0}

@@ -15,13 +15,16 @@ mod line;
 mod numbers;
 mod packets;
 mod put;
+mod reader;
 mod receive;
 mod shelve;
+mod symbols;
 mod top;
 mod units;
 mod verify;
+mod windows;
 mod words;
 
 pub use cause::Cause;
 pub use top::{station, tell};
-pub use words::{Command, Input, read_words};
+pub use words::{Command, Input, UnitForm, read_words};

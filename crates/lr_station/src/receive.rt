@@ -5,14 +5,18 @@ ghost use Rattle.lr_station.specs.Causes.{cause_at, IsCaused};
 ghost use Rattle.lr_station.specs.Inputs.{unit_bytes, outcome_of_unit};
 ghost use Rattle.lr_station.specs.Receive.{ReceiveRun};
 ghost use Rattle.lr_station.specs.Reception.{ReadsAll, ReadsSome, EndsRun, PutsLast, LastStops};
+ghost use Rattle.lr_station.specs.Decoding.{IsFresh};
+ghost use Rattle.lr_station.specs.Readers.{input_of, IsReadyFor};
 ghost use Rattle.lr_station.specs.Shelved.{HasWholeFrame, MayStop};
 
 use crate::cause::Cause;
 use crate::ended::Ended;
 use crate::put::put_text;
+use crate::reader::Reader;
 use crate::shelve::shelve_outcome;
+use crate::symbols::Decoder;
 use crate::units::{Next, Units};
-use crate::words::Input;
+use crate::words::{Input, UnitForm};
 use lr_bits::{Bytes, Corrected, Outcome};
 use lr_block::outcome_of;
 use lr_catalog::{Stop, Summary, summary_line};
@@ -30,21 +34,21 @@ pub(crate) const FRAME_BYTES: usize = 892;
 
 /// What becomes of a block or a frame.
 pub(crate) fn unit_outcome<const N: usize>(
-    input: Input,
+    form: UnitForm,
     unit: &[u8; N],
     scratch: &mut RsScratch,
 ) -> Outcome
-    requires { N ≡ unit_bytes input }
-    ensures value { result ≡ outcome_of_unit input unit.now }
+    requires { N ≡ unit_bytes form }
+    ensures value { result ≡ outcome_of_unit form unit.now }
     ensures whole { HasWholeFrame result }
 {
-    match input {
-        Input::Blocks => {
+    match form {
+        UnitForm::Blocks => {
             let mut block = [0; BLOCK_BYTES];
             block.copy_from_slice(&unit[..]);
             outcome_of(&block, scratch)
         }
-        Input::Frames => {
+        UnitForm::Frames => {
             let mut frame = [0; FRAME_BYTES];
             frame.copy_from_slice(&unit[..]);
             Outcome::Restored(Corrected([0; 4]), frame)
@@ -55,22 +59,22 @@ pub(crate) fn unit_outcome<const N: usize>(
 // All files of blocks or of frames.
 fn receive_units<const N: usize, S: Source, D: Disk, O: Sink>(
     alloc: Global,
-    input: Input,
+    form: UnitForm,
     most: u64,
     shelf: &mut Shelf,
     source: &mut S,
     disk: &mut D,
     out: &mut O,
 ) -> Result<Ended, Cause>
-    requires size { N ≡ unit_bytes input }
+    requires size { N ≡ unit_bytes form }
     requires few { most ≤ 2 ^ 48 }
     ensures counts { OnOk result ((D.faults disk.new ≡ D.faults disk.old) × (O.faults out.new ≡ O.faults out.old)) }
     ensures reason { IfOk result (λ ended. IsCaused (cause_at ended.stop) (S.faults source.old) (S.faults source.new) 0 0 0 0) }
     ensures kind { IfErr result MayStop }
     ensures cause { (kept_by shelf.old).failed ≡ false
         → IfErr result (λ cause. IsCaused cause (S.faults source.old) (S.faults source.new) (D.faults disk.old) (D.faults disk.new) (O.faults out.old) (O.faults out.new)) }
-    ensures all { IfOk result (λ ended. ReadsAll S.Source D.Disk O.Sink input most ended shelf.old shelf.new source.old source.new disk.old disk.new out.old out.new) }
-    ensures some { IfErr result (λ cause. ReadsSome S.Source D.Disk O.Sink input most cause shelf.old source.old source.new disk.old disk.new out.old out.new) }
+    ensures all { IfOk result (λ ended. ReadsAll S.Source D.Disk O.Sink (Input.Units form) most ended shelf.old shelf.new source.old source.new disk.old disk.new out.old out.new) }
+    ensures some { IfErr result (λ cause. ReadsSome S.Source D.Disk O.Sink (Input.Units form) most cause shelf.old source.old source.new disk.old disk.new out.old out.new) }
 {
     let mut units = Units::<N>::new(most);
     let mut scratch = RsScratch::new();
@@ -89,9 +93,51 @@ fn receive_units<const N: usize, S: Source, D: Disk, O: Sink>(
                 });
             }
             Next::Whole => {
-                let outcome = unit_outcome(input, units.unit(), &mut scratch);
+                let outcome = unit_outcome(form, units.unit(), &mut scratch);
                 shelve_outcome(alloc, &outcome, &mut layers, &mut files, shelf, disk, out)?;
                 units.clear();
+                place += 1;
+            }
+        }
+    }
+}
+
+// All files of symbols.
+fn receive_symbols<S: Source, D: Disk, O: Sink>(
+    alloc: Global,
+    decoder: &mut Decoder,
+    shelf: &mut Shelf,
+    source: &mut S,
+    disk: &mut D,
+    out: &mut O,
+) -> Result<Ended, Cause>
+    requires fresh { IsFresh decoder.old.most decoder.old }
+    requires few { decoder.old.most ≤ 2 ^ 48 }
+    ensures counts { OnOk result ((D.faults disk.new ≡ D.faults disk.old) × (O.faults out.new ≡ O.faults out.old)) }
+    ensures reason { IfOk result (λ ended. IsCaused (cause_at ended.stop) (S.faults source.old) (S.faults source.new) 0 0 0 0) }
+    ensures kind { IfErr result MayStop }
+    ensures cause { (kept_by shelf.old).failed ≡ false
+        → IfErr result (λ cause. IsCaused cause (S.faults source.old) (S.faults source.new) (D.faults disk.old) (D.faults disk.new) (O.faults out.old) (O.faults out.new)) }
+    ensures all { IfOk result (λ ended. ReadsAll S.Source D.Disk O.Sink Input.Symbols decoder.old.most ended shelf.old shelf.new source.old source.new disk.old disk.new out.old out.new) }
+    ensures some { IfErr result (λ cause. ReadsSome S.Source D.Disk O.Sink Input.Symbols decoder.old.most cause shelf.old source.old source.new disk.old disk.new out.old out.new) }
+{
+    let mut layers = Layers::new(alloc);
+    let mut files = Vec::new(alloc);
+    let mut place = 0u64;
+    'windows: loop {
+        match decoder.next(source) {
+            Next::Ended(stop) => {
+                return Ok(Ended {
+                    symbols: decoder.taken(),
+                    frames: place,
+                    counts: layers.counts(),
+                    left: 0,
+                    stop,
+                });
+            }
+            Next::Whole => {
+                let outcome = decoder.outcome();
+                shelve_outcome(alloc, &outcome, &mut layers, &mut files, shelf, disk, out)?;
                 place += 1;
             }
         }
@@ -101,28 +147,42 @@ fn receive_units<const N: usize, S: Source, D: Disk, O: Sink>(
 // All files of the input.
 fn receive_all<S: Source, D: Disk, O: Sink>(
     alloc: Global,
-    input: Input,
+    reader: &mut Reader,
     most: u64,
     shelf: &mut Shelf,
     source: &mut S,
     disk: &mut D,
     out: &mut O,
 ) -> Result<Ended, Cause>
+    requires ready { IsReadyFor most reader.old }
     requires few { most ≤ 2 ^ 48 }
     ensures counts { OnOk result ((D.faults disk.new ≡ D.faults disk.old) × (O.faults out.new ≡ O.faults out.old)) }
     ensures reason { IfOk result (λ ended. IsCaused (cause_at ended.stop) (S.faults source.old) (S.faults source.new) 0 0 0 0) }
     ensures kind { IfErr result MayStop }
     ensures cause { (kept_by shelf.old).failed ≡ false
         → IfErr result (λ cause. IsCaused cause (S.faults source.old) (S.faults source.new) (D.faults disk.old) (D.faults disk.new) (O.faults out.old) (O.faults out.new)) }
-    ensures all { IfOk result (λ ended. ReadsAll S.Source D.Disk O.Sink input most ended shelf.old shelf.new source.old source.new disk.old disk.new out.old out.new) }
-    ensures some { IfErr result (λ cause. ReadsSome S.Source D.Disk O.Sink input most cause shelf.old source.old source.new disk.old disk.new out.old out.new) }
+    ensures all { IfOk result (λ ended. ReadsAll S.Source D.Disk O.Sink (input_of reader.old) most ended shelf.old shelf.new source.old source.new disk.old disk.new out.old out.new) }
+    ensures some { IfErr result (λ cause. ReadsSome S.Source D.Disk O.Sink (input_of reader.old) most cause shelf.old source.old source.new disk.old disk.new out.old out.new) }
 {
-    match input {
-        Input::Blocks => receive_units::<BLOCK_BYTES, S, D, O>(
-            alloc, input, most, shelf, source, disk, out,
+    match reader {
+        Reader::Symbols(decoder) => receive_symbols(alloc, decoder, shelf, source, disk, out),
+        Reader::Units(UnitForm::Blocks) => receive_units::<BLOCK_BYTES, S, D, O>(
+            alloc,
+            UnitForm::Blocks,
+            most,
+            shelf,
+            source,
+            disk,
+            out,
         ),
-        Input::Frames => receive_units::<FRAME_BYTES, S, D, O>(
-            alloc, input, most, shelf, source, disk, out,
+        Reader::Units(UnitForm::Frames) => receive_units::<FRAME_BYTES, S, D, O>(
+            alloc,
+            UnitForm::Frames,
+            most,
+            shelf,
+            source,
+            disk,
+            out,
         ),
     }
 }
@@ -146,7 +206,7 @@ fn put_last<O: Sink>(alloc: Global, ended: &Ended, out: &mut O) -> Result<(), Ca
     put_text(line.as_slice(), out)
 }
 
-// All of it, onto a shelf that is loaded.
+// All of it, onto a shelf that is loaded. What reading takes of memory is taken first.
 fn receive_onto<S: Source, D: Disk, O: Sink>(
     alloc: Global,
     input: Input,
@@ -164,7 +224,8 @@ fn receive_onto<S: Source, D: Disk, O: Sink>(
     ensures done { IfOk result (λ stop. EndsRun S.Source D.Disk O.Sink input most (cause_at stop) shelf.old source.old source.new disk.old disk.new out.old out.new) }
     ensures stopped { IfErr result (λ cause. EndsRun S.Source D.Disk O.Sink input most cause shelf.old source.old source.new disk.old disk.new out.old out.new) }
 {
-    let ended = receive_all(alloc, input, most, shelf, source, disk, out)?;
+    let mut reader = Reader::new(alloc, input, most)?;
+    let ended = receive_all(alloc, &mut reader, most, shelf, source, disk, out)?;
     put_last(alloc, &ended, out)?;
     Ok(ended.stop)
 }

@@ -11,13 +11,21 @@ const LEAST_CAPACITY: u64 = 20;
 
 const MOST_CAPACITY: u64 = 1_099_511_627_776;
 
-/// What the source gives.
+/// Units of so many bytes each, one behind another.
 #[derive(Clone, Copy)]
-pub enum Input {
+pub enum UnitForm {
     /// Blocks of 1,020 bytes as they are received.
     Blocks,
     /// Transfer frames of 892 bytes.
     Frames,
+}
+
+/// What the source gives.
+#[derive(Clone, Copy)]
+pub enum Input {
+    /// Soft symbols, each in a byte that is read as a signed one.
+    Symbols,
+    Units(UnitForm),
 }
 
 /// A command with its words.
@@ -29,7 +37,7 @@ pub enum Command {
     Frames { most: u64 },
     /// A line for each packet of the transfer frames; at most so many bytes are taken.
     Packets { most: u64 },
-    /// A line for what became of each block; at most so many bytes are taken.
+    /// A line for what became of each window or block; at most so many bytes are taken.
     Decode { input: Input, most: u64 },
     /// Puts each mission file onto the shelf; at most so many bytes are taken.
     Receive { input: Input, most: u64 },
@@ -42,8 +50,10 @@ pub enum Command {
 fn coded_input(form: &str) -> Option<Input>
     ensures { result ≡ coded_input form.now }
 {
-    if form == "blocks" {
-        Some(Input::Blocks)
+    if form == "symbols" {
+        Some(Input::Symbols)
+    } else if form == "blocks" {
+        Some(Input::Units(UnitForm::Blocks))
     } else {
         None
     }
@@ -52,22 +62,37 @@ fn coded_input(form: &str) -> Option<Input>
 fn received_input(form: &str) -> Option<Input>
     ensures { result ≡ received_input form.now }
 {
-    if form == "blocks" {
-        Some(Input::Blocks)
+    if form == "symbols" {
+        Some(Input::Symbols)
+    } else if form == "blocks" {
+        Some(Input::Units(UnitForm::Blocks))
     } else if form == "frames" {
-        Some(Input::Frames)
+        Some(Input::Units(UnitForm::Frames))
     } else {
         None
     }
 }
 
 fn of_one(word: &str) -> Option<Command>
-    ensures { result ≡ of_one word.now }
+    ensures gives { result ≡ of_one word.now }
+    ensures range { IsInRange result }
 {
     if word == "frames" {
         Some(Command::Frames { most: MOST_BYTES })
     } else if word == "packets" {
         Some(Command::Packets { most: MOST_BYTES })
+    } else if word == "decode" {
+        let input = Input::Symbols;
+        Some(Command::Decode {
+            input,
+            most: MOST_BYTES,
+        })
+    } else if word == "receive" {
+        let input = Input::Symbols;
+        Some(Command::Receive {
+            input,
+            most: MOST_BYTES,
+        })
     } else if word == "verify" {
         Some(Command::Verify)
     } else {
