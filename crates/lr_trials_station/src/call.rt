@@ -1,15 +1,23 @@
-// One call of the station over the memory forms.
+// Calls of the station over the memory forms.
+use lr_disk::MemDisk;
 use lr_io::{MemSink, MemSource};
 use lr_station::station;
 use std::alloc::{AllocError, Global};
 use std::test::Fail;
 
-/// What the call reads: its words and bytes, the length of its reads, and the place at which the source fails once.
+/// What a call reads: its words and bytes, the length of its reads, and the place at which the source fails once.
 #[derive(Drop)]
 pub struct Input<'a> {
     pub words: &'a [&'a str],
     pub bytes: Vec<u8>,
     pub reads: u64,
+    pub fault: u64,
+}
+
+/// The room of `out`, and the place at which it fails once.
+#[derive(Clone, Copy)]
+pub struct Room {
+    pub bytes: usize,
     pub fault: u64,
 }
 
@@ -23,6 +31,30 @@ pub struct Outcome<'a> {
 
 /// A place that no source and no sink of these trials reaches.
 pub const NEVER: u64 = 1_000_000_000;
+
+/// An `out` that takes all that these trials print.
+pub const AMPLE: Room = Room {
+    bytes: 500,
+    fault: NEVER,
+};
+
+/// The work is done, and this is printed.
+pub fn done(out: &str) -> Outcome<'_> {
+    Outcome {
+        out,
+        status: 0,
+        line: "",
+    }
+}
+
+/// Nothing is printed.
+pub fn refused(status: u8, line: &str) -> Outcome<'_> {
+    Outcome {
+        out: "",
+        status,
+        line,
+    }
+}
 
 /// The places at which reads of this length end, up to the length of these bytes.
 fn cuts(alloc: Global, bytes: usize, reads: u64) -> Result<Vec<u64>, AllocError> {
@@ -44,23 +76,50 @@ fn owned(alloc: Global, words: &[&str]) -> Result<Vec<String>, AllocError> {
     Ok(all)
 }
 
-/// Whether the call gives that outcome, over an `out` of this room that fails once at this place.
-pub fn gives(
+/// Whether the call gives that outcome, over this disk.
+pub fn gives_on(
     alloc: Global,
+    disk: &mut MemDisk,
     input: Input<'_>,
-    room: usize,
-    fault: u64,
+    room: Room,
     wanted: Outcome<'_>,
 ) -> Result<bool, Fail> {
     let words = owned(alloc, input.words)?;
     let cuts = cuts(alloc, input.bytes.len(), input.reads)?;
     let mut source = MemSource::of(input.bytes, cuts, vec![in alloc; input.fault]?);
-    let mut out = MemSink::of(alloc, vec![in alloc; fault]?, room)?;
+    let mut out = MemSink::of(alloc, vec![in alloc; room.fault]?, room.bytes)?;
     let mut err = MemSink::of(alloc, Vec::new(alloc), 100)?;
-    let status = station(alloc, &words, &mut source, &mut out, &mut err);
+    let status = station(alloc, &words, &mut source, disk, &mut out, &mut err);
     Ok(
         status == wanted.status
             && out.as_slice() == wanted.out.as_bytes()
             && err.as_slice() == wanted.line.as_bytes(),
     )
+}
+
+/// The same, over a disk of which no call succeeds.
+pub fn gives(
+    alloc: Global,
+    input: Input<'_>,
+    room: Room,
+    wanted: Outcome<'_>,
+) -> Result<bool, Fail> {
+    let mut disk = MemDisk::of(alloc, Vec::new(alloc), 0, 0)?;
+    gives_on(alloc, &mut disk, input, room, wanted)
+}
+
+/// Whether these words alone, with nothing to read, give that outcome.
+pub fn gives_alone(
+    alloc: Global,
+    disk: &mut MemDisk,
+    words: &[&str],
+    wanted: Outcome<'_>,
+) -> Result<bool, Fail> {
+    let input = Input {
+        words,
+        bytes: Vec::new(alloc),
+        reads: 892,
+        fault: NEVER,
+    };
+    gives_on(alloc, disk, input, AMPLE, wanted)
 }

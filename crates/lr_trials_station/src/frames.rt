@@ -1,5 +1,5 @@
 // `frames`.
-use crate::call::{Input, NEVER, Outcome, gives};
+use crate::call::{AMPLE, Input, NEVER, Outcome, Room, done, gives, refused};
 use std::alloc::Global;
 use std::test::Fail;
 
@@ -25,16 +25,11 @@ fn frames(
         reads,
         fault,
     };
-    gives(alloc, input, 500, NEVER, wanted)
+    gives(alloc, input, AMPLE, wanted)
 }
 
 fn prints(alloc: Global, byte: u8, count: usize, reads: u64, out: &str) -> Result<bool, Fail> {
-    let wanted = Outcome {
-        out,
-        status: 0,
-        line: "",
-    };
-    frames(alloc, byte, count, reads, NEVER, wanted)
+    frames(alloc, byte, count, reads, NEVER, done(out))
 }
 
 #[test]
@@ -60,7 +55,7 @@ fn a_source_that_fails_ends_the_input(rt: HostRuntime) -> Result<(), Fail> {
     Ok(())
 }
 
-fn output_fails(alloc: Global, room: usize, fault: u64, out: &str) -> Result<bool, Fail> {
+fn output_fails(alloc: Global, bytes: usize, fault: u64, out: &str) -> Result<bool, Fail> {
     let input = Input {
         words: &["frames"],
         bytes: vec![in alloc; 0; 892]?,
@@ -72,7 +67,7 @@ fn output_fails(alloc: Global, room: usize, fault: u64, out: &str) -> Result<boo
         status: 5,
         line: "station: output failed\n",
     };
-    gives(alloc, input, room, fault, wanted)
+    gives(alloc, input, Room { bytes, fault }, wanted)
 }
 
 #[test]
@@ -83,26 +78,37 @@ fn an_output_that_fails_got_a_front(rt: HostRuntime) -> Result<(), Fail> {
     Ok(())
 }
 
-fn refused(alloc: Global, words: &[&str]) -> Result<bool, Fail> {
+fn is_refused(alloc: Global, words: &[&str]) -> Result<bool, Fail> {
     let input = Input {
         words,
         bytes: vec![in alloc; 0; 892]?,
         reads: 892,
         fault: NEVER,
     };
-    let wanted = Outcome {
-        out: "",
-        status: 2,
-        line: "station: usage: SHELF COMMAND [WORDS]\n",
-    };
-    gives(alloc, input, 500, NEVER, wanted)
+    let wanted = refused(2, "station: usage: SHELF COMMAND [WORDS]\n");
+    gives(alloc, input, AMPLE, wanted)
 }
 
 #[test]
 fn other_words_are_refused(rt: HostRuntime) -> Result<(), Fail> {
     let alloc = rt.alloc();
-    assert!(rt; refused(alloc, &[])?);
-    assert!(rt; refused(alloc, &["frame"])?);
-    assert!(rt; refused(alloc, &["frames", "frames"])?);
+    assert!(rt; is_refused(alloc, &[])?);
+    assert!(rt; is_refused(alloc, &["frame"])?);
+    assert!(rt; is_refused(alloc, &["frames", "frames"])?);
+    assert!(rt; is_refused(alloc, &["decode", "--input", "frames"])?);
+    assert!(rt; is_refused(alloc, &["receive", "frames", "--input"])?);
+    Ok(())
+}
+
+#[test]
+fn other_numbers_are_refused(rt: HostRuntime) -> Result<(), Fail> {
+    let alloc = rt.alloc();
+    assert!(rt; is_refused(alloc, &["init"])?);
+    assert!(rt; is_refused(alloc, &["init", ""])?);
+    assert!(rt; is_refused(alloc, &["init", "+100"])?);
+    assert!(rt; is_refused(alloc, &["init", "19"])?);
+    assert!(rt; is_refused(alloc, &["init", "1099511627777"])?);
+    assert!(rt; is_refused(alloc, &["init", "000000000000000000100"])?);
+    assert!(rt; is_refused(alloc, &["extract", "18446744073709551616"])?);
     Ok(())
 }

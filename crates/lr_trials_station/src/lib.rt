@@ -1,14 +1,22 @@
-//! Trials of the station: calls of `station` over sources and sinks in memory, and over real files.
+//! Trials of the station: calls of `station` over sources, disks and sinks in memory, and over real files.
 #![tactic(auto)]
 
+#[cfg(test)]
+mod blocks;
 #[cfg(test)]
 mod call;
 #[cfg(test)]
 mod frames;
 #[cfg(test)]
+mod init;
+#[cfg(test)]
+mod kept;
+#[cfg(test)]
 mod packets;
 #[cfg(test)]
 mod receive;
+#[cfg(test)]
+mod shelves;
 #[cfg(test)]
 mod stated;
 #[cfg(test)]

@@ -1,5 +1,5 @@
 // `packets`.
-use crate::call::{Input, NEVER, Outcome, gives};
+use crate::call::{AMPLE, Input, NEVER, done, gives};
 use crate::stated::{DIGITS, FRAME, header, idle};
 use std::alloc::{AllocError, Global};
 use std::test::Fail;
@@ -32,12 +32,7 @@ fn prints(alloc: Global, bytes: Vec<u8>, reads: u64, out: &str) -> Result<bool, 
         reads,
         fault: NEVER,
     };
-    let wanted = Outcome {
-        out,
-        status: 0,
-        line: "",
-    };
-    gives(alloc, input, 500, NEVER, wanted)
+    gives(alloc, input, AMPLE, done(out))
 }
 
 // A packet, and an idle one behind it.

@@ -1,25 +1,31 @@
 // `receive --input frames`.
-use crate::call::{Input, NEVER, Outcome, gives};
-use crate::stated::{DIGITS, FRAME, header, idle};
+use crate::call::{AMPLE, Input, NEVER, Outcome, Room, done, gives_alone, gives_on, refused};
+use crate::shelves::{FRAMES, TWO_FILES, disk, empty_shelf, one_file};
+use crate::stated::{DIGITS, FRAME, file_7, header, idle, packet, two_files};
 use std::alloc::{AllocError, Global};
 use std::test::Fail;
 
+const NOTHING: &str = "symbols 0 frames 0 restored 0 lost 0 packets 0 files 0 left 0 stop end\n";
+
 const NO_FILE: &str = "symbols 892 frames 1 restored 1 lost 0 packets 1 files 0 left 0 stop end\n";
 
-const ONE_FILE: &str = "file 0 vc 0 apid 100 counter 7 bytes 26 packets 1\n\
+const ONE_FILE: &str = "shelved 0 vc 0 apid 100 counter 7 bytes 26 packets 1\n\
 symbols 892 frames 1 restored 1 lost 0 packets 1 files 1 left 0 stop end\n";
 
-const TWO_FILES: &str = "file 0 vc 0 apid 100 counter 7 bytes 26 packets 1\n\
-file 1 vc 0 apid 100 counter 8 bytes 26 packets 1\n\
+const BOTH_FILES: &str = "shelved 0 vc 0 apid 100 counter 7 bytes 26 packets 1\n\
+shelved 1 vc 0 apid 100 counter 8 bytes 26 packets 1\n\
 symbols 1784 frames 2 restored 2 lost 0 packets 2 files 2 left 0 stop end\n";
 
-const CUT_SHORT: &str = "file 0 vc 0 apid 100 counter 7 bytes 26 packets 1\n\
+const CUT_SHORT: &str = "shelved 0 vc 0 apid 100 counter 7 bytes 26 packets 1\n\
 symbols 900 frames 1 restored 1 lost 0 packets 1 files 1 left 8 stop end\n";
 
-const AFTER_DAMAGE: &str = "file 0 vc 0 apid 100 counter 9 bytes 12 packets 2\n\
+const AFTER_DAMAGE: &str = "shelved 0 vc 0 apid 100 counter 9 bytes 12 packets 2\n\
 symbols 1784 frames 2 restored 2 lost 0 packets 5 files 1 left 0 stop end\n";
 
-const FAILED: &str = "file 0 vc 0 apid 100 counter 7 bytes 26 packets 1\n\
+const FAILED: &str = "shelved 0 vc 0 apid 100 counter 7 bytes 26 packets 1\n\
+symbols 892 frames 1 restored 1 lost 0 packets 1 files 1 left 0 stop fault\n";
+
+const FAILED_LATER: &str = "shelved 0 vc 0 apid 100 counter 7 bytes 26 packets 1\n\
 symbols 900 frames 1 restored 1 lost 0 packets 1 files 1 left 8 stop fault\n";
 
 // The checksums of the two bodies of the damaged file.
@@ -28,60 +34,14 @@ const BEGIN: [u8; 2] = [0x31, 0xD4];
 const MIDDLE: [u8; 2] = [0x0E, 0x7C];
 
 fn prints(alloc: Global, bytes: Vec<u8>, reads: u64, out: &str) -> Result<bool, Fail> {
+    let mut shelf = empty_shelf(alloc)?;
     let input = Input {
-        words: &["receive", "--input", "frames"],
+        words: &FRAMES,
         bytes,
         reads,
         fault: NEVER,
     };
-    let wanted = Outcome {
-        out,
-        status: 0,
-        line: "",
-    };
-    gives(alloc, input, 500, NEVER, wanted)
-}
-
-// A packet of application 100 with these flags and count, and the length field of its body and checksum.
-fn packet(
-    alloc: Global,
-    sequence: [u8; 2],
-    length: u8,
-    body: &[u8],
-    checksum: [u8; 2],
-) -> Result<Vec<u8>, AllocError> {
-    let mut bytes = Vec::new(alloc);
-    bytes.extend_from_slice(&[0x00, 0x64])?;
-    bytes.extend_from_slice(&sequence)?;
-    bytes.extend_from_slice(&[0, length])?;
-    bytes.extend_from_slice(body)?;
-    bytes.extend_from_slice(&checksum)?;
-    Ok(bytes)
-}
-
-// A frame with the transport file of one packet: this counter, 136 bits, two records and eight zeros.
-fn with_file(
-    alloc: Global,
-    counter: u8,
-    file: u8,
-    checksum: [u8; 2],
-) -> Result<Vec<u8>, AllocError> {
-    let body = [
-        0, file, 0, 0, 0, 0, 0, 0, 0, 136, 0, 0, 0x10, 2, 0, 0, 0, 0x10, 0, 0, 0, 0, 0, 0, 0, 0,
-    ];
-    let packet = packet(alloc, [0xC0, counter], 27, &body, checksum)?;
-    let mut bytes = header(alloc, [0, 0, counter], [0, 0])?;
-    bytes.extend_from_slice(&packet)?;
-    bytes.extend_from_slice(&idle([0x03, 0x4B]))?;
-    bytes.resize(FRAME, 0)?;
-    Ok(bytes)
-}
-
-fn two_frames(alloc: Global) -> Result<Vec<u8>, AllocError> {
-    let mut bytes = with_file(alloc, 0, 7, [0x90, 0xB4])?;
-    let second = with_file(alloc, 1, 8, [0x55, 0x7B])?;
-    bytes.extend_from_slice(&second)?;
-    Ok(bytes)
+    gives_on(alloc, &mut shelf, input, AMPLE, done(out))
 }
 
 // The first packet of a file of several, with this count.
@@ -136,7 +96,7 @@ fn digits(alloc: Global) -> Result<Vec<u8>, AllocError> {
 
 // The frame of one file, and eight bytes more.
 fn cut_short(alloc: Global) -> Result<Vec<u8>, AllocError> {
-    let mut bytes = with_file(alloc, 0, 7, [0x90, 0xB4])?;
+    let mut bytes = file_7(alloc)?;
     bytes.extend_from_slice(&[0x40; 8])?;
     Ok(bytes)
 }
@@ -152,15 +112,9 @@ fn nine_bytes_are_no_file(rt: HostRuntime) -> Result<(), Fail> {
 fn each_file_has_its_line_however_the_reads_are_cut(rt: HostRuntime) -> Result<(), Fail> {
     let alloc = rt.alloc();
     for reads in [1, 892, 893] {
-        assert!(rt;
-            prints(
-                alloc,
-                with_file(alloc, 0, 7, [0x90, 0xB4])?,
-                reads,
-                ONE_FILE
-            )?
-        );
-        assert!(rt; prints(alloc, two_frames(alloc)?, reads, TWO_FILES)?);
+        assert!(rt; prints(alloc, Vec::new(alloc), reads, NOTHING)?);
+        assert!(rt; prints(alloc, file_7(alloc)?, reads, ONE_FILE)?);
+        assert!(rt; prints(alloc, two_files(alloc)?, reads, BOTH_FILES)?);
         assert!(rt; prints(alloc, cut_short(alloc)?, reads, CUT_SHORT)?);
     }
     Ok(())
@@ -173,20 +127,116 @@ fn a_wrong_checksum_ends_its_file_alone(rt: HostRuntime) -> Result<(), Fail> {
     Ok(())
 }
 
-#[test]
-fn a_source_that_fails_leaves_the_files_before_it(rt: HostRuntime) -> Result<(), Fail> {
-    let alloc = rt.alloc();
+// Both files are received onto an empty shelf, and its bytes are then those.
+fn fills_the_shelf(alloc: Global) -> Result<bool, Fail> {
+    let mut shelf = empty_shelf(alloc)?;
     let input = Input {
-        words: &["receive", "--input", "frames"],
-        bytes: two_frames(alloc)?,
+        words: &FRAMES,
+        bytes: two_files(alloc)?,
+        reads: 893,
+        fault: NEVER,
+    };
+    let received = gives_on(alloc, &mut shelf, input, AMPLE, done(BOTH_FILES))?;
+    Ok(received && shelf.as_slice() == TWO_FILES.as_slice())
+}
+
+// A source without bytes leaves the shelf as it is.
+fn keeps_the_shelf(alloc: Global) -> Result<bool, Fail> {
+    let mut shelf = disk(alloc, &TWO_FILES)?;
+    let received = gives_alone(alloc, &mut shelf, &FRAMES, done(NOTHING))?;
+    Ok(received && shelf.as_slice() == TWO_FILES.as_slice())
+}
+
+#[test]
+fn the_files_stand_on_the_shelf(rt: HostRuntime) -> Result<(), Fail> {
+    let alloc = rt.alloc();
+    assert!(rt; fills_the_shelf(alloc)?);
+    assert!(rt; keeps_the_shelf(alloc)?);
+    Ok(())
+}
+
+// One file fits exactly on a shelf of the capacity 62.
+fn fits(alloc: Global) -> Result<bool, Fail> {
+    let mut shelf = disk(alloc, &[])?;
+    let made = gives_alone(
+        alloc,
+        &mut shelf,
+        &["init", "62"],
+        done("shelf capacity 62\n"),
+    )?;
+    let received = gives_on(alloc, &mut shelf, one_file(alloc)?, AMPLE, done(ONE_FILE))?;
+    Ok(made && received && shelf.as_slice().len() == 62)
+}
+
+// One byte less is too few. Nothing is printed, and the shelf stays as it is.
+fn fits_not(alloc: Global) -> Result<bool, Fail> {
+    let mut shelf = disk(alloc, &[])?;
+    let made = gives_alone(
+        alloc,
+        &mut shelf,
+        &["init", "61"],
+        done("shelf capacity 61\n"),
+    )?;
+    let before = shelf.as_slice().to_vec(alloc)?;
+    let wanted = refused(10, "station: capacity: needs 62 of 61\n");
+    let refuses = gives_on(alloc, &mut shelf, one_file(alloc)?, AMPLE, wanted)?;
+    Ok(made && refuses && shelf.as_slice() == before.as_slice())
+}
+
+#[test]
+fn a_full_shelf_refuses_the_file(rt: HostRuntime) -> Result<(), Fail> {
+    let alloc = rt.alloc();
+    assert!(rt; fits(alloc)?);
+    assert!(rt; fits_not(alloc)?);
+    Ok(())
+}
+
+// The source fails behind the frame of the first file, and the file is on the shelf.
+fn source_fails(alloc: Global, fault: u64, out: &str) -> Result<bool, Fail> {
+    let mut shelf = empty_shelf(alloc)?;
+    let input = Input {
+        words: &FRAMES,
+        bytes: two_files(alloc)?,
         reads: 892,
-        fault: 900,
+        fault,
     };
     let wanted = Outcome {
-        out: FAILED,
+        out,
         status: 3,
         line: "station: source failed\n",
     };
-    assert!(rt; gives(alloc, input, 500, NEVER, wanted)?);
+    let ended = gives_on(alloc, &mut shelf, input, AMPLE, wanted)?;
+    let stands = gives_alone(alloc, &mut shelf, &["verify"], done("file 0 ok\n"))?;
+    Ok(ended && stands)
+}
+
+#[test]
+fn a_source_that_fails_leaves_the_files_before_it(rt: HostRuntime) -> Result<(), Fail> {
+    let alloc = rt.alloc();
+    assert!(rt; source_fails(alloc, 892, FAILED)?);
+    assert!(rt; source_fails(alloc, 900, FAILED_LATER)?);
+    Ok(())
+}
+
+// The output fails in the line of the file, which then stands on the shelf without its line.
+fn output_fails(alloc: Global) -> Result<bool, Fail> {
+    let mut shelf = empty_shelf(alloc)?;
+    let wanted = Outcome {
+        out: "shelved 0 ",
+        status: 5,
+        line: "station: output failed\n",
+    };
+    let room = Room {
+        bytes: 10,
+        fault: NEVER,
+    };
+    let ended = gives_on(alloc, &mut shelf, one_file(alloc)?, room, wanted)?;
+    let stands = gives_alone(alloc, &mut shelf, &["verify"], done("file 0 ok\n"))?;
+    Ok(ended && stands)
+}
+
+#[test]
+fn a_line_that_fails_takes_no_file_back(rt: HostRuntime) -> Result<(), Fail> {
+    assert!(rt; output_fails(rt.alloc())?);
     Ok(())
 }

@@ -1,0 +1,116 @@
+// `decode --input blocks` and `receive --input blocks`.
+use crate::call::{AMPLE, Input, NEVER, done, gives, gives_on};
+use crate::shelves::empty_shelf;
+use crate::stated::{FRAME, file_7};
+use lr_block::{derandomise, encode_block};
+use std::alloc::Global;
+use std::test::Fail;
+
+const BLOCK: usize = 1020;
+
+const RESTORED: &str = "block 0 restored 0 0 0 0\n\
+symbols 1020 frames 1 restored 1 lost 0 left 0 stop end\n";
+
+const LOST: &str = "block 0 lost 0\n\
+symbols 1020 frames 1 restored 0 lost 1 left 0 stop end\n";
+
+const CUT_SHORT: &str = "block 0 restored 0 0 0 0\n\
+symbols 1025 frames 1 restored 1 lost 0 left 5 stop end\n";
+
+const BOTH: &str = "block 0 lost 0\n\
+block 1 restored 0 0 0 0\n\
+symbols 2040 frames 2 restored 1 lost 1 left 0 stop end\n";
+
+const ONE_FILE: &str = "shelved 0 vc 0 apid 100 counter 7 bytes 26 packets 1\n\
+symbols 1020 frames 1 restored 1 lost 0 packets 1 files 1 left 0 stop end\n";
+
+const NO_FILE: &str = "symbols 1020 frames 1 restored 0 lost 1 packets 0 files 0 left 0 stop end\n";
+
+const AFTER_LOST: &str = "shelved 0 vc 0 apid 100 counter 7 bytes 26 packets 1\n\
+symbols 2040 frames 2 restored 1 lost 1 packets 1 files 1 left 0 stop end\n";
+
+// The bytes 40, which are a block of four codewords, as they are sent.
+fn sent() -> [u8; BLOCK] {
+    let mut block = [0x40; BLOCK];
+    derandomise(&mut block);
+    block
+}
+
+// The same with seventeen wrong bytes in the first word.
+fn damaged() -> [u8; BLOCK] {
+    let mut block = sent();
+    for (place, byte) in block.iter_mut().enumerate() {
+        if place % 60 == 56 {
+            *byte ^= 0xFF;
+        }
+    }
+    block
+}
+
+// The block of a frame with one file, as it is sent.
+fn block_of_file(alloc: Global) -> Result<[u8; BLOCK], Fail> {
+    let bytes = file_7(alloc)?;
+    let mut frame = [0; FRAME];
+    for (to, from) in frame.iter_mut().zip(bytes.iter()) {
+        *to = *from;
+    }
+    let mut block = [0; BLOCK];
+    encode_block(&frame, &mut block);
+    derandomise(&mut block);
+    Ok(block)
+}
+
+// These blocks, one behind the other.
+fn joined(alloc: Global, first: &[u8], second: &[u8]) -> Result<Vec<u8>, Fail> {
+    let mut bytes = Vec::new(alloc);
+    bytes.extend_from_slice(first)?;
+    bytes.extend_from_slice(second)?;
+    Ok(bytes)
+}
+
+// No call on the disk would succeed.
+fn decodes(alloc: Global, bytes: Vec<u8>, reads: u64, out: &str) -> Result<bool, Fail> {
+    let input = Input {
+        words: &["decode", "--input", "blocks"],
+        bytes,
+        reads,
+        fault: NEVER,
+    };
+    gives(alloc, input, AMPLE, done(out))
+}
+
+// Onto an empty shelf.
+fn receives(alloc: Global, bytes: Vec<u8>, reads: u64, out: &str) -> Result<bool, Fail> {
+    let mut shelf = empty_shelf(alloc)?;
+    let input = Input {
+        words: &["receive", "--input", "blocks"],
+        bytes,
+        reads,
+        fault: NEVER,
+    };
+    gives_on(alloc, &mut shelf, input, AMPLE, done(out))
+}
+
+#[test]
+fn each_block_has_its_line_however_the_reads_are_cut(rt: HostRuntime) -> Result<(), Fail> {
+    let alloc = rt.alloc();
+    for reads in [1, 1020, 4096] {
+        assert!(rt; decodes(alloc, joined(alloc, &sent(), &[])?, reads, RESTORED)?);
+        assert!(rt; decodes(alloc, joined(alloc, &damaged(), &[])?, reads, LOST)?);
+        assert!(rt; decodes(alloc, joined(alloc, &sent(), &[7; 5])?, reads, CUT_SHORT)?);
+        assert!(rt; decodes(alloc, joined(alloc, &damaged(), &sent())?, reads, BOTH)?);
+    }
+    Ok(())
+}
+
+#[test]
+fn a_block_gives_the_files_of_its_frame(rt: HostRuntime) -> Result<(), Fail> {
+    let alloc = rt.alloc();
+    let block = block_of_file(alloc)?;
+    for reads in [1, 1020, 4096] {
+        assert!(rt; receives(alloc, joined(alloc, &block, &[])?, reads, ONE_FILE)?);
+        assert!(rt; receives(alloc, joined(alloc, &damaged(), &[])?, reads, NO_FILE)?);
+        assert!(rt; receives(alloc, joined(alloc, &damaged(), &block)?, reads, AFTER_LOST)?);
+    }
+    Ok(())
+}

@@ -1,0 +1,182 @@
+// `verify` and `extract`, and what a stop leaves.
+use crate::call::{AMPLE, Input, NEVER, Outcome, Room, done, gives_alone, gives_on, refused};
+use crate::shelves::{FRAMES, TWO_FILES, disk, disk_of_calls, one_file, with_byte};
+use crate::stated::{file_8, two_files};
+use std::alloc::Global;
+use std::test::Fail;
+
+const BOTH: &str = "file 0 ok\nfile 1 ok\n";
+
+const FIRST_BAD: &str = "file 0 bad stored 8BCA computed ED59\nfile 1 ok\n";
+
+const SECOND_BAD: &str = "file 0 ok\nfile 1 bad stored 4E05 computed 2896\n";
+
+/// An empty shelf of the capacity 1,000.
+static EMPTY: [u8; 20] = [
+    0x5A, 0x4C, 0x52, 0x53, 0x48, 0x45, 0x4C, 0x46, 1, 0, 0, 0, 0, 0, 0, 3, 0xE8, 0xC8, 0x40, 0,
+];
+
+/// The file behind the transport header: two header records and eight zeros.
+const PROPER: &str = "\0\0\x10\x02\0\0\0\x10\0\0\0\0\0\0\0\0";
+
+const LINE_7: &str = "shelved 0 vc 0 apid 100 counter 7 bytes 26 packets 1\n";
+
+// One content byte of a record is changed, at this place.
+fn verifies(alloc: Global, place: usize, out: &str) -> Result<bool, Fail> {
+    let mut shelf = with_byte(alloc, place, 0xA5)?;
+    let wanted = Outcome {
+        out,
+        status: 12,
+        line: "station: bad checksum\n",
+    };
+    gives_alone(alloc, &mut shelf, &["verify"], wanted)
+}
+
+// The same, and a file is extracted.
+fn extracts(alloc: Global, place: usize, number: &str, wanted: Outcome<'_>) -> Result<bool, Fail> {
+    let mut shelf = with_byte(alloc, place, 0xA5)?;
+    gives_alone(alloc, &mut shelf, &["extract", number], wanted)
+}
+
+#[test]
+fn each_checksum_has_its_line(rt: HostRuntime) -> Result<(), Fail> {
+    let alloc = rt.alloc();
+    let mut shelf = disk(alloc, &TWO_FILES)?;
+    assert!(rt; gives_alone(alloc, &mut shelf, &["verify"], done(BOTH))?);
+    assert!(rt; verifies(alloc, 43, FIRST_BAD)?);
+    assert!(rt; verifies(alloc, 85, SECOND_BAD)?);
+    Ok(())
+}
+
+#[test]
+fn a_sound_file_is_extracted(rt: HostRuntime) -> Result<(), Fail> {
+    let alloc = rt.alloc();
+    let bad = refused(12, "station: bad checksum\n");
+    let missing = refused(7, "station: no such file, count 2\n");
+    assert!(rt; extracts(alloc, 85, "0", done(PROPER))?);
+    assert!(rt; extracts(alloc, 85, "1", bad)?);
+    assert!(rt; extracts(alloc, 43, "0", bad)?);
+    assert!(rt; extracts(alloc, 43, "1", done(PROPER))?);
+    assert!(rt; extracts(alloc, 43, "2", missing)?);
+    assert!(rt; extracts(alloc, 43, "18446744073709551615", missing)?);
+    Ok(())
+}
+
+// All three commands find no shelf on a disk of these bytes, and leave it.
+fn is_no_shelf(alloc: Global, bytes: &[u8], line: &str) -> Result<bool, Fail> {
+    let mut shelf = disk(alloc, bytes)?;
+    let wanted = refused(6, line);
+    let received = gives_on(alloc, &mut shelf, one_file(alloc)?, AMPLE, wanted)?;
+    let extracted = gives_alone(alloc, &mut shelf, &["extract", "0"], wanted)?;
+    let verified = gives_alone(alloc, &mut shelf, &["verify"], wanted)?;
+    Ok(received && extracted && verified && shelf.as_slice() == bytes)
+}
+
+// The first gate is open, and nothing stands behind it.
+fn an_open_end_is_no_shelf(alloc: Global) -> Result<bool, Fail> {
+    let mut bytes = TWO_FILES;
+    bytes[19] = 1;
+    is_no_shelf(alloc, &bytes[..20], "station: not a shelf at 19\n")
+}
+
+#[test]
+fn without_a_shelf_nothing_is_done(rt: HostRuntime) -> Result<(), Fail> {
+    let alloc = rt.alloc();
+    assert!(rt; is_no_shelf(alloc, &[], "station: not a shelf at 0\n")?);
+    assert!(rt; is_no_shelf(alloc, &TWO_FILES[..19], "station: not a shelf at 0\n")?);
+    assert!(rt; an_open_end_is_no_shelf(alloc)?);
+    Ok(())
+}
+
+const NEXT: &str = "shelved 1 vc 0 apid 100 counter 8 bytes 26 packets 1\n\
+symbols 892 frames 1 restored 1 lost 0 packets 1 files 1 left 0 stop end\n";
+
+// The second file is received once more.
+fn next_file(alloc: Global) -> Result<Input<'static>, Fail> {
+    Ok(Input {
+        words: &FRAMES,
+        bytes: file_8(alloc)?,
+        reads: 892,
+        fault: NEVER,
+    })
+}
+
+// A stop in the write that opens the second gate left 7F there. The next file stands in the place of the second.
+fn a_stop_leaves_no_file(alloc: Global) -> Result<bool, Fail> {
+    let mut shelf = with_byte(alloc, 61, 0x7F)?;
+    let without = gives_alone(alloc, &mut shelf, &["verify"], done("file 0 ok\n"))?;
+    let added = gives_on(alloc, &mut shelf, next_file(alloc)?, AMPLE, done(NEXT))?;
+    Ok(without && added && shelf.as_slice() == TWO_FILES.as_slice())
+}
+
+#[test]
+fn a_stop_within_a_gate_leaves_its_file_out(rt: HostRuntime) -> Result<(), Fail> {
+    assert!(rt; a_stop_leaves_no_file(rt.alloc())?);
+    Ok(())
+}
+
+// The disk allows so many calls, and two files are received onto the empty shelf. What is then on the disk is verified.
+fn disk_fails(alloc: Global, calls: u64, out: &str, verified: &str) -> Result<bool, Fail> {
+    let mut shelf = disk_of_calls(alloc, &EMPTY, calls)?;
+    let input = Input {
+        words: &FRAMES,
+        bytes: two_files(alloc)?,
+        reads: 892,
+        fault: NEVER,
+    };
+    let wanted = Outcome {
+        out,
+        status: 4,
+        line: "station: disk failed\n",
+    };
+    let fails = gives_on(alloc, &mut shelf, input, AMPLE, wanted)?;
+    let mut again = disk(alloc, shelf.as_slice())?;
+    let stands = gives_alone(alloc, &mut again, &["verify"], done(verified))?;
+    Ok(fails && stands)
+}
+
+// These words alone, over a disk that allows no call.
+fn no_call_succeeds(alloc: Global, words: &[&str]) -> Result<bool, Fail> {
+    let mut shelf = disk_of_calls(alloc, &TWO_FILES, 0)?;
+    let wanted = refused(4, "station: disk failed\n");
+    gives_alone(alloc, &mut shelf, words, wanted)
+}
+
+#[test]
+fn a_disk_that_fails_ends_the_call(rt: HostRuntime) -> Result<(), Fail> {
+    let alloc = rt.alloc();
+    assert!(rt; no_call_succeeds(alloc, &["init", "100"])?);
+    assert!(rt; no_call_succeeds(alloc, &["extract", "0"])?);
+    assert!(rt; no_call_succeeds(alloc, &["verify"])?);
+    assert!(rt; disk_fails(alloc, 3, "", "")?);
+    assert!(rt; disk_fails(alloc, 5, "", "")?);
+    assert!(rt; disk_fails(alloc, 9, LINE_7, "file 0 ok\n")?);
+    Ok(())
+}
+
+// The output fails in the second line.
+fn output_fails(alloc: Global) -> Result<bool, Fail> {
+    let mut shelf = disk(alloc, &TWO_FILES)?;
+    let input = Input {
+        words: &["verify"],
+        bytes: Vec::new(alloc),
+        reads: 1,
+        fault: NEVER,
+    };
+    let room = Room {
+        bytes: 500,
+        fault: 15,
+    };
+    let wanted = Outcome {
+        out: "file 0 ok\nfile ",
+        status: 5,
+        line: "station: output failed\n",
+    };
+    gives_on(alloc, &mut shelf, input, room, wanted)
+}
+
+#[test]
+fn a_checked_file_has_its_line_or_a_front_of_it(rt: HostRuntime) -> Result<(), Fail> {
+    assert!(rt; output_fails(rt.alloc())?);
+    Ok(())
+}

@@ -1,0 +1,66 @@
+// Shelves on disks in memory.
+use crate::call::{Input, NEVER, done, gives_alone};
+use crate::stated::file_7;
+use lr_disk::MemDisk;
+use std::alloc::Global;
+use std::test::Fail;
+
+/// A shelf of the capacity 1,000 with the files 7 and 8. The gates are at 19, 61 and 103.
+pub static TWO_FILES: [u8; 104] = [
+    0x5A, 0x4C, 0x52, 0x53, 0x48, 0x45, 0x4C, 0x46, 1, 0, 0, 0, 0, 0, 0, 3, 0xE8, 0xC8, 0x40, 1, 0,
+    0, 0x64, 0, 0, 0, 1, 0, 0, 0, 0x1A, 0, 0x1A, 0, 7, 0, 0, 0, 0, 0, 0, 0, 0x88, 0, 0, 0x10, 2, 0,
+    0, 0, 0x10, 0, 0, 0, 0, 0, 0, 0, 0, 0x8B, 0xCA, 1, 0, 0, 0x64, 0, 0, 0, 1, 0, 0, 0, 0x1A, 0,
+    0x1A, 0, 8, 0, 0, 0, 0, 0, 0, 0, 0x88, 0, 0, 0x10, 2, 0, 0, 0, 0x10, 0, 0, 0, 0, 0, 0, 0, 0,
+    0x4E, 5, 0,
+];
+
+/// The words to receive frames.
+pub const FRAMES: [&str; 3] = ["receive", "--input", "frames"];
+
+/// A disk of these bytes that allows so many calls.
+pub fn disk_of_calls(alloc: Global, bytes: &[u8], calls: u64) -> Result<MemDisk, Fail> {
+    let bytes = bytes.to_vec(alloc)?;
+    if bytes.len() > 10_000 {
+        return Err(Fail::from("too many bytes"));
+    }
+    Ok(MemDisk::of(alloc, bytes, 10_000, calls)?)
+}
+
+/// A disk of these bytes, with room and calls enough.
+pub fn disk(alloc: Global, bytes: &[u8]) -> Result<MemDisk, Fail> {
+    disk_of_calls(alloc, bytes, 1_000)
+}
+
+/// An empty shelf of the capacity 1,000.
+pub fn empty_shelf(alloc: Global) -> Result<MemDisk, Fail> {
+    let mut made = disk(alloc, &[])?;
+    if gives_alone(
+        alloc,
+        &mut made,
+        &["init", "1000"],
+        done("shelf capacity 1000\n"),
+    )? {
+        Ok(made)
+    } else {
+        Err(Fail::from("no shelf was made"))
+    }
+}
+
+/// The shelf of two files, with one byte changed.
+pub fn with_byte(alloc: Global, place: usize, byte: u8) -> Result<MemDisk, Fail> {
+    let mut bytes = TWO_FILES;
+    if let Some(one) = bytes.get_mut(place) {
+        *one = byte;
+    }
+    disk(alloc, &bytes)
+}
+
+/// What a call reads to receive the frame of one file.
+pub fn one_file(alloc: Global) -> Result<Input<'static>, Fail> {
+    Ok(Input {
+        words: &FRAMES,
+        bytes: file_7(alloc)?,
+        reads: 892,
+        fault: NEVER,
+    })
+}

@@ -1,0 +1,125 @@
+#!/bin/sh
+# The program over a real file: many small files are received, verified and extracted. Then rounds in which `receive` is
+# killed (SIGKILL) at a drawn moment: each file whose line was printed must be on the shelf, with its bytes.
+# A kill leaves what the system was handed, so this tries the order of the writes, and not what a disk keeps of them.
+# Usage: trials/kill.sh [ROUNDS [FRAMES]] (20 rounds of 4,000 frames, each with one file). Needs rt and python3.
+set -e
+top=$(cd "$(dirname "$0")/.." && pwd)
+rounds=${1:-20}
+frames=${2:-4000}
+scratch=$(mktemp -d)
+trap 'rm -rf "$scratch"' EXIT
+"$top/lritstation" - frames < /dev/null > "$scratch/build.log" 2>&1 || { cat "$scratch/build.log"; exit 1; }
+cp "$top/crates/lr_program/out/lr_program" "$scratch/lritstation"
+
+cat > "$scratch/kill.py" <<'PYTHON'
+import os, random, subprocess, sys, time
+
+scratch, rounds, frames = sys.argv[1], int(sys.argv[2]), int(sys.argv[3])
+program, shelf, stream, out = (os.path.join(scratch, name) for name in ("lritstation", "shelf", "stream", "out"))
+
+
+def crc(data):
+    rest = 0xFFFF
+    for byte in data:
+        rest ^= byte << 8
+        for _ in range(8):
+            rest = (rest << 1 ^ 0x1021 if rest & 0x8000 else rest << 1) & 0xFFFF
+    return rest
+
+
+def packet(apid, count, data):
+    return bytes([apid >> 8, apid & 255, 0xC0 | count >> 8 & 63, count & 255]) + (len(data) - 1).to_bytes(2, "big") + data
+
+
+# the file of this number behind its transport header: 1 to 300 bytes
+def proper(number):
+    return (number.to_bytes(4, "big") * 75)[:1 + number * 37 % 300]
+
+
+def frame(number):
+    content = proper(number)
+    body = (number & 0xFFFF).to_bytes(2, "big") + (8 * len(content)).to_bytes(8, "big") + content
+    good = packet(100, number & 0x3FFF, body + crc(body).to_bytes(2, "big"))
+    zone = good + packet(2047, 0, bytes(884 - len(good) - 6))
+    return bytes([0x40, 0x40]) + (number & 0xFFFFFF).to_bytes(3, "big") + bytes(3) + zone
+
+
+def run(*words, **streams):
+    return subprocess.run([program, shelf, *words], stderr=subprocess.PIPE, **streams)
+
+
+def make_shelf():
+    if os.path.exists(shelf):
+        os.remove(shelf)
+    made = run("init", "1000000000", stdout=subprocess.PIPE)
+    assert made.returncode == 0 and made.stdout == b"shelf capacity 1000000000\n", made
+
+
+# the numbers of the files whose whole line was printed
+def acknowledged():
+    with open(out, "rb") as lines:
+        return [int(line.split()[1]) for line in lines.read().split(b"\n")[:-1] if line.startswith(b"shelved ")]
+
+
+# how many files the shelf has, where `verify` finds each of them good
+def verified():
+    checked = run("verify", stdout=subprocess.PIPE)
+    lines = checked.stdout.decode().splitlines()
+    good = checked.returncode == 0 and lines == ["file %d ok" % k for k in range(len(lines))]
+    return len(lines) if good else None
+
+
+# whether some drawn ones of these first files, and the last two, are extracted as they were sent
+def extracts(count):
+    drawn = random.sample(range(count), min(20, count)) + list(range(count))[-2:]
+    return all(run("extract", str(k), stdout=subprocess.PIPE).stdout == proper(k) for k in drawn)
+
+
+# receives all frames, or is killed so many seconds after its start; answers the seconds that it ran
+def receive(after=None):
+    begin = time.monotonic()
+    with open(stream, "rb") as source, open(out, "wb") as lines:
+        running = subprocess.Popen([program, shelf, "receive", "--input", "frames"], stdin=source, stdout=lines)
+        try:
+            running.wait(after)
+        except subprocess.TimeoutExpired:
+            running.kill()
+            running.wait()
+    return running.returncode, time.monotonic() - begin
+
+
+with open(stream, "wb") as target:
+    for number in range(frames):
+        target.write(frame(number))
+make_shelf()
+status, whole = receive()
+with open(out, "rb") as lines:
+    last = lines.read().split(b"\n")[-2].decode()
+wanted = "symbols %d frames %d restored %d lost 0 packets %d files %d left 0 stop end" % (892 * frames, *[frames] * 4)
+passed = status == 0 and last == wanted and acknowledged() == list(range(frames)) and verified() == frames and extracts(frames)
+print("whole run: %s, %d files in %.2f s" % ("passed" if passed else "FAILED", frames, whole))
+
+
+# A shelf on which a `receive` was killed has the acknowledged files and at most one more, and takes the next ones behind them.
+def keeps_all(numbers):
+    count = verified()
+    if count is None or numbers != list(range(len(numbers))) or count - len(numbers) not in (0, 1) or not extracts(count):
+        return False
+    status, _ = receive()
+    return status == 0 and acknowledged() == list(range(count, count + frames)) and verified() == count + frames
+
+
+good = killed = 0
+for number in range(rounds):
+    make_shelf()
+    status, _ = receive(random.uniform(0, whole))
+    numbers = acknowledged()
+    killed += status == -9
+    kept = keeps_all(numbers)
+    good += kept
+    print("round %d: %s, status %d, %d files acknowledged" % (number, "passed" if kept else "FAILED", status, len(numbers)))
+print("%d of %d rounds passed, in %d of them the program was killed" % (good, rounds, killed))
+sys.exit(0 if passed and good == rounds else 1)
+PYTHON
+python3 "$scratch/kill.py" "$scratch" "$rounds" "$frames"
