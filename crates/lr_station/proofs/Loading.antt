@@ -71,17 +71,36 @@ no_bytes (Units form) =
     let none = units_are (unit_bytes form) (positive form (unit_bytes form) refl) [] [] (All-nil (λ (u : List ℕ). length u ≡ unit_bytes form)) (positive form (unit_bytes form) refl) in
     files_are form [] [] (outcomes_are form [] [] none ∙ outcomes_of_units-none form) ∙ no_files
 
--- memory for reading was refused, before any byte was taken
-pub not_ready : {S D O : Type 0} (source : SourceOf S) (disk : DiskOf D) (out : SinkOf O) (input : Input) (limit : ℕ) (shelf : Shelf) (s : S) (d : D) (o : O)
-    → EndsRun source disk out input limit NoMemory shelf s s d d o o
-not_ready source disk out input limit shelf s d o = record {
-  bytes = [];
-  read = record { moved = λ t. refl; few = omega arith };
-  ends = λ capacity before d0 o0 so_far. (
-    subst (λ (l : List File). LeavesFronts disk capacity before l d0 d) (sym (no_bytes input)) so_far.any_moment,
-    record { done = []; rest = []; split = no_bytes input; durable = so_far.settled.on_disk; got = so_far.put.put },
-  );
-}
+module _ {S D O : Type 0} (source : SourceOf S) (disk : DiskOf D) (only_now : (d : D) (c : List ℕ) → disk.tells d → disk.left_since d (disk.moment d) c → disk.may_leave d c)
+    (out : SinkOf O) (input : Input) (limit : ℕ) (s : S) (d : D) (o : O) where
+  untouched : (capacity : ℕ) (before : List File) → disk.tells d → IsDurable disk capacity before d → LeavesOnly disk.moment disk.left_since d d (λ c. StandsFor c capacity before)
+  untouched capacity before told durable = record {
+    later = omega arith;
+    each = λ c left. subst (λ (l : List ℕ). StandsFor l capacity before) (sym (durable.durable c (only_now d c told left))) durable.stands;
+    before = λ t c le left. inl left;
+    keeps = λ t c le left. left;
+  }
+
+  -- memory for reading was refused, before anything was called
+  pub not_made : ReceiveRun source disk out input limit NoMemory s s d d o o
+  not_made = record {
+    onto_shelf = λ capacity before told durable. (
+      [],
+      receives source disk out input capacity before limit [] s s d d o o NoMemory (record { moved = λ t. refl; few = omega arith })
+      (subst (λ (l : List File). LeavesFronts disk capacity before l d d) (sym (no_bytes input))
+      (weaker disk.moment disk.left_since d d _ _ (front_none disk out capacity before d d o) (untouched capacity before told durable)))
+      (record {
+        done = [];
+        rest = [];
+        split = no_bytes input;
+        durable = record { stands = subst (λ (l : List File). StandsFor (disk.contents d) capacity l) (sym (append-nil before)) durable.stands; durable = durable.durable };
+        got = λ t. sym (ap (λ l. out.contents o ++ l) (shelved_lines-none (length before)) ∙ append-nil (out.contents o));
+      }),
+    );
+    causes = tt;
+    refused = λ at is. cc (is);
+    broken = λ at told no. tt;
+  }
 
 module _ {S D O : Type 0} (source : SourceOf S) (disk : DiskOf D) (out : SinkOf O) (input : Input) (limit : ℕ) (s : S) (d d1 : D) (o : O) (result : Result Shelf ShelfError) (loads : Loads disk d d1 result) where
   module _ (capacity : ℕ) (before : List File) (told : disk.tells d) (durable : IsDurable disk capacity before d) where

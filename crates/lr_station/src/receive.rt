@@ -17,7 +17,7 @@ use crate::shelve::shelve_outcome;
 use crate::symbols::Decoder;
 use crate::units::{Next, Units};
 use crate::words::{Input, UnitForm};
-use lr_bits::{Bytes, Corrected, Outcome};
+use lr_bits::{Bytes, Corrected, NoMemory, Outcome};
 use lr_block::outcome_of;
 use lr_catalog::{Stop, Summary, summary_line};
 use lr_disk::Disk;
@@ -206,31 +206,32 @@ fn put_last<O: Sink>(alloc: Global, ended: &Ended, out: &mut O) -> Result<(), Ca
     put_text(line.as_slice(), out)
 }
 
-// All of it, onto a shelf that is loaded. What reading takes of memory is taken first.
+// All of it, onto a shelf that is loaded.
 fn receive_onto<S: Source, D: Disk, O: Sink>(
     alloc: Global,
-    input: Input,
+    reader: &mut Reader,
     most: u64,
     shelf: &mut Shelf,
     source: &mut S,
     disk: &mut D,
     out: &mut O,
 ) -> Result<Stop, Cause>
+    requires ready { IsReadyFor most reader.old }
     requires few { most ≤ 2 ^ 48 }
     ensures reason { IfOk result (λ stop. IsCaused (cause_at stop) (S.faults source.old) (S.faults source.new) 0 0 0 0) }
     ensures kind { IfErr result MayStop }
     ensures cause { (kept_by shelf.old).failed ≡ false
         → IfErr result (λ cause. IsCaused cause (S.faults source.old) (S.faults source.new) (D.faults disk.old) (D.faults disk.new) (O.faults out.old) (O.faults out.new)) }
-    ensures done { IfOk result (λ stop. EndsRun S.Source D.Disk O.Sink input most (cause_at stop) shelf.old source.old source.new disk.old disk.new out.old out.new) }
-    ensures stopped { IfErr result (λ cause. EndsRun S.Source D.Disk O.Sink input most cause shelf.old source.old source.new disk.old disk.new out.old out.new) }
+    ensures done { IfOk result (λ stop. EndsRun S.Source D.Disk O.Sink (input_of reader.old) most (cause_at stop) shelf.old source.old source.new disk.old disk.new out.old out.new) }
+    ensures stopped { IfErr result (λ cause. EndsRun S.Source D.Disk O.Sink (input_of reader.old) most cause shelf.old source.old source.new disk.old disk.new out.old out.new) }
 {
-    let mut reader = Reader::new(alloc, input, most)?;
-    let ended = receive_all(alloc, &mut reader, most, shelf, source, disk, out)?;
+    let ended = receive_all(alloc, reader, most, shelf, source, disk, out)?;
     put_last(alloc, &ended, out)?;
     Ok(ended.stop)
 }
 
-/// Takes at most so many bytes, and puts their mission files onto the shelf that the disk holds.
+/// Takes at most so many bytes, and puts their mission files onto the shelf that the disk holds. What reading takes of memory
+/// is taken first, then the shelf is loaded, and then the source is read.
 pub(crate) fn receive<S: Source, D: Disk, O: Sink>(
     alloc: Global,
     input: Input,
@@ -243,11 +244,15 @@ pub(crate) fn receive<S: Source, D: Disk, O: Sink>(
     ensures cause { IsCaused result (S.faults source.old) (S.faults source.new) (D.faults disk.old) (D.faults disk.new) (O.faults out.old) (O.faults out.new) }
     ensures run { ReceiveRun S.Source D.Disk O.Sink input most result source.old source.new disk.old disk.new out.old out.new }
 {
+    let mut reader = match Reader::new(alloc, input, most) {
+        Ok(reader) => reader,
+        Err(NoMemory) => return Cause::NoMemory,
+    };
     let mut shelf = match Shelf::load(alloc, disk) {
         Ok(shelf) => shelf,
         Err(error) => return Cause::from(error),
     };
-    match receive_onto(alloc, input, most, &mut shelf, source, disk, out) {
+    match receive_onto(alloc, &mut reader, most, &mut shelf, source, disk, out) {
         Ok(stop) => Cause::at(stop),
         Err(cause) => cause,
     }
