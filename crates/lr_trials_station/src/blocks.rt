@@ -69,7 +69,7 @@ fn joined(alloc: Global, first: &[u8], second: &[u8]) -> Result<Vec<u8>, Fail> {
 }
 
 // No call on the disk would succeed.
-fn decodes(alloc: Global, bytes: Vec<u8>, reads: u64, out: &str) -> Result<bool, Fail> {
+fn decodes(alloc: Global, bytes: Vec<u8>, reads: usize, out: &str) -> Result<bool, Fail> {
     let input = Input {
         words: &["decode", "--input", "blocks"],
         bytes,
@@ -80,7 +80,7 @@ fn decodes(alloc: Global, bytes: Vec<u8>, reads: u64, out: &str) -> Result<bool,
 }
 
 // Onto an empty shelf.
-fn receives(alloc: Global, bytes: Vec<u8>, reads: u64, out: &str) -> Result<bool, Fail> {
+fn receives(alloc: Global, bytes: Vec<u8>, reads: usize, out: &str) -> Result<bool, Fail> {
     let mut shelf = empty_shelf(alloc)?;
     let input = Input {
         words: &["receive", "--input", "blocks"],

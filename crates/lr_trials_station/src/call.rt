@@ -1,6 +1,7 @@
 // Calls of the station over the memory forms.
 use lr_disk::MemDisk;
 use lr_io::{MemSink, MemSource};
+use crate::short::ShortSource;
 use lr_station::station;
 use std::alloc::{AllocError, Global};
 use std::test::Fail;
@@ -10,7 +11,7 @@ use std::test::Fail;
 pub struct Input<'a> {
     pub words: &'a [&'a str],
     pub bytes: Vec<u8>,
-    pub reads: u64,
+    pub reads: usize,
     pub fault: u64,
 }
 
@@ -56,24 +57,35 @@ pub fn refused(status: u8, line: &str) -> Outcome<'_> {
     }
 }
 
-/// The places at which reads of this length end, up to the length of these bytes.
-fn cuts(alloc: Global, bytes: usize, reads: u64) -> Result<Vec<u64>, AllocError> {
-    let mut cuts = Vec::new(alloc);
-    for k in 1..=bytes as u64 {
-        let place = k.saturating_mul(reads);
-        if place <= bytes as u64 {
-            cuts.push(place)?;
-        }
-    }
-    Ok(cuts)
-}
-
 fn owned(alloc: Global, words: &[&str]) -> Result<Vec<String>, AllocError> {
     let mut all = Vec::new(alloc);
     for word in words {
         all.push(String::from_str(alloc, word)?)?;
     }
     Ok(all)
+}
+
+/// What came of a call.
+#[derive(Drop)]
+struct Printed {
+    status: u8,
+    out: MemSink,
+    err: MemSink,
+}
+
+fn call(
+    alloc: Global,
+    disk: &mut MemDisk,
+    input: Input<'_>,
+    room: Room,
+) -> Result<Printed, Fail> {
+    let words = owned(alloc, input.words)?;
+    let bytes = MemSource::of(input.bytes, Vec::new(alloc), vec![in alloc; input.fault]?);
+    let mut source = ShortSource::of(bytes, input.reads);
+    let mut out = MemSink::of(alloc, vec![in alloc; room.fault]?, room.bytes)?;
+    let mut err = MemSink::of(alloc, Vec::new(alloc), 100)?;
+    let status = station(alloc, &words, &mut source, disk, &mut out, &mut err);
+    Ok(Printed { status, out, err })
 }
 
 /// Whether the call gives that outcome, over this disk.
@@ -84,17 +96,26 @@ pub fn gives_on(
     room: Room,
     wanted: Outcome<'_>,
 ) -> Result<bool, Fail> {
-    let words = owned(alloc, input.words)?;
-    let cuts = cuts(alloc, input.bytes.len(), input.reads)?;
-    let mut source = MemSource::of(input.bytes, cuts, vec![in alloc; input.fault]?);
-    let mut out = MemSink::of(alloc, vec![in alloc; room.fault]?, room.bytes)?;
-    let mut err = MemSink::of(alloc, Vec::new(alloc), 100)?;
-    let status = station(alloc, &words, &mut source, disk, &mut out, &mut err);
+    let called = call(alloc, disk, input, room)?;
     Ok(
-        status == wanted.status
-            && out.as_slice() == wanted.out.as_bytes()
-            && err.as_slice() == wanted.line.as_bytes(),
+        called.status == wanted.status
+            && called.out.as_slice() == wanted.out.as_bytes()
+            && called.err.as_slice() == wanted.line.as_bytes(),
     )
+}
+
+/// Whether the call does its work over this disk, and ends with this text.
+pub fn ends_on(
+    alloc: Global,
+    disk: &mut MemDisk,
+    input: Input<'_>,
+    room: Room,
+    last: &str,
+) -> Result<bool, Fail> {
+    let called = call(alloc, disk, input, room)?;
+    let text = called.out.as_slice();
+    let first = text.len().saturating_sub(last.len());
+    Ok(called.status == 0 && &text[first..] == last.as_bytes() && called.err.as_slice().is_empty())
 }
 
 /// The same, over a disk of which no call succeeds.

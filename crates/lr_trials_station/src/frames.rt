@@ -15,7 +15,7 @@ fn frames(
     alloc: Global,
     byte: u8,
     count: usize,
-    reads: u64,
+    reads: usize,
     fault: u64,
     wanted: Outcome<'_>,
 ) -> Result<bool, Fail> {
@@ -28,7 +28,7 @@ fn frames(
     gives(alloc, input, AMPLE, wanted)
 }
 
-fn prints(alloc: Global, byte: u8, count: usize, reads: u64, out: &str) -> Result<bool, Fail> {
+fn prints(alloc: Global, byte: u8, count: usize, reads: usize, out: &str) -> Result<bool, Fail> {
     frames(alloc, byte, count, reads, NEVER, done(out))
 }
 

@@ -18,6 +18,10 @@ mod receive;
 #[cfg(test)]
 mod shelves;
 #[cfg(test)]
+mod short;
+#[cfg(test)]
 mod stated;
 #[cfg(test)]
 mod streams;
+#[cfg(test)]
+mod symbols;

@@ -25,7 +25,7 @@ frames 2 packets 2 good 0 left 0 stop end\n";
 const ENDED: &str = "packet 0 vc 0 apid 2047 flags 3 count 0 length 875 fault idle\n\
 frames 2 packets 1 good 0 left 0 stop end\n";
 
-fn prints(alloc: Global, bytes: Vec<u8>, reads: u64, out: &str) -> Result<bool, Fail> {
+fn prints(alloc: Global, bytes: Vec<u8>, reads: usize, out: &str) -> Result<bool, Fail> {
     let input = Input {
         words: &["packets"],
         bytes,

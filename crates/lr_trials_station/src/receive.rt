@@ -33,7 +33,7 @@ const BEGIN: [u8; 2] = [0x31, 0xD4];
 
 const MIDDLE: [u8; 2] = [0x0E, 0x7C];
 
-fn prints(alloc: Global, bytes: Vec<u8>, reads: u64, out: &str) -> Result<bool, Fail> {
+fn prints(alloc: Global, bytes: Vec<u8>, reads: usize, out: &str) -> Result<bool, Fail> {
     let mut shelf = empty_shelf(alloc)?;
     let input = Input {
         words: &FRAMES,

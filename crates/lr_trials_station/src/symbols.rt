@@ -1,0 +1,186 @@
+// `decode` and `receive` of symbols.
+use crate::call::{AMPLE, Input, NEVER, Outcome, Room, done, ends_on, gives, gives_on};
+use crate::shelves::empty_shelf;
+use lr_bits::NoMemory;
+use lr_disk::MemDisk;
+use lr_make::Maker;
+use lr_trials_lock::streams::{leave_hits, sent, silence};
+use std::alloc::Global;
+use std::test::Fail;
+
+const FRAME: usize = 16_384;
+
+const EIGHT_WINDOWS: &str = "window 0 at 0 polarity + restored 0 0 0 0\n\
+window 1 at 16384 polarity + restored 0 0 0 0\n\
+window 2 at 32768 polarity + restored 0 0 0 0\n\
+window 3 at 49152 polarity + restored 0 0 0 0\n\
+window 4 at 65536 polarity + restored 0 0 0 0\n\
+window 5 at 81920 polarity + restored 0 0 0 0\n\
+window 6 at 98304 polarity + restored 0 0 0 0\n\
+window 7 at 114688 polarity + restored 0 0 0 0\n\
+symbols 131072 frames 8 restored 8 lost 0 left 0 stop end\n";
+
+const NEGATED: &str = "window 0 at 0 polarity - restored 0 0 0 0\n\
+window 1 at 16384 polarity - restored 0 0 0 0\n\
+window 2 at 32768 polarity - restored 0 0 0 0\n\
+window 3 at 49152 polarity - restored 0 0 0 0\n\
+window 4 at 65536 polarity - restored 0 0 0 0\n\
+window 5 at 81920 polarity - restored 0 0 0 0\n\
+window 6 at 98304 polarity - restored 0 0 0 0\n\
+window 7 at 114688 polarity - restored 0 0 0 0\n\
+symbols 131072 frames 8 restored 8 lost 0 left 0 stop end\n";
+
+const ALL: &str = "symbols 131072 frames 8 restored 8 lost 0 left 0 stop end\n";
+
+const ONE_GONE: &str = "symbols 131072 frames 7 restored 7 lost 0 left 0 stop end\n";
+
+const CUT_SHORT: &str = "symbols 131071 frames 7 restored 7 lost 0 left 0 stop end\n";
+
+const NOTHING: &str = "symbols 0 frames 0 restored 0 lost 0 packets 0 files 0 left 0 stop end\n";
+
+const NO_FILE: &str =
+    "symbols 131072 frames 8 restored 8 lost 0 packets 0 files 0 left 0 stop end\n";
+
+const FAILED: &str =
+    "symbols 70000 frames 4 restored 4 lost 0 packets 0 files 0 left 0 stop fault\n";
+
+const SIXTY_FOUR: &str =
+    "symbols 1048576 frames 64 restored 64 lost 0 packets 452 files 63 left 0 stop end\n";
+
+// The symbols as bytes, with or without their signs changed.
+fn bytes_of(alloc: Global, symbols: &[i8], negated: bool) -> Result<Vec<u8>, NoMemory> {
+    let mut bytes = Vec::new(alloc);
+    for symbol in symbols {
+        let symbol = if negated { symbol.wrapping_neg() } else { *symbol };
+        bytes.push(symbol.cast_unsigned())?;
+    }
+    Ok(bytes)
+}
+
+fn decoding<'a>(bytes: Vec<u8>, reads: usize) -> Input<'a> {
+    Input {
+        words: &["decode"],
+        bytes,
+        reads,
+        fault: NEVER,
+    }
+}
+
+// Whether `decode` ends with this line, in reads of each size and in both polarities.
+fn decodes(alloc: Global, symbols: &[i8], last: &str) -> Result<bool, Fail> {
+    let mut disk = MemDisk::of(alloc, Vec::new(alloc), 0, 0)?;
+    for reads in [1, 4_096, 65_536] {
+        for negated in [false, true] {
+            let input = decoding(bytes_of(alloc, symbols, negated)?, reads);
+            if !ends_on(alloc, &mut disk, input, AMPLE, last)? {
+                return Ok(false);
+            }
+        }
+    }
+    Ok(true)
+}
+
+fn receives(alloc: Global, bytes: Vec<u8>, wanted: Outcome<'_>) -> Result<bool, Fail> {
+    let mut shelf = empty_shelf(alloc)?;
+    let input = Input {
+        words: &["receive"],
+        bytes,
+        reads: 4_096,
+        fault: NEVER,
+    };
+    gives_on(alloc, &mut shelf, input, AMPLE, wanted)
+}
+
+#[test]
+fn each_window_has_its_line(rt: HostRuntime) -> Result<(), Fail> {
+    let alloc = rt.alloc();
+    let symbols = sent(alloc)?;
+    let plain = decoding(bytes_of(alloc, &symbols, false)?, 4_096);
+    assert!(rt; gives(alloc, plain, AMPLE, done(EIGHT_WINDOWS))?);
+    let negated = decoding(bytes_of(alloc, &symbols, true)?, 4_096);
+    assert!(rt; gives(alloc, negated, AMPLE, done(NEGATED))?);
+    Ok(())
+}
+
+#[test]
+fn last_lines_are_those_of_any_reads(rt: HostRuntime) -> Result<(), Fail> {
+    let alloc = rt.alloc();
+    let mut symbols = sent(alloc)?;
+    assert!(rt; decodes(alloc, &symbols, ALL)?);
+    let shorter = symbols.len().saturating_sub(1);
+    assert!(rt; decodes(alloc, &symbols[..shorter], CUT_SHORT)?);
+    for number in 1..=3 {
+        leave_hits(&mut symbols, number, 0);
+    }
+    assert!(rt; decodes(alloc, &symbols, ALL)?);
+    silence(&mut symbols, 4 * FRAME, FRAME);
+    assert!(rt; decodes(alloc, &symbols, ONE_GONE)?);
+    Ok(())
+}
+
+#[test]
+fn symbols_without_files_leave_the_shelf_empty(rt: HostRuntime) -> Result<(), Fail> {
+    let alloc = rt.alloc();
+    assert!(rt; receives(alloc, Vec::new(alloc), done(NOTHING))?);
+    let bytes = bytes_of(alloc, &sent(alloc)?, false)?;
+    assert!(rt; receives(alloc, bytes, done(NO_FILE))?);
+    Ok(())
+}
+
+#[test]
+fn frames_before_a_fault_are_received(rt: HostRuntime) -> Result<(), Fail> {
+    let alloc = rt.alloc();
+    let mut shelf = empty_shelf(alloc)?;
+    let input = Input {
+        words: &["receive", "--input", "symbols"],
+        bytes: bytes_of(alloc, &sent(alloc)?, false)?,
+        reads: 4_096,
+        fault: 70_000,
+    };
+    let wanted = Outcome {
+        out: FAILED,
+        status: 3,
+        line: "station: source failed\n",
+    };
+    assert!(rt; gives_on(alloc, &mut shelf, input, AMPLE, wanted)?);
+    Ok(())
+}
+
+// The symbols of so many frames of the test stream with sixteen wrong bytes in each word.
+fn made(alloc: Global, frames: u8) -> Result<Vec<u8>, Fail> {
+    let mut maker = Maker::new(1, 16)?;
+    let mut bytes = Vec::new(alloc);
+    let mut symbols = [0; FRAME];
+    for _ in 0..frames {
+        maker.next_symbols(&mut symbols)?;
+        for symbol in &symbols {
+            bytes.push(symbol.cast_unsigned())?;
+        }
+    }
+    Ok(bytes)
+}
+
+#[test]
+fn files_of_the_test_stream_are_shelved(rt: HostRuntime) -> Result<(), Fail> {
+    let alloc = rt.alloc();
+    let mut disk = MemDisk::of(alloc, Vec::new(alloc), 100_000, 10_000)?;
+    let init = Input {
+        words: &["init", "100000"],
+        bytes: Vec::new(alloc),
+        reads: 1,
+        fault: NEVER,
+    };
+    assert!(rt; gives_on(alloc, &mut disk, init, AMPLE, done("shelf capacity 100000\n"))?);
+    let input = Input {
+        words: &["receive"],
+        bytes: made(alloc, 64)?,
+        reads: 65_536,
+        fault: NEVER,
+    };
+    let room = Room {
+        bytes: 10_000,
+        fault: NEVER,
+    };
+    assert!(rt; ends_on(alloc, &mut disk, input, room, SIXTY_FOUR)?);
+    Ok(())
+}
