@@ -6,7 +6,7 @@ use lr_io::{ReadSource, WriteSink};
 use lr_station::{Cause, station, tell};
 use std::fs::{File, OpenOptions};
 use std::process::ExitCode;
-use std::{env, io};
+use std::{env, fs, io};
 
 /// The path that stands for an empty disk in memory, which no one sees afterwards.
 const NO_FILE: &str = "-";
@@ -31,6 +31,12 @@ fn all_words(rt: &HostRuntime) -> Result<Vec<String>, Cause> {
         words.push(word).map_err(|_| Cause::NoMemory)?;
     }
     Ok(words)
+}
+
+/// Takes three descriptors, among them those of the standard streams that were closed. Nothing opened while these are held
+/// is taken for such a stream, and the stream fails, since a directory is neither read nor written as bytes.
+fn fill_streams(rt: &HostRuntime) -> [io::Result<File>; 3] {
+    [fs::open(rt, "/"), fs::open(rt, "/"), fs::open(rt, "/")]
 }
 
 /// The file of the shelf, which is made where it is missing.
@@ -71,6 +77,7 @@ fn run(rt: &HostRuntime) -> u8 {
     if path.as_str() == NO_FILE {
         return run_in_memory(rt, words);
     }
+    let _streams = fill_streams(rt);
     match open_shelf(rt, path.as_str()) {
         Ok(file) => run_on(rt, words, &mut FileDisk::of(file)),
         Err(_) => UNOPENED,
