@@ -1,7 +1,7 @@
 // Calls of the station over the memory forms.
+use crate::short::ShortSource;
 use lr_disk::MemDisk;
 use lr_io::{MemSink, MemSource};
-use crate::short::ShortSource;
 use lr_station::station;
 use std::alloc::{AllocError, Global};
 use std::test::Fail;
@@ -73,12 +73,7 @@ struct Printed {
     err: MemSink,
 }
 
-fn call(
-    alloc: Global,
-    disk: &mut MemDisk,
-    input: Input<'_>,
-    room: Room,
-) -> Result<Printed, Fail> {
+fn call(alloc: Global, disk: &mut MemDisk, input: Input<'_>, room: Room) -> Result<Printed, Fail> {
     let words = owned(alloc, input.words)?;
     let bytes = MemSource::of(input.bytes, Vec::new(alloc), vec![in alloc; input.fault]?);
     let mut source = ShortSource::of(bytes, input.reads);

@@ -51,7 +51,11 @@ const SIXTY_FOUR: &str =
 fn bytes_of(alloc: Global, symbols: &[i8], negated: bool) -> Result<Vec<u8>, NoMemory> {
     let mut bytes = Vec::new(alloc);
     for symbol in symbols {
-        let symbol = if negated { symbol.wrapping_neg() } else { *symbol };
+        let symbol = if negated {
+            symbol.wrapping_neg()
+        } else {
+            *symbol
+        };
         bytes.push(symbol.cast_unsigned())?;
     }
     Ok(bytes)
@@ -170,7 +174,15 @@ fn files_of_the_test_stream_are_shelved(rt: HostRuntime) -> Result<(), Fail> {
         reads: 1,
         fault: NEVER,
     };
-    assert!(rt; gives_on(alloc, &mut disk, init, AMPLE, done("shelf capacity 100000\n"))?);
+    assert!(rt;
+        gives_on(
+            alloc,
+            &mut disk,
+            init,
+            AMPLE,
+            done("shelf capacity 100000\n")
+        )?
+    );
     let input = Input {
         words: &["receive"],
         bytes: made(alloc, 64)?,
