@@ -9,6 +9,7 @@ pub mod FramesText
 pub mod Gathering
 pub mod Headline
 pub mod Loading
+pub mod Making
 pub mod Outcomes
 pub mod PacketsCounted
 pub mod PacketsLoop

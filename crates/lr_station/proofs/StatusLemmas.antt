@@ -11,7 +11,7 @@ use Rattle.lr_shelf.specs.Shelf.{IsDurable}
 use Rattle.lr_station.specs.declared.cause.Cause.{Cause}
 use Rattle.lr_station.specs.declared.cause.Cause.TheVariants.{Done, Usage, SourceFailed, DiskFailed, OutputFailed, NotAShelf, NoSuchFile, NoMemory, Capacity, NotEmpty, BadChecksum}
 use Rattle.lr_station.specs.declared.words.Command.{Command}
-use Rattle.lr_station.specs.declared.words.Command.TheVariants.{Init, Frames, Packets, Decode, Receive, Extract, Verify}
+use Rattle.lr_station.specs.declared.words.Command.TheVariants.{Init, Frames, Packets, Decode, Receive, Extract, Verify, Make}
 use Rattle.lr_station.specs.Causes.{status_of, IsCaused}
 use Rattle.lr_shelf_format.specs.Record.{computed_checksum, stored_checksum}
 use Rattle.lr_station.specs.Entries.{Way, gate_at, entry_bytes, HasEntry, IsSoundEntry, IsBadEntry}
@@ -156,6 +156,7 @@ module _ {S D O : Type 0} (source : SourceOf S) (disk : DiskOf D) (out : SinkOf 
   usage_runs (Some (Frames most)) runs = absurd runs.1
   usage_runs (Some (Packets most)) runs = absurd runs.1
   usage_runs (Some (Decode input most)) runs = absurd runs.1
+  usage_runs (Some (Make start frames wrong form)) runs = absurd runs.2
   usage_runs (Some (Receive input most)) runs = absurd runs.causes
   usage_runs (Some (Extract number)) runs = absurd runs.1.ends
   usage_runs (Some Verify) runs = absurd runs.1.ends
@@ -178,6 +179,7 @@ module _ {S D O : Type 0} (source : SourceOf S) (disk : DiskOf D) (out : SinkOf 
   no_shelf_runs (Some (Frames most)) at runs told = absurd runs.1
   no_shelf_runs (Some (Packets most)) at runs told = absurd runs.1
   no_shelf_runs (Some (Decode input most)) at runs told = absurd runs.1
+  no_shelf_runs (Some (Make start frames wrong form)) at runs told = absurd runs.2
   no_shelf_runs (Some (Receive input most)) at runs told = record { loads = tt; at = at; why = inl ((runs.refused at refl).no_shelf told) }
   no_shelf_runs (Some (Extract number)) at runs told = record { loads = tt; at = at; why = why (runs.1.ends.1 told) } where
     why : IsNoShelfAt (disk.contents d) at ⊎ LacksRecord disk out number at d → IsNoShelfAt (disk.contents d) at ⊎ LacksRecordAt (Some (Extract number)) (disk.contents d) at
@@ -200,6 +202,7 @@ module _ {S D O : Type 0} (source : SourceOf S) (disk : DiskOf D) (out : SinkOf 
   refuses_broken (Some (Frames most)) cause runs loads told at none = absurd loads
   refuses_broken (Some (Packets most)) cause runs loads told at none = absurd loads
   refuses_broken (Some (Decode input most)) cause runs loads told at none = absurd loads
+  refuses_broken (Some (Make start frames wrong form)) cause runs loads told at none = absurd loads
   refuses_broken (Some (Receive input most)) cause runs loads told at none = before_reading at cause (runs.broken at told none)
   refuses_broken (Some (Extract number)) cause runs loads told at none = before_reading at cause (runs.1.broken at told none)
   refuses_broken (Some Verify) cause runs loads told at none = before_reading at cause (runs.1.broken at told none)
@@ -210,6 +213,7 @@ module _ {S D O : Type 0} (source : SourceOf S) (disk : DiskOf D) (out : SinkOf 
   refuses_lacking (Some (Frames most)) cause runs told at lacks = absurd lacks.reads
   refuses_lacking (Some (Packets most)) cause runs told at lacks = absurd lacks.reads
   refuses_lacking (Some (Decode input most)) cause runs told at lacks = absurd lacks.reads
+  refuses_lacking (Some (Make start frames wrong form)) cause runs told at lacks = absurd lacks.reads
   refuses_lacking (Some (Receive input most)) cause runs told at lacks = absurd lacks.reads
   refuses_lacking (Some (Extract number)) cause runs told at lacks =
       let there = subst (λ (k : ℕ). k < length lacks.way.gates) lacks.reads lacks.there in
@@ -233,6 +237,7 @@ module _ {S D O : Type 0} (source : SourceOf S) (disk : DiskOf D) (out : SinkOf 
   no_file_runs (Some (Frames most)) count runs told = absurd runs.1
   no_file_runs (Some (Packets most)) count runs told = absurd runs.1
   no_file_runs (Some (Decode input most)) count runs told = absurd runs.1
+  no_file_runs (Some (Make start frames wrong form)) count runs told = absurd runs.2
   no_file_runs (Some (Receive input most)) count runs told = absurd runs.causes
   no_file_runs (Some (Extract number)) count runs told = let e = runs.1.ends.1 told in record { number = number; asks = refl; way = e.way; is_way = e.is_way; beyond = e.beyond }
   no_file_runs (Some Verify) count runs told = absurd runs.1.ends
@@ -254,6 +259,7 @@ module _ {S D O : Type 0} (source : SourceOf S) (disk : DiskOf D) (out : SinkOf 
   not_empty_runs (Some (Frames most)) size runs told = absurd runs.1
   not_empty_runs (Some (Packets most)) size runs told = absurd runs.1
   not_empty_runs (Some (Decode input most)) size runs told = absurd runs.1
+  not_empty_runs (Some (Make start frames wrong form)) size runs told = absurd runs.2
   not_empty_runs (Some (Receive input most)) size runs told = absurd runs.causes
   not_empty_runs (Some (Extract number)) size runs told = absurd runs.1.ends
   not_empty_runs (Some Verify) size runs told = absurd runs.1.ends
@@ -275,6 +281,7 @@ module _ {S D O : Type 0} (source : SourceOf S) (disk : DiskOf D) (out : SinkOf 
   bad_runs (Some (Frames most)) runs told = absurd runs.1
   bad_runs (Some (Packets most)) runs told = absurd runs.1
   bad_runs (Some (Decode input most)) runs told = absurd runs.1
+  bad_runs (Some (Make start frames wrong form)) runs told = absurd runs.2
   bad_runs (Some (Receive input most)) runs told = absurd runs.causes
   bad_runs (Some (Extract number)) runs told = let e = runs.1.ends.1 told in record { way = e.way; which = number; is_way = e.is_way; reads = refl; there = e.there; bad = e.bad }
   bad_runs (Some Verify) runs told = let e = runs.1.ends.0 told in record { way = e.way; which = e.which; is_way = e.all.all.is_way; reads = tt; there = e.there; bad = e.bad }
@@ -309,6 +316,7 @@ module _ {S D O : Type 0} (source : SourceOf S) (disk : DiskOf D) (out : SinkOf 
   refuses_bad_runs (Some (Frames most)) cause runs told bad = absurd bad.reads
   refuses_bad_runs (Some (Packets most)) cause runs told bad = absurd bad.reads
   refuses_bad_runs (Some (Decode input most)) cause runs told bad = absurd bad.reads
+  refuses_bad_runs (Some (Make start frames wrong form)) cause runs told bad = absurd bad.reads
   refuses_bad_runs (Some (Receive input most)) cause runs told bad = absurd bad.reads
   refuses_bad_runs (Some (Extract number)) cause runs told bad =
       let there = subst (λ (k : ℕ). k < length bad.way.gates) bad.reads bad.there in
@@ -325,6 +333,7 @@ module _ {S D O : Type 0} (source : SourceOf S) (disk : DiskOf D) (out : SinkOf 
   full_runs (Some (Frames limit)) needed most runs capacity before told durable = absurd runs.1
   full_runs (Some (Packets limit)) needed most runs capacity before told durable = absurd runs.1
   full_runs (Some (Decode input limit)) needed most runs capacity before told durable = absurd runs.1
+  full_runs (Some (Make start frames wrong form)) needed most runs capacity before told durable = absurd runs.2
   full_runs (Some (Receive input limit)) needed most runs capacity before told durable =
       let run = runs.onto_shelf capacity before told durable in
       let e = run.1.ends in

@@ -8,6 +8,7 @@ pub mod Frames
 pub mod Gathered
 pub mod Init
 pub mod Inputs
+pub mod Made
 pub mod Numbers
 pub mod Packets
 pub mod PacketsRead

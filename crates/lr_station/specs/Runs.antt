@@ -7,12 +7,13 @@ use Rattle.lr_disk.specs.declared.disk.Disk.{Ghosts as DiskOf}
 use Rattle.lr_station.specs.declared.cause.Cause.{Cause}
 use Rattle.lr_station.specs.declared.cause.Cause.TheVariants.{Usage}
 use Rattle.lr_station.specs.declared.words.Command.{Command}
-use Rattle.lr_station.specs.declared.words.Command.TheVariants.{Init, Frames, Packets, Decode, Receive, Extract, Verify}
+use Rattle.lr_station.specs.declared.words.Command.TheVariants.{Init, Frames, Packets, Decode, Receive, Extract, Verify, Make}
 use Rattle.lr_station.specs.Causes.{status_of, line_of, IsCaused}
 use Rattle.lr_station.specs.Decode.{decode_text, decode_last}
 use Rattle.lr_station.specs.Extract.{ExtractRun}
 use Rattle.lr_station.specs.Frames.{frames_text, frames_last}
 use Rattle.lr_station.specs.Init.{InitRun}
+use Rattle.lr_station.specs.Made.{made_bytes, MakeEnds}
 use Rattle.lr_station.specs.Packets.{packets_text, packets_last}
 use Rattle.lr_station.specs.Printing.{Prints, PutsFront}
 use Rattle.lr_station.specs.Receive.{ReceiveRun}
@@ -42,6 +43,7 @@ module _ {S D O : Type 0} (source : SourceOf S) (disk : DiskOf D) (out : SinkOf 
   Runs (Some (Receive input most)) cause s s' d d' o o' = ReceiveRun source disk out input most cause s s' d d' o o'
   Runs (Some (Extract number)) cause s s' d d' o o' = (s' ≡ s) × ExtractRun disk out number cause d d' o o'
   Runs (Some Verify) cause s s' d d' o o' = (s' ≡ s) × VerifyRun disk out cause d d' o o'
+  Runs (Some (Make start frames wrong form)) cause s s' d d' o o' = (s' ≡ s) × (d' ≡ d) × MakeEnds out (made_bytes form start wrong frames) cause o o'
 
 -- A whole call: the command does what it does for some cause, a cause that names an object comes only where that object's
 -- count rose, `err` gets the cause's line, and the call answers the cause's status.

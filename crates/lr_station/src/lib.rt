@@ -12,6 +12,7 @@ mod extract;
 mod frames;
 mod init;
 mod line;
+mod make;
 mod numbers;
 mod packets;
 mod put;

@@ -14,6 +14,7 @@ use crate::extract::extract;
 use crate::frames::frames;
 use crate::init::init;
 use crate::line::line_for;
+use crate::make::make;
 use crate::packets::packets;
 use crate::receive::receive;
 use crate::verify::verify;
@@ -43,6 +44,14 @@ fn run<S: Source, D: Disk, O: Sink>(
         Some(Command::Receive { input, most }) => receive(alloc, input, most, source, disk, out),
         Some(Command::Extract { number }) => extract(alloc, number, disk, out),
         Some(Command::Verify) => verify(alloc, disk, out),
+        Some(
+            Command::Make {
+                start,
+                frames,
+                wrong,
+                form,
+            },
+        ) => make(start, frames, wrong, form, out),
     }
 }
 

@@ -1,5 +1,5 @@
 ghost use Rattle.std.specs.Prelude.{◌≡◌, map, string_bytes};
-ghost use Rattle.lr_station.specs.Words.{coded_input, received_input, of_one, of_two, of_three, command_of, IsInRange};
+ghost use Rattle.lr_station.specs.Words.{coded_input, received_input, of_one, of_two, of_three, of_stream, of_four, of_six, command_of, IsInRange};
 
 use crate::numbers::number_between;
 
@@ -10,6 +10,11 @@ const MOST_BYTES: u64 = 1_099_511_627_776;
 const LEAST_CAPACITY: u64 = 20;
 
 const MOST_CAPACITY: u64 = 1_099_511_627_776;
+
+/// The most frames that `make` writes, and the most wrong bytes in each word of them.
+const MOST_FRAMES: u64 = 65_536;
+
+const MOST_WRONG: u64 = 16;
 
 /// Units of so many bytes each, one behind another.
 #[derive(Clone, Copy)]
@@ -32,19 +37,40 @@ pub enum Input {
 #[derive(Clone, Copy)]
 pub enum Command {
     /// Makes an empty shelf of so many bytes.
-    Init { capacity: u64 },
+    Init {
+        capacity: u64,
+    },
     /// A line for each transfer frame; at most so many bytes are taken.
-    Frames { most: u64 },
+    Frames {
+        most: u64,
+    },
     /// A line for each packet of the transfer frames; at most so many bytes are taken.
-    Packets { most: u64 },
+    Packets {
+        most: u64,
+    },
     /// A line for what became of each window or block; at most so many bytes are taken.
-    Decode { input: Input, most: u64 },
+    Decode {
+        input: Input,
+        most: u64,
+    },
     /// Puts each mission file onto the shelf; at most so many bytes are taken.
-    Receive { input: Input, most: u64 },
+    Receive {
+        input: Input,
+        most: u64,
+    },
     /// The bytes of the mission file of this number.
-    Extract { number: u64 },
+    Extract {
+        number: u64,
+    },
     /// A line for each file's checksum.
     Verify,
+    /// So many frames of the test stream of this start, with so many wrong bytes in each word, in this form.
+    Make {
+        start: u64,
+        frames: u64,
+        wrong: u8,
+        form: Input,
+    },
 }
 
 fn coded_input(form: &str) -> Option<Input>
@@ -133,6 +159,48 @@ fn of_three(word: &str, option: &str, form: &str) -> Option<Command>
     }
 }
 
+fn of_stream(start: &str, frames: &str, wrong: &str, form: Input) -> Option<Command>
+    ensures gives { result ≡ of_stream start.now frames.now wrong.now form }
+    ensures range { IsInRange result }
+{
+    let start = number_between(0, u64::MAX, start)?;
+    let frames = number_between(1, MOST_FRAMES, frames)?;
+    let wrong = number_between(0, MOST_WRONG, wrong)? as u8;
+    Some(Command::Make {
+        start,
+        frames,
+        wrong,
+        form,
+    })
+}
+
+fn of_four(word: &str, start: &str, frames: &str, wrong: &str) -> Option<Command>
+    ensures gives { result ≡ of_four word.now start.now frames.now wrong.now }
+    ensures range { IsInRange result }
+{
+    if word != "make" {
+        return None;
+    }
+    of_stream(start, frames, wrong, Input::Symbols)
+}
+
+fn of_six(
+    word: &str,
+    start: &str,
+    frames: &str,
+    wrong: &str,
+    option: &str,
+    form: &str,
+) -> Option<Command>
+    ensures gives { result ≡ of_six word.now start.now frames.now wrong.now option.now form.now }
+    ensures range { IsInRange result }
+{
+    if word != "make" || option != "--output" {
+        return None;
+    }
+    of_stream(start, frames, wrong, received_input(form)?)
+}
+
 /// The command that the words give, or `None` where they aren't accepted.
 pub fn read_words(words: &[String]) -> Option<Command>
     ensures gives { result ≡ command_of (map string_bytes words.now) }
@@ -142,6 +210,20 @@ pub fn read_words(words: &[String]) -> Option<Command>
         [word] => of_one(word.as_str()),
         [word, number] => of_two(word.as_str(), number.as_str()),
         [word, option, form] => of_three(word.as_str(), option.as_str(), form.as_str()),
+        [word, start, frames, wrong] => of_four(
+            word.as_str(),
+            start.as_str(),
+            frames.as_str(),
+            wrong.as_str(),
+        ),
+        [word, start, frames, wrong, option, form] => of_six(
+            word.as_str(),
+            start.as_str(),
+            frames.as_str(),
+            wrong.as_str(),
+            option.as_str(),
+            form.as_str(),
+        ),
         _ => None,
     }
 }

@@ -99,21 +99,45 @@ pub fn gives_on(
     )
 }
 
-/// Whether the call does its work over this disk, and ends with this text.
+/// The same, where only the end of `out` is told.
 pub fn ends_on(
     alloc: Global,
     disk: &mut MemDisk,
     input: Input<'_>,
     room: Room,
-    last: &str,
+    wanted: Outcome<'_>,
 ) -> Result<bool, Fail> {
     let called = call(alloc, disk, input, room)?;
     let text = called.out.as_slice();
-    let first = text.len().saturating_sub(last.len());
-    Ok(called.status == 0 && &text[first..] == last.as_bytes() && called.err.as_slice().is_empty())
+    let first = text.len().saturating_sub(wanted.out.len());
+    Ok(
+        called.status == wanted.status
+            && &text[first..] == wanted.out.as_bytes()
+            && called.err.as_slice() == wanted.line.as_bytes(),
+    )
 }
 
-/// The same, over a disk of which no call succeeds.
+/// What these words print, with nothing to read and over a disk of which no call succeeds. The work must be done.
+pub fn written(alloc: Global, words: &[&str], bytes: usize) -> Result<Vec<u8>, Fail> {
+    let mut disk = MemDisk::of(alloc, Vec::new(alloc), 0, 0)?;
+    let input = Input {
+        words,
+        bytes: Vec::new(alloc),
+        reads: 1,
+        fault: NEVER,
+    };
+    let room = Room {
+        bytes,
+        fault: NEVER,
+    };
+    let called = call(alloc, &mut disk, input, room)?;
+    if called.status != 0 {
+        return Err(Fail::from("the call wasn't done"));
+    }
+    Ok(called.out.as_slice().to_vec(alloc)?)
+}
+
+/// Whether the call gives that outcome, over a disk of which no call succeeds.
 pub fn gives(
     alloc: Global,
     input: Input<'_>,

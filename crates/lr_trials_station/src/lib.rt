@@ -12,6 +12,8 @@ mod init;
 #[cfg(test)]
 mod kept;
 #[cfg(test)]
+mod made;
+#[cfg(test)]
 mod packets;
 #[cfg(test)]
 mod receive;

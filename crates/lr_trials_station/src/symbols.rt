@@ -1,9 +1,8 @@
 // `decode` and `receive` of symbols.
-use crate::call::{AMPLE, Input, NEVER, Outcome, Room, done, ends_on, gives, gives_on};
+use crate::call::{AMPLE, Input, NEVER, Outcome, done, ends_on, gives, gives_on};
 use crate::shelves::empty_shelf;
 use lr_bits::NoMemory;
 use lr_disk::MemDisk;
-use lr_make::Maker;
 use lr_trials_lock::streams::{leave_hits, sent, silence};
 use std::alloc::Global;
 use std::test::Fail;
@@ -44,9 +43,6 @@ const NO_FILE: &str =
 const FAILED: &str =
     "symbols 70000 frames 4 restored 4 lost 0 packets 0 files 0 left 0 stop fault\n";
 
-const SIXTY_FOUR: &str =
-    "symbols 1048576 frames 64 restored 64 lost 0 packets 452 files 63 left 0 stop end\n";
-
 // The symbols as bytes, with or without their signs changed.
 fn bytes_of(alloc: Global, symbols: &[i8], negated: bool) -> Result<Vec<u8>, NoMemory> {
     let mut bytes = Vec::new(alloc);
@@ -76,7 +72,7 @@ fn decodes(alloc: Global, symbols: &[i8], last: &str) -> Result<bool, Fail> {
     for reads in [1, 4_096, 65_536] {
         for negated in [false, true] {
             let input = decoding(bytes_of(alloc, symbols, negated)?, reads);
-            if !ends_on(alloc, &mut disk, input, AMPLE, last)? {
+            if !ends_on(alloc, &mut disk, input, AMPLE, done(last))? {
                 return Ok(false);
             }
         }
@@ -147,52 +143,5 @@ fn frames_before_a_fault_are_received(rt: HostRuntime) -> Result<(), Fail> {
         line: "station: source failed\n",
     };
     assert!(rt; gives_on(alloc, &mut shelf, input, AMPLE, wanted)?);
-    Ok(())
-}
-
-// The symbols of so many frames of the test stream with sixteen wrong bytes in each word.
-fn made(alloc: Global, frames: u8) -> Result<Vec<u8>, Fail> {
-    let mut maker = Maker::new(1, 16)?;
-    let mut bytes = Vec::new(alloc);
-    let mut symbols = [0; FRAME];
-    for _ in 0..frames {
-        maker.next_symbols(&mut symbols)?;
-        for symbol in &symbols {
-            bytes.push(symbol.cast_unsigned())?;
-        }
-    }
-    Ok(bytes)
-}
-
-#[test]
-fn files_of_the_test_stream_are_shelved(rt: HostRuntime) -> Result<(), Fail> {
-    let alloc = rt.alloc();
-    let mut disk = MemDisk::of(alloc, Vec::new(alloc), 100_000, 10_000)?;
-    let init = Input {
-        words: &["init", "100000"],
-        bytes: Vec::new(alloc),
-        reads: 1,
-        fault: NEVER,
-    };
-    assert!(rt;
-        gives_on(
-            alloc,
-            &mut disk,
-            init,
-            AMPLE,
-            done("shelf capacity 100000\n")
-        )?
-    );
-    let input = Input {
-        words: &["receive"],
-        bytes: made(alloc, 64)?,
-        reads: 65_536,
-        fault: NEVER,
-    };
-    let room = Room {
-        bytes: 10_000,
-        fault: NEVER,
-    };
-    assert!(rt; ends_on(alloc, &mut disk, input, room, SIXTY_FOUR)?);
     Ok(())
 }

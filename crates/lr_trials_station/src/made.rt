@@ -1,0 +1,257 @@
+// `make`, and what the other commands make of what it writes.
+use crate::call::{
+    AMPLE, Input, NEVER, Outcome, Room, done, ends_on, gives, gives_alone, gives_on, refused,
+    written,
+};
+use lr_disk::MemDisk;
+use lr_trials_lock::streams::{leave_hits, silence};
+use std::alloc::Global;
+use std::test::Fail;
+
+const FRAME: usize = 16_384;
+
+const ALL: usize = 1_048_576;
+
+const PLAIN: &str = "window 0 at 0 polarity + restored 0 0 0 0\n\
+symbols 16384 frames 1 restored 1 lost 0 left 0 stop end\n";
+
+const WRONG: &str = "window 0 at 0 polarity + restored 16 16 16 16\n\
+symbols 16384 frames 1 restored 1 lost 0 left 0 stop end\n";
+
+const BLOCK: &str = "block 0 restored 3 3 3 3\n\
+symbols 1020 frames 1 restored 1 lost 0 left 0 stop end\n";
+
+const ONE_FRAME: &str = "frame 0 vc 0 counter 0 spacecraft 7 replay 0 pointer 0\n\
+frames 1 left 0 stop end\n";
+
+const ONE: &str = "symbols 16384 frames 1 restored 1 lost 0 packets 12 files 0 left 0 stop end\n";
+
+const SHORT: &str = "symbols 16383 frames 0 restored 0 lost 0 packets 0 files 0 left 0 stop end\n";
+
+const LONG: &str = "symbols 16396 frames 1 restored 1 lost 0 packets 12 files 0 left 0 stop end\n";
+
+const EIGHT: &str =
+    "symbols 131072 frames 8 restored 8 lost 0 packets 56 files 7 left 0 stop end\n";
+
+const SEVEN: &str =
+    "symbols 131072 frames 7 restored 7 lost 0 packets 42 files 7 left 0 stop end\n";
+
+const BEHIND: &str =
+    "symbols 1049276 frames 64 restored 64 lost 0 packets 452 files 63 left 0 stop end\n";
+
+const DAMAGED: &str =
+    "symbols 1048576 frames 64 restored 64 lost 0 packets 452 files 63 left 0 stop end\n";
+
+const FAILED: &str =
+    "symbols 131072 frames 8 restored 8 lost 0 packets 56 files 7 left 0 stop fault\n";
+
+const LAST: &str = "shelved 61 vc 5 apid 200 counter 55 bytes 237 packets 1\n";
+
+// An `out` for the lines of all files.
+const LINES: Room = Room {
+    bytes: 10_000,
+    fault: NEVER,
+};
+
+// An empty shelf of this capacity.
+fn shelf_of(alloc: Global, capacity: &str, line: &str) -> Result<MemDisk, Fail> {
+    let mut disk = MemDisk::of(alloc, Vec::new(alloc), 100_000, 10_000)?;
+    if gives_alone(alloc, &mut disk, &["init", capacity], done(line))? {
+        Ok(disk)
+    } else {
+        Err(Fail::from("no shelf was made"))
+    }
+}
+
+fn shelf(alloc: Global) -> Result<MemDisk, Fail> {
+    shelf_of(alloc, "65536", "shelf capacity 65536\n")
+}
+
+fn reading<'a>(words: &'a [&'a str], bytes: Vec<u8>, reads: usize) -> Input<'a> {
+    Input {
+        words,
+        bytes,
+        reads,
+        fault: NEVER,
+    }
+}
+
+// Whether a call over these bytes prints this, and no call on the disk would succeed.
+fn prints(alloc: Global, words: &[&str], bytes: Vec<u8>, out: &str) -> Result<bool, Fail> {
+    gives(alloc, reading(words, bytes, 4_096), AMPLE, done(out))
+}
+
+// Whether `receive` ends with this line.
+fn receives(alloc: Global, bytes: Vec<u8>, last: &str) -> Result<bool, Fail> {
+    let mut disk = shelf(alloc)?;
+    let input = reading(&["receive"], bytes, 65_536);
+    ends_on(alloc, &mut disk, input, LINES, done(last))
+}
+
+#[test]
+fn one_frame_is_decoded_in_each_form(rt: HostRuntime) -> Result<(), Fail> {
+    let alloc = rt.alloc();
+    let plain = written(alloc, &["make", "1", "1", "0"], FRAME)?;
+    assert!(rt; prints(alloc, &["decode"], plain, PLAIN)?);
+    let wrong = written(alloc, &["make", "1", "1", "16"], FRAME)?;
+    assert!(rt; prints(alloc, &["decode"], wrong, WRONG)?);
+    let block = written(alloc, &["make", "1", "1", "3", "--output", "blocks"], 1_020)?;
+    assert!(rt; prints(alloc, &["decode", "--input", "blocks"], block, BLOCK)?);
+    let frame = written(alloc, &["make", "1", "1", "3", "--output", "frames"], 892)?;
+    assert!(rt; prints(alloc, &["frames"], frame, ONE_FRAME)?);
+    Ok(())
+}
+
+#[test]
+fn one_frame_needs_all_its_symbols(rt: HostRuntime) -> Result<(), Fail> {
+    let alloc = rt.alloc();
+    let mut bytes = written(alloc, &["make", "1", "1", "0"], FRAME)?;
+    assert!(rt; receives(alloc, bytes.as_slice().to_vec(alloc)?, ONE)?);
+    assert!(rt;
+        receives(
+            alloc,
+            bytes[..FRAME.min(bytes.len()).saturating_sub(1)].to_vec(alloc)?,
+            SHORT
+        )?
+    );
+    bytes.extend_from_slice(&[0; 12])?;
+    assert!(rt; receives(alloc, bytes, LONG)?);
+    Ok(())
+}
+
+// The symbols of the bytes, and the bytes of symbols.
+fn symbols_of(alloc: Global, bytes: &[u8]) -> Result<Vec<i8>, Fail> {
+    let mut symbols = Vec::new(alloc);
+    for byte in bytes {
+        symbols.push(byte.cast_signed())?;
+    }
+    Ok(symbols)
+}
+
+fn bytes_of(alloc: Global, symbols: &[i8]) -> Result<Vec<u8>, Fail> {
+    let mut bytes = Vec::new(alloc);
+    for symbol in symbols {
+        bytes.push(symbol.cast_unsigned())?;
+    }
+    Ok(bytes)
+}
+
+#[test]
+fn missed_markers_lose_nothing(rt: HostRuntime) -> Result<(), Fail> {
+    let alloc = rt.alloc();
+    let bytes = written(alloc, &["make", "1", "8", "0"], 8 * FRAME)?;
+    let mut symbols = symbols_of(alloc, &bytes)?;
+    for number in 1..=3 {
+        leave_hits(&mut symbols, number, 0);
+    }
+    assert!(rt; receives(alloc, bytes_of(alloc, &symbols)?, EIGHT)?);
+    silence(&mut symbols, 4 * FRAME, FRAME);
+    assert!(rt; receives(alloc, bytes_of(alloc, &symbols)?, SEVEN)?);
+    Ok(())
+}
+
+// 700 symbols of 0, and then 64 frames.
+fn behind_silence(alloc: Global) -> Result<Vec<u8>, Fail> {
+    let mut bytes = vec![in alloc; 0; 700]?;
+    bytes.extend_from_slice(&written(alloc, &["make", "1", "64", "0"], ALL)?)?;
+    Ok(bytes)
+}
+
+#[test]
+fn files_are_shelved_however_the_reads_are_cut(rt: HostRuntime) -> Result<(), Fail> {
+    let alloc = rt.alloc();
+    let bytes = behind_silence(alloc)?;
+    for reads in [1, 4_096, 65_536] {
+        let mut disk = shelf(alloc)?;
+        let input = reading(&["receive"], bytes.as_slice().to_vec(alloc)?, reads);
+        assert!(rt; ends_on(alloc, &mut disk, input, LINES, done(BEHIND))?);
+    }
+    let damaged = written(alloc, &["make", "1", "64", "16"], ALL)?;
+    assert!(rt; receives(alloc, damaged, DAMAGED)?);
+    Ok(())
+}
+
+#[test]
+fn all_files_fit_or_the_last_one_does_not(rt: HostRuntime) -> Result<(), Fail> {
+    let alloc = rt.alloc();
+    let bytes = behind_silence(alloc)?;
+    let mut whole = shelf_of(alloc, "40091", "shelf capacity 40091\n")?;
+    let input = reading(&["receive"], bytes.as_slice().to_vec(alloc)?, 4_096);
+    assert!(rt; ends_on(alloc, &mut whole, input, LINES, done(BEHIND))?);
+    let mut less = shelf_of(alloc, "40090", "shelf capacity 40090\n")?;
+    let wanted = Outcome {
+        out: LAST,
+        status: 10,
+        line: "station: capacity: needs 40091 of 40090\n",
+    };
+    assert!(rt;
+        ends_on(
+            alloc,
+            &mut less,
+            reading(&["receive"], bytes, 4_096),
+            LINES,
+            wanted
+        )?
+    );
+    let none = refused(7, "station: no such file, count 62\n");
+    assert!(rt; gives_alone(alloc, &mut less, &["extract", "62"], none)?);
+    Ok(())
+}
+
+#[test]
+fn a_source_fails_behind_eight_frames(rt: HostRuntime) -> Result<(), Fail> {
+    let alloc = rt.alloc();
+    let mut disk = shelf(alloc)?;
+    let input = Input {
+        words: &["receive"],
+        bytes: written(alloc, &["make", "1", "64", "0"], ALL)?,
+        reads: 4_096,
+        fault: 131_072,
+    };
+    let wanted = Outcome {
+        out: FAILED,
+        status: 3,
+        line: "station: source failed\n",
+    };
+    assert!(rt; ends_on(alloc, &mut disk, input, LINES, wanted)?);
+    let none = refused(7, "station: no such file, count 7\n");
+    assert!(rt; gives_alone(alloc, &mut disk, &["extract", "7"], none)?);
+    Ok(())
+}
+
+#[test]
+fn an_output_that_fails_got_a_front_of_the_stream(rt: HostRuntime) -> Result<(), Fail> {
+    let alloc = rt.alloc();
+    let mut disk = MemDisk::of(alloc, Vec::new(alloc), 0, 0)?;
+    let room = Room {
+        bytes: 892,
+        fault: 0,
+    };
+    let input = reading(
+        &["make", "1", "1", "0", "--output", "frames"],
+        Vec::new(alloc),
+        1,
+    );
+    let wanted = refused(5, "station: output failed\n");
+    assert!(rt; gives_on(alloc, &mut disk, input, room, wanted)?);
+    Ok(())
+}
+
+#[test]
+fn other_streams_are_refused(rt: HostRuntime) -> Result<(), Fail> {
+    let alloc = rt.alloc();
+    let mut disk = MemDisk::of(alloc, Vec::new(alloc), 0, 0)?;
+    let usage = refused(2, "station: usage: SHELF COMMAND [WORDS]\n");
+    let words: [&[&str]; 6] = [
+        &["make", "1", "0", "0"],
+        &["make", "1", "65537", "0"],
+        &["make", "1", "1", "17"],
+        &["make", "18446744073709551616", "1", "0"],
+        &["make", "1", "1", "0", "--output", "files"],
+        &["make", "1", "1", "0", "--input", "blocks"],
+    ];
+    for words in words {
+        assert!(rt; gives_alone(alloc, &mut disk, words, usage)?);
+    }
+    Ok(())
+}
