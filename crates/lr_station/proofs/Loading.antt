@@ -87,15 +87,15 @@ module _ {S D O : Type 0} (source : SourceOf S) (disk : DiskOf D) (only_now : (d
     onto_shelf = λ capacity before told durable. (
       [],
       receives source disk out input capacity before limit [] s s d d o o NoMemory (record { moved = λ t. refl; few = omega arith })
-      (subst (λ (l : List File). LeavesFronts disk capacity before l d d) (sym (no_bytes input))
-      (weaker disk.moment disk.left_since d d _ _ (front_none disk out capacity before d d o) (untouched capacity before told durable)))
-      (record {
-        done = [];
-        rest = [];
-        split = no_bytes input;
-        durable = record { stands = subst (λ (l : List File). StandsFor (disk.contents d) capacity l) (sym (append-nil before)) durable.stands; durable = durable.durable };
-        got = λ t. sym (ap (λ l. out.contents o ++ l) (shelved_lines-none (length before)) ∙ append-nil (out.contents o));
-      }),
+          (subst (λ (l : List File). LeavesFronts disk capacity before l d d) (sym (no_bytes input))
+          (weaker disk.moment disk.left_since d d _ _ (front_none disk out capacity before d d o) (untouched capacity before told durable)))
+          (record {
+            done = [];
+            rest = [];
+            split = no_bytes input;
+            durable = record { stands = subst (λ (l : List File). StandsFor (disk.contents d) capacity l) (sym (append-nil before)) durable.stands; durable = durable.durable };
+            got = λ t. sym (ap (λ l. out.contents o ++ l) (shelved_lines-none (length before)) ∙ append-nil (out.contents o));
+          }),
     );
     causes = tt;
     refused = λ at is. cc (is);
