@@ -1,7 +1,7 @@
 #!/bin/sh
 # Symbols a second from standard input to a synced shelf, by the program on one core: `receive` of clean frames of the test
-# stream, which reference/make.py makes. Beside it its parts, by lr_bench: a frame from window to outcome, and the lock.
-# Usage: bench/receive.sh [RUNS [FRAMES]]. The best of so many runs is taken (5 runs of 1024 frames). Needs rt and python3.
+# stream. Beside it its parts, by lr_bench: a frame from window to outcome, and the lock.
+# Usage: bench/receive.sh [RUNS [FRAMES]]. The best of so many runs is taken (5 runs of 1024 frames). Needs rt.
 set -e
 top=$(cd "$(dirname "$0")/.." && pwd)
 runs=${1:-5}
@@ -12,14 +12,7 @@ trap 'rm -rf "$scratch"' EXIT
 cp "$top/crates/lr_program/out/lr_program" "$scratch/lritstation"
 (cd "$top/crates/lr_bench" && rt run -- lock 1 > "$scratch/build.log" 2>&1) || { cat "$scratch/build.log"; exit 1; }
 cp "$top/crates/lr_bench/out/lr_bench" "$scratch/parts"
-PYTHONPATH="$top/reference" python3 - "$frames" > "$scratch/stream" <<'PYTHON'
-import sys
-
-import make
-
-blocks = [make.block(frame, 0) for frame in make.frames(1, int(sys.argv[1]))]
-sys.stdout.buffer.write(bytes(symbol & 255 for symbol in make.symbols(blocks)))
-PYTHON
+"$scratch/lritstation" - make 1 "$frames" 0 > "$scratch/stream"
 
 # the least time of a command, in nanoseconds
 best() {
