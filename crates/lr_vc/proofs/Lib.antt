@@ -2,6 +2,7 @@ pub mod Carried
 pub mod Crossing
 pub mod Endings
 pub mod Few
+pub mod Fitting
 pub mod Grown
 pub mod History
 pub mod Inside

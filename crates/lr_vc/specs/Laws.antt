@@ -1,6 +1,6 @@
 -- The packets of a history that grows.
-use Rattle.std.specs.List.{Contains}
-use Rattle.std.specs.Prelude.{◌≡◌, List, [], ◌∷◌, ◌++◌, length, ℕ, ◌+◌, ◌*◌, ◌<◌, ◌≤◌}
+use Rattle.std.specs.List.{Contains, sum_by, count_by}
+use Rattle.std.specs.Prelude.{◌≡◌, List, [], ◌∷◌, ◌++◌, length, ℕ, ◌+◌, ◌*◌, ◌<◌, ◌≤◌, ◌==◌, not}
 use Rattle.lr_bits.specs.Packet.{Packet}
 use Rattle.lr_vc.specs.Frame.{Fields}
 use Rattle.lr_vc.specs.Runs.{AreFrames, Run}
@@ -21,3 +21,8 @@ PacketsKeepTheirOrder = (history later : List Fields) → AreFrames (history ++ 
 abbrev pub StartsGoOn : Type 0
 StartsGoOn = (run : Run) (zone start : ℕ) → Contains (starts_in_zone run zone) start → start + 6 ≤ length (zones_of run) →
     packet_end (zones_of run) start < 884 * zone + 884 → Contains (starts_in_zone run zone) (packet_end (zones_of run) start)
+
+-- the packets of frames have at most 884 bytes for each frame that isn't fill
+abbrev pub PacketsFitTheZones : Type 0
+PacketsFitTheZones = (frames : List Fields) → AreFrames frames →
+    sum_by (λ packet. length packet.bytes) (packets_of frames) ≤ 884 * count_by (λ frame. not (frame.vc == 63)) frames

@@ -1,4 +1,4 @@
-ghost use Rattle.lr_vc.specs.Laws.{FramesAddTheirPackets, PacketsKeepTheirOrder, StartsGoOn};
+ghost use Rattle.lr_vc.specs.Laws.{FramesAddTheirPackets, PacketsFitTheZones, PacketsKeepTheirOrder, StartsGoOn};
 
 /// One frame more adds exactly the packets that end in it, behind those of the frames before.
 pub fn frames_add_their_packets()
@@ -13,4 +13,9 @@ pub fn packets_keep_their_order()
 /// In each zone of a run the starts go on to the zone's end: none is left out.
 pub fn starts_go_on()
     ensures { StartsGoOn }
+{}
+
+/// Packets fit the zones in which they came: they have at most 884 bytes for each frame that isn't fill.
+pub fn packets_fit_the_zones()
+    ensures { PacketsFitTheZones }
 {}

@@ -17,4 +17,6 @@ mod zone;
 
 pub use channels::Channels;
 pub use frame::{BadVersion, FRAME_BYTES, TransferFrame, ZONE_BYTES};
-pub use laws::{frames_add_their_packets, packets_keep_their_order, starts_go_on};
+pub use laws::{
+    frames_add_their_packets, packets_fit_the_zones, packets_keep_their_order, starts_go_on,
+};
