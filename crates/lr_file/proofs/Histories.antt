@@ -20,12 +20,12 @@ abbrev is_of_key : ℕ → ℕ → Good → Bool
 is_of_key vc apid p = eqb p.vc vc && eqb p.apid apid
 
 -- the packets of a key, with one packet more of it or of another
-packets_of_key-own : (packets : List Good) (p : Good) → packets_of_key p.vc p.apid (packets ++ p ∷ []) ≡ packets_of_key p.vc p.apid packets ++ p ∷ []
+pub packets_of_key-own : (packets : List Good) (p : Good) → packets_of_key p.vc p.apid (packets ++ p ∷ []) ≡ packets_of_key p.vc p.apid packets ++ p ∷ []
 packets_of_key-own packets p =
     filter-append (is_of_key p.vc p.apid) packets (p ∷ [])
     ∙ ap (λ (b : Bool). packets_of_key p.vc p.apid packets ++ cond b (p ∷ []) []) (own p.vc p.apid)
 
-packets_of_key-other : (vc apid : ℕ) (packets : List Good) (p : Good) → is_of_key vc apid p ≡ false →
+pub packets_of_key-other : (vc apid : ℕ) (packets : List Good) (p : Good) → is_of_key vc apid p ≡ false →
     packets_of_key vc apid (packets ++ p ∷ []) ≡ packets_of_key vc apid packets
 packets_of_key-other vc apid packets p other =
     filter-append (is_of_key vc apid) packets (p ∷ [])

@@ -1,4 +1,5 @@
 pub mod FileLaws
+pub mod Fitting
 pub mod Histories
 pub mod KeyLemmas
 pub mod OpenLemmas

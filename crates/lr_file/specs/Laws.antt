@@ -1,6 +1,7 @@
 -- Laws of files.
-use Rattle.std.specs.Prelude.{◌≡◌, ◌≤◌, List, [], ◌∷◌, ◌++◌, length, filter, option_to_list}
-use Rattle.lr_bits.specs.File.{File}
+use Rattle.std.specs.Prelude.{◌≡◌, ◌≤◌, ◌+◌, ◌*◌, List, [], ◌∷◌, ◌++◌, length, filter, option_to_list, All}
+use Rattle.std.specs.List.{sum_by}
+use Rattle.lr_bits.specs.File.{File, bytes_of}
 use Rattle.lr_packet.specs.Verdict.{Good}
 use Rattle.lr_file.specs.Files.{file_at, files_of, is_file, last_stretches}
 use Rattle.lr_file.specs.Standing.{is_open}
@@ -22,3 +23,12 @@ OneFileEnds = (packets : List Good) → length (filter is_file (last_stretches p
 -- of the stretches that end with the same packet at most one is an open file
 abbrev pub OneFileIsOpen : Type 0
 OneFileIsOpen = (packets : List Good) → length (filter is_open (last_stretches packets)) ≤ 1
+
+-- the files of packets have, with eight bytes for each body, at most as many bytes as the bodies of the packets with eight for each
+abbrev pub FilesFitThePackets : Type 0
+FilesFitThePackets = (packets : List Good) →
+    sum_by (λ file. length (bytes_of file) + 8 * length file.bodies) (files_of packets) ≤ sum_by (λ packet. length packet.body + 8) packets
+
+-- each file has a body, and ten bytes
+abbrev pub FilesAreSome : Type 0
+FilesAreSome = (packets : List Good) → All (λ file. (1 ≤ length file.bodies) × (10 ≤ length (bytes_of file))) (files_of packets)

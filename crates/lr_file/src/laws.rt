@@ -1,4 +1,4 @@
-ghost use Rattle.lr_file.specs.Laws.{FilesKeepTheirOrder, OneFileEnds, OneFileIsOpen, PacketAddsItsFile};
+ghost use Rattle.lr_file.specs.Laws.{FilesAreSome, FilesFitThePackets, FilesKeepTheirOrder, OneFileEnds, OneFileIsOpen, PacketAddsItsFile};
 
 /// One packet more adds the file that ends with it, if one does, behind those of the packets before.
 pub fn a_packet_adds_its_file()
@@ -18,4 +18,14 @@ pub fn one_file_ends_with_a_packet()
 /// At most one file of a channel and application is open.
 pub fn one_file_is_open()
     ensures { OneFileIsOpen }
+{}
+
+/// The files of packets have, with eight bytes for each body, at most as many bytes as the packets' bodies with eight for each.
+pub fn files_fit_the_packets()
+    ensures { FilesFitThePackets }
+{}
+
+/// Each file has at least one body and ten bytes.
+pub fn files_are_some()
+    ensures { FilesAreSome }
 {}
