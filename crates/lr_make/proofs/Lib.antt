@@ -1,9 +1,14 @@
+pub mod BytesBack
 pub mod Coding
 pub mod Drawn
 pub mod Encoding
 pub mod Heads
 pub mod Joining
+pub mod Locking
+pub mod Nearest
 pub mod Receiving
 pub mod Rounds
 pub mod Sending
 pub mod Sources
+pub mod Splitting
+pub mod Windows

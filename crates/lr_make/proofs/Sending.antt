@@ -19,18 +19,18 @@ unfolding block_at
 block_at-is start wrong n made_wrong frame block f w b =
     b ∙ ap (λ z. randomised_block (damaged_block z (encoded_block frame))) w ∙ ap (λ z. randomised_block (damaged_block wrong (encoded_block z))) f
 
-length-block_at : (start wrong n : ℕ) → length (block_at start wrong n) ≡ 1020
+pub length-block_at : (start wrong n : ℕ) → length (block_at start wrong n) ≡ 1020
 unfolding block_at
 length-block_at start wrong n = length-randomised_block (damaged_block wrong (encoded_block (frame_at start n)))
 
 length-bits : (block : List ℕ) → length block ≡ 1020 → length (bits_of_bytes (marked block)) ≡ 8192
 length-bits block e = sym (ap length (bits_of_bytes-all (marked block) 8192 (omega arith))) ∙ length-first_bits (marked block) 8192
 
-sent_bits-more : (start wrong n : ℕ) → sent_bits start wrong (n + 1) ≡ sent_bits start wrong n ++ bits_of_bytes (marked (block_at start wrong n))
+pub sent_bits-more : (start wrong n : ℕ) → sent_bits start wrong (n + 1) ≡ sent_bits start wrong n ++ bits_of_bytes (marked (block_at start wrong n))
 unfolding sent_bits
 sent_bits-more start wrong n = rw add-one refl
 
-length-sent_bits : (start wrong n : ℕ) → length (sent_bits start wrong n) ≡ 8192 * n
+pub length-sent_bits : (start wrong n : ℕ) → length (sent_bits start wrong n) ≡ 8192 * n
 unfolding sent_bits
 length-sent_bits start wrong zero = refl
 length-sent_bits start wrong (suc n) =
@@ -59,7 +59,7 @@ symbols_at-is start wrong n block symbols b s =
 
 -- ---- the law
 
-length-all_symbols : (start wrong n : ℕ) → length (all_symbols start wrong n) ≡ 16384 * n
+pub length-all_symbols : (start wrong n : ℕ) → length (all_symbols start wrong n) ≡ 16384 * n
 length-all_symbols start wrong n =
     omega (
       arith,

@@ -4,8 +4,8 @@
 //! words what is sent. `Maker` gives the stream frame by frame, each one as a frame of 892 bytes, as a block of 1,020 bytes or
 //! as 16,384 symbols. The functions `frame_at`, `block_at` and `symbols_at` of specs/ say by its number what each of them is:
 //! `Drawing` has the generator, `Files` the bodies of the files, `Packets` the packets, `Zones` zones and pointers,
-//! `Frames`, `Blocks` and `Symbols` the rest. `Stream` joins the items of the first frames, and `Standing` says what a maker
-//! stands for. Nothing here takes memory.
+//! `Frames`, `Blocks` and `Symbols` the rest. `Stream` joins the items of the first frames, `Received` says what a receiver
+//! makes of them, and `Standing` what a maker stands for. Nothing here takes memory.
 #![tactic(auto)]
 
 mod blocks;
@@ -20,5 +20,5 @@ mod source;
 mod symbols;
 mod texts;
 
-pub use laws::symbols_are_one_code;
+pub use laws::{stream_is_received, symbols_are_one_code};
 pub use maker::Maker;
