@@ -14,7 +14,7 @@ use Rattle.lr_make.specs.Symbols.{bits_of_bytes, level, marked}
 
 -- ---- the code of a list
 
-length-symbols : (t : List Bool) (n : ℕ) → length (symbols t n) ≡ 2 * n
+pub length-symbols : (t : List Bool) (n : ℕ) → length (symbols t n) ≡ 2 * n
 length-symbols t zero = refl
 length-symbols t (suc n) =
     omega (arith, length-append (symbols t n) (first_symbol t n ∷ second_symbol t n ∷ []), length-symbols t n)

@@ -1,8 +1,10 @@
+pub mod BytesBack
 pub mod Coding
 pub mod Drawn
 pub mod Encoding
 pub mod Heads
 pub mod Joining
+pub mod Nearest
 pub mod Receiving
 pub mod Rounds
 pub mod Sending
