@@ -2,6 +2,7 @@ pub mod BytesBack
 pub mod Coding
 pub mod Drawn
 pub mod Encoding
+pub mod Fill
 pub mod Heads
 pub mod Joining
 pub mod Nearest

@@ -20,5 +20,5 @@ mod source;
 mod symbols;
 mod texts;
 
-pub use laws::symbols_are_one_code;
+pub use laws::{fill_is_fill, symbols_are_one_code};
 pub use maker::Maker;
