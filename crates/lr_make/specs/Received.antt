@@ -1,6 +1,7 @@
--- What a receiver makes of a block of the stream, and of all its symbols.
-use Rattle.std.specs.Prelude.{◌≡◌, ◌<◌, ℕ, List, map, replicate}
+-- What a receiver makes of a block of the stream, of all its symbols, and which channel it reads in a frame of fill.
+use Rattle.std.specs.Prelude.{◌≡◌, ◌<◌, ℕ, ◌%◌, List, map, replicate}
 use Rattle.std.specs.List.{range_with_len}
+use Rattle.lr_bits.specs.Bits.{field_of}
 use Rattle.lr_bits.specs.declared.outcome.Outcome.TheVariants.{Restored}
 use Rattle.lr_block.specs.Outcomes.{outcome_of_block}
 use Rattle.lr_frame.specs.Outcomes.{outcomes_of_symbols}
@@ -17,3 +18,7 @@ abbrev pub StreamIsReceived : Type 0
 StreamIsReceived =
     (start wrong n : ℕ) → ((k : ℕ) → k < n → IsReceivedAs wrong (frame_at start k) (block_at start wrong k))
     → outcomes_of_symbols (symbol_stream start wrong n) ≡ map (λ k. Restored (record { 0 = replicate 4 wrong }) (frame_at start k)) (range_with_len 0 n)
+
+-- the law: each fourth frame is of channel 63
+abbrev pub FillIsFill : Type 0
+FillIsFill = (start k : ℕ) → k % 4 ≡ 3 → field_of (frame_at start k) 10 6 ≡ 63
