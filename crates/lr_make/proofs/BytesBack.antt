@@ -9,7 +9,7 @@ use Rattle.lr_bits.specs.Bits.{bit_of}
 use Rattle.lr_block.specs.Outcomes.{all_lists}
 use Rattle.lr_block.specs.Randomiser.{sequence_byte}
 use Rattle.lr_block.proofs.Searching.{cases_find, from-all_lists}
-use Rattle.lr_block.proofs.Sequence.{get_or-randomised_block, length-randomised_block, sequence_byte-lt}
+use Rattle.lr_block.proofs.Sequence.{get_or-randomised_block, sequence_byte-lt}
 use Rattle.lr_conv.specs.Convolution.{bit, code}
 use Rattle.lr_conv.specs.Marker.{marker_start, marker_end}
 use Rattle.lr_conv.proofs.SevenBits.{bit_test}
@@ -20,6 +20,7 @@ use Rattle.lr_make.specs.Symbols.{bits_of_bytes, level}
 use Rattle.lr_make.proofs.Coding.{first_bits, length-first_bits, bits_of_bytes-all}
 use Rattle.lr_make.proofs.Nearest.{nearest_is_sent}
 use Rattle.lr_make.proofs.Receiving.{damaged_is_byte, get_or-damaged_block, is_wrong}
+use Rattle.lr_make.proofs.Sending.{length-block_at}
 
 -- ---- eight bits are their byte
 
@@ -83,10 +84,6 @@ block_bytes start wrong k i h =
     let damaged : get_or (damaged_block wrong encoded) i 0 < 256 =
     omega (arith, get_or-damaged_block wrong encoded i h, damaged_is_byte wrong (i / 4) (get_or encoded i 0) (is_wrong wrong (i / 4)) refl (encoded_block_bytes (frame_at start k) i h)) in
     omega (arith, get_or-randomised_block (damaged_block wrong encoded) i h, xor_lt 8 (get_or (damaged_block wrong encoded) i 0) (sequence_byte i) damaged (sequence_byte-lt i))
-
-length-block_at : (start wrong k : ℕ) → length (block_at start wrong k) ≡ 1020
-unfolding block_at
-length-block_at start wrong k = length-randomised_block (damaged_block wrong (encoded_block (frame_at start k)))
 
 pub block_is_read : (start wrong k : ℕ) (window : List ℤ) → length window ≡ 16332
     → take 16320 window ≡ map level (code marker_end (bits_of_bytes (block_at start wrong k)))
