@@ -54,10 +54,10 @@ unfolding files_of
 files_some packets = some_behind [] packets
 
 -- the bytes of a packet's body, and of a file, with eight for each body
-abbrev weigh : Good → ℕ
+abbrev pub weigh : Good → ℕ
 weigh p = length p.body + 8
 
-abbrev weigh_file : File → ℕ
+abbrev pub weigh_file : File → ℕ
 weigh_file file = length (bytes_of file) + 8 * length file.bodies
 
 -- the weight of a stretch, if there is one

@@ -1,7 +1,8 @@
--- The packets and files of outcomes that go on.
-use Rattle.std.specs.Prelude.{◌≡◌, List, ◌++◌}
+-- The packets and files of outcomes that go on, and how many bytes the files of outcomes have at most.
+use Rattle.std.specs.Prelude.{◌≡◌, ◌≤◌, ◌+◌, ◌*◌, ◌==◌, not, List, ◌++◌, length, count_by, All}
+use Rattle.std.specs.List.{sum_by}
 use Rattle.lr_bits.specs.declared.outcome.Outcome.{Outcome}
-use Rattle.lr_bits.specs.File.{File}
+use Rattle.lr_bits.specs.File.{File, bytes_of}
 use Rattle.lr_bits.specs.Packet.{Packet}
 use Rattle.lr_vc.specs.Runs.{AreFrames}
 use Rattle.lr_vc.specs.Packets.{packets_of}
@@ -20,3 +21,12 @@ pub record GoOn (outcomes later : List Outcome) : Type 0 where
 -- where each frame has a zone of 884 bytes, as each of 892 bytes has
 abbrev pub FilesGoOn : Type 0
 FilesGoOn = (outcomes later : List Outcome) → AreFrames (frames_of_outcomes (outcomes ++ later)) → GoOn outcomes later
+
+-- the files of outcomes have, with eight bytes for each body, at most 884 bytes for each frame that isn't fill
+abbrev pub FilesFitTheFrames : Type 0
+FilesFitTheFrames = (outcomes : List Outcome) → AreFrames (frames_of_outcomes outcomes) →
+    sum_by (λ file. length (bytes_of file) + 8 * length file.bodies) (files_of_outcomes outcomes) ≤ 884 * count_by (λ frame. not (frame.vc == 63)) (frames_of_outcomes outcomes)
+
+-- each file of outcomes has a body, and ten bytes
+abbrev pub FilesAreSome : Type 0
+FilesAreSome = (outcomes : List Outcome) → All (λ file. (1 ≤ length file.bodies) × (10 ≤ length (bytes_of file))) (files_of_outcomes outcomes)

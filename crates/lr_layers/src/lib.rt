@@ -13,5 +13,5 @@ mod layers;
 mod packets;
 
 pub use counts::Counts;
-pub use laws::files_go_on;
+pub use laws::{files_are_some, files_fit_the_frames, files_go_on};
 pub use layers::Layers;

@@ -5,6 +5,7 @@ pub mod Decoding
 pub mod Digits
 pub mod EntryLines
 pub mod Extracting
+pub mod Fitting
 pub mod FramesText
 pub mod Gathering
 pub mod Headline
@@ -22,6 +23,7 @@ pub mod ShelvedLines
 pub mod Shelving
 pub mod StatusLemmas
 pub mod Telling
+pub mod Trying
 pub mod UnitsOf
 pub mod Verifying
 pub mod Ways

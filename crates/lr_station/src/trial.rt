@@ -1,0 +1,123 @@
+// `trial`: the main job on the test stream, without any input.
+ghost use Rattle.std.specs.Prelude.{◌≡◌, ◌≤◌, ◌<◌, ◌++◌, ℕ, List, length, IfOk, IfErr, OnOk};
+ghost use Rattle.lr_catalog.specs.declared.stop.Stop.TheVariants.{End};
+ghost use Rattle.lr_shelf_format.specs.Reading.{end_of};
+ghost use Rattle.lr_make.specs.Blocks.{block_at};
+ghost use Rattle.lr_make.specs.Frames.{frame_at};
+ghost use Rattle.lr_make.specs.Received.{IsReceivedAs};
+ghost use Rattle.lr_station.specs.Causes.{IsCaused};
+ghost use Rattle.lr_station.specs.Inputs.{files_of_bytes};
+ghost use Rattle.lr_station.specs.Made.{made_bytes};
+ghost use Rattle.lr_station.specs.Readers.{input_of, IsReadyFor};
+ghost use Rattle.lr_station.specs.Receive.{receive_last};
+ghost use Rattle.lr_station.specs.Reception.{ended_line};
+ghost use Rattle.lr_station.specs.Trial.{trial_capacity, LeavesDisk, StopsTrial, TrialRun};
+ghost use Rattle.lr_station.specs.Words.{most_bytes};
+
+use crate::cause::Cause;
+use crate::ended::Ended;
+use crate::make::{SYMBOLS, put_bytes};
+use crate::reader::Reader;
+use crate::receive::{put_last, receive_all};
+use crate::words::{Input, MOST_BYTES};
+use lr_bits::NoMemory;
+use lr_disk::Disk;
+use lr_io::{Sink, SureSink, SureSource};
+use lr_make::Maker;
+use lr_shelf::Shelf;
+use std::alloc::Global;
+
+/// How many bytes the shelf may have.
+const CAPACITY: u64 = 1_048_576;
+
+// The symbols of so many frames, each in a byte. Each of their blocks is received as its frame.
+fn stream(alloc: Global, start: u64, frames: u64, wrong: u8) -> Result<Vec<u8>, NoMemory>
+    requires few { frames ≤ 1024 }
+    requires wrong { wrong ≤ 16 }
+    ensures bytes { IfOk result (λ bytes. bytes.items ≡ made_bytes Input.Symbols start wrong frames) }
+    ensures received { (k : ℕ) → k < frames → IfOk result (λ _. IsReceivedAs wrong (frame_at start k) (block_at start wrong k)) }
+{
+    let mut maker = Maker::new(start, wrong)?;
+    let mut all = Vec::with_capacity(alloc, frames as usize * SYMBOLS)?;
+    let mut symbols = [0; SYMBOLS];
+    let mut bytes = [0; SYMBOLS];
+    let mut made = 0;
+    'frames: while made < frames {
+        maker.next_symbols(&mut symbols)?;
+        put_bytes(&symbols, &mut bytes);
+        all.extend_from_slice(&bytes)?;
+        made += 1;
+    }
+    Ok(all)
+}
+
+// Makes an empty shelf on the disk, and puts the files of these symbols onto it.
+fn shelve_stream<D: Disk>(
+    alloc: Global,
+    reader: &mut Reader,
+    symbols: Vec<u8>,
+    disk: &mut D,
+) -> Result<Ended, Cause>
+    requires ready { IsReadyFor most_bytes reader.old }
+    requires input { input_of reader.old ≡ Input.Symbols }
+    requires few { length symbols.items < most_bytes }
+    requires fit { (part later : List ℕ) → symbols.items ≡ part ++ later → end_of (files_of_bytes Input.Symbols part) ≤ trial_capacity }
+    ensures cause { IfErr result (λ cause. IsCaused cause 0 0 (D.faults disk.old) (D.faults disk.new) 0 0) }
+    ensures kind { IfErr result StopsTrial }
+    ensures line { IfOk result (λ ended. ended_line ended ≡ receive_last Input.Symbols symbols.items End) }
+    ensures done { OnOk result (LeavesDisk D.Disk symbols.items Cause.Done disk.old disk.new) }
+    ensures stopped { IfErr result (λ cause. LeavesDisk D.Disk symbols.items cause disk.old disk.new) }
+{
+    match Shelf::init(disk, CAPACITY) {
+        Ok(()) => {}
+        Err(error) => return Err(Cause::from(error)),
+    }
+    let mut shelf = match Shelf::load(alloc, disk) {
+        Ok(shelf) => shelf,
+        Err(error) => return Err(Cause::from(error)),
+    };
+    let mut source = SureSource::of(symbols);
+    let mut lines = SureSink::new();
+    receive_all(
+        alloc,
+        reader,
+        MOST_BYTES,
+        &mut shelf,
+        &mut source,
+        disk,
+        &mut lines,
+    )
+}
+
+/// Makes the symbols of so many frames of the test stream, an empty shelf on the disk, and puts the mission files of the
+/// symbols onto it. The last line alone is printed. The memory for the symbols, and for reading them, is taken first.
+pub(crate) fn trial<D: Disk, O: Sink>(
+    alloc: Global,
+    start: u64,
+    frames: u64,
+    wrong: u8,
+    disk: &mut D,
+    out: &mut O,
+) -> Cause
+    requires few { frames ≤ 1024 }
+    requires wrong { wrong ≤ 16 }
+    ensures cause { IsCaused result 0 0 (D.faults disk.old) (D.faults disk.new) (O.faults out.old) (O.faults out.new) }
+    ensures run { TrialRun D.Disk O.Sink (made_bytes Input.Symbols start wrong frames) result disk.old disk.new out.old out.new }
+{
+    let symbols = match stream(alloc, start, frames, wrong) {
+        Ok(symbols) => symbols,
+        Err(NoMemory) => return Cause::NoMemory,
+    };
+    let mut reader = match Reader::new(alloc, Input::Symbols, MOST_BYTES) {
+        Ok(reader) => reader,
+        Err(NoMemory) => return Cause::NoMemory,
+    };
+    let ended = match shelve_stream(alloc, &mut reader, symbols, disk) {
+        Ok(ended) => ended,
+        Err(cause) => return cause,
+    };
+    match put_last(alloc, &ended, out) {
+        Ok(()) => Cause::Done,
+        Err(cause) => cause,
+    }
+}
