@@ -1,11 +1,10 @@
 -- The loop of `decode` over symbols.
-use Rattle.std.proofs.Common.{◌≡◌, ℕ, ℤ, ◌+◌, ◌-◌, ◌<◌, ◌≤◌, Bool, List, [], ◌∷◌, ◌++◌, length, map, ap, ◌∙◌, sym, refl, subst, arith, append_assoc, append-nil, length-append, None, not, inl, inr}
+use Rattle.std.proofs.Common.{◌≡◌, ℕ, ℤ, ◌+◌, ◌-◌, ◌<◌, ◌≤◌, Bool, List, [], ◌∷◌, ◌++◌, length, map, ap, ◌∙◌, sym, refl, subst, arith, append_assoc, append-nil, length-append, None, not}
 use Rattle.std.specs.Prelude.{count_by, cond}
 use Rattle.std.specs.List.{concat, enumerate_from}
 use Rattle.std.proofs.lemmas.List.{map-append}
 use Rattle.std.proofs.lemmas.List.Folds.{concat-append}
 use Rattle.std.proofs.lemmas.List.Sums.{count_by-le-length}
-use Rattle.lr_bits.specs.Faults.{Rose}
 use Rattle.lr_bits.specs.declared.outcome.Outcome.{Outcome}
 use Rattle.lr_io.specs.declared.source.Source.{Ghosts as SourceOf}
 use Rattle.lr_io.specs.declared.sink.Sink.{Ghosts as SinkOf}
@@ -24,7 +23,6 @@ use Rattle.lr_catalog.specs.declared.summary.Summary.TheVariants.{Decode}
 use Rattle.lr_catalog.specs.Outcomes.{window_line}
 use Rattle.lr_catalog.specs.Summaries.{summary_line}
 use Rattle.lr_station.specs.declared.cause.Cause.{Cause}
-use Rattle.lr_station.specs.declared.cause.Cause.TheVariants.{Done, Usage, SourceFailed, DiskFailed, OutputFailed, NotAShelf, NoSuchFile, NoMemory, Capacity, NotEmpty, BadChecksum}
 use Rattle.lr_station.specs.declared.decode.Decoded.{Decoded}
 use Rattle.lr_station.specs.declared.words.Input.TheVariants.{Symbols}
 use Rattle.lr_station.specs.Decode.{lines_of_windows, decode_text, decode_last, decode_count}
@@ -34,6 +32,7 @@ use Rattle.lr_station.specs.Printing.{Prints, PrintsAll}
 use Rattle.lr_station.specs.Progress.{Puts, PutStops}
 use Rattle.lr_station.specs.Reading.{IsRead, EndsFor}
 use Rattle.lr_station.specs.WindowsRead.{EndsWindows}
+use Rattle.lr_station.proofs.Putting.{put_behind, line_stops, last_stops}
 use Rattle.lr_station.proofs.DecodeLoop.{count_push}
 use Rattle.lr_station.proofs.ReceiveLoop.{both_kinds}
 use Rattle.lr_station.proofs.UnitsOf.{enumerate_from-push}
@@ -99,13 +98,6 @@ pub record WindowsPut {S O : Type 0} (source : SourceOf S) (out : SinkOf O) (lim
   pub counted : restored ≡ count_by is_restored (outcomes_given bytes given)
 
 module _ {S O : Type 0} (source : SourceOf S) (out : SinkOf O) (limit : ℕ) where
-  put_behind : {first second : List ℕ} {o p o' : O} → Puts out first o p → Puts out second p o' → Puts out (first ++ second) o o'
-  put_behind {first} {second} {o} {p} {o'} before more = record {
-    told = λ tells. more.told (before.told tells);
-    put = λ tells. more.put (before.told tells) ∙ ap (λ l. l ++ second) (before.put tells) ∙ append_assoc (out.contents o) first second;
-    kept = more.kept ∙ before.kept;
-  }
-
   pub put_begun : (now : Decoding) → IsFresh limit now → (s : S) (o : O) → WindowsPut source out limit 0 0 now s s o o
   put_begun now fresh s o = record {
     bytes = [];
@@ -158,50 +150,8 @@ module _ {S O : Type 0} (source : SourceOf S) (out : SinkOf O) (limit : ℕ) whe
 
       -- the line of a window wasn't put
       pub window_stopped : (o' : O) (cause : Cause) → PutStops out (window_line place at positive outcome) cause p o' → Prints source out (decode_text Symbols) (decode_last Symbols) limit cause s s' o o'
-      window_stopped o' Done stop = absurd stop
-      window_stopped o' Usage stop = stop
-      window_stopped o' SourceFailed stop = absurd stop
-      window_stopped o' DiskFailed stop = absurd stop
-      window_stopped o' (NotAShelf at) stop = absurd stop
-      window_stopped o' (NoSuchFile count) stop = absurd stop
-      window_stopped o' (Capacity needed capacity) stop = absurd stop
-      window_stopped o' (NotEmpty size) stop = absurd stop
-      window_stopped o' BadChecksum stop = absurd stop
-      window_stopped o' OutputFailed stop = inl (record {
-        bytes = gives.all;
-        read = read;
-        part = λ tells.
-            let cut = stop.part (so.put.told tells) in
-            let first = lines_of_windows (symbols_of so.bytes) so.given in
-            record {
-              part = first ++ cut.part;
-              rest = cut.rest ++ later.0;
-              split =
-                  lines_all ∙ ap (λ (l : List ℕ). first ++ (l ++ later.0)) cut.split ∙ ap (λ (l : List ℕ). first ++ l) (append_assoc cut.part cut.rest later.0)
-                  ∙ sym (append_assoc first cut.part (cut.rest ++ later.0));
-              shorter =
-                  omega (
-                    arith,
-                    ap length lines_all,
-                    length-append first (window_line place at positive outcome ++ later.0),
-                    length-append (window_line place at positive outcome) later.0,
-                    length-append first cut.part,
-                    cut.shorter,
-                  );
-              put = cut.put ∙ ap (λ l. l ++ cut.part) (so.put.put tells) ∙ append_assoc (out.contents o) first cut.part;
-            };
-        rose = subst (λ k. Rose k (out.faults o')) so.put.kept stop.rose;
-      })
-      window_stopped o' NoMemory stop = record {
-        bytes = gives.all;
-        read = read;
-        front = λ tells. record {
-          front = lines_of_windows (symbols_of so.bytes) so.given;
-          rest = window_line place at positive outcome ++ later.0;
-          split = lines_all;
-          put = ap out.contents stop ∙ so.put.put tells;
-        };
-      }
+      window_stopped o' =
+          line_stops source out (decode_text Symbols) (decode_last Symbols) limit gives.all (lines_of_windows (symbols_of so.bytes) so.given) read so.put (window_line place at positive outcome) later.0 lines_all o'
 
       -- it was
       pub windows_put_more : (o' : O) → Puts out (window_line place at positive outcome) p o' → (restored' : ℕ) → restored' ≡ restored + cond (is_restored outcome) 1 0
@@ -212,7 +162,7 @@ module _ {S O : Type 0} (source : SourceOf S) (out : SinkOf O) (limit : ℕ) whe
         count = omega (arith, so.count, length-append so.given (gives.frame ∷ []));
         limit_is = limit_is;
         decodes = gives.so_far;
-        put = subst (λ (l : List ℕ). Puts out l o o') (sym grows) (put_behind so.put put);
+        put = subst (λ (l : List ℕ). Puts out l o o') (sym grows) (put_behind out so.put put);
         counted =
             counted ∙ ap (λ k. k + cond (is_restored outcome) 1 0) (so.counted ∙ ap (λ (l : List Outcome). count_by is_restored l) (sym gives.same))
             ∙ ap (λ (x : Outcome). count_by is_restored (outcomes_given gives.all so.given) + cond (is_restored x) 1 0) (sym outcome_now)
@@ -265,49 +215,10 @@ module _ {S O : Type 0} (source : SourceOf S) (out : SinkOf O) (limit : ℕ) whe
       bytes = all.bytes;
       read = all.read;
       reason = all.reason;
-      put = λ tells. (put_behind all.put last).put tells ∙ ap (λ l. out.contents o ++ (decode_text Symbols all.bytes ++ l)) (sym last_is);
+      put = λ tells. (put_behind out all.put last).put tells ∙ ap (λ l. out.contents o ++ (decode_text Symbols all.bytes ++ l)) (sym last_is);
       out_count = last.kept ∙ all.put.kept;
     }
 
     pub windows_last_stopped : (o' : O) (cause : Cause) → PutStops out line cause p o' → Prints source out (decode_text Symbols) (decode_last Symbols) limit cause s s' o o'
-    windows_last_stopped o' Done wrong = absurd wrong
-    windows_last_stopped o' Usage wrong = wrong
-    windows_last_stopped o' SourceFailed wrong = absurd wrong
-    windows_last_stopped o' DiskFailed wrong = absurd wrong
-    windows_last_stopped o' (NotAShelf at) wrong = absurd wrong
-    windows_last_stopped o' (NoSuchFile count) wrong = absurd wrong
-    windows_last_stopped o' (Capacity needed capacity) wrong = absurd wrong
-    windows_last_stopped o' (NotEmpty size) wrong = absurd wrong
-    windows_last_stopped o' BadChecksum wrong = absurd wrong
-    windows_last_stopped o' OutputFailed failed = inr (record {
-      bytes = all.bytes;
-      stop = ended.stop;
-      read = all.read;
-      reason = all.reason;
-      part = λ tells. let cut = failed.part (all.put.told tells) in record {
-        part = cut.part;
-        rest = cut.rest;
-        split = last_is ∙ cut.split;
-        shorter = omega (arith, ap length last_is, cut.shorter);
-        put = cut.put ∙ ap (λ l. l ++ cut.part) (all.put.put tells);
-      };
-      rose = subst (λ k. Rose k (out.faults o')) all.put.kept failed.rose;
-    })
-    windows_last_stopped o' NoMemory same = record {
-      bytes = all.bytes;
-      read = all.read;
-      front = λ tells. record {
-        front = decode_text Symbols all.bytes;
-        rest = [];
-        split = sym (append-nil (decode_text Symbols all.bytes));
-        put = ap out.contents same ∙ all.put.put tells;
-      };
-    }
-
-  -- memory for decoding was refused, before any byte was taken
-  pub none_decoded : (s : S) (o : O) → Prints source out (decode_text Symbols) (decode_last Symbols) limit NoMemory s s o o
-  none_decoded s o = record {
-    bytes = [];
-    read = record { moved = λ t. refl; few = omega arith };
-    front = λ tells. record { front = []; rest = decode_text Symbols []; split = refl; put = sym (append-nil (out.contents o)) };
-  }
+    windows_last_stopped o' =
+        last_stops source out (decode_text Symbols) (decode_last Symbols) limit all.bytes (decode_text Symbols all.bytes) all.read all.put ended.stop all.reason refl line last_is o'
