@@ -11,7 +11,8 @@ ghost use Rattle.lr_station.specs.Made.{made_bytes};
 ghost use Rattle.lr_station.specs.Readers.{input_of, IsReadyFor};
 ghost use Rattle.lr_station.specs.Receive.{receive_last};
 ghost use Rattle.lr_station.specs.Reception.{ended_line};
-ghost use Rattle.lr_station.specs.Trial.{trial_capacity, LeavesDisk, StopsTrial, TrialRun};
+ghost use Rattle.lr_station.specs.Shelved.{StopsTrial};
+ghost use Rattle.lr_station.specs.Trial.{trial_capacity, LeavesDisk, TrialRun};
 ghost use Rattle.lr_station.specs.Words.{most_bytes};
 
 use crate::cause::Cause;
