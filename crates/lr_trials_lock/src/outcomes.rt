@@ -2,7 +2,7 @@
 ghost use Rattle.std.specs.Prelude.{◌≡◌};
 
 use crate::drawn::drawn;
-use crate::streams::{part, sent};
+use crate::streams::{bytes_of, part, sent};
 use lr_bits::{NoMemory, Outcome};
 use lr_frame::FrameWork;
 use lr_gatecore::Work;
@@ -85,15 +85,6 @@ fn plain_frames(alloc: Global, bytes: &[u8]) -> Result<u32, NoMemory> {
         }
     }
     Ok(plain)
-}
-
-/// The symbols as bytes.
-fn bytes_of(alloc: Global, symbols: &[i8]) -> Result<Vec<u8>, NoMemory> {
-    let mut bytes = Vec::new(alloc);
-    for symbol in symbols {
-        bytes.push(symbol.cast_unsigned())?;
-    }
-    Ok(bytes)
 }
 
 #[test]

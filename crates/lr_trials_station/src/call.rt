@@ -117,9 +117,13 @@ pub fn ends_on(
     )
 }
 
-/// What these words print, with nothing to read and over a disk of which no call succeeds. The work must be done.
-pub fn written(alloc: Global, words: &[&str], bytes: usize) -> Result<Vec<u8>, Fail> {
-    let mut disk = MemDisk::of(alloc, Vec::new(alloc), 0, 0)?;
+/// What these words print, with nothing to read and over this disk. The work must be done.
+pub fn written_on(
+    alloc: Global,
+    disk: &mut MemDisk,
+    words: &[&str],
+    bytes: usize,
+) -> Result<Vec<u8>, Fail> {
     let input = Input {
         words,
         bytes: Vec::new(alloc),
@@ -130,11 +134,17 @@ pub fn written(alloc: Global, words: &[&str], bytes: usize) -> Result<Vec<u8>, F
         bytes,
         fault: NEVER,
     };
-    let called = call(alloc, &mut disk, input, room)?;
+    let called = call(alloc, disk, input, room)?;
     if called.status != 0 {
         return Err(Fail::from("the call wasn't done"));
     }
     Ok(called.out.as_slice().to_vec(alloc)?)
+}
+
+/// The same, over a disk of which no call succeeds.
+pub fn written(alloc: Global, words: &[&str], bytes: usize) -> Result<Vec<u8>, Fail> {
+    let mut disk = MemDisk::of(alloc, Vec::new(alloc), 0, 0)?;
+    written_on(alloc, &mut disk, words, bytes)
 }
 
 /// Whether the call gives that outcome, over a disk of which no call succeeds.

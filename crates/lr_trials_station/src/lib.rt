@@ -27,3 +27,5 @@ mod stated;
 mod streams;
 #[cfg(test)]
 mod symbols;
+#[cfg(test)]
+mod trial;

@@ -4,7 +4,7 @@ use crate::call::{
     written,
 };
 use lr_disk::MemDisk;
-use lr_trials_lock::streams::{leave_hits, silence};
+use lr_trials_lock::streams::{bytes_of, leave_hits, silence};
 use std::alloc::Global;
 use std::test::Fail;
 
@@ -119,21 +119,13 @@ fn one_frame_needs_all_its_symbols(rt: HostRuntime) -> Result<(), Fail> {
     Ok(())
 }
 
-// The symbols of the bytes, and the bytes of symbols.
+// The symbols of the bytes.
 fn symbols_of(alloc: Global, bytes: &[u8]) -> Result<Vec<i8>, Fail> {
     let mut symbols = Vec::new(alloc);
     for byte in bytes {
         symbols.push(byte.cast_signed())?;
     }
     Ok(symbols)
-}
-
-fn bytes_of(alloc: Global, symbols: &[i8]) -> Result<Vec<u8>, Fail> {
-    let mut bytes = Vec::new(alloc);
-    for symbol in symbols {
-        bytes.push(symbol.cast_unsigned())?;
-    }
-    Ok(bytes)
 }
 
 #[test]

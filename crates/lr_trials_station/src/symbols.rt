@@ -1,9 +1,8 @@
 // `decode` and `receive` of symbols.
 use crate::call::{AMPLE, Input, NEVER, Outcome, done, ends_on, gives, gives_on};
 use crate::shelves::empty_shelf;
-use lr_bits::NoMemory;
 use lr_disk::MemDisk;
-use lr_trials_lock::streams::{leave_hits, sent, silence};
+use lr_trials_lock::streams::{bytes_of, leave_hits, sent, silence, turn};
 use std::alloc::Global;
 use std::test::Fail;
 
@@ -43,18 +42,11 @@ const NO_FILE: &str =
 const FAILED: &str =
     "symbols 70000 frames 4 restored 4 lost 0 packets 0 files 0 left 0 stop fault\n";
 
-// The symbols as bytes, with or without their signs changed.
-fn bytes_of(alloc: Global, symbols: &[i8], negated: bool) -> Result<Vec<u8>, NoMemory> {
-    let mut bytes = Vec::new(alloc);
-    for symbol in symbols {
-        let symbol = if negated {
-            symbol.wrapping_neg()
-        } else {
-            *symbol
-        };
-        bytes.push(symbol.cast_unsigned())?;
-    }
-    Ok(bytes)
+// The symbols of the other polarity, as bytes.
+fn turned(alloc: Global, symbols: &[i8]) -> Result<Vec<u8>, Fail> {
+    let mut other = symbols.to_vec(alloc)?;
+    turn(&mut other);
+    Ok(bytes_of(alloc, &other)?)
 }
 
 fn decoding<'a>(bytes: Vec<u8>, reads: usize) -> Input<'a> {
@@ -70,8 +62,8 @@ fn decoding<'a>(bytes: Vec<u8>, reads: usize) -> Input<'a> {
 fn decodes(alloc: Global, symbols: &[i8], last: &str) -> Result<bool, Fail> {
     let mut disk = MemDisk::of(alloc, Vec::new(alloc), 0, 0)?;
     for reads in [1, 4_096, 65_536] {
-        for negated in [false, true] {
-            let input = decoding(bytes_of(alloc, symbols, negated)?, reads);
+        for bytes in [bytes_of(alloc, symbols)?, turned(alloc, symbols)?] {
+            let input = decoding(bytes, reads);
             if !ends_on(alloc, &mut disk, input, AMPLE, done(last))? {
                 return Ok(false);
             }
@@ -95,9 +87,9 @@ fn receives(alloc: Global, bytes: Vec<u8>, wanted: Outcome<'_>) -> Result<bool, 
 fn each_window_has_its_line(rt: HostRuntime) -> Result<(), Fail> {
     let alloc = rt.alloc();
     let symbols = sent(alloc)?;
-    let plain = decoding(bytes_of(alloc, &symbols, false)?, 4_096);
+    let plain = decoding(bytes_of(alloc, &symbols)?, 4_096);
     assert!(rt; gives(alloc, plain, AMPLE, done(EIGHT_WINDOWS))?);
-    let negated = decoding(bytes_of(alloc, &symbols, true)?, 4_096);
+    let negated = decoding(turned(alloc, &symbols)?, 4_096);
     assert!(rt; gives(alloc, negated, AMPLE, done(NEGATED))?);
     Ok(())
 }
@@ -122,7 +114,7 @@ fn last_lines_are_those_of_any_reads(rt: HostRuntime) -> Result<(), Fail> {
 fn symbols_without_files_leave_the_shelf_empty(rt: HostRuntime) -> Result<(), Fail> {
     let alloc = rt.alloc();
     assert!(rt; receives(alloc, Vec::new(alloc), done(NOTHING))?);
-    let bytes = bytes_of(alloc, &sent(alloc)?, false)?;
+    let bytes = bytes_of(alloc, &sent(alloc)?)?;
     assert!(rt; receives(alloc, bytes, done(NO_FILE))?);
     Ok(())
 }
@@ -133,7 +125,7 @@ fn frames_before_a_fault_are_received(rt: HostRuntime) -> Result<(), Fail> {
     let mut shelf = empty_shelf(alloc)?;
     let input = Input {
         words: &["receive", "--input", "symbols"],
-        bytes: bytes_of(alloc, &sent(alloc)?, false)?,
+        bytes: bytes_of(alloc, &sent(alloc)?)?,
         reads: 4_096,
         fault: 70_000,
     };
