@@ -1,5 +1,5 @@
 -- The files of a trial's symbols, and of the first of them, fit its shelf.
-use Rattle.std.proofs.Common.{◌≡◌, inl, inr, ℕ, ℤ, zero, suc, ◌+◌, ◌*◌, ◌/◌, ◌%◌, ◌<◌, ◌≤◌, min, Bool, true, false, cond, not, nat_eq, None, Some, Option, List, [], ◌∷◌, ◌++◌, map, length, replicate, append-nil, drop, refl, sym, ◌∙◌, ap, subst, arith, append_assoc, add-one, Ok, Err}
+use Rattle.std.proofs.Common.{◌≡◌, inl, inr, ℕ, ℤ, zero, suc, ◌+◌, ◌*◌, ◌/◌, ◌%◌, ◌<◌, ◌≤◌, min, Bool, true, false, cond, not, nat_eq, None, Some, Option, List, [], ◌∷◌, ◌++◌, map, length, replicate, refl, sym, ◌∙◌, ap, arith, append_assoc, add-one, Ok, Err}
 use Rattle.std.specs.Int.{cast_unsigned, w8}
 use Rattle.std.specs.List.{All, sum_by, count_by, filter_map, cons_option, range_with_len}
 use Rattle.std.specs.Result.{result_ok}
@@ -9,12 +9,12 @@ use Rattle.std.proofs.lemmas.List.Sums.{sum_by-cons, sum_by-append}
 use Rattle.lr_bits.specs.Bits.{field_of}
 use Rattle.lr_bits.specs.File.{File, bytes_of}
 use Rattle.lr_bits.specs.declared.outcome.Outcome.{Outcome}
-use Rattle.lr_bits.specs.declared.outcome.Outcome.TheVariants.{Restored, Lost}
+use Rattle.lr_bits.specs.declared.outcome.Outcome.TheVariants.{Restored}
 use Rattle.lr_conv.specs.Convolution.{code}
 use Rattle.lr_conv.specs.declared.marker.TheConstants.{MARKER_TAIL}
-use Rattle.lr_frame.specs.Outcomes.{outcome_in, outcome_of_window, outcomes_of_symbols}
+use Rattle.lr_frame.specs.Outcomes.{outcome_in, outcomes_of_symbols}
 use Rattle.lr_frame.proofs.Given.{outcomes_stay}
-use Rattle.lr_frame.proofs.Whole.{outcomes_by_tail, whole_of_window}
+use Rattle.lr_frame.proofs.Whole.{outcomes_by_tail}
 use Rattle.lr_layers.specs.Layers.{frame_in, frames_of_outcomes, files_of_outcomes}
 use Rattle.lr_layers.proofs.Fitting.{files_are_some, files_fit_the_frames}
 use Rattle.lr_lock.specs.Frames.{after, IsNext, AreNext}
@@ -34,14 +34,13 @@ use Rattle.lr_make.proofs.Joining.{range-more}
 use Rattle.lr_make.proofs.Sending.{length-all_symbols, symbols_are_one_code}
 use Rattle.lr_make.proofs.Windows.{stream_is_received}
 use Rattle.lr_shelf_format.specs.Reading.{end_of, extent_of_file}
-use Rattle.lr_vc.specs.Frame.{Fields}
+use Rattle.lr_vc.specs.Frame.{Fields, fields_of, version_of}
 use Rattle.lr_vc.specs.Runs.{AreFrames}
 use Rattle.lr_station.specs.declared.words.Input.TheVariants.{Symbols}
 use Rattle.lr_station.specs.Inputs.{outcomes_of_bytes, files_of_bytes}
 use Rattle.lr_station.specs.Made.{bytes_of_symbols, made_bytes}
-use Rattle.lr_station.specs.Shelved.{HasWholeFrame}
 use Rattle.lr_station.specs.Trial.{trial_capacity}
-use Rattle.lr_station.proofs.WholeFrames.{with_outcome}
+use Rattle.lr_station.proofs.WindowLoop.{all_whole}
 
 -- ---- where files end
 
@@ -107,16 +106,7 @@ sent start wrong k = Restored (record { 0 = replicate 4 wrong }) (frame_at start
 abbrev all_sent : ℕ → ℕ → ℕ → List Outcome
 all_sent start wrong n = map (sent start wrong) (range_with_len 0 n)
 
-fill_none : (frame : List ℕ) (version : Bool) → field_of frame 10 6 ≡ 63
-    → count_by carries (cons_option (result_ok (cond version (Ok (record {
-      spacecraft = field_of frame 2 8;
-      vc = field_of frame 10 6;
-      counter = field_of frame 16 24;
-      replay = nat_eq (field_of frame 40 1) 1;
-      rest = field_of frame 41 7;
-      pointer = field_of frame 53 11;
-      zone = drop 8 frame;
-    })) (Err (field_of frame 0 2)))) []) ≡ 0
+fill_none : (frame : List ℕ) (version : Bool) → field_of frame 10 6 ≡ 63 → count_by carries (cons_option (result_ok (cond version (Ok (fields_of frame)) (Err (version_of frame)))) []) ≡ 0
 fill_none frame true fill = ap (λ (vc : ℕ). 0 + cond (not (nat_eq vc 63)) 1 0) fill
 fill_none frame false fill = refl
 
@@ -220,27 +210,6 @@ carrying_part part later =
       carrying_few (map (outcome_in part) b.last) (omega (arith, b.few, length-map b.last (outcome_in part))),
       ap carrying of_all ∙ carrying-append known (map (outcome_in all) (b.last ++ front.0)),
     )
-
--- ---- their frames have whole zones
-
-whole_outcome : (window : List ℤ) (outcome : Outcome) → outcome ≡ outcome_of_window window → HasWholeFrame outcome
-whole_outcome window (Restored corrected frame) is = whole_of_window window frame corrected is
-whole_outcome window (Lost word) is = tt
-
-whole_frames : (outcomes : List Outcome) (symbols : List ℤ) (frames : List Frame) → AreFrames (frames_of_outcomes outcomes) → AreFrames (frames_of_outcomes (outcomes ++ map (outcome_in symbols) frames))
-whole_frames outcomes symbols [] whole = subst (λ (os : List Outcome). AreFrames (frames_of_outcomes os)) (sym (append-nil outcomes)) whole
-whole_frames outcomes symbols (frame ∷ frames) whole =
-    let one = outcome_in symbols frame in
-    subst (λ (os : List Outcome). AreFrames (frames_of_outcomes os)) (append_assoc outcomes (one ∷ []) (map (outcome_in symbols) frames))
-    (whole_frames (outcomes ++ one ∷ []) symbols frames (with_outcome outcomes one whole (whole_outcome _ one refl)))
-
-no_frames : AreFrames (frames_of_outcomes [])
-unfolding frames_of_outcomes
-no_frames = All-nil (λ (f : Fields). length f.zone ≡ 884)
-
-all_whole : (symbols : List ℤ) → AreFrames (frames_of_outcomes (outcomes_of_symbols symbols))
-all_whole symbols =
-    subst (λ (os : List Outcome). AreFrames (frames_of_outcomes os)) (sym (outcomes_by_tail symbols)) (whole_frames [] symbols (frames_of MARKER_TAIL symbols) no_frames)
 
 -- ---- the trial's files
 

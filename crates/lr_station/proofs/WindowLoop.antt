@@ -59,7 +59,7 @@ no_frames : AreFrames (frames_of_outcomes [])
 unfolding frames_of_outcomes
 no_frames = All-nil (λ (f : Fields). length f.zone ≡ 884)
 
-all_whole : (symbols : List ℤ) → AreFrames (frames_of_outcomes (outcomes_of_symbols symbols))
+pub all_whole : (symbols : List ℤ) → AreFrames (frames_of_outcomes (outcomes_of_symbols symbols))
 all_whole symbols =
     subst (λ (l : List Outcome). AreFrames (frames_of_outcomes l)) (sym (outcomes_by_tail symbols)) (with_frames symbols (frames_of MARKER_TAIL symbols) [] no_frames)
 
