@@ -2,7 +2,7 @@ ghost use Rattle.std.specs.Prelude.{◌≡◌, ◌<◌, IsTrue, IfOk, OnOk};
 ghost use Rattle.lr_packet.specs.Reading.{good};
 ghost use Rattle.lr_file.specs.Steps.{IsBuilt, begun, is_next, joined};
 
-use lr_bits::{Bytes, Lengths, MOST_BODIES, MOST_BYTES, MissionFile, NoMemory};
+use lr_bits::{Bytes, Lengths, MOST_FILE_BODIES, MOST_FILE_BYTES, MissionFile, NoMemory};
 use lr_packet::GoodPacket;
 use std::alloc::Global;
 use std::marker::Model;
@@ -51,7 +51,7 @@ impl OpenFile {
         let next = (self.count + 1) % COUNTS;
         let bodies = self.lengths.as_slice().len() + 1;
         let bytes = self.bytes.as_slice().len() + packet.body.len();
-        packet.count == next && bodies <= MOST_BODIES && bytes <= MOST_BYTES
+        packet.count == next && bodies <= MOST_FILE_BODIES && bytes <= MOST_FILE_BYTES
     }
 
     /// Appends the packet's body. This takes no memory but the growth of the two lists.

@@ -1,0 +1,32 @@
+/// The bytes of a transfer frame (CCSDS 732.0-B, in the length of the LRIT and HRIT services).
+pub const FRAME_BYTES: usize = 892;
+
+/// The bytes of a frame's packet zone, after its header of 8 bytes.
+pub const ZONE_BYTES: usize = 884;
+
+/// The channel of fill frames, the last one (CCSDS 732.0-B).
+pub const FILL_CHANNEL: u8 = 63;
+
+/// The bytes of a received block: four Reed-Solomon words of 255 bytes, interleaved (CCSDS 131.0-B).
+pub const BLOCK_BYTES: usize = 1_020;
+
+/// The symbols of a frame: those of its marker of 32 bits and of its block, two for each bit.
+pub const FRAME_SYMBOLS: usize = 16_384;
+
+/// The symbols of a frame's window: those of its block, and of the first six bits of the next marker.
+pub const WINDOW_SYMBOLS: usize = 16_332;
+
+/// The bytes of a packet's header (CCSDS 133.0-B).
+pub const PACKET_HEADER_BYTES: usize = 6;
+
+/// The application identifier of idle packets (CCSDS 133.0-B), the last one.
+pub const IDLE_APPLICATION: u16 = 2_047;
+
+/// The bytes of a transport header, which each file has (CGMS 03).
+pub const TRANSPORT_HEADER_BYTES: usize = 10;
+
+/// The most bodies that a file has.
+pub const MOST_FILE_BODIES: usize = 1_048_576;
+
+/// The most bytes that a file has, with its transport header.
+pub const MOST_FILE_BYTES: usize = 67_108_864;
