@@ -1,0 +1,29 @@
+use Rattle.std.proofs.Common.{◌≡◌, ◌≤◌, ◌∙◌, Bool, true, false, cond, sym, refl, subst, arith}
+use Rattle.std.proofs.lemmas.List.{take_more}
+use mir.Val.{bool_byte}
+use Rattle.lr_gatecore.specs.Machine.{Leads}
+use Rattle.lr_gatecore.proofs.Steps.{leads_end, put_more}
+use Rattle.lr_gatecore.proofs.gate_core.GateCore.run.Goals as goal
+
+as_number : (b : Bool) → (bool_byte b ≡ cond b 1 0) × (cond b 1 0 ≤ 1)
+as_number true = (refl, omega arith)
+as_number false = (refl, omega arith)
+
+pub loop-event-preserved : goal.loop-event-preserved
+loop-event-preserved c = let kept = c.loop-event.invariant in let size = c.step.ensures.sizes in
+    let b = as_number c.step.result in
+    let steps = rw (kept.0, kept.1) at c.step.ensures.steps in
+    let more = leads_end _ _ _ _ _ _ _ _ _ kept.4.1 steps in
+    let grown = put_more _ _ _ _ _ _ steps in (
+      size.0 ∙ kept.0,
+      size.1 ∙ kept.1,
+      omega (arith, grown, kept.2),
+      omega (arith, b.0, b.1, c.from-moved.ensures, kept.3),
+      (
+        more.0,
+        subst (λ es. Leads c.args.self.now.cells c.args.self.now.workers c.args.self.now.machine es more.0
+            c.step.new.self.machine)
+            (sym (take_more c.args.events.now c.loop-event.event-index _ c.loop-event-test.true)) more.1,
+        omega (arith, b.0, c.from-moved.ensures, kept.4.2, more.2),
+      ),
+    )

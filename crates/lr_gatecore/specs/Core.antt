@@ -1,0 +1,40 @@
+-- What a `GateCore` is seen as, and what its steps tell.
+use Rattle.std.specs.Prelude.{◌≡◌, ℕ, ◌+◌, ◌^◌, ◌<◌, ◌≤◌, ◌++◌, Bool, true, false, List, length, replicate}
+use Rattle.lr_gatecore.specs.declared.event.Event.{Event}
+use Rattle.lr_gatecore.specs.declared.stage.Stage.{Stage}
+use Rattle.lr_gatecore.specs.declared.stage.Stage.TheVariants.{Done}
+use Rattle.lr_gatecore.specs.Machine.{Machine, Moves, IsRefused, IsState}
+
+-- the numbers of cells and workers, and the machine
+pub record Core : Type 0 where
+  pub cells : ℕ
+  pub workers : ℕ
+  pub machine : Machine
+
+-- the core's machine is in a state
+abbrev pub IsCore : Core → Type 0
+IsCore core = IsState core.cells core.workers core.machine
+
+abbrev pub SameSize : Core → Core → Type 0
+SameSize old new = (new.cells ≡ old.cells) × (new.workers ≡ old.workers)
+
+-- the step made the move, or the event isn't allowed and nothing changed
+abbrev pub MachineSteps : ℕ → ℕ → Machine → Event → Bool → Machine → Type 0
+MachineSteps cells workers m event true n = (job : ℕ) × Moves cells workers m event job n
+MachineSteps cells workers m event false n = IsRefused cells workers m event × (n ≡ m)
+
+abbrev pub Steps : Core → Event → Bool → Core → Type 0
+Steps old event moved new = MachineSteps old.cells old.workers old.machine event moved new.machine
+
+-- the machine of which so many jobs were taken, and the jobs put after them have these stages
+abbrev pub machine_of : ℕ → List Stage → Bool → Machine
+machine_of taken window stopped = record { stages = replicate taken Done ++ window; taken = taken; stopped = stopped }
+
+-- what a core keeps true of its fields; `capacity` is that of its window
+pub record IsKept (cells workers taken : ℕ) (stopped : Bool) (window : List Stage) (capacity : ℕ) : Type 0 where
+  pub some_cell : 0 < cells
+  pub most_cells : cells ≤ 256
+  pub fits : length window ≤ cells
+  pub room : cells ≤ capacity
+  pub few : taken + length window ≤ 2 ^ 56
+  pub state : IsState cells workers (machine_of taken window stopped)
