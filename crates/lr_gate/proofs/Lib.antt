@@ -1,0 +1,17 @@
+pub mod Lists
+pub mod Alike
+pub mod Keeps
+pub mod Looks
+pub mod Alone
+pub mod Takes
+pub mod Works
+pub mod Claims
+pub mod Makes
+pub mod Joins
+pub mod Seats
+pub mod MoreReads
+pub mod Rounds
+pub mod Shown
+pub mod OneMachine
+pub mod Fewer
+pub mod Moving

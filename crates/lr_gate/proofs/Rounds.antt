@@ -1,0 +1,102 @@
+-- How far a round over the cells has come.
+use Rattle.std.proofs.Common.{◌≡◌, ℕ, ◌+◌, ◌%◌, ◌<◌, ◌≤◌, Bool, true, false, List, [], ◌∷◌, ◌++◌, length, sym, refl}
+use Rattle.std.proofs.Common.{ap, ◌∙◌, subst, arith, mod-lt, true≢false}
+use Rattle.std.specs.Prelude.{IsTrue, ◌↔◌}
+use mathlib.Core.Logic.{dite}
+use native.Mathlib.Decide.{ℕ_discrete, dec_lt}
+use Rattle.lr_gate.specs.declared.view.Read.{Read}
+use Rattle.lr_gate.specs.declared.view.View.{View}
+use Rattle.lr_gate.specs.Steps.{SeatState}
+use Rattle.lr_gate.specs.Reads.{IsPassedOver}
+use Rattle.lr_gate.specs.declared.gate.Turn.TheVariants.{Did, Nothing}
+use Rattle.lr_gate.specs.Seats.{Turns, SomeUnfinished}
+use Rattle.lr_gate.specs.Calls.{with_reads, IsAlone, HasFinished, Works, Visits, GoesRound}
+use Rattle.lr_gatecore.proofs.Lists.{at_length}
+use Rattle.lr_gate.proofs.MoreReads.{no_reads, more_reads, more_work, passed_longer, passed_behind, claimed_behind}
+
+module _ {J D : Type 0} (n : ℕ) where
+  -- all cells before this one were passed over, and the seat has only read
+  pub record Gone (old now : SeatState J D) (cell : ℕ) : Type 0 where
+    pub reads : List Read
+    pub now_is : now ≡ (with_reads old.0 reads, old.1)
+    pub passed : (c : ℕ) → c < cell → IsPassedOver reads c
+    pub window : IsAlone old.0 → (p : ℕ) → old.0.taken ≤ p → p < length old.0.jobs → p % n < cell → HasFinished old.0 p
+    pub past : 0 < cell → IsAlone old.0 → (p : ℕ) → p < old.0.taken → HasFinished old.0 p
+
+  pub gone_none : (m : SeatState J D) → Gone m m 0
+  gone_none m = record {
+    reads = [];
+    now_is = ap (λ (v : View J). (v, m.1)) (no_reads m.0);
+    passed = λ c l. absurd (omega arith);
+    window = λ one p a b l. absurd (omega arith);
+    past = λ l. absurd (omega arith);
+  }
+
+  pub gone_more : (old now next : SeatState J D) (cell : ℕ) → Gone old now cell → Visits n cell now next false
+      → Gone old next (cell + 1)
+  gone_more old now next cell g v' =
+      let v : Visits n cell (with_reads old.0 g.reads, old.1) next false = subst (λ (m : SeatState J D).
+      Visits n cell m next false) g.now_is v' in record {
+        reads = g.reads ++ v.0;
+        now_is = v.1 ∙ ap (λ (x : View J). (x, old.1)) (more_reads old.0 g.reads v.0);
+        passed = λ c l. dite (ℕ_discrete c cell) (λ e. subst (IsPassedOver (g.reads ++ v.0)) (sym e)
+            (passed_behind g.reads v.0 cell v.2)) (λ ne. passed_longer g.reads v.0 c (g.passed c (omega arith)));
+        window = λ one p a b l. dite (ℕ_discrete (p % n) cell) (λ e. (v.3 one).0 p a b e)
+            (λ ne. g.window one p a b (omega arith));
+        past = λ l one p a. (v.3 one).1 p a;
+      }
+
+  pub gone_all : (old now : SeatState J D) → 0 < n → Gone old now n → GoesRound n old now false
+  gone_all old now pos g = (
+    g.reads,
+    g.now_is,
+    g.passed,
+    λ one p b. dite (dec_lt p old.0.taken) (λ l. g.past pos one p l)
+        (λ ge. g.window one p (omega arith) b (mod-lt p pos)),
+  )
+
+  pub gone_works : (old now next : SeatState J D) (cell : ℕ) → Gone old now cell → Works n now next → Works n old next
+  gone_works old now next cell g w' =
+      let w : Works n (with_reads old.0 g.reads, old.1) next = subst (λ (m : SeatState J D).
+      Works n m next) g.now_is w' in (
+        w.0,
+        g.reads ++ w.1,
+        w.2 ∙ ap (λ (x : View J). (x, old.1)) (more_work old.0 g.reads w.1 w.0),
+        claimed_behind g.reads w.1 n w.0 w.3,
+        w.4,
+        w.5,
+      )
+
+  -- a round after the load of the stop word
+  began : (old now : SeatState J D) (k : Read) → now ≡ (with_reads old.0 (k ∷ []), old.1) → Gone old now 0
+  began old now k e = record {
+    reads = k ∷ [];
+    now_is = e;
+    passed = λ c l. absurd (omega arith);
+    window = λ one p a b l. absurd (omega arith);
+    past = λ l. absurd (omega arith);
+  }
+
+  pub turn_works : (old now next : SeatState J D) (k : Read) → now ≡ (with_reads old.0 (k ∷ []), old.1)
+      → Works n now next → Turns n old.0 next.0 Did
+  turn_works old now next k e w' = let w = gone_works old now next 0 (began old now k e) w' in
+      (w.0, w.1, ap (λ (m : SeatState J D). m.0) w.2, w.3, λ fin. fin w.4)
+
+  pub turn_reads : (old now next : SeatState J D) (k : Read) → now ≡ (with_reads old.0 (k ∷ []), old.1)
+      → GoesRound n now next false → Turns n old.0 next.0 Nothing
+  turn_reads old now next k e r' =
+      let r : GoesRound n (with_reads old.0 (k ∷ []), old.1) next false = subst (λ (m : SeatState J D).
+      GoesRound n m next false) e r' in (
+        k ∷ r.0,
+        ap (λ (m : SeatState J D). m.0) r.1 ∙ more_reads old.0 (k ∷ []) r.0,
+        λ c l. passed_behind
+            (k ∷ []) r.0 c (r.2 c l),
+      )
+
+  -- on one seat a round does a job exactly where one is left
+  pub alone_helps : (old next : SeatState J D) (b : Bool) → old.0.split_off ≡ 0 → old.0.number ≡ 0
+      → GoesRound n old next b → IsTrue b ↔ SomeUnfinished old.0
+  alone_helps old next true one nought w = let own = w.5 nought in
+      (λ _. (w.0, at_length old.0.jobs w.0 own.0 own.2, λ fin. fin w.4), λ _. refl)
+  alone_helps old next false one nought r =
+      (λ e. absurd (true≢false (sym e)), λ u. absurd (u.2 (r.3 (one, nought) u.0 u.1)))

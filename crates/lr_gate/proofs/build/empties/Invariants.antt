@@ -1,0 +1,7 @@
+use Rattle.std.proofs.Common.{◌≡◌, ◌≤◌, replicate, vec_capacity}
+use Rattle.lr_gate.specs.declared.cargo.Cargo.TheVariants.{Empty}
+use Rattle.lr_gate.proofs.build.empties.Given as goal
+
+abbrev pub invariant-loop : goal.invariant-loop
+invariant-loop g l = (l.slots.items ≡ replicate l.counter Empty) × (l.count ≤ vec_capacity l.slots)
+    × (l.counter ≤ l.count)

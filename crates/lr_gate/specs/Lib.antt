@@ -1,0 +1,10 @@
+pub mod Words
+pub mod Sizes
+pub mod Shows
+pub mod Steps
+pub mod Reads
+pub mod Calls
+pub mod Seats
+pub mod Cells
+pub mod Moves
+pub mod Left

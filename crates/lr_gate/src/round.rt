@@ -1,0 +1,64 @@
+//! A seat goes round the cells, and does the first job that it can claim.
+
+ghost use Rattle.std.specs.Prelude.{◌≡◌, ◌<◌};
+ghost use Rattle.lr_gate.specs.Calls.{MayClaim, Visits, GoesRound};
+
+use crate::cargo::Cargo;
+use crate::gate::Gate;
+use crate::plays::{Claims, Finishes, Looks};
+use crate::view::View;
+use atomic_table::Seat;
+use lr_gatecore::Work;
+
+/// Visits each cell once, until one is claimed and its job is done. The answer is whether one was.
+pub(crate) fn go_round<W: Work>(
+    gate: &Gate<W>,
+    seat: &mut Seat<Cargo<W::Job, W::Done>, View<W::Job>>,
+    number: u64,
+    work: &mut W,
+) -> bool
+    requires { MayClaim gate.now.table.shared.table_id seat.old number }
+    ensures same { (seat.new.table_id ≡ seat.old.table_id) × (seat.new.id ≡ seat.old.id) }
+    ensures rounds { GoesRound gate.now.cells seat.old.me seat.new.me result }
+{
+    for cell in 0..gate.cells as usize {
+        if visit(gate, seat, number, work, cell) {
+            return true;
+        }
+    }
+    false
+}
+
+/// Claims the cell if it is ready, and does its job. The answer is whether it did.
+fn visit<W: Work>(
+    gate: &Gate<W>,
+    seat: &mut Seat<Cargo<W::Job, W::Done>, View<W::Job>>,
+    number: u64,
+    work: &mut W,
+    cell: usize,
+) -> bool
+    requires mine { MayClaim gate.now.table.shared.table_id seat.old number }
+    requires cell { cell < gate.now.cells }
+    ensures same { (seat.new.table_id ≡ seat.old.table_id) × (seat.new.id ≡ seat.old.id) }
+    ensures visits { Visits gate.now.cells cell seat.old.me seat.new.me result }
+{
+    let shared = &gate.table.shared;
+    let word = shared.load::<Looks<W>>(seat, cell + 1);
+    if word % 4 != 1 {
+        return false;
+    }
+    let busy = word + 4 * number + 2;
+    let found = shared.compare_exchange::<Claims<W>>(seat, cell + 1, word, busy);
+    if found != word {
+        return false;
+    }
+    match shared.exchange(seat, cell, Cargo::Empty) {
+        Cargo::Given(job) => {
+            let made = work.run(job);
+            let _empty = shared.exchange(seat, cell, Cargo::Made(made));
+            shared.store::<Finishes<W>>(seat, cell + 1, word + 1);
+            true
+        }
+        _ => unreachable!(),
+    }
+}
