@@ -1,0 +1,185 @@
+//! A pool of workers beside a body.
+
+ghost use Rattle.std.specs.Prelude.{◌≡◌, All, IfOk, IfErr, vec_len, vec_capacity, false};
+ghost use Rattle.std.specs.Mem.{manually_drop_value};
+ghost use Rattle.lr_gate.specs.Seats.{IsConductorOf, IsSeatOf, IsSeatIn, seat_table, table_of, view_of};
+ghost use Rattle.lr_workers.specs.Pools.{IsConducted};
+
+use crate::body::{Body, Conducted};
+use lr_gate::{Conductor, Gate, Turn, WorkerSeat};
+use lr_gatecore::Work;
+use std::marker::PhantomData;
+use std::mem::ManuallyDrop;
+use std::snapshot::Snapshot;
+use std::sync::Wait;
+use std::thread;
+use std::thread::{Promise, Scope, Threads};
+
+/// What a pool hands back.
+#[derive(Drop)]
+pub struct Pooled<W: Work, B: Body<W>> {
+    pub conducted: Conducted<W, B>,
+    pub seats: Vec<WorkerSeat<W>>,
+    pub works: Vec<W>,
+}
+
+/// There was no memory, and no thread was started. Everything comes back as it was. Today's pool takes none of its own,
+/// so that this doesn't come.
+#[derive(Drop)]
+pub struct Refused<W: Work, B: Body<W>> {
+    pub conductor: Conductor<W>,
+    pub seats: Vec<WorkerSeat<W>>,
+    pub works: Vec<W>,
+    pub own: W,
+    pub body: B,
+}
+
+/// A thread hands back a seat of the gate that its own seat was of.
+#[derive(Drop)]
+struct SameGate<W: Work>(Snapshot<WorkerSeat<W>>);
+
+impl<W: Work> Promise<(WorkerSeat<W>, W)> for SameGate<W> {
+    ghost kept_by = { λ p r. IsSeatIn (seat_table p.0.value) r.0 };
+}
+
+/// Takes turns until the gate is stopped.
+fn work_on<R: Wait, W: Work>(
+    rt: &R,
+    gate: &Gate<W>,
+    mut seat: WorkerSeat<W>,
+    mut work: W,
+) -> (WorkerSeat<W>, W)
+    requires { IsSeatOf gate.now seat }
+    ensures { IsSeatOf gate.now result.0 }
+{
+    for _ in rt.forever() {
+        match seat.turn(gate, &mut work) {
+            Turn::Stopped => break,
+            Turn::Did => {}
+            Turn::Nothing => thread::yield_now(),
+        }
+    }
+    (seat, work)
+}
+
+/// Starts a thread for each seat, runs the body, stops the gate, and takes the threads in again. A closure whose thread
+/// couldn't be started runs after the stop.
+fn beside<'s, E, R: Threads + Wait + Sync, W: Work + Send + Drop, B: Body<W>>(
+    scope: &'s Scope<'s, E>,
+    rt: &'s R,
+    gate: &'s Gate<W>,
+    mut conductor: Conductor<W>,
+    mut seats: Vec<WorkerSeat<W>>,
+    mut works: Vec<W>,
+    own: W,
+    body: B,
+) -> (Conducted<W, B>, Vec<WorkerSeat<W>>, Vec<W>)
+    requires mine { IsConductorOf gate.now conductor }
+    requires running { (view_of conductor).stopped ≡ false }
+    requires seats { All (IsSeatOf gate.now) seats.items }
+    requires same { vec_len seats ≡ vec_len works }
+    requires needs { B.needs body conductor }
+    ensures mine { IsConductorOf gate.now result.0.conductor }
+    ensures conducts { IsConducted B.conducts body conductor result.0 }
+    ensures seats { All (IsSeatOf gate.now) result.1.items }
+    ensures many { (vec_len result.1 ≡ vec_len seats) × (vec_len result.2 ≡ vec_len works) }
+    ensures room { (vec_capacity result.1 ≡ vec_capacity seats) × (vec_capacity result.2 ≡ vec_capacity works) }
+{
+    let Some(seat) = seats.pop() else {
+        let (body, own, answer) = body.conduct(gate, &mut conductor, own);
+        conductor.stop(gate);
+        let conducted = Conducted {
+            body,
+            conductor,
+            own,
+            answer,
+        };
+        return (conducted, seats, works);
+    };
+    let Some(work) = works.pop() else {
+        unreachable!()
+    };
+    let promise = SameGate(Snapshot::of(&seat));
+    let run = move || -> (WorkerSeat<W>, W)
+        requires { IsSeatOf gate.now seat }
+        ensures { IsSeatOf gate.entry.now result.0 }
+    { work_on(rt, gate, seat, work) };
+    match scope.spawn_with(promise, run) {
+        Ok(child) => {
+            let (conducted, mut seats, mut works) = beside(
+                scope, rt, gate, conductor, seats, works, own, body,
+            );
+            let (seat, work) = child.join(rt);
+            seats.push_reserved(seat);
+            works.push_reserved(work);
+            (conducted, seats, works)
+        }
+        Err(refused) => {
+            let (conducted, mut seats, mut works) = beside(
+                scope, rt, gate, conductor, seats, works, own, body,
+            );
+            let (seat, work) = (refused.value)();
+            seats.push_reserved(seat);
+            works.push_reserved(work);
+            (conducted, seats, works)
+        }
+    }
+}
+
+/// Runs the body while a thread for each seat works. Then it stops the gate, takes the threads in and gives all back.
+pub fn with_pool<R: Threads + Wait + Sync, W: Work + Send + Drop, B: Body<W>>(
+    rt: &R,
+    gate: &Gate<W>,
+    conductor: Conductor<W>,
+    seats: Vec<WorkerSeat<W>>,
+    works: Vec<W>,
+    own: W,
+    body: B,
+) -> Result<Pooled<W, B>, Refused<W, B>>
+    requires mine { IsConductorOf gate.now conductor }
+    requires running { (view_of conductor).stopped ≡ false }
+    requires seats { All (IsSeatOf gate.now) seats.items }
+    requires same { vec_len seats ≡ vec_len works }
+    requires needs { B.needs body conductor }
+    ensures mine { IfOk result (λ r. IsConductorOf gate.now r.conducted.conductor) }
+    ensures conducts { IfOk result (λ r. IsConducted B.conducts body conductor r.conducted) }
+    ensures seats { IfOk result (λ r. All (IsSeatOf gate.now) r.seats.items) }
+    ensures many { IfOk result (λ r. (vec_len r.seats ≡ vec_len seats) × (vec_len r.works ≡ vec_len works)) }
+    ensures refused { IfErr result (λ r. (r.conductor ≡ conductor) × (r.seats ≡ seats) × (r.works ≡ works)
+        × (r.own ≡ own) × (r.body ≡ body)) }
+{
+    // The closure's result names the type of the answer, and a closure may name only types of what it holds.
+    let names: PhantomData<B::Answer> = PhantomData;
+    // A closure may hold only what may be let go, and a body need not be such. The closure takes it out again.
+    let body = unsafe { ManuallyDrop::new_unchecked(body) };
+    let (conducted, seats, works) = thread::scope(
+        thread::scope_env(),
+        rt,
+        move |scope| -> (Conducted<W, B>, Vec<WorkerSeat<W>>, Vec<W>)
+            requires { IsConductorOf gate.now conductor × ((view_of conductor).stopped ≡ false)
+                × All (IsSeatOf gate.now) seats.items × (vec_len seats ≡ vec_len works)
+                × B.needs (manually_drop_value body) conductor }
+            ensures { IsConductorOf gate.entry.now result.0.conductor
+                × IsConducted B.conducts (manually_drop_value body) conductor result.0
+                × All (IsSeatOf gate.entry.now) result.1.items
+                × (vec_len result.1 ≡ vec_len seats) × (vec_len result.2 ≡ vec_len works) }
+        {
+            let _names = names;
+            beside(
+                scope,
+                rt,
+                gate,
+                conductor,
+                seats,
+                works,
+                own,
+                ManuallyDrop::into_inner(body),
+            )
+        },
+    );
+    Ok(Pooled {
+        conducted,
+        seats,
+        works,
+    })
+}
