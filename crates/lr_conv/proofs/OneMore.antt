@@ -1,4 +1,4 @@
--- One level more behind a list of levels.
+-- One level more after a list of levels.
 use Rattle.std.proofs.Common.{ap, sym, ◌∙◌, ◌≡◌, ℕ, ◌+◌, ◌*◌, ◌%◌, suc, Bool, List, [], ◌∷◌, ◌++◌, length, drop}
 use Rattle.std.proofs.Common.{arith, append_assoc, length-append, add-one}
 use Rattle.std.proofs.lemmas.List.{drop-drop, drop-append-le}

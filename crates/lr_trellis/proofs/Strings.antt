@@ -170,7 +170,7 @@ steps_cost_high start branch k most (b ∷ h) p l =
       most (length h) (2 * (number (h ++ p) % 64) + bit b) (omega arith),
     )
 
--- ---- the levels behind a frame's bits
+-- ---- the levels after a frame's bits
 -- the levels of the next marker's first six bits, after the level l, the newest first
 abbrev front : LineCode → Bool → List Bool
 front line l = reverse (levels line l marker_start)
@@ -197,7 +197,7 @@ length_five_by : (m l : Bool) → length (five_of m l) ≡ 5
 length_five_by false l = refl
 length_five_by true l = refl
 
--- the state in front of the last step, and the seven levels behind it
+-- the state in front of the last step, and the seven levels after it
 state_by : (m l : Bool) (g : List Bool) → number (five_of m l ++ (l ∷ g)) % 64 ≡ cond m (cond l 61 2) (cond l 35 3)
 state_by false false g = omega arith
 state_by false true g = omega arith
