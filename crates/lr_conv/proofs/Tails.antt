@@ -4,6 +4,8 @@ use Rattle.std.specs.Prelude.{map, not}
 use Rattle.lr_conv.specs.Levels.{last_level}
 use Rattle.lr_conv.specs.Marker.{tail_after, tail_of}
 use Rattle.lr_conv.specs.declared.line.LineCode.{LineCode}
+use Rattle.lr_conv.specs.declared.line.TheConstants.{STANDARD}
+use Rattle.lr_conv.specs.declared.marker.TheConstants.{MARKER_TAIL}
 
 abbrev line_of : Bool → Bool → LineCode
 line_of marks inverted = record { marks = marks; inverted = inverted }
@@ -40,3 +42,7 @@ tail_after_any line (a ∷ b ∷ c ∷ d ∷ []) size = absurd (omega arith)
 tail_after_any line (a ∷ b ∷ c ∷ d ∷ e ∷ []) size = absurd (omega arith)
 tail_after_any line (a ∷ b ∷ c ∷ d ∷ e ∷ f ∷ []) size = tail_after_six line.marks line.inverted a b c d e f
 tail_after_any line (a ∷ b ∷ c ∷ d ∷ e ∷ f ∷ g ∷ h) size = absurd (omega arith)
+
+pub standard_tail : MARKER_TAIL ≡ tail_of STANDARD
+unfolding tail_of
+standard_tail = refl
