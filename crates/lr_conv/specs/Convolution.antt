@@ -15,7 +15,7 @@ first_generator = 0 ∷ 1 ∷ 2 ∷ 3 ∷ 6 ∷ []
 abbrev pub second_generator : List ℕ
 second_generator = 0 ∷ 2 ∷ 3 ∷ 5 ∷ 6 ∷ []
 
--- the level so many places before place i of x, where t is six earlier levels, the oldest first, and then x
+-- the level `places` before place i of x, where t is six earlier levels, the oldest first, and then x
 abbrev pub earlier_bit : List Bool → ℕ → ℕ → ℕ
 earlier_bit t i places = bit (slice_index_or t (6 + i - places) false)
 

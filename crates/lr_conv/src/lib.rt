@@ -7,7 +7,7 @@
 //! is complemented.
 //!
 //! `Levels` defines the levels of a list of bits, and `Convolution` the code of a list of levels by index: the level
-//! that stands so many places before another in six earlier levels and the list after them. `LineEncoder` begins after
+//! that stands a number of places before another in six earlier levels and the list after them. `LineEncoder` begins after
 //! six levels 0, and gives that code for every list of bits that it has taken. `Encoder` does so for the standard's
 //! code, after any six bits.
 //!

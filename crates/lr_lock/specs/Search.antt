@@ -5,14 +5,14 @@ use Rattle.lr_lock.specs.Machine.{IsAt}
 use Rattle.lr_lock.specs.declared.frame.Frame.{Frame}
 use Rattle.lr_lock.specs.declared.search.Found.{Found}
 
--- the next frame stands after the symbols passed, and there are so many symbols from it on
+-- the next frame stands after the symbols passed, and there are `needed` symbols from it on
 pub record IsFound (tail : List Bool) (symbols : List ℤ) (last : Option Frame) (at needed : ℕ)
     (frame : Frame) : Type 0 where
   pub next : IsNext tail symbols last frame
   pub place : frame.place ≡ at
   pub within : at + needed ≤ length symbols
 
--- no frame stands so far from the end
+-- no frame stands that far from the end
 pub record IsWaiting (tail : List Bool) (symbols : List ℤ) (last held : Option Frame) (place needed : ℕ) : Type 0 where
   pub stands : IsAt tail symbols last held place
   pub within : place ≤ length symbols
