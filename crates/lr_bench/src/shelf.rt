@@ -1,4 +1,5 @@
-// Small files that are put on a new shelf, and a shelf that is loaded.
+//! Small files that are put on a new shelf, and a shelf that is loaded.
+
 use lr_bits::{Bytes, Lengths, MissionFile, NoMemory};
 use lr_disk::{Disk, FileDisk, MemDisk};
 use lr_shelf::{Shelf, ShelfError};
@@ -84,8 +85,8 @@ fn loaded(rt: &HostRuntime) -> Result<Shelf, Trouble> {
     Ok(Shelf::load(rt.alloc(), &mut disk)?)
 }
 
-/// Does what one of the names says, where it is of a shelf: puts so many files on a shelf in memory or in a file, or loads the
-/// one in that file.
+/// Does what one of the names says, where it is of a shelf: puts so many files on a shelf in memory or in a file, or
+/// loads the one in that file.
 pub fn run(rt: &HostRuntime, name: &str, rounds: u64) -> Result<(), Trouble> {
     let shelf = match name {
         "shelf-memory" | "all" => in_memory(rt.alloc(), rounds)?,
