@@ -12,20 +12,20 @@ use std::test::Fail;
 
 /// Room for both kernels.
 #[derive(Drop)]
-pub struct Kernels {
+pub(crate) struct Kernels {
     plain: TrellisScratch,
     lanes: LaneScratch,
 }
 
 impl Kernels {
-    pub fn new(alloc: Global) -> Result<Kernels, NoMemory> {
+    pub(crate) fn new(alloc: Global) -> Result<Kernels, NoMemory> {
         let plain = TrellisScratch::new(alloc)?;
         let lanes = LaneScratch::new(alloc)?;
         Ok(Kernels { plain, lanes })
     }
 
     /// The bytes that both kernels give for a window, where they give the same.
-    pub fn bytes_of(&mut self, line: LineCode, window: &[i8]) -> Option<[u8; BLOCK_BYTES]>
+    pub(crate) fn bytes_of(&mut self, line: LineCode, window: &[i8]) -> Option<[u8; BLOCK_BYTES]>
         requires { length window.now ≡ WINDOW_SYMBOLS }
     {
         let mut bytes = [1; BLOCK_BYTES];

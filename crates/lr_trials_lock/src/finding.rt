@@ -9,14 +9,14 @@ use std::alloc::Global;
 
 /// A window that was found: its place and polarity, and a checksum of its symbols.
 #[derive(Clone, Copy)]
-pub struct Found {
+pub(crate) struct Found {
     pub place: u64,
     pub positive: bool,
     pub sum: u64,
 }
 
 /// A checksum with a number more.
-pub fn sum_with(sum: u64, more: u64) -> u64 {
+pub(crate) fn sum_with(sum: u64, more: u64) -> u64 {
     sum.wrapping_mul(31).wrapping_add(more)
 }
 
@@ -50,7 +50,7 @@ fn feed(lock: &mut Lock, stream: &[i8], done: usize, size: usize) -> usize
 }
 
 /// The windows of a stream that is fed in pieces of this size.
-pub fn windows(alloc: Global, stream: &[i8], size: usize) -> Result<Vec<Found>, NoMemory>
+pub(crate) fn windows(alloc: Global, stream: &[i8], size: usize) -> Result<Vec<Found>, NoMemory>
     requires { length stream.now ≤ 2 ^ 62 }
 {
     let mut lock = Lock::new(alloc, STANDARD)?;
@@ -88,7 +88,7 @@ fn have_places(windows: &[Found], positive: bool, places: &[u64]) -> bool {
 }
 
 /// Whether the windows of a stream that is fed in pieces of this size have these places, in turn, and this polarity.
-pub fn finds(
+pub(crate) fn finds(
     alloc: Global,
     stream: &[i8],
     size: usize,
