@@ -7,9 +7,9 @@
 //! is complemented.
 //!
 //! `Levels` defines the levels of a list of bits, and `Convolution` the code of a list of levels by index: the level
-//! that stands a number of places before another in six earlier levels and the list after them. `LineEncoder` begins after
-//! six levels 0, and gives that code for every list of bits that it has taken. `Encoder` does so for the standard's
-//! code, after any six bits.
+//! that stands a number of places before another in six earlier levels and the list after them. `LineEncoder` begins
+//! after six levels 0, and gives that code for every list of bits that it has taken. `Encoder` does so for the
+//! standard's code, after any six bits.
 //!
 //! `Marker` defines the attached sync marker 1A CF FC 1D and its tail, the last 52 of its symbols. These depend on no
 //! earlier level but the last one, which complements them all where bits are changes of level. So a receiver can look

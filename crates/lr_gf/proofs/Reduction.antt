@@ -43,7 +43,7 @@ reduced_more rows columns column m n o hc hk r s = record {
   elements = s.elements;
 }
 
--- the column behind the unit columns has no pivot: a combination of them cancels it
+-- the column after the unit columns has no pivot: a combination of them cancels it
 pub dependent : (rows columns c : ℕ) (m n : ℕ → ℕ → ℕ) (x : ℕ → ℕ) → rows ≤ 16 → columns ≤ 17 → c < columns
     → IsReduced rows columns c m n → ((i : ℕ) → c ≤ i → i < rows → n i c ≡ 0)
     → ((k : ℕ) → k < c → x k ≡ n k c) → x c ≡ 1 → ((k : ℕ) → c < k → x k ≡ 0)

@@ -14,7 +14,7 @@ use Rattle.lr_gf.proofs.SumLaws.{sum_of-same, sum_of-zero, sum_of-one, same_from
 use Rattle.lr_gf.proofs.Elimination.{if_same, if_other, equivalent-trans}
 
 -- the columns before `column` are unit columns, at the places of the first `rank` rows, or zero in
--- the rows behind
+-- the rows after
 pub record IsEchelon (n rank column : ℕ) (places : ℕ → ℕ) (m o : ℕ → ℕ → ℕ) : Type 0 where
   pub room : rank ≤ n
   pub few : rank ≤ column

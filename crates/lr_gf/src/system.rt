@@ -183,7 +183,7 @@ fn eliminate_column(cells: &mut [[Gf; 17]; 16], rows: usize, place: usize, colum
     true
 }
 
-/// Writes the combination of the unit columns that cancels the column behind them.
+/// Writes the combination of the unit columns that cancels the column after them.
 fn write_dependence(cells: &[[Gf; 17]; 16], column: usize, x: &mut [Gf; 17])
     requires { column < 17 }
     ensures before { (k : ℕ) → k < column → slice_index x.new k ≡ entry cells.now k column }

@@ -21,7 +21,7 @@ agreeing-level [] more = refl
 agreeing-level (true ∷ bits) more = omega (arith, agreeing-level bits more)
 agreeing-level (false ∷ bits) more = omega (arith, agreeing-level bits more)
 
--- nothing comes next where the symbols end behind the last frame
+-- nothing comes next where the symbols end after the last frame
 none_next : (tail : List Bool) (symbols : List ℤ) (last : Option Frame) (frame : Frame) → length symbols ≤ reach last →
     IsNext tail symbols last frame → ⊥
 none_next tail symbols None frame h (inl next) = next

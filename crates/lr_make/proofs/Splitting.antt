@@ -111,7 +111,7 @@ bits-marked block =
     ∙ ap (λ z. z ++ drop 32 bits) (take-map-range_with_len all 0 (32 + n) 32 (omega arith))
     ∙ ap (λ z. marker ++ z) behind
 
--- the bits of so many frames from frame k on
+-- the bits of m frames from frame k on
 unfoldable pub later_bits : ℕ → ℕ → ℕ → ℕ → List Bool
 later_bits start wrong k zero = []
 later_bits start wrong k (suc m) =
@@ -128,7 +128,7 @@ sent_bits-later start wrong k (suc m) =
     ∙ ap (λ z. z ++ later_bits start wrong (k + 1) m) (sent_bits-more start wrong k)
     ∙ append_assoc (sent_bits start wrong k) more (later_bits start wrong (k + 1) m)
 
--- twelve symbols behind the place of a frame stands the marker's tail, and then the code of the block and of what
+-- twelve symbols after the place of a frame stands the marker's tail, and then the code of the block and of what
 -- follows it
 pub tail_behind : (start wrong k m n : ℕ) → k + suc m ≡ n
     → drop (16384 * k + 12) (all_symbols start wrong n)

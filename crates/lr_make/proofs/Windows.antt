@@ -50,7 +50,7 @@ get_or-zeros [] (suc n) (suc i) = get_or-zeros [] n i
 get_or-zeros (value ∷ values) n zero = refl
 get_or-zeros (value ∷ values) n (suc i) = get_or-zeros values n i
 
--- a window shows so many levels, and 0 past their end
+-- a window shows these levels, and 0 past their end
 window_is : (symbols : List ℤ) (place : ℕ) (bits : List Bool) (values : List ℤ) → length values ≡ 16332
     → ((i : ℕ) → i < 16332 → get_or (drop (place + 64) symbols) i (pos 0) ≡ get_or (map level bits) i (pos 0))
     → ((i : ℕ) → get_or values i (pos 0) ≡ get_or (map level bits) i (pos 0)) → window_of symbols place true ≡ values
@@ -84,7 +84,7 @@ module _ (symbols : List ℤ) (place : ℕ) (bits : List Bool) (size : length bi
       (λ i h. ap (λ z. get_or z i (pos 0)) behind)
       (λ i. get_or-zeros (map level sent) 12 i)
 
-  -- of one with a marker behind it
+  -- of one with a marker after it
   window_within : (more : List Bool) →
       drop (place + 64) symbols ≡ map level (code STANDARD (marker_end STANDARD) (bits ++ (marker_start ++ more)))
       → window_of symbols place true ≡ map level (code STANDARD (marker_end STANDARD) (bits ++ marker_start))
@@ -102,7 +102,7 @@ module _ (symbols : List ℤ) (place : ℕ) (bits : List Bool) (size : length bi
       (omega arith))
       (λ i. refl)
 
--- what stands behind the marker of frame k
+-- what stands after the marker of frame k
 block_behind : (start wrong k m n : ℕ) → k + suc m ≡ n
     → drop (16384 * k + 64) (all_symbols start wrong n) ≡
     map level (code STANDARD (marker_end STANDARD) (bits_of_bytes (block_at start wrong k)
