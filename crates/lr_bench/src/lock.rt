@@ -1,68 +1,44 @@
-// Two coded frames, or as much noise, fed to a lock again and again; and the window of a frame, led to its outcome.
+//! Two coded frames, or as much noise, fed to a lock again and again; and the window of a frame, led to its outcome.
+
 ghost use Rattle.std.specs.Prelude.{◌≡◌, ◌+◌, length};
 
 use crate::shelf::Trouble;
-use lr_bits::{NoMemory, Outcome};
-use lr_block::{derandomise, encode_block};
-use lr_conv::Encoder;
+use crate::sums::sum_with;
+use lr_bits::{FRAME_SYMBOLS, NoMemory, Outcome};
+use lr_conv::STANDARD;
 use lr_frame::{FrameDone, FrameWork};
 use lr_gatecore::Work;
 use lr_lock::{Lock, Step, Window};
+use lr_trials_lines::windows::next_state;
+use lr_trials_lock::streams::coded_frames;
 use std::alloc::Global;
 
 /// The symbols of two frames, which are fed at once.
-const SYMBOLS: usize = 32768;
-
-fn after(state: u64) -> u64 {
-    state
-        .wrapping_mul(6364136223846793005)
-        .wrapping_add(1442695040888963407)
-}
-
-fn mixed(sum: u64, more: u64) -> u64 {
-    sum.wrapping_mul(31).wrapping_add(more)
-}
+const SYMBOLS: usize = 2 * FRAME_SYMBOLS;
 
 /// Draws symbols: each is the top byte of the next state, less 128.
 fn noise(alloc: Global) -> Result<Vec<i8>, NoMemory> {
     let mut state = 77;
     let mut symbols = Vec::new(alloc);
     for _ in 0..SYMBOLS {
-        state = after(state);
+        state = next_state(state);
         symbols.push((((state >> 56) as i16) - 128) as i8)?;
     }
     Ok(symbols)
 }
 
-/// Puts the symbols of the bits of bytes behind the others, the most significant bit of each byte first.
-fn put_coded(symbols: &mut Vec<i8>, encoder: &mut Encoder, bytes: &[u8]) -> Result<(), NoMemory> {
-    for place in 0..bytes.len().saturating_mul(8) {
-        let (first, second) = encoder.push(bytes[place / 8] >> (7 - place % 8) & 1 == 1);
-        symbols.push(if first { 100 } else { -100 })?;
-        symbols.push(if second { 100 } else { -100 })?;
-    }
-    Ok(())
-}
-
-/// Two frames of 7F behind their markers, of which each symbol with a draw below 8 of 256 is turned.
-fn sent(alloc: Global) -> Result<Vec<i8>, NoMemory> {
-    let mut block = [0u8; 1020];
-    encode_block(&[0x7F; 892], &mut block);
-    derandomise(&mut block);
-    let mut encoder = Encoder::new(0);
-    let mut symbols = Vec::new(alloc);
-    for _ in 0..2u8 {
-        put_coded(&mut symbols, &mut encoder, &[0x1A, 0xCF, 0xFC, 0x1D])?;
-        put_coded(&mut symbols, &mut encoder, &block)?;
-    }
+/// Two frames of 7F after their markers, of which each symbol with a draw below 8 of 256 is turned.
+fn turned_frames(alloc: Global) -> Result<Vec<i8>, NoMemory> {
+    let mut symbols = coded_frames(alloc, STANDARD, 2)?;
     turn_some(&mut symbols);
     Ok(symbols)
 }
 
+/// Turns each symbol whose draw is below 8.
 fn turn_some(symbols: &mut [i8]) {
     let mut state = 77;
     for at in 0..symbols.len() {
-        state = after(state);
+        state = next_state(state);
         if state >> 56 < 8 {
             symbols[at] = symbols[at].saturating_neg();
         }
@@ -78,6 +54,9 @@ struct Seen {
 
 /// Takes the windows that stand in the lock.
 fn take(lock: &mut Lock, window: &mut Window, seen: &mut Seen)
+    requires { window.old.line ≡ lock.old.line }
+    ensures line { lock.new.line ≡ lock.old.line }
+    ensures window_line { window.new.line ≡ window.old.line }
     ensures unfinished { lock.new.finished ≡ lock.old.finished }
     ensures fed { lock.new.place + length lock.new.kept ≡ lock.old.place + length lock.old.kept }
 {
@@ -87,14 +66,14 @@ fn take(lock: &mut Lock, window: &mut Window, seen: &mut Seen)
         }
         let first = (i16::from(window.symbols()[0]) + 128) as u64;
         seen.windows = seen.windows.wrapping_add(1);
-        seen.sum = mixed(mixed(seen.sum, window.position()), first);
+        seen.sum = sum_with(sum_with(seen.sum, window.position()), first);
     }
 }
 
-/// Feeds the symbols so many times.
+/// Feeds the symbols `rounds` times.
 fn checksum_of(alloc: Global, symbols: &[i8], rounds: u32) -> Result<Seen, NoMemory> {
-    let mut lock = Lock::new(alloc)?;
-    let mut window = Window::new(alloc)?;
+    let mut lock = Lock::new(alloc, STANDARD)?;
+    let mut window = Window::new(alloc, STANDARD)?;
     let mut seen = Seen { windows: 0, sum: 0 };
     for _ in 0..rounds {
         if symbols.len() > SYMBOLS || symbols.len() > lock.room() {
@@ -106,12 +85,12 @@ fn checksum_of(alloc: Global, symbols: &[i8], rounds: u32) -> Result<Seen, NoMem
     Ok(seen)
 }
 
-/// Works through the symbols of a name so many times, and prints what was found.
+/// Works through the symbols of a name `rounds` times, and prints what was found.
 fn find(rt: &(impl Print + AllocGlobal), name: &str, rounds: u32) -> Result<(), Trouble> {
     let symbols = if name == "noise" {
         noise(rt.alloc())?
     } else {
-        sent(rt.alloc())?
+        turned_frames(rt.alloc())?
     };
     let seen = checksum_of(rt.alloc(), &symbols, rounds)?;
     let windows = seen.windows;
@@ -119,20 +98,23 @@ fn find(rt: &(impl Print + AllocGlobal), name: &str, rounds: u32) -> Result<(), 
     Ok(println!(rt; "{name} {rounds} windows {windows} {sum:016x}")?)
 }
 
-/// The checksum with an outcome more: how many bytes were changed in each word, and the frame's first byte.
+/// The checksum with an outcome more: the changed bytes of each word, and the frame's first byte.
 fn with_outcome(sum: u64, outcome: &Outcome) -> u64 {
     match outcome {
         Outcome::Restored(corrected, frame) => {
             let changed = corrected.0;
-            let first = mixed(mixed(sum, u64::from(changed[0])), u64::from(changed[1]));
-            let all = mixed(mixed(first, u64::from(changed[2])), u64::from(changed[3]));
-            mixed(all, u64::from(frame[0]))
+            let first = sum_with(sum_with(sum, u64::from(changed[0])), u64::from(changed[1]));
+            let all = sum_with(
+                sum_with(first, u64::from(changed[2])),
+                u64::from(changed[3]),
+            );
+            sum_with(all, u64::from(frame[0]))
         }
-        Outcome::Lost(word) => mixed(sum, 1000 + u64::from(*word)),
+        Outcome::Lost(word) => sum_with(sum, 1000 + u64::from(*word)),
     }
 }
 
-/// Leads the window to its outcome so many times.
+/// Leads the window to its outcome `rounds` times.
 fn outcomes<W: Work<Job = Window, Done = FrameDone>>(
     work: &mut W,
     window: Window,
@@ -149,9 +131,9 @@ fn outcomes<W: Work<Job = Window, Done = FrameDone>>(
 }
 
 fn outcomes_of_sent(alloc: Global, rounds: u32) -> Result<u64, NoMemory> {
-    let symbols = sent(alloc)?;
-    let mut lock = Lock::new(alloc)?;
-    let mut window = Window::new(alloc)?;
+    let symbols = turned_frames(alloc)?;
+    let mut lock = Lock::new(alloc, STANDARD)?;
+    let mut window = Window::new(alloc, STANDARD)?;
     let mut work = FrameWork::new(alloc)?;
     if symbols.len() > lock.room() {
         return Ok(0);

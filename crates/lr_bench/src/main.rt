@@ -1,16 +1,18 @@
 //! Works through fixed input many times over, to be timed from outside.
 //!
-//! The words: a name and a number of rounds. `rs0`, `rs1`, `rs8`, `rs16` and `rs17` restore Reed-Solomon words with that many
-//! wrong bytes, `rs` all five in turn; `path` decodes windows of symbols; `noise` and `locked` feed 32,768 symbols to a lock
-//! that many times, `lock` does both, and `frame` leads the window of a frame to its outcome; `shelf-memory` and `shelf-file`
-//! put that many small files on a new shelf, the latter in the file `shelf.bench` of the working folder, and `shelf-load`
-//! loads what stands there; `all` does all but the last two. A line for each says the rounds and what came of them, or a
-//! checksum of it.
+//! The words: a name and a number of rounds. `rs0`, `rs1`, `rs8`, `rs16` and `rs17` restore Reed-Solomon words with
+//! that many wrong bytes, `rs` all five in turn. `path` decodes windows of symbols by the plain kernel, and `lanes` by
+//! the lanes, `lanes-plain`, `lanes-marks` and `lanes-marks-plain` under the other line codes. `noise` and `locked`
+//! feed 32,768 symbols to a lock that many times, `lock` does both, and `frame` leads the window of a frame to its
+//! outcome. `shelf-memory` and `shelf-file` put that many small files on a new shelf, the latter in the file
+//! `shelf.bench` of the working folder, and `shelf-load` loads what stands there. `all` does `rs`, `path`, `lanes`,
+//! `lock`, `frame` and `shelf-memory`. A line for each says the rounds and what came of them, or a checksum of it.
 #![tactic(auto)]
 
 mod lock;
 mod path;
 mod shelf;
+mod sums;
 mod words;
 
 use shelf::Trouble;
@@ -23,9 +25,7 @@ fn main(rt: HostRuntime) -> Result<(), Trouble> {
     };
     let rounds = rounds.as_str().parse::<u32>().unwrap_or(0);
     words::run(&rt, name.as_str(), rounds)?;
-    if matches!(name.as_str(), "path" | "all") {
-        path::run(&rt, rounds)?;
-    }
+    path::run(&rt, name.as_str(), rounds)?;
     lock::run(&rt, name.as_str(), rounds)?;
     shelf::run(&rt, name.as_str(), u64::from(rounds))
 }

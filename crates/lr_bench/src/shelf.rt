@@ -1,4 +1,5 @@
-// Small files that are put on a new shelf, and a shelf that is loaded.
+//! Small files that are put on a new shelf, and a shelf that is loaded.
+
 use lr_bits::{Bytes, Lengths, MissionFile, NoMemory};
 use lr_disk::{Disk, FileDisk, MemDisk};
 use lr_shelf::{Shelf, ShelfError};
@@ -54,7 +55,7 @@ fn small_file(alloc: Global) -> Result<MissionFile, Trouble> {
     MissionFile::build(0, 100, lengths, bytes).ok_or(Trouble::NoFile)
 }
 
-/// Makes a shelf of so many files.
+/// Makes a shelf of `count` files.
 fn filled<D: Disk>(alloc: Global, disk: &mut D, count: u64) -> Result<Shelf, Trouble> {
     let file = small_file(alloc)?;
     Shelf::init(disk, CAPACITY)?;
@@ -84,8 +85,8 @@ fn loaded(rt: &HostRuntime) -> Result<Shelf, Trouble> {
     Ok(Shelf::load(rt.alloc(), &mut disk)?)
 }
 
-/// Does what one of the names says, where it is of a shelf: puts so many files on a shelf in memory or in a file, or loads the
-/// one in that file.
+/// Does what one of the names says, where it is of a shelf: puts `rounds` files on a shelf in memory or in a file, or
+/// loads the one in that file.
 pub fn run(rt: &HostRuntime, name: &str, rounds: u64) -> Result<(), Trouble> {
     let shelf = match name {
         "shelf-memory" | "all" => in_memory(rt.alloc(), rounds)?,

@@ -1,33 +1,28 @@
-// Drawn Reed-Solomon words, restored many times over.
+//! Drawn Reed-Solomon words, restored many times over.
+
+use crate::sums::sum_with;
 use lr_rs::{RsScratch, encode, restore};
+use lr_trials_lines::windows::next_state;
 use std::alloc::{AllocError, Global};
 use std::io;
 
 /// How many words are drawn; the rounds go through them again and again.
 const WORDS: usize = 16;
 
-/// The next state of the generator that the input is drawn from.
-fn next(state: u64) -> u64 {
-    state
-        .wrapping_mul(6364136223846793005)
-        .wrapping_add(1442695040888963407)
-}
-
-/// Draws a word: encoded information, and then so many wrong bytes, each fifteen places after the
-/// one before.
+/// Draws a word: encoded information, in which `wrong` bytes are changed, each fifteen places after the one before.
 fn drawn_word(start: u64, wrong: usize) -> [u8; 255] {
     let mut state = start;
     let mut information = [0u8; 223];
     for place in 0..223usize {
-        state = next(state);
+        state = next_state(state);
         information[place] = (state >> 56) as u8;
     }
     let mut word = [0u8; 255];
     encode(&information, &mut word);
-    state = next(state);
+    state = next_state(state);
     let first = (state >> 56) as usize;
     for k in 0..wrong {
-        state = next(state);
+        state = next_state(state);
         let change = 1 + ((state >> 56) % 255) as u8;
         word[(first % 255).wrapping_add(k.wrapping_mul(15)) % 255] ^= change;
     }
@@ -40,7 +35,7 @@ fn drawn_words(alloc: Global, wrong: usize) -> Result<Vec<[u8; 255]>, AllocError
     let mut start = 1u64;
     for _ in 0..WORDS {
         words.push(drawn_word(start, wrong))?;
-        start = next(start) ^ 0x5555;
+        start = next_state(start) ^ 0x5555;
     }
     Ok(words)
 }
@@ -60,13 +55,13 @@ fn checksum_of(words: &[[u8; 255]], rounds: u32) -> u64 {
             Err(_) => 255,
         };
         let seen = word[round as usize % 255];
-        mix = mix.wrapping_mul(31).wrapping_add(u64::from(answer));
-        mix = mix.wrapping_mul(31).wrapping_add(u64::from(seen));
+        mix = sum_with(mix, u64::from(answer));
+        mix = sum_with(mix, u64::from(seen));
     }
     mix
 }
 
-/// Restores words with so many wrong bytes, and prints what was answered.
+/// Restores words with `wrong` wrong bytes, and prints what was answered.
 fn restore_words(rt: &(impl Print + AllocGlobal), wrong: usize, rounds: u32) -> io::Result<()> {
     let words = drawn_words(rt.alloc(), wrong)?;
     let mix = checksum_of(&words, rounds);

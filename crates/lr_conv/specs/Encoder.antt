@@ -1,4 +1,4 @@
--- What an encoder has seen.
+-- What an encoder of the standard's code has taken.
 use Rattle.std.specs.Prelude.{◌≡◌, ℕ, ◌-◌, ◌==◌, Bool, List, ◌++◌, length, map, drop}
 use Rattle.std.specs.Int.{bit_at}
 use Rattle.std.specs.List.{range_with_len}

@@ -1,3 +1,6 @@
 pub mod Convolution
 pub mod Encoder
+pub mod Levels
+pub mod LineEncoder
 pub mod Marker
+pub mod Symbols

@@ -1,12 +1,12 @@
-ghost use Rattle.std.specs.Prelude.{◌≡◌, ◌+◌, ◌*◌, ◌%◌, ◌==◌, ◌<◌, ◌++◌, ◌∷◌, [], Bool, List};
-ghost use Rattle.lr_conv.specs.Convolution.{code, first_of_seven, second_of_seven};
+//! The encoder of the standard's code.
 
-/// The bits that each generator adds, the newest of seven as the least significant one.
-const FIRST_GENERATOR: u8 = 0b100_1111;
+ghost use Rattle.std.specs.Prelude.{◌≡◌, ◌+◌, ◌*◌, ◌%◌, ◌<◌, ◌++◌, ◌∷◌, [], Bool, List};
+ghost use Rattle.lr_conv.specs.Convolution.{code};
 
-const SECOND_GENERATOR: u8 = 0b110_1101;
+use crate::line::STANDARD;
+use crate::sums::{first_symbol, second_symbol};
 
-/// An encoder of the convolutional code, with the last six bits that it has taken.
+/// An encoder of the standard's code, in which levels are bits. It has the last six bits that it has taken.
 #[derive(Drop)]
 pub struct Encoder {
     /// The last six bits, the newest as the least significant one.
@@ -27,27 +27,13 @@ impl Encoder {
 
     /// The two symbols of one bit more (CCSDS 131.0-B, section 3.3).
     pub fn push(&mut self, bit: bool) -> (bool, bool)
-        ensures symbols { (past bits : List Bool) → StandsFor self.old past bits → code past (bits ++ bit ∷ []) ≡ code past bits ++ result.0 ∷ result.1 ∷ [] }
-        ensures history { (past bits : List Bool) → StandsFor self.old past bits → StandsFor self.new past (bits ++ bit ∷ []) }
+        ensures symbols { (past bits : List Bool) → StandsFor self.old past bits →
+            code STANDARD past (bits ++ bit ∷ []) ≡ code STANDARD past bits ++ result.0 ∷ result.1 ∷ [] }
+        ensures history { (past bits : List Bool) → StandsFor self.old past bits →
+            StandsFor self.new past (bits ++ bit ∷ []) }
     {
         let seven = 2 * self.state + u8::from(bit);
         self.state = seven % 64;
-        (first_symbol(seven), second_symbol(seven))
+        (first_symbol(seven), second_symbol(STANDARD, seven))
     }
-}
-
-/// The first symbol of seven bits.
-fn first_symbol(seven: u8) -> bool
-    requires { seven < 128 }
-    ensures { result ≡ first_of_seven seven }
-{
-    (seven & FIRST_GENERATOR).count_ones() % 2 == 1
-}
-
-/// The second symbol of seven bits, complemented.
-fn second_symbol(seven: u8) -> bool
-    requires { seven < 128 }
-    ensures { result ≡ second_of_seven seven }
-{
-    (seven & SECOND_GENERATOR).count_ones() % 2 == 0
 }

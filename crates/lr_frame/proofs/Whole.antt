@@ -1,35 +1,30 @@
 -- Restored frames have 892 bytes.
-use Rattle.std.proofs.Common.{◌≡◌, ℕ, ℤ, Option, Some, None, List, length, map, take, refl, ◌∙◌, ap}
+use Rattle.std.proofs.Common.{◌≡◌, ℕ, ℤ, Option, Some, None, List, length, take, refl, ◌∙◌, ap}
 use Rattle.lr_bits.specs.declared.outcome.Corrected.{Corrected}
 use Rattle.lr_bits.specs.declared.outcome.Outcome.TheVariants.{Restored}
 use Rattle.lr_block.specs.Outcomes.{restored_block, first_lost, outcome_at, outcome_of_block}
 use Rattle.lr_block.specs.Randomiser.{randomised_block}
-use Rattle.lr_conv.specs.declared.marker.TheConstants.{MARKER_TAIL}
-use Rattle.lr_conv.specs.Marker.{marker_tail}
-use Rattle.lr_lock.specs.FramesOf.{frames_of}
-use Rattle.lr_frame.specs.Outcomes.{outcome_in, outcome_of_window, outcomes_of_symbols}
+use Rattle.lr_conv.specs.declared.line.LineCode.{LineCode}
+use Rattle.lr_frame.specs.Outcomes.{outcome_of_window}
 
 frame_length : (block : List ℕ) → length (take 892 (restored_block block)) ≡ 892
 unfolding restored_block
 frame_length block = refl
 
-whole_at : (block frame : List ℕ) (corrected : Corrected) (lost : Option ℕ) → Restored corrected frame ≡ outcome_at block lost → length frame ≡ 892
+whole_at : (block frame : List ℕ) (corrected : Corrected) (lost : Option ℕ) →
+    Restored corrected frame ≡ outcome_at block lost → length frame ≡ 892
 whole_at block frame corrected None e =
     let same : frame ≡ take 892 (restored_block block) = cc in
     ap (λ (f : List ℕ). length f) same ∙ frame_length block
 whole_at block frame corrected (Some k) e = cc
 
-pub whole_of_block : (block frame : List ℕ) (corrected : Corrected) → Restored corrected frame ≡ outcome_of_block block → length frame ≡ 892
+pub whole_of_block : (block frame : List ℕ) (corrected : Corrected) →
+    Restored corrected frame ≡ outcome_of_block block → length frame ≡ 892
 unfolding outcome_of_block
-whole_of_block block frame corrected e = whole_at (randomised_block block) frame corrected (first_lost (randomised_block block)) e
+whole_of_block block frame corrected e =
+    whole_at (randomised_block block) frame corrected (first_lost (randomised_block block)) e
 
-pub whole_of_window : (window : List ℤ) (frame : List ℕ) (corrected : Corrected) → Restored corrected frame ≡ outcome_of_window window → length frame ≡ 892
+pub whole_of_window : (line : LineCode) (window : List ℤ) (frame : List ℕ) (corrected : Corrected) →
+    Restored corrected frame ≡ outcome_of_window line window → length frame ≡ 892
 unfolding outcome_of_window
-whole_of_window window frame corrected e = whole_of_block _ frame corrected e
-
-pub tail_is : MARKER_TAIL ≡ marker_tail
-tail_is = refl
-
-pub outcomes_by_tail : (symbols : List ℤ) → outcomes_of_symbols symbols ≡ map (outcome_in symbols) (frames_of MARKER_TAIL symbols)
-unfolding outcomes_of_symbols
-outcomes_by_tail symbols = refl
+whole_of_window line window frame corrected e = whole_of_block _ frame corrected e

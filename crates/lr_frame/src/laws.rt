@@ -1,31 +1,37 @@
+//! Laws of outcomes.
+
 ghost use Rattle.std.specs.Prelude.{◌≡◌, ◌++◌, ℕ, ℤ, None, List, length, map, false};
 ghost use Rattle.lr_bits.specs.declared.outcome.Corrected.{Corrected};
 ghost use Rattle.lr_bits.specs.declared.outcome.Outcome.{Outcome};
 ghost use Rattle.lr_bits.specs.declared.outcome.Outcome.TheVariants.{Restored};
 ghost use Rattle.lr_block.specs.Outcomes.{outcome_of_block};
+ghost use Rattle.lr_conv.specs.Marker.{tail_of};
+ghost use Rattle.lr_conv.specs.declared.line.LineCode.{LineCode};
 ghost use Rattle.lr_lock.specs.Frames.{AreFrames, AreNext};
-ghost use Rattle.lr_lock.specs.FramesOf.{frames_of};
 ghost use Rattle.lr_lock.specs.Standing.{LockState, StandsFor};
 ghost use Rattle.lr_lock.specs.declared.frame.Frame.{Frame};
 ghost use Rattle.lr_frame.specs.Outcomes.{outcome_in, outcome_of_window, outcomes_of_symbols};
 
-use lr_conv::MARKER_TAIL;
+use lr_bits::FRAME_BYTES;
 
 /// That a restored frame has 892 bytes.
 pub fn restored_frames_are_whole()
-    ensures blocks { (block frame : List ℕ) (corrected : Corrected) → Restored corrected frame ≡ outcome_of_block block → length frame ≡ 892 }
-    ensures windows { (window : List ℤ) (frame : List ℕ) (corrected : Corrected) → Restored corrected frame ≡ outcome_of_window window → length frame ≡ 892 }
+    ensures blocks { (block frame : List ℕ) (corrected : Corrected) →
+        Restored corrected frame ≡ outcome_of_block block → length frame ≡ FRAME_BYTES }
+    ensures windows { (line : LineCode) (window : List ℤ) (frame : List ℕ) (corrected : Corrected) →
+        Restored corrected frame ≡ outcome_of_window line window → length frame ≡ FRAME_BYTES }
 {}
 
-/// That the outcomes of symbols are those of the frames that `MARKER_TAIL` finds.
-pub fn marker_is_the_tail()
-    ensures { (symbols : List ℤ) → outcomes_of_symbols symbols ≡ map (outcome_in symbols) (frames_of MARKER_TAIL symbols) }
-{}
-
-/// That the outcomes of the frames that a lock gave are the first of all outcomes, and all of them where it ended; and that
-/// until it is finished they stay the same, whatever is fed after them.
+/// That the outcomes of the frames that a lock gave are the first of all outcomes, and all of them where it ended; and
+/// that until it is finished they stay the same, whatever is fed after them.
 pub fn given_outcomes_stay()
-    ensures first { (symbols : List ℤ) (given : List Frame) → AreNext MARKER_TAIL symbols None given → (rest : List Outcome) × (outcomes_of_symbols symbols ≡ map (outcome_in symbols) given ++ rest) }
-    ensures all { (symbols : List ℤ) (given : List Frame) → AreFrames MARKER_TAIL symbols given → outcomes_of_symbols symbols ≡ map (outcome_in symbols) given }
-    ensures later { (lock : LockState) (fed more : List ℤ) (given : List Frame) → StandsFor lock fed given → lock.finished ≡ false → map (outcome_in (fed ++ more)) given ≡ map (outcome_in fed) given }
+    ensures first { (line : LineCode) (symbols : List ℤ) (given : List Frame) →
+        AreNext (tail_of line) symbols None given →
+        (rest : List Outcome) × (outcomes_of_symbols line symbols ≡ map (outcome_in line symbols) given ++ rest) }
+    ensures all { (line : LineCode) (symbols : List ℤ) (given : List Frame) →
+        AreFrames (tail_of line) symbols given →
+        outcomes_of_symbols line symbols ≡ map (outcome_in line symbols) given }
+    ensures later { (lock : LockState) (fed more : List ℤ) (given : List Frame) → StandsFor lock fed given →
+        lock.finished ≡ false →
+        map (outcome_in lock.line (fed ++ more)) given ≡ map (outcome_in lock.line fed) given }
 {}

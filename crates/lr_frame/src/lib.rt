@@ -1,13 +1,13 @@
 //! From the window of a frame to its outcome: the nearest path of the window's symbols, and what becomes of its block
 //! (CCSDS 131.0-B, sections 3.3, 4 and the pseudo-randomiser).
 //!
-//! A window is 16,332 symbols. Its nearest path is 8,160 bits, in 1,020 bytes, and these are the block. `Outcomes` in specs/
-//! names the outcome of a window, and those of all frames of a list of symbols. `FrameWork` has the room that this takes,
-//! some 70,000 bytes, and works through one window after another.
+//! A window is 16,332 symbols of a line code. Its nearest path is 8,160 bits, in 1,020 bytes, and these are the block.
+//! `Outcomes` in specs/ names the outcome of a window, and those of all frames of a list of symbols. `FrameWork` has
+//! the room that this takes, some 70,000 bytes, and works through one window after another.
 #![tactic(auto)]
 
 mod laws;
 mod work;
 
-pub use laws::{given_outcomes_stay, marker_is_the_tail, restored_frames_are_whole};
+pub use laws::{given_outcomes_stay, restored_frames_are_whole};
 pub use work::{FrameDone, FrameWork};

@@ -1,12 +1,14 @@
+//! The work on a window.
+
 ghost use Rattle.std.specs.Prelude.{◌≡◌};
 ghost use Rattle.lr_frame.specs.Outcomes.{outcome_of_window};
 
-use lr_bits::{NoMemory, Outcome};
+use lr_bits::{BLOCK_BYTES, NoMemory, Outcome};
 use lr_block::outcome_of;
 use lr_gatecore::Work;
+use lr_lanes::{LaneScratch, nearest_lanes};
 use lr_lock::Window;
 use lr_rs::RsScratch;
-use lr_trellis::{TrellisScratch, nearest};
 use std::alloc::Global;
 
 /// A window that is done with, and the outcome of its frame.
@@ -20,26 +22,26 @@ pub struct FrameDone {
 /// Leads windows to outcomes, one after another. Nothing lasts from one to the next.
 #[derive(Drop)]
 pub struct FrameWork {
-    trellis: TrellisScratch,
+    lanes: LaneScratch,
     words: RsScratch,
 }
 
 impl FrameWork {
     /// Room for the work, some 70,000 bytes.
     pub fn new(alloc: Global) -> Result<Self, NoMemory> {
-        let trellis = TrellisScratch::new(alloc)?;
+        let lanes = LaneScratch::new(alloc)?;
         Ok(FrameWork {
-            trellis,
+            lanes,
             words: RsScratch::new(),
         })
     }
 
-    /// The outcome of a window's frame. It takes no memory.
+    /// The outcome of a window's frame, under the window's line code. It takes no memory.
     pub fn outcome(&mut self, window: &Window) -> Outcome
-        ensures { result ≡ outcome_of_window window.now.symbols }
+        ensures { result ≡ outcome_of_window window.now.line window.now.symbols }
     {
-        let mut block = [0; 1020];
-        nearest(window.symbols(), &mut self.trellis, &mut block);
+        let mut block = [0; BLOCK_BYTES];
+        nearest_lanes(window.line(), window.symbols(), &mut self.lanes, &mut block);
         outcome_of(&block, &mut self.words)
     }
 }
@@ -51,7 +53,7 @@ impl Work for FrameWork {
 
     type Done = FrameDone;
 
-    ghost gives = { λ window. record { window = window; outcome = outcome_of_window window.symbols } };
+    ghost gives = { λ window. record { window = window; outcome = outcome_of_window window.line window.symbols } };
 
     /// Gives the window back with its outcome. It takes no memory.
     fn run(&mut self, job: Window) -> FrameDone {

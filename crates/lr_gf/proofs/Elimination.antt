@@ -1,5 +1,6 @@
 -- The steps of the elimination keep what a matrix sends to 0.
-use Rattle.std.proofs.Common.{◌≡◌, ◌≢◌, ℕ, ◌+◌, ◌<◌, ◌≤◌, ◌==◌, List, [], length, slice_index, slice_set, if◌then◌else◌, refl, sym, ap, ◌∙◌, subst, arith, inl, inr}
+use Rattle.std.proofs.Common.{◌≡◌, ◌≢◌, ℕ, ◌+◌, ◌<◌, ◌≤◌, ◌==◌, List, [], length, slice_index, slice_set}
+use Rattle.std.proofs.Common.{if◌then◌else◌, refl, sym, ap, ◌∙◌, subst, arith, inl, inr}
 use Rattle.std.specs.Int.Bits.{bit_xor, xor_self, xor_zero_r, xor_lt}
 use Rattle.std.proofs.lemmas.Bool.{cases_eq, cases_lt, eq-eqb}
 use Rattle.std.proofs.lemmas.Bool.Decides.{eqb_tells}
@@ -24,22 +25,26 @@ sum_combined : (columns f : ℕ) (r s x : ℕ → ℕ)
     → sum_of columns (λ k. times (bit_xor (r k) (times f (s k))) (x k))
     ≡ bit_xor (sum_of columns (λ k. times (r k) (x k))) (times f (sum_of columns (λ k. times (s k) (x k))))
 sum_combined columns f r s x =
-    sum_of-same columns (λ k. times (bit_xor (r k) (times f (s k))) (x k)) (λ k. bit_xor (times (r k) (x k)) (times f (times (s k) (x k))))
+    sum_of-same columns (λ k. times (bit_xor (r k) (times f (s k))) (x k))
+    (λ k. bit_xor (times (r k) (x k)) (times f (times (s k) (x k))))
     (λ k h. times-add-left (r k) (times f (s k)) (x k) ∙ ap (bit_xor (times (r k) (x k))) (group f (s k) (x k)))
     ∙ sum_of-add columns (λ k. times (r k) (x k)) (λ k. times f (times (s k) (x k)))
-    ∙ ap (bit_xor (sum_of columns (λ k. times (r k) (x k)))) (sum_of-linear columns (times f) (λ k. times (s k) (x k)) (linear-times-right f))
+    ∙ ap (bit_xor (sum_of columns (λ k. times (r k) (x k))))
+    (sum_of-linear columns (times f) (λ k. times (s k) (x k)) (linear-times-right f))
 
 -- a multiple of a row
 sum_scaled : (columns f : ℕ) (s x : ℕ → ℕ)
     → sum_of columns (λ k. times (times f (s k)) (x k)) ≡ times f (sum_of columns (λ k. times (s k) (x k)))
 sum_scaled columns f s x =
-    sum_of-same columns (λ k. times (times f (s k)) (x k)) (λ k. times f (times (s k) (x k))) (λ k h. group f (s k) (x k))
+    sum_of-same columns (λ k. times (times f (s k)) (x k)) (λ k. times f (times (s k) (x k)))
+    (λ k h. group f (s k) (x k))
     ∙ sum_of-linear columns (times f) (λ k. times (s k) (x k)) (linear-times-right f)
 
 pub equivalent-refl : (rows columns : ℕ) (m : ℕ → ℕ → ℕ) → IsEquivalent rows columns m m
 equivalent-refl rows columns m = record { to = λ x h. h; from = λ x h. h }
 
-pub equivalent-trans : (rows columns : ℕ) (m n o : ℕ → ℕ → ℕ) → IsEquivalent rows columns m n → IsEquivalent rows columns n o → IsEquivalent rows columns m o
+pub equivalent-trans : (rows columns : ℕ) (m n o : ℕ → ℕ → ℕ) → IsEquivalent rows columns m n
+    → IsEquivalent rows columns n o → IsEquivalent rows columns m o
 equivalent-trans rows columns m n o p q = record { to = λ x h. q.to x (p.to x h); from = λ x h. p.from x (q.from x h) }
 
 -- clearing a column keeps what is sent to 0, both ways
@@ -51,11 +56,13 @@ cleared_column-to rows columns p c m n hr hc hp e x h = record {
       elim (cases_eq i p) [
         | inl q ↦
             sum_of-same columns (λ k. times (n i k) (x k)) (λ k. times (m i k) (x k))
-            (λ k j. ap (λ z. times z (x k)) (e i k (omega arith) (omega arith) ∙ if_same i p (m i k) (bit_xor (m i k) (times (m i c) (m p k))) q))
+            (λ k j. ap (λ z. times z (x k)) (e i k (omega arith) (omega arith)
+            ∙ if_same i p (m i k) (bit_xor (m i k) (times (m i c) (m p k))) q))
             ∙ h.sent i l
         | inr q ↦
             sum_of-same columns (λ k. times (n i k) (x k)) (λ k. times (bit_xor (m i k) (times (m i c) (m p k))) (x k))
-            (λ k j. ap (λ z. times z (x k)) (e i k (omega arith) (omega arith) ∙ if_other i p (m i k) (bit_xor (m i k) (times (m i c) (m p k))) q))
+            (λ k j. ap (λ z. times z (x k)) (e i k (omega arith) (omega arith)
+            ∙ if_other i p (m i k) (bit_xor (m i k) (times (m i c) (m p k))) q))
             ∙ sum_combined columns (m i c) (m i) (m p) x
             ∙ ap (λ z. bit_xor z (times (m i c) (sum_of columns (λ k. times (m p k) (x k))))) (h.sent i l)
             ∙ ap (times (m i c)) (h.sent p hp) ∙ times-zero-right (m i c)
@@ -68,7 +75,8 @@ pub cleared_column-from : (rows columns p c : ℕ) (m n : ℕ → ℕ → ℕ) �
 cleared_column-from rows columns p c m n hr hc hp e x h =
     let pivot : sum_of columns (λ k. times (m p k) (x k)) ≡ 0 =
     sum_of-same columns (λ k. times (m p k) (x k)) (λ k. times (n p k) (x k))
-    (λ k j. ap (λ z. times z (x k)) (sym (e p k (omega arith) (omega arith) ∙ if_same p p (m p k) (bit_xor (m p k) (times (m p c) (m p k))) refl)))
+    (λ k j. ap (λ z. times z (x k))
+    (sym (e p k (omega arith) (omega arith) ∙ if_same p p (m p k) (bit_xor (m p k) (times (m p c) (m p k))) refl)))
     ∙ h.sent p hp in
     record {
       sent = λ i l.
@@ -76,10 +84,13 @@ cleared_column-from rows columns p c m n hr hc hp e x h =
             | inl q ↦ subst (λ (j : ℕ). sum_of columns (λ k. times (m j k) (x k)) ≡ 0) (sym q) pivot
             | inr q ↦
                 sym (xor_zero_r (sum_of columns (λ k. times (m i k) (x k))))
-                ∙ ap (bit_xor (sum_of columns (λ k. times (m i k) (x k)))) (sym (ap (times (m i c)) pivot ∙ times-zero-right (m i c)))
+                ∙ ap (bit_xor (sum_of columns (λ k. times (m i k) (x k))))
+                (sym (ap (times (m i c)) pivot ∙ times-zero-right (m i c)))
                 ∙ sym (sum_combined columns (m i c) (m i) (m p) x)
-                ∙ sym (sum_of-same columns (λ k. times (n i k) (x k)) (λ k. times (bit_xor (m i k) (times (m i c) (m p k))) (x k))
-                (λ k j. ap (λ z. times z (x k)) (e i k (omega arith) (omega arith) ∙ if_other i p (m i k) (bit_xor (m i k) (times (m i c) (m p k))) q)))
+                ∙ sym (sum_of-same columns (λ k. times (n i k) (x k))
+                (λ k. times (bit_xor (m i k) (times (m i c) (m p k))) (x k))
+                (λ k j. ap (λ z. times z (x k)) (e i k (omega arith) (omega arith)
+                ∙ if_other i p (m i k) (bit_xor (m i k) (times (m i c) (m p k))) q)))
                 ∙ h.sent i l
           ];
     }
@@ -90,7 +101,8 @@ moved_row-there from to f m k = if_same to to (times f (m from k)) (if to == fro
 
 moved_row-swapped : (from to f : ℕ) (m : ℕ → ℕ → ℕ) (k : ℕ) → from ≢ to → moved_row from to f m from k ≡ m to k
 moved_row-swapped from to f m k d =
-    if_other from to (times f (m from k)) (if from == from then m to k else m from k) d ∙ if_same from from (m to k) (m from k) refl
+    if_other from to (times f (m from k)) (if from == from then m to k else m from k) d
+    ∙ if_same from from (m to k) (m from k) refl
 
 moved_row-elsewhere : (from to f : ℕ) (m : ℕ → ℕ → ℕ) (i k : ℕ) → i ≢ to → i ≢ from → moved_row from to f m i k ≡ m i k
 moved_row-elsewhere from to f m i k d e =
@@ -98,7 +110,8 @@ moved_row-elsewhere from to f m i k d e =
 
 rows_alike : (columns : ℕ) (r s x : ℕ → ℕ) → ((k : ℕ) → k < columns → r k ≡ s k)
     → sum_of columns (λ k. times (r k) (x k)) ≡ sum_of columns (λ k. times (s k) (x k))
-rows_alike columns r s x h = sum_of-same columns (λ k. times (r k) (x k)) (λ k. times (s k) (x k)) (λ k l. ap (λ z. times z (x k)) (h k l))
+rows_alike columns r s x h = sum_of-same columns (λ k. times (r k) (x k)) (λ k. times (s k) (x k))
+    (λ k l. ap (λ z. times z (x k)) (h k l))
 
 -- one way through `moved_row`, and back
 pub moved_row-to : (rows columns from to f : ℕ) (m n : ℕ → ℕ → ℕ) → rows ≤ 16 → columns ≤ 17 → from < rows → to < rows
@@ -109,32 +122,38 @@ moved_row-to rows columns from to f m n hr hc hf ht e x h = record {
       elim (cases_eq i to) [
         | inl q ↦
             rows_alike columns (n i) (λ k. times f (m from k)) x
-            (λ k j. e i k (omega arith) (omega arith) ∙ ap (λ z. moved_row from to f m z k) q ∙ moved_row-there from to f m k)
+            (λ k j. e i k (omega arith) (omega arith) ∙ ap (λ z. moved_row from to f m z k) q
+            ∙ moved_row-there from to f m k)
             ∙ sum_scaled columns f (m from) x ∙ ap (times f) (h.sent from hf) ∙ times-zero-right f
         | inr q ↦
             elim (cases_eq i from) [
               | inl s ↦
                   rows_alike columns (n i) (m to) x
-                  (λ k j. e i k (omega arith) (omega arith) ∙ ap (λ z. moved_row from to f m z k) s ∙ moved_row-swapped from to f m k (λ t. q (s ∙ t)))
+                  (λ k j. e i k (omega arith) (omega arith) ∙ ap (λ z. moved_row from to f m z k) s
+                  ∙ moved_row-swapped from to f m k (λ t. q (s ∙ t)))
                   ∙ h.sent to ht
               | inr s ↦
-                  rows_alike columns (n i) (m i) x (λ k j. e i k (omega arith) (omega arith) ∙ moved_row-elsewhere from to f m i k q s)
+                  rows_alike columns (n i) (m i) x (λ k j. e i k (omega arith) (omega arith)
+                  ∙ moved_row-elsewhere from to f m i k q s)
                   ∙ h.sent i l
             ]
       ];
 }
 
 -- g undoes f
-pub moved_row-from : (rows columns from to f g : ℕ) (m n : ℕ → ℕ → ℕ) → rows ≤ 16 → columns ≤ 17 → from < rows → to < rows → times g f ≡ 1
+pub moved_row-from : (rows columns from to f g : ℕ) (m n : ℕ → ℕ → ℕ) → rows ≤ 16 → columns ≤ 17 → from < rows
+    → to < rows → times g f ≡ 1
     → ((i k : ℕ) → i < 16 → k < 17 → n i k ≡ moved_row from to f m i k)
     → (x : ℕ → ℕ) → IsInKernel rows columns n x → IsInKernel rows columns m x
 moved_row-from rows columns from to f g m n hr hc hf ht inverse e x h =
     let s : ℕ = sum_of columns (λ k. times (m from k) (x k)) in
     let scaled : times f (sum_of columns (λ k. times (m from k) (x k))) ≡ 0 =
-    sym (rows_alike columns (n to) (λ k. times f (m from k)) x (λ k j. e to k (omega arith) (omega arith) ∙ moved_row-there from to f m k)
+    sym (rows_alike columns (n to) (λ k. times f (m from k)) x (λ k j. e to k (omega arith) (omega arith)
+    ∙ moved_row-there from to f m k)
     ∙ sum_scaled columns f (m from) x) ∙ h.sent to ht in
     let first : sum_of columns (λ k. times (m from k) (x k)) ≡ 0 =
-    sym (one-times (sum_of columns (λ k. times (m from k) (x k))) (sum_of-lt columns (λ k. times (m from k) (x k)) (λ k j. below (m from k) (x k))))
+    sym (one-times (sum_of columns (λ k. times (m from k) (x k))) (sum_of-lt columns (λ k. times (m from k) (x k))
+    (λ k j. below (m from k) (x k))))
     ∙ ap (λ z. times z (sum_of columns (λ k. times (m from k) (x k)))) (sym inverse)
     ∙ group g f (sum_of columns (λ k. times (m from k) (x k))) ∙ ap (times g) scaled ∙ times-zero-right g in
     record {
@@ -145,11 +164,14 @@ moved_row-from rows columns from to f g m n hr hc hf ht inverse e x h =
                 elim (cases_eq i to) [
                   | inl t ↦
                       rows_alike columns (m i) (n from) x
-                      (λ k j. ap (λ z. m z k) t ∙ sym (e from k (omega arith) (omega arith) ∙ moved_row-swapped from to f m k (λ u. q (t ∙ sym u))))
+                      (λ k j. ap (λ z. m z k) t
+                      ∙ sym (e from k (omega arith) (omega arith)
+                      ∙ moved_row-swapped from to f m k (λ u. q (t ∙ sym u))))
                       ∙ h.sent from hf
                   | inr t ↦
                       rows_alike columns (m i) (n i) x
-                      (λ k j. sym (e i k (omega arith) (omega arith) ∙ moved_row-elsewhere from to f m i k t q)) ∙ h.sent i l
+                      (λ k j. sym (e i k (omega arith) (omega arith) ∙ moved_row-elsewhere from to f m i k t q))
+                      ∙ h.sent i l
                 ]
           ];
     }
@@ -163,7 +185,8 @@ added_row c v source old new zeros added kept k h =
     elim (cases_lt k c) [
       | inl low ↦
           kept k low
-          ∙ sym (ap (bit_xor (slice_index old k)) (ap (times v) (zeros k low) ∙ times-zero-right v) ∙ xor_zero_r (slice_index old k))
+          ∙ sym (ap (bit_xor (slice_index old k)) (ap (times v) (zeros k low) ∙ times-zero-right v)
+          ∙ xor_zero_r (slice_index old k))
       | inr high ↦ added k high h
     ]
 
@@ -172,7 +195,8 @@ pub moved_row-zero : (rows place p column g : ℕ) (m l : ℕ → ℕ → ℕ) �
     → ((i k : ℕ) → place ≤ i → i < rows → k < column → m i k ≡ 0)
     → ((i k : ℕ) → i < 16 → k < 17 → l i k ≡ moved_row p place g m i k) → (k : ℕ) → k < column → l place k ≡ 0
 moved_row-zero rows place p column g m l hr hc hp hq zeros e k h =
-    e place k (omega arith) (omega arith) ∙ moved_row-there p place g m k ∙ ap (times g) (zeros p k hp hq h) ∙ times-zero-right g
+    e place k (omega arith) (omega arith) ∙ moved_row-there p place g m k ∙ ap (times g) (zeros p k hp hq h)
+    ∙ times-zero-right g
 
 -- one more row is cleared
 pub clear_more : (old now : List (List ℕ)) (row : List ℕ) (p c j v : ℕ) → length now ≡ 16 → j < 16 → j ≢ p → c < 17
@@ -180,7 +204,8 @@ pub clear_more : (old now : List (List ℕ)) (row : List ℕ) (p c j v : ℕ) �
     → ((i k : ℕ) → j ≤ i → k < 17 → entry now i k ≡ entry old i k)
     → v ≡ entry now j c → ((k : ℕ) → k < 17 → slice_index row k ≡ bit_xor (entry now j k) (times v (entry old p k)))
     → ((i k : ℕ) → i < j + 1 → k < 17 → entry (slice_set now j row) i k ≡ cleared_column p c (entry old) i k)
-    × ((i k : ℕ) → j + 1 ≤ i → k < 17 → entry (slice_set now j row) i k ≡ entry old i k) × (length (slice_set now j row) ≡ 16)
+    × ((i k : ℕ) → j + 1 ≤ i → k < 17 → entry (slice_set now j row) i k ≡ entry old i k)
+    × (length (slice_set now j row) ≡ 16)
 clear_more old now row p c j v hl hj d hc done rest hv hrow =
     let long : j < length now = omega arith in
     let other : (i k : ℕ) → i ≢ j → entry (slice_set now j row) i k ≡ entry now i k =
@@ -208,7 +233,8 @@ pub clear_skip : (old now : List (List ℕ)) (p c j : ℕ) → length now ≡ 16
     × ((i k : ℕ) → j + 1 ≤ i → k < 17 → entry now i k ≡ entry old i k) × (length now ≡ 16)
 clear_skip old now p c j hl e done rest = (
   λ i k l h. elim (cases_eq i j) [
-    | inl q ↦ rest i k (omega arith) h ∙ sym (if_same i p (entry old i k) (bit_xor (entry old i k) (times (entry old i c) (entry old p k))) (q ∙ e))
+    | inl q ↦ rest i k (omega arith) h
+        ∙ sym (if_same i p (entry old i k) (bit_xor (entry old i k) (times (entry old i c) (entry old p k))) (q ∙ e))
     | inr q ↦ done i k (omega arith) h
   ],
   λ i k l h. rest i k (omega arith) h,
@@ -217,28 +243,34 @@ clear_skip old now p c j hl e done rest = (
 
 -- a row moved to its place and multiplied by the inverse of its entry, and the column cleared: a
 -- step of the elimination
-moved_row-elements : (p place g : ℕ) (m l : ℕ → ℕ → ℕ) → p < 16 → place < 16 → ((i k : ℕ) → i < 16 → k < 17 → l i k ≡ moved_row p place g m i k) → AreElements m → AreElements l
+moved_row-elements : (p place g : ℕ) (m l : ℕ → ℕ → ℕ) → p < 16 → place < 16
+    → ((i k : ℕ) → i < 16 → k < 17 → l i k ≡ moved_row p place g m i k) → AreElements m → AreElements l
 moved_row-elements p place g m l hp hq e h i k hi hk =
     let P : ℕ → Type 0 = λ z. z < 256 in
     elim (cases_eq i place) [
-      | inl q ↦ subst P (sym (e i k hi hk ∙ ap (λ z. moved_row p place g m z k) q ∙ moved_row-there p place g m k)) (below g (m p k))
+      | inl q ↦ subst P (sym (e i k hi hk ∙ ap (λ z. moved_row p place g m z k) q ∙ moved_row-there p place g m k))
+          (below g (m p k))
       | inr q ↦
           elim (cases_eq i p) [
-            | inl t ↦ subst P (sym (e i k hi hk ∙ ap (λ z. moved_row p place g m z k) t ∙ moved_row-swapped p place g m k (λ u. q (t ∙ u)))) (h place k hq hk)
+            | inl t ↦ subst P (sym (e i k hi hk ∙ ap (λ z. moved_row p place g m z k) t
+                ∙ moved_row-swapped p place g m k (λ u. q (t ∙ u)))) (h place k hq hk)
             | inr t ↦ subst P (sym (e i k hi hk ∙ moved_row-elsewhere p place g m i k q t)) (h i k hi hk)
           ]
     ]
 
-cleared_column-elements : (p c : ℕ) (m n : ℕ → ℕ → ℕ) → ((i k : ℕ) → i < 16 → k < 17 → n i k ≡ cleared_column p c m i k) → AreElements m → AreElements n
+cleared_column-elements : (p c : ℕ) (m n : ℕ → ℕ → ℕ)
+    → ((i k : ℕ) → i < 16 → k < 17 → n i k ≡ cleared_column p c m i k) → AreElements m → AreElements n
 cleared_column-elements p c m n e h i k hi hk =
     let P : ℕ → Type 0 = λ z. z < 256 in
     elim (cases_eq i p) [
-      | inl q ↦ subst P (sym (e i k hi hk ∙ if_same i p (m i k) (bit_xor (m i k) (times (m i c) (m p k))) q)) (h i k hi hk)
+      | inl q ↦ subst P (sym (e i k hi hk ∙ if_same i p (m i k) (bit_xor (m i k) (times (m i c) (m p k))) q))
+          (h i k hi hk)
       | inr q ↦ subst P (sym (e i k hi hk ∙ if_other i p (m i k) (bit_xor (m i k) (times (m i c) (m p k))) q))
           (xor_lt 8 (m i k) (times (m i c) (m p k)) (h i k hi hk) (below (m i c) (m p k)))
     ]
 
-pub is_pivot_step : (rows place p column g : ℕ) (m l n : ℕ → ℕ → ℕ) → AreElements m → rows ≤ 16 → column < 17 → place ≤ p → p < rows
+pub is_pivot_step : (rows place p column g : ℕ) (m l n : ℕ → ℕ → ℕ) → AreElements m → rows ≤ 16 → column < 17
+    → place ≤ p → p < rows
     → times (m p column) g ≡ 1
     → ((i k : ℕ) → i < 16 → k < 17 → l i k ≡ moved_row p place g m i k)
     → ((i k : ℕ) → i < 16 → k < 17 → n i k ≡ cleared_column place column l i k)
@@ -250,11 +282,14 @@ is_pivot_step rows place p column g m l n hm hr hc hp hq inverse e f = record {
       e place column (omega arith) hc ∙ moved_row-there p place g m column ∙ commute g (m p column) ∙ inverse in
       elim (cases_eq i place) [
         | inl q ↦
-            f i column (omega arith) hc ∙ if_same i place (l i column) (bit_xor (l i column) (times (l i column) (l place column))) q
+            f i column (omega arith) hc
+            ∙ if_same i place (l i column) (bit_xor (l i column) (times (l i column) (l place column))) q
             ∙ ap (λ z. l z column) q ∙ one ∙ sym (if_same i place 1 0 q)
         | inr q ↦
-            let small : l i column < 256 = moved_row-elements p place g m l (omega arith) (omega arith) e hm i column (omega arith) hc in
-            f i column (omega arith) hc ∙ if_other i place (l i column) (bit_xor (l i column) (times (l i column) (l place column))) q
+            let small : l i column < 256 =
+            moved_row-elements p place g m l (omega arith) (omega arith) e hm i column (omega arith) hc in
+            f i column (omega arith) hc
+            ∙ if_other i place (l i column) (bit_xor (l i column) (times (l i column) (l place column))) q
             ∙ ap (λ z. bit_xor (l i column) (times (l i column) z)) one
             ∙ ap (bit_xor (l i column)) (commute (l i column) 1 ∙ one-times (l i column) small)
             ∙ xor_self (l i column) ∙ sym (if_other i place 1 0 q)
@@ -272,7 +307,8 @@ is_pivot_step rows place p column g m l n hm hr hc hp hq inverse e f = record {
             ∙ ap (bit_xor (l i k)) (times-zero-right (l i column)) ∙ xor_zero_r (l i k)
             ∙ elim (cases_eq i p) [
               | inl t ↦
-                  e i k (omega arith) hk ∙ ap (λ z. moved_row p place g m z k) t ∙ moved_row-swapped p place g m k (λ u. q (t ∙ u))
+                  e i k (omega arith) hk ∙ ap (λ z. moved_row p place g m z k) t
+                  ∙ moved_row-swapped p place g m k (λ u. q (t ∙ u))
                   ∙ zero place (omega arith) (omega arith) ∙ sym (ap (λ z. m z k) t ∙ zero p hp hq)
               | inr t ↦ e i k (omega arith) hk ∙ moved_row-elsewhere p place g m i k q t
             ]
@@ -287,5 +323,6 @@ is_pivot_step rows place p column g m l n hm hr hc hp hq inverse e f = record {
         to = cleared_column-to rows columns place column l n hr hcs (omega arith) f;
         from = cleared_column-from rows columns place column l n hr hcs (omega arith) f;
       });
-  elements = cleared_column-elements place column l n f (moved_row-elements p place g m l (omega arith) (omega arith) e hm);
+  elements = cleared_column-elements place column l n f
+      (moved_row-elements p place g m l (omega arith) (omega arith) e hm);
 }

@@ -1,6 +1,7 @@
 -- The laws of the field. A law that is linear in each of its elements holds if it holds at the
 -- eight powers of two.
-use Rattle.std.proofs.Common.{◌≡◌, ℕ, zero, suc, ◌+◌, ◌*◌, ◌/◌, ◌%◌, ◌^◌, ◌<◌, Bool, true, eqb, ltb, refl, sym, ap, ◌∙◌, subst, arith}
+use Rattle.std.proofs.Common.{◌≡◌, ℕ, zero, suc, ◌+◌, ◌*◌, ◌/◌, ◌%◌, ◌^◌, ◌<◌, Bool, true, eqb, ltb, refl, sym, ap}
+use Rattle.std.proofs.Common.{◌∙◌, subst, arith}
 use Rattle.std.proofs.lemmas.Nat.Bits.{bit_at-lt, bit_at_cat_low}
 use Rattle.std.specs.Int.{bit_at}
 use Rattle.std.specs.Int.Bits.{bit_xor}
@@ -9,7 +10,8 @@ use Rattle.std.proofs.lemmas.Nat.{div-add-mod'}
 use Rattle.lr_gf.proofs.SumLaws.{sum_of-same}
 use Rattle.lr_gf.specs.Sums.{sum_of}
 use Rattle.lr_gf.specs.Field.{product, remainder, times}
-use Rattle.lr_gf.proofs.Linear.{Linear, linear-zero, linear-id, linear-after, linear-sum, linear-sum_of, linear-shift, linear-bit, linear-same, linear-lt, linear-scale, linear-low}
+use Rattle.lr_gf.proofs.Linear.{Linear, linear-zero, linear-id, linear-after, linear-sum, linear-sum_of, linear-shift}
+use Rattle.lr_gf.proofs.Linear.{linear-bit, linear-same, linear-lt, linear-scale, linear-low}
 use Rattle.lr_gf.proofs.Tests.{all_below, all_below-at}
 
 linear-product-left : (b : ℕ) → Linear (λ a. product a b)
@@ -47,7 +49,9 @@ below-test : all_below 8 (λ i. all_below 8 (λ j. ltb (times (2 ^ i) (2 ^ j)) (
 unfolding times product remainder sum_of all_below
 below-test = refl
 
-assoc-test : all_below 8 (λ i. all_below 8 (λ j. all_below 8 (λ k. eqb (times (times (2 ^ i) (2 ^ j)) (2 ^ k)) (times (2 ^ i) (times (2 ^ j) (2 ^ k)))))) ≡ true
+assoc-test : all_below 8
+    (λ i. all_below 8 (λ j. all_below 8 (λ k. eqb (times (times (2 ^ i) (2 ^ j)) (2 ^ k))
+    (times (2 ^ i) (times (2 ^ j) (2 ^ k)))))) ≡ true
 unfolding times product remainder sum_of all_below
 assoc-test = refl
 
@@ -60,34 +64,44 @@ pub times-lt : (a b : ℕ) → a < 256 → b < 256 → times a b < 256
 times-lt a b p q =
     linear-lt 8 8 (λ x. times x b) (linear-times-left b)
     (λ i h. linear-lt 8 8 (λ y. times (2 ^ i) y) (linear-times-right (2 ^ i))
-    (λ j k. ltb-true (times (2 ^ i) (2 ^ j)) (2 ^ 8) (all_below-at 8 (λ j. ltb (times (2 ^ i) (2 ^ j)) (2 ^ 8)) (all_below-at 8 (λ i. all_below 8 (λ j. ltb (times (2 ^ i) (2 ^ j)) (2 ^ 8))) below-test i h) j k))
+    (λ j k. ltb-true (times (2 ^ i) (2 ^ j)) (2 ^ 8) (all_below-at 8 (λ j. ltb (times (2 ^ i) (2 ^ j)) (2 ^ 8))
+    (all_below-at 8 (λ i. all_below 8 (λ j. ltb (times (2 ^ i) (2 ^ j)) (2 ^ 8))) below-test i h) j k))
     b q)
     a p
 
 pub times-comm : (a b : ℕ) → a < 256 → b < 256 → times a b ≡ times b a
 times-comm a b p q =
     linear-same 8 (λ x. times x b) (λ x. times b x) (linear-times-left b) (linear-times-right b)
-    (λ i h. linear-same 8 (λ y. times (2 ^ i) y) (λ y. times y (2 ^ i)) (linear-times-right (2 ^ i)) (linear-times-left (2 ^ i))
-    (λ j k. eqb-true (times (2 ^ i) (2 ^ j)) (times (2 ^ j) (2 ^ i)) (all_below-at 8 (λ j. eqb (times (2 ^ i) (2 ^ j)) (times (2 ^ j) (2 ^ i))) (all_below-at 8 (λ i. all_below 8 (λ j. eqb (times (2 ^ i) (2 ^ j)) (times (2 ^ j) (2 ^ i)))) commute-test i h) j k))
+    (λ i h. linear-same 8 (λ y. times (2 ^ i) y) (λ y. times y (2 ^ i)) (linear-times-right (2 ^ i))
+    (linear-times-left (2 ^ i))
+    (λ j k. eqb-true (times (2 ^ i) (2 ^ j)) (times (2 ^ j) (2 ^ i))
+    (all_below-at 8 (λ j. eqb (times (2 ^ i) (2 ^ j)) (times (2 ^ j) (2 ^ i)))
+    (all_below-at 8 (λ i. all_below 8 (λ j. eqb (times (2 ^ i) (2 ^ j)) (times (2 ^ j) (2 ^ i)))) commute-test i h)
+    j k))
     b q)
     a p
 
-assoc-powers : (i j k : ℕ) → i < 8 → j < 8 → k < 8 → times (times (2 ^ i) (2 ^ j)) (2 ^ k) ≡ times (2 ^ i) (times (2 ^ j) (2 ^ k))
+assoc-powers : (i j k : ℕ) → i < 8 → j < 8 → k < 8
+    → times (times (2 ^ i) (2 ^ j)) (2 ^ k) ≡ times (2 ^ i) (times (2 ^ j) (2 ^ k))
 assoc-powers i j k p q r =
-    let P : ℕ → ℕ → ℕ → Bool = λ i j k. eqb (times (times (2 ^ i) (2 ^ j)) (2 ^ k)) (times (2 ^ i) (times (2 ^ j) (2 ^ k))) in
+    let P : ℕ → ℕ → ℕ → Bool =
+    λ i j k. eqb (times (times (2 ^ i) (2 ^ j)) (2 ^ k)) (times (2 ^ i) (times (2 ^ j) (2 ^ k))) in
     eqb-true (times (times (2 ^ i) (2 ^ j)) (2 ^ k)) (times (2 ^ i) (times (2 ^ j) (2 ^ k)))
-    (all_below-at 8 (λ k. P i j k) (all_below-at 8 (λ j. all_below 8 (λ k. P i j k)) (all_below-at 8 (λ i. all_below 8 (λ j. all_below 8 (λ k. P i j k))) assoc-test i p) j q) k r)
+    (all_below-at 8 (λ k. P i j k) (all_below-at 8 (λ j. all_below 8 (λ k. P i j k))
+    (all_below-at 8 (λ i. all_below 8 (λ j. all_below 8 (λ k. P i j k))) assoc-test i p) j q) k r)
 
 pub times-assoc : (a b c : ℕ) → a < 256 → b < 256 → c < 256 → times (times a b) c ≡ times a (times b c)
 times-assoc a b c p q r =
     linear-same 8 (λ x. times (times x b) c) (λ x. times x (times b c))
-    (linear-after (λ x. times x c) (λ x. times x b) (linear-times-left c) (linear-times-left b)) (linear-times-left (times b c))
+    (linear-after (λ x. times x c) (λ x. times x b) (linear-times-left c) (linear-times-left b))
+    (linear-times-left (times b c))
     (λ i h. linear-same 8 (λ y. times (times (2 ^ i) y) c) (λ y. times (2 ^ i) (times y c))
     (linear-after (λ x. times x c) (λ y. times (2 ^ i) y) (linear-times-left c) (linear-times-right (2 ^ i)))
     (linear-after (λ x. times (2 ^ i) x) (λ y. times y c) (linear-times-right (2 ^ i)) (linear-times-left c))
     (λ j k. linear-same 8 (λ z. times (times (2 ^ i) (2 ^ j)) z) (λ z. times (2 ^ i) (times (2 ^ j) z))
     (linear-times-right (times (2 ^ i) (2 ^ j)))
-    (linear-after (λ x. times (2 ^ i) x) (λ z. times (2 ^ j) z) (linear-times-right (2 ^ i)) (linear-times-right (2 ^ j)))
+    (linear-after (λ x. times (2 ^ i) x) (λ z. times (2 ^ j) z) (linear-times-right (2 ^ i))
+    (linear-times-right (2 ^ j)))
     (λ m n. assoc-powers i j m h k n) c r)
     b q)
     a p

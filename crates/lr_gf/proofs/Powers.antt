@@ -1,5 +1,7 @@
 -- Powers, and the tables of the powers of x and of their exponents.
-use Rattle.std.proofs.Common.{◌≡◌, ◌≢◌, ℕ, zero, suc, ◌+◌, ◌-◌, ◌*◌, ◌/◌, ◌%◌, ◌<◌, Bool, true, ◌&&◌, eqb, ltb, List, [], ◌∷◌, length, get_or, take, ◌++◌, refl, sym, ap, ◌∙◌, arith, add-zero, zero-add, add-one}
+use Rattle.std.proofs.Common.{◌≡◌, ◌≢◌, ℕ, zero, suc, ◌+◌, ◌-◌, ◌*◌, ◌/◌, ◌%◌, ◌<◌, Bool, true, ◌&&◌, eqb, ltb, List}
+use Rattle.std.proofs.Common.{[], ◌∷◌, length, get_or, take, ◌++◌, refl, sym, ap, ◌∙◌, arith, add-zero, zero-add}
+use Rattle.std.proofs.Common.{add-one}
 use Rattle.std.proofs.Math.Nat.{mul-suc}
 use Rattle.std.specs.Int.Bits.{bit_xor, xor_assoc, xor_zero_r}
 use Rattle.std.proofs.lemmas.Bool.{eqb-true, ltb-true}
@@ -7,7 +9,8 @@ use Rattle.lr_gf.specs.Sums.{sum_of}
 use Rattle.lr_gf.specs.Field.{product, remainder, times, power, value_of}
 use Rattle.lr_gf.specs.declared.tables.TheConstants.{EXP, LOG}
 use Rattle.lr_gf.proofs.Tests.{all_below, all_below-at, both-left, both-right}
-use Rattle.lr_gf.proofs.Laws.{times-lt, times-comm, times-assoc, one-times, times-zero-left, times-zero-right, times-add-left, group}
+use Rattle.lr_gf.proofs.Laws.{times-lt, times-comm, times-assoc, one-times, times-zero-left, times-zero-right}
+use Rattle.lr_gf.proofs.Laws.{times-add-left, group}
 use Rattle.std.proofs.lemmas.List.{length_push, take_more}
 
 pub power-lt : (a n : ℕ) → a < 256 → power a n < 256
@@ -23,7 +26,8 @@ unfolding power
 power-add a m zero h = rw add-zero (sym (times-one (power a m) (power-lt a m h)))
 power-add a m (suc n) h =
     let e : m + suc n ≡ suc (m + n) = omega arith in
-    rw e (ap (λ x. times x a) (power-add a m n h) ∙ times-assoc (power a m) (power a n) a (power-lt a m h) (power-lt a n h) h)
+    rw e (ap (λ x. times x a) (power-add a m n h) ∙ times-assoc (power a m) (power a n) a (power-lt a m h)
+    (power-lt a n h) h)
 
 pub power-mul : (a m n : ℕ) → a < 256 → power a (m * n) ≡ power (power a m) n
 unfolding power
@@ -47,10 +51,12 @@ follows : ℕ → ℕ → List ℕ → Bool
 follows a x [] = true
 follows a x (y ∷ ys) = eqb y x && follows a (times y a) ys
 
-follows-at : (a m : ℕ) (ys : List ℕ) → follows a (power a m) ys ≡ true → (i : ℕ) → i < length ys → get_or ys i 0 ≡ power a (m + i)
+follows-at : (a m : ℕ) (ys : List ℕ) → follows a (power a m) ys ≡ true → (i : ℕ) → i < length ys
+    → get_or ys i 0 ≡ power a (m + i)
 unfolding follows power
 follows-at a m [] h i k = absurd (omega arith)
-follows-at a m (y ∷ ys) h zero k = rw add-zero (eqb-true y (power a m) (both-left (eqb y (power a m)) (follows a (times y a) ys) h))
+follows-at a m (y ∷ ys) h zero k =
+    rw add-zero (eqb-true y (power a m) (both-left (eqb y (power a m)) (follows a (times y a) ys) h))
 follows-at a m (y ∷ ys) h (suc i) k =
     let e : y ≡ power a m = eqb-true y (power a m) (both-left (eqb y (power a m)) (follows a (times y a) ys) h) in
     let rest : follows a (times y a) ys ≡ true = both-right (eqb y (power a m)) (follows a (times y a) ys) h in
@@ -117,7 +123,8 @@ power-round k =
     let r : ℕ = k % 255 in
     let e : k ≡ 255 * (k / 255) + k % 255 = omega arith in
     ap (power 2) e ∙ power-add 2 (255 * (k / 255)) (k % 255) (omega arith)
-    ∙ ap (λ x. times x (power 2 (k % 255))) (power-mul 2 255 (k / 255) (omega arith) ∙ ap (λ x. power x (k / 255)) order-test ∙ power-one (k / 255))
+    ∙ ap (λ x. times x (power 2 (k % 255))) (power-mul 2 255 (k / 255) (omega arith)
+    ∙ ap (λ x. power x (k / 255)) order-test ∙ power-one (k / 255))
     ∙ one-times (power 2 (k % 255)) (power-lt 2 (k % 255) (omega arith))
 
 -- the products, powers and inverses that the tables give
@@ -130,7 +137,8 @@ power_by_exponents a i n p = sym (power-round (i * n)) ∙ power-mul 2 i n (omeg
 pub inverse_by_exponents : (a i : ℕ) → i < 255 → power 2 i ≡ a → times a (power 2 (255 - i)) ≡ 1
 inverse_by_exponents a i h p =
     let e : i + (255 - i) ≡ 255 = omega arith in
-    ap (λ x. times x (power 2 (255 - i))) (sym p) ∙ sym (power-add 2 i (255 - i) (omega arith)) ∙ ap (power 2) e ∙ order-test
+    ap (λ x. times x (power 2 (255 - i))) (sym p) ∙ sym (power-add 2 i (255 - i) (omega arith)) ∙ ap (power 2) e
+    ∙ order-test
 
 -- each element but 0 has an inverse
 pub inverse_of : (a : ℕ) → a ≢ 0 → a < 256 → (b : ℕ) × (b < 256) × (times a b ≡ 1)
@@ -160,7 +168,8 @@ value-push (a ∷ cs) c x h =
     ∙ sym (xor_assoc (times (times a (power x (length cs))) x) (times (value_of cs x) x) c)
     ∙ ap (λ z. bit_xor z c) (sym (times-add-left (times a (power x (length cs))) (value_of cs x) x))
 
-pub horner-more : (cs : List ℕ) (i item sum x : ℕ) → i < length cs → item ≡ get_or cs i item → sum ≡ value_of (take i cs) x
+pub horner-more : (cs : List ℕ) (i item sum x : ℕ) → i < length cs → item ≡ get_or cs i item
+    → sum ≡ value_of (take i cs) x
     → item < 256 → bit_xor (times sum x) item ≡ value_of (take (i + 1) cs) x
 horner-more cs i item sum x h e s small =
     ap (λ z. bit_xor (times z x) item) s

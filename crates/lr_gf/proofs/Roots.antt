@@ -1,5 +1,6 @@
 -- A polynomial whose coefficients aren't all 0 has fewer roots than coefficients.
-use Rattle.std.proofs.Common.{◌≡◌, ℕ, zero, suc, ◌+◌, ◌<◌, ◌≤◌, List, [], ◌∷◌, ◌++◌, length, reverse, All, refl, sym, ap, ◌∙◌, arith}
+use Rattle.std.proofs.Common.{◌≡◌, ℕ, zero, suc, ◌+◌, ◌<◌, ◌≤◌, List, [], ◌∷◌, ◌++◌, length, reverse, All, refl, sym}
+use Rattle.std.proofs.Common.{ap, ◌∙◌, arith}
 use Rattle.std.specs.Int.Bits.{bit_xor, xor_assoc, xor_comm, xor_self, xor_zero_r, xor_lt}
 use Rattle.std.proofs.lemmas.List.Elements.{All-head, All-tail, All-nil, All-cons, All-same, All-push}
 use Rattle.std.proofs.lemmas.List.{reverse-append, reverse-reverse, length-reverse}
@@ -25,7 +26,8 @@ quotient r (c ∷ d ∷ ds) = low (d ∷ ds) r ∷ quotient r (d ∷ ds)
 pub low-lt : (cs : List ℕ) (x : ℕ) → All (λ c. c < 256) cs → x < 256 → low cs x < 256
 unfolding low
 low-lt [] x h k = omega arith
-low-lt (c ∷ cs) x h k = xor_lt 8 c (times x (low cs x)) (All-head (λ c. c < 256) c cs h) (times-lt x (low cs x) k (low-lt cs x (All-tail (λ c. c < 256) c cs h) k))
+low-lt (c ∷ cs) x h k = xor_lt 8 c (times x (low cs x)) (All-head (λ c. c < 256) c cs h)
+    (times-lt x (low cs x) k (low-lt cs x (All-tail (λ c. c < 256) c cs h) k))
 
 quotient-lt : (r : ℕ) (cs : List ℕ) → r < 256 → All (λ c. c < 256) cs → All (λ c. c < 256) (quotient r cs)
 unfolding quotient
@@ -81,7 +83,8 @@ from_quotient : (r : ℕ) (cs : List ℕ) → All (λ c. c ≡ 0) (quotient r cs
 unfolding low quotient
 from_quotient r [] h e = All-nil (λ c. c ≡ 0)
 from_quotient r (c ∷ []) h e =
-    All-cons (λ c. c ≡ 0) c [] (sym (xor_zero_r c) ∙ ap (bit_xor c) (sym (times-zero-right r)) ∙ e) (All-nil (λ c. c ≡ 0))
+    All-cons (λ c. c ≡ 0) c [] (sym (xor_zero_r c) ∙ ap (bit_xor c) (sym (times-zero-right r)) ∙ e)
+    (All-nil (λ c. c ≡ 0))
 from_quotient r (c ∷ d ∷ ds) h e =
     let head : low (d ∷ ds) r ≡ 0 = All-head (λ c. c ≡ 0) (low (d ∷ ds) r) (quotient r (d ∷ ds)) h in
     let tail = from_quotient r (d ∷ ds) (All-tail (λ c. c ≡ 0) (low (d ∷ ds) r) (quotient r (d ∷ ds)) h) head in
@@ -104,21 +107,25 @@ few_roots (suc m) n (c ∷ cs) x e nodes small many =
     (xor_lt 8 (x i) (x root.0) (nodes.below i k) r)
     (low-lt (quotient (x root.0) (c ∷ cs)) (x i) (quotient-lt (x root.0) (c ∷ cs) r small) (nodes.below i k))
     (λ q. d (nodes.different i root.0 k here (same_from_sum (x i) (x root.0) q)))
-    (sym (divided (x root.0) (x i) (c ∷ cs) r (nodes.below i k) small) ∙ ap (λ w. bit_xor w (low (c ∷ cs) (x root.0))) z ∙ root.2)) in
+    (sym (divided (x root.0) (x i) (c ∷ cs) r (nodes.below i k) small)
+    ∙ ap (λ w. bit_xor w (low (c ∷ cs) (x root.0))) z ∙ root.2)) in
     from_quotient (x root.0) (c ∷ cs)
-    (few_roots m n (quotient (x root.0) (c ∷ cs)) x shorter nodes (quotient-lt (x root.0) (c ∷ cs) r small) (omega arith)) root.2
+    (few_roots m n (quotient (x root.0) (c ∷ cs)) x shorter nodes (quotient-lt (x root.0) (c ∷ cs) r small)
+    (omega arith)) root.2
 
 All-reverse : (cs : List ℕ) → All (λ c. c < 256) cs → All (λ c. c < 256) (reverse cs)
 All-reverse [] h = h
 All-reverse (c ∷ cs) h =
     All-same (λ c. c < 256) (reverse (c ∷ cs)) (reverse cs ++ c ∷ []) (reverse-append (c ∷ []) cs)
-    (All-push (λ c. c < 256) (reverse cs) c (All-reverse cs (All-tail (λ c. c < 256) c cs h)) (All-head (λ c. c < 256) c cs h))
+    (All-push (λ c. c < 256) (reverse cs) c (All-reverse cs (All-tail (λ c. c < 256) c cs h))
+    (All-head (λ c. c < 256) c cs h))
 
 All-reverse_zero : (cs : List ℕ) → All (λ c. c ≡ 0) cs → All (λ c. c ≡ 0) (reverse cs)
 All-reverse_zero [] h = h
 All-reverse_zero (c ∷ cs) h =
     All-same (λ c. c ≡ 0) (reverse (c ∷ cs)) (reverse cs ++ c ∷ []) (reverse-append (c ∷ []) cs)
-    (All-push (λ c. c ≡ 0) (reverse cs) c (All-reverse_zero cs (All-tail (λ c. c ≡ 0) c cs h)) (All-head (λ c. c ≡ 0) c cs h))
+    (All-push (λ c. c ≡ 0) (reverse cs) c (All-reverse_zero cs (All-tail (λ c. c ≡ 0) c cs h))
+    (All-head (λ c. c ≡ 0) c cs h))
 
 pub low-reverse : (cs : List ℕ) (x : ℕ) → All (λ c. c < 256) cs → x < 256 → value_of (reverse cs) x ≡ low cs x
 unfolding low value_of

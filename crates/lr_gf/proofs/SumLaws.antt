@@ -1,5 +1,6 @@
 -- Sums of functions, and how many of their values are not 0.
-use Rattle.std.proofs.Common.{◌≡◌, ◌≢◌, ℕ, zero, suc, ◌+◌, ◌<◌, ◌≤◌, cond, eqb, refl, sym, ap, ◌∙◌, arith, inl, inr, add-zero}
+use Rattle.std.proofs.Common.{◌≡◌, ◌≢◌, ℕ, zero, suc, ◌+◌, ◌<◌, ◌≤◌, cond, eqb, refl, sym, ap, ◌∙◌, arith, inl, inr}
+use Rattle.std.proofs.Common.{add-zero}
 use Rattle.std.specs.Int.Bits.{bit_xor, xor_assoc, xor_comm, xor_self, xor_zero_r, xor_lt}
 use Rattle.std.proofs.lemmas.Bool.{cases_eq}
 use Rattle.std.proofs.lemmas.Bool.Decides.{eqb_tells}
@@ -10,7 +11,8 @@ pub sum_of-same : (n : ℕ) (f g : ℕ → ℕ) → ((i : ℕ) → i < n → f i
 unfolding sum_of
 sum_of-same zero f g h = refl
 sum_of-same (suc n) f g h =
-    ap (λ x. bit_xor x (f n)) (sum_of-same n f g (λ i k. h i (omega arith))) ∙ ap (bit_xor (sum_of n g)) (h n (omega arith))
+    ap (λ x. bit_xor x (f n)) (sum_of-same n f g (λ i k. h i (omega arith)))
+    ∙ ap (bit_xor (sum_of n g)) (h n (omega arith))
 
 pub sum_of-zero : (n : ℕ) (f : ℕ → ℕ) → ((i : ℕ) → i < n → f i ≡ 0) → sum_of n f ≡ 0
 unfolding sum_of
@@ -29,7 +31,8 @@ sum_of-linear zero l f p = sym (linear-zero l p)
 sum_of-linear (suc n) l f p =
     ap (λ x. bit_xor x (l (f n))) (sum_of-linear n l f p) ∙ sym (p.additive (sum_of n f) (f n))
 
-pub sum_of-swap : (n m : ℕ) (f : ℕ → ℕ → ℕ) → sum_of n (λ i. sum_of m (λ j. f i j)) ≡ sum_of m (λ j. sum_of n (λ i. f i j))
+pub sum_of-swap : (n m : ℕ) (f : ℕ → ℕ → ℕ)
+    → sum_of n (λ i. sum_of m (λ j. f i j)) ≡ sum_of m (λ j. sum_of n (λ i. f i j))
 unfolding sum_of
 sum_of-swap zero m f = sym (sum_of-zero m (λ j. 0) (λ i k. refl))
 sum_of-swap (suc n) m f =
@@ -55,7 +58,8 @@ sum_of-one (suc n) p f h k =
     ]
 
 -- all but two of the values are 0
-pub sum_of-two : (n p q : ℕ) (f : ℕ → ℕ) → p < n → q < n → p ≢ q → ((i : ℕ) → i < n → i ≢ p → i ≢ q → f i ≡ 0) → sum_of n f ≡ bit_xor (f p) (f q)
+pub sum_of-two : (n p q : ℕ) (f : ℕ → ℕ) → p < n → q < n → p ≢ q → ((i : ℕ) → i < n → i ≢ p → i ≢ q → f i ≡ 0)
+    → sum_of n f ≡ bit_xor (f p) (f q)
 unfolding sum_of
 sum_of-two zero p q f h k d z = absurd (omega arith)
 sum_of-two (suc n) p q f h k d z =
@@ -66,10 +70,12 @@ sum_of-two (suc n) p q f h k d z =
       | inr ne ↦
           elim (cases_eq p n) [
             | inl e ↦
-                ap (λ x. bit_xor x (f n)) (sum_of-one n q f (omega (arith, ne)) (λ i j nq. z i (omega arith) (omega arith) nq))
+                ap (λ x. bit_xor x (f n))
+                (sum_of-one n q f (omega (arith, ne)) (λ i j nq. z i (omega arith) (omega arith) nq))
                 ∙ xor_comm (f q) (f n) ∙ ap (λ i. bit_xor (f i) (f q)) (sym e)
             | inr np ↦
-                ap (bit_xor (sum_of n f)) (z n (omega arith) (λ u. np (sym u)) (λ u. ne (sym u))) ∙ xor_zero_r (sum_of n f)
+                ap (bit_xor (sum_of n f)) (z n (omega arith) (λ u. np (sym u)) (λ u. ne (sym u)))
+                ∙ xor_zero_r (sum_of n f)
                 ∙ sum_of-two n p q f (omega (arith, np)) (omega (arith, ne)) d (λ i j. z i (omega arith))
           ]
     ]
@@ -94,7 +100,10 @@ mark-le-one : (a : ℕ) → mark a ≤ 1
 mark-le-one a = elim (cases_eq a 0) [ inl e ↦ omega (arith, mark-zero a e) | inr ne ↦ omega (arith, mark-nonzero a ne) ]
 
 mark-le : (a b : ℕ) → (a ≡ 0 → b ≡ 0) → mark b ≤ mark a
-mark-le a b h = elim (cases_eq a 0) [ inl e ↦ omega (arith, mark-zero b (h e)) | inr ne ↦ omega (arith, mark-nonzero a ne, mark-le-one b) ]
+mark-le a b h = elim (cases_eq a 0) [
+  | inl e ↦ omega (arith, mark-zero b (h e))
+  | inr ne ↦ omega (arith, mark-nonzero a ne, mark-le-one b)
+]
 
 mark-none : (a : ℕ) → mark a ≡ 0 → a ≡ 0
 mark-none a h = elim (cases_eq a 0) [ inl e ↦ e | inr ne ↦ absurd (omega (arith, mark-nonzero a ne)) ]
@@ -117,7 +126,13 @@ weight-nil f = refl
 pub weight-le : (n : ℕ) (f g : ℕ → ℕ) → ((i : ℕ) → i < n → f i ≡ 0 → g i ≡ 0) → weight n g ≤ weight n f
 weight-le zero f g h = omega (arith, weight-nil f, weight-nil g)
 weight-le (suc n) f g h =
-    omega (arith, weight-suc n f, weight-suc n g, weight-le n f g (λ i k. h i (omega arith)), mark-le (f n) (g n) (h n (omega arith)))
+    omega (
+      arith,
+      weight-suc n f,
+      weight-suc n g,
+      weight-le n f g (λ i k. h i (omega arith)),
+      mark-le (f n) (g n) (h n (omega arith)),
+    )
 
 pub weight-none : (n : ℕ) (f : ℕ → ℕ) → weight n f ≡ 0 → (i : ℕ) → i < n → f i ≡ 0
 weight-none zero f h i k = absurd (omega arith)
@@ -136,14 +151,22 @@ pub weight-le-all : (n : ℕ) (f : ℕ → ℕ) → weight n f ≤ n
 weight-le-all zero f = omega (arith, weight-nil f)
 weight-le-all (suc n) f = omega (arith, weight-suc n f, weight-le-all n f, mark-le-one (f n))
 
-pub weight-less : (n p : ℕ) (f g : ℕ → ℕ) → p < n → f p ≢ 0 → g p ≡ 0 → ((i : ℕ) → i < n → f i ≡ 0 → g i ≡ 0) → weight n g + 1 ≤ weight n f
+pub weight-less : (n p : ℕ) (f g : ℕ → ℕ) → p < n → f p ≢ 0 → g p ≡ 0 → ((i : ℕ) → i < n → f i ≡ 0 → g i ≡ 0)
+    → weight n g + 1 ≤ weight n f
 weight-less zero p f g h nz z k = absurd (omega arith)
 weight-less (suc n) p f g h nz z k =
     elim (cases_eq p n) [
       | inl e ↦
           let nz' : f n ≢ 0 = λ q. nz (ap f e ∙ q) in
           let z' : g n ≡ 0 = ap g (sym e) ∙ z in
-          omega (arith, weight-suc n f, weight-suc n g, mark-nonzero (f n) nz', mark-zero (g n) z', weight-le n f g (λ i j. k i (omega arith)))
+          omega (
+            arith,
+            weight-suc n f,
+            weight-suc n g,
+            mark-nonzero (f n) nz',
+            mark-zero (g n) z',
+            weight-le n f g (λ i j. k i (omega arith)),
+          )
       | inr ne ↦
           omega (
             arith,
@@ -189,7 +212,14 @@ weight-some_zero (suc n) f h =
 pub weight-add : (n : ℕ) (f g : ℕ → ℕ) → weight n (λ i. bit_xor (f i) (g i)) ≤ weight n f + weight n g
 weight-add zero f g = omega (arith, weight-nil f, weight-nil g, weight-nil (λ i. bit_xor (f i) (g i)))
 weight-add (suc n) f g =
-    omega (arith, weight-suc n f, weight-suc n g, weight-suc n (λ i. bit_xor (f i) (g i)), weight-add n f g, mark-add (f n) (g n))
+    omega (
+      arith,
+      weight-suc n f,
+      weight-suc n g,
+      weight-suc n (λ i. bit_xor (f i) (g i)),
+      weight-add n f g,
+      mark-add (f n) (g n),
+    )
 
 pub weight-suc_zero : (n : ℕ) (f : ℕ → ℕ) → f n ≡ 0 → weight (suc n) f ≡ weight n f
 weight-suc_zero n f h = omega (arith, weight-suc n f, mark-zero (f n) h)

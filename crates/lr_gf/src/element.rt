@@ -66,6 +66,7 @@ impl Gf {
 pub fn value(coefficients: &[Gf], at: Gf) -> Gf
     ensures { result ≡ value_of coefficients.now at }
 {
+    // So the proof sees that the place is a byte.
     let _ = &at.0;
     let mut sum = Gf(0);
     for coefficient in coefficients {

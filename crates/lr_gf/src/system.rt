@@ -1,7 +1,8 @@
 //! Small linear systems, by Gauss-Jordan elimination.
 #![tactic(auto)]
 
-ghost use Rattle.std.specs.Prelude.{◌≡◌, ◌≢◌, ℕ, ◌+◌, ◌<◌, ◌≤◌, bit_xor, true, false, MatchOption, slice_index, IsTrue, OnOk, OnErr, length, List, ◌⊎◌};
+ghost use Rattle.std.specs.Prelude.{◌≡◌, ◌≢◌, ℕ, ◌+◌, ◌<◌, ◌≤◌, bit_xor, true, false, MatchOption, slice_index};
+ghost use Rattle.std.specs.Prelude.{IsTrue, OnOk, OnErr, length, List, ◌⊎◌};
 ghost use Rattle.lr_gf.specs.Field.{times};
 ghost use Rattle.lr_gf.specs.Systems.{entry, AreElements, IsInKernel, IsNonzero, HasTrivialKernel, IsSolution};
 ghost use Rattle.lr_gf.specs.RowOperations.{moved_row, cleared_column, IsPivotStep};
@@ -45,6 +46,7 @@ impl System {
         ensures kept { (i k : ℕ) → i < 16 → k < 17 → (i ≢ row) ⊎ (k ≢ column)
             → entry self.new i k ≡ entry self.old i k }
     {
+        // So the proof sees that the entry is a byte.
         let _ = &value.0;
         let mut changed = self.cells[row];
         changed[column] = value;
@@ -52,7 +54,7 @@ impl System {
     }
 
     /// Finds a vector other than 0 that the first rows send to 0, over the first columns: writes it
-    /// and answers true, or answers false where there is none. The entries are used up.
+    /// and answers true, or leaves `x` and answers false where there is none. The entries are used up.
     pub fn kernel(&mut self, rows: usize, columns: usize, x: &mut [Gf; 17]) -> bool
         requires rows { rows ≤ 16 }
         requires columns { columns ≤ 17 }
@@ -61,17 +63,20 @@ impl System {
         ensures elements { result ≡ true → (k : ℕ) → slice_index x.new k < 256 }
         ensures none { result ≡ false → HasTrivialKernel rows columns (entry self.old) }
         ensures narrow { result ≡ false → columns ≤ rows }
+        ensures unchanged { result ≡ false → x.new ≡ x.old }
     {
         kernel_of(&mut self.cells, rows, columns, x)
     }
 
     /// Finds a solution of the n equations in the first rows: the columns below n belong to the
-    /// unknowns, and column n has the right sides. The entries are used up.
+    /// unknowns, and column n has the right sides. Where there is none it leaves `x`. The entries are
+    /// used up.
     pub fn solve(&mut self, n: usize, x: &mut [Gf; 16]) -> Result<(), NoSolution>
         requires { n ≤ 16 }
         ensures ok { OnOk result (IsSolution n (entry self.old) (slice_index x.new)) }
         ensures elements { OnOk result ((k : ℕ) → slice_index x.new k < 256) }
         ensures none { OnErr result ((x : ℕ → ℕ) → IsSolution n (entry self.old) x → ⊥) }
+        ensures unchanged { OnErr result (x.new ≡ x.old) }
     {
         solve_of(&mut self.cells, n, x)
     }
@@ -178,7 +183,7 @@ fn eliminate_column(cells: &mut [[Gf; 17]; 16], rows: usize, place: usize, colum
     true
 }
 
-/// Writes the combination of the unit columns that cancels the column behind them.
+/// Writes the combination of the unit columns that cancels the column after them.
 fn write_dependence(cells: &[[Gf; 17]; 16], column: usize, x: &mut [Gf; 17])
     requires { column < 17 }
     ensures before { (k : ℕ) → k < column → slice_index x.new k ≡ entry cells.now k column }
@@ -204,6 +209,7 @@ fn kernel_of(cells: &mut [[Gf; 17]; 16], rows: usize, columns: usize, x: &mut [G
     ensures vector { result ≡ true → (k : ℕ) → slice_index x.new k < 256 }
     ensures none { result ≡ false → HasTrivialKernel rows columns (entry cells.old) }
     ensures narrow { result ≡ false → columns ≤ rows }
+    ensures unchanged { result ≡ false → x.new ≡ x.old }
 {
     for column in 0..columns {
         if !eliminate_column(cells, rows, column, column) {
@@ -222,6 +228,7 @@ fn solve_of(cells: &mut [[Gf; 17]; 16], n: usize, x: &mut [Gf; 16]) -> Result<()
     ensures ok { OnOk result (IsSolution n (entry cells.old) (slice_index x.new)) }
     ensures vector { OnOk result ((k : ℕ) → slice_index x.new k < 256) }
     ensures none { OnErr result ((x : ℕ → ℕ) → IsSolution n (entry cells.old) x → ⊥) }
+    ensures unchanged { OnErr result (x.new ≡ x.old) }
 {
     let mut places = [0usize; 16];
     let mut rank = 0;

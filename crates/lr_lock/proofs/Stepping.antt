@@ -1,12 +1,17 @@
 -- What the lock stands for, from step to step.
-use Rattle.std.proofs.Common.{◌≡◌, ℕ, ◌+◌, ◌<◌, ◌≤◌, inl, inr, Bool, true, false, ℤ, pos, None, Some, Option, List, [], ◌∷◌, ◌++◌, map, length, drop, get_or, refl, sym, ◌∙◌, ap, subst, arith, length-append, length-drop}
+use Rattle.std.proofs.Common.{◌≡◌, ℕ, ◌+◌, ◌<◌, ◌≤◌, inl, inr, Bool, true, false, ℤ, pos, None, Some, Option, List, []}
+use Rattle.std.proofs.Common.{◌∷◌, ◌++◌, map, length, drop, get_or, refl, sym, ◌∙◌, ap, subst, arith, length-append}
+use Rattle.std.proofs.Common.{length-drop}
 use Rattle.std.proofs.lemmas.List.{drop-drop, drop-append-le, get_or-drop}
 use Rattle.std.proofs.lemmas.List.Elements.{All-push, All-weaker}
 use Rattle.std.specs.List.{range_with_len}
+use Rattle.lr_conv.specs.Marker.{tail_of}
+use Rattle.lr_conv.specs.declared.line.LineCode.{LineCode}
+use Rattle.lr_conv.proofs.Tails.{tail_size}
 use Rattle.lr_lock.specs.Frames.{after, HasFewer, IsFoundFrom, IsNext, AreNext, last_of}
-use Rattle.lr_lock.specs.Windows.{Shown, shown, window_of, window_value, turned}
+use Rattle.lr_lock.specs.Windows.{WindowView, window_view, window_of, window_value, turned_value}
 use Rattle.lr_lock.specs.Machine.{IsAt}
-use Rattle.lr_lock.specs.Sights.{IsSeen, IsWaiting}
+use Rattle.lr_lock.specs.Search.{IsFound, IsWaiting}
 use Rattle.lr_lock.specs.Standing.{LockState, StandsFor}
 use Rattle.lr_lock.specs.Steps.{GivesWindow, WantsMore, HasEnded}
 use Rattle.lr_lock.specs.declared.frame.Frame.{Frame}
@@ -18,12 +23,14 @@ Covers symbols frame = frame.place + 16396 ≤ length symbols
 
 -- more symbols
 
-pub next_all-append : (tail : List Bool) (symbols more : List ℤ) (last : Option Frame) (frames : List Frame) → length tail ≡ 52 → AreNext tail symbols last frames → AreNext tail (symbols ++ more) last frames
+pub next_all-append : (tail : List Bool) (symbols more : List ℤ) (last : Option Frame) (frames : List Frame) →
+    length tail ≡ 52 → AreNext tail symbols last frames → AreNext tail (symbols ++ more) last frames
 next_all-append tail symbols more last [] t h = tt
 next_all-append tail symbols more last (frame ∷ frames) t h =
     (next-append tail symbols more last frame t h.0, next_all-append tail symbols more (Some frame) frames t h.1)
 
-at-append : (tail : List Bool) (symbols more : List ℤ) (last held : Option Frame) (place : ℕ) → length tail ≡ 52 → IsAt tail symbols last held place → IsAt tail (symbols ++ more) last held place
+at-append : (tail : List Bool) (symbols more : List ℤ) (last held : Option Frame) (place : ℕ) → length tail ≡ 52 →
+    IsAt tail symbols last held place → IsAt tail (symbols ++ more) last held place
 at-append tail symbols more last (Some held) place t at = at
 at-append tail symbols more last None place t at = record {
   start = at.start;
@@ -33,19 +40,21 @@ at-append tail symbols more last None place t at = record {
   passed = λ p a b. fewer-append tail symbols more p 45 t (omega (arith, at.whole p a b)) (at.passed p a b);
 }
 
-pub stands_after_feed : (lock : LockState) (piece fed : List ℤ) (given : List Frame) → StandsFor lock fed given → StandsFor (record lock { kept = lock.kept ++ piece }) (fed ++ piece) given
+pub stands_after_feed : (lock : LockState) (piece fed : List ℤ) (given : List Frame) → StandsFor lock fed given →
+    StandsFor (record lock { kept = lock.kept ++ piece }) (fed ++ piece) given
 stands_after_feed lock piece fed given h = record {
-  marker = h.marker;
   within = omega (arith, length-append fed piece, h.within);
   rest = ap (λ (s : List ℤ). s ++ piece) h.rest ∙ sym (drop-append-le lock.place fed piece h.within);
-  frames = next_all-append lock.tail fed piece None given h.marker h.frames;
-  stands = at-append lock.tail fed piece (last_of None given) lock.held lock.place h.marker h.stands;
-  sure = λ unfinished. All-weaker (Covers fed) (Covers (fed ++ piece)) (λ frame k. omega (arith, length-append fed piece)) given (h.sure unfinished);
+  frames = next_all-append (tail_of lock.line) fed piece None given (tail_size lock.line) h.frames;
+  stands = at-append (tail_of lock.line) fed piece (last_of None given) lock.held lock.place
+      (tail_size lock.line) h.stands;
+  sure = λ unfinished. All-weaker (Covers fed) (Covers (fed ++ piece))
+      (λ frame k. omega (arith, length-append fed piece)) given (h.sure unfinished);
 }
 
-pub stands_after_finish : (lock : LockState) (fed : List ℤ) (given : List Frame) → StandsFor lock fed given → StandsFor (record lock { finished = true }) fed given
+pub stands_after_finish : (lock : LockState) (fed : List ℤ) (given : List Frame) → StandsFor lock fed given →
+    StandsFor (record lock { finished = true }) fed given
 stands_after_finish lock fed given h = record {
-  marker = h.marker;
   within = h.within;
   rest = h.rest;
   frames = h.frames;
@@ -55,46 +64,66 @@ stands_after_finish lock fed given h = record {
 
 -- one more frame
 
-last_of-more : (last : Option Frame) (frames : List Frame) (frame : Frame) → last_of last (frames ++ frame ∷ []) ≡ Some frame
+last_of-more : (last : Option Frame) (frames : List Frame) (frame : Frame) →
+    last_of last (frames ++ frame ∷ []) ≡ Some frame
 last_of-more last [] frame = refl
 last_of-more last (one ∷ frames) frame = last_of-more (Some one) frames frame
 
-next_all_more : (tail : List Bool) (symbols : List ℤ) (last : Option Frame) (frames : List Frame) (frame : Frame) → AreNext tail symbols last frames → IsNext tail symbols (last_of last frames) frame → AreNext tail symbols last (frames ++ frame ∷ [])
+next_all_more : (tail : List Bool) (symbols : List ℤ) (last : Option Frame) (frames : List Frame) (frame : Frame) →
+    AreNext tail symbols last frames → IsNext tail symbols (last_of last frames) frame →
+    AreNext tail symbols last (frames ++ frame ∷ [])
 next_all_more tail symbols last [] frame h next = (next, tt)
-next_all_more tail symbols last (one ∷ frames) frame h next = (h.0, next_all_more tail symbols (Some one) frames frame h.1 next)
+next_all_more tail symbols last (one ∷ frames) frame h next =
+    (h.0, next_all_more tail symbols (Some one) frames frame h.1 next)
 
 map_same : (f g : ℕ → ℤ) (xs : List ℕ) → ((k : ℕ) → f k ≡ g k) → map f xs ≡ map g xs
 map_same f g [] same = refl
 map_same f g (x ∷ xs) same = ap (λ y. y ∷ map f xs) (same x) ∙ ap (λ ys. g x ∷ ys) (map_same f g xs same)
 
-pub window_of-drop : (fed : List ℤ) (place : ℕ) (positive : Bool) → window_of (drop place fed) 0 positive ≡ window_of fed place positive
+pub window_of-drop : (fed : List ℤ) (place : ℕ) (positive : Bool) →
+    window_of (drop place fed) 0 positive ≡ window_of fed place positive
 unfolding window_of
 window_of-drop fed place positive =
     map_same (window_value (drop place fed) 0 positive) (window_value fed place positive) (range_with_len 0 16332)
-    (λ k. ap (turned positive) (get_or-drop place fed (0 + 64 + k) (pos 0) ∙ ap (λ n. get_or fed n (pos 0)) (omega arith)))
+    (λ k. ap (turned_value positive) (get_or-drop place fed (0 + 64 + k) (pos 0)
+    ∙ ap (λ n. get_or fed n (pos 0)) (omega arith)))
 
-pub given_window : (before later : LockState) (fed : List ℤ) (given : List Frame) (frame : Frame) (passed needed : ℕ) (seen : Shown) → StandsFor before fed given → IsSeen before.tail fed (last_of None given) (before.place + passed) needed frame → 16384 ≤ needed → (before.finished ≡ false → needed ≡ 16396) → later.tail ≡ before.tail → later.place ≡ before.place + passed + 16384 → later.kept ≡ drop (passed + 16384) before.kept → later.held ≡ Some frame → later.finished ≡ before.finished → seen ≡ record { position = frame.place; positive = frame.positive; symbols = window_of (drop passed before.kept) 0 frame.positive } → GivesWindow before later seen fed given
-given_window before later fed given frame passed needed seen h sees big sure tail place kept held same window =
+pub given_window : (before later : LockState) (fed : List ℤ) (given : List Frame) (frame : Frame) (passed needed : ℕ)
+    (seen : WindowView) → StandsFor before fed given → IsFound (tail_of before.line) fed (last_of None given)
+    (before.place + passed) needed frame → 16384 ≤ needed → (before.finished ≡ false → needed ≡ 16396) →
+    later.line ≡ before.line → later.place ≡ before.place + passed + 16384 →
+    later.kept ≡ drop (passed + 16384) before.kept → later.held ≡ Some frame → later.finished ≡ before.finished →
+    seen ≡ record {
+      position = frame.place;
+      positive = frame.positive;
+      line = before.line;
+      symbols = window_of (drop passed before.kept) 0 frame.positive;
+    } → GivesWindow before later seen fed given
+given_window before later fed given frame passed needed seen h sees big sure line place kept held same window =
     let at : before.place + passed ≡ frame.place = sym sees.place in
     let rest : drop passed before.kept ≡ drop frame.place fed =
     ap (drop passed) h.rest ∙ drop-drop passed before.place fed ∙ ap (λ n. drop n fed) at in
     let values : window_of (drop passed before.kept) 0 frame.positive ≡ window_of fed frame.place frame.positive =
     ap (λ s. window_of s 0 frame.positive) rest ∙ window_of-drop fed frame.place frame.positive in
-    let shows : seen ≡ shown fed frame =
-    window ∙ (let made : List ℤ → Shown = λ (s : List ℤ). record { position = frame.place; positive = frame.positive; symbols = s } in ap made values) in
+    let shows : seen ≡ window_view before.line fed frame =
+    window ∙ (let made : List ℤ → WindowView = λ (s : List ℤ).
+    record { position = frame.place; positive = frame.positive; line = before.line; symbols = s } in
+    ap made values) in
     let last : last_of None (given ++ frame ∷ []) ≡ Some frame = last_of-more None given frame in
-    let frames : AreNext before.tail fed None (given ++ frame ∷ []) = next_all_more before.tail fed None given frame h.frames sees.next in
+    let frames : AreNext (tail_of before.line) fed None (given ++ frame ∷ []) =
+    next_all_more (tail_of before.line) fed None given frame h.frames sees.next in
     record {
       frame = frame;
       next = sees.next;
       sure = λ unfinished. omega (arith, sure unfinished, sees.within, at);
       window = shows;
       stands = record {
-        marker = subst (λ (t : List Bool). length t ≡ 52) (sym tail) h.marker;
         within = omega (arith, place, sees.within, big);
-        rest = kept ∙ ap (drop (passed + 16384)) h.rest ∙ drop-drop (passed + 16384) before.place fed ∙ ap (λ n. drop n fed) (omega (arith, place));
-        frames = subst (λ (t : List Bool). AreNext t fed None (given ++ frame ∷ [])) (sym tail) frames;
-        stands = subst (λ (o : Option Frame). IsAt later.tail fed (last_of None (given ++ frame ∷ [])) o later.place) (sym held) (last, omega (arith, place, at));
+        rest = kept ∙ ap (drop (passed + 16384)) h.rest ∙ drop-drop (passed + 16384) before.place fed
+            ∙ ap (λ n. drop n fed) (omega (arith, place));
+        frames = subst (λ (k : LineCode). AreNext (tail_of k) fed None (given ++ frame ∷ [])) (sym line) frames;
+        stands = subst (λ (o : Option Frame). IsAt (tail_of later.line) fed
+            (last_of None (given ++ frame ∷ [])) o later.place) (sym held) (last, omega (arith, place, at));
         sure = λ unfinished.
             let open_before : before.finished ≡ false = sym same ∙ unfinished in
             All-push (Covers fed) given frame (h.sure open_before) (omega (arith, sure open_before, sees.within, at));
@@ -103,7 +132,8 @@ given_window before later fed given frame passed needed seen h sees big sure tai
 
 -- no more frame
 
-pub next_whole : (tail : List Bool) (fed : List ℤ) (last : Option Frame) (frame : Frame) → IsNext tail fed last frame → after frame ≤ length fed
+pub next_whole : (tail : List Bool) (fed : List ℤ) (last : Option Frame) (frame : Frame) → IsNext tail fed last frame →
+    after frame ≤ length fed
 next_whole tail fed None frame (inl h) = absurd h
 next_whole tail fed (Some last) frame (inl (inl h)) = h.whole
 next_whole tail fed (Some last) frame (inl (inr h)) = h.whole
@@ -111,18 +141,24 @@ next_whole tail fed None frame (inr h) = h.2.whole
 next_whole tail fed (Some last) frame (inr h) = h.2.whole
 
 -- what a search looks for lies ahead of it
-found_ahead : (tail : List Bool) (fed : List ℤ) (start begin place : ℕ) (frame : Frame) → start ≡ begin → IsFoundFrom tail fed start frame → ((p : ℕ) → begin ≤ p → p < place → HasFewer tail fed p 45) → place ≤ frame.place
+found_ahead : (tail : List Bool) (fed : List ℤ) (start begin place : ℕ) (frame : Frame) → start ≡ begin →
+    IsFoundFrom tail fed start frame → ((p : ℕ) → begin ≤ p → p < place → HasFewer tail fed p 45) → place ≤ frame.place
 found_ahead tail fed start begin place frame e found passed =
     let below : frame.place < place → ⊥ =
-    λ (h : frame.place < place). absurd (omega (arith, found.locked, passed frame.place (omega (arith, found.from)) h frame.positive)) in
+    λ (h : frame.place < place). absurd (omega (
+      arith,
+      found.locked,
+      passed frame.place (omega (arith, found.from)) h frame.positive,
+    )) in
     omega arith
 
--- the place behind a frame, if there is one
+-- the place after a frame, if there is one
 abbrev pub reach : Option Frame → ℕ
 reach None = 0
 reach (Some frame) = after frame
 
-next_ahead : (tail : List Bool) (fed : List ℤ) (last held : Option Frame) (place : ℕ) (frame : Frame) → IsAt tail fed last held place → IsNext tail fed last frame → place ≤ frame.place
+next_ahead : (tail : List Bool) (fed : List ℤ) (last held : Option Frame) (place : ℕ) (frame : Frame) →
+    IsAt tail fed last held place → IsNext tail fed last frame → place ≤ frame.place
 next_ahead tail fed None None place frame at (inl h) = absurd h
 next_ahead tail fed None None place frame at (inr h) =
     found_ahead tail fed h.0 at.start place frame (h.1 ∙ sym at.begins) h.2 at.passed
@@ -132,42 +168,67 @@ next_ahead tail fed (Some last) None place frame at (inl (inr h)) = absurd (omeg
 next_ahead tail fed (Some last) None place frame at (inr h) =
     found_ahead tail fed h.0 at.start place frame (h.1.1 ∙ sym at.begins.1) h.2 at.passed
 next_ahead tail fed None (Some held) place frame at next = cc
-next_ahead tail fed (Some last) (Some held) place frame at (inl (inl h)) = omega (arith, h.place, at.1, ap (λ o. reach o) at.0)
-next_ahead tail fed (Some last) (Some held) place frame at (inl (inr h)) = omega (arith, h.place, at.1, ap (λ o. reach o) at.0)
-next_ahead tail fed (Some last) (Some held) place frame at (inr h) = omega (arith, h.2.from, h.1.1, at.1, ap (λ o. reach o) at.0)
+next_ahead tail fed (Some last) (Some held) place frame at (inl (inl h)) =
+    omega (arith, h.place, at.1, ap (λ o. reach o) at.0)
+next_ahead tail fed (Some last) (Some held) place frame at (inl (inr h)) =
+    omega (arith, h.place, at.1, ap (λ o. reach o) at.0)
+next_ahead tail fed (Some last) (Some held) place frame at (inr h) =
+    omega (arith, h.2.from, h.1.1, at.1, ap (λ o. reach o) at.0)
 
-stands_on : (before later : LockState) (fed : List ℤ) (given : List Frame) (passed needed : ℕ) → StandsFor before fed given → IsWaiting before.tail fed (last_of None given) later.held (before.place + passed) needed → later.tail ≡ before.tail → later.place ≡ before.place + passed → later.kept ≡ drop passed before.kept → later.finished ≡ before.finished → StandsFor later fed given
-stands_on before later fed given passed needed h waits tail place kept same =
-    let at : IsAt before.tail fed (last_of None given) later.held later.place =
-    subst (λ (p : ℕ). IsAt before.tail fed (last_of None given) later.held p) (sym place) waits.stands in
+stands_on : (before later : LockState) (fed : List ℤ) (given : List Frame) (passed needed : ℕ) →
+    StandsFor before fed given → IsWaiting (tail_of before.line) fed (last_of None given) later.held
+    (before.place + passed) needed → later.line ≡ before.line → later.place ≡ before.place + passed →
+    later.kept ≡ drop passed before.kept → later.finished ≡ before.finished → StandsFor later fed given
+stands_on before later fed given passed needed h waits line place kept same =
+    let at : IsAt (tail_of before.line) fed (last_of None given) later.held later.place =
+    subst (λ (p : ℕ). IsAt (tail_of before.line) fed (last_of None given) later.held p) (sym place) waits.stands in
     record {
-      marker = subst (λ (t : List Bool). length t ≡ 52) (sym tail) h.marker;
       within = omega (arith, place, waits.within);
       rest = kept ∙ ap (drop passed) h.rest ∙ drop-drop passed before.place fed ∙ ap (λ n. drop n fed) (sym place);
-      frames = subst (λ (t : List Bool). AreNext t fed None given) (sym tail) h.frames;
-      stands = subst (λ (t : List Bool). IsAt t fed (last_of None given) later.held later.place) (sym tail) at;
+      frames = subst (λ (k : LineCode). AreNext (tail_of k) fed None given) (sym line) h.frames;
+      stands = subst (λ (k : LineCode). IsAt (tail_of k) fed (last_of None given) later.held later.place) (sym line) at;
       sure = λ unfinished. h.sure (sym same ∙ unfinished);
     }
 
-pub wanted_more : (before later : LockState) (fed : List ℤ) (given : List Frame) (passed needed : ℕ) → StandsFor before fed given → IsWaiting before.tail fed (last_of None given) later.held (before.place + passed) needed → before.finished ≡ false → needed ≡ 16396 → later.tail ≡ before.tail → later.place ≡ before.place + passed → later.kept ≡ drop passed before.kept → later.finished ≡ before.finished → WantsMore before later fed given
-wanted_more before later fed given passed needed h waits unfinished e tail place kept same =
-    let on : StandsFor later fed given = stands_on before later fed given passed needed h waits tail place kept same in
+pub wanted_more : (before later : LockState) (fed : List ℤ) (given : List Frame) (passed needed : ℕ) →
+    StandsFor before fed given → IsWaiting (tail_of before.line) fed (last_of None given) later.held
+    (before.place + passed) needed → before.finished ≡ false → needed ≡ 16396 → later.line ≡ before.line →
+    later.place ≡ before.place + passed → later.kept ≡ drop passed before.kept → later.finished ≡ before.finished →
+    WantsMore before later fed given
+wanted_more before later fed given passed needed h waits unfinished e line place kept same =
+    let on : StandsFor later fed given = stands_on before later fed given passed needed h waits line place kept same in
     record {
       unfinished = unfinished;
-      none = λ frame next. omega (arith, next_ahead before.tail fed (last_of None given) later.held (before.place + passed) frame waits.stands next, waits.short);
+      none = λ frame next. omega (
+        arith,
+        next_ahead (tail_of before.line) fed (last_of None given) later.held
+            (before.place + passed) frame waits.stands next,
+        waits.short,
+      );
       stands = on;
       room = omega (arith, ap length on.rest, length-drop later.place fed, place, waits.short, e);
     }
 
-pub had_ended : (before later : LockState) (fed : List ℤ) (given : List Frame) (passed needed : ℕ) → StandsFor before fed given → IsWaiting before.tail fed (last_of None given) later.held (before.place + passed) needed → before.finished ≡ true → needed ≡ 16384 → later.tail ≡ before.tail → later.place ≡ before.place + passed → later.kept ≡ drop passed before.kept → later.finished ≡ before.finished → HasEnded before later fed given
-had_ended before later fed given passed needed h waits closed e tail place kept same = record {
+pub had_ended : (before later : LockState) (fed : List ℤ) (given : List Frame) (passed needed : ℕ) →
+    StandsFor before fed given → IsWaiting (tail_of before.line) fed (last_of None given) later.held
+    (before.place + passed) needed → before.finished ≡ true → needed ≡ 16384 → later.line ≡ before.line →
+    later.place ≡ before.place + passed → later.kept ≡ drop passed before.kept → later.finished ≡ before.finished →
+    HasEnded before later fed given
+had_ended before later fed given passed needed h waits closed e line place kept same = record {
   closed = closed;
   all = record {
     next = h.frames;
-    all = λ frame next. omega (arith, next_ahead before.tail fed (last_of None given) later.held (before.place + passed) frame waits.stands next, next_whole before.tail fed (last_of None given) frame next, waits.short);
+    all = λ frame next. omega (
+      arith,
+      next_ahead (tail_of before.line) fed (last_of None given) later.held
+          (before.place + passed) frame waits.stands next,
+      next_whole (tail_of before.line) fed (last_of None given) frame next,
+      waits.short,
+    );
   };
-  stands = stands_on before later fed given passed needed h waits tail place kept same;
+  stands = stands_on before later fed given passed needed h waits line place kept same;
 }
 
-pub dropped : (items : List ℤ) (first next both : ℕ) → first + next ≡ both → drop both items ≡ drop next (drop first items)
+pub dropped : (items : List ℤ) (first next both : ℕ) → first + next ≡ both →
+    drop both items ≡ drop next (drop first items)
 dropped items first next both e = ap (λ n. drop n items) (sym e) ∙ sym (drop-drop next first items)

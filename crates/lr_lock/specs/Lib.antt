@@ -2,7 +2,8 @@ pub mod Frames
 pub mod FramesOf
 pub mod Hits
 pub mod Machine
-pub mod Sights
+pub mod Planes
+pub mod Search
 pub mod Standing
 pub mod Steps
 pub mod Symbols

@@ -1,34 +1,29 @@
-ghost use Rattle.std.specs.Prelude.{◌≡◌, ◌+◌, ◌-◌, ◌^◌, ◌≤◌, ◌++◌, ℤ, List, [], true, false, length, drop, IfOk, vec_capacity};
+//! The lock, and how it is fed and asked.
+
+ghost use Rattle.std.specs.Prelude.{◌≡◌, ◌≢◌, ◌+◌, ◌-◌, ◌^◌, ◌≤◌, ◌++◌, ℤ, List, [], true, false, length, drop, IfOk};
+ghost use Rattle.std.specs.Prelude.{vec_capacity};
 ghost use Rattle.lr_lock.specs.Steps.{Answers};
 ghost use Rattle.lr_lock.specs.Standing.{StandsFor};
 ghost use Rattle.lr_lock.specs.Symbols.{symbol_of, symbols_of};
 ghost use Rattle.lr_lock.specs.declared.frame.Frame.{Frame};
 
 use crate::frame::Frame;
-use crate::looks::look;
+use crate::search::find_next;
+use crate::sizes::{LOCK_SYMBOLS, WINDOW_END};
 use crate::step::Step;
 use crate::window::Window;
-use lr_bits::NoMemory;
-use lr_conv::MARKER_TAIL;
+use lr_bits::{FRAME_SYMBOLS, NoMemory};
+use lr_conv::{LineCode, marker_tail};
 use std::alloc::Global;
 use std::marker::Model;
 
-/// The symbols that a lock keeps at most.
-const ROOM: usize = 65536;
-
-/// The symbols of a frame.
-const FRAME: usize = 16384;
-
-/// The symbols of the next marker that a window shows.
-const AHEAD: usize = 12;
-
 /// Finds the frames of a stream of symbols that is fed in pieces, and gives their windows in order.
 ///
-/// It is a buffer, of which the first `passed` symbols are done with, and the frame that it stands behind, if it doesn't
-/// search.
+/// It has the line code of the symbols, a buffer, of which the first `passed` symbols are done with, and the frame that
+/// it stands after, if it doesn't search.
 #[derive(Drop)]
 pub struct Lock {
-    tail: [bool; 52],
+    line: LineCode,
     symbols: Vec<i8>,
     passed: usize,
     place: u64,
@@ -39,12 +34,20 @@ pub struct Lock {
 impl Model for Lock {
     ghost use Rattle.std.specs.Prelude.{◌+◌, ◌-◌, ◌^◌, ◌≤◌, length, drop, vec_capacity};
     ghost use Rattle.lr_lock.specs.Standing.{LockState};
+    ghost use Rattle.lr_lock.specs.declared.sizes.TheConstants.{LOCK_SYMBOLS};
 
     ghost Value = { LockState };
 
-    ghost view = { λ l. record { tail = l.tail; place = l.place; kept = drop l.passed l.symbols.items; held = l.held; finished = l.finished } };
+    ghost view = { λ l. record {
+      line = l.line;
+      place = l.place;
+      kept = drop l.passed l.symbols.items;
+      held = l.held;
+      finished = l.finished;
+    } };
 
-    ghost invariant = { λ l. (l.passed ≤ length l.symbols.items) × (length l.symbols.items ≤ 65536) × (65536 ≤ vec_capacity l.symbols) × (l.place + (length l.symbols.items - l.passed) ≤ 2 ^ 62) };
+    ghost invariant = { λ l. (l.passed ≤ length l.symbols.items) × (length l.symbols.items ≤ LOCK_SYMBOLS) ×
+        (LOCK_SYMBOLS ≤ vec_capacity l.symbols) × (l.place + (length l.symbols.items - l.passed) ≤ 2 ^ 62) };
 }
 
 /// Lets go of the first symbols.
@@ -65,12 +68,12 @@ fn symbol_of_byte(byte: u8) -> i8
     byte.cast_signed()
 }
 
-/// Puts the bytes, read as signed ones, behind the symbols. There is room for them.
+/// Puts the bytes, read as signed ones, after the symbols. There is room for them.
 fn put_bytes(symbols: &mut Vec<i8>, piece: &[u8])
-    requires room { length symbols.old.items + length piece.now ≤ 65536 }
-    requires capacity { 65536 ≤ vec_capacity symbols.old }
+    requires room { length symbols.old.items + length piece.now ≤ LOCK_SYMBOLS }
+    requires capacity { LOCK_SYMBOLS ≤ vec_capacity symbols.old }
     ensures items { symbols.new.items ≡ symbols.old.items ++ symbols_of piece.now }
-    ensures capacity { 65536 ≤ vec_capacity symbols.new }
+    ensures capacity { LOCK_SYMBOLS ≤ vec_capacity symbols.new }
 {
     for byte in piece {
         if symbols.push(symbol_of_byte(*byte)).is_err() {
@@ -80,15 +83,15 @@ fn put_bytes(symbols: &mut Vec<i8>, piece: &[u8])
 }
 
 impl Lock {
-    /// A lock that searches from the start of a stream, for the marker of CCSDS 131.0-B, section 9.3.
-    pub fn new(alloc: Global) -> Result<Self, NoMemory>
+    /// A lock that searches from the start of a stream of this line code, for the marker of CCSDS 131.0-B, section 9.3.
+    pub fn new(alloc: Global, line: LineCode) -> Result<Self, NoMemory>
         ensures stands { IfOk result (λ lock. StandsFor lock [] []) }
-        ensures tail { IfOk result (λ lock. lock.tail ≡ MARKER_TAIL) }
+        ensures line { IfOk result (λ lock. lock.line ≡ line) }
         ensures unfinished { IfOk result (λ lock. lock.finished ≡ false) }
     {
-        let symbols = Vec::with_capacity(alloc, ROOM)?;
+        let symbols = Vec::with_capacity(alloc, LOCK_SYMBOLS)?;
         Ok(Lock {
-            tail: MARKER_TAIL,
+            line,
             symbols,
             passed: 0,
             place: 0,
@@ -99,25 +102,25 @@ impl Lock {
 
     /// How many symbols may be fed.
     pub fn room(&self) -> usize
-        ensures { result + length self.now.kept ≡ 65536 }
+        ensures { result + length self.now.kept ≡ LOCK_SYMBOLS }
     {
-        ROOM - (self.symbols.len() - self.passed)
+        LOCK_SYMBOLS - (self.symbols.len() - self.passed)
     }
 
     /// The symbols that are kept.
-    fn kept(&self) -> &[i8]
+    fn kept_symbols(&self) -> &[i8]
         ensures { result.now ≡ self.now.kept }
     {
         &self.symbols[self.passed..]
     }
 
-    /// Keeps the piece behind the symbols kept.
+    /// Keeps the piece after the symbols that are kept.
     fn append(&mut self, piece: &[i8])
-        requires room { length self.old.kept + length piece.now ≤ 65536 }
+        requires room { length self.old.kept + length piece.now ≤ LOCK_SYMBOLS }
         requires in_all { self.old.place + length self.old.kept + length piece.now ≤ 2 ^ 62 }
         ensures { self.new ≡ record self.old { kept = self.old.kept ++ piece.now } }
     {
-        if self.symbols.len() + piece.len() > ROOM {
+        if self.symbols.len() + piece.len() > LOCK_SYMBOLS {
             let_go(&mut self.symbols, self.passed);
             self.passed = 0;
         }
@@ -126,13 +129,13 @@ impl Lock {
         }
     }
 
-    /// Keeps the bytes, read as signed ones, behind the symbols kept.
+    /// Keeps the bytes, read as signed ones, after the symbols that are kept.
     fn append_bytes(&mut self, piece: &[u8])
-        requires room { length self.old.kept + length piece.now ≤ 65536 }
+        requires room { length self.old.kept + length piece.now ≤ LOCK_SYMBOLS }
         requires in_all { self.old.place + length self.old.kept + length piece.now ≤ 2 ^ 62 }
         ensures { self.new ≡ record self.old { kept = self.old.kept ++ symbols_of piece.now } }
     {
-        if self.symbols.len() + piece.len() > ROOM {
+        if self.symbols.len() + piece.len() > LOCK_SYMBOLS {
             let_go(&mut self.symbols, self.passed);
             self.passed = 0;
         }
@@ -142,10 +145,11 @@ impl Lock {
     /// Feeds the next symbols of the stream: at most `room`, and at most 2^62 in all.
     pub fn feed(&mut self, piece: &[i8])
         requires unfinished { self.old.finished ≡ false }
-        requires room { length self.old.kept + length piece.now ≤ 65536 }
+        requires room { length self.old.kept + length piece.now ≤ LOCK_SYMBOLS }
         requires in_all { self.old.place + length self.old.kept + length piece.now ≤ 2 ^ 62 }
         ensures value { self.new ≡ record self.old { kept = self.old.kept ++ piece.now } }
-        ensures stands { (fed : List ℤ) (given : List Frame) → StandsFor self.old fed given → StandsFor self.new (fed ++ piece.now) given }
+        ensures stands { (fed : List ℤ) (given : List Frame) → StandsFor self.old fed given →
+            StandsFor self.new (fed ++ piece.now) given }
     {
         self.append(piece);
     }
@@ -153,10 +157,11 @@ impl Lock {
     /// Feeds the next symbols of the stream, each in a byte that is read as a signed one.
     pub fn feed_bytes(&mut self, piece: &[u8])
         requires unfinished { self.old.finished ≡ false }
-        requires room { length self.old.kept + length piece.now ≤ 65536 }
+        requires room { length self.old.kept + length piece.now ≤ LOCK_SYMBOLS }
         requires in_all { self.old.place + length self.old.kept + length piece.now ≤ 2 ^ 62 }
         ensures value { self.new ≡ record self.old { kept = self.old.kept ++ symbols_of piece.now } }
-        ensures stands { (fed : List ℤ) (given : List Frame) → StandsFor self.old fed given → StandsFor self.new (fed ++ symbols_of piece.now) given }
+        ensures stands { (fed : List ℤ) (given : List Frame) → StandsFor self.old fed given →
+            StandsFor self.new (fed ++ symbols_of piece.now) given }
     {
         self.append_bytes(piece);
     }
@@ -164,35 +169,48 @@ impl Lock {
     /// Says that no more symbols will be fed.
     pub fn finish(&mut self)
         ensures value { self.new ≡ record self.old { finished = true } }
-        ensures stands { (fed : List ℤ) (given : List Frame) → StandsFor self.old fed given → StandsFor self.new fed given }
+        ensures stands { (fed : List ℤ) (given : List Frame) → StandsFor self.old fed given →
+            StandsFor self.new fed given }
     {
         self.finished = true;
     }
 
-    /// Shows the next frame in the window. Until the stream is finished, a frame is given once its window's last twelve
-    /// symbols, which are the next marker's, were fed too; where it answers `More`, there is room for 49,141 symbols.
+    /// Shows the next frame in the window. Until the stream is finished, a frame is given once its window's last
+    /// twelve symbols, which are the next marker's, were fed too; where it answers `More`, there is room for 49,141
+    /// symbols. At `More` and `End` the window is as it was.
     pub fn next_window(&mut self, window: &mut Window) -> Step
-        ensures answers { (fed : List ℤ) (given : List Frame) → StandsFor self.old fed given → Answers self.old self.new window.new fed given result }
-        ensures tail { self.new.tail ≡ self.old.tail }
+        requires { window.old.line ≡ self.old.line }
+        ensures answers { (fed : List ℤ) (given : List Frame) → StandsFor self.old fed given →
+            Answers self.old self.new window.new fed given result }
+        ensures unchanged { result ≢ Step.Window → window.new ≡ window.old }
+
+        ensures line { self.new.line ≡ self.old.line }
+        ensures window_line { window.new.line ≡ window.old.line }
         ensures finished { self.new.finished ≡ self.old.finished }
+
         ensures fed { self.new.place + length self.new.kept ≡ self.old.place + length self.old.kept }
         ensures passes { length self.new.kept ≤ length self.old.kept }
-        ensures shorter { result ≡ Step.Window → length self.new.kept + 16384 ≤ length self.old.kept }
+        ensures shorter { result ≡ Step.Window → length self.new.kept + FRAME_SYMBOLS ≤ length self.old.kept }
     {
-        let needed = if self.finished { FRAME } else { FRAME + AHEAD };
-        let sight = look(&self.tail, self.kept(), self.place, self.held, needed);
-        self.passed += sight.passed;
-        self.place += sight.passed as u64;
-        match sight.frame {
+        let needed = if self.finished {
+            FRAME_SYMBOLS
+        } else {
+            WINDOW_END
+        };
+        let tail = marker_tail(self.line);
+        let found = find_next(&tail, self.kept_symbols(), self.place, self.held, needed);
+        self.passed += found.passed;
+        self.place += found.passed as u64;
+        match found.frame {
             Some(frame) => {
-                window.show(frame, self.kept());
-                self.passed += FRAME;
-                self.place += FRAME as u64;
+                window.show(frame, self.kept_symbols());
+                self.passed += FRAME_SYMBOLS;
+                self.place += FRAME_SYMBOLS as u64;
                 self.held = Some(frame);
                 Step::Window
             }
             None => {
-                self.held = sight.held;
+                self.held = found.held;
                 if self.finished { Step::End } else { Step::More }
             }
         }

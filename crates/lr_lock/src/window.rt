@@ -1,59 +1,65 @@
+//! Windows, and how they are filled.
+
 ghost use Rattle.std.specs.Prelude.{◌≡◌, ◌≢◌, ◌≤◌, pos, negsuc, true, length, IfOk};
 ghost use Rattle.std.specs.List.{All};
-ghost use Rattle.lr_lock.specs.Windows.{turned, window_of};
+ghost use Rattle.lr_lock.specs.Windows.{turned_value, window_of};
 
 use crate::frame::Frame;
-use lr_bits::NoMemory;
+use crate::sizes::LOCK_SYMBOLS;
+use lr_bits::{NoMemory, WINDOW_SYMBOLS};
+use lr_conv::{LineCode, MARKER_SYMBOLS};
 use std::alloc::Global;
 use std::marker::Model;
 
-/// The number of symbols in a window.
-const WINDOW: usize = 16332;
-
-/// The place of a window in its frame: behind the marker.
-const BEHIND: usize = 64;
-
-/// What a decoder is shown of a frame: where its marker begins in the stream, its polarity, and the 16,332 symbols behind the
-/// marker (CCSDS 131.0-B, section 9.3), each times the sign of the polarity. No symbol is -128.
+/// What a decoder is shown of a frame: where its marker begins in the stream, its polarity, the line code of its
+/// symbols, and the 16,332 symbols after the marker (CCSDS 131.0-B, section 9.3), each times the sign of the polarity.
+/// No symbol is -128.
 #[derive(Drop)]
 pub struct Window {
     position: u64,
     positive: bool,
+    line: LineCode,
     values: Vec<i8>,
 }
 
 impl Model for Window {
     ghost use Rattle.std.specs.Prelude.{◌≡◌, ◌≢◌, negsuc, length};
     ghost use Rattle.std.specs.List.{All};
-    ghost use Rattle.lr_lock.specs.Windows.{Shown};
+    ghost use Rattle.lr_bits.specs.declared.sizes.TheConstants.{WINDOW_SYMBOLS};
+    ghost use Rattle.lr_lock.specs.Windows.{WindowView};
 
-    ghost Value = { Shown };
+    ghost Value = { WindowView };
 
-    ghost view = { λ w. record { position = w.position; positive = w.positive; symbols = w.values.items } };
+    ghost view = { λ w. record {
+      position = w.position;
+      positive = w.positive;
+      line = w.line;
+      symbols = w.values.items;
+    } };
 
-    ghost invariant = { λ w. (length w.values.items ≡ 16332) × All (λ v. v ≢ negsuc 127) w.values.items };
+    ghost invariant = { λ w. (length w.values.items ≡ WINDOW_SYMBOLS) × All (λ v. v ≢ negsuc 127) w.values.items };
 }
 
 /// A symbol times the sign of the polarity.
-fn turned(symbol: i8, positive: bool) -> i8
-    ensures value { result ≡ turned positive symbol }
+fn turned_value(symbol: i8, positive: bool) -> i8
+    ensures value { result ≡ turned_value positive symbol }
     ensures soft { result ≢ negsuc 127 }
 {
     let value = symbol.max(-127);
     if positive { value } else { -value }
 }
 
-/// Fills the front of a window with the symbols behind the marker that stands first among these, as far as they go. The
-/// rest of it is 0.
+/// Fills a window with the symbols after the marker that stands first among these, as far as they go, and with zeros
+/// from there on.
 fn fill(out: &mut [i8], symbols: &[i8], positive: bool)
-    requires room { length out.old ≡ 16332 }
-    requires size { length symbols.now ≤ 65536 }
+    requires room { length out.old ≡ WINDOW_SYMBOLS }
+    requires size { length symbols.now ≤ LOCK_SYMBOLS }
     ensures values { out.new ≡ window_of symbols.now 0 positive }
     ensures soft { All (λ v. v ≢ negsuc 127) out.new }
 {
-    let whole = symbols.len().saturating_sub(BEHIND).min(out.len());
+    let whole = symbols.len().saturating_sub(MARKER_SYMBOLS).min(out.len());
     for i in 0..whole {
-        out[i] = turned(symbols[BEHIND + i], positive);
+        out[i] = turned_value(symbols[MARKER_SYMBOLS + i], positive);
     }
     for i in whole..out.len() {
         out[i] = 0;
@@ -61,16 +67,18 @@ fn fill(out: &mut [i8], symbols: &[i8], positive: bool)
 }
 
 impl Window {
-    /// A window of zeros, at position 0 and the positive polarity.
-    pub fn new(alloc: Global) -> Result<Self, NoMemory>
+    /// A window of zeros of this line code, at position 0 and the positive polarity.
+    pub fn new(alloc: Global, line: LineCode) -> Result<Self, NoMemory>
         ensures position { IfOk result (λ window. window.position ≡ 0) }
         ensures positive { IfOk result (λ window. window.positive ≡ true) }
+        ensures line { IfOk result (λ window. window.line ≡ line) }
         ensures symbols { IfOk result (λ window. All (λ v. v ≡ pos 0) window.symbols) }
     {
-        let values = vec![in alloc; 0i8; WINDOW]?;
+        let values = vec![in alloc; 0i8; WINDOW_SYMBOLS]?;
         Ok(Window {
             position: 0,
             positive: true,
+            line,
             values,
         })
     }
@@ -89,10 +97,17 @@ impl Window {
         self.positive
     }
 
-    /// The symbols.
+    /// The line code of the symbols.
+    pub fn line(&self) -> LineCode
+        ensures { result ≡ self.now.line }
+    {
+        self.line
+    }
+
+    /// The symbols of the window.
     pub fn symbols(&self) -> &[i8]
         ensures symbols { result.now ≡ self.now.symbols }
-        ensures number { length result.now ≡ 16332 }
+        ensures number { length result.now ≡ WINDOW_SYMBOLS }
         ensures soft { All (λ v. v ≢ negsuc 127) result.now }
     {
         self.values.as_slice()
@@ -100,8 +115,13 @@ impl Window {
 
     /// Shows the frame, whose symbols stand first among these.
     pub(crate) fn show(&mut self, frame: Frame, symbols: &[i8])
-        requires { length symbols.now ≤ 65536 }
-        ensures { self.new ≡ record { position = frame.place; positive = frame.positive; symbols = window_of symbols.now 0 frame.positive } }
+        requires { length symbols.now ≤ LOCK_SYMBOLS }
+        ensures { self.new ≡ record {
+          position = frame.place;
+          positive = frame.positive;
+          line = self.old.line;
+          symbols = window_of symbols.now 0 frame.positive;
+        } }
     {
         self.position = frame.place;
         self.positive = frame.positive;

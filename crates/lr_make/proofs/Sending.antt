@@ -1,15 +1,17 @@
 -- What is sent of one frame more.
-use Rattle.std.proofs.Common.{◌≡◌, ℕ, zero, suc, ◌+◌, ◌*◌, Bool, false, ℤ, List, ◌++◌, length, map, drop, replicate, refl, sym, ap, subst, ◌∙◌, arith, add-one, length-append}
+use Rattle.std.proofs.Common.{◌≡◌, ℕ, zero, suc, ◌+◌, ◌*◌, Bool, false, ℤ, List, ◌++◌, length, map, drop, replicate}
+use Rattle.std.proofs.Common.{refl, sym, ap, subst, ◌∙◌, arith, add-one, length-append}
 use Rattle.std.proofs.lemmas.List.{drop-map, drop_at, length-map, map-append}
 use Rattle.lr_conv.specs.Convolution.{code}
 use Rattle.lr_conv.specs.Encoder as encoders
 use Rattle.lr_conv.specs.declared.encoder.Encoder.{Encoder}
+use Rattle.lr_conv.specs.declared.line.TheConstants.{STANDARD}
 use Rattle.lr_block.specs.Randomiser.{randomised_block}
 use Rattle.lr_block.proofs.Sequence.{length-randomised_block}
 use Rattle.lr_make.specs.Frames.{frame_at}
 use Rattle.lr_make.specs.Blocks.{block_at, damaged_block, encoded_block}
 use Rattle.lr_make.specs.Standing.{IsCodeOf}
-use Rattle.lr_make.specs.Symbols.{bits_of_bytes, marked, sent_bits, level, all_symbols, symbols_at}
+use Rattle.lr_make.specs.Symbols.{bits_of_bytes, marked_block, sent_bits, level, all_symbols, symbols_at}
 use Rattle.lr_make.specs.Stream.{frame_stream, block_stream, symbol_stream, SymbolsAreOneCode}
 use Rattle.lr_make.proofs.Coding.{bits_of_bytes-all, code-front, length-code, length-first_bits}
 
@@ -17,16 +19,20 @@ pub block_at-is : (start wrong n made_wrong : ℕ) (frame block : List ℕ) → 
     → block ≡ randomised_block (damaged_block made_wrong (encoded_block frame)) → block ≡ block_at start wrong n
 unfolding block_at
 block_at-is start wrong n made_wrong frame block f w b =
-    b ∙ ap (λ z. randomised_block (damaged_block z (encoded_block frame))) w ∙ ap (λ z. randomised_block (damaged_block wrong (encoded_block z))) f
+    b ∙ ap (λ z. randomised_block (damaged_block z (encoded_block frame))) w
+    ∙ ap (λ z. randomised_block (damaged_block wrong (encoded_block z))) f
 
 pub length-block_at : (start wrong n : ℕ) → length (block_at start wrong n) ≡ 1020
 unfolding block_at
 length-block_at start wrong n = length-randomised_block (damaged_block wrong (encoded_block (frame_at start n)))
 
-length-bits : (block : List ℕ) → length block ≡ 1020 → length (bits_of_bytes (marked block)) ≡ 8192
-length-bits block e = sym (ap length (bits_of_bytes-all (marked block) 8192 (omega arith))) ∙ length-first_bits (marked block) 8192
+length-bits : (block : List ℕ) → length block ≡ 1020 → length (bits_of_bytes (marked_block block)) ≡ 8192
+length-bits block e =
+    sym (ap length (bits_of_bytes-all (marked_block block) 8192 (omega arith)))
+    ∙ length-first_bits (marked_block block) 8192
 
-pub sent_bits-more : (start wrong n : ℕ) → sent_bits start wrong (n + 1) ≡ sent_bits start wrong n ++ bits_of_bytes (marked (block_at start wrong n))
+pub sent_bits-more : (start wrong n : ℕ) →
+    sent_bits start wrong (n + 1) ≡ sent_bits start wrong n ++ bits_of_bytes (marked_block (block_at start wrong n))
 unfolding sent_bits
 sent_bits-more start wrong n = rw add-one refl
 
@@ -36,26 +42,32 @@ length-sent_bits start wrong zero = refl
 length-sent_bits start wrong (suc n) =
     omega (
       arith,
-      length-append (sent_bits start wrong n) (bits_of_bytes (marked (block_at start wrong n))),
+      length-append (sent_bits start wrong n) (bits_of_bytes (marked_block (block_at start wrong n))),
       length-sent_bits start wrong n,
       length-bits (block_at start wrong n) (length-block_at start wrong n),
     )
 
 -- an encoder takes the marker and a block more
-pub stands-more : (encoder : Encoder) (past : List Bool) (start wrong n : ℕ) (block : List ℕ) → block ≡ block_at start wrong n
-    → encoders.StandsFor encoder past (sent_bits start wrong n ++ bits_of_bytes (marked block)) → encoders.StandsFor encoder past (sent_bits start wrong (n + 1))
+pub stands-more : (encoder : Encoder) (past : List Bool) (start wrong n : ℕ) (block : List ℕ) →
+    block ≡ block_at start wrong n
+    → encoders.StandsFor encoder past (sent_bits start wrong n ++ bits_of_bytes (marked_block block)) →
+    encoders.StandsFor encoder past (sent_bits start wrong (n + 1))
 stands-more encoder past start wrong n block b s =
-    subst (encoders.StandsFor encoder past) (ap (λ z. sent_bits start wrong n ++ bits_of_bytes (marked z)) b ∙ sym (sent_bits-more start wrong n)) s
+    subst (encoders.StandsFor encoder past) (ap (λ z. sent_bits start wrong n ++ bits_of_bytes (marked_block z)) b
+    ∙ sym (sent_bits-more start wrong n)) s
 
 pub symbols_at-is : (start wrong n : ℕ) (block : List ℕ) (symbols : List ℤ) → block ≡ block_at start wrong n
-    → IsCodeOf (replicate 6 false) (sent_bits start wrong n) (bits_of_bytes (marked block)) symbols → symbols ≡ symbols_at start wrong n
+    → IsCodeOf (replicate 6 false) (sent_bits start wrong n) (bits_of_bytes (marked_block block)) symbols →
+    symbols ≡ symbols_at start wrong n
 unfolding symbols_at
 symbols_at-is start wrong n block symbols b s =
-    let bits : List Bool = sent_bits start wrong n ++ bits_of_bytes (marked block) in
+    let bits : List Bool = sent_bits start wrong n ++ bits_of_bytes (marked_block block) in
     let places : 2 * length (sent_bits start wrong n) ≡ 16384 * n = omega (arith, length-sent_bits start wrong n) in
-    let all : bits ≡ sent_bits start wrong (n + 1) = ap (λ z. sent_bits start wrong n ++ bits_of_bytes (marked z)) b ∙ sym (sent_bits-more start wrong n) in
-    s ∙ ap (λ k. map level (drop k (code (replicate 6 false) bits))) places ∙ ap (λ z. map level (drop (16384 * n) (code (replicate 6 false) z))) all
-    ∙ sym (drop-map level (16384 * n) (code (replicate 6 false) (sent_bits start wrong (n + 1))))
+    let all : bits ≡ sent_bits start wrong (n + 1) =
+    ap (λ z. sent_bits start wrong n ++ bits_of_bytes (marked_block z)) b ∙ sym (sent_bits-more start wrong n) in
+    s ∙ ap (λ k. map level (drop k (code STANDARD (replicate 6 false) bits))) places
+    ∙ ap (λ z. map level (drop (16384 * n) (code STANDARD (replicate 6 false) z))) all
+    ∙ sym (drop-map level (16384 * n) (code STANDARD (replicate 6 false) (sent_bits start wrong (n + 1))))
 
 -- ---- the law
 
@@ -63,7 +75,7 @@ pub length-all_symbols : (start wrong n : ℕ) → length (all_symbols start wro
 length-all_symbols start wrong n =
     omega (
       arith,
-      length-map (code (replicate 6 false) (sent_bits start wrong n)) level,
+      length-map (code STANDARD (replicate 6 false) (sent_bits start wrong n)) level,
       length-code (replicate 6 false) (sent_bits start wrong n),
       length-sent_bits start wrong n,
     )
@@ -77,15 +89,17 @@ unfolding symbol_stream sent_bits
 symbols_are_one_code start wrong zero = refl
 symbols_are_one_code start wrong (suc n) =
     let zeros : List Bool = replicate 6 false in
-    let more : List Bool = bits_of_bytes (marked (block_at start wrong n)) in
+    let more : List Bool = bits_of_bytes (marked_block (block_at start wrong n)) in
     let front = code-front zeros (sent_bits start wrong n) more refl in
     let whole : all_symbols start wrong (suc n) ≡ all_symbols start wrong n ++ map level front.0 =
-    ap (map level) front.1 ∙ map-append level (code zeros (sent_bits start wrong n)) front.0 in
+    ap (map level) front.1 ∙ map-append level (code STANDARD zeros (sent_bits start wrong n)) front.0 in
     let next : n + 1 ≡ suc n = add-one n in
     let last : symbols_at start wrong n ≡ map level front.0 =
-    symbols_at-drop start wrong n ∙ ap (λ k. drop (16384 * n) (all_symbols start wrong k)) next ∙ ap (drop (16384 * n)) whole
+    symbols_at-drop start wrong n ∙ ap (λ k. drop (16384 * n) (all_symbols start wrong k)) next
+    ∙ ap (drop (16384 * n)) whole
     ∙ drop_at (all_symbols start wrong n) (map level front.0) (16384 * n) (length-all_symbols start wrong n) in
-    ap (λ z. z ++ symbols_at start wrong n) (symbols_are_one_code start wrong n) ∙ ap (λ z. all_symbols start wrong n ++ z) last ∙ sym whole
+    ap (λ z. z ++ symbols_at start wrong n) (symbols_are_one_code start wrong n)
+    ∙ ap (λ z. all_symbols start wrong n ++ z) last ∙ sym whole
 
 -- ---- the stream with one frame more
 
@@ -93,10 +107,12 @@ pub frame_stream-more : (start n : ℕ) → frame_stream start (n + 1) ≡ frame
 unfolding frame_stream
 frame_stream-more start n = rw add-one refl
 
-pub block_stream-more : (start wrong n : ℕ) → block_stream start wrong (n + 1) ≡ block_stream start wrong n ++ block_at start wrong n
+pub block_stream-more : (start wrong n : ℕ) →
+    block_stream start wrong (n + 1) ≡ block_stream start wrong n ++ block_at start wrong n
 unfolding block_stream
 block_stream-more start wrong n = rw add-one refl
 
-pub symbol_stream-more : (start wrong n : ℕ) → symbol_stream start wrong (n + 1) ≡ symbol_stream start wrong n ++ symbols_at start wrong n
+pub symbol_stream-more : (start wrong n : ℕ) →
+    symbol_stream start wrong (n + 1) ≡ symbol_stream start wrong n ++ symbols_at start wrong n
 unfolding symbol_stream
 symbol_stream-more start wrong n = rw add-one refl

@@ -7,7 +7,10 @@ use Rattle.lr_lock.specs.Frames.{AreFrames}
 use Rattle.lr_lock.specs.Standing.{LockState, StandsFor}
 use Rattle.lr_lock.specs.Steps.{GivesWindow, WantsMore, HasEnded}
 use Rattle.lr_lock.specs.Symbols.{symbols_of}
-use Rattle.lr_lock.specs.Windows.{Shown}
+use Rattle.lr_conv.specs.declared.line.TheConstants.{STANDARD}
+use Rattle.lr_conv.specs.Marker.{tail_of}
+use Rattle.lr_conv.specs.declared.line.LineCode.{LineCode}
+use Rattle.lr_lock.specs.Windows.{WindowView, window_view}
 use Rattle.lr_lock.proofs.Bytes.{symbols_of-append, length-symbols_of}
 use Rattle.lr_frame.specs.Outcomes.{outcome_in}
 use Rattle.lr_frame.proofs.Given.{outcomes_stay}
@@ -19,7 +22,6 @@ use Rattle.lr_station.specs.Decoding.{Decoding, outcomes_given, FeedsPiece, Feed
 -- a lock that is finished stands for what it stood for
 pub finished_stands : {lock : LockState} {fed : List ℤ} {given : List Frame} → StandsFor lock fed given → StandsFor (record lock { finished = true }) fed given
 finished_stands stands = record {
-  marker = stands.marker;
   within = stands.within;
   rest = stands.rest;
   frames = stands.frames;
@@ -31,7 +33,7 @@ finished_stands stands = record {
 pub outcomes_given-stay : (lock : LockState) (bytes piece : List ℕ) (given : List Frame) → StandsFor lock (symbols_of bytes) given → lock.finished ≡ false → outcomes_given (bytes ++ piece) given ≡ outcomes_given bytes given
 unfolding outcomes_given
 outcomes_given-stay lock bytes piece given stands unfinished =
-    ap (λ (l : List ℤ). map (outcome_in l) given) (symbols_of-append bytes piece) ∙ outcomes_stay (symbols_of bytes) (symbols_of piece) given (stands.sure unfinished)
+    ap (λ (l : List ℤ). map (outcome_in STANDARD l) given) (symbols_of-append bytes piece) ∙ outcomes_stay STANDARD (symbols_of bytes) (symbols_of piece) given (stands.sure unfinished)
 
 module _ {S : Type 0} (source : SourceOf S) where
   -- a piece is fed
@@ -41,7 +43,7 @@ module _ {S : Type 0} (source : SourceOf S) where
     all = bytes ++ fed.piece;
     so_far = record {
       stands = subst (λ (l : List ℤ). StandsFor now.lock l given) (sym (symbols_of-append bytes fed.piece)) (fed.stands (symbols_of bytes) given so.stands);
-      tail = ap (λ (l : LockState). l.tail) fed.lock_is ∙ so.tail;
+      line = ap (λ (l : LockState). l.line) fed.lock_is ∙ so.line;
       long = omega (arith, fed.taken, so.long, length-append bytes fed.piece);
       few = fed.few;
       passed = omega (arith, so.passed, fed.taken, ap (λ (l : LockState). length l.kept) fed.lock_is, length-append before.lock.kept (symbols_of fed.piece), length-symbols_of fed.piece);
@@ -70,7 +72,7 @@ module _ {S : Type 0} (source : SourceOf S) where
     all = bytes;
     so_far = record {
       stands = finished_stands (subst (λ (n : Decoding). StandsFor n.lock (symbols_of bytes) given) (sym fed.same) so.stands);
-      tail = ap (λ (n : Decoding). n.lock.tail) fed.same ∙ so.tail;
+      line = ap (λ (n : Decoding). n.lock.line) fed.same ∙ so.line;
       long = ap (λ (n : Decoding). n.taken) fed.same ∙ so.long;
       few = omega (arith, so.few, ap (λ (n : Decoding). n.taken) fed.same, ap (λ (n : Decoding). n.most) fed.same);
       passed = omega (arith, so.passed, ap (λ (n : Decoding). n.taken) fed.same, ap (λ (n : Decoding). length n.lock.kept) fed.same);
@@ -83,13 +85,13 @@ module _ {S : Type 0} (source : SourceOf S) where
   }
 
   -- the lock steps
-  pub stepped : {bytes : List ℕ} {given given' : List Frame} {now : Decoding} {s t : S} (later : LockState) (seen : Shown) → DecodesSoFar source bytes given now s t
-      → StandsFor later (symbols_of bytes) given' → later.tail ≡ now.lock.tail → later.finished ≡ now.lock.finished
+  pub stepped : {bytes : List ℕ} {given given' : List Frame} {now : Decoding} {s t : S} (later : LockState) (seen : WindowView) → DecodesSoFar source bytes given now s t
+      → StandsFor later (symbols_of bytes) given' → later.line ≡ now.lock.line → later.finished ≡ now.lock.finished
       → 16384 * length given' + length later.kept ≤ 16384 * length given + length now.lock.kept
       → DecodesSoFar source bytes given' (record now { lock = later; window = seen }) s t
-  stepped later seen so stands tail finished passed = record {
+  stepped later seen so stands line finished passed = record {
     stands = stands;
-    tail = tail ∙ so.tail;
+    line = line ∙ so.line;
     long = so.long;
     few = so.few;
     passed = omega (arith, passed, so.passed);
@@ -99,15 +101,15 @@ module _ {S : Type 0} (source : SourceOf S) where
     ended = λ e. so.ended (sym finished ∙ e);
   }
 
-  module _ {bytes : List ℕ} {given : List Frame} {now : Decoding} {s t : S} (on : DecodesOn source bytes given now s t) (later : LockState) (seen : Shown)
-      (tail : later.tail ≡ now.lock.tail) (finished : later.finished ≡ now.lock.finished) where
+  module _ {bytes : List ℕ} {given : List Frame} {now : Decoding} {s t : S} (on : DecodesOn source bytes given now s t) (later : LockState) (seen : WindowView)
+      (line : later.line ≡ now.lock.line) (finished : later.finished ≡ now.lock.finished) where
     pub window_given : GivesWindow now.lock later seen (symbols_of on.all) given → length later.kept + 16384 ≤ length now.lock.kept
         → GivesFrame source bytes given (record now { lock = later; window = seen }) s t
     window_given gives shorter = record {
       all = on.all;
       frame = gives.frame;
-      so_far = stepped later seen on.so_far gives.stands tail finished (omega (arith, shorter, length-append given (gives.frame ∷ [])));
-      window_is = gives.window;
+      so_far = stepped later seen on.so_far gives.stands line finished (omega (arith, shorter, length-append given (gives.frame ∷ [])));
+      window_is = gives.window ∙ ap (λ (l : LineCode). window_view l (symbols_of on.all) gives.frame) on.so_far.line;
       same = on.same;
     }
 
@@ -115,7 +117,7 @@ module _ {S : Type 0} (source : SourceOf S) where
         → DecodesOn source bytes given (record now { lock = later; window = seen }) s t
     more_wanted wants passes = record {
       all = on.all;
-      so_far = stepped later seen on.so_far wants.stands tail finished (omega (arith, passes));
+      so_far = stepped later seen on.so_far wants.stands line finished (omega (arith, passes));
       same = on.same;
     }
 
@@ -123,10 +125,10 @@ module _ {S : Type 0} (source : SourceOf S) where
         → EndsFrames source now.stop bytes given (record now { lock = later; window = seen }) s t
     all_given ended passes = record {
       all = on.all;
-      so_far = stepped later seen on.so_far ended.stands tail finished (omega (arith, passes));
+      so_far = stepped later seen on.so_far ended.stands line finished (omega (arith, passes));
       closed = finished ∙ ended.closed;
       stop_is = refl;
-      every = subst (λ (l : _). AreFrames l (symbols_of on.all) given) on.so_far.tail ended.all;
+      every = subst (λ (l : LineCode). AreFrames (tail_of l) (symbols_of on.all) given) on.so_far.line ended.all;
       same = on.same;
     }
 

@@ -11,10 +11,11 @@ use Rattle.lr_bits.specs.File.{File, bytes_of}
 use Rattle.lr_bits.specs.declared.outcome.Outcome.{Outcome}
 use Rattle.lr_bits.specs.declared.outcome.Outcome.TheVariants.{Restored}
 use Rattle.lr_conv.specs.Convolution.{code}
-use Rattle.lr_conv.specs.declared.marker.TheConstants.{MARKER_TAIL}
+use Rattle.lr_conv.specs.declared.line.TheConstants.{STANDARD}
+use Rattle.lr_conv.proofs.Tails.{tail_size}
+use Rattle.lr_conv.specs.Marker.{tail_of}
 use Rattle.lr_frame.specs.Outcomes.{outcome_in, outcomes_of_symbols}
-use Rattle.lr_frame.proofs.Given.{outcomes_stay}
-use Rattle.lr_frame.proofs.Whole.{outcomes_by_tail}
+use Rattle.lr_frame.proofs.Given.{outcomes_are, outcomes_stay}
 use Rattle.lr_layers.specs.Layers.{frame_in, frames_of_outcomes, files_of_outcomes}
 use Rattle.lr_layers.proofs.Fitting.{files_are_some, files_fit_the_frames}
 use Rattle.lr_lock.specs.Frames.{after, IsNext, AreNext}
@@ -150,7 +151,7 @@ symbols_made : (start wrong n : ℕ) → symbols_of (made_bytes Symbols start wr
 unfolding made_bytes
 symbols_made start wrong n =
     let one = symbols_are_one_code start wrong n in
-    ap (λ s. symbols_of (bytes_of_symbols s)) one ∙ levels_back (code (replicate 6 false) (sent_bits start wrong n)) ∙ sym one
+    ap (λ s. symbols_of (bytes_of_symbols s)) one ∙ levels_back (code STANDARD (replicate 6 false) (sent_bits start wrong n)) ∙ sym one
 
 pub made_length : (start wrong n : ℕ) → length (made_bytes Symbols start wrong n) ≡ 16384 * n
 unfolding made_bytes
@@ -191,24 +192,24 @@ but_last tail symbols before (frame ∷ second ∷ frames) next =
     }
 
 -- of the first symbols all outcomes but one are the first of all
-carrying_part : (part later : List ℤ) → carrying (outcomes_of_symbols part) ≤ carrying (outcomes_of_symbols (part ++ later)) + 1
+carrying_part : (part later : List ℤ) → carrying (outcomes_of_symbols STANDARD part) ≤ carrying (outcomes_of_symbols STANDARD (part ++ later)) + 1
 carrying_part part later =
-    let frames = frames_of MARKER_TAIL part in
-    let b = but_last MARKER_TAIL part None frames (frames_of-are MARKER_TAIL part).next in
-    let front = front_stays MARKER_TAIL part later refl in
-    let known = map (outcome_in part) b.covered in
-    let mine : outcomes_of_symbols part ≡ known ++ map (outcome_in part) b.last =
-    outcomes_by_tail part ∙ ap (map (outcome_in part)) b.split ∙ map-append (outcome_in part) b.covered b.last in
+    let frames = frames_of (tail_of STANDARD) part in
+    let b = but_last (tail_of STANDARD) part None frames (frames_of-are (tail_of STANDARD) part).next in
+    let front = front_stays (tail_of STANDARD) part later (tail_size STANDARD) in
+    let known = map (outcome_in STANDARD part) b.covered in
+    let mine : outcomes_of_symbols STANDARD part ≡ known ++ map (outcome_in STANDARD part) b.last =
+    outcomes_are STANDARD part ∙ ap (map (outcome_in STANDARD part)) b.split ∙ map-append (outcome_in STANDARD part) b.covered b.last in
     let all = part ++ later in
-    let of_all : outcomes_of_symbols all ≡ known ++ map (outcome_in all) (b.last ++ front.0) =
-    outcomes_by_tail all ∙ ap (map (outcome_in all)) (front.1 ∙ ap (λ (fs : List Frame). fs ++ front.0) b.split ∙ append_assoc b.covered b.last front.0)
-    ∙ map-append (outcome_in all) b.covered (b.last ++ front.0)
-    ∙ ap (λ (os : List Outcome). os ++ map (outcome_in all) (b.last ++ front.0)) (outcomes_stay part later b.covered b.covers) in
+    let of_all : outcomes_of_symbols STANDARD all ≡ known ++ map (outcome_in STANDARD all) (b.last ++ front.0) =
+    outcomes_are STANDARD all ∙ ap (map (outcome_in STANDARD all)) (front.1 ∙ ap (λ (fs : List Frame). fs ++ front.0) b.split ∙ append_assoc b.covered b.last front.0)
+    ∙ map-append (outcome_in STANDARD all) b.covered (b.last ++ front.0)
+    ∙ ap (λ (os : List Outcome). os ++ map (outcome_in STANDARD all) (b.last ++ front.0)) (outcomes_stay STANDARD part later b.covered b.covers) in
     omega (
       arith,
-      ap carrying mine ∙ carrying-append known (map (outcome_in part) b.last),
-      carrying_few (map (outcome_in part) b.last) (omega (arith, b.few, length-map b.last (outcome_in part))),
-      ap carrying of_all ∙ carrying-append known (map (outcome_in all) (b.last ++ front.0)),
+      ap carrying mine ∙ carrying-append known (map (outcome_in STANDARD part) b.last),
+      carrying_few (map (outcome_in STANDARD part) b.last) (omega (arith, b.few, length-map b.last (outcome_in STANDARD part))),
+      ap carrying of_all ∙ carrying-append known (map (outcome_in STANDARD all) (b.last ++ front.0)),
     )
 
 -- ---- the trial's files
@@ -218,6 +219,6 @@ pub parts_fit : (start wrong n : ℕ) → n ≤ 1024 → ((k : ℕ) → k < n �
 unfolding files_of_bytes outcomes_of_bytes
 parts_fit start wrong n few received part later split =
     let stream : symbol_stream start wrong n ≡ symbols_of part ++ symbols_of later = sym (symbols_made start wrong n) ∙ ap symbols_of split ∙ symbols_of-append part later in
-    let all : carrying (outcomes_of_symbols (symbols_of part ++ symbols_of later)) ≡ carrying (all_sent start wrong n) =
-    ap (λ s. carrying (outcomes_of_symbols s)) (sym stream) ∙ ap carrying (stream_is_received start wrong n received) in
-    omega (arith, few, all, carrying_part (symbols_of part) (symbols_of later), carrying_sent start wrong n, ends_by_frames (outcomes_of_symbols (symbols_of part)) (all_whole (symbols_of part)))
+    let all : carrying (outcomes_of_symbols STANDARD (symbols_of part ++ symbols_of later)) ≡ carrying (all_sent start wrong n) =
+    ap (λ s. carrying (outcomes_of_symbols STANDARD s)) (sym stream) ∙ ap carrying (stream_is_received start wrong n received) in
+    omega (arith, few, all, carrying_part (symbols_of part) (symbols_of later), carrying_sent start wrong n, ends_by_frames (outcomes_of_symbols STANDARD (symbols_of part)) (all_whole (symbols_of part)))

@@ -61,7 +61,7 @@ load_cause disk d NoMemory' refusal = tt
 load_cause disk d Failed' refusal = absurd refusal
 
 no_symbols : outcomes_of_bytes Symbols [] ≡ []
-unfolding outcomes_of_bytes outcomes_of_symbols frames_of
+unfolding outcomes_of_bytes Rattle.lr_frame.specs.Outcomes.outcomes_of_symbols frames_of
 no_symbols = refl
 
 -- no bytes have no files

@@ -8,15 +8,17 @@ use Rattle.std.proofs.lemmas.List.Sums.{count_by-le-length}
 use Rattle.lr_bits.specs.declared.outcome.Outcome.{Outcome}
 use Rattle.lr_io.specs.declared.source.Source.{Ghosts as SourceOf}
 use Rattle.lr_io.specs.declared.sink.Sink.{Ghosts as SinkOf}
-use Rattle.lr_conv.specs.declared.marker.TheConstants.{MARKER_TAIL}
+use Rattle.lr_conv.proofs.Tails.{tail_size}
+use Rattle.lr_conv.specs.declared.line.TheConstants.{STANDARD}
+use Rattle.lr_conv.specs.Marker.{tail_of}
+use Rattle.lr_conv.specs.declared.line.LineCode.{LineCode}
 use Rattle.lr_lock.specs.declared.frame.Frame.{Frame}
 use Rattle.lr_lock.specs.Frames.{AreNext}
 use Rattle.lr_lock.specs.FramesOf.{frames_of}
 use Rattle.lr_lock.specs.Symbols.{symbols_of}
-use Rattle.lr_lock.specs.Windows.{Shown}
+use Rattle.lr_lock.specs.Windows.{WindowView}
 use Rattle.lr_lock.proofs.Existing.{frames_of-are, frames_once, given_are_front}
 use Rattle.lr_frame.specs.Outcomes.{outcome_in, outcome_of_window}
-use Rattle.lr_frame.proofs.Whole.{tail_is}
 use Rattle.lr_layers.specs.Layers.{is_restored}
 use Rattle.lr_catalog.specs.declared.stop.Stop.{Stop}
 use Rattle.lr_catalog.specs.declared.summary.Summary.TheVariants.{Decode}
@@ -39,7 +41,7 @@ use Rattle.lr_station.proofs.UnitsOf.{enumerate_from-push}
 use Rattle.lr_station.proofs.WindowLoop.{outcomes_all, outcomes_given-push, outcomes_given-none, outcomes_given-counted, decoding_begun}
 
 abbrev line_in : List ℤ → ℕ × Frame → List ℕ
-line_in symbols f = window_line f.0 f.1.place f.1.positive (outcome_in symbols f.1)
+line_in symbols f = window_line f.0 f.1.place f.1.positive (outcome_in STANDARD symbols f.1)
 
 abbrev lines_from : ℕ → List ℤ → List Frame → List ℕ
 lines_from n symbols frames = concat (map (line_in symbols) (enumerate_from n frames))
@@ -52,15 +54,15 @@ lines-none : (symbols : List ℤ) → lines_of_windows symbols [] ≡ []
 unfolding lines_of_windows
 lines-none symbols = refl
 
-lines-push : (symbols : List ℤ) (frames : List Frame) (frame : Frame) → lines_of_windows symbols (frames ++ frame ∷ []) ≡ lines_of_windows symbols frames ++ window_line (length frames) frame.place frame.positive (outcome_in symbols frame)
+lines-push : (symbols : List ℤ) (frames : List Frame) (frame : Frame) → lines_of_windows symbols (frames ++ frame ∷ []) ≡ lines_of_windows symbols frames ++ window_line (length frames) frame.place frame.positive (outcome_in STANDARD symbols frame)
 lines-push symbols frames frame =
     lines_are symbols (frames ++ frame ∷ [])
     ∙ ap (λ (l : List (ℕ × Frame)). concat (map (line_in symbols) l)) (enumerate_from-push 0 frames frame)
     ∙ ap concat (map-append (line_in symbols) (enumerate_from 0 frames) ((0 + length frames, frame) ∷ []))
     ∙ concat-append (map (line_in symbols) (enumerate_from 0 frames)) (line_in symbols (0 + length frames, frame) ∷ [])
     ∙ ap (λ l. lines_from 0 symbols frames ++ l) (append-nil (line_in symbols (0 + length frames, frame)))
-    ∙ ap (λ (k : ℕ). lines_from 0 symbols frames ++ window_line k frame.place frame.positive (outcome_in symbols frame)) (omega arith)
-    ∙ ap (λ (l : List ℕ). l ++ window_line (length frames) frame.place frame.positive (outcome_in symbols frame)) (sym (lines_are symbols frames))
+    ∙ ap (λ (k : ℕ). lines_from 0 symbols frames ++ window_line k frame.place frame.positive (outcome_in STANDARD symbols frame)) (omega arith)
+    ∙ ap (λ (l : List ℕ). l ++ window_line (length frames) frame.place frame.positive (outcome_in STANDARD symbols frame)) (sym (lines_are symbols frames))
 
 -- the lines of the first frames are the first ones
 lines_first : (symbols : List ℤ) (frames more : List Frame) → (rest : List ℕ) × (lines_of_windows symbols (frames ++ more) ≡ lines_of_windows symbols frames ++ rest)
@@ -68,20 +70,20 @@ lines_first symbols frames [] = ([], ap (lines_of_windows symbols) (append-nil f
 lines_first symbols frames (frame ∷ more) =
     let behind : (rest : List ℕ) × (lines_of_windows symbols ((frames ++ frame ∷ []) ++ more) ≡ lines_of_windows symbols (frames ++ frame ∷ []) ++ rest) =
     lines_first symbols (frames ++ frame ∷ []) more in
-    let line : List ℕ = window_line (length frames) frame.place frame.positive (outcome_in symbols frame) in (
+    let line : List ℕ = window_line (length frames) frame.place frame.positive (outcome_in STANDARD symbols frame) in (
       line ++ behind.0,
       ap (lines_of_windows symbols) (sym (append_assoc frames (frame ∷ []) more)) ∙ behind.1
           ∙ ap (λ (l : List ℕ). l ++ behind.0) (lines-push symbols frames frame) ∙ append_assoc (lines_of_windows symbols frames) line behind.0,
     )
 
 -- the lines stay where the outcomes do
-same_from : (n : ℕ) (symbols others : List ℤ) (frames : List Frame) → map (outcome_in symbols) frames ≡ map (outcome_in others) frames → lines_from n symbols frames ≡ lines_from n others frames
+same_from : (n : ℕ) (symbols others : List ℤ) (frames : List Frame) → map (outcome_in STANDARD symbols) frames ≡ map (outcome_in STANDARD others) frames → lines_from n symbols frames ≡ lines_from n others frames
 same_from n symbols others [] is = refl
 same_from n symbols others (frame ∷ frames) is =
-    let first : outcome_in symbols frame ≡ outcome_in others frame = cc (is) in
-    let rest : map (outcome_in symbols) frames ≡ map (outcome_in others) frames = cc (is) in
+    let first : outcome_in STANDARD symbols frame ≡ outcome_in STANDARD others frame = cc (is) in
+    let rest : map (outcome_in STANDARD symbols) frames ≡ map (outcome_in STANDARD others) frames = cc (is) in
     ap (λ (o : Outcome). window_line n frame.place frame.positive o ++ lines_from (n + 1) symbols frames) first
-    ∙ ap (λ (l : List ℕ). window_line n frame.place frame.positive (outcome_in others frame) ++ l) (same_from (n + 1) symbols others frames rest)
+    ∙ ap (λ (l : List ℕ). window_line n frame.place frame.positive (outcome_in STANDARD others frame) ++ l) (same_from (n + 1) symbols others frames rest)
 
 lines_stay : (bytes all : List ℕ) (frames : List Frame) → outcomes_given all frames ≡ outcomes_given bytes frames → lines_of_windows (symbols_of all) frames ≡ lines_of_windows (symbols_of bytes) frames
 unfolding outcomes_given
@@ -117,32 +119,31 @@ module _ {S O : Type 0} (source : SourceOf S) (out : SinkOf O) (limit : ℕ) whe
     pub put_place_few : place < limit
     put_place_few = omega (arith, gives.so_far.passed, gives.so_far.few, limit_is, so.count, length-append so.given (gives.frame ∷ []))
 
-    module _ (at : ℕ) (at_is : at ≡ now.window.position) (positive : Bool) (positive_is : positive ≡ now.window.positive) (outcome : Outcome) (is : outcome ≡ outcome_of_window now.window.symbols) where
-      outcome_now : outcome_in (symbols_of gives.all) gives.frame ≡ outcome
-      outcome_now = sym (is ∙ ap (λ (w : Shown). outcome_of_window w.symbols) gives.window_is)
+    module _ (at : ℕ) (at_is : at ≡ now.window.position) (positive : Bool) (positive_is : positive ≡ now.window.positive) (outcome : Outcome) (is : outcome ≡ outcome_of_window STANDARD now.window.symbols) where
+      outcome_now : outcome_in STANDARD (symbols_of gives.all) gives.frame ≡ outcome
+      outcome_now = sym (is ∙ ap (λ (w : WindowView). outcome_of_window STANDARD w.symbols) gives.window_is)
 
       grows : lines_of_windows (symbols_of gives.all) (so.given ++ gives.frame ∷ []) ≡ lines_of_windows (symbols_of so.bytes) so.given ++ window_line place at positive outcome
       grows =
           lines-push (symbols_of gives.all) so.given gives.frame
-          ∙ ap (λ (l : List ℕ). l ++ window_line (length so.given) gives.frame.place gives.frame.positive (outcome_in (symbols_of gives.all) gives.frame)) (lines_stay so.bytes gives.all so.given gives.same)
+          ∙ ap (λ (l : List ℕ). l ++ window_line (length so.given) gives.frame.place gives.frame.positive (outcome_in STANDARD (symbols_of gives.all) gives.frame)) (lines_stay so.bytes gives.all so.given gives.same)
           ∙ ap (λ (l : List ℕ). lines_of_windows (symbols_of so.bytes) so.given ++ l)
-          (ap (λ (k : ℕ). window_line k gives.frame.place gives.frame.positive (outcome_in (symbols_of gives.all) gives.frame)) (sym so.count)
-          ∙ ap (λ (k : ℕ). window_line place k gives.frame.positive (outcome_in (symbols_of gives.all) gives.frame)) (sym (at_is ∙ ap (λ (w : Shown). w.position) gives.window_is))
-          ∙ ap (λ (b : Bool). window_line place at b (outcome_in (symbols_of gives.all) gives.frame)) (sym (positive_is ∙ ap (λ (w : Shown). w.positive) gives.window_is))
+          (ap (λ (k : ℕ). window_line k gives.frame.place gives.frame.positive (outcome_in STANDARD (symbols_of gives.all) gives.frame)) (sym so.count)
+          ∙ ap (λ (k : ℕ). window_line place k gives.frame.positive (outcome_in STANDARD (symbols_of gives.all) gives.frame)) (sym (at_is ∙ ap (λ (w : WindowView). w.position) gives.window_is))
+          ∙ ap (λ (b : Bool). window_line place at b (outcome_in STANDARD (symbols_of gives.all) gives.frame)) (sym (positive_is ∙ ap (λ (w : WindowView). w.positive) gives.window_is))
           ∙ ap (λ (x : Outcome). window_line place at positive x) outcome_now)
 
-      front : (rest : List Frame) × (frames_of MARKER_TAIL (symbols_of gives.all) ≡ (so.given ++ gives.frame ∷ []) ++ rest)
+      front : (rest : List Frame) × (frames_of (tail_of STANDARD) (symbols_of gives.all) ≡ (so.given ++ gives.frame ∷ []) ++ rest)
       front =
-          given_are_front MARKER_TAIL (symbols_of gives.all) (so.given ++ gives.frame ∷ []) refl
-          (subst (λ (l : _). AreNext l (symbols_of gives.all) None (so.given ++ gives.frame ∷ [])) gives.so_far.tail gives.so_far.stands.frames)
+          given_are_front (tail_of STANDARD) (symbols_of gives.all) (so.given ++ gives.frame ∷ []) (tail_size STANDARD)
+          (subst (λ (l : LineCode). AreNext (tail_of l) (symbols_of gives.all) None (so.given ++ gives.frame ∷ [])) gives.so_far.line gives.so_far.stands.frames)
 
       later : (rest : List ℕ) × (lines_of_windows (symbols_of gives.all) ((so.given ++ gives.frame ∷ []) ++ front.0) ≡ lines_of_windows (symbols_of gives.all) (so.given ++ gives.frame ∷ []) ++ rest)
       later = lines_first (symbols_of gives.all) (so.given ++ gives.frame ∷ []) front.0
 
       lines_all : decode_text Symbols gives.all ≡ lines_of_windows (symbols_of so.bytes) so.given ++ (window_line place at positive outcome ++ later.0)
       lines_all =
-          ap (λ (l : List Bool). lines_of_windows (symbols_of gives.all) (frames_of l (symbols_of gives.all))) (sym tail_is)
-          ∙ ap (lines_of_windows (symbols_of gives.all)) front.1 ∙ later.1 ∙ ap (λ (l : List ℕ). l ++ later.0) grows
+          ap (lines_of_windows (symbols_of gives.all)) front.1 ∙ later.1 ∙ ap (λ (l : List ℕ). l ++ later.0) grows
           ∙ append_assoc (lines_of_windows (symbols_of so.bytes) so.given) (window_line place at positive outcome) later.0
 
       read : IsRead source limit gives.all s s'
@@ -166,7 +167,7 @@ module _ {S O : Type 0} (source : SourceOf S) (out : SinkOf O) (limit : ℕ) whe
         counted =
             counted ∙ ap (λ k. k + cond (is_restored outcome) 1 0) (so.counted ∙ ap (λ (l : List Outcome). count_by is_restored l) (sym gives.same))
             ∙ ap (λ (x : Outcome). count_by is_restored (outcomes_given gives.all so.given) + cond (is_restored x) 1 0) (sym outcome_now)
-            ∙ sym (count_push (outcomes_given gives.all so.given) (outcome_in (symbols_of gives.all) gives.frame))
+            ∙ sym (count_push (outcomes_given gives.all so.given) (outcome_in STANDARD (symbols_of gives.all) gives.frame))
             ∙ ap (λ (l : List Outcome). count_by is_restored l) (sym (outcomes_given-push gives.all so.given gives.frame));
       }
 
@@ -176,11 +177,10 @@ module _ {S O : Type 0} (source : SourceOf S) (out : SinkOf O) (limit : ℕ) whe
       → EndsWindows source out limit ended s s' o p
   windows_end {place} {restored} {before} {now} {s} {t} {s'} {o} {p} so stop ends limit_is ended stops symbols frames restored_is left =
       let outcomes_at_end : outcomes_of_bytes Symbols ends.all ≡ outcomes_given so.bytes so.given = outcomes_all ends.all so.given ends.every ∙ ends.same in
-      let same : frames_of MARKER_TAIL (symbols_of ends.all) ≡ so.given =
-      frames_once MARKER_TAIL (symbols_of ends.all) _ so.given refl (frames_of-are MARKER_TAIL (symbols_of ends.all)) ends.every in
+      let same : frames_of (tail_of STANDARD) (symbols_of ends.all) ≡ so.given =
+      frames_once (tail_of STANDARD) (symbols_of ends.all) _ so.given (tail_size STANDARD) (frames_of-are (tail_of STANDARD) (symbols_of ends.all)) ends.every in
       let lines : decode_text Symbols ends.all ≡ lines_of_windows (symbols_of so.bytes) so.given =
-      ap (λ (l : List Bool). lines_of_windows (symbols_of ends.all) (frames_of l (symbols_of ends.all))) (sym tail_is)
-      ∙ ap (lines_of_windows (symbols_of ends.all)) same ∙ lines_stay so.bytes ends.all so.given ends.same in
+      ap (lines_of_windows (symbols_of ends.all)) same ∙ lines_stay so.bytes ends.all so.given ends.same in
       record {
         bytes = ends.all;
         read = record { moved = ends.so_far.moved; few = omega (arith, ends.so_far.few, ends.so_far.long, limit_is) };

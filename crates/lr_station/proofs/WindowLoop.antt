@@ -9,15 +9,17 @@ use Rattle.lr_bits.specs.File.{File}
 use Rattle.lr_io.specs.declared.source.Source.{Ghosts as SourceOf}
 use Rattle.lr_io.specs.declared.sink.Sink.{Ghosts as SinkOf}
 use Rattle.lr_disk.specs.declared.disk.Disk.{Ghosts as DiskOf}
-use Rattle.lr_conv.specs.declared.marker.TheConstants.{MARKER_TAIL}
+use Rattle.lr_conv.specs.declared.line.TheConstants.{STANDARD}
+use Rattle.lr_conv.specs.Marker.{tail_of}
+use Rattle.lr_conv.specs.declared.line.LineCode.{LineCode}
 use Rattle.lr_lock.specs.declared.frame.Frame.{Frame}
 use Rattle.lr_lock.specs.Frames.{AreNext}
 use Rattle.lr_lock.specs.FramesOf.{frames_of}
 use Rattle.lr_lock.specs.Symbols.{symbols_of}
-use Rattle.lr_lock.specs.Windows.{Shown, window_of}
+use Rattle.lr_lock.specs.Windows.{WindowView, window_of}
 use Rattle.lr_frame.specs.Outcomes.{outcome_in, outcome_of_window, outcomes_of_symbols}
-use Rattle.lr_frame.proofs.Given.{first_outcomes, all_outcomes}
-use Rattle.lr_frame.proofs.Whole.{whole_of_window, outcomes_by_tail}
+use Rattle.lr_frame.proofs.Given.{all_outcomes, first_outcomes, outcomes_are}
+use Rattle.lr_frame.proofs.Whole.{whole_of_window}
 use Rattle.lr_vc.specs.Frame.{Fields}
 use Rattle.lr_vc.specs.Runs.{AreFrames}
 use Rattle.lr_layers.specs.Layers.{Numbers, frames_of_outcomes, numbers_of, files_of_outcomes}
@@ -44,46 +46,46 @@ use Rattle.lr_station.proofs.WholeFrames.{with_outcome}
 
 -- restored frames are whole
 
-whole_at : (window : List ℤ) (outcome : Outcome) → outcome ≡ outcome_of_window window → HasWholeFrame outcome
+whole_at : (window : List ℤ) (outcome : Outcome) → outcome ≡ outcome_of_window STANDARD window → HasWholeFrame outcome
 whole_at window (Lost word) is = tt
-whole_at window (Restored corrected frame) is = whole_of_window window frame corrected is
+whole_at window (Restored corrected frame) is = whole_of_window STANDARD window frame corrected is
 
-with_frames : (symbols : List ℤ) (frames : List Frame) (outcomes : List Outcome) → AreFrames (frames_of_outcomes outcomes) → AreFrames (frames_of_outcomes (outcomes ++ map (outcome_in symbols) frames))
+with_frames : (symbols : List ℤ) (frames : List Frame) (outcomes : List Outcome) → AreFrames (frames_of_outcomes outcomes) → AreFrames (frames_of_outcomes (outcomes ++ map (outcome_in STANDARD symbols) frames))
 with_frames symbols [] outcomes all = subst (λ (l : List Outcome). AreFrames (frames_of_outcomes l)) (sym (append-nil outcomes)) all
 with_frames symbols (frame ∷ frames) outcomes all =
-    subst (λ (l : List Outcome). AreFrames (frames_of_outcomes l)) (append_assoc outcomes (outcome_in symbols frame ∷ []) (map (outcome_in symbols) frames))
-    (with_frames symbols frames (outcomes ++ outcome_in symbols frame ∷ [])
-    (with_outcome outcomes (outcome_in symbols frame) all (whole_at (window_of symbols frame.place frame.positive) (outcome_in symbols frame) refl)))
+    subst (λ (l : List Outcome). AreFrames (frames_of_outcomes l)) (append_assoc outcomes (outcome_in STANDARD symbols frame ∷ []) (map (outcome_in STANDARD symbols) frames))
+    (with_frames symbols frames (outcomes ++ outcome_in STANDARD symbols frame ∷ [])
+    (with_outcome outcomes (outcome_in STANDARD symbols frame) all (whole_at (window_of symbols frame.place frame.positive) (outcome_in STANDARD symbols frame) refl)))
 
 no_frames : AreFrames (frames_of_outcomes [])
 unfolding frames_of_outcomes
 no_frames = All-nil (λ (f : Fields). length f.zone ≡ 884)
 
-pub all_whole : (symbols : List ℤ) → AreFrames (frames_of_outcomes (outcomes_of_symbols symbols))
+pub all_whole : (symbols : List ℤ) → AreFrames (frames_of_outcomes (outcomes_of_symbols STANDARD symbols))
 all_whole symbols =
-    subst (λ (l : List Outcome). AreFrames (frames_of_outcomes l)) (sym (outcomes_by_tail symbols)) (with_frames symbols (frames_of MARKER_TAIL symbols) [] no_frames)
+    subst (λ (l : List Outcome). AreFrames (frames_of_outcomes l)) (sym (outcomes_are STANDARD symbols)) (with_frames symbols (frames_of (tail_of STANDARD) symbols) [] no_frames)
 
 -- the files of frames that were given are the first ones of the bytes
-pub files_first : (bytes : List ℕ) (given : List Frame) → AreNext MARKER_TAIL (symbols_of bytes) None given
+pub files_first : (bytes : List ℕ) (given : List Frame) → AreNext (tail_of STANDARD) (symbols_of bytes) None given
     → (rest : List File) × (files_of_bytes Symbols bytes ≡ files_of_outcomes (outcomes_given bytes given) ++ rest)
 unfolding files_of_bytes outcomes_of_bytes outcomes_given
 files_first bytes given next =
     let symbols : List ℤ = symbols_of bytes in
-    let first : (rest : List Outcome) × (outcomes_of_symbols symbols ≡ map (outcome_in symbols) given ++ rest) = first_outcomes symbols given next in
-    let law = go_on (map (outcome_in symbols) given) first.0 (subst (λ (l : List Outcome). AreFrames (frames_of_outcomes l)) first.1 (all_whole symbols)) in
+    let first : (rest : List Outcome) × (outcomes_of_symbols STANDARD symbols ≡ map (outcome_in STANDARD symbols) given ++ rest) = first_outcomes STANDARD symbols given next in
+    let law = go_on (map (outcome_in STANDARD symbols) given) first.0 (subst (λ (l : List Outcome). AreFrames (frames_of_outcomes l)) first.1 (all_whole symbols)) in
     (law.more_files, ap files_of_outcomes first.1 ∙ law.files)
 
-pub outcomes_all : (bytes : List ℕ) (given : List Frame) → Rattle.lr_lock.specs.Frames.AreFrames MARKER_TAIL (symbols_of bytes) given → outcomes_of_bytes Symbols bytes ≡ outcomes_given bytes given
+pub outcomes_all : (bytes : List ℕ) (given : List Frame) → Rattle.lr_lock.specs.Frames.AreFrames (tail_of STANDARD) (symbols_of bytes) given → outcomes_of_bytes Symbols bytes ≡ outcomes_given bytes given
 unfolding outcomes_of_bytes outcomes_given
-outcomes_all bytes given every = all_outcomes (symbols_of bytes) given every
+outcomes_all bytes given every = all_outcomes STANDARD (symbols_of bytes) given every
 
 pub files_all : (bytes : List ℕ) (outcomes : List Outcome) → outcomes_of_bytes Symbols bytes ≡ outcomes → files_of_bytes Symbols bytes ≡ files_of_outcomes outcomes
 unfolding files_of_bytes
 files_all bytes outcomes is = ap files_of_outcomes is
 
-pub outcomes_given-push : (bytes : List ℕ) (given : List Frame) (frame : Frame) → outcomes_given bytes (given ++ frame ∷ []) ≡ outcomes_given bytes given ++ outcome_in (symbols_of bytes) frame ∷ []
+pub outcomes_given-push : (bytes : List ℕ) (given : List Frame) (frame : Frame) → outcomes_given bytes (given ++ frame ∷ []) ≡ outcomes_given bytes given ++ outcome_in STANDARD (symbols_of bytes) frame ∷ []
 unfolding outcomes_given
-outcomes_given-push bytes given frame = map-append (outcome_in (symbols_of bytes)) given (frame ∷ [])
+outcomes_given-push bytes given frame = map-append (outcome_in STANDARD (symbols_of bytes)) given (frame ∷ [])
 
 pub outcomes_given-none : (bytes : List ℕ) → outcomes_given bytes [] ≡ []
 unfolding outcomes_given
@@ -91,7 +93,7 @@ outcomes_given-none bytes = refl
 
 pub outcomes_given-counted : (bytes : List ℕ) (given : List Frame) → length (outcomes_given bytes given) ≡ length given
 unfolding outcomes_given
-outcomes_given-counted bytes given = length-map given (outcome_in (symbols_of bytes))
+outcomes_given-counted bytes given = length-map given (outcome_in STANDARD (symbols_of bytes))
 
 -- why no more was taken is a cause
 pub caused_end : {S : Type 0} (source : SourceOf S) (stop : Stop) (limit : ℕ) (bytes : List ℕ) (s s' : S) → EndsFor source stop limit bytes s s'
@@ -104,7 +106,7 @@ caused_end source Fault limit bytes s s' why = why
 pub decoding_begun : {S : Type 0} (source : SourceOf S) (limit : ℕ) (now : Decoding) → IsFresh limit now → (s : S) → DecodesSoFar source [] [] now s s
 decoding_begun source limit now fresh s = record {
   stands = fresh.stands;
-  tail = fresh.tail;
+  line = fresh.line;
   long = fresh.taken;
   few = omega (arith, fresh.taken);
   passed = omega (arith, fresh.taken, ap length fresh.stands.rest, ap length (drop-nil {A = ℤ} now.lock.place));
@@ -159,17 +161,17 @@ module _ {S D O : Type 0} (source : SourceOf S) (disk : DiskOf D) (out : SinkOf 
     window_outcome_fits few =
         omega (arith, few, fits, both_kinds (outcomes_given so.bytes so.given), outcomes_given-counted so.bytes so.given, ap (λ (m : Numbers). m.restored + m.lost) so.stands.numbers)
 
-    module _ (outcome : Outcome) (is : outcome ≡ outcome_of_window now.window.symbols) where
+    module _ (outcome : Outcome) (is : outcome ≡ outcome_of_window STANDARD now.window.symbols) where
       outcomes_now : outcomes_given gives.all (so.given ++ gives.frame ∷ []) ≡ outcomes_given so.bytes so.given ++ outcome ∷ []
       outcomes_now =
           outcomes_given-push gives.all so.given gives.frame
-          ∙ ap (λ (l : List Outcome). l ++ outcome_in (symbols_of gives.all) gives.frame ∷ []) gives.same
-          ∙ ap (λ (x : Outcome). outcomes_given so.bytes so.given ++ x ∷ []) (sym (is ∙ ap (λ (w : Shown). outcome_of_window w.symbols) gives.window_is))
+          ∙ ap (λ (l : List Outcome). l ++ outcome_in STANDARD (symbols_of gives.all) gives.frame ∷ []) gives.same
+          ∙ ap (λ (x : Outcome). outcomes_given so.bytes so.given ++ x ∷ []) (sym (is ∙ ap (λ (w : WindowView). outcome_of_window STANDARD w.symbols) gives.window_is))
 
       first_files : (rest : List File) × (files_of_bytes Symbols gives.all ≡ files_of_outcomes (outcomes_given gives.all (so.given ++ gives.frame ∷ [])) ++ rest)
       first_files =
           files_first gives.all (so.given ++ gives.frame ∷ [])
-          (subst (λ (l : _). AreNext l (symbols_of gives.all) None (so.given ++ gives.frame ∷ [])) gives.so_far.tail gives.so_far.stands.frames)
+          (subst (λ (l : LineCode). AreNext (tail_of l) (symbols_of gives.all) None (so.given ++ gives.frame ∷ [])) gives.so_far.line gives.so_far.stands.frames)
 
       -- the files of a window were not all shelved
       pub windows_stopped : (cause : Cause) (d2 : D) (o2 : O)

@@ -2,13 +2,14 @@
 use Rattle.std.specs.Prelude.{◌≡◌, ◌<◌, ◌≤◌, ◌+◌, ◌-◌, ◌*◌, ℕ, ℤ, true, false, Option, Some, None, List, [], ◌∷◌, ◌++◌, length, map, cond}
 use Rattle.lr_bits.specs.declared.outcome.Outcome.{Outcome}
 use Rattle.lr_bits.specs.Faults.{Rose}
-use Rattle.lr_conv.specs.declared.marker.TheConstants.{MARKER_TAIL}
+use Rattle.lr_conv.specs.declared.line.TheConstants.{STANDARD}
+use Rattle.lr_conv.specs.Marker.{tail_of}
 use Rattle.lr_io.specs.declared.source.Source.{Ghosts as SourceOf}
 use Rattle.lr_lock.specs.declared.frame.Frame.{Frame}
 use Rattle.lr_lock.specs.Frames.{AreFrames}
 use Rattle.lr_lock.specs.Standing.{LockState, StandsFor}
 use Rattle.lr_lock.specs.Symbols.{symbols_of}
-use Rattle.lr_lock.specs.Windows.{Shown, shown}
+use Rattle.lr_lock.specs.Windows.{WindowView, window_view}
 use Rattle.lr_frame.specs.Outcomes.{outcome_in}
 use Rattle.lr_catalog.specs.declared.stop.Stop.{Stop}
 use Rattle.lr_catalog.specs.declared.stop.Stop.TheVariants.{End, Limit, Fault}
@@ -19,7 +20,7 @@ use Rattle.lr_station.specs.Reading.{EndsFor}
 -- the lock, the window that it shows, how many bytes were taken and the most that may be, and why no more are taken
 pub record Decoding : Type 0 where
   pub lock : LockState
-  pub window : Shown
+  pub window : WindowView
   pub taken : ℕ
   pub most : ℕ
   pub stop : Stop
@@ -39,14 +40,14 @@ symbols_left now = now.most - now.taken + length now.lock.kept
 -- nothing was taken
 pub record IsFresh (most : ℕ) (now : Decoding) : Type 0 where
   pub stands : StandsFor now.lock [] []
-  pub tail : now.lock.tail ≡ MARKER_TAIL
+  pub line : now.lock.line ≡ STANDARD
   pub unfinished : now.lock.finished ≡ false
   pub taken : now.taken ≡ 0
   pub most_is : now.most ≡ most
 
 -- the outcomes of frames of these bytes
 unfoldable pub outcomes_given : List ℕ → List Frame → List Outcome
-outcomes_given bytes given = map (outcome_in (symbols_of bytes)) given
+outcomes_given bytes given = map (outcome_in STANDARD (symbols_of bytes)) given
 
 module _ {S : Type 0} (source : SourceOf S) where
   -- a piece of the source was fed
@@ -83,7 +84,7 @@ module _ {S : Type 0} (source : SourceOf S) where
   -- these bytes were taken, and these frames given of them
   pub record DecodesSoFar (bytes : List ℕ) (given : List Frame) (now : Decoding) (s s' : S) : Type 0 where
     pub stands : StandsFor now.lock (symbols_of bytes) given
-    pub tail : now.lock.tail ≡ MARKER_TAIL
+    pub line : now.lock.line ≡ STANDARD
     pub long : now.taken ≡ length bytes
     pub few : now.taken ≤ now.most
     pub passed : 16384 * length given + length now.lock.kept ≤ now.taken
@@ -103,7 +104,7 @@ module _ {S : Type 0} (source : SourceOf S) where
     pub all : List ℕ
     pub frame : Frame
     pub so_far : DecodesSoFar all (given ++ frame ∷ []) now s s'
-    pub window_is : now.window ≡ shown (symbols_of all) frame
+    pub window_is : now.window ≡ window_view STANDARD (symbols_of all) frame
     pub same : outcomes_given all given ≡ outcomes_given bytes given
 
   -- there is none: all frames were given
@@ -112,7 +113,7 @@ module _ {S : Type 0} (source : SourceOf S) where
     pub so_far : DecodesSoFar all given now s s'
     pub closed : now.lock.finished ≡ true
     pub stop_is : now.stop ≡ stop
-    pub every : AreFrames MARKER_TAIL (symbols_of all) given
+    pub every : AreFrames (tail_of STANDARD) (symbols_of all) given
     pub same : outcomes_given all given ≡ outcomes_given bytes given
 
   abbrev pub Decodes : Next → List ℕ → List Frame → Decoding → S → S → Type 0

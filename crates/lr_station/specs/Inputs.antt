@@ -4,6 +4,7 @@ use Rattle.lr_bits.specs.declared.outcome.Outcome.{Outcome}
 use Rattle.lr_bits.specs.declared.outcome.Outcome.TheVariants.{Restored}
 use Rattle.lr_bits.specs.File.{File}
 use Rattle.lr_lock.specs.Symbols.{symbols_of}
+use Rattle.lr_conv.specs.declared.line.TheConstants.{STANDARD}
 use Rattle.lr_frame.specs.Outcomes.{outcomes_of_symbols}
 use Rattle.lr_block.specs.Outcomes.{outcome_of_block}
 use Rattle.lr_layers.specs.Layers.{files_of_outcomes}
@@ -33,7 +34,7 @@ outcomes_of_units form units = map (outcome_of_unit form) units
 
 -- The outcomes of the bytes read: those of the windows of all frames of the symbols, or those of each whole block or frame.
 unfoldable pub outcomes_of_bytes : Input → List ℕ → List Outcome
-outcomes_of_bytes Symbols bytes = outcomes_of_symbols (symbols_of bytes)
+outcomes_of_bytes Symbols bytes = outcomes_of_symbols STANDARD (symbols_of bytes)
 outcomes_of_bytes (Units form) bytes = outcomes_of_units form (units_of (unit_bytes form) bytes)
 
 -- the files of the bytes read: the mission files of these outcomes

@@ -5,6 +5,7 @@ ghost use Rattle.lr_bits.specs.Faults.{HasCause};
 use crate::units::Next;
 use lr_bits::{Failed, NoMemory, Outcome};
 use lr_catalog::Stop;
+use lr_conv::STANDARD;
 use lr_frame::FrameWork;
 use lr_io::Source;
 use lr_lock::{Lock, Step, Window};
@@ -59,13 +60,14 @@ pub(crate) struct Decoder {
 
 impl Model for Decoder {
     ghost use Rattle.std.specs.Prelude.{◌≡◌, ◌≤◌, ◌+◌, ◌^◌, length};
+    ghost use Rattle.lr_conv.specs.declared.line.TheConstants.{STANDARD};
     ghost use Rattle.lr_station.specs.Decoding.{Decoding};
 
     ghost Value = { Decoding };
 
     ghost view = { λ d. record { lock = d.lock; window = d.window; taken = d.taken; most = d.most; stop = d.stop } };
 
-    ghost invariant = { λ d. (length d.buffer.items ≡ 65536) × (d.taken ≤ d.most) × (d.most ≤ 2 ^ 61) × (d.lock.place + length d.lock.kept ≤ d.taken) };
+    ghost invariant = { λ d. (length d.buffer.items ≡ 65536) × (d.taken ≤ d.most) × (d.most ≤ 2 ^ 61) × (d.lock.place + length d.lock.kept ≤ d.taken) × (d.lock.line ≡ STANDARD) × (d.window.line ≡ STANDARD) };
 }
 
 impl Decoder {
@@ -81,8 +83,8 @@ impl Decoder {
         requires { most ≤ 2 ^ 61 }
         ensures { IfOk result (IsFresh most) }
     {
-        let lock = Lock::new(alloc)?;
-        let window = Window::new(alloc)?;
+        let lock = Lock::new(alloc, STANDARD)?;
+        let window = Window::new(alloc, STANDARD)?;
         let work = FrameWork::new(alloc)?;
         let buffer = vec![in alloc; 0; ROOM]?;
         Ok(Decoder {
@@ -118,7 +120,7 @@ impl Decoder {
 
     /// What becomes of the frame of the window.
     pub(crate) fn outcome(&mut self) -> Outcome
-        ensures value { result ≡ outcome_of_window self.old.window.symbols }
+        ensures value { result ≡ outcome_of_window STANDARD self.old.window.symbols }
         ensures whole { HasWholeFrame result }
         ensures stays { self.new ≡ self.old }
     {

@@ -1,13 +1,20 @@
--- From paths through the trellis to the code of a list of bits, which reads by index.
-use Rattle.std.proofs.Common.{zero-add, add-one, ap, subst, sym, refl, ◌∙◌, ◌≡◌, ℕ, ℤ, pos, ◌+◌, ◌*◌, ◌/◌, ◌%◌, ◌^◌, ◌<◌, ◌≤◌, zero, suc, Bool, true, false, cond, List, [], ◌∷◌, ◌++◌, length, reverse, drop, get_or, arith, append_assoc, eqb, length-append}
+-- From paths through the trellis to the code of a list of levels, which reads by index, and to a list of bits.
+use Rattle.std.proofs.Common.{zero-add, add-one, ap, subst, sym, refl, ◌∙◌, ◌≡◌, ℕ, ℤ, pos, ◌+◌, ◌*◌, ◌/◌, ◌%◌, ◌^◌}
+use Rattle.std.proofs.Common.{◌<◌, ◌≤◌, zero, suc, Bool, true, false, cond, List, [], ◌∷◌, ◌++◌, length, reverse, drop}
+use Rattle.std.proofs.Common.{get_or, arith, append_assoc, eqb, ltb, length-append}
+use Rattle.std.specs.Prelude.{not}
 use Rattle.std.proofs.lemmas.List.{reverse-append, length-reverse, reverse-reverse, drop_at}
-use Rattle.std.proofs.lemmas.Bool.{eqb-true}
+use Rattle.std.proofs.lemmas.Bool.{eqb-false, eqb-true, ltb-true, ltb-false}
 use Rattle.lr_conv.specs.Convolution.{bit, first_symbol, second_symbol, symbols}
-use Rattle.lr_conv.specs.Marker.{marker_start, marker_end}
 use Rattle.lr_conv.specs.Encoder.{past_of}
+use Rattle.lr_conv.specs.Levels.{last_level, levels, marks_of}
+use Rattle.lr_conv.specs.Marker.{last_marker_level, marker, marker_start, marker_end}
+use Rattle.lr_conv.specs.declared.line.LineCode.{LineCode}
+use Rattle.lr_conv.proofs.Lines.{levels-append, length-levels}
 use Rattle.lr_conv.proofs.SevenBits.{bit_below, bit_same, test_bit, symbols-more, first_is, second_is}
-use Rattle.lr_trellis.specs.Path.{symbol_cost, cost, path_cost, NotAfter, IsNearestPath}
-use Rattle.lr_trellis.specs.Trellis.{branch_of, start_of, kept, odd, older_bit, read_back, state_before}
+use Rattle.lr_trellis.specs.Path.{symbol_cost, cost, path_cost, path_levels, NotAfter, IsNearestPath}
+use Rattle.lr_trellis.specs.Trellis.{least_cost, branch_of, end_before, end_seven, start_of, start_state, kept_path}
+use Rattle.lr_trellis.specs.Trellis.{is_odd, older_bit, read_back, state_before}
 use Rattle.lr_trellis.proofs.Best.{number, steps_cost, IsBest, kept_is_best}
 use Rattle.lr_trellis.proofs.Words.{state_before_low}
 
@@ -15,7 +22,8 @@ reverse-cons : (b : Bool) (d : List Bool) → reverse (b ∷ d) ≡ reverse d ++
 reverse-cons b d = reverse-append (b ∷ []) d
 
 -- ---- the state of a path has the last six bits of its list
-six_of : (a b c d e f : Bool) (g : List Bool) → past_of (number (a ∷ b ∷ c ∷ d ∷ e ∷ f ∷ g) % 64) ≡ f ∷ e ∷ d ∷ c ∷ b ∷ a ∷ []
+six_of : (a b c d e f : Bool) (g : List Bool) →
+    past_of (number (a ∷ b ∷ c ∷ d ∷ e ∷ f ∷ g) % 64) ≡ f ∷ e ∷ d ∷ c ∷ b ∷ a ∷ []
 six_of a b c d e f g =
     let la = bit_below a in
     let lb = bit_below b in
@@ -45,11 +53,19 @@ last_six (a ∷ b ∷ c ∷ d ∷ e ∷ f ∷ g) n size =
     six_of a b c d e f g ∙ sym (drop_at (reverse g) (reverse s) n long) ∙ ap (drop n) (sym (reverse-append s g))
 
 -- ---- costs
-length-symbols : (t : List Bool) (n : ℕ) → length (symbols t n) ≡ 2 * n
-length-symbols t zero = refl
-length-symbols t (suc n) = omega (arith, length-symbols t n, length-append (symbols t n) (first_symbol t n ∷ second_symbol t n ∷ []))
+length-symbols : (line : LineCode) (t : List Bool) (n : ℕ) → length (symbols line t n) ≡ 2 * n
+length-symbols line t zero = refl
+length-symbols line t (suc n) =
+    omega (
+      arith,
+      length-symbols line t n,
+      length-append (symbols line t n)
+          (first_symbol t n ∷ second_symbol line t n ∷ []),
+    )
 
-cost_two : (bs : List Bool) (p q : Bool) (w : List ℤ) → length bs + 1 < length w → cost (bs ++ p ∷ q ∷ []) w ≡ cost bs w + (symbol_cost p (get_or w (length bs) (pos 0)) + symbol_cost q (get_or w (suc (length bs)) (pos 0)))
+cost_two : (bs : List Bool) (p q : Bool) (w : List ℤ) → length bs + 1 < length w →
+    cost (bs ++ p ∷ q ∷ []) w ≡ cost bs w + (symbol_cost p (get_or w (length bs) (pos 0))
+    + symbol_cost q (get_or w (suc (length bs)) (pos 0)))
 cost_two [] p q [] l = absurd (omega arith)
 cost_two [] p q (v ∷ []) l = absurd (omega arith)
 cost_two [] p q (v ∷ u ∷ w) l = omega arith
@@ -59,34 +75,45 @@ cost_two (b ∷ bs) p q (v ∷ w) l = omega (arith, cost_two bs p q w (omega ari
 seven : Bool → List Bool → ℕ
 seven b h = 2 * (number h % 64) + bit b
 
-branch_is : (w : List ℤ) (b : Bool) (h : List Bool) (n : ℕ) → length h ≡ n + 6 → branch_of w n (seven b h) ≡ symbol_cost (first_symbol (reverse (b ∷ h)) n) (get_or w (2 * n) (pos 0)) + symbol_cost (second_symbol (reverse (b ∷ h)) n) (get_or w (suc (2 * n)) (pos 0))
+branch_is : (line : LineCode) (w : List ℤ) (b : Bool) (h : List Bool) (n : ℕ) → length h ≡ n + 6 →
+    branch_of line w n (seven b h) ≡ symbol_cost (first_symbol (reverse (b ∷ h)) n) (get_or w (2 * n) (pos 0))
+    + symbol_cost (second_symbol line (reverse (b ∷ h)) n) (get_or w (suc (2 * n)) (pos 0))
 unfolding branch_of seven
-branch_is w b h n size =
+branch_is line w b h n size =
     let long : length (reverse h) ≡ n + 6 = length-reverse h ∙ size in
     let last = last_six h n size in
     let first = ap (λ t. first_symbol t n) (reverse-cons b h) ∙ first_is b (reverse h) (number h % 64) n long last in
-    let second = ap (λ t. second_symbol t n) (reverse-cons b h) ∙ second_is b (reverse h) (number h % 64) n long last in
+    let second =
+    ap (λ t. second_symbol line t n) (reverse-cons b h)
+    ∙ second_is b (reverse h) (number h % 64) n long last line in
     rw (first, second, add-one) refl
 
-cost_step : (w : List ℤ) (b : Bool) (h : List Bool) (n : ℕ) → length h ≡ n + 6 → 2 * n + 1 < length w → cost (symbols (reverse (b ∷ h)) (suc n)) w ≡ cost (symbols (reverse h) n) w + branch_of w n (seven b h)
-cost_step w b h n size room =
-    let s = symbols (reverse (b ∷ h)) n in
-    let long : length s ≡ 2 * n = length-symbols (reverse (b ∷ h)) n in
-    let two = cost_two s (first_symbol (reverse (b ∷ h)) n) (second_symbol (reverse (b ∷ h)) n) w (omega arith) in
-    let less : symbols (reverse (b ∷ h)) n ≡ symbols (reverse h) n = ap (λ t. symbols t n) (reverse-cons b h) ∙ symbols-more b (reverse h) n (omega (arith, length-reverse h)) in
-    let same : cost s w ≡ cost (symbols (reverse h) n) w = ap (λ z. cost z w) less in
+cost_step : (line : LineCode) (w : List ℤ) (b : Bool) (h : List Bool) (n : ℕ) → length h ≡ n + 6 →
+    2 * n + 1 < length w → cost (symbols line (reverse (b ∷ h)) (suc n)) w ≡
+    cost (symbols line (reverse h) n) w + branch_of line w n (seven b h)
+cost_step line w b h n size room =
+    let s = symbols line (reverse (b ∷ h)) n in
+    let long : length s ≡ 2 * n = length-symbols line (reverse (b ∷ h)) n in
+    let two = cost_two s (first_symbol (reverse (b ∷ h)) n) (second_symbol line (reverse (b ∷ h)) n) w (omega arith) in
+    let less : symbols line (reverse (b ∷ h)) n ≡ symbols line (reverse h) n =
+    ap (λ t. symbols line t n) (reverse-cons b h) ∙ symbols-more b (reverse h) line n
+    (omega (arith, length-reverse h)) in
+    let same : cost s w ≡ cost (symbols line (reverse h) n) w = ap (λ z. cost z w) less in
     let two_at = rw long at two in
-    two_at ∙ rw (same, branch_is w b h n size) refl
+    two_at ∙ rw (same, branch_is line w b h n size) refl
 
-module _ (w : List ℤ) (past : List Bool) (six_past : length past ≡ 6) where
+module _ (line : LineCode) (w : List ℤ) (past : List Bool) (six_past : length past ≡ 6) where
   -- the cost of a path is that of its list's code
-  pub steps_cost_is : (h : List Bool) → 2 * length h ≤ length w → steps_cost start_of (branch_of w) (length h) (h ++ past) ≡ start_of (number past % 64) + cost (symbols (reverse (h ++ past)) (length h)) w
+  pub steps_cost_is : (h : List Bool) → 2 * length h ≤ length w →
+      steps_cost (start_of line) (branch_of line w) (length h) (h ++ past) ≡
+      start_of line (number past % 64) + cost (symbols line (reverse (h ++ past)) (length h)) w
   steps_cost_is [] l = omega arith
   steps_cost_is (b ∷ h) l =
       let size : length (h ++ past) ≡ length h + 6 = omega (arith, length-append h past) in
-      let step = cost_step w b (h ++ past) (length h) size (omega arith) in
+      let step = cost_step line w b (h ++ past) (length h) size (omega arith) in
       let before = steps_cost_is h (omega arith) in
-      let same : branch_of w (length h) (seven b (h ++ past)) ≡ branch_of w (length h) (2 * (number (h ++ past) % 64) + bit b) = unfold seven in refl in
+      let same : branch_of line w (length h) (seven b (h ++ past)) ≡
+      branch_of line w (length h) (2 * (number (h ++ past) % 64) + bit b) = unfold seven in refl in
       omega (arith, step, before, same)
 
 -- ---- orders of lists with common ends
@@ -122,135 +149,485 @@ number_six (a ∷ b ∷ []) g size = absurd (omega arith)
 number_six (a ∷ b ∷ c ∷ []) g size = absurd (omega arith)
 number_six (a ∷ b ∷ c ∷ d ∷ []) g size = absurd (omega arith)
 number_six (a ∷ b ∷ c ∷ d ∷ e ∷ []) g size = absurd (omega arith)
-number_six (a ∷ b ∷ c ∷ d ∷ e ∷ f ∷ []) g size = omega (arith, bit_below a, bit_below b, bit_below c, bit_below d, bit_below e, bit_below f)
+number_six (a ∷ b ∷ c ∷ d ∷ e ∷ f ∷ []) g size =
+    omega (arith, bit_below a, bit_below b, bit_below c, bit_below d, bit_below e, bit_below f)
 number_six (a ∷ b ∷ c ∷ d ∷ e ∷ f ∷ z ∷ h) g size = absurd (omega arith)
 
 -- ---- bounds
-steps_cost_low : (start : ℕ → ℕ) (branch : ℕ → ℕ → ℕ) (h p : List Bool) → start (number p % 64) ≤ steps_cost start branch (length h) (h ++ p)
+steps_cost_low : (start : ℕ → ℕ) (branch : ℕ → ℕ → ℕ) (h p : List Bool) →
+    start (number p % 64) ≤ steps_cost start branch (length h) (h ++ p)
 steps_cost_low start branch [] p = omega arith
 steps_cost_low start branch (b ∷ h) p = omega (arith, steps_cost_low start branch h p)
 
-steps_cost_high : (start : ℕ → ℕ) (branch : ℕ → ℕ → ℕ) (k : ℕ) (most : (i m : ℕ) → i < k → branch i m ≤ 508) (h p : List Bool) → length h ≤ k → steps_cost start branch (length h) (h ++ p) ≤ start (number p % 64) + 508 * length h
+steps_cost_high : (start : ℕ → ℕ) (branch : ℕ → ℕ → ℕ) (k : ℕ) (most : (i m : ℕ) → i < k → branch i m ≤ 508)
+    (h p : List Bool) → length h ≤ k →
+    steps_cost start branch (length h) (h ++ p) ≤ start (number p % 64) + 508 * length h
 steps_cost_high start branch k most [] p l = omega arith
-steps_cost_high start branch k most (b ∷ h) p l = omega (arith, steps_cost_high start branch k most h p (omega arith), most (length h) (2 * (number (h ++ p) % 64) + bit b) (omega arith))
+steps_cost_high start branch k most (b ∷ h) p l =
+    omega (
+      arith,
+      steps_cost_high start branch k most h p (omega arith),
+      most (length h) (2 * (number (h ++ p) % 64) + bit b) (omega arith),
+    )
 
--- ---- the path of a window
-abbrev front : List Bool
-front = reverse marker_start
+-- ---- the levels after a frame's bits
+-- the levels of the next marker's first six bits, after the level l, the newest first
+abbrev front : LineCode → Bool → List Bool
+front line l = reverse (levels line l marker_start)
 
-abbrev back_end : List Bool
-back_end = reverse marker_end
+abbrev newest : LineCode → Bool → Bool
+newest line l = cond line.marks l false
 
--- the path of the list y
-abbrev whole : List Bool → List Bool
-whole y = (front ++ reverse y) ++ back_end
+-- the five before it, the newest first
+abbrev five_of : Bool → Bool → List Bool
+five_of m l = cond m (l ∷ not l ∷ l ∷ l ∷ l ∷ []) (true ∷ true ∷ false ∷ false ∷ false ∷ [])
 
-string_of_whole : (y : List Bool) → reverse (whole y) ≡ marker_end ++ (y ++ marker_start)
-string_of_whole y =
-    let e = reverse-append (front ++ reverse y) back_end in
-    let f = reverse-append front (reverse y) in
-    let g = reverse-reverse y in
-    e ∙ ap (λ z. marker_end ++ z) (f ∙ ap (λ z. z ++ marker_start) g)
+abbrev five : LineCode → Bool → List Bool
+five line l = five_of line.marks l
 
-length_front_y : (y : List Bool) → length (front ++ reverse y) ≡ length (y ++ marker_start)
-length_front_y y = omega (arith, length-append front (reverse y), length-append y marker_start, length-reverse y)
+front_by : (m l : Bool) → reverse (cond m (marks_of l marker_start) marker_start) ≡ cond m l false ∷ five_of m l
+front_by false l = refl
+front_by true false = refl
+front_by true true = refl
 
-string_cost : (w : List ℤ) (y : List Bool) → 2 * length (y ++ marker_start) ≤ length w → steps_cost start_of (branch_of w) (length (y ++ marker_start)) (whole y) ≡ path_cost w y
-string_cost w y room =
-    let size = length_front_y y in
-    let e = steps_cost_is w back_end refl (front ++ reverse y) (omega arith) in
+front_is : (line : LineCode) (l : Bool) → front line l ≡ newest line l ∷ five line l
+front_is line l = front_by line.marks l
+
+length_five_by : (m l : Bool) → length (five_of m l) ≡ 5
+length_five_by false l = refl
+length_five_by true l = refl
+
+-- the state in front of the last step, and the seven levels after it
+state_by : (m l : Bool) (g : List Bool) → number (five_of m l ++ (l ∷ g)) % 64 ≡ cond m (cond l 61 2) (cond l 35 3)
+state_by false false g = omega arith
+state_by false true g = omega arith
+state_by true false g = omega arith
+state_by true true g = omega arith
+
+end_state_is : (line : LineCode) (l : Bool) (g : List Bool) → number (five line l ++ (l ∷ g)) % 64 ≡ end_before line l
+end_state_is line l g = state_by line.marks l g
+
+seven_by : (m l : Bool) →
+    2 * cond m (cond l 61 2) (cond l 35 3) + bit (cond m l false) ≡ cond m (cond l 123 4) (cond l 70 6)
+seven_by false false = refl
+seven_by false true = refl
+seven_by true false = refl
+seven_by true true = refl
+
+end_seven_is : (line : LineCode) (l : Bool) → 2 * end_before line l + bit (newest line l) ≡ end_seven line l
+end_seven_is line l = seven_by line.marks l
+
+before_low_by : (m l : Bool) → cond m (cond l 61 2) (cond l 35 3) < 64
+before_low_by false false = omega arith
+before_low_by false true = omega arith
+before_low_by true false = omega arith
+before_low_by true true = omega arith
+
+pub end_before_low : (line : LineCode) (l : Bool) → end_before line l < 64
+end_before_low line l = before_low_by line.marks l
+
+-- ---- the last level
+reverse_last : (level : Bool) (y : List Bool) → 0 < length y → (g : List Bool) × (reverse y ≡ last_level level y ∷ g)
+reverse_last level [] some = absurd (omega arith)
+reverse_last level (a ∷ []) some = ([], refl)
+reverse_last level (a ∷ b ∷ y) some =
+    let rest = reverse_last a (b ∷ y) (omega arith) in
+    (rest.0 ++ a ∷ [], reverse-cons a (b ∷ y) ∙ ap (λ z. z ++ a ∷ []) rest.1)
+
+without_last : (a b : List Bool) (h l : Bool) → length a ≡ length b → a ++ h ∷ [] ≡ b ++ l ∷ [] → (a ≡ b) × (h ≡ l)
+without_last [] [] h l size e = (refl, cc)
+without_last [] (c ∷ b) h l size e = absurd (omega arith)
+without_last (d ∷ a) [] h l size e = absurd (omega arith)
+without_last (d ∷ a) (c ∷ b) h l size e =
+    let heads : d ≡ c = cc in
+    let tails : a ++ h ∷ [] ≡ b ++ l ∷ [] = cc in
+    let rest = without_last a b h l (omega arith) tails in
+    (let t = rest.0 in cc, rest.1)
+
+-- ---- the path of a list of bits
+abbrev back_end : LineCode → List Bool
+back_end line = reverse (marker_end line)
+
+-- the level of the last of the bits
+abbrev last_of : LineCode → List Bool → Bool
+last_of line y = last_level (last_marker_level line) (path_levels line y)
+
+-- the path in front of its last step, and the whole path
+abbrev cut : LineCode → List Bool → List Bool
+cut line y = (five line (last_of line y) ++ reverse (path_levels line y)) ++ back_end line
+
+abbrev whole : LineCode → List Bool → List Bool
+whole line y = (front line (last_of line y) ++ reverse (path_levels line y)) ++ back_end line
+
+six_back_by : (m : Bool) → length (reverse (drop 26 (cond m (marks_of false marker) marker))) ≡ 6
+six_back_by false = refl
+six_back_by true = refl
+
+six_back : (line : LineCode) → length (back_end line) ≡ 6
+six_back line = six_back_by line.marks
+
+start_by : (m : Bool) → number (reverse (drop 26 (cond m (marks_of false marker) marker))) % 64 ≡ cond m 41 29
+start_by false = refl
+start_by true = refl
+
+start_is : (line : LineCode) → number (back_end line) % 64 ≡ start_state line
+start_is line = start_by line.marks
+
+whole_is : (line : LineCode) (y : List Bool) → whole line y ≡ newest line (last_of line y) ∷ cut line y
+whole_is line y = ap (λ z. (z ++ reverse (path_levels line y)) ++ back_end line) (front_is line (last_of line y))
+
+string_of_whole : (line : LineCode) (y : List Bool) →
+    reverse (whole line y) ≡ marker_end line ++ path_levels line (y ++ marker_start)
+string_of_whole line y =
+    let z = path_levels line y in
+    let behind = levels line (last_of line y) marker_start in
+    let e = reverse-append (front line (last_of line y) ++ reverse z) (back_end line) in
+    let f = reverse-append (front line (last_of line y)) (reverse z) in
+    let g = reverse-reverse z in
+    let h = reverse-reverse behind in
+    let i = reverse-reverse (marker_end line) in
+    let j = levels-append line (last_marker_level line) y marker_start in
+    e ∙ ap (λ t. t ++ reverse (front line (last_of line y) ++ reverse z)) i
+    ∙ ap (λ t. marker_end line ++ t) (f ∙ ap (λ t. t ++ reverse (front line (last_of line y))) g
+    ∙ ap (λ t. z ++ t) h ∙ sym j)
+
+length_front_y : (line : LineCode) (y : List Bool) →
+    length (front line (last_of line y) ++ reverse (path_levels line y)) ≡ length (y ++ marker_start)
+length_front_y line y =
+    omega (
+      arith,
+      length-append (front line (last_of line y)) (reverse (path_levels line y)),
+      length-reverse (levels line (last_of line y) marker_start),
+      length-levels line (last_of line y) marker_start,
+      length-append y marker_start,
+      length-reverse (path_levels line y),
+      length-levels line (last_marker_level line) y,
+    )
+
+same_by : (s : ℕ) (b : Bool) → eqb s s ≡ b → ◌≡◌ {A = ℕ} (cond b 0 4148329) 0
+same_by s true e = refl
+same_by s false e = absurd (eqb-false s s e refl)
+
+same_start : (s : ℕ) → ◌≡◌ {A = ℕ} (cond (eqb s s) 0 4148329) 0
+same_start s = same_by s (eqb s s) refl
+
+start_cost_by : (s t : ℕ) → s ≡ t → ◌≡◌ {A = ℕ} (cond (eqb s t) 0 4148329) 0
+start_cost_by s t e = subst (λ k. ◌≡◌ {A = ℕ} (cond (eqb s k) 0 4148329) 0) e (same_start s)
+
+string_cost : (line : LineCode) (w : List ℤ) (y : List Bool) → 2 * length (y ++ marker_start) ≤ length w →
+    steps_cost (start_of line) (branch_of line w) (length (y ++ marker_start)) (whole line y) ≡ path_cost line w y
+string_cost line w y room =
+    let size = length_front_y line y in
+    let h = front line (last_of line y) ++ reverse (path_levels line y) in
+    let e = steps_cost_is line w (back_end line) (six_back line) h (omega arith) in
     let k = length (y ++ marker_start) in
-    let at_size : steps_cost start_of (branch_of w) k (whole y) ≡ start_of (number back_end % 64) + cost (symbols (reverse (whole y)) k) w = subst (λ n. steps_cost start_of (branch_of w) n (whole y) ≡ start_of (number back_end % 64) + cost (symbols (reverse (whole y)) n) w) size e in
-    let at_string : steps_cost start_of (branch_of w) k (whole y) ≡ start_of (number back_end % 64) + cost (symbols (marker_end ++ (y ++ marker_start)) k) w = subst (λ t. steps_cost start_of (branch_of w) k (whole y) ≡ start_of (number back_end % 64) + cost (symbols t k) w) (string_of_whole y) at_size in
-    at_string ∙ zero-add _
+    let at_size : steps_cost (start_of line) (branch_of line w) k (whole line y) ≡
+    start_of line (number (back_end line) % 64) + cost (symbols line (reverse (whole line y)) k) w =
+    subst (λ n. steps_cost (start_of line) (branch_of line w) n (whole line y) ≡
+    start_of line (number (back_end line) % 64) + cost (symbols line (reverse (whole line y)) n) w) size e in
+    let at_string : steps_cost (start_of line) (branch_of line w) k (whole line y) ≡
+    start_of line (number (back_end line) % 64) + cost
+    (symbols line (marker_end line ++ path_levels line (y ++ marker_start)) k) w =
+    subst (λ t. steps_cost (start_of line) (branch_of line w) k (whole line y) ≡
+    start_of line (number (back_end line) % 64) + cost (symbols line t k) w) (string_of_whole line y) at_size in
+    let none : start_of line (number (back_end line) % 64) ≡ 0 = start_cost_by _ _ (start_is line) in
+    let length_is : k ≡ length (path_levels line (y ++ marker_start)) =
+    sym (length-levels line (last_marker_level line) (y ++ marker_start)) in
+    at_string ∙ ap (λ n. n + cost (symbols line (marker_end line ++ path_levels line (y ++ marker_start)) k) w) none
+    ∙ zero-add _ ∙ ap (λ n. cost (symbols line (marker_end line
+    ++ path_levels line (y ++ marker_start)) n) w) length_is
 
-near_cases : (s : ℕ) (t : Bool) → eqb s 29 ≡ t → cond t 0 4148329 ≤ 4148328 → s ≡ 29
-near_cases s true e l = eqb-true s 29 e
-near_cases s false e l = absurd (omega arith)
+near_cases : (s t : ℕ) (b : Bool) → eqb s t ≡ b → cond b 0 4148329 ≤ 4148328 → s ≡ t
+near_cases s t true e l = eqb-true s t e
+near_cases s t false e l = absurd (omega arith)
+
+past_by : (m : Bool) (start : ℕ → ℕ) (branch : ℕ → ℕ → ℕ) →
+    kept_path start branch 0 (cond m 41 29) ≡ reverse (drop 26 (cond m (marks_of false marker) marker))
+past_by false start branch = refl
+past_by true start branch = refl
+
+odd_by : (m : Bool) → is_odd (cond m 41 29) ≡ last_level false (drop 26 (cond m (marks_of false marker) marker))
+odd_by false = refl
+odd_by true = refl
+
+-- the cost of the best path to the end whose last bit has the level l
+abbrev pub end_least : LineCode → List ℤ → ℕ → Bool → ℕ
+end_least line w n l =
+    least_cost (start_of line) (branch_of line w) (n + 5) (end_before line l)
+    + branch_of line w (n + 5) (end_seven line l)
+
+-- ---- a list of no bits is the only one of its length
+none_least : (line : LineCode) (w : List ℤ) (y : List Bool) → length y ≡ 0 → path_cost line w [] ≤ path_cost line w y
+none_least line w [] e = omega arith
+none_least line w (b ∷ y) e = absurd (omega arith)
+
+none_first_by : (m z : Bool) (y : List Bool) → NotAfter (reverse (cond m (marks_of z []) [])) y
+none_first_by false z y = tt
+none_first_by true z y = tt
+
+none_first : (line : LineCode) (y : List Bool) → length y ≡ 0 →
+    NotAfter (reverse (path_levels line [])) (reverse (path_levels line y))
+none_first line y e = none_first_by line.marks (last_marker_level line) _
+
+no_bits : (line : LineCode) (w : List ℤ) (x : List Bool) → length x ≡ 0 → length w ≡ 12 → IsNearestPath line w x
+no_bits line w [] none size =
+    record { size = omega arith; least = λ y e. none_least line w y e; first = λ y e same. none_first line y e }
+no_bits line w (b ∷ x) none size = absurd (omega arith)
+
+not_dearer : (e : Bool → ℕ) (l : Bool) → l ≡ ltb (e true) (e false) → (k : Bool) → e l ≤ e k
+not_dearer e true chosen true = omega arith
+not_dearer e true chosen false = omega (arith, ltb-true (e true) (e false) (sym chosen))
+not_dearer e false chosen true = ltb-false (e true) (e false) (sym chosen)
+not_dearer e false chosen false = omega arith
+
+-- which of two paths is first, by their last levels
+first_by : (e : Bool → ℕ) (l k : Bool) (h g : List Bool) (price : ℕ) → l ≡ ltb (e true) (e false) → e l ≡ price →
+    e k ≤ price → (l ≡ k → NotAfter (l ∷ h) (k ∷ g)) → NotAfter (l ∷ h) (k ∷ g)
+first_by e true true h g price chosen mine other same = same refl
+first_by e false false h g price chosen mine other same = same refl
+first_by e false true h g price chosen mine other same = tt
+first_by e true false h g price chosen mine other same =
+    absurd (omega (arith, ltb-true (e true) (e false) (sym chosen)))
 
 module _
+    (line : LineCode)
     (w : List ℤ)
     (n : ℕ)
     (x tail : List Bool)
     (s1 s0 : ℕ)
-    (most : (i m : ℕ) → i < n + 6 → branch_of w i m ≤ 508)
+    (l : Bool)
+    (most : (i m : ℕ) → i < n + 5 → branch_of line w i m ≤ 508)
     (few : n ≤ 8160)
+    (some : 0 < n)
     (long : length w ≡ 2 * n + 12)
     (size : length x ≡ n)
-    (six_tail : length tail ≡ 6)
+    (five_tail : length tail ≡ 5)
     (low : s0 < 64)
-    (end_walk : kept start_of (branch_of w) (n + 6) 6 ≡ reverse tail ++ kept start_of (branch_of w) n s1)
-    (data_walk : kept start_of (branch_of w) n s1 ≡ reverse x ++ kept start_of (branch_of w) 0 s0)
+    (chosen : l ≡ ltb (end_least line w n true) (end_least line w n false))
+    (end_walk : kept_path (start_of line) (branch_of line w) (n + 5) (end_before line l) ≡
+    reverse tail ++ kept_path (start_of line) (branch_of line w) n s1)
+    (data_walk : kept_path (start_of line) (branch_of line w) n s1 ≡
+    reverse (levels line (is_odd s0) x) ++ kept_path (start_of line) (branch_of line w) 0 s0)
   where
+    abbrev start : ℕ → ℕ
+    start = start_of line
+
+    abbrev branch : ℕ → ℕ → ℕ
+    branch = branch_of line w
+
     abbrev found : List Bool
-    found = kept start_of (branch_of w) (n + 6) 6
+    found = kept_path start branch (n + 5) (end_before line l)
 
     abbrev past : List Bool
-    past = kept start_of (branch_of w) 0 s0
+    past = kept_path start branch 0 s0
 
-    best_found : IsBest start_of (branch_of w) (n + 6) 6 found
-    best_found = kept_is_best start_of (branch_of w) (n + 6) 6 (omega arith)
+    -- the levels read back
+    abbrev own : List Bool
+    own = levels line (is_odd s0) x
 
-    best_past : IsBest start_of (branch_of w) 0 s0 past
-    best_past = kept_is_best start_of (branch_of w) 0 s0 low
+    best_at : (k : Bool) →
+        IsBest start branch (n + 5) (end_before line k) (kept_path start branch (n + 5) (end_before line k))
+    best_at k = kept_is_best start branch (n + 5) (end_before line k) (end_before_low line k)
 
-    split : found ≡ (reverse tail ++ reverse x) ++ past
-    split = end_walk ∙ ap (λ z. reverse tail ++ z) data_walk ∙ sym (append_assoc (reverse tail) (reverse x) past)
+    best_past : IsBest start branch 0 s0 past
+    best_past = kept_is_best start branch 0 s0 low
 
-    tail_is : reverse tail ≡ front
-    tail_is =
-        let long_tail : length (reverse tail) ≡ 6 = length-reverse tail ∙ six_tail in
-        let e : number (reverse tail ++ kept start_of (branch_of w) n s1) % 64 ≡ 6 = ap (λ z. number z % 64) (sym end_walk) ∙ best_found.state in
-        number_inj (reverse tail) front long_tail (sym (number_six (reverse tail) (kept start_of (branch_of w) n s1) long_tail) ∙ e)
+    split : found ≡ (reverse tail ++ reverse own) ++ past
+    split = end_walk ∙ ap (λ z. reverse tail ++ z) data_walk ∙ sym (append_assoc (reverse tail) (reverse own) past)
 
+    own_size : length own ≡ n
+    own_size = length-levels line (is_odd s0) x ∙ size
+
+    own_last : (g : List Bool) × (reverse own ≡ last_level (is_odd s0) own ∷ g)
+    own_last = reverse_last (is_odd s0) own (omega (arith, own_size))
+
+    -- the five known levels, and the last one of the bits
+    ends : (reverse tail ≡ five line l) × (last_level (is_odd s0) own ≡ l)
+    ends =
+        let rt = reverse tail in
+        let h = last_level (is_odd s0) own in
+        let g = own_last.0 in
+        let size_rt : length rt ≡ 5 = length-reverse tail ∙ five_tail in
+        let size_five : length (five line l) ≡ 5 = length_five_by line.marks l in
+        let six : length (rt ++ h ∷ []) ≡ 6 = omega (arith, length-append rt (h ∷ [])) in
+        let six_five : length (five line l ++ l ∷ []) ≡ 6 = omega (arith, length-append (five line l) (l ∷ [])) in
+        let read : found ≡ (rt ++ h ∷ []) ++ (g ++ past) =
+        split ∙ ap (λ z. (rt ++ z) ++ past) own_last.1 ∙ append_assoc rt (h ∷ g) past
+        ∙ sym (append_assoc rt (h ∷ []) (g ++ past)) in
+        let mine : number (rt ++ h ∷ []) ≡ end_before line l =
+        sym (number_six (rt ++ h ∷ []) (g ++ past) six) ∙ ap (λ z. number z % 64) (sym read) ∙ (best_at l).state in
+        let theirs : number (five line l ++ l ∷ []) ≡ end_before line l =
+        sym (number_six (five line l ++ l ∷ []) [] six_five)
+        ∙ ap (λ z. number z % 64) (append_assoc (five line l) (l ∷ []) []) ∙ end_state_is line l [] in
+        without_last rt (five line l) h l (omega arith) (number_inj (rt ++ h ∷ []) (five line l ++ l ∷ []) (omega arith)
+        (mine ∙ sym theirs))
+
+    start_low : start s0 ≤ 4148328
+    start_low =
+        let rt = reverse tail in
+        let rx = reverse own in
+        let len : length (rt ++ rx) ≡ n + 5 =
+        omega (arith, length-append rt rx, length-reverse tail, length-reverse own, own_size) in
+        let low_0 = steps_cost_low start branch (rt ++ rx) past in
+        let low_1 : start (number past % 64) ≤ steps_cost start branch (n + 5) ((rt ++ rx) ++ past) =
+        subst (λ k. start (number past % 64) ≤ steps_cost start branch k ((rt ++ rx) ++ past)) len low_0 in
+        let low_2 : start (number past % 64) ≤ steps_cost start branch (n + 5) found =
+        subst (λ z. start (number past % 64) ≤ steps_cost start branch (n + 5) z) (sym split) low_1 in
+        let owned = ap start best_past.state in
+        let other : List Bool = (rt ++ rx) ++ back_end line in
+        let other_size : length other ≡ n + 5 + 6 =
+        omega (arith, length-append (rt ++ rx) (back_end line), len, six_back line) in
+        let other_is : other ≡ five line l ++ (l ∷ (own_last.0 ++ back_end line)) =
+        ap (λ z. (z ++ rx) ++ back_end line) ends.0 ∙ append_assoc (five line l) rx (back_end line)
+        ∙ ap (λ z. five line l ++ (z ++ back_end line)) (own_last.1 ∙ ap (λ z. z ∷ own_last.0) ends.1) in
+        let other_state : number other % 64 ≡ end_before line l =
+        ap (λ z. number z % 64) other_is ∙ end_state_is line l (own_last.0 ++ back_end line) in
+        let high_0 = steps_cost_high start branch (n + 5) most (rt ++ rx) (back_end line) (omega arith) in
+        let high_1 : steps_cost start branch (n + 5) other ≤ start (number (back_end line) % 64) + 508 * (n + 5) =
+        subst (λ k. steps_cost start branch k other ≤ start (number (back_end line) % 64) + 508 * k) len high_0 in
+        let none : start (number (back_end line) % 64) ≡ 0 = start_cost_by _ _ (start_is line) in
+        let least = (best_at l).least other other_size other_state in
+        omega (arith, owned, low_2, least, high_1, none)
+
+    start_found : s0 ≡ start_state line
+    start_found = near_cases s0 (start_state line) (eqb s0 (start_state line)) refl start_low
+
+    past_is : past ≡ back_end line
+    past_is = ap (kept_path start branch 0) start_found ∙ past_by line.marks start branch
+
+    level_found : is_odd s0 ≡ last_marker_level line
+    level_found = ap is_odd start_found ∙ odd_by line.marks
+
+    own_is : own ≡ path_levels line x
+    own_is = ap (λ z. levels line z x) level_found
+
+    last_found : last_of line x ≡ l
+    last_found = sym (ap (λ z. last_level z (levels line z x)) level_found) ∙ ends.1
+
+    found_is : found ≡ cut line x
+    found_is =
+        split ∙ ap (λ z. (z ++ reverse own) ++ past) (ends.0 ∙ ap (five line) (sym last_found))
+        ∙ ap (λ z. (five line (last_of line x) ++ reverse z) ++ past) own_is
+        ∙ ap (λ z. (five line (last_of line x) ++ reverse (path_levels line x)) ++ z) past_is
+
+    -- ---- any list of n bits
     size_of : (y : List Bool) → length y ≡ n → length (y ++ marker_start) ≡ n + 6
     size_of y e = omega (arith, length-append y marker_start)
 
-    whole_size : (y : List Bool) → length y ≡ n → length (whole y) ≡ n + 6 + 6
-    whole_size y e = omega (arith, length-append (front ++ reverse y) back_end, length_front_y y, size_of y e)
+    levels_size : (y : List Bool) → length y ≡ n → length (path_levels line y) ≡ n
+    levels_size y e = length-levels line (last_marker_level line) y ∙ e
 
-    whole_state : (y : List Bool) → number (whole y) % 64 ≡ 6
-    whole_state y = ap (λ z. number z % 64) (append_assoc front (reverse y) back_end) ∙ number_six front (reverse y ++ back_end) refl
+    y_last : (y : List Bool) → length y ≡ n → (g : List Bool) × (reverse (path_levels line y) ≡ last_of line y ∷ g)
+    y_last y e = reverse_last (last_marker_level line) (path_levels line y) (omega (arith, levels_size y e))
 
-    cost_of : (y : List Bool) → length y ≡ n → steps_cost start_of (branch_of w) (n + 6) (whole y) ≡ path_cost w y
-    cost_of y e = subst (λ k. steps_cost start_of (branch_of w) k (whole y) ≡ path_cost w y) (size_of y e) (string_cost w y (omega (arith, size_of y e)))
+    cut_size : (y : List Bool) → length y ≡ n → length (cut line y) ≡ n + 5 + 6
+    cut_size y e =
+        omega (
+          arith,
+          length-append (five line (last_of line y) ++ reverse (path_levels line y)) (back_end line),
+          length-append (five line (last_of line y)) (reverse (path_levels line y)),
+          length_five_by line.marks (last_of line y),
+          length-reverse (path_levels line y),
+          levels_size y e,
+          six_back line,
+        )
 
-    start_low : start_of s0 ≤ 4148328
-    start_low =
-        let rt = reverse tail in
-        let rx = reverse x in
-        let len : length (rt ++ rx) ≡ n + 6 = omega (arith, length-append rt rx, length-reverse tail, length-reverse x) in
-        let low_0 = steps_cost_low start_of (branch_of w) (rt ++ rx) past in
-        let low_1 : start_of (number past % 64) ≤ steps_cost start_of (branch_of w) (n + 6) ((rt ++ rx) ++ past) = subst (λ k. start_of (number past % 64) ≤ steps_cost start_of (branch_of w) k ((rt ++ rx) ++ past)) len low_0 in
-        let low_2 : start_of (number past % 64) ≤ steps_cost start_of (branch_of w) (n + 6) found = subst (λ z. start_of (number past % 64) ≤ steps_cost start_of (branch_of w) (n + 6) z) (sym split) low_1 in
-        let own = ap start_of best_past.state in
-        let size_x : length (front ++ rx) ≡ n + 6 = length_front_y x ∙ size_of x size in
-        let high_0 = steps_cost_high start_of (branch_of w) (n + 6) most (front ++ rx) back_end (omega arith) in
-        let high_1 : steps_cost start_of (branch_of w) (n + 6) (whole x) ≤ start_of (number back_end % 64) + 508 * (n + 6) = subst (λ k. steps_cost start_of (branch_of w) k (whole x) ≤ start_of (number back_end % 64) + 508 * k) size_x high_0 in
-        let least = best_found.least (whole x) (whole_size x size) (whole_state x) in
-        omega (arith, own, low_2, least, high_1)
+    cut_state : (y : List Bool) → length y ≡ n → number (cut line y) % 64 ≡ end_before line (last_of line y)
+    cut_state y e =
+        let k = last_of line y in
+        let g = (y_last y e).0 in
+        ap (λ z. number z % 64) (append_assoc (five line k) (reverse (path_levels line y)) (back_end line)
+        ∙ ap (λ z. five line k ++ (z ++ back_end line)) (y_last y e).1) ∙ end_state_is line k (g ++ back_end line)
 
-    past_is : past ≡ back_end
-    past_is = ap (kept start_of (branch_of w) 0) (near_cases s0 (eqb s0 29) refl start_low)
+    cost_of : (y : List Bool) → length y ≡ n → path_cost line w y ≡
+        steps_cost start branch (n + 5) (cut line y) + branch (n + 5) (end_seven line (last_of line y))
+    cost_of y e =
+        let k = last_of line y in
+        let steps : length (y ++ marker_start) ≡ suc (n + 5) = omega (arith, size_of y e) in
+        let all : steps_cost start branch (suc (n + 5)) (whole line y) ≡ path_cost line w y =
+        subst (λ m. steps_cost start branch m (whole line y) ≡ path_cost line w y) steps
+        (string_cost line w y (omega (arith, size_of y e))) in
+        let parts : steps_cost start branch (suc (n + 5)) (whole line y) ≡
+        steps_cost start branch (n + 5) (cut line y)
+        + branch (n + 5) (2 * (number (cut line y) % 64) + bit (newest line k)) =
+        ap (steps_cost start branch (suc (n + 5))) (whole_is line y) in
+        let at : 2 * (number (cut line y) % 64) + bit (newest line k) ≡ end_seven line k =
+        ap (λ s. 2 * s + bit (newest line k)) (cut_state y e) ∙ end_seven_is line k in
+        sym all ∙ parts ∙ ap (λ m. steps_cost start branch (n + 5) (cut line y) + branch (n + 5) m) at
 
-    found_is : found ≡ whole x
-    found_is = split ∙ ap (λ z. (z ++ reverse x) ++ past) tail_is ∙ ap (λ z. (front ++ reverse x) ++ z) past_is
+    -- it costs no less than the best path to its end
+    cost_low : (y : List Bool) → length y ≡ n → end_least line w n (last_of line y) ≤ path_cost line w y
+    cost_low y e =
+        omega (
+          arith,
+          cost_of y e,
+          (best_at (last_of line y)).least (cut line y) (cut_size y e) (cut_state y e),
+          (best_at (last_of line y)).cost,
+        )
 
-    found_cost : steps_cost start_of (branch_of w) (n + 6) found ≡ path_cost w x
-    found_cost = ap (steps_cost start_of (branch_of w) (n + 6)) found_is ∙ cost_of x size
+    own_cost : path_cost line w x ≡ end_least line w n l
+    own_cost =
+        let a = cost_of x size in
+        let b : steps_cost start branch (n + 5) (cut line x) ≡ least_cost start branch (n + 5) (end_before line l) =
+        ap (steps_cost start branch (n + 5)) (sym found_is) ∙ (best_at l).cost in
+        a ∙ ap (λ k. steps_cost start branch (n + 5) (cut line x) + branch (n + 5) (end_seven line k)) last_found
+        ∙ ap (λ k. k + branch (n + 5) (end_seven line l)) b
 
-    least_of : (y : List Bool) → length y ≡ n → path_cost w x ≤ path_cost w y
-    least_of y e = omega (arith, best_found.least (whole y) (whole_size y e) (whole_state y), cost_of y e, found_cost)
+    least_of : (y : List Bool) → length y ≡ n → path_cost line w x ≤ path_cost line w y
+    least_of y e = omega (arith, own_cost, cost_low y e, not_dearer (end_least line w n) l chosen (last_of line y))
 
-    first_of_equals : (y : List Bool) → length y ≡ n → path_cost w y ≡ path_cost w x → NotAfter (reverse x) (reverse y)
+    -- among those of its last level that cost the same, it is the first
+    first_of_level : (y : List Bool) → length y ≡ n → path_cost line w y ≡ path_cost line w x → l ≡ last_of line y →
+        NotAfter (reverse (path_levels line x)) (reverse (path_levels line y))
+    first_of_level y e same level =
+        let state : number (cut line y) % 64 ≡ end_before line l = cut_state y e ∙ ap (end_before line) (sym level) in
+        let price : steps_cost start branch (n + 5) (cut line y) ≡ steps_cost start branch (n + 5) found =
+        omega (
+          arith,
+          cost_of y e,
+          same,
+          own_cost,
+          (best_at l).cost,
+          ap (λ k. branch (n + 5) (end_seven line k)) level,
+        ) in
+        let order : NotAfter found (cut line y) = (best_at l).first (cut line y) (cut_size y e) state price in
+        let order_x : NotAfter ((five line l ++ reverse (path_levels line x)) ++ back_end line)
+        ((five line l ++ reverse (path_levels line y)) ++ back_end line) =
+        subst (λ k. NotAfter ((five line l ++ reverse (path_levels line x)) ++ back_end line)
+        ((five line k ++ reverse (path_levels line y)) ++ back_end line)) (sym level)
+        (subst (λ k. NotAfter ((five line k ++ reverse (path_levels line x)) ++ back_end line)
+        (cut line y)) last_found (subst (λ z. NotAfter z (cut line y)) found_is order)) in
+        let len : length (five line l ++ reverse (path_levels line x)) ≡
+        length (five line l ++ reverse (path_levels line y)) =
+        omega (
+          arith,
+          length-append (five line l) (reverse (path_levels line x)),
+          length-append (five line l) (reverse (path_levels line y)),
+          length-reverse (path_levels line x),
+          length-reverse (path_levels line y),
+          levels_size x size,
+          levels_size y e,
+        ) in
+        strip_front (five line l) (reverse (path_levels line x)) (reverse (path_levels line y))
+        (strip_back (five line l ++ reverse (path_levels line x)) (five line l ++ reverse (path_levels line y))
+        (back_end line) len order_x)
+
+    first_of_equals : (y : List Bool) → length y ≡ n → path_cost line w y ≡ path_cost line w x →
+        NotAfter (reverse (path_levels line x)) (reverse (path_levels line y))
     first_of_equals y e same =
-        let costs : steps_cost start_of (branch_of w) (n + 6) (whole y) ≡ steps_cost start_of (branch_of w) (n + 6) found = cost_of y e ∙ same ∙ sym found_cost in
-        let order = best_found.first (whole y) (whole_size y e) (whole_state y) costs in
-        let order_x : NotAfter (whole x) (whole y) = subst (λ z. NotAfter z (whole y)) found_is order in
-        let len : length (front ++ reverse x) ≡ length (front ++ reverse y) = length_front_y x ∙ size_of x size ∙ sym (length_front_y y ∙ size_of y e) in
-        strip_front front (reverse x) (reverse y) (strip_back (front ++ reverse x) (front ++ reverse y) back_end len order_x)
+        let k = last_of line y in
+        let hx = y_last x size in
+        let hy = y_last y e in
+        let mine : reverse (path_levels line x) ≡ l ∷ hx.0 = hx.1 ∙ ap (λ z. z ∷ hx.0) last_found in
+        let decided : NotAfter (l ∷ hx.0) (k ∷ hy.0) =
+        first_by (end_least line w n) l k hx.0 hy.0 (path_cost line w x) chosen (sym own_cost)
+        (omega (arith, cost_low y e, same))
+        (λ level. subst (λ z. NotAfter (l ∷ hx.0) z) hy.1
+        (subst (λ z. NotAfter z (reverse (path_levels line y))) mine (first_of_level y e same level))) in
+        subst (λ z. NotAfter z (reverse (path_levels line y))) (sym mine)
+        (subst (λ z. NotAfter (l ∷ hx.0) z) (sym hy.1) decided)
 
-    pub is_nearest_path : IsNearestPath w x
+    pub is_nearest_path : IsNearestPath line w x
     is_nearest_path = record {
       size = omega (arith, size);
       least = λ y e. least_of y (e ∙ size);
@@ -259,18 +636,32 @@ module _
 
 -- ---- what is read back by decisions
 module _ (d e : ℕ → ℕ → Bool) where
-  read_back_same : (n : ℕ) → ((i s : ℕ) → i < n → s < 64 → d i s ≡ e i s) → (s : ℕ) → s < 64 → read_back d n s ≡ read_back e n s
+  read_back_same : (n : ℕ) → ((i s : ℕ) → i < n → s < 64 → d i s ≡ e i s) → (s : ℕ) → s < 64 →
+      read_back d n s ≡ read_back e n s
   read_back_same zero same s l = refl
   read_back_same (suc n) same s l =
       let here = same n s (omega arith) l in
-      let rest = read_back_same n (λ i t m. same i t (omega arith)) (state_before (d n s) s) (state_before_low (d n s) s l) in
-      ap (λ z. odd s ∷ z) (rest ∙ ap (λ t. read_back e n (state_before t s)) here)
+      let rest =
+      read_back_same n (λ i t m. same i t (omega arith)) (state_before (d n s) s) (state_before_low (d n s) s l) in
+      ap (λ z. is_odd s ∷ z) (rest ∙ ap (λ t. read_back e n (state_before t s)) here)
 
--- The list that is read back from the state 000110, by the decisions of the best paths, is the nearest path.
-pub read_is_nearest : (w : List ℤ) (d : ℕ → ℕ → Bool) (n : ℕ) (x tail : List Bool) (s1 s0 : ℕ) → ((i s : ℕ) → i < n + 6 → s < 64 → d i s ≡ older_bit start_of (branch_of w) i s) → ((i m : ℕ) → i < n + 6 → branch_of w i m ≤ 508) → n ≤ 8160 → length w ≡ 2 * n + 12 → length x ≡ n → length tail ≡ 6 → s1 < 64 → s0 < 64 → read_back d (n + 6) 6 ≡ reverse tail ++ read_back d n s1 → read_back d n s1 ≡ reverse x ++ read_back d 0 s0 → IsNearestPath w x
-read_is_nearest w d n x tail s1 s0 same most few long size six_tail low_1 low_0 end_walk data_walk =
-    let whole_same = read_back_same d (older_bit start_of (branch_of w)) (n + 6) same 6 (omega arith) in
-    let data_same = read_back_same d (older_bit start_of (branch_of w)) n (λ i s l. same i s (omega arith)) s1 low_1 in
-    is_nearest_path w n x tail s1 s0 most few long size six_tail low_0
+-- The list that is read back from the end that costs less, by the decisions of the best paths, is the nearest path.
+pub read_is_nearest : (line : LineCode) (w : List ℤ) (d : ℕ → ℕ → Bool) (n : ℕ) (x tail : List Bool) (s1 s0 : ℕ)
+    (l : Bool) → ((i s : ℕ) → i < n + 5 → s < 64 → d i s ≡ older_bit (start_of line) (branch_of line w) i s) →
+    ((i m : ℕ) → i < n + 5 → branch_of line w i m ≤ 508) → n ≤ 8160 → length w ≡ 2 * n + 12 → length x ≡ n →
+    length tail ≡ 5 → s1 < 64 → s0 < 64 → l ≡ ltb (end_least line w n true) (end_least line w n false) →
+    read_back d (n + 5) (end_before line l) ≡ reverse tail ++ read_back d n s1 →
+    read_back d n s1 ≡ reverse (levels line (is_odd s0) x) ++ read_back d 0 s0 → IsNearestPath line w x
+read_is_nearest line w d zero x tail s1 s0 l same most few long size five_tail low_1 low_0 chosen end_walk data_walk =
+    no_bits line w x size (omega arith)
+read_is_nearest line w d
+    (suc n) x tail s1 s0 l same most few long size five_tail low_1 low_0 chosen end_walk data_walk =
+    let whole_same =
+    read_back_same d (older_bit (start_of line) (branch_of line w)) (suc n + 5) same (end_before line l)
+    (end_before_low line l) in
+    let data_same =
+    read_back_same d (older_bit (start_of line) (branch_of line w)) (suc n)
+    (λ i s l. same i s (omega arith)) s1 low_1 in
+    is_nearest_path line w (suc n) x tail s1 s0 l most few (omega arith) long size five_tail low_0 chosen
     (sym whole_same ∙ end_walk ∙ ap (λ z. reverse tail ++ z) data_same)
     (sym data_same ∙ data_walk)

@@ -1,15 +1,15 @@
--- The nearest path of a window of symbols: among all lists of bits of its length the one whose code costs least, and among
--- several the one that is least when it is read from its last bit to its first. A frame's bits stand between two markers,
--- so the six bits before them and the six after them are known.
-use Rattle.std.specs.Prelude.{◌≡◌, ℕ, ℤ, pos, negsuc, ◌+◌, ◌-◌, ◌*◌, ◌/◌, ◌≤◌, nat_lt, if◌then◌else◌, zero, suc, Bool, true, false, List, [], ◌∷◌, ◌++◌, length, reverse, map, take, drop}
-use Rattle.std.specs.Int.{int_gap, int_max}
+-- The nearest path of a window of symbols under a line code: among all lists of bits of its length the one whose code
+-- costs least, and among several the one whose levels are least when they are read from the last to the first. A
+-- frame's bits stand between two markers, so the six levels before them and the six bits after them are known.
+use Rattle.std.specs.Prelude.{◌≡◌, ℕ, ℤ, pos, negsuc, ◌+◌, ◌-◌, ◌*◌, ◌/◌, ◌≤◌, nat_lt, if◌then◌else◌, zero, suc, Bool}
+use Rattle.std.specs.Prelude.{true, false, List, [], ◌∷◌, ◌++◌, length, reverse, map, take, drop}
+use Rattle.std.specs.Int.{int_gap}
 use Rattle.std.specs.Int.Digits.{number_from_digits}
 use Rattle.lr_conv.specs.Convolution.{bit, code}
-use Rattle.lr_conv.specs.Marker.{marker_start, marker_end}
-
--- the value of a symbol, where -128 is read as -127; a positive one leans to 1
-abbrev pub symbol_value : ℤ → ℤ
-symbol_value symbol = int_max symbol (negsuc 126)
+use Rattle.lr_conv.specs.Levels.{bits_of_levels, levels}
+use Rattle.lr_conv.specs.Marker.{last_marker_level, marker_start, marker_end}
+use Rattle.lr_conv.specs.Symbols.{symbol_value}
+use Rattle.lr_conv.specs.declared.line.LineCode.{LineCode}
 
 -- what a bit costs against a symbol of value v: 127 + v for a 0, and 127 - v for a 1
 abbrev pub symbol_cost : Bool → ℤ → ℕ
@@ -22,9 +22,13 @@ cost [] symbols = 0
 cost (b ∷ bits) [] = 0
 cost (b ∷ bits) (symbol ∷ symbols) = symbol_cost b symbol + cost bits symbols
 
+-- the levels of a list of bits after the marker
+abbrev pub path_levels : LineCode → List Bool → List Bool
+path_levels line x = levels line (last_marker_level line) x
+
 -- what a list of bits costs against a window
-abbrev pub path_cost : List ℤ → List Bool → ℕ
-path_cost window x = cost (code marker_end (x ++ marker_start)) window
+abbrev pub path_cost : LineCode → List ℤ → List Bool → ℕ
+path_cost line window x = cost (code line (marker_end line) (path_levels line (x ++ marker_start))) window
 
 -- the first list isn't after the second: where they first differ, it has the 0
 abbrev pub NotAfter : List Bool → List Bool → Type 0
@@ -35,14 +39,16 @@ NotAfter (false ∷ x) (true ∷ y) = Unit {0}
 NotAfter (true ∷ x) (false ∷ y) = ⊥
 NotAfter (true ∷ x) (true ∷ y) = NotAfter x y
 
--- no list of its length costs less, and of those that cost the same none is before it, read from the last bit to the first
-pub record IsNearestPath (window : List ℤ) (x : List Bool) : Type 0 where
+-- no list of its length costs less, and of those that cost the same none has levels before its own, read from the last
+-- to the first
+pub record IsNearestPath (line : LineCode) (window : List ℤ) (x : List Bool) : Type 0 where
   pub size : length window ≡ 2 * length x + 12
-  pub least : (y : List Bool) → length y ≡ length x → path_cost window x ≤ path_cost window y
-  pub first : (y : List Bool) → length y ≡ length x → path_cost window y ≡ path_cost window x → NotAfter (reverse x) (reverse y)
+  pub least : (y : List Bool) → length y ≡ length x → path_cost line window x ≤ path_cost line window y
+  pub first : (y : List Bool) → length y ≡ length x → path_cost line window y ≡ path_cost line window x →
+      NotAfter (reverse (path_levels line x)) (reverse (path_levels line y))
 
--- Of all lists of n bits the first that costs least, in that order: the first that begins with 0, or the first that begins
--- with 1 where it costs less.
+-- Of all lists of n bits the first that costs least, in that order: the first that begins with 0, or the first that
+-- begins with 1 where it costs less.
 unfoldable pub first_least : ℕ → (List Bool → ℕ) → List Bool
 first_least zero price = []
 first_least (suc n) price =
@@ -50,9 +56,14 @@ first_least (suc n) price =
     let one_first = true ∷ first_least n (λ x. price (true ∷ x)) in
     if nat_lt (price one_first) (price zero_first) then one_first else zero_first
 
+-- the bits of a list of levels after the marker, the last level first
+abbrev pub path_of_levels : LineCode → List Bool → List Bool
+path_of_levels line y = bits_of_levels line (last_marker_level line) (reverse y)
+
 -- the nearest path of a window by name
-unfoldable pub nearest_path : List ℤ → List Bool
-nearest_path window = reverse (first_least (length window / 2 - 6) (λ x. path_cost window (reverse x)))
+unfoldable pub nearest_path : LineCode → List ℤ → List Bool
+nearest_path line window =
+    path_of_levels line (first_least (length window / 2 - 6) (λ y. path_cost line window (path_of_levels line y)))
 
 -- the bytes of a list of bits, the first bit of each the most significant one
 abbrev pub bytes_from : ℕ → List Bool → List ℕ

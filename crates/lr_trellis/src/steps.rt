@@ -1,19 +1,26 @@
+//! The forward pass: the least cost of a path to each state, and which older state it came from.
+
 ghost use Rattle.std.specs.Prelude.{◌≡◌, ◌+◌, ◌*◌, ◌/◌, ◌^◌, ◌<◌, ◌≤◌, ◌==◌, ℕ, min, nat_lt, length, slice_index};
 ghost use Rattle.std.specs.Int.{bit_at};
-ghost use Rattle.lr_trellis.specs.Trellis.{best, older_bit, branch_of, start_of};
-ghost use Rattle.lr_trellis.specs.Words.{branch_by, decision_of, decisions};
+ghost use Rattle.lr_trellis.specs.Trellis.{start_of, start_state};
+ghost use Rattle.lr_trellis.specs.Words.{branch_by, decision_of, IsDecided};
 
 use crate::costs::{pair, pair_costs};
+use crate::scratch::MOST_STEPS;
+use lr_conv::LineCode;
 
-/// More than any path of 8,166 steps costs: 508 a step, and 1.
-const FAR: u32 = 4_148_329;
+/// More than any path costs: 508 in each of its 8,166 steps, and 1.
+const FAR: u32 = 508 * (MOST_STEPS as u32 + 1) + 1;
 
-/// The last six bits of the marker, 011101: the state in which a path begins.
-const START: usize = 29;
+/// The last six levels of the marker, in which a path begins.
+const START: usize = 0b01_1101;
+
+/// The same where a 1 is a change of level.
+const START_OF_MARKS: usize = 0b10_1001;
 
 /// The lesser of the costs of two ways, and whether it is the second. The first takes a tie.
 #[inline(always)]
-fn lesser(first: u32, second: u32) -> (u32, bool)
+fn lesser_of(first: u32, second: u32) -> (u32, bool)
     ensures cost { result.0 ≡ min first second }
     ensures second { result.1 ≡ nat_lt second first }
 {
@@ -34,7 +41,7 @@ fn with_bit(word: u64, place: usize, bit: bool) -> u64
 
 /// The word of a step, from the decisions at the even states and at the odd ones.
 #[inline(always)]
-fn joined(evens: u64, odds: u64) -> u64
+pub fn decision_word(evens: u64, odds: u64) -> u64
     requires evens { evens < 2 ^ 32 }
     requires odds { odds < 2 ^ 32 }
     ensures low { (k : ℕ) → k < 32 → bit_at result k ≡ bit_at evens k }
@@ -48,8 +55,12 @@ fn joined(evens: u64, odds: u64) -> u64
 fn step(costs: &[u32; 4], old: &[u32; 64], new: &mut [u32; 64]) -> u64
     requires costs { (m : ℕ) → branch_by costs.now m ≤ 508 }
     requires old { (s : ℕ) → s < 64 → slice_index old.now s + 508 < 2 ^ 32 }
-    ensures least { (s : ℕ) → s < 64 → slice_index new.new s ≡ min (slice_index old.now (s / 2) + branch_by costs.now s) (slice_index old.now (s / 2 + 32) + branch_by costs.now (s + 64)) }
-    ensures decided { (s : ℕ) → s < 64 → decision_of result s ≡ nat_lt (slice_index old.now (s / 2 + 32) + branch_by costs.now (s + 64)) (slice_index old.now (s / 2) + branch_by costs.now s) }
+    ensures least { (s : ℕ) → s < 64 → slice_index new.new s ≡
+        min (slice_index old.now (s / 2) + branch_by costs.now s)
+        (slice_index old.now (s / 2 + 32) + branch_by costs.now (s + 64)) }
+    ensures decided { (s : ℕ) → s < 64 → decision_of result s ≡
+        nat_lt (slice_index old.now (s / 2 + 32) + branch_by costs.now (s + 64))
+        (slice_index old.now (s / 2) + branch_by costs.now s) }
 {
     let mut evens = 0u64;
     let mut odds = 0u64;
@@ -57,30 +68,46 @@ fn step(costs: &[u32; 4], old: &[u32; 64], new: &mut [u32; 64]) -> u64
         let symbols = pair(j);
         let near = costs[symbols];
         let far = costs[3 - symbols];
-        let even = lesser(old[j] + near, old[j + 32] + far);
-        let odd = lesser(old[j] + far, old[j + 32] + near);
+        let even = lesser_of(old[j] + near, old[j + 32] + far);
+        let odd = lesser_of(old[j] + far, old[j + 32] + near);
         new[2 * j] = even.0;
         new[2 * j + 1] = odd.0;
         evens = with_bit(evens, j, even.1);
         odds = with_bit(odds, j, odd.1);
     }
-    joined(evens, odds)
+    decision_word(evens, odds)
 }
 
-/// The words of decisions of so many steps, from the first on.
-pub(crate) fn forward(window: &[i8], steps: usize, words: &mut [u64])
-    requires steps { steps ≤ 8166 }
+/// The state in which a path begins.
+fn start(line: LineCode) -> usize
+    ensures value { result ≡ start_state line }
+    ensures below { result < 64 }
+{
+    if line.marks { START_OF_MARKS } else { START }
+}
+
+/// The costs of all states before the first step.
+pub fn start_costs(line: LineCode) -> [u32; 64]
+    ensures { (s : ℕ) → s < 64 → slice_index result s ≡ start_of line s }
+{
+    let mut costs = [FAR; 64];
+    costs[start(line)] = 0;
+    costs
+}
+
+/// Keeps the words of decisions of the first `steps` steps, and answers the least costs after them.
+pub(crate) fn forward(line: LineCode, window: &[i8], steps: usize, words: &mut [u64]) -> [u32; 64]
+    requires steps { steps ≤ MOST_STEPS }
     requires words { steps ≤ length words.old }
     requires window { 2 * steps ≤ length window.now }
-    ensures decided { (i s : ℕ) → i < steps → s < 64 → decisions words.new i s ≡ older_bit start_of (branch_of window.now) i s }
-    ensures most { (i m : ℕ) → i < steps → branch_of window.now i m ≤ 508 }
+    ensures { IsDecided line window.now steps words.new result }
 {
-    let mut old = [FAR; 64];
-    old[START] = 0;
+    let mut old = start_costs(line);
     for i in 0..steps {
-        let costs = pair_costs(window[2 * i], window[2 * i + 1]);
+        let costs = pair_costs(line, window[2 * i], window[2 * i + 1]);
         let mut new = [0u32; 64];
         words[i] = step(&costs, &old, &mut new);
         old = new;
     }
+    old
 }

@@ -1,20 +1,22 @@
-// What a lock finds in a stream.
+//! What a lock finds in a stream.
+
 ghost use Rattle.std.specs.Prelude.{◌≡◌, ◌+◌, ◌^◌, ◌≤◌, ◌<◌, false, length};
 
 use lr_bits::NoMemory;
+use lr_conv::STANDARD;
 use lr_lock::{Lock, Step, Window};
 use std::alloc::Global;
 
 /// A window that was found: its place and polarity, and a checksum of its symbols.
 #[derive(Clone, Copy)]
-pub struct Found {
+pub(crate) struct Found {
     pub place: u64,
     pub positive: bool,
     pub sum: u64,
 }
 
 /// A checksum with a number more.
-pub fn mixed(sum: u64, more: u64) -> u64 {
+pub(crate) fn sum_with(sum: u64, more: u64) -> u64 {
     sum.wrapping_mul(31).wrapping_add(more)
 }
 
@@ -22,7 +24,7 @@ pub fn mixed(sum: u64, more: u64) -> u64 {
 fn found_in(window: &Window) -> Found {
     let mut sum = 0;
     for symbol in window.symbols() {
-        sum = mixed(sum, (i16::from(*symbol) + 128) as u64);
+        sum = sum_with(sum, (i16::from(*symbol) + 128) as u64);
     }
     Found {
         place: window.position(),
@@ -31,7 +33,7 @@ fn found_in(window: &Window) -> Found {
     }
 }
 
-/// Feeds the next symbols of the stream, at most so many, from a place on. Answers the place behind them.
+/// Feeds the next symbols of the stream, at most `size`, from a place on. Answers the place after them.
 fn feed(lock: &mut Lock, stream: &[i8], done: usize, size: usize) -> usize
     requires unfinished { lock.old.finished ≡ false }
     requires fed { lock.old.place + length lock.old.kept ≡ done }
@@ -40,6 +42,7 @@ fn feed(lock: &mut Lock, stream: &[i8], done: usize, size: usize) -> usize
     ensures within { result ≤ length stream.now }
     ensures fed { lock.new.place + length lock.new.kept ≡ result }
     ensures unfinished { lock.new.finished ≡ false }
+    ensures line { lock.new.line ≡ lock.old.line }
 {
     let end = done + size.min(stream.len() - done).min(lock.room());
     lock.feed(&stream[done..end]);
@@ -47,11 +50,11 @@ fn feed(lock: &mut Lock, stream: &[i8], done: usize, size: usize) -> usize
 }
 
 /// The windows of a stream that is fed in pieces of this size.
-pub fn windows(alloc: Global, stream: &[i8], size: usize) -> Result<Vec<Found>, NoMemory>
+pub(crate) fn windows(alloc: Global, stream: &[i8], size: usize) -> Result<Vec<Found>, NoMemory>
     requires { length stream.now ≤ 2 ^ 62 }
 {
-    let mut lock = Lock::new(alloc)?;
-    let mut window = Window::new(alloc)?;
+    let mut lock = Lock::new(alloc, STANDARD)?;
+    let mut window = Window::new(alloc, STANDARD)?;
     let mut all = Vec::new(alloc);
     let mut done = 0;
     let mut finished = false;
@@ -85,7 +88,7 @@ fn have_places(windows: &[Found], positive: bool, places: &[u64]) -> bool {
 }
 
 /// Whether the windows of a stream that is fed in pieces of this size have these places, in turn, and this polarity.
-pub fn finds(
+pub(crate) fn finds(
     alloc: Global,
     stream: &[i8],
     size: usize,

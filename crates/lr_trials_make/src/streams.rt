@@ -1,7 +1,7 @@
 //! The items of a few streams, by their checksums.
 #![tactic(auto)]
 
-use lr_bits::{NoMemory, crc16};
+use lr_bits::{BLOCK_BYTES, FRAME_BYTES, FRAME_SYMBOLS, NoMemory, crc16};
 use lr_make::Maker;
 use std::test::Fail;
 
@@ -16,24 +16,24 @@ fn byte_of(symbol: i8) -> u8 {
 
 /// Whether the next frame has this checksum.
 fn frame_has(maker: &mut Maker, checksum: u16) -> Result<bool, NoMemory> {
-    let mut frame = [0u8; 892];
+    let mut frame = [0u8; FRAME_BYTES];
     maker.next_frame(&mut frame)?;
     Ok(crc16(&frame) == checksum)
 }
 
 /// Whether the block of the next frame has this checksum.
 fn block_has(maker: &mut Maker, checksum: u16) -> Result<bool, NoMemory> {
-    let mut block = [0u8; 1020];
+    let mut block = [0u8; BLOCK_BYTES];
     maker.next_block(&mut block)?;
     Ok(crc16(&block) == checksum)
 }
 
 /// Whether the symbols of the next frame, each as a byte, have this checksum.
 fn symbols_have(maker: &mut Maker, checksum: u16) -> Result<bool, NoMemory> {
-    let mut symbols = [0i8; 16384];
+    let mut symbols = [0i8; FRAME_SYMBOLS];
     maker.next_symbols(&mut symbols)?;
-    let mut bytes = [0u8; 16384];
-    for place in 0..16384 {
+    let mut bytes = [0u8; FRAME_SYMBOLS];
+    for place in 0..FRAME_SYMBOLS {
         bytes[place] = byte_of(symbols[place]);
     }
     Ok(crc16(&bytes) == checksum)
@@ -41,7 +41,7 @@ fn symbols_have(maker: &mut Maker, checksum: u16) -> Result<bool, NoMemory> {
 
 /// Whether the next frame begins with these bytes.
 fn frame_begins(maker: &mut Maker, bytes: &[u8; 24]) -> Result<bool, NoMemory> {
-    let mut frame = [0u8; 892];
+    let mut frame = [0u8; FRAME_BYTES];
     maker.next_frame(&mut frame)?;
     Ok(&frame[..24] == bytes.as_slice())
 }

@@ -5,4 +5,4 @@ pub returns-clause-blocks : goal.returns-clause-blocks
 returns-clause-blocks c block frame corrected e = whole_of_block block frame corrected e
 
 pub returns-clause-windows : goal.returns-clause-windows
-returns-clause-windows c window frame corrected e = whole_of_window window frame corrected e
+returns-clause-windows c line window frame corrected e = whole_of_window line window frame corrected e

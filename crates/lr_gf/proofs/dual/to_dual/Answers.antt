@@ -7,4 +7,5 @@ pub returns-clause-to : goal.returns-clause-to
 returns-clause-to c = to-is c.args.byte (omega arith)
 
 pub returns-clause-back : goal.returns-clause-back
-returns-clause-back c = ap conventional_of (to-is c.args.byte (omega arith)) ∙ conventional-dual c.args.byte (omega arith)
+returns-clause-back c = ap conventional_of (to-is c.args.byte (omega arith))
+    ∙ conventional-dual c.args.byte (omega arith)

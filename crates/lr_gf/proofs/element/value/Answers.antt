@@ -13,5 +13,6 @@ loop-coefficient-preserved c =
     let small : c.coefficient-item.result < 256 = omega arith in
     ap (λ z. bit_xor z c.coefficient.inside.0) (c.sum.view_is ∙ c.mul.ensures)
     ∙ ap (bit_xor (times c.loop-coefficient.sum c.args.at)) c.coefficient.view_is
-    ∙ horner-more c.args.coefficients.now c.loop-coefficient.coefficient-index c.coefficient-item.result c.loop-coefficient.sum c.args.at
+    ∙ horner-more c.args.coefficients.now c.loop-coefficient.coefficient-index c.coefficient-item.result
+    c.loop-coefficient.sum c.args.at
     c.loop-coefficient-test.true c.coefficient-item.is c.loop-coefficient.invariant small

@@ -4,4 +4,5 @@ use Rattle.lr_gf.proofs.system.write_dependence.Given as goal
 
 abbrev pub invariant-loop-k : goal.invariant-loop-k
 invariant-loop-k l =
-    ((k : ℕ) → k < l.k → get_or l.x k 0 ≡ entry l.cells k l.column) × ((k : ℕ) → l.k ≤ k → get_or l.x k 0 ≡ 0) × (length l.x ≡ 17)
+    ((k : ℕ) → k < l.k → get_or l.x k 0 ≡ entry l.cells k l.column) × ((k : ℕ) → l.k ≤ k → get_or l.x k 0 ≡ 0)
+    × (length l.x ≡ 17)

@@ -1,6 +1,7 @@
 use Rattle.std.proofs.Common.{◌≡◌, ◌*◌, ◌++◌, Bool, List, length, map, take, drop}
 use Rattle.lr_conv.specs.Convolution.{code}
 use Rattle.lr_conv.specs.Encoder.{StandsFor}
+use Rattle.lr_conv.specs.declared.line.TheConstants.{STANDARD}
 use Rattle.lr_make.specs.Symbols.{level}
 use Rattle.lr_make.proofs.Coding.{first_bits}
 use Rattle.lr_make.proofs.symbols.put_symbols.Given as goal
@@ -9,6 +10,8 @@ abbrev pub invariant-loop-place : goal.invariant-loop-place
 invariant-loop-place l = record {
   long : length l.symbols ≡ 16384;
   code : (past bits : List Bool) → StandsFor l.initial.encoder past bits
-      → take (2 * l.place) l.symbols ≡ map level (drop (2 * length bits) (code past (bits ++ first_bits l.bytes l.place)));
-  stands : (past bits : List Bool) → StandsFor l.initial.encoder past bits → StandsFor l.encoder past (bits ++ first_bits l.bytes l.place);
+      → take (2 * l.place) l.symbols ≡ map level (drop (2 * length bits)
+      (code STANDARD past (bits ++ first_bits l.bytes l.place)));
+  stands : (past bits : List Bool) → StandsFor l.initial.encoder past bits →
+      StandsFor l.encoder past (bits ++ first_bits l.bytes l.place);
 }

@@ -1,5 +1,6 @@
 use Rattle.std.proofs.Common.{rules, ◌≡◌, true, false}
 use Rattle.std.proofs.lemmas.Int.{to_z-of_z}
+use Rattle.std.specs.Prelude.{not}
 use mir.Syntax.{w8}
 use mir.Val.{SFits}
 use Rattle.lr_trellis.specs.Path.{symbol_cost}
@@ -10,11 +11,16 @@ pub returns-clause-value : goal.returns-clause-value
 returns-clause-value c = λ m.
     let first : SFits w8 c.args.first = search rules in
     let second : SFits w8 c.args.second = search rules in
-    let zero : c.symbol_costs-zero.result.0 ≡ symbol_cost false c.args.first = simp to_z-of_z at c.symbol_costs-zero.ensures.zero in
-    let one : c.symbol_costs-zero.result.1 ≡ symbol_cost true c.args.first = simp to_z-of_z at c.symbol_costs-zero.ensures.one in
-    let then_zero : c.symbol_costs-then_zero.result.0 ≡ symbol_cost false c.args.second = simp to_z-of_z at c.symbol_costs-then_zero.ensures.zero in
-    let then_one : c.symbol_costs-then_zero.result.1 ≡ symbol_cost true c.args.second = simp to_z-of_z at c.symbol_costs-then_zero.ensures.one in
-    four_costs _ _ _ _ m c.args.first c.args.second zero one then_zero then_one
+    let zero : c.symbol_costs-zero.result.0 ≡ symbol_cost false c.args.first =
+    simp to_z-of_z at c.symbol_costs-zero.ensures.zero in
+    let one : c.symbol_costs-zero.result.1 ≡ symbol_cost true c.args.first =
+    simp to_z-of_z at c.symbol_costs-zero.ensures.one in
+    let then_zero : c.second_costs-then_zero.result.0 ≡ symbol_cost (not c.args.line.inverted) c.args.second =
+    simp to_z-of_z at c.second_costs-then_zero.ensures.zero in
+    let then_one : c.second_costs-then_zero.result.1 ≡ symbol_cost c.args.line.inverted c.args.second =
+    simp to_z-of_z at c.second_costs-then_zero.ensures.one in
+    four_costs c.args.line _ _ _ _ m c.args.first c.args.second zero one then_zero then_one
 
 pub returns-clause-most : goal.returns-clause-most
-returns-clause-most c = λ m. four_costs_below _ _ _ _ m c.symbol_costs-zero.ensures.sum c.symbol_costs-then_zero.ensures.sum
+returns-clause-most c =
+    λ m. four_costs_below _ _ _ _ m c.symbol_costs-zero.ensures.sum c.second_costs-then_zero.ensures.sum

@@ -1,9 +1,13 @@
-use Rattle.std.proofs.Common.{◌≡◌, ◌+◌, ◌≤◌, true, false, Option, None, Some, List, ℤ, drop, refl, sym, ◌∙◌, ap, subst, arith}
+use Rattle.std.proofs.Common.{◌≡◌, ◌+◌, ◌≤◌, true, false, Option, None, Some, List, Bool, ℤ, drop, length, refl, sym}
+use Rattle.std.proofs.Common.{◌∙◌, ap, subst, arith}
 use Rattle.lr_lock.specs.Frames.{last_of}
-use Rattle.lr_lock.specs.Sights.{frame_or_wait, IsSeen, IsWaiting}
+use Rattle.lr_conv.specs.Marker.{tail_of}
+use Rattle.lr_conv.specs.declared.line.LineCode.{LineCode}
+use Rattle.lr_lock.specs.Machine.{IsAt}
+use Rattle.lr_lock.specs.Search.{FindsOrWaits, IsFound, IsWaiting, Finds}
 use Rattle.lr_lock.specs.Standing.{LockState, StandsFor}
 use Rattle.lr_lock.specs.Steps.{Answers, GivesWindow}
-use Rattle.lr_lock.specs.Windows.{Shown, window_of}
+use Rattle.lr_lock.specs.Windows.{WindowView, window_of}
 use Rattle.lr_lock.specs.declared.frame.Frame.{Frame}
 use Rattle.lr_lock.specs.declared.step.Step.{Step}
 use Rattle.lr_lock.proofs.Stepping.{given_window, wanted_more, had_ended, dropped}
@@ -14,41 +18,133 @@ pub returns-in-Some-clause-answers : goal.returns-in-Some-clause-answers
 returns-in-Some-clause-answers c fed given h =
     let opened = subst (λ (l : LockState). StandsFor l fed given) (sym c.self.view_is) h in
     let kept = ap (λ (l : LockState). l.kept) (sym c.self.view_is) in
-    let sees = c.look-sight.ensures.seen fed (last_of None given) opened.within (c.kept.ensures ∙ kept ∙ opened.rest) opened.stands in
-    let seen : IsSeen c.self.inside.tail fed (last_of None given) (c.self.inside.place + c.look-sight.result.passed) c.if-self.needed c.in-Some.frame =
-    subst (λ (o : Option Frame). frame_or_wait c.self.inside.tail fed (last_of None given) c.look-sight.result.held (c.self.inside.place + c.look-sight.result.passed) c.if-self.needed o) c.in-Some.is sees in
-    let big : 16384 ≤ c.if-self.needed = elim c.if-self.branch [ then-self w ↦ omega (arith, w.needed-is) | else-self w ↦ omega (arith, w.needed-is) ] in
+    let looks =
+    subst (λ (t : List Bool). (f : List ℤ) (last : Option Frame) → c.self.inside.place ≤ length f →
+    c.kept_symbols.result.now ≡ drop c.self.inside.place f → IsAt t f last c.self.inside.held c.self.inside.place →
+    Finds t f last c.self.inside.place c.if-self.needed c.find_next-found.result) c.marker_tail-tail.ensures
+    c.find_next-found.ensures.seen in
+    let sees =
+    looks fed (last_of None given) opened.within (c.kept_symbols.ensures ∙ kept ∙ opened.rest) opened.stands in
+    let seen : IsFound (tail_of c.self.inside.line) fed (last_of None given)
+    (c.self.inside.place + c.find_next-found.result.passed) c.if-self.needed c.in-Some.frame =
+    subst (λ (o : Option Frame). FindsOrWaits (tail_of c.self.inside.line) fed
+    (last_of None given) c.find_next-found.result.held
+    (c.self.inside.place + c.find_next-found.result.passed) c.if-self.needed o) c.in-Some.is sees in
+    let big : 16384 ≤ c.if-self.needed =
+    elim c.if-self.branch [ then-self w ↦ omega (arith, w.needed-is) | else-self w ↦ omega (arith, w.needed-is) ] in
     let sure : c.self.inside.finished ≡ false → c.if-self.needed ≡ 16396 =
-    elim c.if-self.branch as (λ _. c.self.inside.finished ≡ false → c.if-self.needed ≡ 16396) [ then-self w ↦ (λ (e : c.self.inside.finished ≡ false). cc) | else-self w ↦ (λ (e : c.self.inside.finished ≡ false). w.needed-is) ] in
-    let left : drop (c.self.inside.passed + c.look-sight.result.passed + 16384) c.self.inside.symbols.items ≡ drop (c.look-sight.result.passed + 16384) (drop c.self.inside.passed c.self.inside.symbols.items) =
-    dropped c.self.inside.symbols.items c.self.inside.passed (c.look-sight.result.passed + 16384) (c.self.inside.passed + c.look-sight.result.passed + 16384) (omega arith) in
-    let from : c.kept-in-Some.result.now ≡ drop c.look-sight.result.passed (drop c.self.inside.passed c.self.inside.symbols.items) =
-    c.kept-in-Some.ensures ∙ dropped c.self.inside.symbols.items c.self.inside.passed c.look-sight.result.passed (c.self.inside.passed + c.look-sight.result.passed) refl in
-    let made : List ℤ → Shown = λ (s : List ℤ). record { position = c.in-Some.frame.place; positive = c.in-Some.frame.positive; symbols = window_of s 0 c.in-Some.frame.positive } in
-    let before : LockState = record { tail = c.self.inside.tail; place = c.self.inside.place; kept = drop c.self.inside.passed c.self.inside.symbols.items; held = c.self.inside.held; finished = c.self.inside.finished } in
-    let later : LockState = record { tail = c.self.inside.tail; place = c.self.inside.place + c.look-sight.result.passed + 16384; kept = drop (c.self.inside.passed + c.look-sight.result.passed + 16384) c.self.inside.symbols.items; held = Some c.in-Some.frame; finished = c.self.inside.finished } in
+    elim c.if-self.branch as (λ _. c.self.inside.finished ≡ false →
+    c.if-self.needed ≡ 16396) [
+      | then-self w ↦ (λ (e : c.self.inside.finished ≡ false). cc)
+      | else-self w ↦
+          (λ (e : c.self.inside.finished ≡ false). w.needed-is)
+    ] in
+    let left : drop (c.self.inside.passed + c.find_next-found.result.passed + 16384) c.self.inside.symbols.items ≡
+    drop (c.find_next-found.result.passed + 16384) (drop c.self.inside.passed c.self.inside.symbols.items) =
+    dropped c.self.inside.symbols.items c.self.inside.passed (c.find_next-found.result.passed + 16384)
+    (c.self.inside.passed + c.find_next-found.result.passed + 16384) (omega arith) in
+    let from : c.kept_symbols-in-Some.result.now ≡ drop c.find_next-found.result.passed
+    (drop c.self.inside.passed c.self.inside.symbols.items) =
+    c.kept_symbols-in-Some.ensures
+    ∙ dropped c.self.inside.symbols.items c.self.inside.passed c.find_next-found.result.passed
+    (c.self.inside.passed + c.find_next-found.result.passed) refl in
+    let made : List ℤ → WindowView =
+    λ (s : List ℤ). record {
+      position = c.in-Some.frame.place;
+      positive = c.in-Some.frame.positive;
+      line = c.args.window.now.line;
+      symbols = window_of s 0 c.in-Some.frame.positive;
+    } in
+    let same_line : c.args.window.now.line ≡ c.self.inside.line =
+    c.requires ∙ sym (ap (λ (l : LockState). l.line) c.self.view_is) in
+    let of_line : LineCode → WindowView =
+    λ (k : LineCode). record {
+      position = c.in-Some.frame.place;
+      positive = c.in-Some.frame.positive;
+      line = k;
+      symbols = window_of (drop c.find_next-found.result.passed
+          (drop c.self.inside.passed c.self.inside.symbols.items)) 0 c.in-Some.frame.positive;
+    } in
+    let before : LockState =
+    record {
+      line = c.self.inside.line;
+      place = c.self.inside.place;
+      kept = drop c.self.inside.passed c.self.inside.symbols.items;
+      held = c.self.inside.held;
+      finished = c.self.inside.finished;
+    } in
+    let later : LockState =
+    record {
+      line = c.self.inside.line;
+      place = c.self.inside.place + c.find_next-found.result.passed + 16384;
+      kept = drop (c.self.inside.passed + c.find_next-found.result.passed + 16384) c.self.inside.symbols.items;
+      held = Some c.in-Some.frame;
+      finished = c.self.inside.finished;
+    } in
     subst (λ (l : LockState). GivesWindow l later c.show.new.self fed given) c.self.view_is
-    (given_window before later fed given c.in-Some.frame c.look-sight.result.passed c.if-self.needed c.show.new.self opened seen big sure refl refl left refl refl (c.show.ensures ∙ ap made from))
+    (given_window before later fed given c.in-Some.frame c.find_next-found.result.passed c.if-self.needed
+    c.show.new.self opened seen big sure refl refl left refl refl
+    (c.show.ensures ∙ ap made from ∙ ap of_line same_line))
 
 pub returns-after-self-2-clause-answers : goal.returns-after-self-2-clause-answers
 returns-after-self-2-clause-answers c fed given h =
     let opened = subst (λ (l : LockState). StandsFor l fed given) (sym c.self.view_is) h in
     let kept = ap (λ (l : LockState). l.kept) (sym c.self.view_is) in
-    let sees = c.look-sight.ensures.seen fed (last_of None given) opened.within (c.kept.ensures ∙ kept ∙ opened.rest) opened.stands in
-    let waits : IsWaiting c.self.inside.tail fed (last_of None given) c.look-sight.result.held (c.self.inside.place + c.look-sight.result.passed) c.if-self.needed =
-    subst (λ (o : Option Frame). frame_or_wait c.self.inside.tail fed (last_of None given) c.look-sight.result.held (c.self.inside.place + c.look-sight.result.passed) c.if-self.needed o) c.in-None.is sees in
+    let looks =
+    subst (λ (t : List Bool). (f : List ℤ) (last : Option Frame) → c.self.inside.place ≤ length f →
+    c.kept_symbols.result.now ≡ drop c.self.inside.place f → IsAt t f last c.self.inside.held c.self.inside.place →
+    Finds t f last c.self.inside.place c.if-self.needed c.find_next-found.result) c.marker_tail-tail.ensures
+    c.find_next-found.ensures.seen in
+    let sees =
+    looks fed (last_of None given) opened.within (c.kept_symbols.ensures ∙ kept ∙ opened.rest) opened.stands in
+    let waits : IsWaiting (tail_of c.self.inside.line) fed (last_of None given) c.find_next-found.result.held
+    (c.self.inside.place + c.find_next-found.result.passed) c.if-self.needed =
+    subst (λ (o : Option Frame). FindsOrWaits (tail_of c.self.inside.line) fed
+    (last_of None given) c.find_next-found.result.held
+    (c.self.inside.place + c.find_next-found.result.passed) c.if-self.needed o) c.in-None.is sees in
     let more : c.self.inside.finished ≡ false → c.if-self.needed ≡ 16396 =
-    elim c.if-self.branch as (λ _. c.self.inside.finished ≡ false → c.if-self.needed ≡ 16396) [ then-self w ↦ (λ (e : c.self.inside.finished ≡ false). cc) | else-self w ↦ (λ (e : c.self.inside.finished ≡ false). w.needed-is) ] in
+    elim c.if-self.branch as (λ _. c.self.inside.finished ≡ false →
+    c.if-self.needed ≡ 16396) [
+      | then-self w ↦ (λ (e : c.self.inside.finished ≡ false). cc)
+      | else-self w ↦
+          (λ (e : c.self.inside.finished ≡ false). w.needed-is)
+    ] in
     let ends : c.self.inside.finished ≡ true → c.if-self.needed ≡ 16384 =
-    elim c.if-self.branch as (λ _. c.self.inside.finished ≡ true → c.if-self.needed ≡ 16384) [ then-self w ↦ (λ (e : c.self.inside.finished ≡ true). w.needed-is) | else-self w ↦ (λ (e : c.self.inside.finished ≡ true). cc) ] in
-    let left : drop (c.self.inside.passed + c.look-sight.result.passed) c.self.inside.symbols.items ≡ drop c.look-sight.result.passed (drop c.self.inside.passed c.self.inside.symbols.items) =
-    dropped c.self.inside.symbols.items c.self.inside.passed c.look-sight.result.passed (c.self.inside.passed + c.look-sight.result.passed) refl in
-    let before : LockState = record { tail = c.self.inside.tail; place = c.self.inside.place; kept = drop c.self.inside.passed c.self.inside.symbols.items; held = c.self.inside.held; finished = c.self.inside.finished } in
-    let later : LockState = record { tail = c.self.inside.tail; place = c.self.inside.place + c.look-sight.result.passed; kept = drop (c.self.inside.passed + c.look-sight.result.passed) c.self.inside.symbols.items; held = c.look-sight.result.held; finished = c.self.inside.finished } in
+    elim c.if-self.branch as (λ _. c.self.inside.finished ≡ true →
+    c.if-self.needed ≡ 16384) [
+      | then-self w ↦ (λ (e : c.self.inside.finished ≡ true). w.needed-is)
+      | else-self w ↦
+          (λ (e : c.self.inside.finished ≡ true). cc)
+    ] in
+    let left : drop (c.self.inside.passed + c.find_next-found.result.passed) c.self.inside.symbols.items ≡
+    drop c.find_next-found.result.passed (drop c.self.inside.passed c.self.inside.symbols.items) =
+    dropped c.self.inside.symbols.items c.self.inside.passed c.find_next-found.result.passed
+    (c.self.inside.passed + c.find_next-found.result.passed) refl in
+    let before : LockState =
+    record {
+      line = c.self.inside.line;
+      place = c.self.inside.place;
+      kept = drop c.self.inside.passed c.self.inside.symbols.items;
+      held = c.self.inside.held;
+      finished = c.self.inside.finished;
+    } in
+    let later : LockState =
+    record {
+      line = c.self.inside.line;
+      place = c.self.inside.place + c.find_next-found.result.passed;
+      kept = drop (c.self.inside.passed + c.find_next-found.result.passed) c.self.inside.symbols.items;
+      held = c.find_next-found.result.held;
+      finished = c.self.inside.finished;
+    } in
     subst (λ (l : LockState). Answers l later c.args.window.now fed given c.if-self-2.result) c.self.view_is
     (elim c.if-self-2.branch [
       | then-self-2 w ↦ subst (λ (s : Step). Answers before later c.args.window.now fed given s) (sym w.result-is)
-          (had_ended before later fed given c.look-sight.result.passed c.if-self.needed opened waits w.if-self-2.true (ends w.if-self-2.true) refl refl left refl)
+          (had_ended before later fed given c.find_next-found.result.passed c.if-self.needed opened waits
+          w.if-self-2.true (ends w.if-self-2.true) refl refl left refl)
       | else-self-2 w ↦ subst (λ (s : Step). Answers before later c.args.window.now fed given s) (sym w.result-is)
-          (wanted_more before later fed given c.look-sight.result.passed c.if-self.needed opened waits w.if-self-2.false (more w.if-self-2.false) refl refl left refl)
+          (wanted_more before later fed given c.find_next-found.result.passed c.if-self.needed opened waits
+          w.if-self-2.false (more w.if-self-2.false) refl refl left refl)
     ])
+
+pub returns-after-self-2-clause-unchanged : goal.returns-after-self-2-clause-unchanged
+returns-after-self-2-clause-unchanged c _ = refl

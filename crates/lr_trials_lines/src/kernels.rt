@@ -1,0 +1,82 @@
+//! Both kernels beside one another.
+
+ghost use Rattle.std.specs.Prelude.{◌≡◌, length};
+
+use crate::windows::{LINES, drawn_window};
+use lr_bits::{BLOCK_BYTES, NoMemory, WINDOW_SYMBOLS};
+use lr_conv::LineCode;
+use lr_lanes::{LaneScratch, nearest_lanes};
+use lr_trellis::{TrellisScratch, nearest};
+use std::alloc::{AllocError, Global};
+use std::test::Fail;
+
+/// Room for both kernels.
+#[derive(Drop)]
+pub(crate) struct Kernels {
+    plain: TrellisScratch,
+    lanes: LaneScratch,
+}
+
+impl Kernels {
+    pub(crate) fn new(alloc: Global) -> Result<Kernels, NoMemory> {
+        let plain = TrellisScratch::new(alloc)?;
+        let lanes = LaneScratch::new(alloc)?;
+        Ok(Kernels { plain, lanes })
+    }
+
+    /// The bytes that both kernels give for a window, where they give the same.
+    pub(crate) fn bytes_of(&mut self, line: LineCode, window: &[i8]) -> Option<[u8; BLOCK_BYTES]>
+        requires { length window.now ≡ WINDOW_SYMBOLS }
+    {
+        let mut bytes = [1; BLOCK_BYTES];
+        let mut others = [2; BLOCK_BYTES];
+        nearest(line, window, &mut self.plain, &mut bytes);
+        nearest_lanes(line, window, &mut self.lanes, &mut others);
+        if bytes == others { Some(bytes) } else { None }
+    }
+}
+
+/// Whether both kernels give the same bytes for a window under each line code.
+fn agree(kernels: &mut Kernels, window: &[i8]) -> bool
+    requires { length window.now ≡ WINDOW_SYMBOLS }
+{
+    for line in LINES {
+        if kernels.bytes_of(line, window).is_none() {
+            return false;
+        }
+    }
+    true
+}
+
+#[test]
+fn both_kernels_agree_on_drawn_windows(rt: HostRuntime) -> Result<(), Fail> {
+    let mut kernels = Kernels::new(rt.alloc())?;
+    for start in 1..=32u64 {
+        let window = drawn_window(rt.alloc(), start)?;
+        assert!(rt; agree(&mut kernels, &window));
+    }
+    Ok(())
+}
+
+/// Whether both kernels give this first byte and zeros for a window of zeros, in which all paths tie.
+fn zeros_give(
+    alloc: Global,
+    kernels: &mut Kernels,
+    line: LineCode,
+    first: u8,
+) -> Result<bool, AllocError> {
+    let window = vec![in alloc; 0i8; WINDOW_SYMBOLS]?;
+    let mut expected = [0; BLOCK_BYTES];
+    expected[0] = first;
+    Ok(kernels.bytes_of(line, &window) == Some(expected))
+}
+
+#[test]
+fn least_levels_win_where_all_paths_tie(rt: HostRuntime) -> Result<(), Fail> {
+    let mut kernels = Kernels::new(rt.alloc())?;
+    for line in LINES {
+        let first = if line.marks { 0x80 } else { 0 };
+        assert!(rt; zeros_give(rt.alloc(), &mut kernels, line, first)?);
+    }
+    Ok(())
+}

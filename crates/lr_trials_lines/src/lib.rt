@@ -1,0 +1,13 @@
+//! Trials of the line codes and of both kernels. The expected bits come from reference/lines.py, a program of its own
+//! that tries every list of bits, and the tails and the windows of zeros from the definitions by hand.
+#![tactic(auto)]
+
+#[cfg(test)]
+mod coded;
+#[cfg(test)]
+mod kernels;
+#[cfg(test)]
+mod small;
+#[cfg(test)]
+mod tails;
+pub mod windows;
