@@ -7,8 +7,10 @@
 //! outcome. `shelf-memory` and `shelf-file` put that many small files on a new shelf, the latter in the file
 //! `shelf.bench` of the working folder, and `shelf-load` loads what stands there. `all` does `rs`, `path`, `lanes`,
 //! `lock`, `frame` and `shelf-memory`. A line for each says the rounds and what came of them, or a checksum of it.
+//! `lines` and `samples` have more words, and read coded lines from standard input.
 #![tactic(auto)]
 
+mod lines;
 mod lock;
 mod path;
 mod shelf;
@@ -19,13 +21,17 @@ use shelf::Trouble;
 use std::env;
 
 fn main(rt: HostRuntime) -> Result<(), Trouble> {
-    let mut args = env::args(&rt)?.skip(1);
-    let (Some(name), Some(rounds)) = (args.next(), args.next()) else {
+    let words: Vec<String> = env::args(&rt)?.skip(1).collect(rt.alloc())?;
+    let [name, rounds, ..] = words.as_slice() else {
         return Ok(eprintln!(rt; "usage: NAME ROUNDS")?);
     };
+    let name = name.as_str();
+    if matches!(name, "lines" | "samples") {
+        return lines::run(&rt, name, &words[1..]);
+    }
     let rounds = rounds.as_str().parse::<u32>().unwrap_or(0);
-    words::run(&rt, name.as_str(), rounds)?;
-    path::run(&rt, name.as_str(), rounds)?;
-    lock::run(&rt, name.as_str(), rounds)?;
-    shelf::run(&rt, name.as_str(), u64::from(rounds))
+    words::run(&rt, name, rounds)?;
+    path::run(&rt, name, rounds)?;
+    lock::run(&rt, name, rounds)?;
+    shelf::run(&rt, name, u64::from(rounds))
 }

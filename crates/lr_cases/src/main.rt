@@ -1,14 +1,16 @@
-//! Draws histories of frames for `Channels` and lists of good packets for `Files`, and prints for each kind how many there
-//! were, with a checksum of what came of them. `reference/packets.py` and `reference/files.py` draw the same ones, and compute
-//! the same lines from the definitions alone.
+//! Draws histories of frames for `Channels`, lists of good packets for `Files` and strings for `decode_lines`, and prints for
+//! each kind how many there were, with a checksum of what came of them. `reference/packets.py`, `reference/files.py` and
+//! `reference/lines.py` draw the same ones, and compute the same lines from the definitions alone.
 #![tactic(auto)]
 
 mod draw;
 mod files;
+mod lines;
 mod packets;
 mod sender;
 
 use files::{LISTS, add_lists};
+use lines::{STRINGS, add_strings};
 use packets::{HISTORIES, add_histories};
 use std::io;
 
@@ -42,7 +44,26 @@ fn print_files(rt: &HostRuntime) -> io::Result<()> {
     }
 }
 
+fn print_lines(rt: &HostRuntime) -> io::Result<()> {
+    match add_strings(rt.alloc()) {
+        Ok(tally) => {
+            let lines::Tally {
+                lines,
+                ended,
+                range,
+                run,
+                checksum,
+            } = tally;
+            println!(rt;
+                "strings {STRINGS} lines {lines} ended {ended} range {range} run {run} checksum {checksum}"
+            )
+        }
+        Err(_) => println!(rt; "no memory"),
+    }
+}
+
 fn main(rt: HostRuntime) -> io::Result<()> {
     print_packets(&rt)?;
-    print_files(&rt)
+    print_files(&rt)?;
+    print_lines(&rt)
 }

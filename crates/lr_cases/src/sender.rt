@@ -1,7 +1,8 @@
 ghost use Rattle.std.specs.Prelude.{◌<◌, ◌≤◌, ◌^◌};
 
 use crate::draw::Draw;
-use lr_vc::{TransferFrame, ZONE_BYTES};
+use lr_bits::ZONE_BYTES;
+use lr_vc::TransferFrame;
 
 const COUNTERS: u32 = 1 << 24;
 

@@ -27,7 +27,8 @@ padded n bytes = bytes ++ replicate (n - length bytes) 0
 
 -- these bytes at that place; a gap is filled with zeros
 abbrev pub written_over : ℕ → List ℕ → List ℕ → List ℕ
-written_over at bytes old = take at (padded (at + length bytes) old) ++ bytes ++ drop (at + length bytes) (padded (at + length bytes) old)
+written_over at bytes old = take at (padded (at + length bytes) old) ++ bytes
+    ++ drop (at + length bytes) (padded (at + length bytes) old)
 
 abbrev pub over : ℕ → List ℕ → State → State
 over at bytes s = record {
@@ -52,6 +53,12 @@ abbrev pub reach : List Call → ℕ
 reach [] = 0
 reach (Wrote at from count ∷ calls) = max (from + count) (reach calls)
 reach (call ∷ calls) = reach calls
+
+-- where the writes end that go farthest
+abbrev pub span : List Call → ℕ
+span [] = 0
+span (Wrote at from count ∷ calls) = max (at + count) (span calls)
+span (call ∷ calls) = span calls
 
 -- a crash image of these pending steps
 abbrev pub IsImageOf : List ℕ → List Pending → List ℕ → Type 0
@@ -83,17 +90,20 @@ over_written at bytes old =
     let n = at + length bytes in
     let zeros : List ℕ = replicate (n - length old) 0 in
     let p : List ℕ = padded n old in
-    let long : length p ≡ max (length old) n = omega (arith, length-append old zeros, length-replicate {A = ℕ} (n - length old) 0) in
+    let long : length p ≡ max (length old) n =
+    omega (arith, length-append old zeros, length-replicate {A = ℕ} (n - length old) 0) in
     let front : length (take at p) ≡ at = omega (arith, length-take at p) in
     let front_two : length (take at p ++ bytes) ≡ n = omega (arith, length-append (take at p) bytes) in
     let m = min at (length old) in
     record {
       before =
-          take-append-le m (take at p ++ bytes) (drop n p) (omega arith) ∙ take-append-le m (take at p) bytes (omega arith)
+          take-append-le m (take at p ++ bytes) (drop n p) (omega arith)
+          ∙ take-append-le m (take at p) bytes (omega arith)
           ∙ take-take m at p (omega arith) ∙ take-append-le m old zeros (omega arith);
       here =
           ap (λ (l : List ℕ). take (length bytes) l)
-          (drop-append-le at (take at p ++ bytes) (drop n p) (omega arith) ∙ ap (λ (l : List ℕ). l ++ drop n p) (drop_at (take at p) bytes at front))
+          (drop-append-le at (take at p ++ bytes) (drop n p) (omega arith)
+          ∙ ap (λ (l : List ℕ). l ++ drop n p) (drop_at (take at p) bytes at front))
           ∙ take_at bytes (drop n p) (length bytes) refl;
       after = drop_at (take at p ++ bytes) (drop n p) n front_two ∙ beyond n old;
       size = omega (arith, length-append (take at p ++ bytes) (drop n p), length-drop n p);
@@ -102,7 +112,12 @@ over_written at bytes old =
     beyond : (n : ℕ) (old : List ℕ) → drop n (padded n old) ≡ drop n old
     beyond n old = elim (cases_lt (length old) n) [
       | inl long ↦
-          drop_all n (padded n old) (omega (arith, length-append old (replicate (n - length old) 0), length-replicate {A = ℕ} (n - length old) 0))
+          drop_all n (padded n old)
+          (omega (
+            arith,
+            length-append old (replicate (n - length old) 0),
+            length-replicate {A = ℕ} (n - length old) 0,
+          ))
           ∙ sym (drop_all n old (omega arith))
       | inr short ↦
           let none : n - length old ≡ 0 = omega arith in
@@ -110,32 +125,44 @@ over_written at bytes old =
           ∙ ap (λ (l : List ℕ). drop n old ++ l) (ap (λ (k : ℕ). replicate k 0) none) ∙ append-nil (drop n old)
     ]
 
-pub written_torn : (at : ℕ) (bytes old new : List ℕ) → Written at bytes old new → Torn (min at (length old)) (at + length bytes) old new
-written_torn at bytes old new w = record { before = w.before; after = w.after; no_shorter = omega (arith, w.size); no_longer = omega (arith, w.size) }
+pub written_torn : (at : ℕ) (bytes old new : List ℕ) → Written at bytes old new
+    → Torn (min at (length old)) (at + length bytes) old new
+written_torn at bytes old new w =
+    record { before = w.before; after = w.after; no_shorter = omega (arith, w.size); no_longer = omega (arith, w.size) }
 
 -- the contents are a crash image
-step_contents : (log : List ℕ) (call : Call) (s : State) → IsImage s s.contents → IsImage (after log call s) (after log call s).contents
+pub step_contents : (log : List ℕ) (call : Call) (s : State) → IsImage s s.contents
+    → IsImage (after log call s) (after log call s).contents
 step_contents log Kept s image = image
-step_contents log (Wrote at from count) s image = (s.contents, image, written_torn _ _ _ _ (over_written at (take count (drop from log)) s.contents))
+step_contents log (Wrote at from count) s image =
+    (s.contents, image, written_torn _ _ _ _ (over_written at (take count (drop from log)) s.contents))
 step_contents log (Shortened n) s image = (s.contents, image, record { kept = n; enough = omega arith; front = refl })
 step_contents log Synced s image = refl
 
-contents_after : (log : List ℕ) (calls : List Call) (s : State) → IsImage s s.contents → IsImage (after_all log calls s) (after_all log calls s).contents
+contents_after : (log : List ℕ) (calls : List Call) (s : State) → IsImage s s.contents
+    → IsImage (after_all log calls s) (after_all log calls s).contents
 contents_after log [] s image = image
 contents_after log (call ∷ calls) s image = contents_after log calls (after log call s) (step_contents log call s image)
 
-pub leaves_its_contents : (first log : List ℕ) (calls : List Call) (contents : List ℕ) → contents ≡ (after_all log calls (at_start first)).contents → IsImage (after_all log calls (at_start first)) contents
+pub leaves_its_contents : (first log : List ℕ) (calls : List Call) (contents : List ℕ)
+    → contents ≡ (after_all log calls (at_start first)).contents
+    → IsImage (after_all log calls (at_start first)) contents
 leaves_its_contents first log calls contents same =
-    subst (λ (c : List ℕ). IsImage (after_all log calls (at_start first)) c) (sym same) (contents_after log calls (at_start first) refl)
+    subst (λ (c : List ℕ). IsImage (after_all log calls (at_start first)) c) (sym same)
+    (contents_after log calls (at_start first) refl)
 
-pub counts_this_moment : (first log : List ℕ) (calls : List Call) (t : ℕ) (c : List ℕ) → t ≤ length calls → IsImage (after_all log calls (at_start first)) c → LeftSince first log calls t c
+pub counts_this_moment : (first log : List ℕ) (calls : List Call) (t : ℕ) (c : List ℕ) → t ≤ length calls
+    → IsImage (after_all log calls (at_start first)) c → LeftSince first log calls t c
 counts_this_moment first log calls t c le image = record {
   moment = length calls;
   not_before = le;
   not_after = omega arith;
-  image = subst (λ (l : List Call). IsImage (after_all log l (at_start first)) c) (sym (take_all (length calls) calls (omega arith))) image;
+  image = subst (λ (l : List Call). IsImage (after_all log l (at_start first)) c)
+      (sym (take_all (length calls) calls (omega arith))) image;
 }
 
-pub only_this_moment : (first log : List ℕ) (calls : List Call) (c : List ℕ) → LeftSince first log calls (length calls) c → IsImage (after_all log calls (at_start first)) c
+pub only_this_moment : (first log : List ℕ) (calls : List Call) (c : List ℕ)
+    → LeftSince first log calls (length calls) c → IsImage (after_all log calls (at_start first)) c
 only_this_moment first log calls c left =
-    subst (λ (l : List Call). IsImage (after_all log l (at_start first)) c) (take_all left.moment calls (omega (arith, left.not_before))) left.image
+    subst (λ (l : List Call). IsImage (after_all log l (at_start first)) c)
+    (take_all left.moment calls (omega (arith, left.not_before))) left.image

@@ -1,6 +1,7 @@
 -- What the pending writes and cuts of a disk in memory leave open, and what they don't.
 use Rattle.std.specs.Prelude.{◌≡◌, ◌⊎◌, ◌<◌, ◌≤◌, ℕ, min, max, List, [], ◌∷◌, length, slice_index}
-use Rattle.lr_disk.specs.Mem.{Pending, torn, cut, IsImageOf}
+use Rattle.lr_disk.specs.Mem.{Pending, torn, cut, IsImageOf, after_all, at_start, images}
+use Rattle.lr_disk.specs.declared.past.Call.{Call}
 
 -- no pending range has this place
 abbrev pub IsOutside : List Pending → ℕ → Type 0
@@ -27,4 +28,12 @@ pub record KeepsTheRest (durable : List ℕ) (pending : List Pending) (c : List 
 
 -- so does each crash image
 abbrev pub ImagesKeepTheRest : Type 0
-ImagesKeepTheRest = (durable : List ℕ) (pending : List Pending) (c : List ℕ) → IsImageOf durable pending c → KeepsTheRest durable pending c
+ImagesKeepTheRest = (durable : List ℕ) (pending : List Pending) (c : List ℕ) → IsImageOf durable pending c
+    → KeepsTheRest durable pending c
+
+-- and each list of bytes that does is a crash image, whatever the calls were
+abbrev pub KeepersAreImages : Type 0
+KeepersAreImages =
+    (first log : List ℕ) (calls : List Call) (c : List ℕ)
+    → KeepsTheRest (after_all log calls (at_start first)).durable (after_all log calls (at_start first)).pending c
+    → images first log calls c

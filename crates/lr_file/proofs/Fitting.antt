@@ -1,5 +1,6 @@
 -- Each file has a body and ten bytes, and the files fit their packets.
-use Rattle.std.proofs.Common.{◌≡◌, ℕ, ◌+◌, ◌*◌, ◌≤◌, Bool, true, false, cond, eqb, leb, ◌&&◌, Option, Some, None, List, [], ◌∷◌, ◌++◌, length, filter, refl, ap, ◌∙◌, subst, arith, length-append}
+use Rattle.std.proofs.Common.{◌≡◌, ℕ, ◌+◌, ◌*◌, ◌≤◌, Bool, true, false, cond, eqb, leb, ◌&&◌, Option, Some, None, List}
+use Rattle.std.proofs.Common.{[], ◌∷◌, ◌++◌, length, filter, refl, ap, ◌∙◌, subst, arith, length-append}
 use Rattle.std.specs.Prelude.{find, All}
 use Rattle.std.specs.List.{concat, sum_by}
 use Rattle.std.specs.Option.{option_map, option_to_list}
@@ -10,10 +11,12 @@ use Rattle.std.proofs.lemmas.List.Sums.{sum_by-cons, sum_by-append, sum_by_push}
 use Rattle.lr_bits.specs.File.{File, bytes_of}
 use Rattle.lr_bits.proofs.ByKeys.{sums_by_key}
 use Rattle.lr_packet.specs.Verdict.{Good}
-use Rattle.lr_file.specs.Files.{packets_of_key, last_stretches, bodies_of, size_of, is_file, file_from, file_at, files_behind, files_of}
+use Rattle.lr_file.specs.Files.{packets_of_key, last_stretches, bodies_of, size_of, is_file, file_from, file_at}
+use Rattle.lr_file.specs.Files.{files_after, files_of}
 use Rattle.lr_file.specs.Standing.{is_open, open_from}
 use Rattle.lr_file.specs.Steps.{is_next}
-use Rattle.lr_file.proofs.Stretches.{longer, find-end, is_open-end, is_file-end, is_open-one, is_file-one, and_left, and_right}
+use Rattle.lr_file.proofs.Stretches.{longer, find-end, is_open-end, is_file-end, is_open-one, is_file-one, and_left}
+use Rattle.lr_file.proofs.Stretches.{and_right}
 use Rattle.lr_file.proofs.Histories.{packets_of_key-own, packets_of_key-other}
 use Rattle.lr_file.proofs.KeyLemmas.{same_key}
 
@@ -34,19 +37,23 @@ some_from vc apid stretch is =
 some_turn : (vc apid : ℕ) (stretch : List Good) (stretches : List (List Good)) (is : Bool) → is_file stretch ≡ is →
     All IsFilled (option_to_list (option_map (file_from vc apid) (find is_file stretches))) →
     All IsFilled (option_to_list (option_map (file_from vc apid) (find is_file (stretch ∷ stretches))))
-some_turn vc apid stretch stretches true is rest = rw is (All-cons IsFilled (file_from vc apid stretch) [] (some_from vc apid stretch is) (All-nil IsFilled))
+some_turn vc apid stretch stretches true is rest =
+    rw is (All-cons IsFilled (file_from vc apid stretch) [] (some_from vc apid stretch is) (All-nil IsFilled))
 some_turn vc apid stretch stretches false is rest = rw is rest
 
-some_found : (vc apid : ℕ) (stretches : List (List Good)) → All IsFilled (option_to_list (option_map (file_from vc apid) (find is_file stretches)))
+some_found : (vc apid : ℕ) (stretches : List (List Good)) →
+    All IsFilled (option_to_list (option_map (file_from vc apid) (find is_file stretches)))
 some_found vc apid [] = All-nil IsFilled
-some_found vc apid (stretch ∷ stretches) = some_turn vc apid stretch stretches (is_file stretch) refl (some_found vc apid stretches)
+some_found vc apid (stretch ∷ stretches) =
+    some_turn vc apid stretch stretches (is_file stretch) refl (some_found vc apid stretches)
 
-some_behind : (before packets : List Good) → All IsFilled (files_behind before packets)
+some_behind : (before packets : List Good) → All IsFilled (files_after before packets)
 unfolding file_at
 some_behind before [] = All-nil IsFilled
 some_behind before (p ∷ ps) =
-    All-append IsFilled (option_to_list (file_at before p)) (files_behind (before ++ p ∷ []) ps)
-    (some_found p.vc p.apid (last_stretches (packets_of_key p.vc p.apid (before ++ p ∷ [])))) (some_behind (before ++ p ∷ []) ps)
+    All-append IsFilled (option_to_list (file_at before p)) (files_after (before ++ p ∷ []) ps)
+    (some_found p.vc p.apid (last_stretches (packets_of_key p.vc p.apid (before ++ p ∷ []))))
+    (some_behind (before ++ p ∷ []) ps)
 
 -- each file has a body, and ten bytes
 pub files_some : (packets : List Good) → All IsFilled (files_of packets)
@@ -75,13 +82,16 @@ weigh_alone p true more = omega arith
 weigh_alone p false more = omega arith
 
 -- a stretch with one packet more, or the packet alone, has at most the weights of both
-weigh_longer : (Q : List Good → Bool) (p : Good) (alone : Bool) (o : Option (List Good)) → weigh_some (longer Q p alone o) ≤ weigh_some o + weigh p
+weigh_longer : (Q : List Good → Bool) (p : Good) (alone : Bool) (o : Option (List Good)) →
+    weigh_some (longer Q p alone o) ≤ weigh_some o + weigh p
 weigh_longer Q p alone None = weigh_alone p alone 0
 weigh_longer Q p alone (Some s) =
-    cond_both (Q s) (Some (s ++ p ∷ [])) (cond alone (Some (p ∷ [])) None) (λ o. weigh_some o ≤ sum_by weigh s + weigh p)
+    cond_both (Q s) (Some (s ++ p ∷ [])) (cond alone (Some (p ∷ [])) None)
+    (λ o. weigh_some o ≤ sum_by weigh s + weigh p)
     (λ e. omega (arith, sum_by_push weigh s p)) (λ e. weigh_alone p alone (sum_by weigh s))
 
-longer_none : (Q : List Good → Bool) (p : Good) (alone : Bool) (o : Option (List Good)) → ((s : List Good) → Q s ≡ false) → alone ≡ false →
+longer_none : (Q : List Good → Bool) (p : Good) (alone : Bool) (o : Option (List Good)) →
+    ((s : List Good) → Q s ≡ false) → alone ≡ false →
     longer Q p alone o ≡ None
 longer_none Q p alone None none e = rw e refl
 longer_none Q p alone (Some s) none e = rw (none s, e) refl
@@ -96,7 +106,8 @@ goes_on p s = eqb p.flags 0 && is_next (open_from s) p
 
 -- of the file that ends with a packet and the one that is open behind it at most one is there
 weigh_both : (p : Good) (late : Bool) → leb 2 p.flags ≡ late → (o : Option (List Good)) →
-    weigh_some (longer (ends p) p (is_file (p ∷ [])) o) + weigh_some (longer (goes_on p) p (is_open (p ∷ [])) o) ≤ weigh_some o + weigh p
+    weigh_some (longer (ends p) p (is_file (p ∷ [])) o) + weigh_some
+    (longer (goes_on p) p (is_open (p ∷ [])) o) ≤ weigh_some o + weigh p
 weigh_both p true e o =
     let zero : eqb p.flags 0 ≡ false = grind (arith, nat_tests) in
     let one : eqb p.flags 1 ≡ false = grind (arith, nat_tests) in
@@ -130,7 +141,8 @@ weigh_packets k packets = sum_by weigh (packets_of_key k.0 k.1 packets)
 
 sum_by-filter-append : {X : Type 0} (f : X → ℕ) (test : X → Bool) (xs ys : List X) →
     sum_by f (filter test (xs ++ ys)) ≡ sum_by f (filter test xs) + sum_by f (filter test ys)
-sum_by-filter-append f test xs ys = ap (sum_by f) (filter-append test xs ys) ∙ sum_by-append f (filter test xs) (filter test ys)
+sum_by-filter-append f test xs ys =
+    ap (sum_by f) (filter-append test xs ys) ∙ sum_by-append f (filter test xs) (filter test ys)
 
 weigh_files-one : (k l : ℕ × ℕ) (own : Bool) → same k l ≡ own → (o : Option (List Good)) →
     weigh_files l (option_to_list (option_map (file_from k.0 k.1) o)) ≡ cond own (weigh_some o) 0
@@ -141,7 +153,9 @@ weigh_files-one k l false e (Some s) = rw e refl
 
 -- the file and the open file that one packet more makes weigh at most what was open and the packet
 abbrev Fits : List Good → Good → ℕ × ℕ → Type 0
-Fits before p k = weigh_files k (option_to_list (file_at before p)) + weigh_open k (before ++ p ∷ []) ≤ weigh_open k before + weigh_packets k (p ∷ [])
+Fits before p k =
+    weigh_files k (option_to_list (file_at before p)) + weigh_open k (before ++ p ∷ []) ≤ weigh_open k before
+    + weigh_packets k (p ∷ [])
 
 fits_own : (before : List Good) (p : Good) → Fits before p (p.vc, p.apid)
 unfolding file_at
@@ -149,16 +163,21 @@ fits_own before p =
     let own = packets_of_key p.vc p.apid before in
     let is = same_self (p.vc, p.apid) in
     let more = packets_of_key-own before p in
-    let ended = ap (λ ps. find is_file (last_stretches ps)) more ∙ find-end is_file (ends p) p (λ q qs. is_file-end q qs p) own in
-    let begun = ap (λ ps. find is_open (last_stretches ps)) more ∙ find-end is_open (goes_on p) p (λ q qs. is_open-end q qs p) own in
+    let completed_file =
+    ap (λ ps. find is_file (last_stretches ps)) more
+    ∙ find-end is_file (ends p) p (λ q qs. is_file-end q qs p) own in
+    let file_begun_by =
+    ap (λ ps. find is_open (last_stretches ps)) more
+    ∙ find-end is_open (goes_on p) p (λ q qs. is_open-end q qs p) own in
     let one : weigh_packets (p.vc, p.apid) (p ∷ []) ≡ weigh p = rw is (omega arith) in
     omega (
       arith,
       one,
-      ap weigh_some ended,
-      ap weigh_some begun,
+      ap weigh_some completed_file,
+      ap weigh_some file_begun_by,
       weigh_both p (leb 2 p.flags) refl (find is_open (last_stretches own)),
-      weigh_files-one (p.vc, p.apid) (p.vc, p.apid) true is (find is_file (last_stretches (packets_of_key p.vc p.apid (before ++ p ∷ [])))),
+      weigh_files-one (p.vc, p.apid) (p.vc, p.apid) true is
+          (find is_file (last_stretches (packets_of_key p.vc p.apid (before ++ p ∷ [])))),
     )
 
 fits_one : (before : List Good) (p : Good) (k : ℕ × ℕ) (own : Bool) → same (p.vc, p.apid) k ≡ own → Fits before p k
@@ -166,15 +185,21 @@ unfolding file_at
 fits_one before p k true e = subst (Fits before p) (same_is (p.vc, p.apid) k e) (fits_own before p)
 fits_one before p k false e =
     rw (e, packets_of_key-other k.0 k.1 before p e)
-    (omega (arith, weigh_files-one (p.vc, p.apid) k false e (find is_file (last_stretches (packets_of_key p.vc p.apid (before ++ p ∷ []))))))
+    (omega (
+      arith,
+      weigh_files-one (p.vc, p.apid) k false e
+          (find is_file (last_stretches (packets_of_key p.vc p.apid (before ++ p ∷ [])))),
+    ))
 
 -- the files of a key behind these packets fit what was open and the packets of the key
-fits_behind : (k : ℕ × ℕ) (before packets : List Good) → weigh_files k (files_behind before packets) ≤ weigh_open k before + weigh_packets k packets
+fits_behind : (k : ℕ × ℕ) (before packets : List Good) →
+    weigh_files k (files_after before packets) ≤ weigh_open k before + weigh_packets k packets
 fits_behind k before [] = omega arith
 fits_behind k before (p ∷ ps) =
     omega (
       arith,
-      sum_by-filter-append weigh_file (λ file. same (file.vc, file.apid) k) (option_to_list (file_at before p)) (files_behind (before ++ p ∷ []) ps),
+      sum_by-filter-append weigh_file (λ file. same (file.vc, file.apid) k) (option_to_list (file_at before p))
+          (files_after (before ++ p ∷ []) ps),
       sum_by-filter-append weigh (λ q. same (q.vc, q.apid) k) (p ∷ []) ps,
       fits_one before p k (same (p.vc, p.apid) k) refl,
       fits_behind k (before ++ p ∷ []) ps,
@@ -184,5 +209,6 @@ fits_behind k before (p ∷ ps) =
 pub files_fit : (packets : List Good) → sum_by weigh_file (files_of packets) ≤ sum_by weigh packets
 unfolding files_of
 files_fit packets =
-    sums_by_key same same_is same_self (λ file. (file.vc, file.apid)) (λ p. (p.vc, p.apid)) weigh_file weigh (files_of packets) packets
+    sums_by_key same same_is same_self (λ file. (file.vc, file.apid)) (λ p. (p.vc, p.apid)) weigh_file weigh
+    (files_of packets) packets
     (λ k. let fits = fits_behind k [] packets in omega arith)

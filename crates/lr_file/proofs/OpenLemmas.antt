@@ -1,5 +1,6 @@
 -- An open file stays within the limits, and the file that is built of it.
-use Rattle.std.proofs.Common.{◌≡◌, ℕ, ◌+◌, ◌<◌, ◌≤◌, true, false, IsTrue, leb, ltb, eqb, Option, Some, None, [], ◌∷◌, ◌++◌, length, sum, refl, ◌%◌, sym, ap, ◌∙◌, arith, length-append}
+use Rattle.std.proofs.Common.{◌≡◌, ℕ, ◌+◌, ◌<◌, ◌≤◌, true, false, IsTrue, leb, ltb, eqb, Option, Some, None, [], ◌∷◌}
+use Rattle.std.proofs.Common.{◌++◌, length, sum, refl, ◌%◌, sym, ap, ◌∙◌, arith, length-append}
 use Rattle.std.specs.Prelude.{SomeIff}
 use Rattle.std.specs.List.{concat}
 use Rattle.std.proofs.lemmas.Bool.{ltb-true, leb-true}
@@ -10,7 +11,7 @@ use Rattle.lr_bits.specs.File.{File, MakeFile, file_of, pieces_of}
 use Rattle.lr_bits.proofs.FileLemmas.{pieces_of-concat, sum-map-length}
 use Rattle.lr_packet.specs.Verdict.{Good}
 use Rattle.lr_file.specs.Standing.{Open, IsWithinLimits}
-use Rattle.lr_file.specs.Steps.{is_next, joined, IsBuilt}
+use Rattle.lr_file.specs.Steps.{is_next, file_with, IsBuilt}
 use Rattle.lr_file.proofs.Stretches.{and_left, and_right, and_false}
 
 pub is_next-few : (file : Open) (p : Good) → IsTrue (is_next file p) → length file.lengths < 1048576
@@ -32,9 +33,9 @@ limits-lengths file p short next is =
       counted = is.counted;
     }
 
-pub limits-joined : (file : Open) (p : Good) → length p.body < 65535 → p.count < 16384 → IsTrue (is_next file p) →
-    IsWithinLimits file → IsWithinLimits (joined file p)
-limits-joined file p short counted next is =
+pub limits-file_with : (file : Open) (p : Good) → length p.body < 65535 → p.count < 16384 → IsTrue (is_next file p) →
+    IsWithinLimits file → IsWithinLimits (file_with file p)
+limits-file_with file p short counted next is =
     let longer = limits-lengths file p short next is in
     record {
       short = longer.short;
@@ -45,7 +46,8 @@ limits-joined file p short counted next is =
 
 -- what `build` answers at an open file
 pub built_from : (vc apid : ℕ) (file : Open) (result : Option File) → vc < 64 → apid < 2047 → IsWithinLimits file →
-    SomeIff result (MakeFile vc apid file.lengths file.bytes) (file_of vc apid file.lengths file.bytes) → IsBuilt vc apid file result
+    SomeIff result (MakeFile vc apid file.lengths file.bytes) (file_of vc apid file.lengths file.bytes) →
+    IsBuilt vc apid file result
 built_from vc apid file None channel application is h bodies some lengths bytes =
     λ ten.
     let all : length file.bytes ≡ length (concat bodies) = ap length bytes in
@@ -60,8 +62,11 @@ built_from vc apid file None channel application is h bodies some lengths bytes 
       least = ten;
       most = is.most;
     })
-built_from vc apid file (Some x) channel application is h bodies some lengths bytes =
-    (h.0.least, h.1 ∙ ap (λ pieces. record { vc = vc; apid = apid; bodies = pieces }) ((λ i. pieces_of (lengths i) (bytes i)) ∙ pieces_of-concat bodies))
+built_from vc apid file (Some x) channel application is h bodies some lengths bytes = (
+  h.0.least,
+  h.1 ∙ ap (λ pieces. record { vc = vc; apid = apid; bodies = pieces })
+      ((λ i. pieces_of (lengths i) (bytes i)) ∙ pieces_of-concat bodies),
+)
 
 -- which packet follows, test by test
 pub is_next-all : (file : Open) (p : Good) → p.count ≡ (file.count + 1) % 16384 → length file.lengths + 1 ≤ 1048576 →

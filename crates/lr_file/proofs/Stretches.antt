@@ -1,5 +1,7 @@
 -- The stretches that end with the last packet, and what one packet more makes of them.
-use Rattle.std.proofs.Common.{◌≡◌, ℕ, zero, suc, ◌+◌, ◌-◌, ◌%◌, Bool, true, false, cond, eqb, ltb, leb, ◌&&◌, Option, Some, None, List, [], ◌∷◌, ◌++◌, length, map, refl, sym, ap, ◌∙◌, arith, length-append, append_assoc}
+use Rattle.std.proofs.Common.{◌≡◌, ℕ, zero, suc, ◌+◌, ◌-◌, ◌%◌, Bool, true, false, cond, eqb, ltb, leb, ◌&&◌, Option}
+use Rattle.std.proofs.Common.{Some, None, List, [], ◌∷◌, ◌++◌, length, map, refl, sym, ap, ◌∙◌, arith, length-append}
+use Rattle.std.proofs.Common.{append_assoc}
 use Rattle.std.specs.Prelude.{find, replicate}
 use Rattle.std.specs.List.{concat}
 use Rattle.std.specs.Str.{bytes_eq}
@@ -39,7 +41,8 @@ and_assoc false b c = refl
 flags-end : (qs : List Good) (p : Good) (k : ℕ) →
     bytes_eq (flags (qs ++ p ∷ [])) (zeros (length qs) ++ k ∷ []) ≡ (are_zeros qs && eqb p.flags k)
 flags-end [] p k = and_true (eqb p.flags k)
-flags-end (q ∷ qs) p k = ap (λ b. eqb q.flags 0 && b) (flags-end qs p k) ∙ sym (and_assoc (eqb q.flags 0) (are_zeros qs) (eqb p.flags k))
+flags-end (q ∷ qs) p k =
+    ap (λ b. eqb q.flags 0 && b) (flags-end qs p k) ∙ sym (and_assoc (eqb q.flags 0) (are_zeros qs) (eqb p.flags k))
 
 zeros-end : (n : ℕ) → zeros (suc n) ≡ zeros n ++ 0 ∷ []
 zeros-end zero = refl
@@ -49,7 +52,8 @@ length-end : (qs : List Good) (p : Good) → length (qs ++ p ∷ []) ≡ suc (le
 length-end [] p = refl
 length-end (q ∷ qs) p = ap suc (length-end qs p)
 
-open_flags : (q : Good) (qs : List Good) → bytes_eq (flags (q ∷ qs)) (flags_of_open (length (q ∷ qs))) ≡ (eqb q.flags 1 && are_zeros qs)
+open_flags : (q : Good) (qs : List Good) →
+    bytes_eq (flags (q ∷ qs)) (flags_of_open (length (q ∷ qs))) ≡ (eqb q.flags 1 && are_zeros qs)
 open_flags q qs =
     let less : suc (length qs) - 1 ≡ length qs = omega arith in
     ap (λ n. eqb q.flags 1 && bytes_eq (flags qs) (zeros n)) less
@@ -61,17 +65,21 @@ are_zeros-end qs p =
     ∙ flags-end qs p 0
 
 open_flags-end : (q : Good) (qs : List Good) (p : Good) →
-    bytes_eq (flags (q ∷ qs ++ p ∷ [])) (flags_of_open (length (q ∷ qs ++ p ∷ []))) ≡ ((eqb q.flags 1 && are_zeros qs) && eqb p.flags 0)
+    bytes_eq (flags (q ∷ qs ++ p ∷ [])) (flags_of_open (length (q ∷ qs ++ p ∷ []))) ≡
+    ((eqb q.flags 1 && are_zeros qs) && eqb p.flags 0)
 open_flags-end q qs p =
-    open_flags q (qs ++ p ∷ []) ∙ ap (λ b. eqb q.flags 1 && b) (are_zeros-end qs p) ∙ sym (and_assoc (eqb q.flags 1) (are_zeros qs) (eqb p.flags 0))
+    open_flags q (qs ++ p ∷ []) ∙ ap (λ b. eqb q.flags 1 && b) (are_zeros-end qs p)
+    ∙ sym (and_assoc (eqb q.flags 1) (are_zeros qs) (eqb p.flags 0))
 
 file_flags-end : (q : Good) (qs : List Good) (p : Good) →
-    bytes_eq (flags (q ∷ qs ++ p ∷ [])) (flags_of_file (length (q ∷ qs ++ p ∷ []))) ≡ ((eqb q.flags 1 && are_zeros qs) && eqb p.flags 2)
+    bytes_eq (flags (q ∷ qs ++ p ∷ [])) (flags_of_file (length (q ∷ qs ++ p ∷ []))) ≡
+    ((eqb q.flags 1 && are_zeros qs) && eqb p.flags 2)
 file_flags-end q qs p =
     let long = length-end qs p in
     let not_one : eqb (suc (length (qs ++ p ∷ []))) 1 ≡ false = grind (arith, nat_tests, long) in
     let less : suc (length (qs ++ p ∷ [])) - 2 ≡ length qs = omega (arith, long) in
-    ap (λ (b : Bool). bytes_eq (flags (q ∷ qs ++ p ∷ [])) (cond b (3 ∷ []) ((1 ∷ zeros (suc (length (qs ++ p ∷ [])) - 2)) ++ (2 ∷ [])))) not_one
+    ap (λ (b : Bool). bytes_eq (flags (q ∷ qs ++ p ∷ []))
+    (cond b (3 ∷ []) ((1 ∷ zeros (suc (length (qs ++ p ∷ [])) - 2)) ++ (2 ∷ [])))) not_one
     ∙ ap (λ n. bytes_eq (flags (q ∷ qs ++ p ∷ [])) ((1 ∷ zeros n) ++ (2 ∷ []))) less
     ∙ ap (λ b. eqb q.flags 1 && b) (flags-end qs p 2)
     ∙ sym (and_assoc (eqb q.flags 1) (are_zeros qs) (eqb p.flags 2))
@@ -81,7 +89,8 @@ counted-end : (q : Good) (qs : List Good) (p : Good) →
 counted-end q [] p = and_true (eqb p.count ((q.count + 1) % 16384))
 counted-end q (r ∷ qs) p =
     let here = eqb r.count ((q.count + 1) % 16384) in
-    ap (λ b. here && b) (counted-end r qs p) ∙ sym (and_assoc here (are_counted_on (counts (r ∷ qs))) (is_counted_on (r ∷ qs) p))
+    ap (λ b. here && b) (counted-end r qs p) ∙ sym (and_assoc here (are_counted_on (counts (r ∷ qs)))
+    (is_counted_on (r ∷ qs) p))
 
 pub length-bodies : (s : List Good) → length (map length (bodies_of s)) ≡ length s
 length-bodies [] = refl
@@ -89,7 +98,8 @@ length-bodies (q ∷ qs) = ap suc (length-bodies qs)
 
 pub concat-end : (s : List Good) (p : Good) → concat (bodies_of (s ++ p ∷ [])) ≡ concat (bodies_of s) ++ p.body
 concat-end [] p = append-nil p.body
-concat-end (q ∷ qs) p = ap (λ bs. q.body ++ bs) (concat-end qs p) ∙ sym (append_assoc q.body (concat (bodies_of qs)) p.body)
+concat-end (q ∷ qs) p =
+    ap (λ bs. q.body ++ bs) (concat-end qs p) ∙ sym (append_assoc q.body (concat (bodies_of qs)) p.body)
 
 pub size-end : (s : List Good) (p : Good) → size_of (s ++ p ∷ []) ≡ size_of s + length p.body
 size-end s p = ap length (concat-end s p) ∙ length-append (concat (bodies_of s)) p.body
@@ -108,8 +118,10 @@ and_right false b h = cc
 
 -- The tests of an open file and one packet more, in two orders. The limits with the packet imply those without.
 open_tests : (flag counted few most z f few' most' : Bool) → (few' ≡ true → few ≡ true) → (most' ≡ true → most ≡ true) →
-    ((((flag && z) && (counted && f)) && few') && most') ≡ ((((flag && counted) && few) && most) && (z && ((f && few') && most')))
-open_tests true true few most true true true true h g = sym (ap (λ (b : Bool). (b && most) && true) (h refl) ∙ ap (λ (b : Bool). b && true) (g refl))
+    ((((flag && z) && (counted && f)) && few') && most') ≡
+    ((((flag && counted) && few) && most) && (z && ((f && few') && most')))
+open_tests true true few most true true true true h g =
+    sym (ap (λ (b : Bool). (b && most) && true) (h refl) ∙ ap (λ (b : Bool). b && true) (g refl))
 open_tests true true few most true true true false h g = sym (and_false (few && most))
 open_tests true true few most true true false most' h g = sym (and_false (few && most))
 open_tests true true few most true false few' most' h g = sym (and_false (few && most))
@@ -118,8 +130,10 @@ open_tests true false few most z f few' most' h g = ap (λ (b : Bool). (b && few
 open_tests false counted few most z f few' most' h g = refl
 
 -- the same with one test more
-file_tests : (flag counted few most z f few' most' least : Bool) → (few' ≡ true → few ≡ true) → (most' ≡ true → most ≡ true) →
-    (((((flag && z) && (counted && f)) && few') && least) && most') ≡ ((((flag && counted) && few) && most) && ((z && ((f && few') && most')) && least))
+file_tests : (flag counted few most z f few' most' least : Bool) → (few' ≡ true → few ≡ true) →
+    (most' ≡ true → most ≡ true) →
+    (((((flag && z) && (counted && f)) && few') && least) && most') ≡
+    ((((flag && counted) && few) && most) && ((z && ((f && few') && most')) && least))
 file_tests flag counted few most z f few' most' true h g =
     ap (λ (b : Bool). b && most') (and_true (((flag && z) && (counted && f)) && few'))
     ∙ open_tests flag counted few most z f few' most' h g
@@ -135,10 +149,13 @@ few_before n h = grind (arith, nat_tests)
 most_before : (n m : ℕ) → leb (n + m) 67108864 ≡ true → leb n 67108864 ≡ true
 most_before n m h = grind (arith, nat_tests)
 
-few-end : (q : Good) (qs : List Good) (p : Good) → leb (length (q ∷ qs ++ p ∷ [])) 1048576 ≡ ltb (length (map length (bodies_of (q ∷ qs)))) 1048576
-few-end q qs p = ap (λ n. leb (suc n) 1048576) (length-end qs p) ∙ ap (λ n. ltb n 1048576) (sym (length-bodies (q ∷ qs)))
+few-end : (q : Good) (qs : List Good) (p : Good) →
+    leb (length (q ∷ qs ++ p ∷ [])) 1048576 ≡ ltb (length (map length (bodies_of (q ∷ qs)))) 1048576
+few-end q qs p =
+    ap (λ n. leb (suc n) 1048576) (length-end qs p) ∙ ap (λ n. ltb n 1048576) (sym (length-bodies (q ∷ qs)))
 
-few_earlier : (q : Good) (qs : List Good) → ltb (length (map length (bodies_of (q ∷ qs)))) 1048576 ≡ true → leb (length (q ∷ qs)) 1048576 ≡ true
+few_earlier : (q : Good) (qs : List Good) → ltb (length (map length (bodies_of (q ∷ qs)))) 1048576 ≡ true →
+    leb (length (q ∷ qs)) 1048576 ≡ true
 few_earlier q qs h = few_before (length (q ∷ qs)) (ap (λ n. ltb n 1048576) (sym (length-bodies (q ∷ qs))) ∙ h)
 
 -- an open file and one packet more is an open file, where that goes on with it
@@ -153,13 +170,16 @@ is_open-end q qs p =
     let few' = ltb (length (map length (bodies_of (q ∷ qs)))) 1048576 in
     let most' = leb (size_of (q ∷ qs) + length p.body) 67108864 in
     let tests : Bool = (eqb p.flags 0 && ((is_counted_on (q ∷ qs) p && few') && most')) in
-    (λ i. ((open_flags-end q qs p i && counted-end q qs p i) && few-end q qs p i) && leb (size-end (q ∷ qs) p i) 67108864)
-    ∙ open_tests flag counted few most (eqb p.flags 0) (is_counted_on (q ∷ qs) p) few' most' (few_earlier q qs) (most_before (size_of (q ∷ qs)) (length p.body))
+    (λ i. ((open_flags-end q qs p i && counted-end q qs p i) && few-end q qs p i) && leb
+    (size-end (q ∷ qs) p i) 67108864)
+    ∙ open_tests flag counted few most (eqb p.flags 0) (is_counted_on (q ∷ qs) p) few' most' (few_earlier q qs)
+    (most_before (size_of (q ∷ qs)) (length p.body))
     ∙ ap (λ (b : Bool). (((b && counted) && few) && most) && tests) (sym (open_flags q qs))
 
 -- an open file and one packet more is a file, where that ends it
 pub is_file-end : (q : Good) (qs : List Good) (p : Good) →
-    is_file (q ∷ qs ++ p ∷ []) ≡ (is_open (q ∷ qs) && ((eqb p.flags 2 && is_next (open_from (q ∷ qs)) p) && leb 10 (size_of (q ∷ qs ++ p ∷ []))))
+    is_file (q ∷ qs ++ p ∷ []) ≡ (is_open (q ∷ qs) && ((eqb p.flags 2 && is_next (open_from (q ∷ qs)) p) && leb 10
+    (size_of (q ∷ qs ++ p ∷ []))))
 unfolding is_open is_next is_file
 is_file-end q qs p =
     let flag = eqb q.flags 1 && are_zeros qs in
@@ -170,8 +190,10 @@ is_file-end q qs p =
     let most' = leb (size_of (q ∷ qs) + length p.body) 67108864 in
     let least = leb 10 (size_of (q ∷ qs ++ p ∷ [])) in
     let tests : Bool = ((eqb p.flags 2 && ((is_counted_on (q ∷ qs) p && few') && most')) && least) in
-    (λ i. (((file_flags-end q qs p i && counted-end q qs p i) && few-end q qs p i) && least) && leb (size-end (q ∷ qs) p i) 67108864)
-    ∙ file_tests flag counted few most (eqb p.flags 2) (is_counted_on (q ∷ qs) p) few' most' least (few_earlier q qs) (most_before (size_of (q ∷ qs)) (length p.body))
+    (λ i. (((file_flags-end q qs p i && counted-end q qs p i) && few-end q qs p i) && least) && leb
+    (size-end (q ∷ qs) p i) 67108864)
+    ∙ file_tests flag counted few most (eqb p.flags 2) (is_counted_on (q ∷ qs) p) few' most' least (few_earlier q qs)
+    (most_before (size_of (q ∷ qs)) (length p.body))
     ∙ ap (λ (b : Bool). (((b && counted) && few) && most) && tests) (sym (open_flags q qs))
 
 -- one packet alone
@@ -181,17 +203,21 @@ is_open-one p =
     ap (λ bs. (((eqb p.flags 1 && true) && true) && true) && leb (length bs) 67108864) (append-nil p.body)
     ∙ ap (λ (b : Bool). b && leb (length p.body) 67108864) (and_true _ ∙ and_true _ ∙ and_true (eqb p.flags 1))
 
-pub is_file-one : (p : Good) → is_file (p ∷ []) ≡ ((eqb p.flags 3 && leb 10 (length p.body)) && leb (length p.body) 67108864)
+pub is_file-one : (p : Good) →
+    is_file (p ∷ []) ≡ ((eqb p.flags 3 && leb 10 (length p.body)) && leb (length p.body) 67108864)
 unfolding is_file
 is_file-one p =
-    ap (λ bs. ((((eqb p.flags 3 && true) && true) && true) && leb 10 (length bs)) && leb (length bs) 67108864) (append-nil p.body)
-    ∙ ap (λ (b : Bool). (b && leb 10 (length p.body)) && leb (length p.body) 67108864) (and_true _ ∙ and_true _ ∙ and_true (eqb p.flags 3))
+    ap (λ bs. ((((eqb p.flags 3 && true) && true) && true) && leb 10 (length bs)) && leb (length bs) 67108864)
+    (append-nil p.body)
+    ∙ ap (λ (b : Bool). (b && leb 10 (length p.body)) && leb (length p.body) 67108864)
+    (and_true _ ∙ and_true _ ∙ and_true (eqb p.flags 3))
 
 -- a stretch that doesn't begin with flags 1 is no open file
 pub not_open : (q : Good) (qs : List Good) → eqb q.flags 1 ≡ false → is_open (q ∷ qs) ≡ false
 unfolding is_open
 not_open q qs h =
-    ap (λ (b : Bool). ((b && are_counted_on (counts (q ∷ qs))) && leb (length (q ∷ qs)) 1048576) && leb (size_of (q ∷ qs)) 67108864)
+    ap (λ (b : Bool). ((b && are_counted_on (counts (q ∷ qs))) && leb (length (q ∷ qs)) 1048576) && leb
+    (size_of (q ∷ qs)) 67108864)
     (open_flags q qs ∙ ap (λ (b : Bool). b && are_zeros qs) h)
 
 -- behind the first packet of an open file the flags are 0
@@ -226,9 +252,12 @@ turn P Q p x xs true false o k both below =
     rw (both, o, k) (below ∙ ap (longer Q p (P (p ∷ []))) none)
 turn P Q p x xs false k' o k both below = rw (both, o) below
 
--- The first stretch that passes a test of an open file and one packet more is the one open file with it, or else the packet
--- alone.
-pub find-end : (P Q : List Good → Bool) (p : Good) → ((q : Good) (qs : List Good) → P (q ∷ qs ++ p ∷ []) ≡ (is_open (q ∷ qs) && Q (q ∷ qs))) →
-    (ps : List Good) → find P (last_stretches (ps ++ p ∷ [])) ≡ longer Q p (P (p ∷ [])) (find is_open (last_stretches ps))
+-- The first stretch that passes a test of an open file and one packet more is the one open file with it, or else the
+-- packet alone.
+pub find-end : (P Q : List Good → Bool) (p : Good) →
+    ((q : Good) (qs : List Good) → P (q ∷ qs ++ p ∷ []) ≡ (is_open (q ∷ qs) && Q (q ∷ qs))) →
+    (ps : List Good) →
+    find P (last_stretches (ps ++ p ∷ [])) ≡ longer Q p (P (p ∷ [])) (find is_open (last_stretches ps))
 find-end P Q p each [] = refl
-find-end P Q p each (x ∷ xs) = turn P Q p x xs (is_open (x ∷ xs)) (Q (x ∷ xs)) refl refl (each x xs) (find-end P Q p each xs)
+find-end P Q p each (x ∷ xs) =
+    turn P Q p x xs (is_open (x ∷ xs)) (Q (x ∷ xs)) refl refl (each x xs) (find-end P Q p each xs)

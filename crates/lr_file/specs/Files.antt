@@ -1,6 +1,7 @@
--- The mission files in a list of good packets (CGMS 03, the transport layer; the sequence flags and counts of CCSDS 133.0-B,
--- section 4.1.3.4).
-use Rattle.std.specs.Prelude.{ℕ, ◌+◌, ◌-◌, ◌%◌, ◌==◌, ◌&&◌, nat_le, Bool, true, if◌then◌else◌, Option, List, [], ◌∷◌, ◌++◌, length, map, filter, find, replicate, option_to_list}
+-- The mission files in a list of good packets (CGMS 03, the transport layer; the sequence flags and counts of CCSDS
+-- 133.0-B, section 4.1.3.4).
+use Rattle.std.specs.Prelude.{ℕ, ◌+◌, ◌-◌, ◌%◌, ◌==◌, ◌&&◌, nat_le, Bool, true, if◌then◌else◌, Option, List, [], ◌∷◌}
+use Rattle.std.specs.Prelude.{◌++◌, length, map, filter, find, replicate, option_to_list}
 use Rattle.std.specs.List.{concat}
 use Rattle.std.specs.Str.{bytes_eq}
 use Rattle.std.specs.Option.{option_map}
@@ -36,7 +37,8 @@ size_of stretch = length (concat (bodies_of stretch))
 -- a stretch of the packets of one channel and application is a file
 unfoldable pub is_file : List Good → Bool
 is_file stretch =
-    bytes_eq (map (λ p. p.flags) stretch) (flags_of_file (length stretch)) && are_counted_on (map (λ p. p.count) stretch)
+    bytes_eq (map (λ p. p.flags) stretch) (flags_of_file (length stretch)) && are_counted_on
+    (map (λ p. p.count) stretch)
     && nat_le (length stretch) 1048576 && nat_le 10 (size_of stretch) && nat_le (size_of stretch) 67108864
 
 -- the file that such a stretch is
@@ -46,13 +48,15 @@ file_from vc apid stretch = record { vc = vc; apid = apid; bodies = bodies_of st
 -- the file that ends with this packet, where these came before it, if one does
 unfoldable pub file_at : List Good → Good → Option File
 file_at before packet =
-    option_map (file_from packet.vc packet.apid) (find is_file (last_stretches (packets_of_key packet.vc packet.apid (before ++ packet ∷ []))))
+    option_map (file_from packet.vc packet.apid) (find is_file
+    (last_stretches (packets_of_key packet.vc packet.apid (before ++ packet ∷ []))))
 
 -- for each packet in turn the file that ends with it, where so many came before
-abbrev pub files_behind : List Good → List Good → List File
-files_behind before [] = []
-files_behind before (packet ∷ packets) = option_to_list (file_at before packet) ++ files_behind (before ++ packet ∷ []) packets
+abbrev pub files_after : List Good → List Good → List File
+files_after before [] = []
+files_after before (packet ∷ packets) =
+    option_to_list (file_at before packet) ++ files_after (before ++ packet ∷ []) packets
 
 -- all files, in the order of their last packets
 unfoldable pub files_of : List Good → List File
-files_of packets = files_behind [] packets
+files_of packets = files_after [] packets

@@ -24,11 +24,14 @@ OneFileEnds = (packets : List Good) → length (filter is_file (last_stretches p
 abbrev pub OneFileIsOpen : Type 0
 OneFileIsOpen = (packets : List Good) → length (filter is_open (last_stretches packets)) ≤ 1
 
--- the files of packets have, with eight bytes for each body, at most as many bytes as the bodies of the packets with eight for each
+-- the files of packets have, with eight bytes for each body, at most as many bytes as the bodies of the packets with
+-- eight for each
 abbrev pub FilesFitThePackets : Type 0
 FilesFitThePackets = (packets : List Good) →
-    sum_by (λ file. length (bytes_of file) + 8 * length file.bodies) (files_of packets) ≤ sum_by (λ packet. length packet.body + 8) packets
+    sum_by (λ file. length (bytes_of file) + 8 * length file.bodies) (files_of packets) ≤ sum_by
+    (λ packet. length packet.body + 8) packets
 
 -- each file has a body, and ten bytes
 abbrev pub FilesAreSome : Type 0
-FilesAreSome = (packets : List Good) → All (λ file. (1 ≤ length file.bodies) × (10 ≤ length (bytes_of file))) (files_of packets)
+FilesAreSome =
+    (packets : List Good) → All (λ file. (1 ≤ length file.bodies) × (10 ≤ length (bytes_of file))) (files_of packets)

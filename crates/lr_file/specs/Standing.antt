@@ -1,5 +1,6 @@
 -- What is kept of the packets so far.
-use Rattle.std.specs.Prelude.{◌≡◌, ℕ, ◌-◌, ◌==◌, ◌&&◌, ◌<◌, ◌≤◌, nat_le, Bool, true, false, Option, List, [], ◌∷◌, length, map, find, replicate, All}
+use Rattle.std.specs.Prelude.{◌≡◌, ℕ, ◌-◌, ◌==◌, ◌&&◌, ◌<◌, ◌≤◌, nat_le, Bool, true, false, Option, List, [], ◌∷◌}
+use Rattle.std.specs.Prelude.{length, map, find, replicate, All}
 use Rattle.std.specs.List.{concat}
 use Rattle.std.specs.List.Sorted.{IsStrictlySortedBy}
 use Rattle.std.specs.Map.{lookup, keys_of}
@@ -30,15 +31,15 @@ abbrev pub key_cmp : ℕ × ℕ → ℕ × ℕ → Ordering
 key_cmp x y = ordering_then (nat_cmp x.0 y.0) (nat_cmp x.1 y.1)
 
 -- the channels and applications ascend, so each stands there once
-abbrev pub AreAscending : List ((ℕ × ℕ) × Open) → Type 0
-AreAscending files = IsStrictlySortedBy key_cmp (keys_of files)
+abbrev pub AreAscending : {V : Type 0} → List ((ℕ × ℕ) × V) → Type 0
+AreAscending entries = IsStrictlySortedBy key_cmp (keys_of entries)
 
--- the open file that is kept of a channel and application
-unfoldable pub kept_file : List ((ℕ × ℕ) × Open) → ℕ → ℕ → Option Open
-kept_file files vc apid = lookup (λ key. (vc == key.0) && (apid == key.1)) files
+-- what is kept of a channel and application
+unfoldable pub kept_of_key : {V : Type 0} → List ((ℕ × ℕ) × V) → ℕ → ℕ → Option V
+kept_of_key entries vc apid = lookup (λ key. (vc == key.0) && (apid == key.1)) entries
 
--- An open file is within the limits of a file: each body has fewer than 65,535 bytes, there are at most 1,048,576 of them,
--- and they have at most 67,108,864 bytes together. Its count has 14 bits.
+-- An open file is within the limits of a file: each body has fewer than 65,535 bytes, there are at most 1,048,576 of
+-- them, and they have at most 67,108,864 bytes together. Its count has 14 bits.
 pub record IsWithinLimits (file : Open) : Type 0 where
   pub short : All (λ one. one < 65535) file.lengths
   pub few : length file.lengths ≤ 1048576
@@ -49,11 +50,12 @@ pub record IsWithinLimits (file : Open) : Type 0 where
 abbrev pub flags_of_open : ℕ → List ℕ
 flags_of_open n = 1 ∷ replicate (n - 1) 0
 
--- a stretch of the packets of one channel and application is an open file: no end yet, counts that follow one another, and no
--- limit passed
+-- a stretch of the packets of one channel and application is an open file: no end yet, counts that follow one another,
+-- and no limit passed
 unfoldable pub is_open : List Good → Bool
 is_open stretch =
-    bytes_eq (map (λ p. p.flags) stretch) (flags_of_open (length stretch)) && are_counted_on (map (λ p. p.count) stretch)
+    bytes_eq (map (λ p. p.flags) stretch) (flags_of_open (length stretch)) && are_counted_on
+    (map (λ p. p.count) stretch)
     && nat_le (length stretch) 1048576 && nat_le (size_of stretch) 67108864
 
 -- the count of the last of these packets
@@ -64,15 +66,16 @@ last_count (p ∷ q ∷ ps) = last_count (q ∷ ps)
 
 -- the open file that such a stretch is
 abbrev pub open_from : List Good → Open
-open_from stretch = record { lengths = map length (bodies_of stretch); bytes = concat (bodies_of stretch); count = last_count stretch }
+open_from stretch =
+    record { lengths = map length (bodies_of stretch); bytes = concat (bodies_of stretch); count = last_count stretch }
 
--- the open file of a channel and application behind these packets, if there is one
+-- the open file of a channel and application after these packets, if there is one
 unfoldable pub open_file : ℕ → ℕ → List Good → Option Open
 open_file vc apid packets = option_map open_from (find is_open (last_stretches (packets_of_key vc apid packets)))
 
--- What is kept stands for these packets: memory wasn't wanting, and of each channel and application the open file is kept, once,
--- and none where there is none.
+-- What is kept stands for these packets: memory wasn't wanting, and of each channel and application the open file is
+-- kept, once, and none where there is none.
 pub record StandsFor (kept : Kept) (packets : List Good) : Type 0 where
   pub unspent : kept.spent ≡ false
   pub once : AreAscending kept.files
-  pub files : (vc apid : ℕ) → kept_file kept.files vc apid ≡ open_file vc apid packets
+  pub files : (vc apid : ℕ) → kept_of_key kept.files vc apid ≡ open_file vc apid packets

@@ -1,17 +1,30 @@
 -- What one packet more does to what is kept.
-use Rattle.std.specs.Prelude.{◌≡◌, ℕ, ◌+◌, ◌%◌, ◌<◌, ◌≤◌, ◌==◌, ◌&&◌, nat_lt, nat_le, Bool, if◌then◌else◌, Option, Some, None, SomeIff, List, [], ◌∷◌, ◌++◌, length, map}
+use Rattle.std.specs.Prelude.{◌≡◌, ℕ, ◌+◌, ◌%◌, ◌<◌, ◌≤◌, ◌==◌, ◌&&◌, nat_lt, nat_le, Bool, if◌then◌else◌, Option, Some}
+use Rattle.std.specs.Prelude.{None, SomeIff, List, [], ◌∷◌, ◌++◌, length, map}
 use Rattle.std.specs.List.{concat}
 use Rattle.lr_bits.specs.File.{File}
 use Rattle.lr_packet.specs.Verdict.{Good}
-use Rattle.lr_file.specs.Standing.{Open, AreAscending, kept_file}
+use Rattle.lr_file.specs.declared.part.Part.{Part}
+use Rattle.lr_file.specs.declared.part.Part.TheVariants.{First, Between, Last, Single}
+use Rattle.lr_file.specs.Standing.{Open, AreAscending, kept_of_key}
+
+-- which part of its file a packet brings, by its sequence flags
+abbrev pub part_of : ℕ → Part
+part_of flags =
+    if flags == 1 then First else (if flags == 0 then Between else (if flags == 2 then Last else Single))
 
 -- the open file that begins with a packet
-abbrev pub begun : Good → Open
-begun packet = record { lengths = length packet.body ∷ []; bytes = packet.body; count = packet.count }
+abbrev pub file_begun_by : Good → Open
+file_begun_by packet = record { lengths = length packet.body ∷ []; bytes = packet.body; count = packet.count }
 
 -- the open file with one packet more
-abbrev pub joined : Open → Good → Open
-joined file packet = record { lengths = file.lengths ++ length packet.body ∷ []; bytes = file.bytes ++ packet.body; count = packet.count }
+abbrev pub file_with : Open → Good → Open
+file_with file packet =
+    record {
+      lengths = file.lengths ++ length packet.body ∷ [];
+      bytes = file.bytes ++ packet.body;
+      count = packet.count;
+    }
 
 -- the packet's count is the next one, and its body passes no limit
 unfoldable pub is_next : Open → Good → Bool
@@ -20,23 +33,27 @@ is_next file packet =
     && nat_le (length file.bytes + length packet.body) 67108864
 
 -- the open file with one packet more, if there is one and the packet follows
-abbrev pub gone_on : Option Open → Good → Option Open
-gone_on None packet = None
-gone_on (Some file) packet = if is_next file packet then Some (joined file packet) else None
+abbrev pub continued_file : Option Open → Good → Option Open
+continued_file None packet = None
+continued_file (Some file) packet = if is_next file packet then Some (file_with file packet) else None
 
--- the open file behind a packet
+-- the open file after a packet
 abbrev pub next_open : Option Open → Good → Option Open
-next_open kept packet = if packet.flags == 1 then Some (begun packet) else if packet.flags == 0 then gone_on kept packet else None
+next_open kept packet =
+    if packet.flags == 1 then Some
+    (file_begun_by packet) else if packet.flags == 0 then continued_file kept packet else None
 
 -- the bodies that a packet ends
-abbrev pub ended : Option Open → Good → Option Open
-ended kept packet = if packet.flags == 3 then Some (begun packet) else if packet.flags == 2 then gone_on kept packet else None
+abbrev pub completed_file : Option Open → Good → Option Open
+completed_file kept packet =
+    if packet.flags == 3 then Some
+    (file_begun_by packet) else if packet.flags == 2 then continued_file kept packet else None
 
--- the open file of the packet's channel and application is set to this, and the others stay
-pub record SetsFile (old new : List ((ℕ × ℕ) × Open)) (packet : Good) (file : Option Open) : Type 0 where
+-- what is kept of the packet's channel and application is set to this, and the others stay
+pub record SetsKey {V : Type 0} (old new : List ((ℕ × ℕ) × V)) (packet : Good) (value : Option V) : Type 0 where
   pub once : AreAscending new
-  pub files : (vc apid : ℕ) →
-      kept_file new vc apid ≡ (if (packet.vc == vc) && (packet.apid == apid) then file else kept_file old vc apid)
+  pub values : (vc apid : ℕ) → kept_of_key new vc apid
+      ≡ (if (packet.vc == vc) && (packet.apid == apid) then value else kept_of_key old vc apid)
 
 -- The file is that of the bodies, of which there is at least one, if they have at least ten bytes.
 abbrev pub IsBuilt : ℕ → ℕ → Open → Option File → Type 0

@@ -1,33 +1,27 @@
-ghost use Rattle.std.specs.Prelude.{◌≡◌, ◌++◌, ◌∷◌, [], List, IfOk, OnOk, OnErr, IsErr};
+//! The files of good packets, one packet after another.
+
+ghost use Rattle.std.specs.Prelude.{◌≡◌, ◌++◌, ◌∷◌, [], List, None, IfOk, OnOk, OnErr, IsOk, IsErr};
 ghost use Rattle.lr_packet.specs.Verdict.{Good};
 ghost use Rattle.lr_packet.specs.Reading.{good};
 ghost use Rattle.lr_file.specs.Files.{file_at};
-ghost use Rattle.lr_file.specs.Standing.{IsSpent, StandsFor, kept_file};
-ghost use Rattle.lr_file.specs.Steps.{SetsFile, IsFileOf, begun, ended, gone_on, next_open};
+ghost use Rattle.lr_file.specs.Standing.{IsSpent, StandsFor, kept_of_key};
+ghost use Rattle.lr_file.specs.Steps.{SetsKey, IsFileOf, file_begun_by, completed_file, continued_file, next_open};
 
 use crate::open_file::OpenFile;
+use crate::part::{Part, part_of};
 use lr_bits::{MissionFile, NoMemory};
 use lr_packet::GoodPacket;
 use std::alloc::Global;
 use std::collections::BTreeMap;
 use std::marker::Model;
 
-/// The flags of a packet between the first and the last of its file.
-const BETWEEN: u8 = 0;
-
-/// The flags of the first packet of several.
-const FIRST: u8 = 1;
-
-/// The flags of the last packet of several.
-const LAST: u8 = 2;
-
 /// The open files by their channels and applications.
 type OpenFiles = BTreeMap<(u8, u16), OpenFile>;
 
 /// Opens a file with its first packet, in place of one that was open.
 fn open_first(alloc: Global, files: &mut OpenFiles, packet: &GoodPacket) -> Result<(), NoMemory>
-    ensures { OnOk result (SetsFile files.old.entries files.new.entries (good packet.now)
-        (Some (begun (good packet.now)))) }
+    ensures { OnOk result (SetsKey files.old.entries files.new.entries (good packet.now)
+        (Some (file_begun_by (good packet.now)))) }
 {
     let file = OpenFile::begin(alloc, packet)?;
     files.insert((packet.vc, packet.apid), file)?;
@@ -36,8 +30,10 @@ fn open_first(alloc: Global, files: &mut OpenFiles, packet: &GoodPacket) -> Resu
 
 /// Goes on with the open file, or drops it where the packet doesn't follow.
 fn go_on(files: &mut OpenFiles, packet: &GoodPacket) -> Result<(), NoMemory>
-    ensures { OnOk result (SetsFile files.old.entries files.new.entries (good packet.now)
-        (gone_on (kept_file files.old.entries packet.now.vc packet.now.apid) (good packet.now))) }
+    ensures succeeds { continued_file (kept_of_key files.old.entries packet.now.vc packet.now.apid) (good packet.now) ≡ None →
+        IsOk result }
+    ensures file { OnOk result (SetsKey files.old.entries files.new.entries (good packet.now)
+        (continued_file (kept_of_key files.old.entries packet.now.vc packet.now.apid) (good packet.now))) }
 {
     let key = (packet.vc, packet.apid);
     let Some(file) = files.get_mut(&key) else {
@@ -52,9 +48,11 @@ fn go_on(files: &mut OpenFiles, packet: &GoodPacket) -> Result<(), NoMemory>
 
 /// Takes the open file out, and ends it with its last packet, where that follows.
 fn end(files: &mut OpenFiles, packet: &GoodPacket) -> Result<Option<MissionFile>, NoMemory>
-    ensures files { SetsFile files.old.entries files.new.entries (good packet.now) None }
+    ensures succeeds { continued_file (kept_of_key files.old.entries packet.now.vc packet.now.apid) (good packet.now) ≡ None →
+        IsOk result }
+    ensures files { SetsKey files.old.entries files.new.entries (good packet.now) None }
     ensures file { IfOk result (IsFileOf (good packet.now)
-        (gone_on (kept_file files.old.entries packet.now.vc packet.now.apid) (good packet.now))) }
+        (continued_file (kept_of_key files.old.entries packet.now.vc packet.now.apid) (good packet.now))) }
 {
     let Some(mut file) = files.remove(&(packet.vc, packet.apid)) else {
         return Ok(None);
@@ -72,43 +70,47 @@ fn whole(
     files: &mut OpenFiles,
     packet: &GoodPacket,
 ) -> Result<Option<MissionFile>, NoMemory>
-    ensures files { SetsFile files.old.entries files.new.entries (good packet.now) None }
-    ensures file { IfOk result (IsFileOf (good packet.now) (Some (begun (good packet.now)))) }
+    ensures files { SetsKey files.old.entries files.new.entries (good packet.now) None }
+    ensures file { IfOk result (IsFileOf (good packet.now) (Some (file_begun_by (good packet.now)))) }
 {
     files.remove(&(packet.vc, packet.apid));
     let file = OpenFile::begin(alloc, packet)?;
     Ok(file.finish(packet.vc, packet.apid))
 }
 
-/// Does with the packet what its flags say: 1 opens a file, 0 goes on with the open one, 2 ends it, and 3 is a file alone.
+/// Does with the packet what its part says: it opens a file, goes on with the open one, ends it, or is a file alone.
+/// A packet that neither opens, goes on with nor ends a file takes no memory.
 fn join(
     alloc: Global,
     files: &mut OpenFiles,
     packet: &GoodPacket,
 ) -> Result<Option<MissionFile>, NoMemory>
-    ensures files { OnOk result (SetsFile files.old.entries files.new.entries (good packet.now)
-        (next_open (kept_file files.old.entries packet.now.vc packet.now.apid) (good packet.now))) }
+    ensures succeeds { next_open (kept_of_key files.old.entries packet.now.vc packet.now.apid) (good packet.now) ≡ None →
+        completed_file (kept_of_key files.old.entries packet.now.vc packet.now.apid) (good packet.now) ≡ None → IsOk result }
+    ensures files { OnOk result (SetsKey files.old.entries files.new.entries (good packet.now)
+        (next_open (kept_of_key files.old.entries packet.now.vc packet.now.apid) (good packet.now))) }
     ensures file { IfOk result (IsFileOf (good packet.now)
-        (ended (kept_file files.old.entries packet.now.vc packet.now.apid) (good packet.now))) }
+        (completed_file (kept_of_key files.old.entries packet.now.vc packet.now.apid) (good packet.now))) }
 {
-    match packet.flags {
-        FIRST => {
+    match part_of(packet.flags) {
+        Part::First => {
             open_first(alloc, files, packet)?;
             Ok(None)
         }
-        BETWEEN => {
+        Part::Between => {
             go_on(files, packet)?;
             Ok(None)
         }
-        LAST => end(files, packet),
-        _ => whole(alloc, files, packet),
+        Part::Last => end(files, packet),
+        Part::Single => whole(alloc, files, packet),
     }
 }
 
 /// The mission files of the good packets of all channels and applications.
 ///
-/// Of each channel and application it keeps at most one open file, which is within the limits of a file. One that would pass
-/// a limit is dropped at once, with its bytes. After `NoMemory` it is spent, and every later call answers `NoMemory`.
+/// Of each channel and application it keeps at most one open file, which is within the limits of a file. One that
+/// would pass a limit is dropped at once, with its bytes. After `NoMemory` it is spent, and every later call answers
+/// `NoMemory`.
 #[derive(Drop)]
 pub struct Files {
     alloc: Global,

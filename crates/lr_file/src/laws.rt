@@ -1,6 +1,7 @@
-ghost use Rattle.lr_file.specs.Laws.{FilesAreSome, FilesFitThePackets, FilesKeepTheirOrder, OneFileEnds, OneFileIsOpen, PacketAddsItsFile};
+ghost use Rattle.lr_file.specs.Laws.{FilesAreSome, FilesFitThePackets, FilesKeepTheirOrder, OneFileEnds, OneFileIsOpen};
+ghost use Rattle.lr_file.specs.Laws.{PacketAddsItsFile};
 
-/// One packet more adds the file that ends with it, if one does, behind those of the packets before.
+/// One packet more adds the file that ends with it, if one does, after those of the packets before.
 pub fn a_packet_adds_its_file()
     ensures { PacketAddsItsFile }
 {}
@@ -20,7 +21,8 @@ pub fn one_file_is_open()
     ensures { OneFileIsOpen }
 {}
 
-/// The files of packets have, with eight bytes for each body, at most as many bytes as the packets' bodies with eight for each.
+/// The files of packets have, with eight bytes for each body, at most as many bytes as the packets' bodies with eight
+/// for each.
 pub fn files_fit_the_packets()
     ensures { FilesFitThePackets }
 {}

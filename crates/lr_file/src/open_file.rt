@@ -1,6 +1,8 @@
+//! One open file.
+
 ghost use Rattle.std.specs.Prelude.{◌≡◌, ◌<◌, IsTrue, IfOk, OnOk};
 ghost use Rattle.lr_packet.specs.Reading.{good};
-ghost use Rattle.lr_file.specs.Steps.{IsBuilt, begun, is_next, joined};
+ghost use Rattle.lr_file.specs.Steps.{IsBuilt, file_begun_by, is_next, file_with};
 
 use lr_bits::{Bytes, Lengths, MOST_FILE_BODIES, MOST_FILE_BYTES, MissionFile, NoMemory};
 use lr_packet::GoodPacket;
@@ -31,7 +33,7 @@ impl Model for OpenFile {
 impl OpenFile {
     /// The file that begins with this packet.
     pub fn begin(alloc: Global, packet: &GoodPacket) -> Result<Self, NoMemory>
-        ensures { IfOk result (λ file. file ≡ begun (good packet.now)) }
+        ensures { IfOk result (λ file. file ≡ file_begun_by (good packet.now)) }
     {
         let mut lengths = Lengths::new(alloc);
         lengths.push(packet.body.len() as u16)?;
@@ -57,7 +59,7 @@ impl OpenFile {
     /// Appends the packet's body. This takes no memory but the growth of the two lists.
     pub fn append(&mut self, packet: &GoodPacket) -> Result<(), NoMemory>
         requires { IsTrue (is_next self.old (good packet.now)) }
-        ensures { OnOk result (self.new ≡ joined self.old (good packet.now)) }
+        ensures { OnOk result (self.new ≡ file_with self.old (good packet.now)) }
     {
         self.lengths.push(packet.body.len() as u16)?;
         self.bytes.extend(packet.body)?;

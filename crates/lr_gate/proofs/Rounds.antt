@@ -1,9 +1,9 @@
 -- How far a round over the cells has come.
 use Rattle.std.proofs.Common.{◌≡◌, ℕ, ◌+◌, ◌%◌, ◌<◌, ◌≤◌, Bool, true, false, List, [], ◌∷◌, ◌++◌, length, sym, refl}
-use Rattle.std.proofs.Common.{ap, ◌∙◌, subst, arith, mod-lt, true≢false}
+use Rattle.std.proofs.Common.{ap, ◌∙◌, subst, arith, true≢false}
 use Rattle.std.specs.Prelude.{IsTrue, ◌↔◌}
 use mathlib.Core.Logic.{dite}
-use native.Mathlib.Decide.{ℕ_discrete, dec_lt}
+use native.Mathlib.Decide.{ℕ_discrete}
 use Rattle.lr_gate.specs.declared.view.Read.{Read}
 use Rattle.lr_gate.specs.declared.view.View.{View}
 use Rattle.lr_gate.specs.Steps.{SeatState}
@@ -12,7 +12,7 @@ use Rattle.lr_gate.specs.declared.gate.Turn.TheVariants.{Did, Nothing}
 use Rattle.lr_gate.specs.Seats.{Turns, SomeUnfinished}
 use Rattle.lr_gate.specs.Calls.{with_reads, IsAlone, HasFinished, Works, Visits, GoesRound}
 use Rattle.lr_gatecore.proofs.Lists.{at_length}
-use Rattle.lr_gate.proofs.MoreReads.{no_reads, more_reads, more_work, passed_longer, passed_behind, claimed_behind}
+use Rattle.lr_gate.proofs.MoreReads.{more_reads, more_work, passed_longer, passed_behind, claimed_behind}
 
 module _ {J D : Type 0} (n : ℕ) where
   -- all cells before this one were passed over, and the seat has only read
@@ -22,15 +22,6 @@ module _ {J D : Type 0} (n : ℕ) where
     pub passed : (c : ℕ) → c < cell → IsPassedOver reads c
     pub window : IsAlone old.0 → (p : ℕ) → old.0.taken ≤ p → p < length old.0.jobs → p % n < cell → HasFinished old.0 p
     pub past : 0 < cell → IsAlone old.0 → (p : ℕ) → p < old.0.taken → HasFinished old.0 p
-
-  pub gone_none : (m : SeatState J D) → Gone m m 0
-  gone_none m = record {
-    reads = [];
-    now_is = ap (λ (v : View J). (v, m.1)) (no_reads m.0);
-    passed = λ c l. absurd (omega arith);
-    window = λ one p a b l. absurd (omega arith);
-    past = λ l. absurd (omega arith);
-  }
 
   pub gone_more : (old now next : SeatState J D) (cell : ℕ) → Gone old now cell → Visits n cell now next false
       → Gone old next (cell + 1)
@@ -45,15 +36,6 @@ module _ {J D : Type 0} (n : ℕ) where
             (λ ne. g.window one p a b (omega arith));
         past = λ l one p a. (v.3 one).1 p a;
       }
-
-  pub gone_all : (old now : SeatState J D) → 0 < n → Gone old now n → GoesRound n old now false
-  gone_all old now pos g = (
-    g.reads,
-    g.now_is,
-    g.passed,
-    λ one p b. dite (dec_lt p old.0.taken) (λ l. g.past pos one p l)
-        (λ ge. g.window one p (omega arith) b (mod-lt p pos)),
-  )
 
   pub gone_works : (old now next : SeatState J D) (cell : ℕ) → Gone old now cell → Works n now next → Works n old next
   gone_works old now next cell g w' =

@@ -1,5 +1,6 @@
 -- What a call that puts bytes appended where it did not append all of them.
-use Rattle.std.specs.Prelude.{◌≡◌, ◌<◌, ℕ, List, ◌++◌, length}
+use Rattle.std.specs.Prelude.{◌≡◌, ◌<◌, ℕ, Option, List, ◌++◌, length, take}
+use Rattle.std.specs.Io.KnownBytes.{Appends}
 
 -- a front of the bytes that isn't all of them was appended
 pub record PutsPart (bytes old new : List ℕ) : Type 0 where
@@ -8,3 +9,7 @@ pub record PutsPart (bytes old new : List ℕ) : Type 0 where
   pub split : bytes ≡ part ++ rest
   pub shorter : length part < length bytes
   pub put : new ≡ old ++ part
+
+-- what a writer of std is known to hold grew by some front of the bytes, or by none of them
+abbrev pub AppendsFront : Option (List ℕ) → Option (List ℕ) → List ℕ → Type 0
+AppendsFront old new bytes = (count : ℕ) × Appends old new (take count bytes)

@@ -1,12 +1,26 @@
--- Readers and writers of std as sources and sinks: only their counts are known.
-use Rattle.std.specs.Prelude.{ℕ}
+-- Readers and writers of std as sources and sinks.
+use Rattle.std.specs.Prelude.{ℕ, Option, List, [], IsSome, unwrap_or}
 use Rattle.lr_io.specs.declared.source.ReadSource.{ReadSource}
 use Rattle.lr_io.specs.declared.sink.WriteSink.{WriteSink}
 
--- how often the reader has failed
+-- the reader, and how often it has failed
+abbrev pub reader_in : {T : Type 0} → ReadSource T → T
+reader_in s = s.reader
+
 abbrev pub read_faults : {T : Type 0} → ReadSource T → ℕ
 read_faults s = s.faults
 
--- how often the writer has failed
+-- each reader of a type tells the bytes that it has left
+abbrev pub AllTell : {T : Type 0} → (T → Option (List ℕ)) → Type 0
+AllTell {T} remaining = (reader : T) → IsSome (remaining reader)
+
+-- the bytes that a reader has left, where it tells them
+abbrev pub left_in : {T : Type 0} → (T → Option (List ℕ)) → ReadSource T → List ℕ
+left_in remaining s = unwrap_or (remaining s.reader) []
+
+-- the writer, and how often it has failed
+abbrev pub writer_in : {T : Type 0} → WriteSink T → T
+writer_in s = s.writer
+
 abbrev pub write_faults : {T : Type 0} → WriteSink T → ℕ
 write_faults s = s.faults

@@ -2,8 +2,10 @@
 //!
 //! Each object has a count of its own faults, a number of 64 bits that never falls, and may tell its bytes: what a
 //! source has left, what a sink holds. A call fails only where the count rises. What a call says of bytes holds for an
-//! object that tells them, and whether it does never changes. `MemSource`, `MemSink` and `SureSource` tell their bytes;
-//! `ReadSource`, `WriteSink` and `SureSink` tell nothing. The layers above rest on `Source::take` and on `put_all`.
+//! object that tells them, and whether it does never changes. `MemSource`, `MemSink` and `SureSource` tell their bytes,
+//! and `ReadSource` where the readers of its type do; `WriteSink` and `SureSink` tell nothing. The layers above rest on
+//! `Source::take` and on `put_all`. The definitions are `MovesMost` of `specs/Places`, which says how many bytes a call
+//! of an object in memory moves, and `PutsPart` of `specs/Pieces`.
 #![tactic(auto)]
 
 mod places;

@@ -1,6 +1,8 @@
+//! Where bytes go: into memory, to a writer of std, and nowhere.
 ghost use Rattle.std.specs.Prelude.{◌≡◌, ◌≤◌, ◌<◌, ◌++◌, List, [], ℕ, length, take, IfOk, OnOk, OnErr, vec_capacity};
 ghost use Rattle.lr_bits.specs.Faults.{HasCause};
-ghost use Rattle.lr_io.specs.Pieces.{PutsPart};
+ghost use Rattle.std.specs.Io.KnownBytes.{Appends};
+ghost use Rattle.lr_io.specs.Pieces.{AppendsFront, PutsPart};
 
 use crate::places::{reach, strike};
 use lr_bits::{Failed, NoMemory};
@@ -26,7 +28,8 @@ pub trait Sink {
         ensures within { IfOk result (λ n. n ≤ length piece.now) }
         ensures told { tells self.old → tells self.new }
         ensures untold { tells self.new → tells self.old }
-        ensures appended { tells self.old → IfOk result (λ n. contents self.new ≡ contents self.old ++ take n piece.now) }
+        ensures appended { tells self.old
+            → IfOk result (λ n. contents self.new ≡ contents self.old ++ take n piece.now) }
         ensures failed { tells self.old → OnErr result (contents self.new ≡ contents self.old) };
 }
 
@@ -46,8 +49,9 @@ pub fn put_all<O: Sink>(sink: &mut O, bytes: &[u8]) -> Result<(), Failed>
     Ok(())
 }
 
-/// A writer of std as a sink, which writes and flushes each piece. It tells nothing of what it holds, and
-/// counts each `Err` and each write of nothing.
+/// A writer of std as a sink, which writes and flushes each piece. It counts each `Err` and each write of nothing. As
+/// a sink it tells nothing of what it holds, since a flush can fail after a write that did not. What the writer holds,
+/// where that tells it, is said of `put` beside the trait's clauses.
 #[derive(Drop)]
 pub struct WriteSink<T: Write> {
     writer: T,
@@ -56,17 +60,22 @@ pub struct WriteSink<T: Write> {
 
 impl<T: Write> WriteSink<T> {
     ghost use Rattle.std.specs.Prelude.{◌≡◌};
-    ghost use Rattle.lr_io.specs.Streams.{write_faults};
+    ghost use Rattle.lr_io.specs.Streams.{write_faults, writer_in};
 
+    /// What goes to this writer.
     pub fn of(writer: T) -> Self
-        ensures { write_faults result ≡ 0 }
+        ensures writer { writer_in result ≡ writer }
+        ensures faults { write_faults result ≡ 0 }
     {
         WriteSink { writer, faults: 0 }
     }
 }
 
+/// Writes once and flushes.
 fn write_and_flush<T: Write>(writer: &mut T, piece: &[u8]) -> std::io::Result<usize>
     ensures within { IfOk result (λ n. n ≤ length piece.now) }
+    ensures appended { IfOk result (λ n. Appends (T.contents writer.old) (T.contents writer.new) (take n piece.now)) }
+    ensures failed { OnErr result (AppendsFront (T.contents writer.old) (T.contents writer.new) piece.now) }
 {
     let count = writer.write(piece)?;
     writer.flush()?;
@@ -74,13 +83,30 @@ fn write_and_flush<T: Write>(writer: &mut T, piece: &[u8]) -> std::io::Result<us
 }
 
 impl<T: Write> Sink for WriteSink<T> {
-    ghost faults = { λ s. s.faults };
+    ghost use Rattle.std.specs.Prelude.{◌≡◌, ◌<◌, ◌≤◌, IfOk, OnErr, length, take};
+    ghost use Rattle.std.specs.Io.KnownBytes.{Appends};
+    ghost use Rattle.lr_bits.specs.Faults.{HasCause};
+    ghost use Rattle.lr_io.specs.Pieces.{AppendsFront};
+    ghost use Rattle.lr_io.specs.Streams.{write_faults, writer_in};
+
+    ghost faults = { write_faults };
 
     ghost tells = { λ _. ⊥ };
 
     ghost contents = { λ _. [] };
 
-    fn put(&mut self, piece: &[u8]) -> Result<usize, Failed> {
+    /// Where it fails the writer holds some front of the piece more, or none of it.
+    fn put(&mut self, piece: &[u8]) -> Result<usize, Failed>
+        requires { 0 < length piece.now }
+        ensures cause { HasCause (write_faults self.old) (write_faults self.new) result }
+        ensures some { IfOk result (λ n. 0 < n) }
+        ensures within { IfOk result (λ n. n ≤ length piece.now) }
+
+        ensures appended { IfOk result (λ n. Appends (T.contents (writer_in self.old)) (T.contents (writer_in self.new))
+            (take n piece.now)) }
+        ensures failed { OnErr result (AppendsFront (T.contents (writer_in self.old)) (T.contents (writer_in self.new))
+            piece.now) }
+    {
         match write_and_flush(&mut self.writer, piece) {
             Ok(count) if count > 0 => Ok(count),
             _ => {
@@ -130,8 +156,9 @@ impl MemSink {
 }
 
 impl Sink for MemSink {
-    ghost use Rattle.std.specs.Prelude.{◌≡◌, ◌↔◌, ◌⊎◌, ◌≤◌, ◌<◌, ◌++◌, Contains, EachIndex, slice_index, length, take, IfOk, OnErr, OnOk, IsErr, if◌then◌else◌, is_err, filter, not, ◌==◌};
+    ghost use Rattle.std.specs.Prelude.{◌≡◌, ◌↔◌, ◌⊎◌, ◌≤◌, ◌<◌, ◌-◌, ◌++◌, Contains, length, min, take, IfOk, OnErr, IsErr, if◌then◌else◌, is_err, filter, not, ◌==◌};
     ghost use Rattle.lr_bits.specs.Faults.{HasCause};
+    ghost use Rattle.lr_io.specs.Places.{MovesMost};
     ghost use Rattle.lr_io.specs.MemSink.{held_by, room_of, faults_of, failing_places};
 
     ghost faults = { λ s. s.faults };
@@ -140,8 +167,8 @@ impl Sink for MemSink {
 
     ghost contents = { held_by };
 
-    /// It fails exactly at a stated place that hasn't failed yet and where its room is full, and passes no such place. It
-    /// takes no memory.
+    /// It fails exactly at a stated place that hasn't failed yet and where its room is full. Else it appends the whole
+    /// piece, or as many bytes as there is room for, or as stand before the next such place. It takes no memory.
     fn put(&mut self, piece: &[u8]) -> Result<usize, Failed>
         requires { 0 < length piece.now }
         ensures cause { HasCause (faults_of self.old) (faults_of self.new) result }
@@ -153,11 +180,11 @@ impl Sink for MemSink {
         ensures exact { IsErr result ↔ (Contains (failing_places self.old) (length (held_by self.old))
             ⊎ (length (held_by self.old) ≡ room_of self.old)) }
         ensures spent { failing_places self.new ≡ (if is_err result
-            then filter (λ p. not (p == length (held_by self.old))) (failing_places self.old) else failing_places self.old) }
+            then filter (λ p. not (p == length (held_by self.old)))
+            (failing_places self.old) else failing_places self.old) }
         ensures room { room_of self.new ≡ room_of self.old }
-        ensures stops { OnOk result (EachIndex (failing_places self.old) (λ k.
-            length (held_by self.old) < slice_index (failing_places self.old) k
-            → length (held_by self.new) ≤ slice_index (failing_places self.old) k)) }
+        ensures most { IfOk result (MovesMost (failing_places self.old) (length (held_by self.old))
+            (min (length piece.now) (room_of self.old - length (held_by self.old)))) }
     {
         let place = self.bytes.len() as u64;
         let most = piece.len().min(self.room - self.bytes.len());

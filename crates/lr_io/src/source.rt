@@ -1,3 +1,4 @@
+//! Where bytes come from: in memory, and from a reader of std.
 ghost use Rattle.std.specs.Prelude.{◌≡◌, ◌↔◌, ◌≤◌, ◌<◌, ◌++◌, List, [], ℕ, length, take, IfOk, OnErr};
 ghost use Rattle.lr_bits.specs.Faults.{HasCause};
 
@@ -29,7 +30,8 @@ pub trait Source {
         ensures failed { tells self.old → OnErr result (left self.new ≡ left self.old) };
 }
 
-/// A reader of std as a source. It tells nothing of what is left, and counts each `Err`.
+/// A reader of std as a source. It tells what is left where each reader of its type does, and counts each `Err`.
+/// Nothing is known of `into` where the reader fails.
 #[derive(Drop)]
 pub struct ReadSource<T: Read> {
     reader: T,
@@ -38,21 +40,25 @@ pub struct ReadSource<T: Read> {
 
 impl<T: Read> ReadSource<T> {
     ghost use Rattle.std.specs.Prelude.{◌≡◌};
-    ghost use Rattle.lr_io.specs.Streams.{read_faults};
+    ghost use Rattle.lr_io.specs.Streams.{read_faults, reader_in};
 
+    /// The bytes that this reader gives.
     pub fn of(reader: T) -> Self
-        ensures { read_faults result ≡ 0 }
+        ensures reader { reader_in result ≡ reader }
+        ensures faults { read_faults result ≡ 0 }
     {
         ReadSource { reader, faults: 0 }
     }
 }
 
 impl<T: Read> Source for ReadSource<T> {
+    ghost use Rattle.lr_io.specs.Streams.{AllTell, left_in};
+
     ghost faults = { λ s. s.faults };
 
-    ghost tells = { λ _. ⊥ };
+    ghost tells = { λ _. AllTell T.remaining };
 
-    ghost left = { λ _. [] };
+    ghost left = { left_in T.remaining };
 
     fn take(&mut self, into: &mut [u8]) -> Result<usize, Failed> {
         match self.reader.read(into) {
@@ -100,9 +106,10 @@ impl MemSource {
 }
 
 impl Source for MemSource {
-    ghost use Rattle.std.specs.Prelude.{◌≡◌, ◌↔◌, ◌+◌, ◌≤◌, ◌<◌, ◌++◌, Contains, EachIndex, slice_index, length, take, IfOk, OnErr, OnOk, IsErr, [], if◌then◌else◌, is_err, filter, not, ◌==◌};
+    ghost use Rattle.std.specs.Prelude.{◌≡◌, ◌↔◌, ◌+◌, ◌≤◌, ◌<◌, ◌++◌, Contains, length, min, take, IfOk, OnErr, IsErr, [], if◌then◌else◌, is_err, filter, not, ◌==◌};
     ghost use Rattle.lr_bits.specs.Faults.{HasCause};
-    ghost use Rattle.lr_io.specs.MemSource.{moved, left_of, cut_places, faults_of, failing_places};
+    ghost use Rattle.lr_io.specs.Places.{MovesMost};
+    ghost use Rattle.lr_io.specs.MemSource.{moved, left_of, cut_places, faults_of, failing_places, stopping_places};
 
     ghost faults = { λ s. s.faults };
 
@@ -110,8 +117,8 @@ impl Source for MemSource {
 
     ghost left = { left_of };
 
-    /// It fails exactly at a stated place that hasn't failed yet, and passes neither such a place nor a cut. It takes no
-    /// memory.
+    /// It fails exactly at a stated place that hasn't failed yet. Else it moves all that is wanted or left, or as many
+    /// bytes as stand before the next such place or cut. It takes no memory.
     fn take(&mut self, into: &mut [u8]) -> Result<usize, Failed>
         requires { 0 < length into.old }
         ensures cause { HasCause (faults_of self.old) (faults_of self.new) result }
@@ -126,10 +133,9 @@ impl Source for MemSource {
         ensures count { IfOk result (λ n. moved self.new ≡ moved self.old + n) }
         ensures stays { OnErr result (moved self.new ≡ moved self.old) }
         ensures same_cuts { cut_places self.new ≡ cut_places self.old }
-        ensures stops { OnOk result (EachIndex (failing_places self.old) (λ k.
-            moved self.old < slice_index (failing_places self.old) k → moved self.new ≤ slice_index (failing_places self.old) k)) }
-        ensures cuts { OnOk result (EachIndex (cut_places self.old) (λ k.
-            moved self.old < slice_index (cut_places self.old) k → moved self.new ≤ slice_index (cut_places self.old) k)) }
+        ensures most { IfOk result (MovesMost (stopping_places self.old) (moved self.old)
+            (min (length into.new) (length (left_of self.old)))) }
+        ensures untouched { OnErr result (into.new ≡ into.old) }
     {
         let place = self.at as u64;
         if self.failing.contains(&place) {
@@ -170,6 +176,7 @@ impl SureSource {
 }
 
 impl Source for SureSource {
+    ghost use Rattle.std.specs.Prelude.{◌≡◌, ◌↔◌, ◌<◌, ◌≤◌, ◌++◌, [], length, min, take, IfOk, IsOk};
     ghost use Rattle.lr_io.specs.SureSource.{left_of};
 
     ghost faults = { λ _. 0 };
@@ -178,7 +185,15 @@ impl Source for SureSource {
 
     ghost left = { left_of };
 
-    fn take(&mut self, into: &mut [u8]) -> Result<usize, Failed> {
+    /// It moves all that is wanted or left.
+    fn take(&mut self, into: &mut [u8]) -> Result<usize, Failed>
+        requires { 0 < length into.old }
+        ensures sure { IsOk result }
+        ensures within { IfOk result (λ n. n ≤ length into.new) }
+        ensures count { IfOk result (λ n. n ≡ min (length into.new) (length (left_of self.old))) }
+        ensures moved { IfOk result (λ n. left_of self.old ≡ take n into.new ++ left_of self.new) }
+        ensures ended { IfOk result (λ n. (n ≡ 0) ↔ (left_of self.old ≡ [])) }
+    {
         let count = into.len().min(self.bytes.len() - self.at);
         let end = self.at + count;
         into[..count].copy_from_slice(&self.bytes[self.at..end]);

@@ -1,10 +1,16 @@
 -- What stands of the outcomes when one more is pushed.
-use Rattle.std.proofs.Common.{◌≡◌, ℕ, ◌+◌, ◌-◌, Bool, false, not, List, [], ◌∷◌, ◌++◌, length, ap, ◌∙◌, sym, refl, subst, arith, append-nil, length-append, Some, None}
-use Rattle.std.specs.Prelude.{count_by, if◌then◌else◌}
+use Rattle.std.proofs.Common.{◌≡◌, ℕ, ◌+◌, ◌-◌, Bool, false, not, List, [], ◌∷◌, ◌++◌, length, map, ap, ap₂, ◌∙◌}
+use Rattle.std.proofs.Common.{sym, refl, subst, arith}
+use Rattle.std.proofs.Common.{append-nil, length-append, add-zero, Some, None}
+use Rattle.std.specs.Prelude.{count_by, filter, if◌then◌else◌}
+use Rattle.std.specs.Option.{option_to_list}
 use Rattle.std.specs.List.{filter_map}
+use Rattle.std.proofs.lemmas.List.{length-map, map-append}
 use Rattle.std.proofs.lemmas.List.Elements.{filter_map-append}
-use Rattle.std.proofs.lemmas.List.Sums.{fold-append}
+use Rattle.std.proofs.lemmas.List.Sums.{fold-append, length-filter}
 use Rattle.lr_bits.specs.declared.outcome.Outcome.{Outcome}
+use Rattle.lr_bits.specs.declared.outcome.Outcome.TheVariants.{Restored, Lost}
+use Rattle.lr_bits.specs.declared.placed.Placed.{Placed}
 use Rattle.lr_bits.specs.File.{File}
 use Rattle.lr_bits.specs.Packet.{Packet}
 use Rattle.lr_vc.specs.Frame.{Fields}
@@ -13,41 +19,76 @@ use Rattle.lr_vc.specs.Standing.{Kept as KeptChannels, StandsFor as ChannelsStan
 use Rattle.lr_vc.proofs.History.{packets_of-more}
 use Rattle.lr_packet.specs.Verdict.{Good, good_packets}
 use Rattle.lr_packet.proofs.VerdictLemmas.{good_packets-append}
-use Rattle.lr_file.specs.Files.{files_of}
+use Rattle.lr_file.specs.Files.{files_of, files_after, file_at}
 use Rattle.lr_file.specs.Standing.{Kept as KeptFiles, StandsFor as FilesStandFor}
 use Rattle.lr_layers.specs.declared.counts.Gained.{Gained}
-use Rattle.lr_layers.specs.Layers.{Numbers, numbers_of, frame_in, frames_of_outcomes, good_of_outcomes, files_of_outcomes, is_restored, is_bad_version, is_fill}
+use Rattle.lr_layers.specs.declared.starts.Start.{Start}
+use Rattle.lr_layers.specs.declared.starts.Now.{Now}
+use Rattle.lr_layers.specs.Layers.{Numbers, numbers_of, frame_in, frames_of_outcomes, good_of_outcomes}
+use Rattle.lr_layers.specs.Layers.{files_of_outcomes}
+use Rattle.lr_layers.specs.Layers.{is_restored, is_bad_version, is_fill}
+use Rattle.lr_layers.specs.Origins.{PlacedPacket, packet_of, at_place, placed_packets, placed_file}
+use Rattle.lr_layers.specs.Origins.{placed_files_after, placed_of_outcomes, corrected_in}
 use Rattle.lr_layers.specs.Standing.{Kept, StandsFor, AddsFiles}
-use Rattle.lr_layers.specs.Steps.{Appends, Takes}
+use Rattle.lr_layers.specs.Starts.{IsNow, Joins, StartsStandFor, corrected_before}
+use Rattle.lr_layers.specs.Steps.{Takes}
+use Rattle.lr_layers.proofs.Changes.{corrected_before-more, corrected_before-same}
+use Rattle.lr_layers.proofs.Joining.{joins_none, placed_files-append}
+use Rattle.lr_layers.proofs.Places.{placed_packets-more, packets_ending-are, all_below, packets_with_more}
+use Rattle.lr_layers.proofs.Starting.{starts_stay}
+use Rattle.lr_layers.proofs.Staying.{placed_files-stay}
 
--- the packets of a frame were pushed
-pub took : (frames : List Fields) (f : Fields) (channels : KeptChannels) (files : KeptFiles) (old new : List File) (gained : Gained) → ChannelsStandFor channels (frames ++ f ∷ [])
-    → (cleared items listed : List Packet) → cleared ≡ [] → items ≡ cleared ++ packets_at (frames ++ f ∷ []) (length frames) → listed ≡ items
-    → FilesStandFor files (good_packets (packets_of frames) ++ good_packets listed) → Appends (good_packets (packets_of frames)) (good_packets listed) old new
-    → gained.packets ≡ length (good_packets listed) → gained.files ≡ length new - length old
-    → Takes frames (frames ++ f ∷ []) channels files old new gained
-took frames f channels files old new gained stands cleared items listed none read same joined appended good count =
+-- ---- the packets of a frame were pushed
+
+pub took : (outcomes : List Outcome) (before : List PlacedPacket) (place : ℕ) (frames : List Fields) (f : Fields)
+    (channels : KeptChannels) (files : KeptFiles) (starts : List ((ℕ × ℕ) × Start)) (old new : List Placed)
+    (gained : Gained) →
+    ChannelsStandFor channels (frames ++ f ∷ []) → (cleared items listed : List Packet) → cleared ≡ [] →
+    items ≡ cleared ++ packets_at (frames ++ f ∷ []) (length frames) → listed ≡ items →
+    Joins outcomes before (at_place place (good_packets listed)) files starts old new →
+    gained.packets ≡ length (good_packets listed) → gained.files ≡ length new - length old →
+    Takes outcomes before place frames (frames ++ f ∷ []) channels files starts old new gained
+took outcomes before place frames f channels files starts old new gained stands cleared items listed none read same
+    joins good count =
     let P = packets_at (frames ++ f ∷ []) (length frames) in
     let listed_are : listed ≡ P = same ∙ read ∙ ap (λ l. l ++ P) none in
-    let all : good_packets (packets_of (frames ++ f ∷ [])) ≡ good_packets (packets_of frames) ++ good_packets listed =
-    ap good_packets (packets_of-more frames f stands.frames) ∙ good_packets-append (packets_of frames) P ∙ ap (λ l. good_packets (packets_of frames) ++ good_packets l) (sym listed_are) in
     record {
       stands = stands;
-      joined = subst (λ (l : List Good). FilesStandFor files l) (sym all) joined;
-      more = appended.more;
-      added = appended.added;
-      all = ap files_of all ∙ appended.files;
-      good = ap length all ∙ length-append (good_packets (packets_of frames)) (good_packets listed) ∙ ap (λ k. length (good_packets (packets_of frames)) + k) (sym good);
-      count = omega (arith, count, ap length appended.added, length-append old appended.more);
+      ending = good_packets listed;
+      good = ap good_packets (packets_of-more frames f stands.frames) ∙ good_packets-append (packets_of frames) P
+          ∙ ap (λ l. good_packets (packets_of frames) ++ good_packets l) (sym listed_are);
+      joins = joins;
+      packets = good;
+      count = omega (arith, count, ap length joins.added, length-append old joins.more);
     }
 
-count_by-push : (p : Outcome → Bool) (outcomes : List Outcome) (outcome : Outcome) → count_by p (outcomes ++ outcome ∷ []) ≡ count_by p outcomes + (if p outcome then 1 else 0)
-count_by-push p outcomes outcome = fold-append (λ (a : ℕ) (o : Outcome). a + (if p o then 1 else 0)) 0 outcomes (outcome ∷ [])
+-- ---- numbers
+
+count_by-push : (p : Outcome → Bool) (outcomes : List Outcome) (outcome : Outcome) →
+    count_by p (outcomes ++ outcome ∷ []) ≡ count_by p outcomes + (if p outcome then 1 else 0)
+count_by-push p outcomes outcome =
+    fold-append (λ (a : ℕ) (o : Outcome). a + (if p o then 1 else 0)) 0 outcomes (outcome ∷ [])
+
+-- each outcome is restored or lost
+each_kind : (outcomes : List Outcome) →
+    length (filter is_restored outcomes) + length (filter (λ o. not (is_restored o)) outcomes) ≡ length outcomes
+each_kind [] = refl
+each_kind (Restored corrected frame ∷ outcomes) = let rest = each_kind outcomes in omega (arith, rest)
+each_kind (Lost word ∷ outcomes) = let rest = each_kind outcomes in omega (arith, rest)
+
+length-is : (outcomes : List Outcome) →
+    count_by is_restored outcomes + count_by (λ o. not (is_restored o)) outcomes ≡ length outcomes
+length-is outcomes =
+    ap₂ (λ a b. a + b) (sym (length-filter is_restored outcomes))
+    (sym (length-filter (λ o. not (is_restored o)) outcomes))
+    ∙ each_kind outcomes
 
 -- numbers that agree in each part are the same
-same_numbers : (a b : Numbers) → a.restored ≡ b.restored → a.lost ≡ b.lost → a.bad_versions ≡ b.bad_versions → a.fill ≡ b.fill → a.packets ≡ b.packets → a.files ≡ b.files → a ≡ b
+same_numbers : (a b : Numbers) → a.restored ≡ b.restored → a.lost ≡ b.lost → a.bad_versions ≡ b.bad_versions →
+    a.fill ≡ b.fill → a.packets ≡ b.packets → a.files ≡ b.files → a ≡ b
 same_numbers a b restored lost bad_versions fill packets files =
-    let mk : ℕ → ℕ → ℕ → ℕ → ℕ → ℕ → Numbers = λ r l v i p f. record { restored = r; lost = l; bad_versions = v; fill = i; packets = p; files = f } in
+    let mk : ℕ → ℕ → ℕ → ℕ → ℕ → ℕ → Numbers = λ r l v i p f.
+    record { restored = r; lost = l; bad_versions = v; fill = i; packets = p; files = f } in
     ap (λ k. mk k a.lost a.bad_versions a.fill a.packets a.files) restored
     ∙ ap (λ k. mk b.restored k a.bad_versions a.fill a.packets a.files) lost
     ∙ ap (λ k. mk b.restored b.lost k a.fill a.packets a.files) bad_versions
@@ -55,98 +96,264 @@ same_numbers a b restored lost bad_versions fill packets files =
     ∙ ap (λ k. mk b.restored b.lost b.bad_versions b.fill k a.files) packets
     ∙ ap (λ k. mk b.restored b.lost b.bad_versions b.fill b.packets k) files
 
+-- ---- the frames and the good packets of one outcome more
+
 -- an outcome that is no frame of version 1 adds no frame
-pub frames_same : (outcomes : List Outcome) (outcome : Outcome) → frame_in outcome ≡ None → frames_of_outcomes (outcomes ++ outcome ∷ []) ≡ frames_of_outcomes outcomes
+pub frames_same : (outcomes : List Outcome) (outcome : Outcome) → frame_in outcome ≡ None →
+    frames_of_outcomes (outcomes ++ outcome ∷ []) ≡ frames_of_outcomes outcomes
 unfolding frames_of_outcomes
-frames_same outcomes outcome none = filter_map-append frame_in outcomes (outcome ∷ []) ∙ rw none (append-nil (filter_map frame_in outcomes))
+frames_same outcomes outcome none =
+    filter_map-append frame_in outcomes (outcome ∷ []) ∙ rw none (append-nil (filter_map frame_in outcomes))
 
 -- one that is adds it
-pub frames_more : (outcomes : List Outcome) (outcome : Outcome) (f : Fields) → frame_in outcome ≡ Some f → frames_of_outcomes (outcomes ++ outcome ∷ []) ≡ frames_of_outcomes outcomes ++ f ∷ []
+pub frames_more : (outcomes : List Outcome) (outcome : Outcome) (f : Fields) → frame_in outcome ≡ Some f →
+    frames_of_outcomes (outcomes ++ outcome ∷ []) ≡ frames_of_outcomes outcomes ++ f ∷ []
 unfolding frames_of_outcomes
 frames_more outcomes outcome f some = filter_map-append frame_in outcomes (outcome ∷ []) ∙ rw some refl
 
-pub good_is : (outcomes : List Outcome) (frames : List Fields) → frames_of_outcomes outcomes ≡ frames → good_of_outcomes outcomes ≡ good_packets (packets_of frames)
+pub good_is : (outcomes : List Outcome) (frames : List Fields) → frames_of_outcomes outcomes ≡ frames →
+    good_of_outcomes outcomes ≡ good_packets (packets_of frames)
 unfolding good_of_outcomes
 good_is outcomes frames is = ap (λ l. good_packets (packets_of l)) is
 
-files_are : (outcomes : List Outcome) (good : List Good) → good_of_outcomes outcomes ≡ good → files_of_outcomes outcomes ≡ files_of good
+files_are : (outcomes : List Outcome) (good : List Good) → good_of_outcomes outcomes ≡ good →
+    files_of_outcomes outcomes ≡ files_of good
 unfolding files_of_outcomes
 files_are outcomes good is = ap files_of is
 
--- nothing was pushed
-pub stands_for_none : (kept : Kept) → kept.spent ≡ false → ChannelsStandFor kept.channels [] → FilesStandFor kept.files [] → kept.numbers ≡ record { restored = 0; lost = 0; bad_versions = 0; fill = 0; packets = 0; files = 0 } → StandsFor kept []
-unfolding frames_of_outcomes good_of_outcomes files_of_outcomes packets_of files_of
-stands_for_none kept unspent channels files none = record { unspent = unspent; channels = channels; files = files; numbers = none }
+-- ---- the files, without their origins
 
-abbrev pub kept_as : Bool → KeptChannels → KeptFiles → Numbers → Kept
-kept_as spent channels files numbers = record { spent = spent; channels = channels; files = files; numbers = numbers }
+file_parts : (outcomes : List Outcome) (before : List PlacedPacket) (p : PlacedPacket) (files : List File) →
+    map (λ (q : Placed). q.file) (map (placed_file outcomes before p) files) ≡ files
+file_parts outcomes before p [] = refl
+file_parts outcomes before p (f ∷ files) = ap (λ l. f ∷ l) (file_parts outcomes before p files)
 
--- the numbers with one outcome more, given what became of each
-module _ (outcomes : List Outcome) (outcome : Outcome) (n m : Numbers) (before : n ≡ numbers_of outcomes)
-    (restored : m.restored ≡ n.restored + (if is_restored outcome then 1 else 0)) (lost : m.lost ≡ n.lost + (if not (is_restored outcome) then 1 else 0))
-    (bad_versions : m.bad_versions ≡ n.bad_versions + (if is_bad_version outcome then 1 else 0)) (fill : m.fill ≡ n.fill + (if is_fill outcome then 1 else 0)) where
-  numbers_more : m.packets ≡ length (good_of_outcomes (outcomes ++ outcome ∷ [])) → m.files ≡ length (files_of_outcomes (outcomes ++ outcome ∷ [])) → m ≡ numbers_of (outcomes ++ outcome ∷ [])
-  numbers_more packets files = same_numbers m (numbers_of (outcomes ++ outcome ∷ []))
-      (restored ∙ ap (λ (k : Numbers). k.restored + (if is_restored outcome then 1 else 0)) before ∙ sym (count_by-push is_restored outcomes outcome))
-      (lost ∙ ap (λ (k : Numbers). k.lost + (if not (is_restored outcome) then 1 else 0)) before ∙ sym (count_by-push (λ o. not (is_restored o)) outcomes outcome))
-      (bad_versions ∙ ap (λ (k : Numbers). k.bad_versions + (if is_bad_version outcome then 1 else 0)) before ∙ sym (count_by-push is_bad_version outcomes outcome))
-      (fill ∙ ap (λ (k : Numbers). k.fill + (if is_fill outcome then 1 else 0)) before ∙ sym (count_by-push is_fill outcomes outcome))
-      packets files
+files_without : (outcomes : List Outcome) (before packets : List PlacedPacket) →
+    map (λ (q : Placed). q.file) (placed_files_after outcomes before packets)
+    ≡ files_after (map packet_of before) (map packet_of packets)
+files_without outcomes before [] = refl
+files_without outcomes before (p ∷ packets) =
+    let found = option_to_list (file_at (map packet_of before) p.packet) in
+    map-append _ (map (placed_file outcomes before p) found) (placed_files_after outcomes (before ++ p ∷ []) packets)
+    ∙ ap (λ l. l ++ map (λ (q : Placed). q.file) (placed_files_after outcomes (before ++ p ∷ []) packets))
+    (file_parts outcomes before p found)
+    ∙ ap (λ l. found ++ l) (files_without outcomes (before ++ p ∷ []) packets)
+    ∙ ap (λ l. found ++ files_after l (map packet_of packets)) (map-append packet_of before (p ∷ []))
 
-  -- an outcome that adds no frame
-  module _ (spent : Bool) (channels : KeptChannels) (files : KeptFiles) (stood : StandsFor (kept_as spent channels files n) outcomes) (none : frame_in outcome ≡ None) (packets : m.packets ≡ n.packets) (count : m.files ≡ n.files) where
-    same_frames : frames_of_outcomes (outcomes ++ outcome ∷ []) ≡ frames_of_outcomes outcomes
-    same_frames = frames_same outcomes outcome none
+-- where the placed packets are the good ones, the files with origins are the files
+pub files_with_origins : (outcomes : List Outcome) →
+    map packet_of (placed_packets outcomes) ≡ good_of_outcomes outcomes →
+    map (λ (q : Placed). q.file) (placed_of_outcomes outcomes) ≡ files_of_outcomes outcomes
+unfolding placed_of_outcomes files_of
+files_with_origins outcomes are =
+    files_without outcomes [] (placed_packets outcomes) ∙ ap (files_after []) are
+    ∙ sym (files_are outcomes (good_of_outcomes outcomes) refl)
 
-    same_good : good_of_outcomes (outcomes ++ outcome ∷ []) ≡ good_of_outcomes outcomes
-    same_good = good_is (outcomes ++ outcome ∷ []) (frames_of_outcomes outcomes) same_frames ∙ sym (good_is outcomes (frames_of_outcomes outcomes) refl)
+pub count_of_files : (outcomes : List Outcome) → map packet_of (placed_packets outcomes) ≡ good_of_outcomes outcomes →
+    length (placed_of_outcomes outcomes) ≡ length (files_of_outcomes outcomes)
+count_of_files outcomes are =
+    sym (length-map (placed_of_outcomes outcomes) (λ q. q.file)) ∙ ap length (files_with_origins outcomes are)
 
-    same_files : files_of_outcomes (outcomes ++ outcome ∷ []) ≡ files_of_outcomes outcomes
-    same_files = files_are (outcomes ++ outcome ∷ []) (good_of_outcomes outcomes) same_good ∙ sym (files_are outcomes (good_of_outcomes outcomes) refl)
+-- ---- nothing was pushed
 
-    pub pushed_none : StandsFor (kept_as spent channels files m) (outcomes ++ outcome ∷ [])
-    pushed_none = record {
-      unspent = stood.unspent;
-      channels = subst (λ (l : List Fields). ChannelsStandFor channels l) (sym same_frames) stood.channels;
-      files = subst (λ (l : List Good). FilesStandFor files l) (sym same_good) stood.files;
-      numbers = numbers_more (packets ∙ ap (λ (k : Numbers). k.packets) before ∙ ap length (sym same_good)) (count ∙ ap (λ (k : Numbers). k.files) before ∙ ap length (sym same_files));
-    }
+pub stands_for_none : (kept : Kept) → kept.spent ≡ false → ChannelsStandFor kept.channels [] →
+    FilesStandFor kept.files [] →
+    StartsStandFor [] kept.starts [] → kept.corrected ≡ 0 →
+    kept.numbers ≡ record { restored = 0; lost = 0; bad_versions = 0; fill = 0; packets = 0; files = 0 } →
+    StandsFor kept []
+unfolding frames_of_outcomes good_of_outcomes files_of_outcomes packets_of files_of placed_packets corrected_before
+stands_for_none kept unspent channels files starts corrected none = record {
+  unspent =
+      unspent;
+  channels = channels;
+  files = files;
+  starts = starts;
+  packets = refl;
+  corrected = corrected;
+  numbers = none;
+}
 
-    pub adds_none : (old : List File) → AddsFiles outcomes outcome old old
-    adds_none old = record { more = []; added = sym (append-nil old); files = same_files ∙ sym (append-nil (files_of_outcomes outcomes)) }
+-- ---- one outcome more, after which these good packets end
 
-  -- an outcome that adds a frame
-  module _ (spent : Bool) (channels channels' : KeptChannels) (files files' : KeptFiles) (stood : StandsFor (kept_as spent channels files n) outcomes) (f : Fields) (some : frame_in outcome ≡ Some f)
-      (old new : List File) (gained : Gained) (takes : Takes (frames_of_outcomes outcomes) (frames_of_outcomes outcomes ++ f ∷ []) channels' files' old new gained)
-      (packets : m.packets ≡ n.packets + gained.packets) (count : m.files ≡ n.files + gained.files) where
-    more_frames : frames_of_outcomes (outcomes ++ outcome ∷ []) ≡ frames_of_outcomes outcomes ++ f ∷ []
-    more_frames = frames_more outcomes outcome f some
+module _ (outcomes : List Outcome) (outcome : Outcome) (ending : List Good)
+    (good : good_of_outcomes (outcomes ++ outcome ∷ []) ≡ good_of_outcomes outcomes ++ ending) where
+  pub placed_now : placed_packets (outcomes ++ outcome ∷ []) ≡ placed_packets outcomes ++ at_place (length outcomes) ending
+  placed_now = placed_packets-more outcomes outcome
+      ∙ ap (λ l. placed_packets outcomes ++ at_place (length outcomes) l) (packets_ending-are outcomes outcome ending good)
 
-    good_now : good_of_outcomes (outcomes ++ outcome ∷ []) ≡ good_packets (packets_of (frames_of_outcomes outcomes ++ f ∷ []))
-    good_now = good_is (outcomes ++ outcome ∷ []) (frames_of_outcomes outcomes ++ f ∷ []) more_frames
+  pub packets_now : map packet_of (placed_packets outcomes) ≡ good_of_outcomes outcomes →
+      map packet_of (placed_packets (outcomes ++ outcome ∷ [])) ≡ good_of_outcomes (outcomes ++ outcome ∷ [])
+  packets_now are = ap (map packet_of) placed_now ∙ packets_with_more (placed_packets outcomes) (length outcomes) ending
+      ∙ ap (λ l. l ++ ending) are ∙ sym good
 
-    good_then : good_of_outcomes outcomes ≡ good_packets (packets_of (frames_of_outcomes outcomes))
-    good_then = good_is outcomes (frames_of_outcomes outcomes) refl
+  pub files_now : placed_of_outcomes (outcomes ++ outcome ∷ []) ≡ placed_of_outcomes outcomes
+      ++ placed_files_after (outcomes ++ outcome ∷ []) (placed_packets outcomes) (at_place (length outcomes) ending)
+  unfolding placed_of_outcomes
+  files_now = ap (placed_files_after (outcomes ++ outcome ∷ []) []) placed_now
+      ∙ placed_files-append (outcomes ++ outcome ∷ []) [] (placed_packets outcomes) (at_place (length outcomes) ending)
+      ∙ ap (λ l. l ++ placed_files_after (outcomes ++ outcome ∷ []) (placed_packets outcomes)
+      (at_place (length outcomes) ending))
+      (placed_files-stay outcomes outcome (placed_packets outcomes) (all_below outcomes))
 
-    more_files : files_of_outcomes (outcomes ++ outcome ∷ []) ≡ files_of_outcomes outcomes ++ takes.more
-    more_files = files_are (outcomes ++ outcome ∷ []) (good_packets (packets_of (frames_of_outcomes outcomes ++ f ∷ []))) good_now ∙ takes.all
-        ∙ ap (λ l. l ++ takes.more) (sym (files_are outcomes (good_packets (packets_of (frames_of_outcomes outcomes))) good_then))
+module _ (outcomes : List Outcome) (outcome : Outcome) (old new : Kept) (stood : StandsFor old outcomes)
+    (ending : List Good)
+    (good : good_of_outcomes (outcomes ++ outcome ∷ []) ≡ good_of_outcomes outcomes ++ ending)
+    (channels : ChannelsStandFor new.channels (frames_of_outcomes (outcomes ++ outcome ∷ [])))
+    (before after : List Placed)
+    (joins : Joins (outcomes ++ outcome ∷ []) (placed_packets outcomes)
+    (at_place (length outcomes) ending) new.files new.starts before after) where
+  packets_are : map packet_of (placed_packets (outcomes ++ outcome ∷ [])) ≡ good_of_outcomes (outcomes ++ outcome ∷ [])
+  packets_are = packets_now outcomes outcome ending good stood.packets
 
-    pub pushed_some : StandsFor (kept_as spent channels' files' m) (outcomes ++ outcome ∷ [])
-    pushed_some = record {
-      unspent = stood.unspent;
-      channels = subst (λ (l : List Fields). ChannelsStandFor channels' l) (sym more_frames) takes.stands;
-      files = subst (λ (l : List Good). FilesStandFor files' l) (sym good_now) takes.joined;
-      numbers = numbers_more
-          (packets ∙ ap (λ (k : Numbers). k.packets + gained.packets) before ∙ ap (λ l. length l + gained.packets) good_then ∙ sym takes.good ∙ ap length (sym good_now))
-          (count ∙ ap (λ (k : Numbers). k.files + gained.files) before ∙ ap (λ k. length (files_of_outcomes outcomes) + k) takes.count
-          ∙ sym (length-append (files_of_outcomes outcomes) takes.more) ∙ ap length (sym more_files));
-    }
+  added_files : placed_of_outcomes (outcomes ++ outcome ∷ []) ≡ placed_of_outcomes outcomes ++ joins.more
+  added_files = files_now outcomes outcome ending good ∙ ap (λ l. placed_of_outcomes outcomes ++ l) joins.all
 
-    pub adds_some : AddsFiles outcomes outcome old new
-    adds_some = record { more = takes.more; added = takes.added; files = more_files }
+  pub adds : AddsFiles outcomes outcome before after
+  adds = record { more = joins.more; added = joins.added; files = added_files }
 
--- without outcomes there are no files
-pub no_files : files_of_outcomes [] ≡ []
-unfolding files_of_outcomes good_of_outcomes frames_of_outcomes packets_of files_of
-no_files = refl
+  count_now : length (files_of_outcomes (outcomes ++ outcome ∷ [])) ≡
+      length (files_of_outcomes outcomes) + length joins.more
+  count_now = sym (count_of_files (outcomes ++ outcome ∷ []) packets_are) ∙ ap length added_files
+      ∙ length-append (placed_of_outcomes outcomes) joins.more
+      ∙ ap (λ n. n + length joins.more) (count_of_files outcomes stood.packets)
+
+  pub pushed : new.spent ≡ false → new.corrected ≡ old.corrected + corrected_in outcome →
+      new.numbers.restored ≡ old.numbers.restored + (if is_restored outcome then 1 else 0) →
+      new.numbers.lost ≡ old.numbers.lost + (if not (is_restored outcome) then 1 else 0) →
+      new.numbers.bad_versions ≡ old.numbers.bad_versions + (if is_bad_version outcome then 1 else 0) →
+      new.numbers.fill ≡ old.numbers.fill + (if is_fill outcome then 1 else 0) →
+      new.numbers.packets ≡ old.numbers.packets + length ending →
+      new.numbers.files ≡ old.numbers.files + length joins.more →
+      StandsFor new (outcomes ++ outcome ∷ [])
+  pushed unspent corrected restored lost bad_versions fill packets files = record {
+    unspent = unspent;
+    channels = channels;
+    files = subst (λ (l : List Good). FilesStandFor new.files l) packets_are
+        (subst (λ (l : List PlacedPacket). FilesStandFor new.files (map packet_of l))
+        (sym (placed_now outcomes outcome ending good)) joins.files_stand);
+    starts = subst (λ (l : List PlacedPacket). StartsStandFor (outcomes ++ outcome ∷ []) new.starts l) (sym (placed_now outcomes outcome ending good))
+        joins.starts_stand;
+    packets = packets_are;
+    corrected = corrected ∙ ap (λ n. n + corrected_in outcome) stood.corrected
+        ∙ sym (ap (corrected_before (outcomes ++ outcome ∷ [])) (length-append outcomes (outcome ∷ []))
+        ∙ corrected_before-more outcomes outcome);
+    numbers = same_numbers new.numbers (numbers_of (outcomes ++ outcome ∷ []))
+        (restored ∙ ap (λ (k : Numbers). k.restored + (if is_restored outcome then 1 else 0)) stood.numbers
+        ∙ sym (count_by-push is_restored outcomes outcome))
+        (lost ∙ ap (λ (k : Numbers). k.lost + (if not (is_restored outcome) then 1 else 0)) stood.numbers
+        ∙ sym (count_by-push (λ o. not (is_restored o)) outcomes outcome))
+        (bad_versions ∙ ap (λ (k : Numbers). k.bad_versions + (if is_bad_version outcome then 1 else 0)) stood.numbers
+        ∙ sym (count_by-push is_bad_version outcomes outcome))
+        (fill ∙ ap (λ (k : Numbers). k.fill + (if is_fill outcome then 1 else 0)) stood.numbers
+        ∙ sym (count_by-push is_fill outcomes outcome))
+        (packets ∙ ap (λ (k : Numbers). k.packets + length ending) stood.numbers
+        ∙ sym (ap length good ∙ length-append (good_of_outcomes outcomes) ending))
+        (files ∙ ap (λ (k : Numbers). k.files + length joins.more) stood.numbers ∙ sym count_now);
+  }
+
+pub good_same : (outcomes : List Outcome) (outcome : Outcome) → frame_in outcome ≡ None →
+    good_of_outcomes (outcomes ++ outcome ∷ []) ≡ good_of_outcomes outcomes ++ []
+good_same outcomes outcome none =
+    good_is (outcomes ++ outcome ∷ []) (frames_of_outcomes outcomes) (frames_same outcomes outcome none)
+    ∙ sym (good_is outcomes (frames_of_outcomes outcomes) refl) ∙ sym (append-nil (good_of_outcomes outcomes))
+
+pub good_with : (outcomes : List Outcome) (outcome : Outcome) (f : Fields) (ending : List Good) →
+    frame_in outcome ≡ Some f →
+    good_packets (packets_of (frames_of_outcomes outcomes ++ f ∷ [])) ≡
+    good_packets (packets_of (frames_of_outcomes outcomes)) ++ ending →
+    good_of_outcomes (outcomes ++ outcome ∷ []) ≡ good_of_outcomes outcomes ++ ending
+good_with outcomes outcome f ending some good =
+    good_is (outcomes ++ outcome ∷ []) (frames_of_outcomes outcomes ++ f ∷ []) (frames_more outcomes outcome f some)
+    ∙ good
+    ∙ ap (λ l. l ++ ending) (sym (good_is outcomes (frames_of_outcomes outcomes) refl))
+
+-- what was pushed adds no frame
+pub pushed_none : (outcomes : List Outcome) (outcome : Outcome) (old new : Kept) (files : List Placed) →
+    StandsFor old outcomes → frame_in outcome ≡ None → new.spent ≡ false → new.channels ≡ old.channels →
+    new.files ≡ old.files → new.starts ≡ old.starts → new.corrected ≡ old.corrected + corrected_in outcome →
+    new.numbers.restored ≡ old.numbers.restored + (if is_restored outcome then 1 else 0) →
+    new.numbers.lost ≡ old.numbers.lost + (if not (is_restored outcome) then 1 else 0) →
+    new.numbers.bad_versions ≡ old.numbers.bad_versions + (if is_bad_version outcome then 1 else 0) →
+    new.numbers.fill ≡ old.numbers.fill + (if is_fill outcome then 1 else 0) →
+    new.numbers.packets ≡ old.numbers.packets → new.numbers.files ≡ old.numbers.files →
+    StandsFor new (outcomes ++ outcome ∷ []) × AddsFiles outcomes outcome files files
+unfolding joins_none
+pushed_none outcomes outcome old new files stood none unspent channels open_files starts corrected restored lost bad
+    fill packets count =
+    let all = outcomes ++ outcome ∷ [] in
+    let good = good_same outcomes outcome none in
+    let stands : ChannelsStandFor new.channels (frames_of_outcomes all) =
+    subst (λ (l : List Fields). ChannelsStandFor new.channels l) (sym (frames_same outcomes outcome none))
+    (subst (λ (k : KeptChannels). ChannelsStandFor k (frames_of_outcomes outcomes))
+    (sym channels) stood.channels) in
+    let P : KeptFiles → List ((ℕ × ℕ) × Start) → Type 0 = λ f s.
+    Joins all (placed_packets outcomes) (at_place (length outcomes) []) f s files files in
+    let joins : P new.files new.starts =
+    joins_none all (placed_packets outcomes) new.files new.starts files
+    (subst (λ (k : KeptFiles). FilesStandFor k (map packet_of (placed_packets outcomes))) (sym open_files)
+    (subst (λ (l : List Good). FilesStandFor old.files l) (sym stood.packets) stood.files))
+    (subst (λ (k : List ((ℕ × ℕ) × Start)). StartsStandFor all k (placed_packets outcomes)) (sym starts)
+    (starts_stay outcomes outcome old.starts (placed_packets outcomes) (all_below outcomes) stood.starts)) in (
+      pushed outcomes outcome old new stood [] good stands files files joins unspent corrected restored lost bad fill
+          (packets ∙ sym (add-zero old.numbers.packets)) (count ∙ sym (add-zero old.numbers.files)),
+      adds outcomes outcome old new stood [] good stands files files joins,
+    )
+
+-- the outcome at hand
+pub now_is : (outcomes : List Outcome) (outcome : Outcome) (old : Kept) (now : Now) → StandsFor old outcomes →
+    now.start.place ≡ old.numbers.restored + old.numbers.lost → now.start.corrected ≡ old.corrected →
+    now.corrected ≡ old.corrected + corrected_in outcome →
+    IsNow (outcomes ++ outcome ∷ []) now × (now.start.place ≡ length outcomes)
+now_is outcomes outcome old now stood place before after =
+    let all = outcomes ++ outcome ∷ [] in
+    let n = length outcomes in
+    let at : now.start.place ≡ n =
+    place ∙ ap (λ (k : Numbers). k.restored + k.lost) stood.numbers ∙ length-is outcomes in (
+      record {
+        before = before ∙ stood.corrected ∙ sym (corrected_before-same outcomes outcome n (omega arith))
+            ∙ ap (corrected_before all) (sym at);
+        after = after ∙ ap (λ k. k + corrected_in outcome) stood.corrected ∙ sym (corrected_before-more outcomes outcome)
+            ∙ ap (λ k. corrected_before all (k + 1)) (sym at);
+      },
+      at,
+    )
+
+-- a frame was pushed
+pub pushed_frame : (outcomes : List Outcome) (outcome : Outcome) (old new : Kept) (f : Fields) (now : Now)
+    (before after : List Placed)
+    (gained : Gained) → StandsFor old outcomes → frame_in outcome ≡ Some f → now.start.place ≡ length outcomes →
+    Takes (outcomes ++ outcome ∷ []) (placed_packets outcomes) now.start.place (frames_of_outcomes outcomes)
+    (frames_of_outcomes outcomes ++ f ∷ []) new.channels new.files new.starts before after gained →
+    new.spent ≡ false → new.corrected ≡ old.corrected + corrected_in outcome →
+    new.numbers.restored ≡ old.numbers.restored + (if is_restored outcome then 1 else 0) →
+    new.numbers.lost ≡ old.numbers.lost + (if not (is_restored outcome) then 1 else 0) →
+    new.numbers.bad_versions ≡ old.numbers.bad_versions + (if is_bad_version outcome then 1 else 0) →
+    new.numbers.fill ≡ old.numbers.fill + (if is_fill outcome then 1 else 0) →
+    new.numbers.packets ≡ old.numbers.packets + gained.packets → new.numbers.files ≡ old.numbers.files + gained.files →
+    StandsFor new (outcomes ++ outcome ∷ []) × AddsFiles outcomes outcome before after
+pushed_frame outcomes outcome old new f now before after gained stood some at takes unspent corrected restored lost bad
+    fill packets files =
+    let all = outcomes ++ outcome ∷ [] in
+    let good = good_with outcomes outcome f takes.ending some takes.good in
+    let stands : ChannelsStandFor new.channels (frames_of_outcomes all) =
+    subst (λ (l : List Fields). ChannelsStandFor new.channels l)
+    (sym (frames_more outcomes outcome f some)) takes.stands in
+    let P : ℕ → Type 0 =
+    λ n. (joins : Joins all (placed_packets outcomes) (at_place n takes.ending) new.files new.starts before after)
+    × (gained.files ≡ length joins.more) in
+    let here : P (length outcomes) = subst P at (takes.joins, takes.count) in (
+      pushed outcomes outcome old new stood takes.ending good stands before after here.0 unspent corrected restored lost
+          bad fill
+          (packets ∙ ap (λ n. old.numbers.packets + n) takes.packets) (files ∙ ap (λ n. old.numbers.files + n) here.1),
+      adds outcomes outcome old new stood takes.ending good stands before after here.0,
+    )
+
+-- what is kept of the files and of their starts, for a frame more
+pub files_before : (outcomes : List Outcome) (kept : Kept) → StandsFor kept outcomes →
+    FilesStandFor kept.files (map packet_of (placed_packets outcomes))
+files_before outcomes kept stood = subst (λ (l : List Good). FilesStandFor kept.files l) (sym stood.packets) stood.files
+
+pub starts_before : (outcomes : List Outcome) (outcome : Outcome) (kept : Kept) → StandsFor kept outcomes →
+    StartsStandFor (outcomes ++ outcome ∷ []) kept.starts (placed_packets outcomes)
+starts_before outcomes outcome kept stood =
+    starts_stay outcomes outcome kept.starts (placed_packets outcomes) (all_below outcomes) stood.starts

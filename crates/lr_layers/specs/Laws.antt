@@ -1,22 +1,30 @@
 -- The packets and files of outcomes that go on, and how many bytes the files of outcomes have at most.
-use Rattle.std.specs.Prelude.{◌≡◌, ◌≤◌, ◌+◌, ◌*◌, ◌==◌, not, List, ◌++◌, length, count_by, All}
+use Rattle.std.specs.Prelude.{◌≡◌, ◌≤◌, ◌+◌, ◌*◌, ◌==◌, not, List, ◌++◌, length, map, count_by, All}
 use Rattle.std.specs.List.{sum_by}
 use Rattle.lr_bits.specs.declared.outcome.Outcome.{Outcome}
-use Rattle.lr_bits.specs.File.{File, bytes_of}
+use Rattle.lr_bits.specs.declared.placed.Placed.{Placed}
+use Rattle.lr_bits.specs.File.{bytes_of}
 use Rattle.lr_bits.specs.Packet.{Packet}
 use Rattle.lr_vc.specs.Runs.{AreFrames}
 use Rattle.lr_vc.specs.Packets.{packets_of}
 use Rattle.lr_packet.specs.Verdict.{Good}
 use Rattle.lr_layers.specs.Layers.{frames_of_outcomes, good_of_outcomes, files_of_outcomes}
+use Rattle.lr_layers.specs.Origins.{placed_of_outcomes}
 
 -- the packets, the good packets and the files of the first outcomes are the first ones
 pub record GoOn (outcomes later : List Outcome) : Type 0 where
   pub more_packets : List Packet
-  pub packets : packets_of (frames_of_outcomes (outcomes ++ later)) ≡ packets_of (frames_of_outcomes outcomes) ++ more_packets
+  pub packets : packets_of (frames_of_outcomes (outcomes ++ later)) ≡
+      packets_of (frames_of_outcomes outcomes) ++ more_packets
   pub more_good : List Good
   pub good : good_of_outcomes (outcomes ++ later) ≡ good_of_outcomes outcomes ++ more_good
-  pub more_files : List File
-  pub files : files_of_outcomes (outcomes ++ later) ≡ files_of_outcomes outcomes ++ more_files
+  pub more_files : List Placed
+  pub files : placed_of_outcomes (outcomes ++ later) ≡ placed_of_outcomes outcomes ++ more_files
+
+-- the files with origins are the files, where each frame has a zone of 884 bytes
+abbrev pub FilesHaveOrigins : Type 0
+FilesHaveOrigins = (outcomes : List Outcome) → AreFrames (frames_of_outcomes outcomes) →
+    map (λ placed. placed.file) (placed_of_outcomes outcomes) ≡ files_of_outcomes outcomes
 
 -- where each frame has a zone of 884 bytes, as each of 892 bytes has
 abbrev pub FilesGoOn : Type 0
@@ -25,8 +33,11 @@ FilesGoOn = (outcomes later : List Outcome) → AreFrames (frames_of_outcomes (o
 -- the files of outcomes have, with eight bytes for each body, at most 884 bytes for each frame that isn't fill
 abbrev pub FilesFitTheFrames : Type 0
 FilesFitTheFrames = (outcomes : List Outcome) → AreFrames (frames_of_outcomes outcomes) →
-    sum_by (λ file. length (bytes_of file) + 8 * length file.bodies) (files_of_outcomes outcomes) ≤ 884 * count_by (λ frame. not (frame.vc == 63)) (frames_of_outcomes outcomes)
+    sum_by (λ file. length (bytes_of file) + 8 * length file.bodies) (files_of_outcomes outcomes) ≤ 884 * count_by
+    (λ frame. not (frame.vc == 63)) (frames_of_outcomes outcomes)
 
 -- each file of outcomes has a body, and ten bytes
 abbrev pub FilesAreSome : Type 0
-FilesAreSome = (outcomes : List Outcome) → All (λ file. (1 ≤ length file.bodies) × (10 ≤ length (bytes_of file))) (files_of_outcomes outcomes)
+FilesAreSome =
+    (outcomes : List Outcome) → All (λ file. (1 ≤ length file.bodies) × (10 ≤ length (bytes_of file)))
+    (files_of_outcomes outcomes)

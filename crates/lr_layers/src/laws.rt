@@ -1,4 +1,6 @@
-ghost use Rattle.lr_layers.specs.Laws.{FilesAreSome, FilesFitTheFrames, FilesGoOn};
+//! Laws on the files of outcomes.
+
+ghost use Rattle.lr_layers.specs.Laws.{FilesAreSome, FilesFitTheFrames, FilesGoOn, FilesHaveOrigins};
 
 /// The packets, the good packets and the files of the first outcomes are the first ones.
 pub fn files_go_on()
@@ -13,4 +15,9 @@ pub fn files_fit_the_frames()
 /// Each file of outcomes has a body, and ten bytes.
 pub fn files_are_some()
     ensures { FilesAreSome }
+{}
+
+/// The files with origins are the files, in their order.
+pub fn files_have_origins()
+    ensures { FilesHaveOrigins }
 {}

@@ -1,10 +1,13 @@
-ghost use Rattle.std.specs.Prelude.{◌≡◌, ◌+◌, ◌^◌, ◌<◌, ◌≤◌, ◌++◌, ◌∷◌, [], List, OnOk, OnErr, IsErr, length};
+//! From outcomes to files.
+
+ghost use Rattle.std.specs.Prelude.{◌≡◌, ◌+◌, ◌^◌, ◌<◌, ◌≤◌, ◌++◌, ◌∷◌, [], List, OnOk, OnErr, IsErr, length, sum};
 ghost use Rattle.lr_bits.specs.declared.outcome.Outcome.{Outcome as Outcome'};
 ghost use Rattle.lr_layers.specs.Standing.{StandsFor, IsSpent, AddsFiles, AreFew, numbers};
 
 use crate::counts::Counts;
 use crate::frames::{push_frame, read_frame};
-use lr_bits::{MissionFile, NoMemory, Outcome, RawPacket};
+use crate::starts::{Now, Start, Starts};
+use lr_bits::{Corrected, NoMemory, Outcome, Placed, RawPacket};
 use lr_file::Files;
 use lr_vc::Channels;
 use std::alloc::Global;
@@ -12,12 +15,15 @@ use std::marker::Model;
 
 /// The mission files of outcomes, which are pushed one after another.
 ///
-/// It keeps what `Channels` and `Files` keep, and its counts. After `NoMemory` it is spent, and every later call answers
-/// `NoMemory`.
+/// It keeps what `Channels` and `Files` keep, and its counts. After `NoMemory` it is spent, and every later call
+/// answers `NoMemory`.
 #[derive(Drop)]
 pub struct Layers {
     channels: Channels,
     files: Files,
+    starts: Starts,
+    /// How many bytes were changed in all outcomes so far.
+    corrected: u64,
     /// The packets that end in the frame that is pushed.
     packets: Vec<RawPacket>,
     counts: Counts,
@@ -25,13 +31,30 @@ pub struct Layers {
 }
 
 impl Model for Layers {
+    ghost use Rattle.std.specs.Prelude.{◌≤◌, ◌*◌};
     ghost use Rattle.lr_layers.specs.Standing.{Kept, AreFew, numbers};
 
     ghost Value = { Kept };
 
-    ghost view = { λ l. record { spent = l.spent; channels = l.channels; files = l.files; numbers = numbers l.counts } };
+    ghost view = { λ l. record {
+      spent = l.spent;
+      channels = l.channels;
+      files = l.files;
+      starts = l.starts;
+      corrected = l.corrected;
+      numbers = numbers l.counts;
+    } };
 
-    ghost invariant = { λ l. AreFew (numbers l.counts) };
+    ghost invariant = { λ l. AreFew (numbers l.counts) × (l.corrected ≤ 1020 * (numbers l.counts).restored) };
+}
+
+/// How many bytes were changed in the four words of a block.
+fn changed_bytes(corrected: &Corrected) -> u64
+    ensures value { result ≡ sum corrected.now.0 }
+    ensures few { result ≤ 1020 }
+{
+    let [first, second, third, fourth] = corrected.0;
+    u64::from(first) + u64::from(second) + u64::from(third) + u64::from(fourth)
 }
 
 impl Layers {
@@ -42,6 +65,8 @@ impl Layers {
         Layers {
             channels: Channels::new(alloc),
             files: Files::new(alloc),
+            starts: Starts::new(alloc),
+            corrected: 0,
             packets: Vec::new(alloc),
             counts: Counts {
                 restored: 0,
@@ -52,6 +77,24 @@ impl Layers {
                 files: 0,
             },
             spent: false,
+        }
+    }
+
+    /// The next outcome, in which so many bytes were changed.
+    fn now(&self, changed: u64) -> Now
+        requires few { self.now.numbers.restored + self.now.numbers.lost < 2 ^ 48 }
+        requires changed { changed ≤ 1020 }
+        ensures place { result.start.place ≡ self.now.numbers.restored + self.now.numbers.lost }
+        ensures before { result.start.corrected ≡ self.now.corrected }
+        ensures after { result.corrected ≡ self.now.corrected + changed }
+    {
+        let start = Start {
+            place: self.counts.restored + self.counts.lost,
+            corrected: self.corrected,
+        };
+        Now {
+            start,
+            corrected: self.corrected + changed,
         }
     }
 
@@ -70,7 +113,7 @@ impl Layers {
     pub fn push_outcome(
         &mut self,
         outcome: &Outcome,
-        files: &mut Vec<MissionFile>,
+        files: &mut Vec<Placed>,
     ) -> Result<(), NoMemory>
         requires { self.old.numbers.restored + self.old.numbers.lost < 2 ^ 48 }
         ensures stands { (outcomes : List Outcome') → StandsFor self.old outcomes →
@@ -81,36 +124,45 @@ impl Layers {
         ensures few { OnOk result (length files.new.items ≤ length files.old.items + 885) }
 
         ensures refused { OnErr result (files.new.items ≡ files.old.items) }
+        ensures counts_stay { OnErr result (self.new.numbers ≡ self.old.numbers) }
         ensures spends { OnErr result (IsSpent self.new) }
         ensures stays_spent { IsSpent self.old → IsErr result × IsSpent self.new }
     {
         if self.spent {
             return Err(NoMemory);
         }
-        let bytes = match outcome {
-            Outcome::Restored(_, bytes) => bytes,
+        let (corrected, bytes) = match outcome {
+            Outcome::Restored(corrected, bytes) => (changed_bytes(corrected), bytes),
             Outcome::Lost(_) => {
                 self.counts.lost += 1;
                 return Ok(());
             }
         };
-        let read = read_frame(bytes, &mut self.counts);
-        self.counts.restored += 1;
+        let mut counts = self.counts;
+        let read = read_frame(bytes, &mut counts);
+        counts.restored += 1;
+        let now = self.now(corrected);
         let Some(frame) = read else {
+            self.counts = counts;
+            self.corrected = now.corrected;
             return Ok(());
         };
         let before = files.len();
         let gained = push_frame(
             &frame,
+            now,
             &mut self.channels,
             &mut self.packets,
             &mut self.files,
+            &mut self.starts,
             files,
         );
         match gained {
             Ok(gained) => {
-                self.counts.packets += gained.packets;
-                self.counts.files += gained.files;
+                counts.packets += gained.packets;
+                counts.files += gained.files;
+                self.counts = counts;
+                self.corrected = now.corrected;
                 Ok(())
             }
             Err(NoMemory) => {

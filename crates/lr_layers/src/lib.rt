@@ -1,9 +1,10 @@
 //! From the outcomes of blocks to mission files, by the layers between them.
 //!
-//! An outcome is a restored frame of 892 bytes, or a lost block, which is simply absent. Frames of version 1 are read as
-//! packets (CCSDS 732.0-B, 133.0-B), the good ones among them are joined to files (CGMS 03), and the files leave in the order
-//! of their last packets. The layer above rests on `Layers.files_of_outcomes`, which composes the definitions of the layers,
-//! and on `Laws.FilesGoOn`: the files of the first outcomes are the first files.
+//! An outcome is a restored frame of 892 bytes, or a lost block, which is simply absent. Frames of version 1 are read
+//! as packets (CCSDS 732.0-B, 133.0-B), the good ones among them are joined to files (CGMS 03), and the files leave in
+//! the order of their last packets. The layer above rests on `Origins.placed_of_outcomes`, the files with their
+//! origins, which composes the definitions of the layers, and on `Laws`: the files of the first outcomes are the first
+//! files.
 #![tactic(auto)]
 
 mod counts;
@@ -11,7 +12,8 @@ mod frames;
 mod laws;
 mod layers;
 mod packets;
+mod starts;
 
 pub use counts::Counts;
-pub use laws::{files_are_some, files_fit_the_frames, files_go_on};
+pub use laws::{files_are_some, files_fit_the_frames, files_go_on, files_have_origins};
 pub use layers::Layers;

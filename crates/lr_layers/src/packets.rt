@@ -1,21 +1,30 @@
-// The packets of a frame, one after another.
-ghost use Rattle.std.specs.Prelude.{◌≡◌, ◌≤◌, ◌+◌, ◌++◌, ◌∷◌, [], List, ℕ, IfOk, OnOk, length, if◌then◌else◌};
-ghost use Rattle.lr_packet.specs.Verdict.{Good, good_packets};
-ghost use Rattle.lr_file.specs.Standing.{StandsFor};
-ghost use Rattle.lr_layers.specs.Steps.{Appends, KeepsFront};
+//! The packets of a frame, one after another.
 
-use lr_bits::{MissionFile, NoMemory, RawPacket};
+ghost use Rattle.std.specs.Prelude.{◌≡◌, ◌≤◌, ◌+◌, ◌++◌, ◌∷◌, [], List, IfOk, OnOk, length, map, if◌then◌else◌};
+ghost use Rattle.lr_bits.specs.declared.outcome.Outcome.{Outcome as Outcome'};
+ghost use Rattle.lr_packet.specs.Verdict.{good_packets};
+ghost use Rattle.lr_file.specs.Standing.{StandsFor};
+ghost use Rattle.lr_layers.specs.Origins.{PlacedPacket, packet_of, at_place};
+ghost use Rattle.lr_layers.specs.Starts.{IsNow, Joins, StartsStandFor};
+ghost use Rattle.lr_layers.specs.Steps.{KeepsFront};
+
+use crate::starts::{Now, Starts};
+use lr_bits::{NoMemory, Placed, RawPacket};
 use lr_file::Files;
 use lr_packet::check;
 
-// Checks a packet, appends the file that ends with it, if one does, and answers whether it is good.
+/// Checks a packet, appends the file that ends with it, if one does, and answers whether it is good.
 fn push_packet(
     raw: &RawPacket,
+    now: Now,
     files: &mut Files,
-    out: &mut Vec<MissionFile>,
+    starts: &mut Starts,
+    out: &mut Vec<Placed>,
 ) -> Result<bool, NoMemory>
-    ensures stands { (before : List Good) → StandsFor files.old before → OnOk result (StandsFor files.new (before ++ good_packets (raw.now ∷ []))) }
-    ensures files { (before : List Good) → StandsFor files.old before → OnOk result (Appends before (good_packets (raw.now ∷ [])) out.old.items out.new.items) }
+    ensures joins { (outcomes : List Outcome') (before : List PlacedPacket) → StandsFor files.old (map packet_of before)
+        → StartsStandFor outcomes starts.old before → IsNow outcomes now
+        → OnOk result (Joins outcomes before (at_place now.start.place (good_packets (raw.now ∷ []))) files.new starts.new
+        out.old.items out.new.items) }
     ensures good { IfOk result (λ good. (if good then 1 else 0) ≡ length (good_packets (raw.now ∷ []))) }
     ensures few { IfOk result (λ good. length out.new.items ≤ length out.old.items + (if good then 1 else 0)) }
     ensures kept { KeepsFront out.old.items out.new.items }
@@ -23,8 +32,10 @@ fn push_packet(
     match check(raw) {
         Err(_) => Ok(false),
         Ok(good) => {
+            starts.note(&good, now.start)?;
             if let Some(file) = files.push(&good)? {
-                out.push(file)?;
+                let origin = now.origin_from(starts.start_of(&good));
+                out.push(Placed { file, origin })?;
             }
             Ok(true)
         }
@@ -34,11 +45,15 @@ fn push_packet(
 /// Checks packets, appends the files that end with them, and answers how many are good.
 pub(crate) fn push_packets(
     packets: &[RawPacket],
+    now: Now,
     files: &mut Files,
-    out: &mut Vec<MissionFile>,
+    starts: &mut Starts,
+    out: &mut Vec<Placed>,
 ) -> Result<u64, NoMemory>
-    ensures stands { (before : List Good) → StandsFor files.old before → OnOk result (StandsFor files.new (before ++ good_packets packets.now)) }
-    ensures files { (before : List Good) → StandsFor files.old before → OnOk result (Appends before (good_packets packets.now) out.old.items out.new.items) }
+    ensures joins { (outcomes : List Outcome') (before : List PlacedPacket) → StandsFor files.old (map packet_of before)
+        → StartsStandFor outcomes starts.old before → IsNow outcomes now
+        → OnOk result (Joins outcomes before (at_place now.start.place (good_packets packets.now)) files.new starts.new
+        out.old.items out.new.items) }
     ensures good { IfOk result (λ good. good ≡ length (good_packets packets.now)) }
     ensures few { IfOk result (λ good. good ≤ length packets.now) }
     ensures few_files { IfOk result (λ good. length out.new.items ≤ length out.old.items + good) }
@@ -46,7 +61,7 @@ pub(crate) fn push_packets(
 {
     let mut good = 0;
     for raw in packets {
-        if push_packet(raw, files, out)? {
+        if push_packet(raw, now, files, starts, out)? {
             good += 1;
         }
     }

@@ -1,5 +1,5 @@
--- The header of a space packet (CCSDS 133.0-B, section 4.1.3). Each field is the number in these bits, the first of which is
--- bit 0.
+-- The header of a space packet (CCSDS 133.0-B, section 4.1.3). Each field is the number in these bits, the first of
+-- which is bit 0.
 use Rattle.std.specs.Prelude.{ℕ, ◌-◌, Bool, List, length, ◌==◌}
 use Rattle.lr_bits.specs.Bits.{field_of}
 
@@ -13,7 +13,7 @@ pub record HeadFields : Type 0 where
   pub count : ℕ
   pub length : ℕ
 
--- Bits 0 to 2, 3, 4, 5 to 15, 16 to 17 and 18 to 31; the data field is all that is behind the six bytes of the header.
+-- Bits 0 to 2, 3, 4, 5 to 15, 16 to 17 and 18 to 31; the data field is all that is after the six bytes of the header.
 abbrev pub head_of : List ℕ → HeadFields
 head_of bytes = record {
   version = field_of bytes 0 3;

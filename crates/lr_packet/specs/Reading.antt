@@ -9,7 +9,16 @@ use Rattle.lr_packet.specs.Verdict.{Good, verdict_of}
 
 -- the fields that a header of the program has
 abbrev pub fields : PacketHead → HeadFields
-fields h = record { version = h.version; kind = h.kind; secondary = h.secondary; apid = h.apid; flags = h.flags; count = h.count; length = h.length }
+fields h =
+    record {
+      version = h.version;
+      kind = h.kind;
+      secondary = h.secondary;
+      apid = h.apid;
+      flags = h.flags;
+      count = h.count;
+      length = h.length;
+    }
 
 abbrev pub IsHeadOf : Packet → PacketHead → Type 0
 IsHeadOf packet head = fields head ≡ head_of packet.bytes

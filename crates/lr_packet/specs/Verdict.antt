@@ -1,6 +1,7 @@
--- What becomes of a packet: the first rule that it breaks, or a good packet (CCSDS 133.0-B, section 4.1; the checksum of CGMS
--- 03). The packet type and the secondary header flag take no part.
-use Rattle.std.specs.Prelude.{◌≡◌, ◌++◌, ℕ, ◌-◌, ◌==◌, if◌then◌else◌, nat_lt, not, List, length, take, drop, Result, Ok, Err}
+-- What becomes of a packet: the first rule that it breaks, or a good packet (CCSDS 133.0-B, section 4.1; the checksum
+-- of CGMS 03). The packet type and the secondary header flag take no part.
+use Rattle.std.specs.Prelude.{◌≡◌, ◌++◌, ℕ, ◌-◌, ◌==◌, if◌then◌else◌, nat_lt, not, List, length, take, drop, Result, Ok}
+use Rattle.std.specs.Prelude.{Err}
 use Rattle.std.specs.List.{filter_map}
 use Rattle.std.specs.Result.{result_ok}
 use Rattle.byteorder.specs.Endian.{big_number}
@@ -42,7 +43,8 @@ verdict_of packet =
     if not ((head_of packet.bytes).version == 0) then Err (Version (head_of packet.bytes).version)
     else if (head_of packet.bytes).apid == 2047 then Err Idle
     else if nat_lt (length (data_of packet.bytes)) 2 then Err TooShort
-    else if not (stored_of packet.bytes == crc_of (body_of packet.bytes)) then Err (Crc (stored_of packet.bytes) (crc_of (body_of packet.bytes)))
+    else if not (stored_of packet.bytes == crc_of (body_of packet.bytes)) then Err
+    (Crc (stored_of packet.bytes) (crc_of (body_of packet.bytes)))
     else Ok (good_of packet)
 
 -- the good ones of a list of packets, in their order
@@ -51,4 +53,5 @@ good_packets packets = filter_map (λ packet. result_ok (verdict_of packet)) pac
 
 -- the good packets of two lists in a row
 abbrev pub GoodPacketsAreJoined : Type 0
-GoodPacketsAreJoined = (front back : List Packet) → good_packets (front ++ back) ≡ good_packets front ++ good_packets back
+GoodPacketsAreJoined =
+    (front back : List Packet) → good_packets (front ++ back) ≡ good_packets front ++ good_packets back

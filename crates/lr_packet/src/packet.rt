@@ -50,6 +50,6 @@ pub enum PacketFault {
     Idle,
     /// Its data field has no room for a checksum.
     TooShort,
-    /// The checksum behind its body isn't that of the body.
+    /// The checksum after its body isn't that of the body.
     Crc { stored: u16, computed: u16 },
 }

@@ -1,15 +1,11 @@
+//! The header of a packet, and its verdict.
+
 ghost use Rattle.lr_packet.specs.Reading.{IsHeadOf, IsVerdictOf};
 ghost use Rattle.lr_packet.specs.Verdict.{GoodPacketsAreJoined};
 
 use crate::{GoodPacket, PacketFault, PacketHead};
 use byteorder::{BigEndian, ByteOrder};
-use lr_bits::{RawPacket, crc16, field};
-
-/// The application that sends nothing.
-const IDLE: u16 = 2047;
-
-/// The bytes of a header.
-const HEAD_BYTES: usize = 6;
+use lr_bits::{IDLE_APPLICATION, PACKET_HEADER_BYTES, RawPacket, crc16, field};
 
 /// The bytes of a checksum.
 const CRC_BYTES: usize = 2;
@@ -38,10 +34,10 @@ pub fn check(raw: &RawPacket) -> Result<GoodPacket<'_>, PacketFault>
     if head.version != 0 {
         return Err(PacketFault::Version(head.version));
     }
-    if head.apid == IDLE {
+    if head.apid == IDLE_APPLICATION {
         return Err(PacketFault::Idle);
     }
-    let data = &raw.as_slice()[HEAD_BYTES..];
+    let data = &raw.as_slice()[PACKET_HEADER_BYTES..];
     if data.len() < CRC_BYTES {
         return Err(PacketFault::TooShort);
     }

@@ -1,3 +1,9 @@
 pub mod HeaderLemmas
+pub mod ItemLemmas
+pub mod LengthLemmas
+pub mod NumberLemmas
 pub mod ReadingLemmas
 pub mod RecordLemmas
+pub mod Results
+pub mod WalkLemmas
+pub mod WayLemmas

@@ -1,39 +1,47 @@
--- What the bytes of a shelf stand for: a capacity and a list of files.
-use Rattle.std.specs.Prelude.{◌≡◌, ◌≤◌, ◌+◌, ℕ, List, ◌∷◌, [], length, map, All}
+-- What the bytes of a shelf stand for: a capacity and a proper list of items.
+use Rattle.std.specs.Prelude.{◌≡◌, ◌⊎◌, ◌≤◌, ◌+◌, ℕ, List, ◌∷◌, [], map, All}
 use Rattle.std.specs.List.{sum_by}
-use Rattle.lr_bits.specs.File.{File, IsFile, bytes_of}
-use Rattle.lr_shelf_format.specs.Header.{header_bytes}
-use Rattle.lr_shelf_format.specs.Record.{extent_of, record_bytes}
-use Rattle.lr_shelf_format.specs.Gates.{front, IsClosedBehind}
-use Rattle.lr_shelf_format.specs.Walk.{IsWalk}
+use Rattle.lr_shelf_format.specs.Header.{IsCapacity, header_bytes}
+use Rattle.lr_shelf_format.specs.Items.{IsItem, IsProper, Item, old_item, add_item, discard_item, extent_of, head_of_item, item_bytes}
+use Rattle.lr_shelf_format.specs.Gates.{front, IsClosedAfter}
+use Rattle.lr_shelf_format.specs.Walk.{IsWalk, Step}
 
--- how many bytes the record of a file has
-abbrev pub extent_of_file : File → ℕ
-extent_of_file file = extent_of (length file.bodies) (length (bytes_of file))
+-- where a shelf of these items ends, its last gate included
+abbrev pub end_of : List Item → ℕ
+end_of items = 20 + sum_by (λ item. extent_of (head_of_item item) + 1) items
 
--- where a shelf of these files ends, its last gate included
-abbrev pub end_of : List File → ℕ
-end_of files = 20 + sum_by (λ file. extent_of_file file + 1) files
+-- The header for the capacity stands at 0, then for each item in turn an open gate and its bytes, and then a closed
+-- gate, no farther than the capacity allows. Anything may follow.
+pub record StandsFor (bytes : List ℕ) (capacity : ℕ) (items : List Item) : Type 0 where
+  pub version : ℕ
+  pub known : (version ≡ 1) ⊎ (version ≡ 2)
+  pub each : All IsItem items
+  pub proper : IsProper (map head_of_item items)
+  pub allowed : IsCapacity capacity
+  pub fits : end_of items ≤ capacity
+  pub shut : IsClosedAfter (front (header_bytes version capacity) (map item_bytes items)) bytes
 
--- The header for the capacity stands at 0, then for each file in turn an open gate and its record, and then a closed gate,
--- no farther than the capacity allows. Anything may follow.
-pub record StandsFor (bytes : List ℕ) (capacity : ℕ) (files : List File) : Type 0 where
-  pub each : All IsFile files
-  pub most : capacity ≤ 1099511627776
-  pub fits : end_of files ≤ capacity
-  pub shut : IsClosedBehind (front (header_bytes capacity) (map record_bytes files)) bytes
+-- the entries: the Old and Add items, in their order
+abbrev pub entries_of : List Item → List Item
+entries_of [] = []
+entries_of (old_item file ∷ items) = old_item file ∷ entries_of items
+entries_of (add_item file origin ∷ items) = add_item file origin ∷ entries_of items
+entries_of (discard_item number ∷ items) = entries_of items
 
 -- no bytes stand for two shelves
 abbrev pub HasOneReading : Type 0
 HasOneReading =
-    (bytes : List ℕ) (capacity capacity' : ℕ) (files files' : List File) → StandsFor bytes capacity files → StandsFor bytes capacity' files' → (capacity ≡ capacity') × (files ≡ files')
+    (bytes : List ℕ) (capacity capacity' : ℕ) (items items' : List Item) → StandsFor bytes capacity items
+    → StandsFor bytes capacity' items' → (capacity ≡ capacity') × (items ≡ items')
 
--- where the gates of records of these extents stand, the first of them at that place
-abbrev pub gates_of : ℕ → List (List ℕ) → List ℕ
-gates_of gate [] = []
-gates_of gate (item ∷ items) = gate ∷ gates_of (gate + 1 + length item) items
+-- the steps over these items, the first from that gate
+abbrev pub steps_of : ℕ → List Item → List Step
+steps_of gate [] = []
+steps_of gate (item ∷ items) =
+    record { gate = gate; head = head_of_item item } ∷ steps_of (gate + 1 + extent_of (head_of_item item)) items
 
--- the bytes of a shelf have one walk, over the gates of its files
+-- the bytes of a shelf have one walk, over the gates of its items
 abbrev pub IsOneWalk : Type 0
 IsOneWalk =
-    (bytes : List ℕ) (capacity : ℕ) (files : List File) → StandsFor bytes capacity files → IsWalk bytes (gates_of 19 (map record_bytes files)) (19 + sum_by (λ file. extent_of_file file + 1) files)
+    (bytes : List ℕ) (capacity : ℕ) (items : List Item) → StandsFor bytes capacity items
+    → IsWalk bytes (steps_of 19 items) (19 + sum_by (λ item. extent_of (head_of_item item) + 1) items)

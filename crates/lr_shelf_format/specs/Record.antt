@@ -1,29 +1,37 @@
--- The record of a file on a shelf, and what can be read of it.
-use Rattle.std.specs.Prelude.{◌≡◌, ◌≤◌, ◌<◌, ◌+◌, ◌*◌, ◌-◌, ℕ, zero, suc, List, [], ◌∷◌, ◌++◌, length, take, drop, map, sum, slice_index, All}
+-- The parts of a record: its fields, the lengths of its bodies, their bytes, and the checksum of all of these.
+use Rattle.std.specs.Prelude.{◌≡◌, ◌≤◌, ◌<◌, ◌*◌, ℕ, zero, suc, List, [], ◌∷◌, ◌++◌, length, take, drop, map, slice_index}
 use Rattle.std.specs.List.{flat_map}
 use Rattle.byteorder.specs.Endian.{big_bytes, big_number}
 use Rattle.lr_bits.specs.Crc.{crc_of}
-use Rattle.lr_bits.specs.File.{File, bytes_of}
+use Rattle.lr_bits.specs.File.{File, bytes_of, file_of}
+use Rattle.lr_bits.specs.declared.placed.Origin.{Origin}
 use Rattle.lr_shelf_format.specs.declared.record.RecordHead.{RecordHead}
 
--- how many bytes a record has, of so many bodies and so many bytes of a file
-abbrev pub extent_of : ℕ → ℕ → ℕ
-extent_of packets bytes = 13 + 2 * packets + bytes
+-- the fields of a file's record
+abbrev pub head_of_file : File → RecordHead
+head_of_file file = record {
+  vc = file.vc;
+  apid = file.apid;
+  packets = length file.bodies;
+  bytes =
+      length (bytes_of file);
+}
 
--- the eleven bytes in front: channel, application, number of bodies, number of bytes
-abbrev pub fields_of : File → List ℕ
-fields_of file = file.vc ∷ (big_bytes 2 file.apid ++ (big_bytes 4 (length file.bodies) ++ big_bytes 4 (length (bytes_of file))))
+-- the eleven bytes of these fields: channel, application, number of bodies, number of bytes
+abbrev pub fields_of : RecordHead → List ℕ
+fields_of head = head.vc ∷ (big_bytes 2 head.apid ++ (big_bytes 4 head.packets ++ big_bytes 4 head.bytes))
 
--- the length of each body
-abbrev pub lengths_of : File → List ℕ
-lengths_of file = flat_map (big_bytes 2) (map length file.bodies)
+-- the length of each body, and then the bytes
+abbrev pub body_of : File → List ℕ
+body_of file = flat_map (big_bytes 2) (map length file.bodies) ++ bytes_of file
 
--- all of the record before its checksum
-abbrev pub content_of : File → List ℕ
-content_of file = fields_of file ++ (lengths_of file ++ bytes_of file)
+-- the 24 bytes of an origin
+abbrev pub origin_bytes : Origin → List ℕ
+origin_bytes origin = big_bytes 8 origin.first ++ (big_bytes 8 origin.last ++ big_bytes 8 origin.corrected)
 
-unfoldable pub record_bytes : File → List ℕ
-record_bytes file = content_of file ++ big_bytes 2 (crc_of (content_of file))
+-- bytes, and their checksum
+abbrev pub sealed : List ℕ → List ℕ
+sealed content = content ++ big_bytes 2 (crc_of content)
 
 -- the fields that eleven bytes give
 abbrev pub head_of : List ℕ → RecordHead
@@ -32,6 +40,15 @@ head_of bytes = record {
   apid = big_number 2 (drop 1 bytes);
   packets = big_number 4 (drop 3 bytes);
   bytes = big_number 4 (drop 7 bytes);
+}
+
+-- the origin that 24 bytes give
+abbrev pub origin_of : List ℕ → Origin
+origin_of bytes = record {
+  first = big_number 8 bytes;
+  last = big_number 8 (drop 8 bytes);
+  corrected =
+      big_number 8 (drop 16 bytes);
 }
 
 -- each field is in its range
@@ -43,25 +60,15 @@ pub record IsHead (head : RecordHead) : Type 0 where
   pub least : 10 ≤ head.bytes
   pub most : head.bytes ≤ 67108864
 
--- so many numbers of two bytes each, in turn
+-- this many numbers of two bytes each, in turn
 abbrev pub numbers_in : ℕ → List ℕ → List ℕ
 numbers_in zero bytes = []
 numbers_in (suc count) bytes = big_number 2 bytes ∷ numbers_in count (drop 2 bytes)
 
--- These bytes have the form of a record, with nothing behind it: fields in range that give its extent, and lengths that
--- add up. Nothing is said of its checksum.
-pub record IsRecord (bytes : List ℕ) : Type 0 where
-  pub head : IsHead (head_of bytes)
-  pub extent : length bytes ≡ extent_of (head_of bytes).packets (head_of bytes).bytes
-  pub short : All (λ one. one < 65535) (numbers_in (head_of bytes).packets (drop 11 bytes))
-  pub whole : sum (numbers_in (head_of bytes).packets (drop 11 bytes)) ≡ (head_of bytes).bytes
-
--- the checksum that stands at the end of a record, and the one of the bytes before it
-abbrev pub stored_checksum : List ℕ → ℕ
-stored_checksum bytes = big_number 2 (drop (length bytes - 2) bytes)
-
-abbrev pub computed_checksum : List ℕ → ℕ
-computed_checksum bytes = crc_of (take (length bytes - 2) bytes)
+-- the file that fields and the bytes of a body give
+unfoldable pub file_from : RecordHead → List ℕ → File
+file_from head rest = file_of head.vc head.apid (numbers_in head.packets rest)
+    (take head.bytes (drop (2 * head.packets) rest))
 
 -- the bytes that were there stay
 abbrev pub StartsWith : List ℕ → List ℕ → Type 0

@@ -1,33 +1,47 @@
 -- The way from gate to gate through the bytes of a shelf, whatever its records hold.
-use Rattle.std.specs.Prelude.{◌≡◌, ◌≢◌, ◌<◌, ◌+◌, ℕ, List, [], ◌∷◌, length, drop, slice_index}
-use Rattle.lr_shelf_format.specs.Record.{IsHead, extent_of, head_of}
+use Rattle.std.specs.Prelude.{◌≡◌, ◌≢◌, ◌<◌, ◌+◌, ℕ, List, [], ◌∷◌, length, drop, map, slice_index}
+use Rattle.lr_shelf_format.specs.Items.{Begins, IsProper, MayFollow, extent_of}
+use Rattle.lr_shelf_format.specs.declared.item.ItemHead.{ItemHead}
+
+-- an open gate, and what stands after it
+pub record Step : Type 0 where
+  pub gate : ℕ
+  pub head : ItemHead
 
 -- the gate at this place is open
 abbrev pub IsOpen : List ℕ → ℕ → Type 0
 IsOpen bytes gate = slice_index bytes gate ≡ 1
 
--- The gate is open, the head behind it has fields in range, and the next gate, which is inside, stands behind the extent
--- that they give.
-pub record LeadsTo (bytes : List ℕ) (gate next : ℕ) : Type 0 where
-  pub is_open : IsOpen bytes gate
-  pub head : IsHead (head_of (drop (gate + 1) bytes))
-  pub place : next ≡ gate + 1 + extent_of (head_of (drop (gate + 1) bytes)).packets (head_of (drop (gate + 1) bytes)).bytes
-  pub inside : next < length bytes
+-- where the next gate stands
+abbrev pub next_gate : Step → ℕ
+next_gate step = step.gate + 1 + extent_of step.head
 
--- from one gate over these open ones to another
-abbrev pub IsPath : List ℕ → ℕ → List ℕ → ℕ → Type 0
+-- The gate is open, the bytes after it begin such an item, and the next gate is inside.
+pub record Leads (bytes : List ℕ) (step : Step) : Type 0 where
+  pub is_open : IsOpen bytes step.gate
+  pub begins : Begins (drop (step.gate + 1) bytes) step.head
+  pub inside : next_gate step < length bytes
+
+-- from one gate by these steps to another
+abbrev pub IsPath : List ℕ → ℕ → List Step → ℕ → Type 0
 IsPath bytes from [] to = from ≡ to
-IsPath bytes from (gate ∷ gates) to = (gate ≡ from) × ((next : ℕ) × LeadsTo bytes from next × IsPath bytes next gates to)
+IsPath bytes from (step ∷ steps) to = (step.gate ≡ from) × Leads bytes step × IsPath bytes (next_gate step) steps to
 
--- the walk: these open gates from 19 on, and then a closed one
-pub record IsWalk (bytes gates : List ℕ) (last : ℕ) : Type 0 where
-  pub path : IsPath bytes 19 gates last
+abbrev pub heads_of : List Step → List ItemHead
+heads_of steps = map (λ (step : Step). step.head) steps
+
+-- the walk: these steps from 19 on, and then a gate that is closed
+pub record IsWalk (bytes : List ℕ) (steps : List Step) (last : ℕ) : Type 0 where
+  pub path : IsPath bytes 19 steps last
+  pub proper : IsProper (heads_of steps)
   pub inside : last < length bytes
   pub closed : slice_index bytes last ≢ 1
 
--- the walk is broken at this place: a way leads to the gate there, which is open, and leads nowhere
+-- The walk is broken at this place: a way leads to the gate there, which is open, and no step from there keeps the
+-- list proper.
 pub record IsBrokenAt (bytes : List ℕ) (at : ℕ) : Type 0 where
-  pub gates : List ℕ
-  pub path : IsPath bytes 19 gates at
+  pub steps : List Step
+  pub path : IsPath bytes 19 steps at
+  pub proper : IsProper (heads_of steps)
   pub is_open : IsOpen bytes at
-  pub broken : (next : ℕ) → LeadsTo bytes at next → ⊥
+  pub broken : (head : ItemHead) → Leads bytes (record { gate = at; head = head }) → MayFollow (heads_of steps) head → ⊥

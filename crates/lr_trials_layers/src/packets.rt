@@ -1,6 +1,6 @@
 // `Channels` over a few frames of channel 0.
 use lr_bits::{NoMemory, RawPacket};
-use lr_vc::{Channels, TransferFrame, ZONE_BYTES};
+use lr_vc::{Channels, TransferFrame};
 use std::alloc::Global;
 use std::test::Fail;
 

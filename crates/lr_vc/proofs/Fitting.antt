@@ -1,5 +1,8 @@
 -- Packets fit the zones in which they came.
-use Rattle.std.proofs.Common.{◌≡◌, ℕ, zero, suc, ◌+◌, ◌-◌, ◌*◌, ◌<◌, ◌≤◌, true, false, cond, not, ◌&&◌, List, [], ◌∷◌, ◌++◌, map, length, drop, filter, flat_map, sum_by, count_by, refl, sym, ap, ◌∙◌, subst, ⊎_elim, arith, append-nil, append_assoc, length-append, length-take, length-drop, min, ltb, eqb, lt-ltb, le-ltb, eq-eqb, ne_eqb, eqb-true}
+use Rattle.std.proofs.Common.{◌≡◌, ℕ, zero, suc, ◌+◌, ◌-◌, ◌*◌, ◌<◌, ◌≤◌, true, false, cond, not, ◌&&◌, List, [], ◌∷◌}
+use Rattle.std.proofs.Common.{◌++◌, map, length, drop, filter, flat_map, sum_by, count_by, refl, sym, ap, ◌∙◌, subst}
+use Rattle.std.proofs.Common.{⊎_elim, arith, append-nil, append_assoc, length-append, length-take, length-drop, min}
+use Rattle.std.proofs.Common.{ltb, eqb, lt-ltb, le-ltb, eq-eqb, ne_eqb, eqb-true}
 use Rattle.std.proofs.lemmas.Bool.{cases_lt, cases_eq, cases_Bool, and_right}
 use Rattle.std.proofs.lemmas.List.Sums.{sum_by-cons, sum_by-append, sum_by_push}
 use Rattle.std.proofs.lemmas.List.Filters.{sum_by-filter_both}
@@ -9,14 +12,20 @@ use Rattle.lr_bits.specs.Packet.{Packet}
 use Rattle.lr_bits.proofs.ByKeys.{sums_by_key}
 use Rattle.lr_vc.specs.Frame.{Fields}
 use Rattle.lr_vc.specs.Runs.{Run, AreFrames, channel_frames, runs_of}
-use Rattle.lr_vc.specs.Packets.{zones_of, packet_end, is_whole, starts_of, packet_at, ends_in, packets_ending, packets_in, packets_at, packets_of}
+use Rattle.lr_vc.specs.Packets.{zones_of, packet_end, is_whole, starts_of, packet_at, ends_in, packets_ending}
+use Rattle.lr_vc.specs.Packets.{packets_in, packets_at, packets_of}
 use Rattle.lr_vc.specs.Standing.{open_packets, last_counter, last_run}
-use Rattle.lr_vc.specs.Steps.{follows, ends_with, ended, gone_on, packets_inside, starts_unfinished, packets_with, open_behind}
+use Rattle.lr_vc.specs.Steps.{follows, ends_with, completed_packet, continued_packet, packets_inside, starts_unfinished}
+use Rattle.lr_vc.specs.Steps.{packets_with, open_after}
 use Rattle.lr_vc.proofs.Lists.{Each_any, Each_left, Each_right, Each-map, Each-flat_map, filter_none}
 use Rattle.lr_vc.proofs.Starts.{packet_end_is, is_whole_true}
-use Rattle.lr_vc.proofs.Inside.{packets_inside-whole, packets_inside-rest, starts_unfinished-whole, starts_unfinished-rest}
-use Rattle.lr_vc.proofs.Carried.{ended-by, ended-long, gone_on-long, gone_on-other, gone_on-short, packets_with-late, packets_with-early, open_behind-late, open_behind-early}
-use Rattle.lr_vc.proofs.History.{zones_each, met, open_none, channel_frames-other, open_packets-own, packets_of-more, packets_at-last, packets_at-next}
+use Rattle.lr_vc.proofs.Inside.{packets_inside-whole, packets_inside-rest, starts_unfinished-whole}
+use Rattle.lr_vc.proofs.Inside.{starts_unfinished-rest}
+use Rattle.lr_vc.proofs.Carried.{completed_packet-by, completed_packet-long, continued_packet-long}
+use Rattle.lr_vc.proofs.Carried.{continued_packet-other, continued_packet-short, packets_with-late, packets_with-early}
+use Rattle.lr_vc.proofs.Carried.{open_after-late, open_after-early}
+use Rattle.lr_vc.proofs.History.{zones_each, met, open_none, channel_frames-other, open_packets-own, packets_of-more}
+use Rattle.lr_vc.proofs.History.{packets_at-last, packets_at-next}
 
 abbrev bytes_of : List Packet → ℕ
 bytes_of packets = sum_by (λ packet. length packet.bytes) packets
@@ -44,30 +53,46 @@ module _ (zone : List ℕ) (long : length zone ≡ 884) (channel : ℕ) where
       let one = packet_at channel zone s in
       let rest = packets_inside channel zone (packet_end zone s) in
       rw (packets_inside-whole zone long channel s whole, starts_unfinished-whole zone long s whole)
-      (record { few = later.few; fit = omega (arith, later.fit, inside, packet_end_is zone s, packet_within channel zone s, sum_by-cons (λ packet. length packet.bytes) one rest) })
+      (record {
+        few = later.few;
+        fit = omega (
+          arith,
+          later.fit,
+          inside,
+          packet_end_is zone s,
+          packet_within channel zone s,
+          sum_by-cons (λ packet. length packet.bytes) one rest,
+        );
+      })
 
   rest_from : (s : ℕ) → is_whole zone s ≡ false → HoldsFrom s
   rest_from s part =
       rw (packets_inside-rest zone long channel s part, starts_unfinished-rest zone long s part)
-      (⊎_elim (λ inside. rw (lt-ltb s 884 inside) (record { few = omega arith; fit = omega (arith, length-drop s zone) }))
+      (⊎_elim (λ inside. rw (lt-ltb s 884 inside) (record {
+        few = omega arith;
+        fit = omega (arith, length-drop s zone);
+      }))
       (λ past. rw (le-ltb s 884 past) (record { few = omega arith; fit = omega arith }))
       (cases_lt s 884))
 
   inside_from : (steps s : ℕ) → 884 ≤ steps + s → HoldsFrom s
   inside_from zero s enough =
-      ⊎_elim (λ whole. absurd (omega (arith, is_whole_true zone s whole, packet_end_is zone s))) (λ part. rest_from s part) (cases_Bool (is_whole zone s))
+      ⊎_elim (λ whole. absurd (omega (arith, is_whole_true zone s whole, packet_end_is zone s)))
+      (λ part. rest_from s part) (cases_Bool (is_whole zone s))
   inside_from (suc steps) s enough =
-      ⊎_elim (λ whole. whole_from s whole (inside_from steps (packet_end zone s) (omega (arith, packet_end_is zone s)))) (λ part. rest_from s part) (cases_Bool (is_whole zone s))
+      ⊎_elim (λ whole. whole_from s whole (inside_from steps (packet_end zone s) (omega (arith, packet_end_is zone s))))
+      (λ part. rest_from s part) (cases_Bool (is_whole zone s))
 
 -- what the zone makes of an open packet
 module _ (zone : List ℕ) (long : length zone ≡ 884) (channel p : ℕ) where
-  ended_within : (b : List ℕ) → bytes_of (ended channel zone p b) ≤ packet_end (b ++ zone) 0
-  unfolding ended
+  ended_within : (b : List ℕ) → bytes_of (completed_packet channel zone p b) ≤ packet_end (b ++ zone) 0
+  unfolding completed_packet
   ended_within b =
-      elim (ends_with b zone p) as (λ t. bytes_of (cond t (packet_at channel (b ++ zone) 0 ∷ []) []) ≤ packet_end (b ++ zone) 0)
+      elim (ends_with b zone p) as (λ t. bytes_of (cond t (packet_at channel (b ++ zone) 0 ∷ []) []) ≤ packet_end
+      (b ++ zone) 0)
       [ true ↦ omega (arith, packet_within channel (b ++ zone) 0) | false ↦ omega arith ]
 
-  ended_early : (b : List ℕ) → p < 884 → bytes_of (ended channel zone p b) ≤ length b + p
+  ended_early : (b : List ℕ) → p < 884 → bytes_of (completed_packet channel zone p b) ≤ length b + p
   ended_early b early =
       let end = packet_end (b ++ zone) 0 in
       let here = ltb p 884 && eqb end (length b + p) in
@@ -75,43 +100,58 @@ module _ (zone : List ℕ) (long : length zone ≡ 884) (channel p : ℕ) where
       (λ ne.
       let no : here ≡ false = and_right (ltb p 884) (eqb end (length b + p)) (ne_eqb end (length b + p) ne) in
       let off : cond (eqb end (length b + 884)) (eqb p 2047) here ≡ false =
-      elim (eqb end (length b + 884)) as (λ t. cond t (eqb p 2047) here ≡ false) [ true ↦ ne_eqb p 2047 (λ e. omega arith) | false ↦ no ] in
-      rw (ended-by b zone p channel false (sym off)) (omega arith))
+      elim (eqb end (length b + 884)) as (λ t. cond t (eqb p 2047) here ≡
+      false) [ true ↦ ne_eqb p 2047 (λ e. omega arith) | false ↦ no ] in
+      rw (completed_packet-by b zone p channel false (sym off)) (omega arith))
       (cases_eq end (length b + p))
 
-  one_carried : (b : List ℕ) → Holds (ended channel zone p b) (gone_on zone p b) (length b + min p 884)
+  one_carried : (b : List ℕ) →
+      Holds (completed_packet channel zone p b) (continued_packet zone p b) (length b + min p 884)
   one_carried b =
       ⊎_elim
-      (λ beyond. rw (ended-long b zone p channel beyond)
-      (⊎_elim (λ e. rw (gone_on-long b zone p beyond e) (record { few = omega arith; fit = omega (arith, length-append b zone) }))
-      (λ ne. rw (gone_on-other b zone p ne) (record { few = omega arith; fit = omega arith }))
+      (λ beyond. rw (completed_packet-long b zone p channel beyond)
+      (⊎_elim (λ e. rw (continued_packet-long b zone p beyond e)
+      (record { few = omega arith; fit = omega (arith, length-append b zone) }))
+      (λ ne. rw (continued_packet-other b zone p ne) (record { few = omega arith; fit = omega arith }))
       (cases_eq p 2047)))
-      (λ within. rw (gone_on-short b zone p within)
+      (λ within. rw (continued_packet-short b zone p within)
       (⊎_elim (λ early. record { few = omega arith; fit = omega (arith, ended_early b early) })
       (λ late. record { few = omega arith; fit = omega (arith, ended_within b) })
       (cases_lt p 884)))
       (cases_lt (length b + 884) (packet_end (b ++ zone) 0))
 
   -- and of at most one of them
-  carried : (bs : List (List ℕ)) → length bs ≤ 1 → Holds (flat_map (ended channel zone p) bs) (flat_map (gone_on zone p) bs) (sum_by length bs + min p 884)
+  carried : (bs : List (List ℕ)) → length bs ≤ 1 → Holds (flat_map (completed_packet channel zone p) bs)
+      (flat_map (continued_packet zone p) bs) (sum_by length bs + min p 884)
   carried [] few = record { few = omega arith; fit = omega arith }
   carried (b ∷ []) few =
       let one = one_carried b in
-      rw (append-nil (ended channel zone p b), append-nil (gone_on zone p b)) (record { few = one.few; fit = omega (arith, one.fit) })
+      rw (append-nil (completed_packet channel zone p b), append-nil (continued_packet zone p b))
+      (record { few = one.few; fit = omega (arith, one.fit) })
   carried (b ∷ b' ∷ bs) few = absurd (omega arith)
 
 -- a frame's packets and the open one behind them have the bytes of the open one that it meets and of its zone
-frame_holds : (f : Fields) (bs : List (List ℕ)) → length f.zone ≡ 884 → length bs ≤ 1 → Holds (packets_with f bs) (open_behind f bs) (sum_by length bs + 884)
+frame_holds : (f : Fields) (bs : List (List ℕ)) → length f.zone ≡ 884 → length bs ≤ 1 →
+    Holds (packets_with f bs) (open_after f bs) (sum_by length bs + 884)
 frame_holds f bs long few =
     let over = carried f.zone long f.vc f.pointer bs few in
-    let ends = flat_map (ended f.vc f.zone f.pointer) bs in
+    let ends = flat_map (completed_packet f.vc f.zone f.pointer) bs in
     ⊎_elim
     (λ early.
     let enough : 884 ≤ 884 + f.pointer = omega arith in
     let inside = inside_from f.zone long f.vc 884 f.pointer enough in
-    rw (packets_with-early f bs early, open_behind-early f bs early)
-    (record { few = inside.few; fit = omega (arith, over.fit, inside.fit, sum_by-append (λ packet. length packet.bytes) ends (packets_inside f.vc f.zone f.pointer)) }))
-    (λ late. rw (packets_with-late f bs late, open_behind-late f bs late) (record { few = over.few; fit = omega (arith, over.fit) }))
+    rw (packets_with-early f bs early, open_after-early f bs early)
+    (record {
+      few = inside.few;
+      fit = omega (
+        arith,
+        over.fit,
+        inside.fit,
+        sum_by-append (λ packet. length packet.bytes) ends (packets_inside f.vc f.zone f.pointer),
+      );
+    }))
+    (λ late. rw (packets_with-late f bs late, open_after-late f bs late)
+    (record { few = over.few; fit = omega (arith, over.fit) }))
     (cases_lt f.pointer 884)
 
 -- ---- a channel
@@ -131,7 +171,8 @@ packets_in_other channel frames x apart =
     ⊎_elim (λ e. rw (eq-eqb vc 63 e) tt)
     (λ ne. rw (ne_eqb vc 63 ne)
     (Each-flat_map P (packets_ending vc x.0) runs (Each_any (λ run. Each P (packets_ending vc x.0 run))
-    (λ run. Each-map P (packet_at vc (zones_of run)) (ends run) (Each_any (λ s. P (packet_at vc (zones_of run) s)) (λ s. ne_eqb vc channel (apart ne)) (ends run))) runs)))
+    (λ run. Each-map P (packet_at vc (zones_of run)) (ends run)
+    (Each_any (λ s. P (packet_at vc (zones_of run) s)) (λ s. ne_eqb vc channel (apart ne)) (ends run))) runs)))
     (cases_eq vc 63)
 
 packets_of_fill : (frames : List Fields) → packets_of_channel 63 (packets_of frames) ≡ []
@@ -140,13 +181,16 @@ packets_of_fill frames =
     let P : Packet → Type 0 = λ packet. eqb packet.vc 63 ≡ false in
     let all = enumerate_from 0 frames in
     filter_none (λ packet. eqb packet.vc 63) (flat_map (packets_in frames) all)
-    (Each-flat_map P (packets_in frames) all (Each_any (λ x. Each P (packets_in frames x)) (λ x. packets_in_other 63 frames x (λ ne. ne)) all))
+    (Each-flat_map P (packets_in frames) all (Each_any (λ x. Each P (packets_in frames x))
+    (λ x. packets_in_other 63 frames x (λ ne. ne)) all))
 
-packets_of_other : (channel : ℕ) (history : List Fields) (f : Fields) → (f.vc ≡ channel → ⊥) → packets_of_channel channel (packets_at (history ++ f ∷ []) (length history)) ≡ []
+packets_of_other : (channel : ℕ) (history : List Fields) (f : Fields) → (f.vc ≡ channel → ⊥) →
+    packets_of_channel channel (packets_at (history ++ f ∷ []) (length history)) ≡ []
 packets_of_other channel history f ne =
     let x : ℕ × Fields = (length history, f) in
     ap (packets_of_channel channel) (packets_at-last history f)
-    ∙ filter_none (λ packet. eqb packet.vc channel) (packets_in (history ++ f ∷ []) x) (packets_in_other channel (history ++ f ∷ []) x (λ _. ne))
+    ∙ filter_none (λ packet. eqb packet.vc channel) (packets_in (history ++ f ∷ []) x)
+    (packets_in_other channel (history ++ f ∷ []) x (λ _. ne))
 
 -- the bytes that a frame's zone has for packets
 abbrev room : Fields → ℕ
@@ -155,7 +199,9 @@ room frame = 884 * cond (not (eqb frame.vc 63)) 1 0
 -- the packets of a channel, and the open one of its last run, have the room of its frames
 abbrev HoldsOf : ℕ → List Fields → Type 0
 HoldsOf channel history =
-    Holds (packets_of_channel channel (packets_of history)) (open_packets (last_run (runs_of (channel_frames channel history)))) (sum_by room (filter (λ frame. eqb frame.vc channel) history))
+    Holds (packets_of_channel channel (packets_of history))
+    (open_packets (last_run (runs_of (channel_frames channel history))))
+    (sum_by room (filter (λ frame. eqb frame.vc channel) history))
 
 holds_none : (channel : ℕ) → HoldsOf channel []
 unfolding packets_of channel_frames runs_of
@@ -168,50 +214,83 @@ front_frames history more are =
     All-from_recursion P history (Each_left P history more (zones_each (history ++ more) are))
 
 packets_of_channel-more : (channel : ℕ) (history : List Fields) (f : Fields) → AreFrames (history ++ f ∷ []) →
-    packets_of_channel channel (packets_of (history ++ f ∷ [])) ≡ packets_of_channel channel (packets_of history) ++ packets_of_channel channel (packets_at (history ++ f ∷ []) (length history))
+    packets_of_channel channel (packets_of (history ++ f ∷ [])) ≡
+    packets_of_channel channel (packets_of history) ++ packets_of_channel channel
+    (packets_at (history ++ f ∷ []) (length history))
 packets_of_channel-more channel history f are =
-    ap (packets_of_channel channel) (packets_of-more history f are) ∙ filter-append (λ packet. eqb packet.vc channel) (packets_of history) (packets_at (history ++ f ∷ []) (length history))
+    ap (packets_of_channel channel) (packets_of-more history f are)
+    ∙ filter-append (λ packet. eqb packet.vc channel) (packets_of history)
+    (packets_at (history ++ f ∷ []) (length history))
 
 -- one frame more of the channel, and one of any channel
-holds_own : (history : List Fields) (f : Fields) → (f.vc ≡ 63 → ⊥) → AreFrames (history ++ f ∷ []) → HoldsOf f.vc history → HoldsOf f.vc (history ++ f ∷ [])
-unfolding packets_with open_behind
+holds_own : (history : List Fields) (f : Fields) → (f.vc ≡ 63 → ⊥) → AreFrames (history ++ f ∷ []) →
+    HoldsOf f.vc history → HoldsOf f.vc (history ++ f ∷ [])
+unfolding packets_with open_after
 holds_own history f ne are h =
     let frames = front_frames history (f ∷ []) are in
-    let long : length f.zone ≡ 884 = (Each_right (λ f. length f.zone ≡ 884) history (f ∷ []) (zones_each (history ++ f ∷ []) are)).0 in
+    let long : length f.zone ≡ 884 =
+    (Each_right (λ f. length f.zone ≡ 884) history (f ∷ []) (zones_each (history ++ f ∷ []) are)).0 in
     let size = λ (packet : Packet). length packet.bytes in
     let old = open_packets (last_run (runs_of (channel_frames f.vc history))) in
     let bs = met (channel_frames f.vc history) f.counter in
     let meets : (length bs ≤ 1) × (sum_by length bs ≤ sum_by length old) =
-    elim (follows (last_counter (channel_frames f.vc history)) f.counter) as (λ j. (length (cond j old []) ≤ 1) × (sum_by length (cond j old []) ≤ sum_by length old))
+    elim (follows (last_counter (channel_frames f.vc history)) f.counter) as
+    (λ j. (length (cond j old []) ≤ 1) × (sum_by length (cond j old []) ≤ sum_by length old))
     [ true ↦ (h.few, omega arith) | false ↦ (omega arith, omega arith) ] in
     let step = frame_holds f bs long meets.0 in
     let own = λ (frame : Fields). eqb frame.vc f.vc in
     let new = packets_at (history ++ f ∷ []) (length history) in
     let ends : new ≡ packets_with f bs = packets_at-next history f frames long ne in
-    let begins : open_packets (last_run (runs_of (channel_frames f.vc (history ++ f ∷ [])))) ≡ open_behind f bs = open_packets-own history f frames long in
-    let part = sum_by-filter_both (λ packet. eqb packet.vc f.vc) (λ packet. not (eqb packet.vc f.vc)) (λ _. refl) size new in
-    let more : bytes_of (packets_of_channel f.vc (packets_of (history ++ f ∷ []))) ≡ bytes_of (packets_of_channel f.vc (packets_of history)) + bytes_of (packets_of_channel f.vc new) =
-    ap bytes_of (packets_of_channel-more f.vc history f are) ∙ sum_by-append size (packets_of_channel f.vc (packets_of history)) (packets_of_channel f.vc new) in
+    let begins : open_packets (last_run (runs_of (channel_frames f.vc (history ++ f ∷ [])))) ≡ open_after f bs =
+    open_packets-own history f frames long in
+    let part =
+    sum_by-filter_both (λ packet. eqb packet.vc f.vc) (λ packet. not (eqb packet.vc f.vc)) (λ _. refl) size new in
+    let more : bytes_of (packets_of_channel f.vc (packets_of (history ++ f ∷ []))) ≡
+    bytes_of (packets_of_channel f.vc (packets_of history)) + bytes_of (packets_of_channel f.vc new) =
+    ap bytes_of (packets_of_channel-more f.vc history f are)
+    ∙ sum_by-append size (packets_of_channel f.vc (packets_of history)) (packets_of_channel f.vc new) in
     let its_room : room f ≡ 884 = ap (λ b. 884 * cond (not b) 1 0) (ne_eqb f.vc 63 ne) in
     let rooms : sum_by room (filter own (history ++ f ∷ [])) ≡ sum_by room (filter own history) + room f =
-    ap (sum_by room) (filter-append own history (f ∷ []) ∙ ap (λ b. filter own history ++ cond b (f ∷ []) []) (eq-eqb f.vc f.vc refl)) ∙ sum_by_push room (filter own history) f in
-    record { few = subst (λ os. length os ≤ 1) (sym begins) step.few; fit = omega (arith, step.fit, meets.1, h.fit, ap bytes_of ends, ap (sum_by length) begins, part, more, its_room, rooms) }
+    ap (sum_by room) (filter-append own history (f ∷ [])
+    ∙ ap (λ b. filter own history ++ cond b (f ∷ []) []) (eq-eqb f.vc f.vc refl))
+    ∙ sum_by_push room (filter own history) f in
+    record {
+      few = subst (λ os. length os ≤ 1) (sym begins) step.few;
+      fit = omega (
+        arith,
+        step.fit,
+        meets.1,
+        h.fit,
+        ap bytes_of ends,
+        ap (sum_by length) begins,
+        part,
+        more,
+        its_room,
+        rooms,
+      );
+    }
 
-holds_more : (channel : ℕ) (history : List Fields) (f : Fields) → (channel ≡ 63 → ⊥) → AreFrames (history ++ f ∷ []) → HoldsOf channel history → HoldsOf channel (history ++ f ∷ [])
+holds_more : (channel : ℕ) (history : List Fields) (f : Fields) → (channel ≡ 63 → ⊥) → AreFrames (history ++ f ∷ []) →
+    HoldsOf channel history → HoldsOf channel (history ++ f ∷ [])
 holds_more channel history f ne are h =
     ⊎_elim
-    (λ own. subst (λ c. HoldsOf c (history ++ f ∷ [])) own (holds_own history f (λ e. ne (sym own ∙ e)) are (subst (λ c. HoldsOf c history) (sym own) h)))
+    (λ own. subst (λ c. HoldsOf c (history ++ f ∷ [])) own
+    (holds_own history f (λ e. ne (sym own ∙ e)) are (subst (λ c. HoldsOf c history) (sym own) h)))
     (λ other.
     let mine = λ (frame : Fields). eqb frame.vc channel in
-    let packets : packets_of_channel channel (packets_of (history ++ f ∷ [])) ≡ packets_of_channel channel (packets_of history) =
-    packets_of_channel-more channel history f are ∙ ap (λ ps. packets_of_channel channel (packets_of history) ++ ps) (packets_of_other channel history f other)
+    let packets : packets_of_channel channel (packets_of (history ++ f ∷ [])) ≡
+    packets_of_channel channel (packets_of history) =
+    packets_of_channel-more channel history f are ∙ ap (λ ps. packets_of_channel channel (packets_of history) ++ ps)
+    (packets_of_other channel history f other)
     ∙ append-nil (packets_of_channel channel (packets_of history)) in
     let frames : filter mine (history ++ f ∷ []) ≡ filter mine history =
-    filter-append mine history (f ∷ []) ∙ ap (λ b. filter mine history ++ cond b (f ∷ []) []) (ne_eqb f.vc channel other) ∙ append-nil (filter mine history) in
+    filter-append mine history (f ∷ []) ∙ ap (λ b. filter mine history ++ cond b (f ∷ []) [])
+    (ne_eqb f.vc channel other) ∙ append-nil (filter mine history) in
     rw (packets, frames, channel_frames-other channel history f other) h)
     (cases_eq f.vc channel)
 
-holds_append : (channel : ℕ) (history more : List Fields) → (channel ≡ 63 → ⊥) → AreFrames (history ++ more) → HoldsOf channel history → HoldsOf channel (history ++ more)
+holds_append : (channel : ℕ) (history more : List Fields) → (channel ≡ 63 → ⊥) → AreFrames (history ++ more) →
+    HoldsOf channel history → HoldsOf channel (history ++ more)
 holds_append channel history [] ne are h = subst (HoldsOf channel) (sym (append-nil history)) h
 holds_append channel history (f ∷ fs) ne are h =
     let split : history ++ f ∷ fs ≡ (history ++ f ∷ []) ++ fs = sym (append_assoc history (f ∷ []) fs) in
@@ -226,15 +305,19 @@ sum_by-room (f ∷ fs) =
     omega (arith, sum_by-room fs, sum_by-cons room f fs, sum_by-cons one f fs)
 
 -- all packets have at most the room of all frames
-pub packets_fit : (frames : List Fields) → AreFrames frames → bytes_of (packets_of frames) ≤ 884 * count_by (λ frame. not (eqb frame.vc 63)) frames
+pub packets_fit : (frames : List Fields) → AreFrames frames →
+    bytes_of (packets_of frames) ≤ 884 * count_by (λ frame. not (eqb frame.vc 63)) frames
 packets_fit frames are =
-    let each : (channel : ℕ) → bytes_of (packets_of_channel channel (packets_of frames)) ≤ sum_by room (filter (λ frame. eqb frame.vc channel) frames) =
-    λ channel. ⊎_elim (λ fill. subst (λ c. bytes_of (packets_of_channel c (packets_of frames)) ≤ sum_by room (filter (λ frame. eqb frame.vc c) frames)) (sym fill)
+    let each : (channel : ℕ) → bytes_of (packets_of_channel channel (packets_of frames)) ≤ sum_by room
+    (filter (λ frame. eqb frame.vc channel) frames) =
+    λ channel. ⊎_elim (λ fill. subst (λ c. bytes_of (packets_of_channel c (packets_of frames)) ≤ sum_by room
+    (filter (λ frame. eqb frame.vc c) frames)) (sym fill)
     (rw (packets_of_fill frames) (omega arith)))
     (λ ne. omega (arith, (holds_append channel [] frames ne are (holds_none channel)).fit))
     (cases_eq channel 63) in
     omega (
       arith,
-      sums_by_key eqb eqb-true (λ k. eq-eqb k k refl) (λ packet. packet.vc) (λ frame. frame.vc) (λ packet. length packet.bytes) room (packets_of frames) frames each,
+      sums_by_key eqb eqb-true (λ k. eq-eqb k k refl) (λ packet. packet.vc) (λ frame. frame.vc)
+          (λ packet. length packet.bytes) room (packets_of frames) frames each,
       sum_by-room frames,
     )

@@ -10,3 +10,4 @@ pub mod LastRun
 pub mod Lists
 pub mod Stands
 pub mod Starts
+pub mod ZoneStarts

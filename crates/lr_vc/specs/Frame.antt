@@ -1,5 +1,5 @@
--- A transfer frame of 892 bytes (CCSDS 732.0-B, section 4.1). Each field is the number in these bits, the first of which is
--- bit 0.
+-- A transfer frame of 892 bytes (CCSDS 732.0-B, section 4.1). Each field is the number in these bits, the first of
+-- which is bit 0.
 use Rattle.std.specs.Prelude.{ℕ, Bool, List, drop, ◌==◌, Result, Ok, Err, if◌then◌else◌}
 use Rattle.lr_bits.specs.Bits.{field_of}
 
@@ -17,7 +17,8 @@ pub record Fields : Type 0 where
 abbrev pub version_of : List ℕ → ℕ
 version_of bytes = field_of bytes 0 2
 
--- Bits 2 to 9, 10 to 15, 16 to 39, 40, 41 to 47 and 53 to 63; the packet zone begins at bit 64. Bits 48 to 52 are spare.
+-- Bits 2 to 9, 10 to 15, 16 to 39, 40, 41 to 47 and 53 to 63; the packet zone begins at bit 64. Bits 48 to 52 are
+-- spare.
 abbrev pub fields_of : List ℕ → Fields
 fields_of bytes = record {
   spacecraft = field_of bytes 2 8;

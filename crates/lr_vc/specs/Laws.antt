@@ -16,11 +16,13 @@ abbrev pub PacketsKeepTheirOrder : Type 0
 PacketsKeepTheirOrder = (history later : List Fields) → AreFrames (history ++ later) →
     (more : List Packet) × (packets_of (history ++ later) ≡ packets_of history ++ more)
 
--- In each zone the starts go on: where the header at a start is there, and its packet ends before the end of the zone, that end is a
--- start of the zone too.
+-- In each zone the starts go on: where the header at a start is there, and its packet ends before the end of the zone,
+-- that end is a start of the zone too.
 abbrev pub StartsGoOn : Type 0
-StartsGoOn = (run : Run) (zone start : ℕ) → Contains (starts_in_zone run zone) start → start + 6 ≤ length (zones_of run) →
-    packet_end (zones_of run) start < 884 * zone + 884 → Contains (starts_in_zone run zone) (packet_end (zones_of run) start)
+StartsGoOn =
+    (run : Run) (zone start : ℕ) → Contains (starts_in_zone run zone) start → start + 6 ≤ length (zones_of run) →
+    packet_end (zones_of run) start < 884 * zone + 884 →
+    Contains (starts_in_zone run zone) (packet_end (zones_of run) start)
 
 -- the packets of frames have at most 884 bytes for each frame that isn't fill
 abbrev pub PacketsFitTheZones : Type 0

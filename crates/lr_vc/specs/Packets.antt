@@ -1,12 +1,14 @@
--- The packets of a run (CCSDS 732.0-B, section 4.1.4.2: packet zone and first header pointer; CCSDS 133.0-B, section 4.1: packet
--- length). The zones of a run are joined, and places count their bytes: zone t has the places 884 t to 884 t + 883.
-use Rattle.std.specs.Prelude.{ℕ, zero, suc, ◌+◌, ◌-◌, ◌*◌, ◌/◌, Bool, true, ◌&&◌, List, [], ◌∷◌, length, take, drop, map, slice_index, if◌then◌else◌, ◌==◌, nat_lt, nat_le}
+-- The packets of a run (CCSDS 732.0-B, section 4.1.4.2: packet zone and first header pointer; CCSDS 133.0-B, section
+-- 4.1: packet length). The zones of a run are joined, and places count their bytes: zone t has the places 884 t to 884
+-- t + 883.
+use Rattle.std.specs.Prelude.{ℕ, zero, suc, ◌+◌, ◌-◌, ◌*◌, ◌/◌, Bool, true, ◌&&◌, List, [], ◌∷◌, length, take, drop}
+use Rattle.std.specs.Prelude.{map, slice_index, if◌then◌else◌, ◌==◌, nat_lt, nat_le}
 use Rattle.std.specs.List.{filter, flat_map, list_all, enumerate_from, range_with_len}
 use Rattle.lr_bits.specs.Packet.{Packet, length_field_at}
 use Rattle.lr_vc.specs.Frame.{Fields}
 use Rattle.lr_vc.specs.Runs.{Run, runs_of, channel_frames}
 
--- the zones, one behind the other
+-- the zones, one after the other
 unfoldable pub zones_of : Run → List ℕ
 zones_of run = flat_map (λ f. f.1.zone) run
 
@@ -18,7 +20,7 @@ pointer_of run zone = slice_index (map (λ f. f.1.pointer) run) zone
 unfoldable pub place_of : Run → ℕ → ℕ
 place_of run zone = slice_index (map (λ f. f.0) run) zone
 
--- where the packet that starts at a place ends: behind the six bytes of its header and those of its data field
+-- where the packet that starts at a place ends: after the six bytes of its header and those of its data field
 unfoldable pub packet_end : List ℕ → ℕ → ℕ
 packet_end zones start = start + 7 + length_field_at zones start
 
@@ -29,8 +31,8 @@ has_header zones start = nat_le (start + 6) (length zones)
 unfoldable pub is_whole : List ℕ → ℕ → Bool
 is_whole zones start = has_header zones start && nat_le (packet_end zones start) (length zones)
 
--- A start before the edge, and with each start the end of its packet, if its header is there and that end is before the edge
--- too. A packet has at least seven bytes, so as many steps as a zone has bytes are enough.
+-- A start before the edge, and with each start the end of its packet, if its header is there and that end is before
+-- the edge too. A packet has at least seven bytes, so as many steps as a zone has bytes are enough.
 unfoldable pub starts_from : List ℕ → ℕ → ℕ → ℕ → List ℕ
 starts_from zones edge zero start = []
 starts_from zones edge (suc steps) start =
@@ -49,12 +51,13 @@ starts_in_zone run zone =
 unfoldable pub starts_of : Run → List ℕ
 starts_of run = flat_map (starts_in_zone run) (range_with_len 0 (length run))
 
--- the zones of a run behind the one in which this place lies
-unfoldable pub zones_behind : Run → ℕ → List ℕ
-zones_behind run start = range_with_len (start / 884 + 1) (length run - (start / 884 + 1))
+-- the zones of a run after the one in which this place lies
+unfoldable pub zones_after : Run → ℕ → List ℕ
+zones_after run start = range_with_len (start / 884 + 1) (length run - (start / 884 + 1))
 
--- Whether a zone's pointer agrees with a packet from an earlier zone that ends at this place: no packet starts in the zone
--- where the packet covers it to its end, and the first one starts at the end of the packet where that is inside the zone.
+-- Whether a zone's pointer agrees with a packet from an earlier zone that ends at this place: no packet starts in the
+-- zone where the packet covers it to its end, and the first one starts at the end of the packet where that is inside
+-- the zone.
 unfoldable pub agrees : Run → ℕ → ℕ → Bool
 agrees run end zone =
     (if nat_le (884 * zone + 884) end
@@ -64,7 +67,7 @@ agrees run end zone =
 -- whether the packet at a start is delivered: it is all there, and the pointer of each later zone agrees with it
 unfoldable pub is_delivered : Run → ℕ → Bool
 is_delivered run start =
-    is_whole (zones_of run) start && list_all (agrees run (packet_end (zones_of run) start)) (zones_behind run start)
+    is_whole (zones_of run) start && list_all (agrees run (packet_end (zones_of run) start)) (zones_after run start)
 
 -- the packet at a start
 unfoldable pub packet_at : ℕ → List ℕ → ℕ → Packet

@@ -25,11 +25,12 @@ abbrev pub begins_at : ℕ → Run → Bool
 begins_at counter [] = false
 begins_at counter (f ∷ fs) = f.1.counter == counter
 
--- A frame in front of these runs joins the first of them where that begins at the counter that follows the frame's, and is a
--- run of its own elsewhere.
+-- A frame in front of these runs joins the first of them where that begins at the counter that follows the frame's,
+-- and is a run of its own elsewhere.
 unfoldable pub put_before : ℕ × Fields → List Run → List Run
 put_before f [] = (f ∷ []) ∷ []
-put_before f (run ∷ runs) = (if begins_at (next_counter f.1.counter) run then (f ∷ run) ∷ runs else (f ∷ []) ∷ run ∷ runs)
+put_before f (run ∷ runs) =
+    (if begins_at (next_counter f.1.counter) run then (f ∷ run) ∷ runs else (f ∷ []) ∷ run ∷ runs)
 
 -- the runs: the longest stretches of neighbours in which each counter follows the one before
 unfoldable pub runs_of : List (ℕ × Fields) → List Run

@@ -1,10 +1,11 @@
 -- What is kept of the frames so far, and the history for which it stands.
-use Rattle.std.specs.Prelude.{◌≡◌, ℕ, ◌<◌, ◌≤◌, Bool, true, false, not, ◌&&◌, Option, Some, None, List, [], ◌∷◌, length, drop, map, slice_index_or, ◌==◌}
+use Rattle.std.specs.Prelude.{◌≡◌, ℕ, ◌<◌, ◌≤◌, Bool, true, false, not, ◌&&◌, Option, Some, None, List, [], ◌∷◌, length}
+use Rattle.std.specs.Prelude.{drop, map, slice_index_or, ◌==◌}
 use Rattle.std.specs.Option.{option_to_list, ForSome}
 use Rattle.std.specs.List.{All, filter, list_all}
 use Rattle.lr_vc.specs.Frame.{Fields}
 use Rattle.lr_vc.specs.Runs.{Run, AreFrames, channel_frames, runs_of}
-use Rattle.lr_vc.specs.Packets.{zones_of, pointer_of, is_whole, starts_of, zones_behind}
+use Rattle.lr_vc.specs.Packets.{zones_of, pointer_of, is_whole, starts_of, zones_after}
 
 -- What is kept of one channel: the counter of its last frame, and the bytes so far of its open packet
 pub record KeptChannel : Type 0 where
@@ -51,14 +52,14 @@ last_run (run ∷ next ∷ runs) = last_run (next ∷ runs)
 -- whether the packet at a start isn't all there yet, and no packet starts in a later zone
 unfoldable pub is_open : Run → ℕ → Bool
 is_open run start =
-    not (is_whole (zones_of run) start) && list_all (λ zone. pointer_of run zone == 2047) (zones_behind run start)
+    not (is_whole (zones_of run) start) && list_all (λ zone. pointer_of run zone == 2047) (zones_after run start)
 
 -- the open packets of a run, each as its bytes so far
 unfoldable pub open_packets : Run → List (List ℕ)
 open_packets run = map (λ start. drop start (zones_of run)) (filter (is_open run) (starts_of run))
 
--- What is kept stands for this history of frames: it is, of each channel, the counter of the last frame and the open packet of the
--- last run. So a run has at most one open packet.
+-- What is kept stands for this history of frames: it is, of each channel, the counter of the last frame and the open
+-- packet of the last run. So a run has at most one open packet.
 pub record StandsFor (kept : Kept) (history : List Fields) : Type 0 where
   pub frames : AreFrames history
   pub unspent : kept.spent ≡ false

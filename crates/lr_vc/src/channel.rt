@@ -1,17 +1,22 @@
-ghost use Rattle.std.specs.Prelude.{◌≡◌, ◌+◌, ◌<◌, ◌≤◌, ◌++◌, Some, None, IsTrue, OnOk, IfOk, length, if◌then◌else◌, ◌==◌, ◌&&◌, nat_lt};
+//! One channel: its last counter and its open packet.
+
+ghost use Rattle.std.specs.Prelude.{◌≡◌, ◌+◌, [], IsOk, ◌<◌, ◌≤◌, ◌++◌, Some, None, IsTrue, OnOk, IfOk, length};
+ghost use Rattle.std.specs.Prelude.{if◌then◌else◌, ◌==◌, ◌&&◌, nat_lt};
 ghost use Rattle.std.specs.Option.{option_to_list};
 ghost use Rattle.lr_vc.specs.Reading.{fields};
 ghost use Rattle.lr_vc.specs.Standing.{IsShort, nothing_kept};
-ghost use Rattle.lr_vc.specs.Steps.{KeepsFront, TakesFrame, follows, ended, gone_on, packets_inside, met_by, all_ended, all_gone_on, opened, packets_with, open_behind};
+ghost use Rattle.lr_vc.specs.Steps.{KeepsFront, TakesFrame, follows, completed_packet, continued_packet};
+ghost use Rattle.lr_vc.specs.Steps.{packets_inside, met_by, completed_packets, continued_packets, opened_packets};
+ghost use Rattle.lr_vc.specs.Steps.{packets_with, open_after, start_of, is_nowhere, ends_at};
 
+use crate::TransferFrame;
 use crate::zone::{copied, end_across, push_inside, whole};
-use crate::{TransferFrame, ZONE_BYTES};
-use lr_bits::{Bytes, NoMemory, RawPacket};
+use lr_bits::{Bytes, NoMemory, RawPacket, ZONE_BYTES};
 use std::alloc::Global;
 use std::marker::Model;
 
-/// The pointer of a zone in which no packet starts.
-const NO_START: usize = 2047;
+/// The pointer of a zone in which no packet starts (CCSDS 732.0-B, section 4.1.4.2).
+const NO_START: u16 = 2047;
 
 /// Counters have 24 bits.
 const COUNTERS: u64 = 1 << 24;
@@ -26,47 +31,87 @@ fn is_next(last: Option<u32>, counter: u32) -> bool
     }
 }
 
-/// Whether a zone's pointer agrees with a packet of which so many bytes lie before the zone, and that ends with it or in it.
-fn agrees(so_far: usize, end: usize, pointer: usize) -> bool
-    requires small { so_far ≤ 65541 }
-    ensures value { result ≡ (if end == so_far + 884
-        then pointer == 2047
-        else nat_lt pointer 884 && end == so_far + pointer) }
-    ensures behind { IsTrue result → so_far ≤ end }
-    ensures within { IsTrue result → end ≤ so_far + 884 }
-{
-    if end == so_far + ZONE_BYTES {
-        return pointer == NO_START;
-    }
-    pointer < ZONE_BYTES && end == so_far + pointer
+/// What a zone's pointer says of the first packet that starts in the zone.
+#[derive(Clone, Copy)]
+pub enum ZoneStart {
+    /// It starts at this place, below 884.
+    At(usize),
+    /// None starts, since a packet covers the zone to its end.
+    Nowhere,
+    /// None starts: the zone is idle.
+    Idle,
 }
 
-/// What the next zone of its run makes of an open packet: it goes on behind the zone, or ends with it and is appended, or
-/// is dropped since the zone's pointer doesn't agree with it. The result is the open packet, if it goes on.
+impl ZoneStart {
+    /// Whether no packet starts, since one covers the zone.
+    fn is_nowhere(self) -> bool
+        ensures { result ≡ is_nowhere self }
+    {
+        match self {
+            ZoneStart::At(_) => false,
+            ZoneStart::Nowhere => true,
+            ZoneStart::Idle => false,
+        }
+    }
+}
+
+/// What this pointer says.
+fn zone_start(pointer: u16) -> ZoneStart
+    ensures { result ≡ start_of pointer }
+{
+    let place = usize::from(pointer);
+    if place < ZONE_BYTES {
+        return ZoneStart::At(place);
+    }
+    if pointer == NO_START {
+        ZoneStart::Nowhere
+    } else {
+        ZoneStart::Idle
+    }
+}
+
+/// Whether a zone's start agrees with a packet of which `so_far` bytes lie before the zone, and that ends with it or
+/// in it.
+fn agrees(so_far: usize, end: usize, start: ZoneStart) -> bool
+    requires small { so_far ≤ 65541 }
+    ensures value { result ≡ ends_at so_far end start }
+    ensures after { IsTrue result → so_far ≤ end }
+    ensures within { IsTrue result → end ≤ so_far + ZONE_BYTES }
+{
+    match start {
+        ZoneStart::At(place) => place < ZONE_BYTES && end == so_far + place,
+        ZoneStart::Nowhere => end == so_far + ZONE_BYTES,
+        ZoneStart::Idle => false,
+    }
+}
+
+/// What the next zone of its run makes of an open packet: it goes on after the zone, or ends with it and is appended,
+/// or is dropped since the zone's pointer doesn't agree with it. The result is the open packet, if it goes on.
 fn carry(
     mut bytes: Bytes,
     frame: &TransferFrame,
     packets: &mut Vec<RawPacket>,
 ) -> Result<Option<Bytes>, NoMemory>
     requires { length bytes ≤ 65541 }
+    ensures succeeds { completed_packet frame.now.vc frame.now.zone frame.now.pointer bytes ≡ [] →
+        continued_packet frame.now.zone frame.now.pointer bytes ≡ [] → IsOk result }
     ensures packets { OnOk result (packets.new.items ≡
-        packets.old.items ++ ended frame.now.vc frame.now.zone frame.now.pointer bytes) }
-    ensures open_packet { IfOk result (λ o. option_to_list o ≡ gone_on frame.now.zone frame.now.pointer bytes) }
+        packets.old.items ++ completed_packet frame.now.vc frame.now.zone frame.now.pointer bytes) }
+    ensures open_packet { IfOk result (λ o. option_to_list o ≡ continued_packet frame.now.zone frame.now.pointer bytes) }
     ensures short { IfOk result IsShort }
     ensures kept { KeepsFront packets.old.items packets.new.items }
 {
     let so_far = bytes.as_slice().len();
     let end = end_across(bytes.as_slice(), &frame.zone);
-    let pointer = usize::from(frame.pointer);
+    let start = zone_start(frame.pointer);
     if end > so_far + ZONE_BYTES {
-        let goes_on = pointer == NO_START;
-        if !goes_on {
+        if !start.is_nowhere() {
             return Ok(None);
         }
         bytes.extend(&frame.zone)?;
         return Ok(Some(bytes));
     }
-    if !agrees(so_far, end, pointer) {
+    if !agrees(so_far, end, start) {
         return Ok(None);
     }
     bytes.extend(&frame.zone[..end - so_far])?;
@@ -81,9 +126,11 @@ fn carry_met(
     packets: &mut Vec<RawPacket>,
 ) -> Result<Option<Bytes>, NoMemory>
     requires { IsShort met }
+    ensures succeeds { completed_packets (fields frame.now) (option_to_list met) ≡ [] →
+        continued_packets (fields frame.now) (option_to_list met) ≡ [] → IsOk result }
     ensures packets { OnOk result (packets.new.items ≡
-        packets.old.items ++ all_ended (fields frame.now) (option_to_list met)) }
-    ensures open_packet { IfOk result (λ o. option_to_list o ≡ all_gone_on (fields frame.now) (option_to_list met)) }
+        packets.old.items ++ completed_packets (fields frame.now) (option_to_list met)) }
+    ensures open_packet { IfOk result (λ o. option_to_list o ≡ continued_packets (fields frame.now) (option_to_list met)) }
     ensures short { IfOk result IsShort }
     ensures kept { KeepsFront packets.old.items packets.new.items }
 {
@@ -93,7 +140,7 @@ fn carry_met(
     }
 }
 
-/// Appends the packets that start and end in this zone. The result is the one that starts in it and goes on behind it.
+/// Appends the packets that start and end in this zone. The result is the one that starts in it and goes on after it.
 fn open_inside(
     alloc: Global,
     frame: &TransferFrame,
@@ -102,7 +149,7 @@ fn open_inside(
     requires { frame.now.pointer < 884 }
     ensures packets { OnOk result (packets.new.items ≡
         packets.old.items ++ packets_inside frame.now.vc frame.now.zone frame.now.pointer) }
-    ensures open_packet { IfOk result (λ o. option_to_list o ≡ opened (fields frame.now)) }
+    ensures open_packet { IfOk result (λ o. option_to_list o ≡ opened_packets (fields frame.now)) }
     ensures short { IfOk result IsShort }
     ensures kept { KeepsFront packets.old.items packets.new.items }
 {
@@ -115,8 +162,8 @@ fn open_inside(
     Ok(Some(bytes))
 }
 
-/// Appends the packets that end in this frame, which meets this open packet. The result is the packet that is open behind
-/// it.
+/// Appends the packets that end in this frame, which meets this open packet. The result is the packet that is open
+/// after it.
 fn next_open(
     alloc: Global,
     met: Option<Bytes>,
@@ -124,17 +171,21 @@ fn next_open(
     packets: &mut Vec<RawPacket>,
 ) -> Result<Option<Bytes>, NoMemory>
     requires { IsShort met }
+    // Where no packet ends in the frame and none is open after it, nothing is taken.
+    ensures succeeds { packets_with (fields frame.now) (option_to_list met) ≡ [] →
+        open_after (fields frame.now) (option_to_list met) ≡ [] → IsOk result }
     ensures packets { OnOk result (packets.new.items ≡
         packets.old.items ++ packets_with (fields frame.now) (option_to_list met)) }
-    ensures open_packet { IfOk result (λ o. option_to_list o ≡ open_behind (fields frame.now) (option_to_list met)) }
+    ensures open_packet { IfOk result (λ o. option_to_list o ≡ open_after (fields frame.now) (option_to_list met)) }
     ensures short { IfOk result IsShort }
     ensures kept { KeepsFront packets.old.items packets.new.items }
 {
     let carried = carry_met(met, frame, packets)?;
-    if usize::from(frame.pointer) >= ZONE_BYTES {
-        return Ok(carried);
+    match zone_start(frame.pointer) {
+        ZoneStart::At(_) => open_inside(alloc, frame, packets),
+        ZoneStart::Nowhere => Ok(carried),
+        ZoneStart::Idle => Ok(carried),
     }
-    open_inside(alloc, frame, packets)
 }
 
 /// What is kept of one channel: the counter of its last frame, and the bytes so far of its open packet.

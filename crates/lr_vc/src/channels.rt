@@ -7,12 +7,9 @@ ghost use Rattle.lr_vc.specs.Steps.{KeepsFront, TakesFrame, met_by, packets_with
 
 use crate::TransferFrame;
 use crate::channel::Channel;
-use lr_bits::{NoMemory, RawPacket};
+use lr_bits::{FILL_CHANNEL, NoMemory, RawPacket};
 use std::alloc::Global;
 use std::marker::Model;
-
-/// The channel of fill frames.
-const FILL: u8 = 63;
 
 /// Makes room for a channel, of which nothing is kept yet.
 fn reach(channels: &mut Vec<Channel>, channel: usize) -> Result<(), NoMemory>
@@ -51,11 +48,11 @@ fn push_to_channel(
     channel.push(alloc, frame, packets)
 }
 
-/// The packets of the frames of all channels (CCSDS 732.0-B, section 4.1.4, and 133.0-B, section 4.1). A packet may lie across
-/// the zones of a run, the neighbours of a channel whose counters follow one another.
+/// The packets of the frames of all channels (CCSDS 732.0-B, section 4.1.4, and 133.0-B, section 4.1). A packet may
+/// lie across the zones of a run, the neighbours of a channel whose counters follow one another.
 ///
-/// Of each channel it keeps the counter of the last frame and at most one open packet. After `NoMemory` it is spent, and
-/// every later call answers `NoMemory`.
+/// Of each channel it keeps the counter of the last frame and at most one open packet. After `NoMemory` it is spent,
+/// and every later call answers `NoMemory`.
 #[derive(Drop)]
 pub struct Channels {
     alloc: Global,
@@ -113,7 +110,7 @@ impl Channels {
         if self.spent {
             return Err(NoMemory);
         }
-        if frame.vc == FILL {
+        if frame.vc == FILL_CHANNEL {
             return Ok(());
         }
         let count = packets.len();

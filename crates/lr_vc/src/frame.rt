@@ -1,12 +1,6 @@
 ghost use Rattle.std.specs.Prelude.{◌<◌, ◌^◌};
 
-use lr_bits::field;
-
-/// The bytes of a frame.
-pub const FRAME_BYTES: usize = 892;
-
-/// The bytes of a frame's packet zone.
-pub const ZONE_BYTES: usize = 884;
+use lr_bits::{FRAME_BYTES, ZONE_BYTES, field};
 
 /// The version of a frame, which isn't 1.
 #[derive(Clone, Copy)]
@@ -21,7 +15,7 @@ pub struct TransferFrame {
     /// The frames of a channel are counted in 24 bits.
     pub counter: u32,
     pub replay: bool,
-    /// The seven bits behind the replay flag, which nothing here interprets.
+    /// The seven bits after the replay flag, which nothing here interprets.
     pub rest: u8,
     /// The place in the zone at which the first packet header begins, or 2047 where none does, or 2046 for idle data.
     pub pointer: u16,

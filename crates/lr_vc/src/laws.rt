@@ -1,6 +1,6 @@
 ghost use Rattle.lr_vc.specs.Laws.{FramesAddTheirPackets, PacketsFitTheZones, PacketsKeepTheirOrder, StartsGoOn};
 
-/// One frame more adds exactly the packets that end in it, behind those of the frames before.
+/// One frame more adds exactly the packets that end in it, after those of the frames before.
 pub fn frames_add_their_packets()
     ensures { FramesAddTheirPackets }
 {}

@@ -1,17 +1,13 @@
-ghost use Rattle.std.specs.Prelude.{◌≡◌, ◌+◌, ◌*◌, ◌<◌, ◌≤◌, ◌++◌, [], ◌∷◌, IsTrue, OnOk, IfOk, IfSome, SomeIff, slice_index, if◌then◌else◌, nat_lt};
+//! The packets inside one zone.
+
+ghost use Rattle.std.specs.Prelude.{◌≡◌, ◌+◌, ◌*◌, ◌<◌, ◌≤◌, ◌++◌, [], ◌∷◌, IsTrue, OnOk, IfOk, IfSome, SomeIff};
+ghost use Rattle.std.specs.Prelude.{slice_index, if◌then◌else◌, nat_lt};
 ghost use Rattle.lr_bits.specs.Packet.{IsPacket};
 ghost use Rattle.lr_vc.specs.Packets.{packet_end, is_whole};
 ghost use Rattle.lr_vc.specs.Steps.{KeepsFront, packets_inside, starts_unfinished};
 
-use crate::ZONE_BYTES;
-use lr_bits::{Bytes, NoMemory, RawPacket};
+use lr_bits::{Bytes, NoMemory, PACKET_HEADER_BYTES, RawPacket, SHORTEST_PACKET_BYTES, ZONE_BYTES};
 use std::alloc::Global;
-
-/// The bytes of a packet's header.
-const HEADER_BYTES: usize = 6;
-
-/// The bytes of the shortest packet.
-const SHORTEST_PACKET: usize = 7;
 
 /// The number in a length field.
 fn length_of(high: u8, low: u8) -> usize
@@ -21,17 +17,17 @@ fn length_of(high: u8, low: u8) -> usize
     usize::from(high) * 256 + usize::from(low)
 }
 
-/// Where the packet that starts at this place of the zone ends. `None` exactly where that is behind the zone's end.
+/// Where the packet that starts at this place of the zone ends. `None` exactly where that is after the zone's end.
 fn end_inside(zone: &[u8; ZONE_BYTES], start: usize) -> Option<usize>
     requires { start ≤ 884 }
     ensures end { SomeIff result (IsTrue (is_whole zone.now start)) (packet_end zone.now start) }
     ensures ahead { IfSome result (λ end. start < end) }
     ensures inside { IfSome result (λ end. end ≤ 884) }
 {
-    if start + HEADER_BYTES > ZONE_BYTES {
+    if start + PACKET_HEADER_BYTES > ZONE_BYTES {
         return None;
     }
-    let end = start + SHORTEST_PACKET + length_of(zone[start + 4], zone[start + 5]);
+    let end = start + SHORTEST_PACKET_BYTES + length_of(zone[start + 4], zone[start + 5]);
     let inside = end <= ZONE_BYTES;
     if !inside {
         return None;
@@ -39,7 +35,7 @@ fn end_inside(zone: &[u8; ZONE_BYTES], start: usize) -> Option<usize>
     Some(end)
 }
 
-/// The byte at a place of an open packet with a zone behind it.
+/// The byte at a place of an open packet with a zone after it.
 fn byte_across(so_far: &[u8], zone: &[u8; ZONE_BYTES], place: usize) -> u8
     requires { place < 884 }
     ensures { result ≡ slice_index (so_far.now ++ zone.now) place }
@@ -51,14 +47,14 @@ fn byte_across(so_far: &[u8], zone: &[u8; ZONE_BYTES], place: usize) -> u8
     }
 }
 
-/// Where an open packet ends, counted from its start, with a zone behind its bytes so far.
+/// Where an open packet ends, counted from its start, with a zone after its bytes so far.
 pub fn end_across(so_far: &[u8], zone: &[u8; ZONE_BYTES]) -> usize
     ensures end { result ≡ packet_end (so_far.now ++ zone.now) 0 }
     ensures fits { result ≤ 65542 }
 {
     let high = byte_across(so_far, zone, 4);
     let low = byte_across(so_far, zone, 5);
-    SHORTEST_PACKET + length_of(high, low)
+    SHORTEST_PACKET_BYTES + length_of(high, low)
 }
 
 /// The packet that these bytes are.
@@ -78,8 +74,8 @@ pub fn copied(alloc: Global, piece: &[u8]) -> Result<Bytes, NoMemory>
     Ok(bytes)
 }
 
-/// Appends the packets that lie in the zone, from the start `first` on. The result is the start behind them, whose packet
-/// isn't all there, or the zone's end.
+/// Appends the packets that lie in the zone, from the start `first` on. The result is the start after them, whose
+/// packet isn't all there, or the zone's end.
 pub fn push_inside(
     alloc: Global,
     vc: u8,

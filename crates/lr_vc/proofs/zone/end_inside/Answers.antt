@@ -12,11 +12,18 @@ pub returns-then-not-inside-clause-end : goal.returns-then-not-inside-clause-end
 returns-then-not-inside-clause-end c =
     let long : length c.args.zone.now ≡ 884 = search rules in
     let zone = c.args.zone.now in
-    λ e. let both = is_whole_true zone c.args.start e in omega (arith, both.1, packet_end_is zone c.args.start, length_field zone c.args.start)
+    λ e. let both =
+    is_whole_true zone c.args.start e in omega (
+      arith,
+      both.1,
+      packet_end_is zone c.args.start,
+      length_field zone c.args.start,
+    )
 
 pub returns-clause-end : goal.returns-clause-end
 returns-clause-end c =
     let long : length c.args.zone.now ≡ 884 = search rules in
     let zone = c.args.zone.now in
-    let same : c.args.start + 7 + c.length_of.result ≡ packet_end zone c.args.start = omega (arith, packet_end_is zone c.args.start, length_field zone c.args.start) in
+    let same : c.args.start + 7 + c.length_of.result ≡ packet_end zone c.args.start =
+    omega (arith, packet_end_is zone c.args.start, length_field zone c.args.start) in
     (is_whole_if zone c.args.start (omega arith) (omega arith), same)

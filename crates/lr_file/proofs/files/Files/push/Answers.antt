@@ -2,7 +2,7 @@ use Rattle.std.proofs.Common.{◌≤◌, Option, length, sym, ◌∙◌, subst, 
 use Rattle.lr_bits.specs.File.{File}
 use Rattle.lr_packet.specs.Reading.{good}
 use Rattle.lr_file.specs.Standing.{Open, Kept, StandsFor}
-use Rattle.lr_file.specs.Steps.{IsFileOf, ended}
+use Rattle.lr_file.specs.Steps.{IsFileOf, completed_file}
 use Rattle.lr_file.proofs.KeyLemmas.{on_ok, if_ok}
 use Rattle.lr_file.proofs.Histories.{stands_next, file_at-built}
 use Rattle.lr_file.proofs.files.Files.push.Goals as goal
@@ -15,7 +15,8 @@ returns-clause-stands c =
     let new : Kept = record { spent = c.is_err-self-inside.result; files = c.join-result.new.files.entries } in
     λ packets stands.
     on_ok c.join-result.result
-    (λ fine sets. stands_next old new packets p short (c.is_err-self-inside.ensures.value ∙ fine) sets (subst (λ (kept : Kept). StandsFor kept packets) (sym c.self.view_is) stands))
+    (λ fine sets. stands_next old new packets p short (c.is_err-self-inside.ensures.value ∙ fine) sets
+    (subst (λ (kept : Kept). StandsFor kept packets) (sym c.self.view_is) stands))
     c.join-result.ensures.files
 
 pub returns-clause-file : goal.returns-clause-file
@@ -27,7 +28,8 @@ returns-clause-file c =
     let before = subst (λ (kept : Kept). StandsFor kept packets) (sym c.self.view_is) stands in
     if_ok c.join-result.result
     (λ (file : Option File) built.
-    file_at-built packets p file short (subst (λ (kept : Option Open). IsFileOf p (ended kept p) file) (before.files p.vc p.apid) built))
+    file_at-built packets p file short (subst (λ (kept : Option Open). IsFileOf p (completed_file kept p) file)
+    (before.files p.vc p.apid) built))
     c.join-result.ensures.file
 
 pub returns-clause-spends : goal.returns-clause-spends

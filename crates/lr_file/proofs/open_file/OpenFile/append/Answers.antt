@@ -2,7 +2,7 @@ use Rattle.std.proofs.Common.{◌<◌, length, IsTrue, sym, subst, arith}
 use Rattle.lr_packet.specs.Reading.{good}
 use Rattle.lr_file.specs.Standing.{Open}
 use Rattle.lr_file.specs.Steps.{is_next}
-use Rattle.lr_file.proofs.OpenLemmas.{limits-lengths, limits-joined}
+use Rattle.lr_file.proofs.OpenLemmas.{limits-lengths, limits-file_with}
 use Rattle.lr_file.proofs.open_file.OpenFile.append.Goals as goal
 
 pub invariant_of-self-in_err-extend : goal.invariant_of-self-in_err-extend
@@ -21,4 +21,5 @@ invariant_of-self-2 c =
     let file : Open = record { lengths = parts.lengths; bytes = parts.bytes; count = parts.count } in
     let next = subst (λ (file : Open). IsTrue (is_next file p)) (sym c.self.view_is) c.requires in
     let short : length c.args.packet.now.body.now < 65535 = omega (arith, c.args.packet.now.body_fits) in
-    rw (c.in_ok-push.ensures.ok, c.in_ok-extend.ensures.ok) (limits-joined file p short c.args.packet.now.count_fits next c.self.invariant)
+    rw (c.in_ok-push.ensures.ok, c.in_ok-extend.ensures.ok)
+    (limits-file_with file p short c.args.packet.now.count_fits next c.self.invariant)

@@ -8,4 +8,9 @@ pub returns : goal.returns
 returns c =
     let parts = c.self.inside in
     subst (λ (file : Open). IsBuilt c.args.vc c.args.apid file c.build.result) c.self.view_is
-    (built_from c.args.vc c.args.apid (record { lengths = parts.lengths; bytes = parts.bytes; count = parts.count }) c.build.result c.requires.channel c.requires.application c.self.invariant c.build.ensures)
+    (built_from c.args.vc c.args.apid (record {
+      lengths = parts.lengths;
+      bytes = parts.bytes;
+      count = parts.count;
+    }) c.build.result c.requires.channel c.requires.application c.self.invariant
+    c.build.ensures)

@@ -18,7 +18,8 @@ returns-then-bodies-le-MOST_FILE_BODIES c =
     let p = good c.args.packet.now in
     let parts = c.self.inside in
     let file : Open = record { lengths = parts.lengths; bytes = parts.bytes; count = parts.count } in
-    let few : length parts.lengths + 1 ≤ 1048576 = omega (arith, ap length c.as_slice.ensures, c.if-bodies-le-MOST_FILE_BODIES.true.1) in
+    let few : length parts.lengths + 1 ≤ 1048576 =
+    omega (arith, ap length c.as_slice.ensures, c.if-bodies-le-MOST_FILE_BODIES.true.1) in
     ap (λ (bytes : List ℕ). leb (length bytes + length p.body) 67108864) c.as_slice-2.ensures
     ∙ is_next-all file p c.if-bodies-le-MOST_FILE_BODIES.true.0 few
     ∙ ap (λ (file : Open). is_next file p) c.self.view_is
@@ -37,5 +38,6 @@ returns-else-bodies-le-MOST_FILE_BODIES c =
           w.t-15-is ∙ no_room _ full.1 ∙ is_next-full file p many ∙ seen)
           (λ other. absurd (other w.if-packet-next.true))
           c.if-bodies-le-MOST_FILE_BODIES.either
-      | else-packet-next w ↦ w.t-15-is ∙ miscounted _ _ w.if-packet-next.false ∙ is_next-miscounted file p w.if-packet-next.false ∙ seen
+      | else-packet-next w ↦ w.t-15-is ∙ miscounted _ _ w.if-packet-next.false
+          ∙ is_next-miscounted file p w.if-packet-next.false ∙ seen
     ]

@@ -13,7 +13,10 @@ returns-clause-met c =
     let by = λ (t : Bool). cond t list [] in
     subst Met c.self.view_is
     (elim c.if-is_next.branch [
-      | then-is_next w ↦ ap option_to_list (w.result-is ∙ c.take-open_packet.ensures.value) ∙ sym (ap by (sym c.is_next.ensures ∙ w.if-is_next.true))
-      | else-is_next+in-Some-1 w ↦ ap option_to_list w.result-is ∙ sym (ap by (sym c.is_next.ensures ∙ w.if-is_next.false))
-      | else-is_next+in-None-1 w ↦ ap option_to_list w.result-is ∙ sym (ap by (sym c.is_next.ensures ∙ w.if-is_next.false))
+      | then-is_next w ↦ ap option_to_list (w.result-is ∙ c.take-open_packet.ensures.value)
+          ∙ sym (ap by (sym c.is_next.ensures ∙ w.if-is_next.true))
+      | else-is_next+in-Some-1 w ↦ ap option_to_list w.result-is
+          ∙ sym (ap by (sym c.is_next.ensures ∙ w.if-is_next.false))
+      | else-is_next+in-None-1 w ↦ ap option_to_list w.result-is
+          ∙ sym (ap by (sym c.is_next.ensures ∙ w.if-is_next.false))
     ])

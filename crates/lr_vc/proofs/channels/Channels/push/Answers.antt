@@ -8,21 +8,22 @@ use Rattle.lr_vc.proofs.History.{packets_at-fill}
 use Rattle.lr_vc.proofs.Stands.{at_ok, stands_fill, stands_next, packets_next}
 use Rattle.lr_vc.proofs.channels.Channels.push.Goals as goal
 
-pub returns-then-frame-eq-FILL-clause-stands : goal.returns-then-frame-eq-FILL-clause-stands
-returns-then-frame-eq-FILL-clause-stands c =
+pub returns-then-frame-eq-FILL_CHANNEL-clause-stands : goal.returns-then-frame-eq-FILL_CHANNEL-clause-stands
+returns-then-frame-eq-FILL_CHANNEL-clause-stands c =
     let long : length c.args.frame.now.zone ≡ 884 = search rules in
-    λ history h. stands_fill c.args.self.now history (fields c.args.frame.now) c.if-frame-eq-FILL.true long h
+    λ history h. stands_fill c.args.self.now history (fields c.args.frame.now) c.if-frame-eq-FILL_CHANNEL.true long h
 
-pub returns-then-frame-eq-FILL-clause-packets : goal.returns-then-frame-eq-FILL-clause-packets
-returns-then-frame-eq-FILL-clause-packets c =
-    λ history _. append_none c.args.packets.now.items _ (packets_at-fill history (fields c.args.frame.now) c.if-frame-eq-FILL.true)
+pub returns-then-frame-eq-FILL_CHANNEL-clause-packets : goal.returns-then-frame-eq-FILL_CHANNEL-clause-packets
+returns-then-frame-eq-FILL_CHANNEL-clause-packets c =
+    λ history _. append_none c.args.packets.now.items _ (packets_at-fill history
+    (fields c.args.frame.now) c.if-frame-eq-FILL_CHANNEL.true)
 
 pub returns-clause-stands : goal.returns-clause-stands
 returns-clause-stands c =
     let f = fields c.args.frame.now in
     let long : length c.args.frame.now.zone ≡ 884 = search rules in
     let fits : c.args.frame.now.vc < 64 = c.args.frame.now.vc_fits in
-    let below : c.args.frame.now.vc < 63 = omega (arith, c.if-frame-eq-FILL.false) in
+    let below : c.args.frame.now.vc < 63 = omega (arith, c.if-frame-eq-FILL_CHANNEL.false) in
     let none = sym c.is_err.ensures.value ∙ c.if-is_err.false in
     let old : Kept = record { spent = c.self.inside.spent; channels = c.self.inside.channels.items } in
     let new : Kept = record { spent = c.self.inside.spent; channels = c.push_to_channel.new.channels.items } in
@@ -37,12 +38,13 @@ returns-clause-packets c =
     let f = fields c.args.frame.now in
     let long : length c.args.frame.now.zone ≡ 884 = search rules in
     let fits : c.args.frame.now.vc < 64 = c.args.frame.now.vc_fits in
-    let below : c.args.frame.now.vc < 63 = omega (arith, c.if-frame-eq-FILL.false) in
+    let below : c.args.frame.now.vc < 63 = omega (arith, c.if-frame-eq-FILL_CHANNEL.false) in
     let none = sym c.is_err.ensures.value ∙ c.if-is_err.false in
     let old : Kept = record { spent = c.self.inside.spent; channels = c.self.inside.channels.items } in
     λ history h.
     at_ok c.push_to_channel.result none c.push_to_channel.ensures.packets
-    ∙ ap (λ ps. c.args.packets.now.items ++ ps) (packets_next old history f below long (subst (λ k. StandsFor k history) (sym c.self.view_is) h))
+    ∙ ap (λ ps. c.args.packets.now.items ++ ps) (packets_next old history f below long
+    (subst (λ k. StandsFor k history) (sym c.self.view_is) h))
 
 pub returns-clause-few : goal.returns-clause-few
 returns-clause-few c =

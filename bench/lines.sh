@@ -1,0 +1,44 @@
+#!/bin/sh
+# Pixels decoded a second from coded lines of some 5,500 columns at 10 bits, on one core: lr_bench beside libaec as it is
+# installed (Debian: libaec-dev; left out where it isn't). The lines are drawn and coded by reference/lines.py.
+# Usage: bench/lines.sh [RUNS] [ROUNDS]. The best of so many runs is taken (5), of so many rounds each (40), each of 100 lines.
+set -e
+top=$(cd "$(dirname "$0")/.." && pwd)
+runs=${1:-5}
+rounds=${2:-40}
+lines=100
+scratch=$(mktemp -d)
+trap 'rm -rf "$scratch"' EXIT
+(cd "$top/crates/lr_bench" && rt run -- none 1 > "$scratch/build.log" 2>&1) || { cat "$scratch/build.log"; exit 1; }
+ours="$top/crates/lr_bench/out/lr_bench lines"
+theirs=
+if gcc -O3 "$top/bench/lines.c" -o "$scratch/libaec" -laec 2> "$scratch/gcc.log"; then theirs="$scratch/libaec"; fi
+
+# the least time of a pixel, in picoseconds: PROGRAM BLOCK COLUMNS
+picoseconds() {
+    best=
+    for run in $(seq "$runs"); do
+        start=$(date +%s%N)
+        $1 10 "$2" "$3" "$lines" "$rounds" < "$scratch/coded" > "$scratch/line"
+        each=$((($(date +%s%N) - start) * 1000 / (rounds * lines * $3)))
+        if [ -z "$best" ] || [ "$each" -lt "$best" ]; then best=$each; fi
+    done
+    echo "$best"
+}
+
+printf '%-6s %10s %20s %20s   %s\n' block 'bits/pixel' 'lr_rice: Mpixel/s' 'libaec: Mpixel/s' 'same samples'
+for block in 8 16 32; do
+    columns=$((5500 / block * block))
+    python3 "$top/reference/lines.py" coded 10 "$block" "$columns" "$lines" 1 > "$scratch/coded"
+    size=$(wc -c < "$scratch/coded")
+    our=$(picoseconds "$ours" "$block" "$columns")
+    our_line=$(cat "$scratch/line")
+    their=0 same=-
+    if [ -n "$theirs" ]; then
+        their=$(picoseconds "$theirs" "$block" "$columns")
+        if [ "$our_line" = "$(cat "$scratch/line")" ]; then same=yes; else same=no; fi
+    fi
+    awk -v block="$block" -v rate="$size" -v pixels=$((lines * columns)) -v our="$our" -v their="$their" -v same="$same" 'BEGIN {
+        printf "%-6s %10.2f %20.1f %20s   %s\n", block, rate * 8 / pixels, 1e6 / our,
+            their ? sprintf("%.1f", 1e6 / their) : "-", same }'
+done

@@ -1,0 +1,86 @@
+-- How a run of calls goes on.
+use Rattle.std.proofs.Common.{◌≡◌, inl, inr, ⊎_elim, ℕ, List, refl, ◌∙◌, arith}
+use Rattle.lr_disk.specs.Disk.{Elapses, LeavesOnly, SameImages}
+use Rattle.lr_disk.specs.Reads.{IsUnwritten}
+use Rattle.lr_disk.specs.declared.disk.Disk.{Ghosts as DiskOf}
+
+module _ {D : Type 0} (moment : D → ℕ) (left_since : D → ℕ → List ℕ → Type 0) where
+  -- what is left has a weaker property too
+  pub weaker : (old new : D) (P Q : List ℕ → Type 0) → ((c : List ℕ) → P c → Q c)
+      → LeavesOnly moment left_since old new P
+      → LeavesOnly moment left_since old new Q
+  weaker old new P Q to run = record {
+    later = run.later;
+    each = λ c left. to c (run.each c left);
+    before = λ t c le left. ⊎_elim (λ was. inl was) (λ now. inr (to c now)) (run.before t c le left);
+    keeps = run.keeps;
+  }
+
+  -- one run after another
+  pub joined : (old mid new : D) (P : List ℕ → Type 0) → LeavesOnly moment left_since old mid P
+      → LeavesOnly moment left_since mid new P → LeavesOnly moment left_since old new P
+  joined old mid new P first second = record {
+    later = omega (arith, first.later, second.later);
+    each = λ c left. ⊎_elim (first.each c) (λ now. now) (second.before (moment old) c first.later left);
+    before = λ t c le left.
+        ⊎_elim (first.before t c le) (λ now. inr now) (second.before t c (omega (arith, le, first.later)) left);
+    keeps = λ t c le left. second.keeps t c (omega (arith, le, first.later)) (first.keeps t c le left);
+  }
+
+module _ {D : Type 0} (disk : DiskOf D)
+    (only_now : (d : D) (c : List ℕ) → disk.tells d → disk.left_since d (disk.moment d) c → disk.may_leave d c) where
+  -- no call: what a crash may leave now
+  pub stays : (d : D) (P : List ℕ → Type 0) → disk.tells d → ((c : List ℕ) → disk.may_leave d c → P c)
+      → LeavesOnly disk.moment disk.left_since d d P
+  stays d P told is = record {
+    later = omega arith;
+    each = λ c left. is c (only_now d c told left);
+    before = λ t c le left. inl left;
+    keeps = λ t c le left. left;
+  }
+
+  -- one call: what a crash may leave as it begins, and as it returns
+  pub one_call : (old new : D) (P : List ℕ → Type 0) → disk.tells old → ((c : List ℕ) → disk.may_leave old c → P c)
+      → ((c : List ℕ) → disk.may_leave new c → P c)
+      → Elapses (disk.moment old) (disk.moment new) (disk.left_since old) (disk.left_since new) (disk.may_leave new)
+      → LeavesOnly disk.moment disk.left_since old new P
+  one_call old new P told first then time = record {
+    later = time.later;
+    each = λ c left.
+        ⊎_elim (λ past. first c (only_now old c told past)) (λ image. then c image)
+        (time.nothing_else (disk.moment old) c (omega arith) left);
+    before = λ t c le left. ⊎_elim (λ past. inl past) (λ image. inr (then c image)) (time.nothing_else t c le left);
+    keeps = time.keeps;
+  }
+
+  -- before the first call nothing was written
+  pub unwritten_yet : (d : D) → disk.tells d → IsUnwritten disk d d
+  unwritten_yet d told = record {
+    contents = refl;
+    images = λ c image. image;
+    any_moment = stays d (disk.may_leave d) told (λ c image. image);
+  }
+
+  pub unwritten_call : (d d' : D) → disk.tells d → disk.contents d' ≡ disk.contents d
+      → SameImages (disk.may_leave d) (disk.may_leave d')
+      → Elapses (disk.moment d) (disk.moment d') (disk.left_since d) (disk.left_since d') (disk.may_leave d')
+      → IsUnwritten disk d d'
+  unwritten_call d d' told contents images time = record {
+    contents = contents;
+    images = λ c image. (images c).0 image;
+    any_moment = one_call d d' (disk.may_leave d) told (λ c image. image) (λ c image. (images c).0 image) time;
+  }
+
+module _ {D : Type 0} (disk : DiskOf D) where
+  -- one call after another
+  pub unwritten_joined : (d mid d' : D) → IsUnwritten disk d mid → IsUnwritten disk mid d' → IsUnwritten disk d d'
+  unwritten_joined d mid d' first second = record {
+    contents = second.contents ∙ first.contents;
+    images = λ c image. first.images c (second.images c image);
+    any_moment = joined disk.moment disk.left_since d mid d' (disk.may_leave d) first.any_moment
+        (
+        weaker disk.moment disk.left_since mid d' (disk.may_leave mid) (disk.may_leave d)
+        (λ c image. first.images c image)
+        second.any_moment
+        );
+  }

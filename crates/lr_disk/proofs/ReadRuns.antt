@@ -1,0 +1,73 @@
+-- Runs of calls that read a disk alone.
+use Rattle.std.proofs.Common.{◌≡◌, ℕ, List, Result, Ok, refl, subst, arith}
+use Rattle.lr_bits.specs.Faults.{HasCause}
+use Rattle.lr_bits.specs.declared.refusals.Failed.{Failed}
+use Rattle.lr_disk.specs.Disk.{Elapses, SameImages}
+use Rattle.lr_disk.specs.Reads.{IsCall, OnlyReads}
+use Rattle.lr_disk.specs.declared.disk.Disk.{Ghosts as DiskOf}
+use Rattle.lr_disk.proofs.Moments.{unwritten_call, unwritten_joined, unwritten_yet}
+
+-- the cause of a run is that of its last call
+pub cause_joined : {T : Type 0} (before mid now : ℕ) (r : Result T Failed) → mid ≡ before → HasCause mid now r
+    → HasCause before now r
+cause_joined before mid now r same cause = subst (λ (n : ℕ). HasCause n now r) same cause
+
+module _ {D : Type 0} (disk : DiskOf D)
+    (only_now : (d : D) (c : List ℕ) → disk.tells d → disk.left_since d (disk.moment d) c → disk.may_leave d c) where
+  -- no call
+  pub reads_none : {T : Type 0} (d : D) (answer : T) → OnlyReads disk d d (Ok answer)
+  reads_none d answer = record {
+    cause = record { later = omega arith; kept = refl; rose = tt };
+    told = λ told. told;
+    untold = λ told. told;
+    unwritten = λ told. unwritten_yet disk only_now d told;
+    kept = λ told c image. image;
+  }
+
+  -- one call
+  pub reads_call : {T : Type 0} (d d' : D) (r : Result T Failed) → HasCause (disk.faults d) (disk.faults d') r
+      → (disk.tells d → disk.tells d') → (disk.tells d' → disk.tells d)
+      → (disk.tells d → disk.contents d' ≡ disk.contents d)
+      → (disk.tells d → SameImages (disk.may_leave d) (disk.may_leave d'))
+      → (disk.tells d → Elapses (disk.moment d) (disk.moment d') (disk.left_since d) (disk.left_since d')
+      (disk.may_leave d'))
+      → OnlyReads disk d d' r
+  reads_call d d' r cause told untold contents crash time = record {
+    cause = cause;
+    told = told;
+    untold = untold;
+    unwritten = λ t. unwritten_call disk only_now d d' t (contents t) (crash t) (time t);
+    kept = λ t c image. (crash t c).1 image;
+  }
+
+module _ {D : Type 0} (disk : DiskOf D) where
+  -- one run after another
+  pub reads_joined : {S T : Type 0} (d mid d' : D) (first : S) (r : Result T Failed)
+      → OnlyReads disk d mid (Ok first) → OnlyReads disk mid d' r → OnlyReads disk d d' r
+  reads_joined d mid d' first r one two = record {
+    cause = cause_joined (disk.faults d) (disk.faults mid) (disk.faults d') r one.cause.kept two.cause;
+    told = λ t. two.told (one.told t);
+    untold = λ t. one.untold (two.untold t);
+    unwritten = λ t. unwritten_joined disk d mid d' (one.unwritten t) (two.unwritten (one.told t));
+    kept = λ t c image. two.kept (one.told t) c (one.kept t c image);
+  }
+
+  -- the same run with another answer
+  pub reads_answer : {S T : Type 0} (d d' : D) (first : S) (other : T) → OnlyReads disk d d' (Ok first)
+      → OnlyReads disk d d' (Ok other)
+  reads_answer d d' first other one = record {
+    cause = record { later = one.cause.later; kept = one.cause.kept; rose = tt };
+    told = one.told;
+    untold = one.untold;
+    unwritten = one.unwritten;
+    kept = one.kept;
+  }
+
+  -- one call after another, whatever they do
+  pub calls_joined : {S T : Type 0} (d mid d' : D) (first : S) (r : Result T Failed)
+      → IsCall disk d mid (Ok first) → IsCall disk mid d' r → IsCall disk d d' r
+  calls_joined d mid d' first r one two = record {
+    cause = cause_joined (disk.faults d) (disk.faults mid) (disk.faults d') r one.cause.kept two.cause;
+    told = λ t. two.told (one.told t);
+    untold = λ t. one.untold (two.untold t);
+  }

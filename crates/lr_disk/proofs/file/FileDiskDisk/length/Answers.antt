@@ -1,0 +1,5 @@
+use Rattle.std.proofs.Common.{arith, rules}
+use Rattle.lr_disk.proofs.file.FileDiskDisk.length.Goals as goal
+
+pub returns-clause-size : goal.returns-clause-size
+returns-clause-size g c = search (rules, arith)

@@ -1,0 +1,5 @@
+use Rattle.std.proofs.Common.{arith, rules}
+use Rattle.lr_disk.proofs.file.FileDiskDisk.sync.Goals as goal
+
+pub returns-clause-durable : goal.returns-clause-durable
+returns-clause-durable g c = search (rules, arith)

@@ -1,0 +1,19 @@
+-- What is said of all headers.
+use Rattle.std.specs.Prelude.{◌≡◌, ℕ, List}
+use Rattle.lr_headers.specs.declared.fault.HeaderFault.{HeaderFault}
+use Rattle.lr_headers.specs.Tiling.{Header, HasHeaderFault, IsHeaderOf}
+
+-- a file proper has at most one header
+abbrev pub HeadersAreOne : Type 0
+HeadersAreOne = (proper : List ℕ) (header other : Header) → IsHeaderOf proper header → IsHeaderOf proper other
+    → header ≡ other
+
+-- a file proper that has a header has no fault
+abbrev pub HeadersHaveNoFault : Type 0
+HeadersHaveNoFault = (proper : List ℕ) (header : Header) (fault : HeaderFault) → IsHeaderOf proper header
+    → HasHeaderFault proper fault → ⊥
+
+-- there is one first fault
+abbrev pub HeaderFaultsAreOne : Type 0
+HeaderFaultsAreOne = (proper : List ℕ) (fault other : HeaderFault) → HasHeaderFault proper fault
+    → HasHeaderFault proper other → fault ≡ other

@@ -1,0 +1,18 @@
+//! What holds of all headers.
+
+ghost use Rattle.lr_headers.specs.Laws.{HeaderFaultsAreOne, HeadersAreOne, HeadersHaveNoFault};
+
+/// A file proper has at most one header: its records tile the header's bytes in one way.
+pub fn headers_are_one()
+    ensures { HeadersAreOne }
+{}
+
+/// A file proper with a header has no fault. So `Records::read` succeeds exactly where there is a header.
+pub fn headers_have_no_fault()
+    ensures { HeadersHaveNoFault }
+{}
+
+/// There is one first fault.
+pub fn header_faults_are_one()
+    ensures { HeaderFaultsAreOne }
+{}

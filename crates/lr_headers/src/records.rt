@@ -1,0 +1,340 @@
+//! The records of a header.
+
+ghost use Rattle.std.specs.Prelude.{ℕ, not, take, ◌==◌, ◌≡◌, ◌+◌, ◌≤◌, ◌<◌, length, None, Some, IfOk, IfErr, IfSome};
+ghost use Rattle.std.specs.List.{find, list_any, slice_get};
+ghost use Rattle.std.specs.Option.{option_copied, option_map};
+ghost use Rattle.lr_headers.specs.Fields.{contents_of, data_bits, file_type, first_contents, first_sized};
+ghost use Rattle.lr_headers.specs.Fields.{is_encrypted, is_key, is_sized, lossless_of, navigation_of, segment_of};
+ghost use Rattle.lr_headers.specs.Fields.{stamp_of, structure_of};
+ghost use Rattle.lr_headers.specs.Tiling.{HasFaultOrMemory, IsHeaderOf, IsRecord, IsTiled, fault_at, first_fault};
+ghost use Rattle.lr_headers.specs.Tiling.{has_wrong_length, header_length};
+
+use crate::numbers::{i32_at, u16_at, u32_at, u64_at};
+use crate::{Entry, HeaderFault, Lossless, Navigation, Segment, Stamp, Structure};
+use std::alloc::Global;
+use std::marker::Model;
+
+/// The bytes of the primary record.
+const PRIMARY_BYTES: u16 = 16;
+
+/// The first record of each header.
+const PRIMARY: Entry = Entry {
+    kind: 0,
+    at: 0,
+    length: PRIMARY_BYTES,
+};
+
+/// The kind of image structure records, and how many bytes each has.
+const STRUCTURE: u8 = 1;
+
+const STRUCTURE_BYTES: u16 = 9;
+
+/// The kind of image navigation records, and how many bytes each has.
+const NAVIGATION: u8 = 2;
+
+const NAVIGATION_BYTES: u16 = 51;
+
+/// The kind of time stamp records, and how many bytes each has.
+const STAMP: u8 = 5;
+
+const STAMP_BYTES: u16 = 10;
+
+/// The kind of key records.
+const KEY: u8 = 7;
+
+/// The kind of segment records, and how many bytes those have that are read.
+const SEGMENT: u8 = 128;
+
+const SEGMENT_BYTES: u16 = 17;
+
+/// The kind of lossless records, and how many bytes those have that are read.
+const LOSSLESS: u8 = 131;
+
+const LOSSLESS_BYTES: u16 = 7;
+
+/// The bytes of a record's kind and length.
+const HEAD: usize = 3;
+
+/// The records of a header, and its bytes, which they tile. The bytes are borrowed from the file.
+#[derive(Drop)]
+pub struct Records<'a> {
+    header: &'a [u8],
+    entries: Vec<Entry>,
+}
+
+impl<'a> Model for Records<'a> {
+    ghost use Rattle.lr_headers.specs.Tiling.{Header, IsTiled};
+
+    ghost Value = { Header };
+
+    ghost view = { λ r. record { bytes = r.header.now; entries = r.entries.items } };
+
+    ghost invariant = { λ r. IsTiled (record { bytes = r.header.now; entries = r.entries.items }) };
+}
+
+impl<'a> Records<'a> {
+    /// Reads the header of a mission file proper.
+    pub fn read(alloc: Global, proper: &'a [u8]) -> Result<Records<'a>, HeaderFault>
+        ensures ok { IfOk result (IsHeaderOf proper.now) }
+        ensures err { IfErr result (HasFaultOrMemory proper.now) }
+    {
+        let end = header_end(proper)?;
+        let header = &proper[..end];
+        let mut entries: Vec<Entry> = Vec::new(alloc);
+        if entries.push(PRIMARY).is_err() {
+            return Err(HeaderFault::NoMemory);
+        }
+        let mut place = usize::from(PRIMARY_BYTES);
+        while place < end {
+            let entry = entry_at(header, place)?;
+            if entries.push(entry).is_err() {
+                return Err(HeaderFault::NoMemory);
+            }
+            place += usize::from(entry.length);
+        }
+        Ok(Records { header, entries })
+    }
+
+    /// How many records there are.
+    pub fn count(&self) -> usize
+        ensures { result ≡ length self.now.entries }
+    {
+        self.entries.len()
+    }
+
+    /// The record at this place, the first of which is 0.
+    pub fn entry(&self, place: usize) -> Entry
+        requires { place < length self.now.entries }
+        ensures { slice_get self.now.entries place ≡ Some result }
+    {
+        self.entries[place]
+    }
+
+    /// How many bytes the header has.
+    pub fn header_length(&self) -> u64
+        ensures { result ≡ length self.now.bytes }
+    {
+        self.header.len() as u64
+    }
+
+    /// How many bits the data field is declared to have.
+    pub fn data_bits(&self) -> u64
+        ensures { result ≡ data_bits self.now }
+    {
+        u64_at(self.header, 8)
+    }
+
+    pub fn file_type(&self) -> u8
+        ensures { result ≡ file_type self.now }
+    {
+        self.header[3]
+    }
+
+    pub fn structure(&self) -> Option<Structure>
+        ensures { result ≡ structure_of self.now }
+    {
+        let contents = self.contents_of_kind(STRUCTURE, STRUCTURE_BYTES)?;
+        Some(Structure {
+            bits: contents[0],
+            columns: u16_at(contents, 1),
+            lines: u16_at(contents, 3),
+            compression: contents[5],
+        })
+    }
+
+    pub fn navigation(&self) -> Option<Navigation>
+        ensures { result ≡ navigation_of self.now }
+    {
+        let contents = self.contents_of_kind(NAVIGATION, NAVIGATION_BYTES)?;
+        Some(Navigation {
+            name: name_in(contents),
+            column_factor: i32_at(contents, 32),
+            line_factor: i32_at(contents, 36),
+            column_offset: i32_at(contents, 40),
+            line_offset: i32_at(contents, 44),
+        })
+    }
+
+    pub fn stamp(&self) -> Option<Stamp>
+        ensures { result ≡ stamp_of self.now }
+    {
+        let contents = self.contents_of_kind(STAMP, STAMP_BYTES)?;
+        Some(Stamp {
+            form: contents[0],
+            days: u16_at(contents, 1),
+            milliseconds: u32_at(contents, 3),
+        })
+    }
+
+    /// The first record of kind 128 that has 17 bytes.
+    pub fn segment(&self) -> Option<Segment>
+        ensures { result ≡ segment_of self.now }
+    {
+        let contents = self.contents(SEGMENT, SEGMENT_BYTES)?;
+        Some(Segment {
+            image: u16_at(contents, 0),
+            number: u16_at(contents, 2),
+            start_column: u16_at(contents, 4),
+            start_line: u16_at(contents, 6),
+            segments: u16_at(contents, 8),
+            columns: u16_at(contents, 10),
+            lines: u16_at(contents, 12),
+        })
+    }
+
+    /// The first record of kind 131 that has 7 bytes.
+    pub fn lossless(&self) -> Option<Lossless>
+        ensures { result ≡ lossless_of self.now }
+    {
+        let contents = self.contents(LOSSLESS, LOSSLESS_BYTES)?;
+        Some(Lossless {
+            flags: u16_at(contents, 0),
+            block: contents[2],
+            lines: contents[3],
+        })
+    }
+
+    /// Whether some key record has a content byte that isn't 0.
+    pub fn is_encrypted(&self) -> bool
+        ensures { result ≡ is_encrypted self.now }
+    {
+        has_key(self.header, &self.entries)
+    }
+
+    /// The contents of the first record of this kind and size.
+    fn contents(&self, kind: u8, size: u16) -> Option<&'a [u8]>
+        requires { 3 ≤ size }
+        ensures value { option_copied result ≡ first_sized kind size self.now }
+        ensures size { IfSome result (λ contents. length contents.now + 3 ≡ size) }
+        ensures tiled { IsTiled self.now }
+    {
+        let entry = first_sized(&self.entries, kind, size)?;
+        Some(contents_of(self.header, entry))
+    }
+
+    /// The contents of the first record of this kind, which has this size in each header.
+    fn contents_of_kind(&self, kind: u8, size: u16) -> Option<&'a [u8]>
+        requires least { 3 ≤ size }
+        requires fixed { (n : ℕ) → has_wrong_length kind n ≡ not (n == size) }
+        ensures value { option_copied result ≡ first_contents kind self.now }
+        ensures size { IfSome result (λ contents. length contents.now + 3 ≡ size) }
+    {
+        self.contents(kind, size)
+    }
+}
+
+/// The contents of a record of these bytes.
+fn contents_of(bytes: &[u8], entry: Entry) -> &[u8]
+    requires inside { entry.at + entry.length ≤ length bytes.now }
+    requires long { 3 ≤ entry.length }
+    ensures value { result.now ≡ contents_of bytes.now entry }
+    ensures size { length result.now + 3 ≡ entry.length }
+{
+    let start = entry.at as usize;
+    &bytes[start + HEAD..start + usize::from(entry.length)]
+}
+
+/// The name in the contents of a navigation record.
+fn name_in(contents: &[u8]) -> [u8; 32]
+    requires { 32 ≤ length contents.now }
+    ensures { result ≡ take 32 contents.now }
+{
+    let mut name = [0; 32];
+    name.copy_from_slice(&contents[..32]);
+    name
+}
+
+/// The first record of this kind and size.
+fn first_sized(entries: &[Entry], kind: u8, size: u16) -> Option<Entry>
+    ensures { result ≡ find (is_sized kind size) entries.now }
+{
+    entries
+        .iter()
+        .copied()
+        .find(|entry| entry.kind == kind && entry.length == size)
+}
+
+/// Whether one of the records is a key with a content byte that isn't 0.
+fn has_key(bytes: &[u8], entries: &[Entry]) -> bool
+    requires { IsTiled (record { bytes = bytes.now; entries = entries.now }) }
+    ensures { result ≡ list_any (is_key bytes.now) entries.now }
+{
+    for entry in entries {
+        if entry.kind == KEY && has_nonzero(contents_of(bytes, *entry)) {
+            return true;
+        }
+    }
+    false
+}
+
+/// Whether some byte isn't 0.
+fn has_nonzero(bytes: &[u8]) -> bool
+    ensures { result ≡ list_any (λ byte. not (byte == 0)) bytes.now }
+{
+    bytes.iter().any(|byte| *byte != 0)
+}
+
+/// Where the header ends.
+fn header_end(proper: &[u8]) -> Result<usize, HeaderFault>
+    ensures sound { IfOk result (λ end. first_fault proper.now ≡ None) }
+    ensures value { IfOk result (λ end. end ≡ header_length proper.now) }
+    ensures least { IfOk result (λ end. 16 ≤ end) }
+    ensures inside { IfOk result (λ end. end ≤ length proper.now) }
+    ensures err { IfErr result (λ fault. first_fault proper.now ≡ Some fault) }
+{
+    if proper.len() < usize::from(PRIMARY_BYTES) {
+        return Err(HeaderFault::Ended {
+            at: proper.len() as u64,
+        });
+    }
+    if proper[0] != 0 || u16_at(proper, 1) != PRIMARY_BYTES {
+        return Err(HeaderFault::NotPrimary);
+    }
+    let end = u32_at(proper, 4) as usize;
+    if end < usize::from(PRIMARY_BYTES) {
+        return Err(HeaderFault::Overrun { at: 0 });
+    }
+    if proper.len() < end {
+        return Err(HeaderFault::Ended {
+            at: proper.len() as u64,
+        });
+    }
+    Ok(end)
+}
+
+/// Whether records of this kind have another length.
+fn has_wrong_length(kind: u8, length: u16) -> bool
+    ensures { result ≡ has_wrong_length kind length }
+{
+    match kind {
+        STRUCTURE => length != STRUCTURE_BYTES,
+        NAVIGATION => length != NAVIGATION_BYTES,
+        STAMP => length != STAMP_BYTES,
+        _ => false,
+    }
+}
+
+/// The record at a place of the header.
+fn entry_at(bytes: &[u8], place: usize) -> Result<Entry, HeaderFault>
+    requires { place < length bytes.now }
+    ensures ok { IfOk result (IsRecord bytes.now place) }
+    ensures err { IfErr result (λ fault. fault_at bytes.now place ≡ Some fault) }
+{
+    let at = place as u64;
+    let left = bytes.len() - place;
+    if left < HEAD {
+        return Err(HeaderFault::Overrun { at });
+    }
+    let kind = bytes[place];
+    let length = u16_at(bytes, place + 1);
+    if length < 3 {
+        return Err(HeaderFault::ShortRecord { at });
+    }
+    if left < usize::from(length) {
+        return Err(HeaderFault::Overrun { at });
+    }
+    if has_wrong_length(kind, length) {
+        return Err(HeaderFault::WrongLength { kind, length });
+    }
+    Ok(Entry { kind, at, length })
+}

@@ -1,0 +1,7 @@
+pub mod LineLemmas
+pub mod OneReading
+pub mod PgmLemmas
+pub mod PieceLemmas
+pub mod PlainLemmas
+pub mod ShapeLemmas
+pub mod WholePixels

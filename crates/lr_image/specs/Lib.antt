@@ -1,0 +1,7 @@
+pub mod Laws
+pub mod Pgm
+pub mod Picture
+pub mod Pieces
+pub mod Plain
+pub mod Reading
+pub mod Shapes

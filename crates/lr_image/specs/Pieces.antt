@@ -1,0 +1,64 @@
+-- Pixels that are coded without loss: the bodies are cut into pieces, and each piece gives lines (the pieces are a rule
+-- of this project's own).
+use Rattle.std.specs.Prelude.{◌≡◌, ◌<◌, ◌⊎◌, ◌+◌, ◌-◌, ◌*◌, min, ℕ, List, [], ◌∷◌, ◌++◌, length, drop}
+use Rattle.lr_bits.specs.Bits.{bits_of}
+use Rattle.lr_rice.specs.declared.fault.RiceFault.{RiceFault}
+use Rattle.lr_rice.specs.CodedLines.{Form, BeginsWithLines}
+use Rattle.lr_rice.specs.LineFaults.{LinesFail}
+use Rattle.lr_image.specs.declared.fault.ImageFault.{ImageFault}
+use Rattle.lr_image.specs.declared.fault.ImageFault.TheVariants.{Rice, Short}
+
+-- a piece is the part of a body that stands after the first `skipped` bytes of all bodies, if there is such a part
+abbrev pub piece_with : List ℕ → List (List ℕ) → List (List ℕ)
+piece_with [] pieces = pieces
+piece_with (byte ∷ bytes) pieces = (byte ∷ bytes) ∷ pieces
+
+abbrev pub pieces_after : ℕ → List (List ℕ) → List (List ℕ)
+pieces_after skipped [] = []
+pieces_after skipped (body ∷ bodies) =
+    piece_with (drop skipped body) (pieces_after (skipped - length body) bodies)
+
+-- the piece begins with this many lines, and the others give the rest of the samples
+pub record PieceThen (form : Form) (lines : ℕ) (Others : List ℕ → Type 0) (piece samples : List ℕ) : Type 0 where
+  pub front : List ℕ
+  pub begins : BeginsWithLines form lines front (bits_of piece)
+  pub back : List ℕ
+  pub others : Others back
+  pub are_samples : samples ≡ front ++ back
+
+-- The pieces give the samples of the lines that are wanted: each piece as many lines as a packet has, and the last one
+-- those that are still wanted. Pieces after it give no line.
+abbrev pub GiveLines : Form → ℕ → ℕ → List (List ℕ) → List ℕ → Type 0
+GiveLines form each wanted [] samples = (wanted ≡ 0) × (samples ≡ [])
+GiveLines form each wanted (piece ∷ pieces) samples =
+    PieceThen form (min each wanted) (GiveLines form each (wanted - each) pieces) piece samples
+
+-- the piece of this number has a fault in the lines that it is to give
+pub record PieceFails (form : Form) (lines number : ℕ) (piece : List ℕ) (fault : ImageFault) : Type 0 where
+  pub rice : RiceFault
+  pub fails : LinesFail form lines (bits_of piece) rice
+  pub is_fault : fault ≡ Rice number rice
+
+-- the piece gives its lines, and those after it fail
+pub record FailsLater (form : Form) (lines : ℕ) (piece : List ℕ) (Later : Type 0) : Type 0 where
+  pub front : List ℕ
+  pub begins : BeginsWithLines form lines front (bits_of piece)
+  pub later : Later
+
+-- after the last piece lines are still wanted
+pub record LinesLack (form : Form) (done wanted : ℕ) (fault : ImageFault) : Type 0 where
+  pub some : 0 < wanted
+  pub is_fault : fault ≡ Short (done * form.columns)
+
+-- A piece of these has a fault in the lines that it is to give, or lines are still wanted after the last one. `number`
+-- and `done` count the pieces and the lines before them.
+abbrev pub PiecesFail : Form → ℕ → ℕ → ℕ → ℕ → List (List ℕ) → ImageFault → Type 0
+PiecesFail form each number done wanted [] fault = LinesLack form done wanted fault
+PiecesFail form each number done wanted (piece ∷ pieces) fault =
+    PieceFails form (min each wanted) number piece fault
+    ⊎ FailsLater form (min each wanted) piece
+    (PiecesFail form each (number + 1) (done + min each wanted) (wanted - each) pieces fault)
+
+-- the same from the first piece on
+abbrev pub LackLines : Form → ℕ → ℕ → List (List ℕ) → ImageFault → Type 0
+LackLines form each wanted pieces fault = PiecesFail form each 0 0 wanted pieces fault

@@ -1,0 +1,25 @@
+//! Images of mission files: the faults of a file that has none, the pixels of one that has, and their text as PGM.
+//!
+//! `image_of` reads an image: its pixels stand in the data field one after another, most significant bit first, or they
+//! are coded without loss, packet by packet (CCSDS 121.0-B, by the definitions of `lr_rice`). `Shapes` in specs/ says
+//! which records are looked at and in which order the faults come, `Plain` and `Pieces` which pixels a data field has,
+//! `Reading` which image a file has, and `Pgm` how an image is written. `Laws` says that a file has one image or one
+//! first fault.
+#![tactic(auto)]
+
+mod coded;
+mod fault;
+mod image;
+mod laws;
+mod pgm;
+mod pieces;
+mod plain;
+mod reading;
+mod shape;
+
+pub use fault::ImageFault;
+pub use image::Image;
+pub use laws::outcomes_are_one;
+pub use pgm::{pgm_head, pgm_line};
+pub use reading::image_of;
+pub use shape::{MOST_PIXELS, Shape};

@@ -1,0 +1,65 @@
+//! Images of mission files.
+
+ghost use Rattle.std.specs.Prelude.{◌≡◌, ◌≤◌, ◌⊎◌, IfErr, IfOk, length};
+ghost use Rattle.lr_bits.specs.File.{proper_of};
+ghost use Rattle.lr_image.specs.Reading.{HasFaultOrMemory, HasPixels, IsImageOf, LacksPixels};
+ghost use Rattle.lr_image.specs.Shapes.{IsShape};
+ghost use Rattle.lr_image.specs.declared.fault.ImageFault.TheVariants.{NoMemory};
+
+use crate::coded::coded_pixels;
+use crate::image::whole_image;
+use crate::plain::plain_pixels;
+use crate::shape::shape_of;
+use crate::{Image, ImageFault, Shape};
+use lr_bits::{MissionFile, Pixels, TRANSPORT_HEADER_BYTES};
+use lr_headers::{HeaderFault, Records};
+use std::alloc::Global;
+
+/// The image of a mission file.
+pub fn image_of(alloc: Global, file: &MissionFile) -> Result<Image, ImageFault>
+    ensures ok { IfOk result (IsImageOf file.now) }
+    ensures err { IfErr result (HasFaultOrMemory file.now) }
+{
+    let records = match Records::read(alloc, file.proper()) {
+        Ok(records) => records,
+        Err(HeaderFault::NoMemory) => return Err(ImageFault::NoMemory),
+        Err(fault) => return Err(ImageFault::Headers(fault)),
+    };
+    let shape = shape_of(&records)?;
+    let header = records.header_length() as usize;
+    let pixels = pixels_of(alloc, file, header, shape)?;
+    let structure = shape.structure;
+    Ok(whole_image(
+        structure.bits,
+        u32::from(structure.columns),
+        u32::from(structure.lines),
+        pixels,
+    ))
+}
+
+/// The pixels of an image of this shape, from what stands after a header of this many bytes.
+fn pixels_of(
+    alloc: Global,
+    file: &MissionFile,
+    header: usize,
+    shape: Shape,
+) -> Result<Pixels, ImageFault>
+    requires shape { IsShape shape }
+    requires inside { header ≤ length (proper_of file.now) }
+    ensures ok { IfOk result (HasPixels file.now header shape.structure shape.lossless) }
+    ensures err { IfErr result (λ fault. (fault ≡ NoMemory)
+        ⊎ LacksPixels file.now header shape.structure shape.lossless fault) }
+{
+    let proper = file.proper();
+    let structure = shape.structure;
+    match shape.lossless {
+        None => {
+            let count = usize::from(structure.columns) * usize::from(structure.lines);
+            plain_pixels(alloc, &proper[header..], structure.bits, count)
+        }
+        Some(lossless) => {
+            let skipped = TRANSPORT_HEADER_BYTES + header;
+            coded_pixels(alloc, file, skipped, structure, lossless)
+        }
+    }
+}

@@ -1,0 +1,164 @@
+-- Packets that are joined to files one after another, with the origins of the files.
+use Rattle.std.proofs.Common.{◌≡◌, ℕ, ◌+◌, ◌-◌, ◌≤◌, ◌<◌, Option, Some, None, List, [], ◌∷◌, ◌++◌, length, take, map}
+use Rattle.std.proofs.Common.{refl, sym, ap, ap₂, ◌∙◌, subst, arith, append-nil, append_assoc, length-take, get_or}
+use Rattle.std.specs.Option.{option_map, option_to_list}
+use Rattle.std.specs.List.{cons_option}
+use Rattle.std.specs.Result.{result_ok}
+use Rattle.std.specs.Prelude.{Result, Ok}
+use Rattle.std.proofs.Math.Seq.{take-length, take-append_seam}
+use Rattle.std.proofs.lemmas.List.{take-take, take_more}
+use Rattle.lr_bits.specs.declared.outcome.Outcome.{Outcome}
+use Rattle.lr_bits.specs.declared.placed.Placed.{Placed}
+use Rattle.lr_bits.specs.declared.placed.Origin.{Origin}
+use Rattle.lr_bits.specs.File.{File}
+use Rattle.lr_bits.specs.Packet.{Packet}
+use Rattle.lr_packet.specs.declared.packet.PacketFault.{PacketFault}
+use Rattle.lr_packet.specs.Verdict.{Good, good_packets, verdict_of}
+use Rattle.lr_packet.proofs.VerdictLemmas.{good_packets-append}
+use Rattle.lr_file.specs.Files.{file_at}
+use Rattle.lr_file.specs.Standing.{Kept as KeptFiles, StandsFor as FilesStandFor, kept_of_key}
+use Rattle.lr_layers.specs.declared.starts.Start.{Start}
+use Rattle.lr_layers.specs.declared.starts.Now.{Now}
+use Rattle.lr_layers.specs.Origins.{PlacedPacket, packet_of, placed_file, placed_files_after}
+use Rattle.lr_layers.specs.Origins.{corrected_between, first_place}
+use Rattle.lr_layers.specs.Starts.{corrected_before, NotesStart, StartsStandFor, IsNow, Joins, start_in}
+use Rattle.lr_layers.specs.Steps.{KeepsFront}
+use Rattle.lr_layers.proofs.Changes.{corrected_between-is}
+use Rattle.lr_layers.proofs.Firsts.{StartsAt, file_starts}
+use Rattle.lr_layers.proofs.Places.{packets_with_more}
+use Rattle.lr_layers.proofs.Starting.{starts_more}
+
+-- no packet, no file
+unfoldable pub joins_none : (outcomes : List Outcome) (before : List PlacedPacket) (files : KeptFiles)
+    (starts : List ((ℕ × ℕ) × Start))
+    (old : List Placed) → FilesStandFor files (map packet_of before) → StartsStandFor outcomes starts before →
+    Joins outcomes before [] files starts old old
+joins_none outcomes before files starts old stand begun = record {
+  files_stand =
+      subst (λ (l : List PlacedPacket). FilesStandFor files (map packet_of l)) (sym (append-nil before)) stand;
+  starts_stand = subst (λ (l : List PlacedPacket). StartsStandFor outcomes starts l) (sym (append-nil before)) begun;
+  more = [];
+  added = sym (append-nil old);
+  all = refl;
+}
+
+pub placed_files-append : (outcomes : List Outcome) (before first second : List PlacedPacket) →
+    placed_files_after outcomes before (first ++ second)
+    ≡ placed_files_after outcomes before first ++ placed_files_after outcomes (before ++ first) second
+placed_files-append outcomes before [] second =
+    ap (λ (l : List PlacedPacket). placed_files_after outcomes l second) (sym (append-nil before))
+placed_files-append outcomes before (p ∷ first) second =
+    let here = map (placed_file outcomes before p) (option_to_list (file_at (map packet_of before) p.packet)) in
+    ap (λ l. here ++ l) (placed_files-append outcomes (before ++ p ∷ []) first second)
+    ∙ ap (λ (l : List PlacedPacket). here ++ (placed_files_after outcomes (before ++ p ∷ []) first
+    ++ placed_files_after outcomes l second))
+    (append_assoc before (p ∷ []) first)
+    ∙ sym (append_assoc here (placed_files_after outcomes (before ++ p ∷ []) first)
+    (placed_files_after outcomes (before ++ p ∷ first) second))
+
+-- packets after others
+pub joins_more : (outcomes : List Outcome) (before first second : List PlacedPacket) (files files' : KeptFiles)
+    (starts starts' : List ((ℕ × ℕ) × Start)) (old between new : List Placed) →
+    Joins outcomes before first files starts old between →
+    Joins outcomes (before ++ first) second files' starts' between new →
+    Joins outcomes before (first ++ second) files' starts' old new
+joins_more outcomes before first second files files' starts starts' old between new a b = record {
+  files_stand =
+      subst (λ (l : List PlacedPacket). FilesStandFor files' (map packet_of l))
+      (append_assoc before first second) b.files_stand;
+  starts_stand =
+      subst (λ (l : List PlacedPacket). StartsStandFor outcomes starts' l)
+      (append_assoc before first second) b.starts_stand;
+  more = a.more ++ b.more;
+  added = b.added ∙ ap (λ l. l ++ b.more) a.added ∙ append_assoc old a.more b.more;
+  all = placed_files-append outcomes before first second ∙ ap₂ (λ x y. x ++ y) a.all b.all;
+}
+
+-- ---- one packet
+
+abbrev pub here : Now → Good → PlacedPacket
+here now g = record { place = now.start.place; packet = g }
+
+module _ (outcomes : List Outcome) (before : List PlacedPacket) (g : Good) (now : Now) (is : IsNow outcomes now)
+    (files' : KeptFiles) (starts starts' : List ((ℕ × ℕ) × Start)) (begun : StartsStandFor outcomes starts before)
+    (notes : NotesStart starts starts' g now.start) (stands : FilesStandFor files'
+    (map packet_of before ++ g ∷ [])) where
+  one_stands : FilesStandFor files' (map packet_of (before ++ here now g ∷ []))
+  one_stands =
+      subst (λ (l : List Good). FilesStandFor files' l) (sym (packets_with_more before now.start.place (g ∷ []))) stands
+
+  one_begun : StartsStandFor outcomes starts' (before ++ here now g ∷ [])
+  one_begun = starts_more outcomes starts starts' before g now is begun notes
+
+  -- no file ends with it
+  pub joins_no_file : (old : List Placed) → file_at (map packet_of before) g ≡ None →
+      Joins outcomes before (here now g ∷ []) files' starts' old old
+  joins_no_file old none = record {
+    files_stand = one_stands;
+    starts_stand = one_begun;
+    more = [];
+    added = sym (append-nil old);
+    all = ap (λ o. map (placed_file outcomes before (here now g)) (option_to_list o) ++ []) none;
+  }
+
+  -- the start that is kept is that of the file's first packet
+  start_is : (file : File) → (at : StartsAt (before ++ here now g ∷ []) file) →
+      kept_of_key starts' file.vc file.apid ≡ Some (start_in outcomes at.start)
+  start_is file at = one_begun.starts file.vc file.apid ∙ ap (option_map (start_in outcomes)) at.latest
+
+  -- one does
+  pub joins_file : (old new : List Placed) (file : File) (origin : Origin) (kept : Option Start) →
+      Some file ≡ file_at (map packet_of before) g → kept ≡ kept_of_key starts' file.vc file.apid →
+      ((known : Start) → kept ≡ Some known → origin ≡ record {
+        first = known.place;
+        last = now.start.place;
+        corrected = now.corrected - known.corrected;
+      }) →
+      new ≡ old ++ record { file = file; origin = origin } ∷ [] →
+      Joins outcomes before (here now g ∷ []) files' starts' old new
+  joins_file old new file origin kept some kept_is origin_is added =
+      let at = file_starts before (here now g) file (sym some) in
+      let known = start_in outcomes at.start in
+      let from = origin_is known (kept_is ∙ start_is file at) in
+      let changed : now.corrected - known.corrected ≡ corrected_between outcomes
+      (first_place (before ++ here now g ∷ []) file) now.start.place =
+      ap₂ (λ a b. a - b) is.after (ap (corrected_before outcomes) at.place)
+      ∙ sym (corrected_between-is outcomes (first_place (before ++ here now g ∷ []) file) now.start.place) in
+      let mk : ℕ → ℕ → Placed = λ first corrected.
+      record { file = file; origin = record { first = first; last = now.start.place; corrected = corrected } } in
+      let same : (let p : Placed = record { file = file; origin = origin } in p) ≡
+      placed_file outcomes before (here now g) file =
+      ap (λ (o : Origin). let p : Placed = record { file = file; origin = o } in p) from ∙ ap₂ mk at.place changed in
+      record {
+        files_stand = one_stands;
+        starts_stand = one_begun;
+        more = placed_file outcomes before (here now g) file ∷ [];
+        added = added ∙ ap (λ (p : Placed). old ++ p ∷ []) same;
+        all = ap (λ o. map (placed_file outcomes before (here now g)) (option_to_list o) ++ []) (sym some);
+      }
+
+-- ---- lists that keep their fronts
+
+pub keeps_all : (files : List Placed) → KeepsFront files files
+keeps_all files = take-length files
+
+pub keeps_more : (files more : List Placed) → KeepsFront files (files ++ more)
+keeps_more files more = take-append_seam files more
+
+-- a good packet is the good ones of itself
+pub good_one : (packet : Packet) (g : Good) → verdict_of packet ≡ Ok g → good_packets (packet ∷ []) ≡ g ∷ []
+good_one packet g is = ap (λ (r : Result Good PacketFault). cons_option (result_ok r) []) is
+
+-- what was kept twice is kept
+pub keeps_on : (old between new : List Placed) → KeepsFront old between → KeepsFront between new → KeepsFront old new
+keeps_on old between new a b =
+    let short : length old ≤ length between = omega (arith, ap length a, length-take (length old) between) in
+    sym (take-take (length old) (length between) new short) ∙ ap (take (length old)) b ∙ a
+
+-- the good ones of one packet more
+pub good_more : (packets : List Packet) (place : ℕ) (packet : Packet) → place < length packets →
+    packet ≡ get_or packets place packet →
+    good_packets (take (place + 1) packets) ≡ good_packets (take place packets) ++ good_packets (packet ∷ [])
+good_more packets place packet inside is =
+    ap good_packets (take_more packets place packet inside ∙ ap (λ p. take place packets ++ p ∷ []) (sym is))
+    ∙ good_packets-append (take place packets) (packet ∷ [])

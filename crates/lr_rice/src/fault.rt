@@ -1,0 +1,41 @@
+//! Why lines can't be decoded.
+
+ghost use Rattle.std.specs.Prelude.{◌≡◌};
+ghost use Rattle.lr_rice.specs.LineFaults.{fault_in};
+
+/// Why an item of a line can't be read.
+#[derive(Clone, Copy)]
+pub enum Cause {
+    /// Too few bits are left for it.
+    Ended,
+    /// The mapped value is greater than the greatest sample.
+    OutOfRange,
+    /// The zero block has more blocks than are left in its segment.
+    RunPastSegment,
+}
+
+/// Why lines can't be decoded: what the first item is, in the order of the bits, that can't be read, and in which line.
+#[derive(Clone, Copy)]
+pub enum RiceFault {
+    /// Too few bits are left.
+    Ended { line: u32 },
+    /// A mapped value is greater than the greatest sample.
+    OutOfRange { line: u32 },
+    /// A zero block has more blocks than are left in its segment.
+    RunPastSegment { line: u32 },
+    /// No memory was left.
+    NoMemory,
+}
+
+impl Cause {
+    /// The fault of this cause in this line.
+    pub(crate) fn in_line(self, line: u32) -> RiceFault
+        ensures { result ≡ fault_in line self }
+    {
+        match self {
+            Cause::Ended => RiceFault::Ended { line },
+            Cause::OutOfRange => RiceFault::OutOfRange { line },
+            Cause::RunPastSegment => RiceFault::RunPastSegment { line },
+        }
+    }
+}

@@ -1,0 +1,42 @@
+-- Runs of calls that read a disk alone, with the answers of a shelf.
+use Rattle.std.proofs.Common.{◌≡◌, ℕ, Result, Ok, Err, subst}
+use Rattle.lr_bits.specs.declared.refusals.Failed.{Failed}
+use Rattle.lr_disk.specs.Reads.{OnlyReads}
+use Rattle.lr_disk.specs.declared.disk.Disk.{Ghosts as DiskOf}
+use Rattle.lr_disk.proofs.Moments.{unwritten_joined}
+use Rattle.lr_shelf.specs.Calls.{IsCounted, ReadsDisk}
+use Rattle.lr_shelf.specs.declared.error.ShelfError.{ShelfError}
+use Rattle.lr_shelf.specs.declared.error.ShelfError.TheVariants.{Disk}
+
+module _ {D : Type 0} (disk : DiskOf D) where
+  -- a run after which the answer is neither Ok nor `Disk`, or is Ok
+  pub run_ended : {S A : Type 0} (d d' : D) (answer : S) (r : Result A ShelfError)
+      → (disk.faults d' ≡ disk.faults d → IsCounted (disk.faults d) (disk.faults d') r)
+      → OnlyReads disk d d' (Ok answer) → ReadsDisk disk d d' r
+  run_ended d d' answer r counted reads = record {
+    calls = record { told = reads.told; untold = reads.untold; counted = counted reads.cause.kept };
+    unwritten = reads.unwritten;
+    images = reads.kept;
+  }
+
+  -- a run whose last call failed
+  pub run_failed : {S A : Type 0} (d d' : D) (failed : Failed) → OnlyReads disk {T = S} d d' (Err failed)
+      → ReadsDisk disk {A = A} d d' (Err Disk)
+  run_failed d d' failed reads = record {
+    calls = record { told = reads.told; untold = reads.untold; counted = (reads.cause.later, reads.cause.rose) };
+    unwritten = reads.unwritten;
+    images = reads.kept;
+  }
+
+  -- calls of the disk, and then one of these
+  pub run_joined : {S A : Type 0} (d mid d' : D) (answer : S) (r : Result A ShelfError)
+      → OnlyReads disk d mid (Ok answer) → ReadsDisk disk mid d' r → ReadsDisk disk d d' r
+  run_joined d mid d' answer r one two = record {
+    calls = record {
+      told = λ t. two.calls.told (one.told t);
+      untold = λ t. one.untold (two.calls.untold t);
+      counted = subst (λ (n : ℕ). IsCounted n (disk.faults d') r) one.cause.kept two.calls.counted;
+    };
+    unwritten = λ t. unwritten_joined disk d mid d' (one.unwritten t) (two.unwritten (one.told t));
+    images = λ t c image. two.images (one.told t) c (one.kept t c image);
+  }

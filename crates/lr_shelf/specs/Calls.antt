@@ -1,0 +1,26 @@
+-- What every call of a shelf keeps of its disk.
+use Rattle.std.specs.Prelude.{◌≡◌, ◌≤◌, ℕ, Result, Ok, Err}
+use Rattle.lr_bits.specs.Faults.{Rose}
+use Rattle.lr_disk.specs.Disk.{KeepsImages}
+use Rattle.lr_disk.specs.Reads.{IsUnwritten}
+use Rattle.lr_disk.specs.declared.disk.Disk.{Ghosts as DiskOf}
+use Rattle.lr_shelf.specs.declared.error.ShelfError.{ShelfError}
+use Rattle.lr_shelf.specs.declared.error.ShelfError.TheVariants.{Disk}
+
+-- the disk's count of faults rose where the answer is `Disk`, and else it stays
+abbrev pub IsCounted : {A : Type 0} → ℕ → ℕ → Result A ShelfError → Type 0
+IsCounted before now (Ok answer) = now ≡ before
+IsCounted before now (Err Disk) = (before ≤ now) × Rose before now
+IsCounted before now (Err error) = now ≡ before
+
+module _ {D : Type 0} (disk : DiskOf D) {A : Type 0} (d d' : D) (result : Result A ShelfError) where
+  pub record Calls : Type 0 where
+    pub told : disk.tells d → disk.tells d'
+    pub untold : disk.tells d' → disk.tells d
+    pub counted : IsCounted (disk.faults d) (disk.faults d') result
+
+  -- a call that asks for the length or reads, and does nothing else
+  pub record ReadsDisk : Type 0 where
+    pub calls : Calls
+    pub unwritten : disk.tells d → IsUnwritten disk d d'
+    pub images : disk.tells d → KeepsImages (disk.may_leave d) (disk.may_leave d')

@@ -1,0 +1,31 @@
+-- What `discard` does.
+use Rattle.std.specs.Prelude.{◌≡◌, ◌<◌, ◌≤◌, ℕ, true, false, length, Result, Err, IfErr}
+use Rattle.lr_disk.specs.declared.disk.Disk.{Ghosts as DiskOf}
+use Rattle.lr_shelf_format.specs.Items.{discard_item}
+use Rattle.lr_shelf.specs.Adds.{Adds, needed_by, new_end}
+use Rattle.lr_shelf.specs.Asked.{IsAskable, IsEntryRefusal, entry_of}
+use Rattle.lr_shelf.specs.Kept.{Kept, kept_by}
+use Rattle.lr_shelf.specs.declared.error.ShelfError.{ShelfError}
+use Rattle.lr_shelf.specs.declared.error.ShelfError.TheVariants.{Disk, Capacity, NoSuchFile, Failed, Discarded}
+use Rattle.lr_shelf.specs.declared.shelf.Shelf.{Shelf}
+
+-- the refusals of `discard`, each with what it says of the shelf that it found
+abbrev pub IsDiscardRefusal : ℕ → Kept → ShelfError → Type 0
+IsDiscardRefusal number kept (Capacity needed capacity) =
+    IsAskable kept number × (kept.way.capacity < new_end (discard_item number) kept)
+    × (needed ≡ needed_by (discard_item number) kept) × (capacity ≡ kept.way.capacity)
+IsDiscardRefusal number kept Disk = IsAskable kept number × (new_end (discard_item number) kept ≤ kept.way.capacity)
+IsDiscardRefusal number kept error = IsEntryRefusal kept number error
+
+module _ {D : Type 0} (disk : DiskOf D) where
+  pub record Discards (number : ℕ) (old new : Shelf) (d d' : D) (result : Result (Unit {0}) ShelfError) : Type 0 where
+    pub adds : Adds disk (discard_item number) old new d d' result
+    -- the refusals, each exactly where it says, in their order
+    pub refused : IfErr result (IsDiscardRefusal number (kept_by old))
+    pub spent : (kept_by old).failed ≡ true → result ≡ Err Failed
+    pub absent : (kept_by old).failed ≡ false → length (kept_by old).way.entries ≤ number
+        → result ≡ Err (NoSuchFile (length (kept_by old).way.entries))
+    pub gone : (kept_by old).failed ≡ false → number < length (kept_by old).way.entries
+        → (entry_of (kept_by old) number).gone ≡ true → result ≡ Err Discarded
+    pub full : IsAskable (kept_by old) number → (kept_by old).way.capacity < new_end (discard_item number) (kept_by old)
+        → result ≡ Err (Capacity (needed_by (discard_item number) (kept_by old)) (kept_by old).way.capacity)

@@ -1,0 +1,131 @@
+//! Shelves on files, on files that move few bytes a call, and disks at their limits.
+use crate::shared::{
+    append, check, disk, file, first, get, holds_two, init, is_at, is_no_shelf, is_number, is_same,
+    load, second,
+};
+use lr_bits::{Origin, Placed};
+use lr_disk::{Disk, FileDisk, MemDisk, MemFile, SureDisk};
+use std::alloc::Global;
+use std::fs::{self, File};
+use std::io;
+use std::test::Fail;
+
+fn write<D: Disk>(disk: &mut D, at: u64, bytes: &[u8]) -> bool {
+    !bytes.is_empty() && at < 1000 && bytes.len() < 1000 && disk.write_at(at, bytes).is_ok()
+}
+
+fn sync<D: Disk>(disk: &mut D) -> bool {
+    disk.sync().is_ok()
+}
+
+fn length<D: Disk>(disk: &mut D) -> Option<u64> {
+    disk.length().ok()
+}
+
+fn cut<D: Disk>(disk: &mut D, length: u64) -> bool {
+    disk.cut(length).is_ok()
+}
+
+/// A room of four bytes, and five calls.
+fn limits_are_kept(alloc: Global) -> Result<bool, Fail> {
+    let mut made = MemDisk::of(alloc, Vec::new(alloc), 4, 5)?;
+    Ok(
+        write(&mut made, 1, &[7, 8])
+            && !write(&mut made, 0, &[9, 9, 9])
+            && length(&mut made) == Some(3)
+            && made.as_slice() == [0, 7, 8].as_slice()
+            && sync(&mut made)
+            && cut(&mut made, 1)
+            && !sync(&mut made),
+    )
+}
+
+fn a_sure_disk_is_empty(alloc: Global) -> bool {
+    let mut sure = SureDisk::new();
+    is_no_shelf(load(alloc, &mut sure), 0) && init(&mut sure, 20).is_ok()
+}
+
+/// An empty file, which is open to be read and written.
+fn opened(rt: &HostRuntime, path: &str) -> io::Result<File> {
+    let mut options = fs::OpenOptions::new();
+    options.read(true).write(true).create(true).truncate(true);
+    options.open(rt, path)
+}
+
+/// A file of 200,000 bytes, which is more than one piece.
+fn large(alloc: Global) -> Result<Placed, Fail> {
+    let origin = Origin {
+        first: 0,
+        last: 2,
+        corrected: 0,
+    };
+    let file = file(alloc, 1, 2, 5, &[0xA5; 40_000])?;
+    Ok(Placed { file, origin })
+}
+
+fn is_shelf_of_large(alloc: Global, real: &mut FileDisk) -> Result<bool, Fail> {
+    init(real, 1 << 20)?;
+    let mut shelf = load(alloc, real)?;
+    let added = is_number(append(&mut shelf, real, &large(alloc)?), 0)
+        && is_number(append(&mut shelf, real, &first(alloc)?), 1);
+    let mut again = load(alloc, real)?;
+    let one = get(&mut again, real, 0)?;
+    let two = get(&mut again, real, 1)?;
+    check(&mut again, real, 0)?;
+    Ok(
+        added
+            && is_at(&again, 2, 200_136, 1 << 20)
+            && is_same(&one.file, &large(alloc)?.file)
+            && is_same(&two.file, &first(alloc)?.file),
+    )
+}
+
+/// A cut past the end leaves the file as it is, and one below the end shortens it.
+fn is_cut(real: &mut FileDisk) -> bool {
+    cut(real, 1 << 30)
+        && length(real) == Some(200_136)
+        && cut(real, 100)
+        && length(real) == Some(100)
+        && sync(real)
+}
+
+fn a_file_is_a_shelf(rt: &HostRuntime) -> Result<bool, Fail> {
+    let path = "lr_trials_shelf.tmp";
+    let mut real = FileDisk::of(opened(rt, path)?);
+    let is_shelf = is_shelf_of_large(rt.alloc(), &mut real)? && is_cut(&mut real);
+    fs::remove_file(rt, path)?;
+    Ok(is_shelf)
+}
+
+/// A shelf on a file that moves at most this many bytes a call.
+fn is_shelf_of_two(alloc: Global, most: usize) -> Result<bool, Fail> {
+    if most == 0 {
+        return Err(Fail::from("nothing is moved"));
+    }
+    let mut slow = FileDisk::of(MemFile::of(disk(alloc, &[])?, most));
+    init(&mut slow, 1000)?;
+    let mut shelf = load(alloc, &mut slow)?;
+    append(&mut shelf, &mut slow, &first(alloc)?)?;
+    append(&mut shelf, &mut slow, &second(alloc)?)?;
+    holds_two(alloc, &mut slow)
+}
+
+#[test]
+fn disks_have_limits(rt: HostRuntime) -> Result<(), Fail> {
+    assert!(rt; limits_are_kept(rt.alloc())?);
+    assert!(rt; a_sure_disk_is_empty(rt.alloc()));
+    Ok(())
+}
+
+#[test]
+fn a_file_of_the_system_is_a_shelf(rt: HostRuntime) -> Result<(), Fail> {
+    assert!(rt; a_file_is_a_shelf(&rt)?);
+    Ok(())
+}
+
+#[test]
+fn a_file_may_move_few_bytes_a_call(rt: HostRuntime) -> Result<(), Fail> {
+    assert!(rt; is_shelf_of_two(rt.alloc(), 1)?);
+    assert!(rt; is_shelf_of_two(rt.alloc(), 7)?);
+    Ok(())
+}

@@ -1,0 +1,213 @@
+//! Files, disks, calls and answers that the tests share.
+use lr_bits::{Bytes, Lengths, MissionFile, Origin, Placed};
+use lr_disk::{Disk, MemDisk};
+use lr_shelf::{Shelf, ShelfError, Stored};
+use lr_shelf_format::{LEAST_CAPACITY, MOST_CAPACITY};
+use std::alloc::Global;
+use std::test::Fail;
+
+/// The room of a test's disk, in bytes.
+const ROOM: usize = 100_000;
+
+/// The body of the first file. That of the second is its first ten bytes.
+pub(crate) static BODY: [u8; 26] = [
+    0, 1, 2, 3, 4, 5, 6, 7, 8, 9, 0x0A, 0x0B, 0x0C, 0x0D, 0x0E, 0x0F, 0x10, 0x11, 0x12, 0x13, 0x14,
+    0x15, 0x16, 0x17, 0x18, 0x19,
+];
+
+/// A file of this many bodies, each of these bytes.
+pub(crate) fn file(
+    alloc: Global,
+    vc: u8,
+    apid: u16,
+    bodies: u32,
+    body: &[u8],
+) -> Result<MissionFile, Fail> {
+    let length = u16::try_from(body.len()).ok().ok_or("too long")?;
+    let mut lengths = Lengths::new(alloc);
+    let mut bytes = Bytes::new(alloc);
+    for _ in 0..bodies {
+        lengths.push(length)?;
+        bytes.extend(body)?;
+    }
+    Ok(MissionFile::build(vc, apid, lengths, bytes).ok_or("no file")?)
+}
+
+/// The first file, of the outcomes 9 to 300 with 70,000 changed bytes.
+pub(crate) fn first(alloc: Global) -> Result<Placed, Fail> {
+    let origin = Origin {
+        first: 9,
+        last: 300,
+        corrected: 70_000,
+    };
+    let file = file(alloc, 0, 100, 1, &BODY)?;
+    Ok(Placed { file, origin })
+}
+
+/// The second file, of the outcome 0, in which nothing was changed.
+pub(crate) fn second(alloc: Global) -> Result<Placed, Fail> {
+    let origin = Origin {
+        first: 0,
+        last: 0,
+        corrected: 0,
+    };
+    let file = file(alloc, 5, 7, 1, &BODY[..10])?;
+    Ok(Placed { file, origin })
+}
+
+/// A disk of these bytes, with room and calls enough.
+pub(crate) fn disk(alloc: Global, bytes: &[u8]) -> Result<MemDisk, Fail> {
+    let bytes = bytes.to_vec(alloc)?;
+    if bytes.len() > ROOM {
+        return Err(Fail::from("too many bytes"));
+    }
+    Ok(MemDisk::of(alloc, bytes, ROOM as u64, 1000)?)
+}
+
+/// An empty shelf of this capacity.
+pub(crate) fn empty(alloc: Global, capacity: u64) -> Result<MemDisk, Fail> {
+    let mut made = disk(alloc, &[])?;
+    init(&mut made, capacity)?;
+    Ok(made)
+}
+
+/// A shelf of both files, which ends at 138.
+pub(crate) fn with_two(alloc: Global) -> Result<MemDisk, Fail> {
+    let mut made = empty(alloc, 1000)?;
+    let mut shelf = load(alloc, &mut made)?;
+    append(&mut shelf, &mut made, &first(alloc)?)?;
+    append(&mut shelf, &mut made, &second(alloc)?)?;
+    Ok(made)
+}
+
+/// The same, with one byte changed.
+pub(crate) fn with_byte(alloc: Global, place: usize, byte: u8) -> Result<MemDisk, Fail> {
+    let whole = with_two(alloc)?;
+    let mut bytes = whole.as_slice().to_vec(alloc)?;
+    if let Some(one) = bytes.get_mut(place) {
+        *one = byte;
+    }
+    disk(alloc, &bytes)
+}
+
+// ---- calls
+
+pub(crate) fn init<D: Disk>(disk: &mut D, capacity: u64) -> Result<(), ShelfError> {
+    if capacity < LEAST_CAPACITY || capacity > MOST_CAPACITY {
+        return Err(ShelfError::Failed);
+    }
+    Shelf::init(disk, capacity)
+}
+
+pub(crate) fn load<D: Disk>(alloc: Global, disk: &mut D) -> Result<Shelf, ShelfError> {
+    Shelf::load(alloc, disk)
+}
+
+pub(crate) fn append<D: Disk>(
+    shelf: &mut Shelf,
+    disk: &mut D,
+    placed: &Placed,
+) -> Result<u64, ShelfError> {
+    shelf.append(disk, placed)
+}
+
+pub(crate) fn discard<D: Disk>(
+    shelf: &mut Shelf,
+    disk: &mut D,
+    number: u64,
+) -> Result<(), ShelfError> {
+    shelf.discard(disk, number)
+}
+
+pub(crate) fn get<D: Disk>(
+    shelf: &mut Shelf,
+    disk: &mut D,
+    number: u64,
+) -> Result<Stored, ShelfError> {
+    shelf.get(disk, number)
+}
+
+pub(crate) fn check<D: Disk>(
+    shelf: &mut Shelf,
+    disk: &mut D,
+    number: u64,
+) -> Result<(), ShelfError> {
+    shelf.check(disk, number)
+}
+
+// ---- answers
+
+pub(crate) fn is_number(answer: Result<u64, ShelfError>, number: u64) -> bool {
+    matches!(answer, Ok(n) if n == number)
+}
+
+pub(crate) fn is_gone<T: Drop>(answer: Result<T, ShelfError>) -> bool {
+    matches!(answer, Err(ShelfError::Discarded))
+}
+
+pub(crate) fn is_disk<T: Drop>(answer: Result<T, ShelfError>) -> bool {
+    matches!(answer, Err(ShelfError::Disk))
+}
+
+pub(crate) fn is_failed<T: Drop>(answer: Result<T, ShelfError>) -> bool {
+    matches!(answer, Err(ShelfError::Failed))
+}
+
+pub(crate) fn is_past<T: Drop>(answer: Result<T, ShelfError>, files: u64) -> bool {
+    matches!(answer, Err(ShelfError::NoSuchFile { count }) if count == files)
+}
+
+pub(crate) fn is_full<T: Drop>(answer: Result<T, ShelfError>, end: u64, most: u64) -> bool {
+    matches!(answer, Err(ShelfError::Capacity { needed, capacity }) if needed == end && capacity == most)
+}
+
+pub(crate) fn is_crc<T: Drop>(answer: Result<T, ShelfError>, stands: u16, right: u16) -> bool {
+    matches!(answer, Err(ShelfError::Crc { stored, computed }) if stored == stands && computed == right)
+}
+
+pub(crate) fn is_no_shelf<T: Drop>(answer: Result<T, ShelfError>, place: u64) -> bool {
+    matches!(answer, Err(ShelfError::NotAShelf { at }) if at == place)
+}
+
+pub(crate) fn is_not_empty(answer: Result<(), ShelfError>, size: u64) -> bool {
+    matches!(answer, Err(ShelfError::NotEmpty { length }) if length == size)
+}
+
+/// What a shelf says of itself.
+pub(crate) fn is_at(shelf: &Shelf, files: u64, end: u64, capacity: u64) -> bool {
+    shelf.len() == files && shelf.end() == end && shelf.capacity() == capacity
+}
+
+pub(crate) fn is_same(one: &MissionFile, other: &MissionFile) -> bool {
+    one.vc() == other.vc()
+        && one.apid() == other.apid()
+        && one.lengths() == other.lengths()
+        && one.bytes() == other.bytes()
+}
+
+/// Whether the file was stored with its origin.
+pub(crate) fn is_stored(stored: &Stored, placed: &Placed) -> bool {
+    let expected = placed.origin;
+    is_same(&stored.file, &placed.file)
+        && matches!(
+            stored.origin,
+            Some(origin)
+                if origin.first == expected.first
+                    && origin.last == expected.last
+                    && origin.corrected == expected.corrected
+        )
+}
+
+/// Whether both files are on the shelf, and no third.
+pub(crate) fn holds_two<D: Disk>(alloc: Global, disk: &mut D) -> Result<bool, Fail> {
+    let mut shelf = load(alloc, disk)?;
+    check(&mut shelf, disk, 0)?;
+    check(&mut shelf, disk, 1)?;
+    let one = get(&mut shelf, disk, 0)?;
+    let two = get(&mut shelf, disk, 1)?;
+    Ok(
+        is_stored(&one, &first(alloc)?)
+            && is_stored(&two, &second(alloc)?)
+            && is_past(get(&mut shelf, disk, 2), 2),
+    )
+}
