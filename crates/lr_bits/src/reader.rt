@@ -1,4 +1,24 @@
-ghost use Rattle.std.specs.Prelude.{◌≡◌, ℕ, ◌+◌, ◌-◌, ◌*◌, ◌/◌, ◌^◌, ◌<◌, ◌≤◌, ◌++◌, ◌∷◌, [], IfOk, OnErr, All, length, drop, slice_index, if◌then◌else◌};
+ghost use Rattle.std.specs.Prelude.{
+  ◌≡◌,
+  ℕ,
+  ◌+◌,
+  ◌-◌,
+  ◌*◌,
+  ◌/◌,
+  ◌^◌,
+  ◌<◌,
+  ◌≤◌,
+  ◌++◌,
+  ◌∷◌,
+  [],
+  IfOk,
+  OnErr,
+  All,
+  length,
+  drop,
+  slice_index,
+  if◌then◌else◌,
+};
 ghost use Rattle.lr_bits.specs.Bits.{bits_of, first_bits, number_bits, zeros_and_one};
 
 use std::marker::Model;

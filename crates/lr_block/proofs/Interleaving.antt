@@ -1,10 +1,48 @@
 -- Blocks, their words, and the frame in them.
-use Rattle.std.proofs.Common.{◌≡◌, ℕ, zero, suc, ◌+◌, ◌*◌, ◌/◌, ◌%◌, ◌<◌, ◌≤◌, ◌≢◌, List, [], ◌∷◌, length, get_or, take, sym, ap, subst, ◌∙◌, arith, below_more, length-take-le}
+use Rattle.std.proofs.Common.{
+  ◌≡◌,
+  ℕ,
+  zero,
+  suc,
+  ◌+◌,
+  ◌*◌,
+  ◌/◌,
+  ◌%◌,
+  ◌<◌,
+  ◌≤◌,
+  ◌≢◌,
+  List,
+  [],
+  ◌∷◌,
+  length,
+  get_or,
+  take,
+  sym,
+  ap,
+  subst,
+  ◌∙◌,
+  arith,
+  below_more,
+  length-take-le,
+}
 use Rattle.std.proofs.lemmas.List.{get_or-take}
 use Rattle.std.proofs.lemmas.Grind.{same_number_lists}
-use Rattle.std.proofs.lemmas.List.FromFn.{fill_by_all, get_or-map-range_with_len, length-map-range_with_len, take-map-range_with_len}
+use Rattle.std.proofs.lemmas.List.FromFn.{
+  fill_by_all,
+  get_or-map-range_with_len,
+  length-map-range_with_len,
+  take-map-range_with_len,
+}
 use Rattle.lr_rs.specs.Words.{IsWord, IsCodeword, IsRestored, distance}
-use Rattle.lr_block.specs.Blocks.{every_fourth, word_of, information_of, IsEncoded, IsRestoredBlock, IsFirstLost, changes_of}
+use Rattle.lr_block.specs.Blocks.{
+  every_fourth,
+  word_of,
+  information_of,
+  IsEncoded,
+  IsRestoredBlock,
+  IsFirstLost,
+  changes_of,
+}
 
 pub below_four : (P : ℕ → Type 0) → P 0 → P 1 → P 2 → P 3 → (k : ℕ) → k < 4 → P k
 below_four P a b c d zero h = a
@@ -13,32 +51,38 @@ below_four P a b c d (suc (suc zero)) h = c
 below_four P a b c d (suc (suc (suc zero))) h = d
 below_four P a b c d (suc (suc (suc (suc k)))) h = absurd (omega arith)
 
-pub get_or-every_fourth : (count : ℕ) (bytes : List ℕ) (k i : ℕ) → i < count → get_or (every_fourth count bytes k) i 0 ≡ get_or bytes (4 * i + k) 0
+pub get_or-every_fourth : (count : ℕ) (bytes : List ℕ) (k i : ℕ) → i < count
+    → get_or (every_fourth count bytes k) i 0 ≡ get_or bytes (4 * i + k) 0
 unfolding every_fourth
-get_or-every_fourth count bytes k i h = get_or-map-range_with_len (λ i. get_or bytes (4 * i + k) 0) 0 count i i 0 h (omega arith)
+get_or-every_fourth count bytes k i h =
+    get_or-map-range_with_len (λ i. get_or bytes (4 * i + k) 0) 0 count i i 0 h (omega arith)
 
 pub length-every_fourth : (count : ℕ) (bytes : List ℕ) (k : ℕ) → length (every_fourth count bytes k) ≡ count
 unfolding every_fourth
 length-every_fourth count bytes k = length-map-range_with_len (λ i. get_or bytes (4 * i + k) 0) 0 count
 
-pub every_fourth_by_all : (count : ℕ) (bytes word : List ℕ) (k : ℕ) → length word ≡ count → ((i : ℕ) → i < count → get_or word i 0 ≡ get_or bytes (4 * i + k) 0) → word ≡ every_fourth count bytes k
+pub every_fourth_by_all : (count : ℕ) (bytes word : List ℕ) (k : ℕ) → length word ≡ count
+    → ((i : ℕ) → i < count → get_or word i 0 ≡ get_or bytes (4 * i + k) 0) → word ≡ every_fourth count bytes k
 unfolding every_fourth
 every_fourth_by_all count bytes word k long all = fill_by_all (λ i. get_or bytes (4 * i + k) 0) word count 0 long all
 
 -- the first bytes of a word
-pub take-every_fourth : (count more : ℕ) (bytes : List ℕ) (k : ℕ) → count ≤ more → take count (every_fourth more bytes k) ≡ every_fourth count bytes k
+pub take-every_fourth : (count more : ℕ) (bytes : List ℕ) (k : ℕ) → count ≤ more
+    → take count (every_fourth more bytes k) ≡ every_fourth count bytes k
 unfolding every_fourth
 take-every_fourth count more bytes k h = take-map-range_with_len (λ i. get_or bytes (4 * i + k) 0) 0 more count h
 
 -- the information of a word is the first 223 bytes of it
-pub information_of-take : (block : List ℕ) (k : ℕ) → k < 4 → 892 ≤ length block → information_of (take 892 block) k ≡ take 223 (word_of block k)
+pub information_of-take : (block : List ℕ) (k : ℕ) → k < 4 → 892 ≤ length block
+    → information_of (take 892 block) k ≡ take 223 (word_of block k)
 information_of-take block k small long =
     sym (take-every_fourth 223 255 block k (omega arith)
     ∙ every_fourth_by_all 223 (take 892 block) (every_fourth 223 block k) k (length-every_fourth 223 block k)
     (λ i h. get_or-every_fourth 223 block k i h ∙ sym (get_or-take 892 block (4 * i + k) 0 (omega arith))))
 
 -- two blocks with the same words are the same
-pub same_blocks : (a b : List ℕ) → length a ≡ 1020 → length b ≡ 1020 → ((k : ℕ) → k < 4 → word_of a k ≡ word_of b k) → a ≡ b
+pub same_blocks : (a b : List ℕ) → length a ≡ 1020 → length b ≡ 1020
+    → ((k : ℕ) → k < 4 → word_of a k ≡ word_of b k) → a ≡ b
 same_blocks a b p q same =
     same_number_lists a b (p ∙ sym q) (λ i h.
     let e : 4 * (i / 4) + i % 4 ≡ i = omega arith in
@@ -76,7 +120,8 @@ is_encoded frame block p q each = record {
 }
 
 pub is_only_encoded : (frame block other : List ℕ) → length block ≡ 1020
-    → ((k : ℕ) → k < 4 → IsTheCodeword (information_of frame k) (word_of block k)) → IsEncoded frame other → other ≡ block
+    → ((k : ℕ) → k < 4 → IsTheCodeword (information_of frame k) (word_of block k)) → IsEncoded frame other
+    → other ≡ block
 is_only_encoded frame block other q each o =
     same_blocks other block o.long q (λ k h.
     (each k h).only (word_of other k) (o.words k h) (o.codewords k h)
@@ -108,8 +153,10 @@ four_words b0 b1 b2 b3 first second third fourth p0 p1 k1 p2 k2 p3 k3 = (
 )
 
 pub restored_by_words : (block restored first second third fourth : List ℕ) → length restored ≡ 1020
-    → (word_of restored 0 ≡ first) × (word_of restored 1 ≡ second) × (word_of restored 2 ≡ third) × (word_of restored 3 ≡ fourth)
-    → IsRestored (word_of block 0) first → IsRestored (word_of block 1) second → IsRestored (word_of block 2) third → IsRestored (word_of block 3) fourth
+    → (word_of restored 0 ≡ first) × (word_of restored 1 ≡ second) × (word_of restored 2 ≡ third)
+    × (word_of restored 3 ≡ fourth)
+    → IsRestored (word_of block 0) first → IsRestored (word_of block 1) second
+    → IsRestored (word_of block 2) third → IsRestored (word_of block 3) fourth
     → IsRestoredBlock block restored
 restored_by_words block restored first second third fourth long same r0 r1 r2 r3 = record {
   long = long;
@@ -126,34 +173,46 @@ first_lost block named k e small before none =
     subst (IsFirstLost block) (sym e) (record { word = small; before = before; lost = none })
 
 pub changes_by_words : (block restored first second third fourth : List ℕ) (in_first in_second in_third in_fourth : ℕ)
-    → (word_of restored 0 ≡ first) × (word_of restored 1 ≡ second) × (word_of restored 2 ≡ third) × (word_of restored 3 ≡ fourth)
+    → (word_of restored 0 ≡ first) × (word_of restored 1 ≡ second) × (word_of restored 2 ≡ third)
+    × (word_of restored 3 ≡ fourth)
     → in_first ≡ distance 255 (word_of block 0) first → in_second ≡ distance 255 (word_of block 1) second
     → in_third ≡ distance 255 (word_of block 2) third → in_fourth ≡ distance 255 (word_of block 3) fourth
     → in_first ∷ in_second ∷ in_third ∷ in_fourth ∷ [] ≡ changes_of block restored
 changes_by_words block restored first second third fourth in_first in_second in_third in_fourth same p0 p1 p2 p3 =
-    let e0 : in_first ≡ distance 255 (word_of block 0) (word_of restored 0) = p0 ∙ ap (distance 255 (word_of block 0)) (sym same.0) in
-    let e1 : in_second ≡ distance 255 (word_of block 1) (word_of restored 1) = p1 ∙ ap (distance 255 (word_of block 1)) (sym same.1) in
-    let e2 : in_third ≡ distance 255 (word_of block 2) (word_of restored 2) = p2 ∙ ap (distance 255 (word_of block 2)) (sym same.2) in
-    let e3 : in_fourth ≡ distance 255 (word_of block 3) (word_of restored 3) = p3 ∙ ap (distance 255 (word_of block 3)) (sym same.3) in
+    let e0 : in_first ≡ distance 255 (word_of block 0) (word_of restored 0) = p0
+    ∙ ap (distance 255 (word_of block 0)) (sym same.0) in
+    let e1 : in_second ≡ distance 255 (word_of block 1) (word_of restored 1) = p1
+    ∙ ap (distance 255 (word_of block 1)) (sym same.1) in
+    let e2 : in_third ≡ distance 255 (word_of block 2) (word_of restored 2) = p2
+    ∙ ap (distance 255 (word_of block 2)) (sym same.2) in
+    let e3 : in_fourth ≡ distance 255 (word_of block 3) (word_of restored 3) = p3
+    ∙ ap (distance 255 (word_of block 3)) (sym same.3) in
     cc
 
 -- some word is restored to
 abbrev pub HasRestored : List ℕ → ℕ → Type 0
 HasRestored block k = (c : List ℕ) × IsRestored (word_of block k) c
 
-pub lost_first : (block : List ℕ) (named : ℕ) → named ≡ 0 → ((c : List ℕ) → IsRestored (word_of block 0) c → ⊥) → IsFirstLost block named
+pub lost_first : (block : List ℕ) (named : ℕ) → named ≡ 0 → ((c : List ℕ) → IsRestored (word_of block 0) c → ⊥)
+    → IsFirstLost block named
 lost_first block named e none = first_lost block named 0 e (omega arith) (λ j h. absurd (omega arith)) none
 
-pub lost_second : (block : List ℕ) (named : ℕ) → named ≡ 1 → HasRestored block 0 → ((c : List ℕ) → IsRestored (word_of block 1) c → ⊥) → IsFirstLost block named
-lost_second block named e r0 none = first_lost block named 1 e (omega arith) (below_more (HasRestored block) 0 (λ j h. absurd (omega arith)) r0) none
+pub lost_second : (block : List ℕ) (named : ℕ) → named ≡ 1 → HasRestored block 0
+    → ((c : List ℕ) → IsRestored (word_of block 1) c → ⊥) → IsFirstLost block named
+lost_second block named e r0 none =
+    first_lost block named 1 e (omega arith) (below_more (HasRestored block) 0 (λ j h. absurd (omega arith)) r0) none
 
 pub lost_third : (block : List ℕ) (named : ℕ) → named ≡ 2 → HasRestored block 0 → HasRestored block 1
     → ((c : List ℕ) → IsRestored (word_of block 2) c → ⊥) → IsFirstLost block named
 lost_third block named e r0 r1 none =
-    first_lost block named 2 e (omega arith) (below_more (HasRestored block) 1 (below_more (HasRestored block) 0 (λ j h. absurd (omega arith)) r0) r1) none
+    first_lost block named 2 e (omega arith)
+    (below_more (HasRestored block) 1 (below_more (HasRestored block) 0 (λ j h. absurd (omega arith)) r0) r1) none
 
-pub lost_fourth : (block : List ℕ) (named : ℕ) → named ≡ 3 → HasRestored block 0 → HasRestored block 1 → HasRestored block 2
+pub lost_fourth : (block : List ℕ) (named : ℕ) → named ≡ 3 → HasRestored block 0 → HasRestored block 1
+    → HasRestored block 2
     → ((c : List ℕ) → IsRestored (word_of block 3) c → ⊥) → IsFirstLost block named
 lost_fourth block named e r0 r1 r2 none =
     first_lost block named 3 e (omega arith)
-    (below_more (HasRestored block) 2 (below_more (HasRestored block) 1 (below_more (HasRestored block) 0 (λ j h. absurd (omega arith)) r0) r1) r2) none
+    (below_more (HasRestored block) 2
+    (below_more (HasRestored block) 1 (below_more (HasRestored block) 0 (λ j h. absurd (omega arith)) r0)
+    r1) r2) none

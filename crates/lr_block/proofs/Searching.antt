@@ -1,7 +1,45 @@
 -- What is sought in a list is found: the members of lists, and the list of all words.
-use Rattle.std.proofs.Common.{◌≡◌, ℕ, zero, suc, ◌+◌, ◌<◌, ◌≤◌, ◌⊎◌, inl, inr, Bool, true, false, Some, None, List, [], ◌∷◌, ◌++◌, map, length, get_or, refl, sym, ap, subst, ◌∙◌, arith}
+use Rattle.std.proofs.Common.{
+  ◌≡◌,
+  ℕ,
+  zero,
+  suc,
+  ◌+◌,
+  ◌<◌,
+  ◌≤◌,
+  ◌⊎◌,
+  inl,
+  inr,
+  Bool,
+  true,
+  false,
+  Some,
+  None,
+  List,
+  [],
+  ◌∷◌,
+  ◌++◌,
+  map,
+  length,
+  get_or,
+  refl,
+  sym,
+  ap,
+  subst,
+  ◌∙◌,
+  arith,
+}
 use Rattle.std.specs.List.{range_with_len, flat_map, find, list_all}
-use Rattle.std.proofs.lemmas.Bool.{cases_Bool, cases_eq, cases_lt, cond-true, cond-false, and_parts, and_from, false≢true}
+use Rattle.std.proofs.lemmas.Bool.{
+  cases_Bool,
+  cases_eq,
+  cases_lt,
+  cond-true,
+  cond-false,
+  and_parts,
+  and_from,
+  false≢true,
+}
 use Rattle.lr_block.specs.Outcomes.{all_lists}
 
 -- the list has this member
@@ -37,7 +75,8 @@ from-map f (x ∷ xs) y h =
       | inr m ↦ let v = from-map f xs y m in (v.0, inr v.1, v.2)
     ]
 
-member-flat_map : {X Y : Type 0} (f : X → List Y) (xs : List X) (x : X) (y : Y) → Member xs x → Member (f x) y → Member (flat_map f xs) y
+member-flat_map : {X Y : Type 0} (f : X → List Y) (xs : List X) (x : X) (y : Y) → Member xs x → Member (f x) y
+    → Member (flat_map f xs) y
 member-flat_map f [] x y h m = elim h [ ]
 member-flat_map {X} {Y} f (z ∷ xs) x y h m =
     elim h [
@@ -45,7 +84,8 @@ member-flat_map {X} {Y} f (z ∷ xs) x y h m =
       | inr r ↦ member-right (f z) (flat_map f xs) y (member-flat_map f xs x y r m)
     ]
 
-from-flat_map : {X Y : Type 0} (f : X → List Y) (xs : List X) (y : Y) → Member (flat_map f xs) y → (x : X) × Member xs x × Member (f x) y
+from-flat_map : {X Y : Type 0} (f : X → List Y) (xs : List X) (y : Y) → Member (flat_map f xs) y
+    → (x : X) × Member xs x × Member (f x) y
 from-flat_map f [] y h = elim h [ ]
 from-flat_map f (x ∷ xs) y h =
     elim (member-append (f x) (flat_map f xs) y h) [
@@ -68,7 +108,8 @@ from-range a (suc n) k h =
 
 -- ---- tests of all members
 
-pub list_all-member : {X : Type 0} (p : X → Bool) (xs : List X) (x : X) → list_all p xs ≡ true → Member xs x → p x ≡ true
+pub list_all-member : {X : Type 0} (p : X → Bool) (xs : List X) (x : X) → list_all p xs ≡ true → Member xs x
+    → p x ≡ true
 list_all-member p [] x h m = elim m [ ]
 list_all-member {X} p (y ∷ xs) x h m =
     elim m [
@@ -76,7 +117,8 @@ list_all-member {X} p (y ∷ xs) x h m =
       | inr r ↦ list_all-member p xs x (and_parts (p y) (list_all p xs) h).1 r
     ]
 
-pub list_all-from : {X : Type 0} (p : X → Bool) (xs : List X) → ((x : X) → Member xs x → p x ≡ true) → list_all p xs ≡ true
+pub list_all-from : {X : Type 0} (p : X → Bool) (xs : List X) → ((x : X) → Member xs x → p x ≡ true)
+    → list_all p xs ≡ true
 list_all-from p [] h = refl
 list_all-from p (y ∷ xs) h = and_from (p y) (list_all p xs) (h y (inl refl)) (list_all-from p xs (λ x m. h x (inr m)))
 
@@ -103,11 +145,18 @@ cases_find {X} p (y ∷ xs) =
 -- the same of numbers in a row, of which the first that passes is found
 pub cases_first : (p : ℕ → Bool) (a n : ℕ)
     → ((find p (range_with_len a n) ≡ None) × ((k : ℕ) → a ≤ k → k < a + n → p k ≡ false))
-    ⊎ ((k : ℕ) × (find p (range_with_len a n) ≡ Some k) × (k < a + n) × (p k ≡ true) × ((j : ℕ) → a ≤ j → j < k → p j ≡ false))
+    ⊎ ((k : ℕ) × (find p (range_with_len a n) ≡ Some k) × (k < a + n) × (p k ≡ true)
+    × ((j : ℕ) → a ≤ j → j < k → p j ≡ false))
 cases_first p a zero = inl (refl, λ k l h. absurd (omega arith))
 cases_first p a (suc n) =
     elim (cases_Bool (p a)) [
-      | inl t ↦ inr (a, cond-true (p a) (Some a) (find p (range_with_len (a + 1) n)) t, omega arith, t, λ j l h. absurd (omega arith))
+      | inl t ↦ inr (
+        a,
+        cond-true (p a) (Some a) (find p (range_with_len (a + 1) n)) t,
+        omega arith,
+        t,
+        λ j l h. absurd (omega arith),
+      )
       | inr f ↦
           elim (cases_first p (a + 1) n) [
             | inl none ↦
@@ -133,7 +182,8 @@ cases_first p a (suc n) =
     ]
 
 -- the first is the only one with none before it
-pub is_first : (p : ℕ → Bool) (n k : ℕ) → k < n → p k ≡ true → ((j : ℕ) → j < k → p j ≡ false) → find p (range_with_len 0 n) ≡ Some k
+pub is_first : (p : ℕ → Bool) (n k : ℕ) → k < n → p k ≡ true → ((j : ℕ) → j < k → p j ≡ false)
+    → find p (range_with_len 0 n) ≡ Some k
 is_first p n k small here before =
     elim (cases_first p 0 n) [
       | inl none ↦ absurd (false≢true (sym (none.1 k (omega arith) (omega arith)) ∙ here))
@@ -157,7 +207,8 @@ none_is_first p n none =
 
 -- ---- all lists
 
-pub member-all_lists : (limit n : ℕ) (xs : List ℕ) → length xs ≡ n → ((i : ℕ) → i < n → get_or xs i 0 < limit) → Member (all_lists limit n) xs
+pub member-all_lists : (limit n : ℕ) (xs : List ℕ) → length xs ≡ n → ((i : ℕ) → i < n → get_or xs i 0 < limit)
+    → Member (all_lists limit n) xs
 unfolding all_lists
 member-all_lists limit zero [] e h = inl refl
 member-all_lists limit zero (x ∷ xs) e h = absurd (omega (arith, e))
@@ -165,22 +216,27 @@ member-all_lists limit (suc n) [] e h = absurd (omega (arith, e))
 member-all_lists limit (suc n) (x ∷ xs) e h =
     member-flat_map (λ rest. map (λ number. number ∷ rest) (range_with_len 0 limit)) (all_lists limit n) xs (x ∷ xs)
     (member-all_lists limit n xs (omega (arith, e)) (λ i l. h (suc i) (omega arith)))
-    (member-map (λ number. number ∷ xs) (range_with_len 0 limit) x (member-range 0 limit x (omega arith) (omega (arith, h 0 (omega arith)))))
+    (member-map (λ number. number ∷ xs) (range_with_len 0 limit) x
+    (member-range 0 limit x (omega arith) (omega (arith, h 0 (omega arith)))))
 
-pub from-all_lists : (limit n : ℕ) (xs : List ℕ) → Member (all_lists limit n) xs → (length xs ≡ n) × ((i : ℕ) → i < n → get_or xs i 0 < limit)
+pub from-all_lists : (limit n : ℕ) (xs : List ℕ) → Member (all_lists limit n) xs
+    → (length xs ≡ n) × ((i : ℕ) → i < n → get_or xs i 0 < limit)
 unfolding all_lists
-from-all_lists limit zero xs h = elim h [ inl e ↦ (ap length (sym e), λ i l. absurd (omega arith)) | inr m ↦ elim m [ ] ]
+from-all_lists limit zero xs h =
+    elim h [ inl e ↦ (ap length (sym e), λ i l. absurd (omega arith)) | inr m ↦ elim m [ ] ]
 from-all_lists limit (suc n) xs h =
     let v = from-flat_map (λ rest. map (λ number. number ∷ rest) (range_with_len 0 limit)) (all_lists limit n) xs h in
     let w = from-map (λ number. number ∷ v.0) (range_with_len 0 limit) xs v.2 in
     let rest = from-all_lists limit n v.0 v.1 in
     let small = from-range 0 limit w.0 w.1 in
-    subst (λ (ys : List ℕ). (length ys ≡ suc n) × ((i : ℕ) → i < suc n → get_or ys i 0 < limit)) w.2 (extended limit n w.0 v.0 (omega (arith, small.1)) rest.0 rest.1)
+    subst (λ (ys : List ℕ). (length ys ≡ suc n) × ((i : ℕ) → i < suc n → get_or ys i 0 < limit)) w.2
+    (extended limit n w.0 v.0 (omega (arith, small.1)) rest.0 rest.1)
   where
     extended : (limit n x : ℕ) (xs : List ℕ) → x < limit → length xs ≡ n → ((i : ℕ) → i < n → get_or xs i 0 < limit)
         → (length (x ∷ xs) ≡ suc n) × ((i : ℕ) → i < suc n → get_or (x ∷ xs) i 0 < limit)
     extended limit n x xs h e all = (ap suc e, λ i l. each limit n x xs h all i l)
       where
-        each : (limit n x : ℕ) (xs : List ℕ) → x < limit → ((i : ℕ) → i < n → get_or xs i 0 < limit) → (i : ℕ) → i < suc n → get_or (x ∷ xs) i 0 < limit
+        each : (limit n x : ℕ) (xs : List ℕ) → x < limit → ((i : ℕ) → i < n → get_or xs i 0 < limit) → (i : ℕ)
+            → i < suc n → get_or (x ∷ xs) i 0 < limit
         each limit n x xs h all zero l = h
         each limit n x xs h all (suc i) l = all i (omega arith)

@@ -1,5 +1,31 @@
 -- The randomiser's sequence: the table has its first 255 bytes, after which it begins anew.
-use Rattle.std.proofs.Common.{◌≡◌, ℕ, zero, suc, ◌+◌, ◌*◌, ◌/◌, ◌%◌, ◌<◌, Bool, true, ◌&&◌, eqb, ltb, List, [], ◌∷◌, length, get_or, refl, sym, ap, ◌∙◌, arith, add-one}
+use Rattle.std.proofs.Common.{
+  ◌≡◌,
+  ℕ,
+  zero,
+  suc,
+  ◌+◌,
+  ◌*◌,
+  ◌/◌,
+  ◌%◌,
+  ◌<◌,
+  Bool,
+  true,
+  ◌&&◌,
+  eqb,
+  ltb,
+  List,
+  [],
+  ◌∷◌,
+  length,
+  get_or,
+  refl,
+  sym,
+  ap,
+  ◌∙◌,
+  arith,
+  add-one,
+}
 use Rattle.std.specs.Int.Bits.{bit_xor, xor_assoc, xor_self, xor_zero_r}
 use Rattle.std.specs.Int.Digits.{number_from_digits}
 use Rattle.std.proofs.lemmas.Bool.{eqb-true, ltb-true, and_parts}
@@ -26,7 +52,8 @@ follows (byte ∷ bytes) a b c d e f g h =
 -- the test of the sequence's bits from a place on
 follows_from : List ℕ → ℕ → Bool
 follows_from bytes m =
-    follows bytes (sequence_bit m) (sequence_bit (suc m)) (sequence_bit (suc (suc m))) (sequence_bit (suc (suc (suc m))))
+    follows bytes (sequence_bit m) (sequence_bit (suc m)) (sequence_bit (suc (suc m)))
+    (sequence_bit (suc (suc (suc m))))
     (sequence_bit (suc (suc (suc (suc m))))) (sequence_bit (suc (suc (suc (suc (suc m))))))
     (sequence_bit (suc (suc (suc (suc (suc (suc m))))))) (sequence_bit (suc (suc (suc (suc (suc (suc (suc m))))))))
 
@@ -36,7 +63,8 @@ byte_from m =
     number_from_digits 2
     (sequence_bit m ∷ sequence_bit (suc m) ∷ sequence_bit (suc (suc m)) ∷ sequence_bit (suc (suc (suc m)))
     ∷ sequence_bit (suc (suc (suc (suc m)))) ∷ sequence_bit (suc (suc (suc (suc (suc m)))))
-    ∷ sequence_bit (suc (suc (suc (suc (suc (suc m)))))) ∷ sequence_bit (suc (suc (suc (suc (suc (suc (suc m))))))) ∷ [])
+    ∷ sequence_bit (suc (suc (suc (suc (suc (suc m))))))
+    ∷ sequence_bit (suc (suc (suc (suc (suc (suc (suc m))))))) ∷ [])
 
 byte-from : (i : ℕ) → sequence_byte i ≡ byte_from (8 * i)
 unfolding sequence_byte byte_from
@@ -54,14 +82,17 @@ follows-more : (byte : ℕ) (bytes : List ℕ) (m : ℕ) → follows_from (byte 
     → (byte ≡ byte_from m) × (follows_from bytes (suc (suc (suc (suc (suc (suc (suc (suc m)))))))) ≡ true)
 unfolding follows_from follows sequence_bit byte_from
 follows-more byte bytes m h =
-    let parts = and_parts (eqb byte (byte_from m)) (follows_from bytes (suc (suc (suc (suc (suc (suc (suc (suc m))))))))) h in
+    let parts = and_parts (eqb byte (byte_from m))
+    (follows_from bytes (suc (suc (suc (suc (suc (suc (suc (suc m))))))))) h in
     (eqb-true byte (byte_from m) parts.0, parts.1)
 
-follows-at : (bytes : List ℕ) (m : ℕ) → follows_from bytes m ≡ true → (i : ℕ) → i < length bytes → get_or bytes i 0 ≡ byte_from (m + 8 * i)
+follows-at : (bytes : List ℕ) (m : ℕ) → follows_from bytes m ≡ true → (i : ℕ) → i < length bytes
+    → get_or bytes i 0 ≡ byte_from (m + 8 * i)
 follows-at [] m h i k = absurd (omega arith)
 follows-at (byte ∷ bytes) m h zero k = (follows-more byte bytes m h).0 ∙ ap byte_from (omega arith)
 follows-at (byte ∷ bytes) m h (suc i) k =
-    follows-at bytes (suc (suc (suc (suc (suc (suc (suc (suc m)))))))) (follows-more byte bytes m h).1 i (omega arith) ∙ ap byte_from (omega arith)
+    follows-at bytes (suc (suc (suc (suc (suc (suc (suc (suc m)))))))) (follows-more byte bytes m h).1 i
+    (omega arith) ∙ ap byte_from (omega arith)
 
 -- the bits from two places on are the same
 record SameFrom (m n : ℕ) : Type 0 where
@@ -72,7 +103,8 @@ record SameFrom (m n : ℕ) : Type 0 where
   fourth : sequence_bit (suc (suc (suc (suc m)))) ≡ sequence_bit (suc (suc (suc (suc n))))
   fifth : sequence_bit (suc (suc (suc (suc (suc m))))) ≡ sequence_bit (suc (suc (suc (suc (suc n)))))
   sixth : sequence_bit (suc (suc (suc (suc (suc (suc m)))))) ≡ sequence_bit (suc (suc (suc (suc (suc (suc n))))))
-  seventh : sequence_bit (suc (suc (suc (suc (suc (suc (suc m))))))) ≡ sequence_bit (suc (suc (suc (suc (suc (suc (suc n)))))))
+  seventh : sequence_bit (suc (suc (suc (suc (suc (suc (suc m)))))))
+      ≡ sequence_bit (suc (suc (suc (suc (suc (suc (suc n)))))))
 
 same-next : (m n : ℕ) → SameFrom m n → SameFrom (suc m) (suc n)
 unfolding sequence_bit
@@ -124,7 +156,8 @@ ends_in_ones [] m h =
       seventh = eqb-true _ 1 v.1;
     })
 ends_in_ones (byte ∷ bytes) m h =
-    let e : m + 8 * length (byte ∷ bytes) ≡ suc (suc (suc (suc (suc (suc (suc (suc m))))))) + 8 * length bytes = omega arith in
+    let e : m + 8 * length (byte ∷ bytes) ≡ suc (suc (suc (suc (suc (suc (suc (suc m))))))) + 8 * length bytes =
+    omega arith in
     rw e (ends_in_ones bytes (suc (suc (suc (suc (suc (suc (suc (suc m)))))))) (follows-more byte bytes m h).1)
 
 same_bytes : (m n : ℕ) → SameFrom m n → byte_from m ≡ byte_from n
@@ -136,7 +169,8 @@ byte-round : (i : ℕ) → sequence_byte (i + 255) ≡ sequence_byte i
 byte-round i =
     let ones : SameFrom 2040 0 = ends_in_ones SEQUENCE 0 table-follows in
     let e : 8 * (i + 255) ≡ more (8 * i) 2040 = omega (arith, more-is (8 * i) 2040) in
-    byte-from (i + 255) ∙ ap byte_from e ∙ same_bytes (more (8 * i) 2040) (8 * i) (same-more (8 * i) 2040 ones) ∙ sym (byte-from i)
+    byte-from (i + 255) ∙ ap byte_from e ∙ same_bytes (more (8 * i) 2040) (8 * i) (same-more (8 * i) 2040 ones)
+    ∙ sym (byte-from i)
 
 bytes-round : (rest rounds : ℕ) → sequence_byte (rest + 255 * rounds) ≡ sequence_byte rest
 bytes-round rest zero = ap sequence_byte (omega arith)
@@ -153,7 +187,8 @@ table-is i =
 
 -- ---- randomised blocks
 
-pub get_or-randomised_block : (block : List ℕ) (i : ℕ) → i < 1020 → get_or (randomised_block block) i 0 ≡ bit_xor (get_or block i 0) (sequence_byte i)
+pub get_or-randomised_block : (block : List ℕ) (i : ℕ) → i < 1020 → get_or (randomised_block block) i 0
+    ≡ bit_xor (get_or block i 0) (sequence_byte i)
 unfolding randomised_block
 get_or-randomised_block block i h =
     get_or-map-range_with_len (λ i. bit_xor (get_or block i 0) (sequence_byte i)) 0 1020 i i 0 h (omega arith)
@@ -162,9 +197,12 @@ pub length-randomised_block : (block : List ℕ) → length (randomised_block bl
 unfolding randomised_block
 length-randomised_block block = length-map-range_with_len (λ i. bit_xor (get_or block i 0) (sequence_byte i)) 0 1020
 
-pub randomised_by_all : (block new : List ℕ) → length new ≡ 1020 → ((i : ℕ) → i < 1020 → get_or new i 0 ≡ bit_xor (get_or block i 0) (sequence_byte i)) → new ≡ randomised_block block
+pub randomised_by_all : (block new : List ℕ) → length new ≡ 1020
+    → ((i : ℕ) → i < 1020 → get_or new i 0 ≡ bit_xor (get_or block i 0) (sequence_byte i))
+    → new ≡ randomised_block block
 unfolding randomised_block
-randomised_by_all block new long all = fill_by_all (λ i. bit_xor (get_or block i 0) (sequence_byte i)) new 1020 0 long all
+randomised_by_all block new long all =
+    fill_by_all (λ i. bit_xor (get_or block i 0) (sequence_byte i)) new 1020 0 long all
 
 pub randomised_block-randomised_block : TwiceIsTheSame
 randomised_block-randomised_block block long =

@@ -1,5 +1,5 @@
--- Blocks of 1,020 bytes: four words, interleaved byte by byte (CCSDS 131.0-B, section 4, symbol interleaving at depth 4).
--- Byte k of a block is byte k / 4 of word k % 4, so byte i of word k is byte 4 i + k of the block.
+-- Blocks of 1,020 bytes: four words, interleaved byte by byte (CCSDS 131.0-B, section 4, symbol interleaving at depth
+-- 4). Byte k of a block is byte k / 4 of word k % 4, so byte i of word k is byte 4 i + k of the block.
 use Rattle.std.specs.Prelude.{◌≡◌, ◌<◌, ℕ, ◌+◌, ◌*◌, List, [], ◌∷◌, length, map, take, slice_index}
 use Rattle.std.specs.List.{range_with_len}
 use Rattle.lr_rs.specs.Words.{IsWord, IsCodeword, IsRestored, distance}

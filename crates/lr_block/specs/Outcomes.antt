@@ -1,7 +1,34 @@
 -- What becomes of a received block, said twice: by what it is, and as a function of the block. A restored word is known
 -- only by what it is; but there is at most one, and it is among the finitely many words of 255 bytes, so the function
 -- seeks it there. No program computes that function.
-use Rattle.std.specs.Prelude.{◌≡◌, ◌<◌, ◌≤◌, ◌↔◌, ℕ, zero, suc, ◌*◌, ◌/◌, ◌%◌, ◌==◌, Bool, ◌&&◌, nat_le, Option, Some, None, unwrap_or, is_none, List, [], ◌∷◌, length, map, take, slice_index}
+use Rattle.std.specs.Prelude.{
+  ◌≡◌,
+  ◌<◌,
+  ◌≤◌,
+  ◌↔◌,
+  ℕ,
+  zero,
+  suc,
+  ◌*◌,
+  ◌/◌,
+  ◌%◌,
+  ◌==◌,
+  Bool,
+  ◌&&◌,
+  nat_le,
+  Option,
+  Some,
+  None,
+  unwrap_or,
+  is_none,
+  List,
+  [],
+  ◌∷◌,
+  length,
+  map,
+  take,
+  slice_index,
+}
 use Rattle.std.specs.List.{range_with_len, flat_map, find, list_all}
 use Rattle.lr_gf.specs.Field.{power}
 use Rattle.lr_rs.specs.Words.{IsWord, IsRestored, word_value, distance}
@@ -10,8 +37,9 @@ use Rattle.lr_bits.specs.declared.outcome.Outcome.TheVariants.{Restored, Lost}
 use Rattle.lr_block.specs.Randomiser.{randomised_block}
 use Rattle.lr_block.specs.Blocks.{word_of, changes_of, IsEncoded, IsRestoredBlock, IsFirstLost}
 
--- The outcome of a block, by what it is. The randomiser's sequence is taken away. Where all four words are restored, the
--- outcome is the numbers of changed bytes and the first 892 bytes of the restored block; else the first word that isn't.
+-- The outcome of a block, by what it is. The randomiser's sequence is taken away. Where all four words are restored,
+-- the outcome is the numbers of changed bytes and the first 892 bytes of the restored block; else the first word that
+-- isn't.
 abbrev pub IsOutcome : List ℕ → Outcome → Type 0
 IsOutcome block (Restored corrected frame) =
     (restored : List ℕ)
@@ -54,7 +82,8 @@ restored_block block = map (λ place. slice_index (restored_word block (place % 
 
 -- the outcome of a block without the randomiser's sequence, where this is its first lost word
 abbrev pub outcome_at : List ℕ → Option ℕ → Outcome
-outcome_at block None = Restored (record { 0 = changes_of block (restored_block block) }) (take 892 (restored_block block))
+outcome_at block None = Restored (record { 0 = changes_of block (restored_block block) })
+    (take 892 (restored_block block))
 outcome_at block (Some k) = Lost k
 
 -- the outcome of a block
@@ -68,7 +97,8 @@ pub record IsBlock (block : List ℕ) : Type 0 where
 
 -- the law: each block has one outcome, and this is it
 abbrev pub OutcomeIsTheOne : Type 0
-OutcomeIsTheOne = (block : List ℕ) → IsBlock block → (outcome : Outcome) → IsOutcome block outcome ↔ (outcome ≡ outcome_of_block block)
+OutcomeIsTheOne = (block : List ℕ) → IsBlock block → (outcome : Outcome)
+    → IsOutcome block outcome ↔ (outcome ≡ outcome_of_block block)
 
 -- the law: an encoded frame that is received with at most sixteen wrong bytes in each word is restored
 abbrev pub SentIsReceived : Type 0

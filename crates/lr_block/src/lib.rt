@@ -5,11 +5,11 @@
 //! significant bit. Byte k of a block is byte k / 4 of word k % 4. Each word has 223 bytes of information and then 32
 //! check bytes, so the frame is the first 892 bytes of its block.
 //!
-//! `encode_block` leads from a frame to its block, without the randomiser. `derandomise` adds the randomiser's sequence
-//! or takes it away. `restore_block` restores all four words or names the first that has no codeword within sixteen
-//! bytes, and `information` is the frame of a block. `outcome_of` does all that for a block as it is received. The layers
-//! above rest on the function `outcome_of_block` of specs/Outcomes; `outcome_is_the_one` says that it is the outcome as
-//! `IsOutcome` has it, for each block the only one. Nothing here takes memory.
+//! `encode_block` leads from a frame to its block, without the randomiser. `derandomise` adds the randomiser's
+//! sequence or takes it away. `restore_block` restores all four words or names the first that has no codeword within
+//! sixteen bytes, and `information` is the frame of a block. `outcome_of` does all that for a block as it is
+//! received. The layers above rest on the function `outcome_of_block` of specs/Outcomes; `outcome_is_the_one` says
+//! that it is the outcome as `IsOutcome` has it, for each block the only one. Nothing here takes memory.
 #![tactic(auto)]
 
 mod encoding;

@@ -2,7 +2,13 @@
 #![tactic(auto)]
 
 ghost use Rattle.std.specs.Prelude.{◌≡◌};
-ghost use Rattle.lr_block.specs.Outcomes.{IsOutcome, OutcomeIsTheOne, RestoredIsFound, SentIsReceived, outcome_of_block};
+ghost use Rattle.lr_block.specs.Outcomes.{
+  IsOutcome,
+  OutcomeIsTheOne,
+  RestoredIsFound,
+  SentIsReceived,
+  outcome_of_block,
+};
 
 use crate::frames::information;
 use crate::randomiser::derandomise;

@@ -55,7 +55,8 @@ impl Sender {
         }
     }
 
-    /// The next packet. Its flags mostly fit, one count in eight is wrong, and it has the front of these bytes as its body.
+    /// The next packet. Its flags mostly fit, one count in eight is wrong, and it has the front of these bytes as its
+    /// body.
     fn next<'a>(&mut self, draw: &mut Draw, bytes: &'a [u8; 40]) -> GoodPacket<'a> {
         let flags = match (self.begun, draw.byte() % 16) {
             (true, 0..=7) => 0,

@@ -1,6 +1,7 @@
-//! Draws histories of frames for `Channels`, lists of good packets for `Files` and strings for `decode_lines`, and prints for
-//! each kind how many there were, with a checksum of what came of them. `reference/packets.py`, `reference/files.py` and
-//! `reference/lines.py` draw the same ones, and compute the same lines from the definitions alone.
+//! Draws histories of frames for `Channels`, lists of good packets for `Files` and strings for `decode_lines`, and
+//! prints for each kind how many there were, with a checksum of what came of them. `reference/packets.py`,
+//! `reference/files.py` and `reference/lines.py` draw the same ones, and compute the same lines from the definitions
+//! alone.
 #![tactic(auto)]
 
 mod draw;

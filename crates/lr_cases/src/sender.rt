@@ -12,8 +12,8 @@ const SHORTEST: u32 = 7;
 /// The pointer of a zone in which no packet starts.
 const NO_START: u16 = 2047;
 
-/// The packets of one channel, byte by byte: how long the packet is that is being sent, how many of its bytes are sent, and
-/// the counter of the channel's next frame.
+/// The packets of one channel, byte by byte: how long the packet is that is being sent, how many of its bytes are
+/// sent, and the counter of the channel's next frame.
 #[derive(Clone, Copy)]
 pub struct Sender {
     length: u32,

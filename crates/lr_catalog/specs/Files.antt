@@ -18,7 +18,8 @@ ok_line number = concat (codes "file " ∷ decimal number ∷ codes " ok\n" ∷ 
 -- a file whose checksum is wrong: the one that is stored behind its record, and the one of the record's bytes
 unfoldable pub bad_line : ℕ → ℕ → ℕ → List ℕ
 bad_line number stored computed = concat (
-    codes "file " ∷ decimal number ∷ codes " bad stored " ∷ hex_word stored ∷ codes " computed " ∷ hex_word computed ∷ codes "\n" ∷ [])
+    codes "file " ∷ decimal number ∷ codes " bad stored " ∷ hex_word stored ∷ codes " computed "
+    ∷ hex_word computed ∷ codes "\n" ∷ [])
 
 abbrev pub check_line : ℕ → Option (ℕ × ℕ) → List ℕ
 check_line number None = ok_line number

@@ -48,8 +48,8 @@ fn bad_line(alloc: Global, number: u64, stored: u16, computed: u16) -> Result<St
     format!(in alloc; "file {number} bad stored {stored} computed {computed}\n")
 }
 
-/// Appends the line of a file whose checksum was compared, or nothing. A file whose checksum is wrong comes with the stored
-/// one and the computed one. Numbers count from 0.
+/// Appends the line of a file whose checksum was compared, or nothing. A file whose checksum is wrong comes with the
+/// stored one and the computed one. Numbers count from 0.
 pub fn check_line(
     alloc: Global,
     number: u64,

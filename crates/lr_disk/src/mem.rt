@@ -51,7 +51,19 @@ fn count_fault(faults: &mut u64)
 impl MemDisk {
     ghost use Rattle.std.specs.Prelude.{◌≡◌, ◌+◌, ◌<◌, ◌≤◌, ◌⊎◌, Some, None, MatchBool, IfOk, min};
     ghost use Rattle.lr_disk.specs.Disk.{Only};
-    ghost use Rattle.lr_disk.specs.MemDisk.{held_by, images_by, calls_made, calls_allowed, bytes_written, room_of, faults_of, failing_call, IsRefused, FailsCall, States};
+    ghost use Rattle.lr_disk.specs.MemDisk.{
+      held_by,
+      images_by,
+      calls_made,
+      calls_allowed,
+      bytes_written,
+      room_of,
+      faults_of,
+      failing_call,
+      IsRefused,
+      FailsCall,
+      States,
+    };
     ghost use Rattle.lr_disk.specs.Stop.{IsLeftInside, StopsInside};
 
     /// A disk with these bytes, on which nothing is pending. It takes all memory that its calls will need.
@@ -145,11 +157,48 @@ impl MemDisk {
 }
 
 impl Disk for MemDisk {
-    ghost use Rattle.std.specs.Prelude.{◌≡◌, ◌↔◌, ◌⊎◌, ◌<◌, ◌≤◌, ◌+◌, ◌-◌, min, length, take, IfOk, OnOk, OnErr, IsErr, is_ok, if◌then◌else◌};
+    ghost use Rattle.std.specs.Prelude.{
+      ◌≡◌,
+      ◌↔◌,
+      ◌⊎◌,
+      ◌<◌,
+      ◌≤◌,
+      ◌+◌,
+      ◌-◌,
+      min,
+      length,
+      take,
+      IfOk,
+      OnOk,
+      OnErr,
+      IsErr,
+      is_ok,
+      if◌then◌else◌,
+    };
     ghost use Rattle.lr_bits.specs.Faults.{HasCause};
-    ghost use Rattle.lr_disk.specs.Disk.{Written, Torn, Cut, bytes_at, Follows, SameImages, KeepsImages, NoOther, Only, Elapses};
+    ghost use Rattle.lr_disk.specs.Disk.{
+      Written,
+      Torn,
+      Cut,
+      bytes_at,
+      Follows,
+      SameImages,
+      KeepsImages,
+      NoOther,
+      Only,
+      Elapses,
+    };
     ghost use Rattle.lr_disk.specs.Mem.{leaves_its_contents, counts_this_moment, only_this_moment};
-    ghost use Rattle.lr_disk.specs.MemDisk.{held_by, images_by, left_since as left_by, calls_made, faults_of, IsRefused, IsPastRoom, CountsCall};
+    ghost use Rattle.lr_disk.specs.MemDisk.{
+      held_by,
+      images_by,
+      left_since as left_by,
+      calls_made,
+      faults_of,
+      IsRefused,
+      IsPastRoom,
+      CountsCall,
+    };
 
     ghost faults = { faults_of };
 

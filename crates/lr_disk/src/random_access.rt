@@ -1,6 +1,17 @@
 //! Files that are read and written at places, as the system's open files are: what a disk needs of one.
 ghost use Rattle.std.specs.Prelude.{◌≡◌, ◌⊎◌, ◌<◌, ◌≤◌, ◌+◌, List, ℕ, min, length, take, IfOk, OnOk, OnErr};
-ghost use Rattle.lr_disk.specs.Disk.{Written, Torn, Cut, bytes_at, Follows, SameImages, KeepsImages, NoOther, Only, Elapses};
+ghost use Rattle.lr_disk.specs.Disk.{
+  Written,
+  Torn,
+  Cut,
+  bytes_at,
+  Follows,
+  SameImages,
+  KeepsImages,
+  NoOther,
+  Only,
+  Elapses,
+};
 
 use std::fs::File;
 use std::io;

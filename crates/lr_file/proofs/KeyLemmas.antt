@@ -58,7 +58,8 @@ same_key n m k l h =
 
 kept_none : {V : Type 0} (files : List ((ℕ × ℕ) × V)) (packet : Good) (vc apid : ℕ) (own : Bool) →
     (eqb packet.vc vc && eqb packet.apid apid) ≡ own →
-    kept_of_key files packet.vc packet.apid ≡ None → kept_of_key files vc apid ≡ cond own None (kept_of_key files vc apid)
+    kept_of_key files packet.vc packet.apid ≡ None → kept_of_key files vc apid
+    ≡ cond own None (kept_of_key files vc apid)
 kept_none files packet vc apid true e none =
     let same = same_key packet.vc vc packet.apid apid e in
     sym (λ i. kept_of_key files (same.0 i) (same.1 i)) ∙ none

@@ -30,7 +30,8 @@ fn open_first(alloc: Global, files: &mut OpenFiles, packet: &GoodPacket) -> Resu
 
 /// Goes on with the open file, or drops it where the packet doesn't follow.
 fn go_on(files: &mut OpenFiles, packet: &GoodPacket) -> Result<(), NoMemory>
-    ensures succeeds { continued_file (kept_of_key files.old.entries packet.now.vc packet.now.apid) (good packet.now) ≡ None →
+    ensures succeeds { continued_file (kept_of_key files.old.entries packet.now.vc packet.now.apid)
+        (good packet.now) ≡ None →
         IsOk result }
     ensures file { OnOk result (SetsKey files.old.entries files.new.entries (good packet.now)
         (continued_file (kept_of_key files.old.entries packet.now.vc packet.now.apid) (good packet.now))) }
@@ -48,7 +49,8 @@ fn go_on(files: &mut OpenFiles, packet: &GoodPacket) -> Result<(), NoMemory>
 
 /// Takes the open file out, and ends it with its last packet, where that follows.
 fn end(files: &mut OpenFiles, packet: &GoodPacket) -> Result<Option<MissionFile>, NoMemory>
-    ensures succeeds { continued_file (kept_of_key files.old.entries packet.now.vc packet.now.apid) (good packet.now) ≡ None →
+    ensures succeeds { continued_file (kept_of_key files.old.entries packet.now.vc packet.now.apid)
+        (good packet.now) ≡ None →
         IsOk result }
     ensures files { SetsKey files.old.entries files.new.entries (good packet.now) None }
     ensures file { IfOk result (IsFileOf (good packet.now)
@@ -85,8 +87,10 @@ fn join(
     files: &mut OpenFiles,
     packet: &GoodPacket,
 ) -> Result<Option<MissionFile>, NoMemory>
-    ensures succeeds { next_open (kept_of_key files.old.entries packet.now.vc packet.now.apid) (good packet.now) ≡ None →
-        completed_file (kept_of_key files.old.entries packet.now.vc packet.now.apid) (good packet.now) ≡ None → IsOk result }
+    ensures succeeds { next_open (kept_of_key files.old.entries packet.now.vc packet.now.apid) (good packet.now)
+        ≡ None →
+        completed_file (kept_of_key files.old.entries packet.now.vc packet.now.apid) (good packet.now) ≡ None
+        → IsOk result }
     ensures files { OnOk result (SetsKey files.old.entries files.new.entries (good packet.now)
         (next_open (kept_of_key files.old.entries packet.now.vc packet.now.apid) (good packet.now))) }
     ensures file { IfOk result (IsFileOf (good packet.now)

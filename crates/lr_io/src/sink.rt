@@ -156,7 +156,27 @@ impl MemSink {
 }
 
 impl Sink for MemSink {
-    ghost use Rattle.std.specs.Prelude.{◌≡◌, ◌↔◌, ◌⊎◌, ◌≤◌, ◌<◌, ◌-◌, ◌++◌, Contains, length, min, take, IfOk, OnErr, IsErr, if◌then◌else◌, is_err, filter, not, ◌==◌};
+    ghost use Rattle.std.specs.Prelude.{
+      ◌≡◌,
+      ◌↔◌,
+      ◌⊎◌,
+      ◌≤◌,
+      ◌<◌,
+      ◌-◌,
+      ◌++◌,
+      Contains,
+      length,
+      min,
+      take,
+      IfOk,
+      OnErr,
+      IsErr,
+      if◌then◌else◌,
+      is_err,
+      filter,
+      not,
+      ◌==◌,
+    };
     ghost use Rattle.lr_bits.specs.Faults.{HasCause};
     ghost use Rattle.lr_io.specs.Places.{MovesMost};
     ghost use Rattle.lr_io.specs.MemSink.{held_by, room_of, faults_of, failing_places};

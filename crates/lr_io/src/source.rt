@@ -106,7 +106,27 @@ impl MemSource {
 }
 
 impl Source for MemSource {
-    ghost use Rattle.std.specs.Prelude.{◌≡◌, ◌↔◌, ◌+◌, ◌≤◌, ◌<◌, ◌++◌, Contains, length, min, take, IfOk, OnErr, IsErr, [], if◌then◌else◌, is_err, filter, not, ◌==◌};
+    ghost use Rattle.std.specs.Prelude.{
+      ◌≡◌,
+      ◌↔◌,
+      ◌+◌,
+      ◌≤◌,
+      ◌<◌,
+      ◌++◌,
+      Contains,
+      length,
+      min,
+      take,
+      IfOk,
+      OnErr,
+      IsErr,
+      [],
+      if◌then◌else◌,
+      is_err,
+      filter,
+      not,
+      ◌==◌,
+    };
     ghost use Rattle.lr_bits.specs.Faults.{HasCause};
     ghost use Rattle.lr_io.specs.Places.{MovesMost};
     ghost use Rattle.lr_io.specs.MemSource.{moved, left_of, cut_places, faults_of, failing_places, stopping_places};

@@ -1,5 +1,20 @@
 -- The packets and files of the first outcomes are the first ones.
-use Rattle.std.proofs.Common.{◌≡◌, List, [], ◌∷◌, ◌++◌, length, map, ap, ◌∙◌, sym, refl, subst, append-nil, append_assoc}
+use Rattle.std.proofs.Common.{
+  ◌≡◌,
+  List,
+  [],
+  ◌∷◌,
+  ◌++◌,
+  length,
+  map,
+  ap,
+  ◌∙◌,
+  sym,
+  refl,
+  subst,
+  append-nil,
+  append_assoc,
+}
 use Rattle.std.proofs.lemmas.List.Elements.{filter_map-append, All-take}
 use Rattle.std.proofs.Math.Seq.{take-append_seam}
 use Rattle.lr_bits.specs.declared.outcome.Outcome.{Outcome}
@@ -29,7 +44,8 @@ first_frames outcomes later frames =
     (subst (λ (l : List Fields). AreFrames l) (frames_of_outcomes-append outcomes later) frames))
 
 more_packets : (outcomes later : List Outcome) → AreFrames (frames_of_outcomes (outcomes ++ later)) →
-    (more : _) × (packets_of (frames_of_outcomes (outcomes ++ later)) ≡ packets_of (frames_of_outcomes outcomes) ++ more)
+    (more : _) × (packets_of (frames_of_outcomes (outcomes ++ later)) ≡ packets_of (frames_of_outcomes outcomes)
+    ++ more)
 more_packets outcomes later frames =
     let split = frames_of_outcomes-append outcomes later in
     let packets = packets_of-append (frames_of_outcomes outcomes) (frames_of_outcomes later)

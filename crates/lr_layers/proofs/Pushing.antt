@@ -177,9 +177,11 @@ stands_for_none kept unspent channels files starts corrected none = record {
 
 module _ (outcomes : List Outcome) (outcome : Outcome) (ending : List Good)
     (good : good_of_outcomes (outcomes ++ outcome ∷ []) ≡ good_of_outcomes outcomes ++ ending) where
-  pub placed_now : placed_packets (outcomes ++ outcome ∷ []) ≡ placed_packets outcomes ++ at_place (length outcomes) ending
+  pub placed_now : placed_packets (outcomes ++ outcome ∷ []) ≡ placed_packets outcomes
+      ++ at_place (length outcomes) ending
   placed_now = placed_packets-more outcomes outcome
-      ∙ ap (λ l. placed_packets outcomes ++ at_place (length outcomes) l) (packets_ending-are outcomes outcome ending good)
+      ∙ ap (λ l. placed_packets outcomes ++ at_place (length outcomes) l)
+      (packets_ending-are outcomes outcome ending good)
 
   pub packets_now : map packet_of (placed_packets outcomes) ≡ good_of_outcomes outcomes →
       map packet_of (placed_packets (outcomes ++ outcome ∷ [])) ≡ good_of_outcomes (outcomes ++ outcome ∷ [])
@@ -231,7 +233,8 @@ module _ (outcomes : List Outcome) (outcome : Outcome) (old new : Kept) (stood :
     files = subst (λ (l : List Good). FilesStandFor new.files l) packets_are
         (subst (λ (l : List PlacedPacket). FilesStandFor new.files (map packet_of l))
         (sym (placed_now outcomes outcome ending good)) joins.files_stand);
-    starts = subst (λ (l : List PlacedPacket). StartsStandFor (outcomes ++ outcome ∷ []) new.starts l) (sym (placed_now outcomes outcome ending good))
+    starts = subst (λ (l : List PlacedPacket). StartsStandFor (outcomes ++ outcome ∷ []) new.starts l)
+        (sym (placed_now outcomes outcome ending good))
         joins.starts_stand;
     packets = packets_are;
     corrected = corrected ∙ ap (λ n. n + corrected_in outcome) stood.corrected
@@ -312,7 +315,8 @@ now_is outcomes outcome old now stood place before after =
       record {
         before = before ∙ stood.corrected ∙ sym (corrected_before-same outcomes outcome n (omega arith))
             ∙ ap (corrected_before all) (sym at);
-        after = after ∙ ap (λ k. k + corrected_in outcome) stood.corrected ∙ sym (corrected_before-more outcomes outcome)
+        after = after ∙ ap (λ k. k + corrected_in outcome) stood.corrected
+            ∙ sym (corrected_before-more outcomes outcome)
             ∙ ap (λ k. corrected_before all (k + 1)) (sym at);
       },
       at,

@@ -23,7 +23,8 @@ fn push_packet(
 ) -> Result<bool, NoMemory>
     ensures joins { (outcomes : List Outcome') (before : List PlacedPacket) → StandsFor files.old (map packet_of before)
         → StartsStandFor outcomes starts.old before → IsNow outcomes now
-        → OnOk result (Joins outcomes before (at_place now.start.place (good_packets (raw.now ∷ []))) files.new starts.new
+        → OnOk result (Joins outcomes before (at_place now.start.place (good_packets (raw.now ∷ []))) files.new
+        starts.new
         out.old.items out.new.items) }
     ensures good { IfOk result (λ good. (if good then 1 else 0) ≡ length (good_packets (raw.now ∷ []))) }
     ensures few { IfOk result (λ good. length out.new.items ≤ length out.old.items + (if good then 1 else 0)) }

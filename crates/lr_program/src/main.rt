@@ -33,8 +33,8 @@ fn all_words(rt: &HostRuntime) -> Result<Vec<String>, Cause> {
     Ok(words)
 }
 
-/// Takes three descriptors, among them those of the standard streams that were closed. Nothing opened while these are held
-/// is taken for such a stream, and the stream fails, since a directory is neither read nor written as bytes.
+/// Takes three descriptors, among them those of the standard streams that were closed. Nothing opened while these are
+/// held is taken for such a stream, and the stream fails, since a directory is neither read nor written as bytes.
 fn fill_streams(rt: &HostRuntime) -> [io::Result<File>; 3] {
     [fs::open(rt, "/"), fs::open(rt, "/"), fs::open(rt, "/")]
 }

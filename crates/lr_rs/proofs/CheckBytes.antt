@@ -1,5 +1,27 @@
 -- The check bytes make a codeword of the information, and only they do.
-use Rattle.std.proofs.Common.{◌≡◌, ◌≢◌, ℕ, ◌+◌, ◌-◌, ◌<◌, ◌≤◌, List, length, get_or, slice_index, slice_set, take, refl, sym, ap, ◌∙◌, subst, arith, inl, inr}
+use Rattle.std.proofs.Common.{
+  ◌≡◌,
+  ◌≢◌,
+  ℕ,
+  ◌+◌,
+  ◌-◌,
+  ◌<◌,
+  ◌≤◌,
+  List,
+  length,
+  get_or,
+  slice_index,
+  slice_set,
+  take,
+  refl,
+  sym,
+  ap,
+  ◌∙◌,
+  subst,
+  arith,
+  inl,
+  inr,
+}
 use Rattle.std.proofs.lemmas.Bool.{cases_eq, cases_lt}
 use Rattle.std.specs.Int.Bits.{bit_xor, xor_assoc, xor_self, xor_zero_r}
 use Rattle.std.proofs.lemmas.List.{get_or-take, get_or-set_same, get_or-set_other, same_lists, get_or_default}
@@ -31,19 +53,25 @@ value_of_check : (plain word check : List ℕ) (x : ℕ) → length check ≡ 32
     → bit_xor (word_value word x) (word_value plain x) ≡ value_of check x
 unfolding word_value
 value_of_check plain word check x h a =
-    sym (sum_of-add 255 (λ i. times (conventional_of (slice_index word i)) (power x (254 - i))) (λ i. times (conventional_of (slice_index plain i)) (power x (254 - i))))
-    ∙ sum_of-same 255 (λ i. bit_xor (times (conventional_of (slice_index word i)) (power x (254 - i))) (times (conventional_of (slice_index plain i)) (power x (254 - i))))
+    sym (sum_of-add 255 (λ i. times (conventional_of (slice_index word i)) (power x (254 - i)))
+    (λ i. times (conventional_of (slice_index plain i)) (power x (254 - i))))
+    ∙ sum_of-same 255 (λ i. bit_xor (times (conventional_of (slice_index word i)) (power x (254 - i)))
+    (times (conventional_of (slice_index plain i)) (power x (254 - i))))
     (λ i. times (difference word plain i) (power x (254 - i)))
-    (λ i l. sym (times-add-left (conventional_of (slice_index word i)) (conventional_of (slice_index plain i)) (power x (254 - i))))
+    (λ i l. sym (times-add-left (conventional_of (slice_index word i)) (conventional_of (slice_index plain i))
+    (power x (254 - i))))
     ∙ sum_of-skip 223 32 (λ i. times (difference word plain i) (power x (254 - i)))
     (λ i l. ap (λ z. times z (power x (254 - i)))
-    (ap (λ z. bit_xor (conventional_of z) (conventional_of (slice_index plain i))) (a.kept i l) ∙ xor_self (conventional_of (slice_index plain i)))
+    (ap (λ z. bit_xor (conventional_of z) (conventional_of (slice_index plain i))) (a.kept i l)
+    ∙ xor_self (conventional_of (slice_index plain i)))
     ∙ times-zero-left (power x (254 - i)))
-    ∙ sum_of-same 32 (λ k. times (difference word plain (223 + k)) (power x (254 - (223 + k)))) (λ k. times (get_or check k 0) (power x (31 - k)))
+    ∙ sum_of-same 32 (λ k. times (difference word plain (223 + k)) (power x (254 - (223 + k))))
+    (λ k. times (get_or check k 0) (power x (31 - k)))
     (λ k l.
     let exponent : 254 - (223 + k) ≡ 31 - k = omega arith in
     ap (λ z. times z (power x (254 - (223 + k))))
-    (ap (λ z. bit_xor (conventional_of (slice_index word (223 + k))) (conventional_of z)) (a.zeros (223 + k) (omega arith))
+    (ap (λ z. bit_xor (conventional_of (slice_index word (223 + k))) (conventional_of z))
+    (a.zeros (223 + k) (omega arith))
     ∙ ap (bit_xor (conventional_of (slice_index word (223 + k)))) conventional-zero
     ∙ xor_zero_r (conventional_of (slice_index word (223 + k))) ∙ a.check k l)
     ∙ ap (λ n. times (get_or check k 0) (power x n)) exponent)
@@ -52,16 +80,19 @@ value_of_check plain word check x h a =
 -- a + b = b only at a = 0
 only_zero : (a b : ℕ) → bit_xor a b ≡ b → a ≡ 0
 only_zero a b e =
-    sym (xor_zero_r a) ∙ ap (bit_xor a) (sym (xor_self b)) ∙ sym (xor_assoc a b b) ∙ ap (λ z. bit_xor z b) e ∙ xor_self b
+    sym (xor_zero_r a) ∙ ap (bit_xor a) (sym (xor_self b)) ∙ sym (xor_assoc a b b) ∙ ap (λ z. bit_xor z b) e
+    ∙ xor_self b
 
-pub encoded_is_codeword : (plain word check : List ℕ) → IsRemainder plain check → AddsCheck plain word check → IsCodeword word
+pub encoded_is_codeword : (plain word check : List ℕ) → IsRemainder plain check → AddsCheck plain word check
+    → IsCodeword word
 encoded_is_codeword plain word check r a =
     codeword_from_values word (λ j h. only_zero (word_value word (root_at j)) (word_value plain (root_at j))
     (value_of_check plain word check (root_at j) r.long a
     ∙ ap (value_of check) (root_at-is j) ∙ r.same j h ∙ ap (word_value plain) (sym (root_at-is j))))
 
 -- two codewords with the same information are the same
-pub encoded_is_only : (a b : List ℕ) → IsWord a → IsWord b → IsCodeword a → IsCodeword b → take 223 a ≡ take 223 b → a ≡ b
+pub encoded_is_only : (a b : List ℕ) → IsWord a → IsWord b → IsCodeword a → IsCodeword b
+    → take 223 a ≡ take 223 b → a ≡ b
 encoded_is_only a b p q f g e =
     same_codewords a b p q f g
     (weight-skip 223 32 (difference a b)
@@ -76,11 +107,13 @@ pub begins_with : (information word : List ℕ) → length information ≡ 223 �
 begins_with information word h k same =
     let long : length (take 223 word) ≡ 223 = simp length-take (omega (arith, k)) in
     same_lists (take 223 word) information (long ∙ sym h) (λ i d l.
-    get_or-take 223 word i d (omega (arith, long)) ∙ get_or_default word i d 0 (omega (arith, long)) ∙ same i (omega (arith, long))
+    get_or-take 223 word i d (omega (arith, long)) ∙ get_or_default word i d 0 (omega (arith, long))
+    ∙ same i (omega (arith, long))
     ∙ get_or_default information i 0 d (omega (arith, long)))
 
 pub encoded_is_word : (information word : List ℕ) → length word ≡ 255 → ((i : ℕ) → get_or information i 0 < 256)
-    → ((i : ℕ) → i < 223 → slice_index word i ≡ slice_index information i) → ((k : ℕ) → k < 32 → slice_index word (223 + k) < 256) → IsWord word
+    → ((i : ℕ) → i < 223 → slice_index word i ≡ slice_index information i)
+    → ((k : ℕ) → k < 32 → slice_index word (223 + k) < 256) → IsWord word
 encoded_is_word information word h fits same bytes = record {
   long = h;
   bytes = λ i l.
@@ -93,13 +126,15 @@ encoded_is_word information word h fits same bytes = record {
 }
 
 -- one more check byte is written
-pub check_more : (old now check : List ℕ) (k v : ℕ) → length now ≡ 255 → k < 32 → v < 256 → conventional_of v ≡ get_or check k 0
+pub check_more : (old now check : List ℕ) (k v : ℕ) → length now ≡ 255 → k < 32 → v < 256
+    → conventional_of v ≡ get_or check k 0
     → ((i : ℕ) → i < 223 → get_or now i 0 ≡ get_or old i 0)
     → ((j : ℕ) → j < k → conventional_of (get_or now (223 + j) 0) ≡ get_or check j 0)
     → ((j : ℕ) → j < k → get_or now (223 + j) 0 < 256)
     → ((i : ℕ) → i < 223 → get_or (slice_set now (223 + k) v) i 0 ≡ get_or old i 0)
     × ((j : ℕ) → j < k + 1 → conventional_of (get_or (slice_set now (223 + k) v) (223 + j) 0) ≡ get_or check j 0)
-    × ((j : ℕ) → j < k + 1 → get_or (slice_set now (223 + k) v) (223 + j) 0 < 256) × (length (slice_set now (223 + k) v) ≡ 255)
+    × ((j : ℕ) → j < k + 1 → get_or (slice_set now (223 + k) v) (223 + j) 0 < 256)
+    × (length (slice_set now (223 + k) v) ≡ 255)
 check_more old now check k v long hk small is kept done fits =
     let here : get_or (slice_set now (223 + k) v) (223 + k) 0 ≡ v = get_or-set_same now (223 + k) v 0 (omega arith) in
     let other : (j : ℕ) → j ≢ k → get_or (slice_set now (223 + k) v) (223 + j) 0 ≡ get_or now (223 + j) 0 =

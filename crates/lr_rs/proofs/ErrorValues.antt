@@ -24,30 +24,37 @@ syndromes_of_difference w c h j k =
 
 -- sums over the roots are the values
 sums_at_roots : (cs ps : List ℕ) (count j : ℕ) (e s : ℕ → ℕ) → IsRootList cs 255 count ps
-    → ((p : ℕ) → p < 255 → value_of cs (locator p) ≢ 0 → e p ≡ 0) → s j ≡ sum_of 255 (λ p. times (e p) (power (locator p) (112 + j)))
+    → ((p : ℕ) → p < 255 → value_of cs (locator p) ≢ 0 → e p ≡ 0)
+    → s j ≡ sum_of 255 (λ p. times (e p) (power (locator p) (112 + j)))
     → sum_of count (λ l. times (e (get_or ps l 0)) (power (locator (get_or ps l 0)) (112 + j))) ≡ s j
 sums_at_roots cs ps count j e s r none is =
     sym (r.sums (λ p. times (e p) (power (locator p) (112 + j)))
-    (λ p h ne. ap (λ z. times z (power (locator p) (112 + j))) (none p h ne) ∙ times-zero-left (power (locator p) (112 + j))))
+    (λ p h ne. ap (λ z. times z (power (locator p) (112 + j))) (none p h ne)
+    ∙ times-zero-left (power (locator p) (112 + j))))
     ∙ sym is
 
 -- the error values are a solution
-pub error_values_solve : (cs ps : List ℕ) (count : ℕ) (e s : ℕ → ℕ) (m : ℕ → ℕ → ℕ) → count ≤ 16 → IsRootList cs 255 count ps
+pub error_values_solve : (cs ps : List ℕ) (count : ℕ) (e s : ℕ → ℕ) (m : ℕ → ℕ → ℕ) → count ≤ 16
+    → IsRootList cs 255 count ps
     → ((p : ℕ) → p < 255 → value_of cs (locator p) ≢ 0 → e p ≡ 0)
     → ((j : ℕ) → j < 32 → s j ≡ sum_of 255 (λ p. times (e p) (power (locator p) (112 + j))))
     → HasEquations count ps s m → IsSolution count m (λ l. e (get_or ps l 0))
 error_values_solve cs ps count e s m few r none is q = record {
   solves = λ j h.
-      sum_of-same count (λ l. times (m j l) (e (get_or ps l 0))) (λ l. times (e (get_or ps l 0)) (power (locator (get_or ps l 0)) (112 + j)))
-      (λ l k. ap (λ z. times z (e (get_or ps l 0))) (q.left j l h k) ∙ commute (power (locator (get_or ps l 0)) (112 + j)) (e (get_or ps l 0)))
+      sum_of-same count (λ l. times (m j l) (e (get_or ps l 0)))
+      (λ l. times (e (get_or ps l 0)) (power (locator (get_or ps l 0)) (112 + j)))
+      (λ l k. ap (λ z. times z (e (get_or ps l 0))) (q.left j l h k)
+      ∙ commute (power (locator (get_or ps l 0)) (112 + j)) (e (get_or ps l 0)))
       ∙ sums_at_roots cs ps count j e s r none (is j (omega arith)) ∙ sym (q.right j h);
 }
 
 -- and the only one
-pub solution_is_error_values : (cs ps : List ℕ) (count : ℕ) (e s y : ℕ → ℕ) (m : ℕ → ℕ → ℕ) → count ≤ 16 → IsRootList cs 255 count ps
+pub solution_is_error_values : (cs ps : List ℕ) (count : ℕ) (e s y : ℕ → ℕ) (m : ℕ → ℕ → ℕ) → count ≤ 16
+    → IsRootList cs 255 count ps
     → ((p : ℕ) → p < 255 → value_of cs (locator p) ≢ 0 → e p ≡ 0)
     → ((j : ℕ) → j < 32 → s j ≡ sum_of 255 (λ p. times (e p) (power (locator p) (112 + j))))
-    → HasEquations count ps s m → ((p : ℕ) → p < 255 → e p < 256) → ((l : ℕ) → l < count → y l < 256) → IsSolution count m y
+    → HasEquations count ps s m → ((p : ℕ) → p < 255 → e p < 256) → ((l : ℕ) → l < count → y l < 256)
+    → IsSolution count m y
     → (l : ℕ) → l < count → y l ≡ e (get_or ps l 0)
 solution_is_error_values cs ps count e s y m few r none is q bytes small sol l h =
     same_from_sum (y l) (e (get_or ps l 0))
@@ -55,15 +62,18 @@ solution_is_error_values cs ps count e s y m few r none is q bytes small sol l h
     (record {
       below = λ i k. locators.below (get_or ps i 0) (r.below_limit i k);
       nonzero = λ i k. locators.nonzero (get_or ps i 0) (r.below_limit i k);
-      different = λ i j a b u. r.different i j a b (locators.different (get_or ps i 0) (get_or ps j 0) (r.below_limit i a) (r.below_limit j b) u);
+      different = λ i j a b u. r.different i j a b
+          (locators.different (get_or ps i 0) (get_or ps j 0) (r.below_limit i a) (r.below_limit j b) u);
     })
     (λ i k. xor_lt 8 (y i) (e (get_or ps i 0)) (small i k) (bytes (get_or ps i 0) (r.below_limit i k)))
     (weight-le-all count (λ l. bit_xor (y l) (e (get_or ps l 0))))
     (λ j k.
     sum_of-same count (λ l. times (bit_xor (y l) (e (get_or ps l 0))) (power (locator (get_or ps l 0)) (112 + j)))
-    (λ l. bit_xor (times (y l) (power (locator (get_or ps l 0)) (112 + j))) (times (e (get_or ps l 0)) (power (locator (get_or ps l 0)) (112 + j))))
+    (λ l. bit_xor (times (y l) (power (locator (get_or ps l 0)) (112 + j)))
+    (times (e (get_or ps l 0)) (power (locator (get_or ps l 0)) (112 + j))))
     (λ i t. times-add-left (y i) (e (get_or ps i 0)) (power (locator (get_or ps i 0)) (112 + j)))
-    ∙ sum_of-add count (λ l. times (y l) (power (locator (get_or ps l 0)) (112 + j))) (λ l. times (e (get_or ps l 0)) (power (locator (get_or ps l 0)) (112 + j)))
+    ∙ sum_of-add count (λ l. times (y l) (power (locator (get_or ps l 0)) (112 + j)))
+    (λ l. times (e (get_or ps l 0)) (power (locator (get_or ps l 0)) (112 + j)))
     ∙ ap (λ z. bit_xor z (sum_of count (λ l. times (e (get_or ps l 0)) (power (locator (get_or ps l 0)) (112 + j)))))
     (sum_of-same count (λ l. times (y l) (power (locator (get_or ps l 0)) (112 + j))) (λ l. times (m j l) (y l))
     (λ i t. commute (y i) (power (locator (get_or ps i 0)) (112 + j)) ∙ ap (λ z. times z (y i)) (sym (q.left j i k t)))

@@ -1,5 +1,29 @@
 -- Where a codeword lies within sixteen places of a word: what each step of restoring finds.
-use Rattle.std.proofs.Common.{◌≡◌, ◌≢◌, ℕ, zero, suc, refl, ◌+◌, ◌-◌, ◌*◌, ◌<◌, ◌≤◌, List, [], ◌∷◌, length, get_or, slice_index, sym, ap, ◌∙◌, arith, inl, inr}
+use Rattle.std.proofs.Common.{
+  ◌≡◌,
+  ◌≢◌,
+  ℕ,
+  zero,
+  suc,
+  refl,
+  ◌+◌,
+  ◌-◌,
+  ◌*◌,
+  ◌<◌,
+  ◌≤◌,
+  List,
+  [],
+  ◌∷◌,
+  length,
+  get_or,
+  slice_index,
+  sym,
+  ap,
+  ◌∙◌,
+  arith,
+  inl,
+  inr,
+}
 use Rattle.std.specs.Int.Bits.{bit_xor, xor_lt}
 use Rattle.std.proofs.lemmas.Bool.{cases_eq}
 use Rattle.lr_gf.specs.Dual.{conventional_of}
@@ -19,10 +43,12 @@ use Rattle.lr_rs.proofs.Correcting.{corrected_is}
 value-lt : (cs : List ℕ) (x : ℕ) → value_of cs x < 256
 unfolding value_of
 value-lt [] x = omega arith
-value-lt (c ∷ cs) x = xor_lt 8 (times c (power x (length cs))) (value_of cs x) (below c (power x (length cs))) (value-lt cs x)
+value-lt (c ∷ cs) x = xor_lt 8 (times c (power x (length cs))) (value_of cs x) (below c (power x (length cs)))
+    (value-lt cs x)
 
 difference-lt : (a b : List ℕ) (p : ℕ) → difference a b p < 256
-difference-lt a b p = xor_lt 8 (conventional_of (slice_index a p)) (conventional_of (slice_index b p)) (conventional-lt (slice_index a p)) (conventional-lt (slice_index b p))
+difference-lt a b p = xor_lt 8 (conventional_of (slice_index a p)) (conventional_of (slice_index b p))
+    (conventional-lt (slice_index a p)) (conventional-lt (slice_index b p))
 
 -- what the code knows when it has the roots
 pub record Found (w cs ps : List ℕ) (count : ℕ) (s : ℕ → ℕ) (key : ℕ → ℕ → ℕ) : Type 0 where
@@ -38,7 +64,8 @@ off_roots : (w c cs ps : List ℕ) (count : ℕ) (s : ℕ → ℕ) (key : ℕ �
 off_roots w c cs ps count s key f r p h ne =
     elim (cases_eq (difference w c p) 0) [
       | inl e ↦ e
-      | inr differs ↦ absurd (ne (error_is_root cs (difference w c) s f.long (λ q k. value-lt cs (locator q)) (λ q k. difference-lt w c q)
+      | inr differs ↦ absurd (ne (error_is_root cs (difference w c) s f.long (λ q k. value-lt cs (locator q))
+          (λ q k. difference-lt w c q)
           (omega (arith, weight-distance 255 w c, r.near))
           (λ j k. f.values j k ∙ syndromes_of_difference w c r.is_codeword j k)
           (λ i hi.
@@ -48,20 +75,26 @@ off_roots w c cs ps count s key f r p h ne =
           p h differs))
     ]
 
-pub there_is_a_solution : (w c cs ps : List ℕ) (count : ℕ) (s : ℕ → ℕ) (key m : ℕ → ℕ → ℕ) → Found w cs ps count s key → IsRestored w c
+pub there_is_a_solution : (w c cs ps : List ℕ) (count : ℕ) (s : ℕ → ℕ) (key m : ℕ → ℕ → ℕ)
+    → Found w cs ps count s key → IsRestored w c
     → HasEquations count ps s m → IsSolution count m (λ l. difference w c (get_or ps l 0))
 there_is_a_solution w c cs ps count s key m f r q =
     error_values_solve cs ps count (difference w c) s m f.few f.list (off_roots w c cs ps count s key f r)
     (λ j k. f.values j k ∙ syndromes_of_difference w c r.is_codeword j k) q
 
-pub it_is_the_codeword : (w c cs ps ys fixed : List ℕ) (count : ℕ) (s : ℕ → ℕ) (key m : ℕ → ℕ → ℕ) → Found w cs ps count s key → IsRestored w c
-    → HasEquations count ps s m → IsSolution count m (slice_index ys) → ((k : ℕ) → slice_index ys k < 256) → IsWord fixed
-    → ((l : ℕ) → l < count → conventional_of (slice_index fixed (slice_index ps l)) ≡ bit_xor (conventional_of (slice_index w (slice_index ps l))) (slice_index ys l))
+pub it_is_the_codeword : (w c cs ps ys fixed : List ℕ) (count : ℕ) (s : ℕ → ℕ) (key m : ℕ → ℕ → ℕ)
+    → Found w cs ps count s key → IsRestored w c
+    → HasEquations count ps s m → IsSolution count m (slice_index ys) → ((k : ℕ) → slice_index ys k < 256)
+    → IsWord fixed
+    → ((l : ℕ) → l < count → conventional_of (slice_index fixed (slice_index ps l))
+    ≡ bit_xor (conventional_of (slice_index w (slice_index ps l))) (slice_index ys l))
     → ((p : ℕ) → ((l : ℕ) → l < count → slice_index ps l ≢ p) → slice_index fixed p ≡ slice_index w p) → fixed ≡ c
 it_is_the_codeword w c cs ps ys fixed count s key m f r q sol small word changed kept =
     corrected_is w fixed c cs ps count (slice_index ys) word r.is_word f.list (off_roots w c cs ps count s key f r)
-    (solution_is_error_values cs ps count (difference w c) s (slice_index ys) m f.few f.list (off_roots w c cs ps count s key f r)
-    (λ j k. f.values j k ∙ syndromes_of_difference w c r.is_codeword j k) q (λ p k. difference-lt w c p) (λ l k. small l) sol)
+    (solution_is_error_values cs ps count (difference w c) s (slice_index ys) m f.few f.list
+    (off_roots w c cs ps count s key f r)
+    (λ j k. f.values j k ∙ syndromes_of_difference w c r.is_codeword j k) q (λ p k. difference-lt w c p)
+    (λ l k. small l) sol)
     changed kept
 
 -- a word doesn't differ from itself

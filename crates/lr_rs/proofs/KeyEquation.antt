@@ -1,5 +1,32 @@
 -- The key equation: what is in the kernel of the syndromes is zero at each place in error.
-use Rattle.std.proofs.Common.{◌≡◌, ◌≢◌, ℕ, suc, ◌+◌, ◌-◌, ◌<◌, ◌≤◌, List, [], ◌∷◌, length, get_or, set, take, map, slice_index, All, add-one, refl, sym, ap, ◌∙◌, arith, inl, inr}
+use Rattle.std.proofs.Common.{
+  ◌≡◌,
+  ◌≢◌,
+  ℕ,
+  suc,
+  ◌+◌,
+  ◌-◌,
+  ◌<◌,
+  ◌≤◌,
+  List,
+  [],
+  ◌∷◌,
+  length,
+  get_or,
+  set,
+  take,
+  map,
+  slice_index,
+  All,
+  add-one,
+  refl,
+  sym,
+  ap,
+  ◌∙◌,
+  arith,
+  inl,
+  inr,
+}
 use Rattle.std.specs.Int.Bits.{bit_xor, xor_zero_r}
 use Rattle.std.proofs.lemmas.Bool.{cases_eq, cases_lt}
 use Rattle.std.proofs.lemmas.List.{get_or-set_same, get_or-set_other, get_or-map, length-map, map-append, take_more}
@@ -20,13 +47,15 @@ use Rattle.lr_rs.specs.Words.{locator}
 use Rattle.lr_rs.proofs.Locators.{locators}
 
 -- one term: (e (c x^a)) x^b = c (e x^(b + a))
-term : (e c x a b : ℕ) → x < 256 → times (times e (times c (power x a))) (power x b) ≡ times (times e (power x (b + a))) c
+term : (e c x a b : ℕ) → x < 256 → times (times e (times c (power x a))) (power x b)
+    ≡ times (times e (power x (b + a))) c
 term e c x a b h =
     ap (λ z. times (times e z) (power x b)) (commute c (power x a))
     ∙ ap (λ z. times z (power x b)) (sym (group e (power x a) c))
     ∙ group (times e (power x a)) c (power x b) ∙ ap (times (times e (power x a))) (commute c (power x b))
     ∙ sym (group (times e (power x a)) (power x b) c)
-    ∙ ap (λ z. times z c) (group e (power x a) (power x b) ∙ ap (times e) (commute (power x a) (power x b) ∙ sym (power-add x b a h)))
+    ∙ ap (λ z. times z c) (group e (power x a) (power x b)
+    ∙ ap (times e) (commute (power x a) (power x b) ∙ sym (power-add x b a h)))
 
 -- sums of e_p Λ(x_p) x_p^b, by the sums of e_p x_p^j
 pub key_sum : (cs : List ℕ) (e : ℕ → ℕ) (b : ℕ) → length cs ≡ 17
@@ -38,15 +67,20 @@ key_sum cs e b h =
     (λ p j.
     ap (λ z. times (times (e p) z) (power (locator p) b)) (value_as_sum cs 17 (locator p) h)
     ∙ ap (λ z. times z (power (locator p) b))
-    (sym (sum_of-linear 17 (times (e p)) (λ k. times (get_or cs k 0) (power (locator p) (16 - k))) (linear-times-right (e p))))
-    ∙ sym (sum_of-linear 17 (λ z. times z (power (locator p) b)) (λ k. times (e p) (times (get_or cs k 0) (power (locator p) (16 - k)))) (linear-times-left (power (locator p) b)))
-    ∙ sum_of-same 17 (λ k. times (times (e p) (times (get_or cs k 0) (power (locator p) (16 - k)))) (power (locator p) b))
+    (sym (sum_of-linear 17 (times (e p)) (λ k. times (get_or cs k 0) (power (locator p) (16 - k)))
+    (linear-times-right (e p))))
+    ∙ sym (sum_of-linear 17 (λ z. times z (power (locator p) b))
+    (λ k. times (e p) (times (get_or cs k 0) (power (locator p) (16 - k))))
+    (linear-times-left (power (locator p) b)))
+    ∙ sum_of-same 17 (λ k. times (times (e p) (times (get_or cs k 0) (power (locator p) (16 - k))))
+    (power (locator p) b))
     (λ k. times (times (e p) (power (locator p) (b + (16 - k)))) (get_or cs k 0))
     (λ k l. term (e p) (get_or cs k 0) (locator p) (16 - k) b (locators.below p j)))
     ∙ sum_of-swap 255 17 (λ p k. times (times (e p) (power (locator p) (b + (16 - k)))) (get_or cs k 0))
     ∙ sum_of-same 17 (λ k. sum_of 255 (λ p. times (times (e p) (power (locator p) (b + (16 - k)))) (get_or cs k 0)))
     (λ k. times (sum_of 255 (λ p. times (e p) (power (locator p) (b + (16 - k))))) (get_or cs k 0))
-    (λ k l. sum_of-linear 255 (λ z. times z (get_or cs k 0)) (λ p. times (e p) (power (locator p) (b + (16 - k)))) (linear-times-left (get_or cs k 0)))
+    (λ k l. sum_of-linear 255 (λ z. times z (get_or cs k 0))
+    (λ p. times (e p) (power (locator p) (b + (16 - k)))) (linear-times-left (get_or cs k 0)))
 
 -- each place in error is a root
 pub error_is_root : (cs : List ℕ) (e s : ℕ → ℕ) → length cs ≡ 17 → ((p : ℕ) → p < 255 → value_of cs (locator p) < 256)
@@ -56,7 +90,8 @@ pub error_is_root : (cs : List ℕ) (e s : ℕ → ℕ) → length cs ≡ 17 →
     → (p : ℕ) → p < 255 → e p ≢ 0 → value_of cs (locator p) ≡ 0
 error_is_root cs e s h small bytes few is sent p hp ne =
     times-nonzero (e p) (value_of cs (locator p)) (bytes p hp) (small p hp) ne
-    (vanishing 16 255 112 (λ p. times (e p) (value_of cs (locator p))) locator locators (λ i k. below (e i) (value_of cs (locator i)))
+    (vanishing 16 255 112 (λ p. times (e p) (value_of cs (locator p))) locator locators
+    (λ i k. below (e i) (value_of cs (locator i)))
     (omega (
       arith,
       few,
@@ -65,7 +100,8 @@ error_is_root cs e s h small bytes few is sent p hp ne =
     ))
     (λ i hi.
     key_sum cs e (112 + i) h
-    ∙ sum_of-same 17 (λ k. times (sum_of 255 (λ p. times (e p) (power (locator p) (112 + i + (16 - k))))) (get_or cs k 0))
+    ∙ sum_of-same 17 (λ k. times (sum_of 255 (λ p. times (e p) (power (locator p) (112 + i + (16 - k)))))
+    (get_or cs k 0))
     (λ k. times (s (i + (16 - k))) (get_or cs k 0))
     (λ k l.
     let exponent : 112 + i + (16 - k) ≡ 112 + (i + (16 - k)) = omega arith in
@@ -85,24 +121,32 @@ roots_start cs ps = record {
   covers = λ p h. absurd (omega arith);
 }
 
-pub roots_skip : (cs ps : List ℕ) (limit count : ℕ) → IsRootList cs limit count ps → value_of cs (locator limit) ≢ 0 → IsRootList cs (limit + 1) count ps
+pub roots_skip : (cs ps : List ℕ) (limit count : ℕ) → IsRootList cs limit count ps
+    → value_of cs (locator limit) ≢ 0 → IsRootList cs (limit + 1) count ps
 unfolding sum_of
 roots_skip cs ps limit count r ne = record {
   many = rw add-one (omega (arith, r.many, weight-suc_one limit (λ p. value_of cs (locator p)) ne));
   below_limit = λ l h. omega (arith, r.below_limit l h);
   sums = λ g h. rw add-one
-      (ap (λ z. bit_xor z (g limit)) (r.sums g (λ p k. h p (omega arith))) ∙ ap (bit_xor (sum_of count (λ l. g (get_or ps l 0)))) (h limit (omega arith) ne)
+      (ap (λ z. bit_xor z (g limit)) (r.sums g (λ p k. h p (omega arith)))
+      ∙ ap (bit_xor (sum_of count (λ l. g (get_or ps l 0)))) (h limit (omega arith) ne)
       ∙ xor_zero_r (sum_of count (λ l. g (get_or ps l 0))));
   different = r.different;
   roots = r.roots;
-  covers = λ p h e. elim (cases_eq p limit) [ inl q ↦ absurd (ne (ap (λ z. value_of cs (locator z)) (sym q) ∙ e)) | inr q ↦ r.covers p (omega (arith, q)) e ];
+  covers = λ p h e. elim (cases_eq p limit) [
+    | inl q ↦
+        absurd (ne (ap (λ z. value_of cs (locator z)) (sym q) ∙ e))
+    | inr q ↦ r.covers p (omega (arith, q)) e
+  ];
 }
 
-pub roots_more : (cs ps : List ℕ) (limit count : ℕ) → IsRootList cs limit count ps → count < length ps → value_of cs (locator limit) ≡ 0
+pub roots_more : (cs ps : List ℕ) (limit count : ℕ) → IsRootList cs limit count ps → count < length ps
+    → value_of cs (locator limit) ≡ 0
     → IsRootList cs (limit + 1) (count + 1) (set ps count limit)
 unfolding sum_of
 roots_more cs ps limit count r room e = record {
-  many = let a : limit + 1 ≡ suc limit = add-one limit in rw a (omega (arith, r.many, weight-suc_zero limit (λ p. value_of cs (locator p)) e));
+  many = let a : limit + 1 ≡ suc limit = add-one limit in
+      rw a (omega (arith, r.many, weight-suc_zero limit (λ p. value_of cs (locator p)) e));
   below_limit = λ l h. elim (cases_eq l count) [
     | inl q ↦ omega (arith, ap (λ z. get_or (set ps count limit) z 0) q ∙ get_or-set_same ps count limit 0 room)
     | inr q ↦ omega (arith, get_or-set_other ps count l limit 0 q, r.below_limit l (omega (arith, q)))
@@ -114,7 +158,8 @@ roots_more cs ps limit count r room e = record {
       (ap (λ z. bit_xor z (g limit)) (r.sums g (λ p k. h p (omega arith))
       ∙ sum_of-same count (λ l. g (get_or ps l 0)) (λ l. g (get_or (set ps count limit) l 0))
       (λ l k. ap g (sym (get_or-set_other ps count l limit 0 (omega arith)))))
-      ∙ ap (bit_xor (sum_of count (λ l. g (get_or (set ps count limit) l 0)))) (ap g (sym (get_or-set_same ps count limit 0 room))));
+      ∙ ap (bit_xor (sum_of count (λ l. g (get_or (set ps count limit) l 0))))
+      (ap g (sym (get_or-set_same ps count limit 0 room))));
   different = λ i j hi hj same.
       elim (cases_eq i count) [
         | inl a ↦ elim (cases_eq j count) [
@@ -142,7 +187,8 @@ roots_more cs ps limit count r room e = record {
         ]
       ];
   roots = λ l h. elim (cases_eq l count) [
-    | inl q ↦ ap (λ z. value_of cs (locator z)) (ap (λ z. get_or (set ps count limit) z 0) q ∙ get_or-set_same ps count limit 0 room) ∙ e
+    | inl q ↦ ap (λ z. value_of cs (locator z)) (ap (λ z. get_or (set ps count limit) z 0) q
+        ∙ get_or-set_same ps count limit 0 room) ∙ e
     | inr q ↦ ap (λ z. value_of cs (locator z)) (get_or-set_other ps count l limit 0 q) ∙ r.roots l (omega (arith, q))
   ];
   covers = λ p h z. elim (cases_eq p limit) [
@@ -167,18 +213,23 @@ at_most_sixteen cs ps count h small r k hk ne =
     all_zero_at cs k h all = All-get_or (λ c. c ≡ 0) cs k 0 h all
 
 -- a word's value, by its coefficients
-pub value_of_word : (word : List ℕ) (x : ℕ) → length word ≡ 255 → value_of (map conventional_of word) x ≡ word_value word x
+pub value_of_word : (word : List ℕ) (x : ℕ) → length word ≡ 255 → value_of (map conventional_of word) x
+    ≡ word_value word x
 unfolding word_value
 value_of_word word x h =
     value_as_sum (map conventional_of word) 255 x (simp length-map h)
-    ∙ sum_of-same 255 (λ k. times (get_or (map conventional_of word) k 0) (power x (255 - 1 - k))) (λ i. times (conventional_of (slice_index word i)) (power x (254 - i)))
+    ∙ sum_of-same 255 (λ k. times (get_or (map conventional_of word) k 0) (power x (255 - 1 - k)))
+    (λ i. times (conventional_of (slice_index word i)) (power x (254 - i)))
     (λ k l. ap (λ z. times z (power x (254 - k))) (get_or-map conventional_of word k 0 0 (omega arith)))
 
 -- one byte more
 pub word_more : (word : List ℕ) (i sum item x : ℕ) → i < length word → item ≡ conventional_of (get_or word i 0)
-    → sum ≡ value_of (map conventional_of (take i word)) x → bit_xor (times sum x) item ≡ value_of (map conventional_of (take (i + 1) word)) x
+    → sum ≡ value_of (map conventional_of (take i word)) x → bit_xor (times sum x) item
+    ≡ value_of (map conventional_of (take (i + 1) word)) x
 word_more word i sum item x h f s =
     ap (λ z. bit_xor (times z x) item) s ∙ ap (bit_xor (times (value_of (map conventional_of (take i word)) x) x)) f
-    ∙ sym (value-push (map conventional_of (take i word)) (conventional_of (get_or word i 0)) x (conventional-lt (get_or word i 0)))
+    ∙ sym (value-push (map conventional_of (take i word)) (conventional_of (get_or word i 0)) x
+    (conventional-lt (get_or word i 0)))
     ∙ ap (λ l. value_of l x)
-    (sym (ap (map conventional_of) (take_more word i 0 h) ∙ map-append conventional_of (take i word) (get_or word i 0 ∷ [])))
+    (sym (ap (map conventional_of) (take_more word i 0 h)
+    ∙ map-append conventional_of (take i word) (get_or word i 0 ∷ [])))

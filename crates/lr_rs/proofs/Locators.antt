@@ -34,7 +34,9 @@ locator-is i = power-round (11 * (254 - i))
 same_place : (i j : ℕ) → i < 255 → j < 255 → locator i ≡ locator j → i ≡ j
 same_place i j h k e =
     sym (place-is i h)
-    ∙ ap (λ n. 254 - n * 116 % 255) (same_exponent (exponent i) (exponent j) (exponent-lt i) (exponent-lt j) (sym (locator-is i) ∙ e ∙ locator-is j))
+    ∙ ap (λ n. 254 - n * 116 % 255)
+    (same_exponent (exponent i) (exponent j) (exponent-lt i) (exponent-lt j) (sym (locator-is i) ∙ e
+    ∙ locator-is j))
     ∙ place-is j k
 
 pub locators : AreNodes 255 locator

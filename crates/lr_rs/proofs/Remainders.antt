@@ -1,5 +1,39 @@
 -- The division by the generator polynomial keeps the values at the roots of the code.
-use Rattle.std.proofs.Common.{◌≡◌, ℕ, suc, ◌+◌, ◌-◌, ◌*◌, ◌/◌, ◌%◌, ◌^◌, ◌<◌, Bool, true, eqb, ltb, List, [], ◌∷◌, ◌++◌, length, get_or, map, reverse, All, refl, sym, ap, ◌∙◌, subst, arith, inl, inr, add-one, zero-add}
+use Rattle.std.proofs.Common.{
+  ◌≡◌,
+  ℕ,
+  suc,
+  ◌+◌,
+  ◌-◌,
+  ◌*◌,
+  ◌/◌,
+  ◌%◌,
+  ◌^◌,
+  ◌<◌,
+  Bool,
+  true,
+  eqb,
+  ltb,
+  List,
+  [],
+  ◌∷◌,
+  ◌++◌,
+  length,
+  get_or,
+  map,
+  reverse,
+  All,
+  refl,
+  sym,
+  ap,
+  ◌∙◌,
+  subst,
+  arith,
+  inl,
+  inr,
+  add-one,
+  zero-add,
+}
 use Rattle.std.specs.Int.Bits.{bit_xor, xor_assoc, xor_comm, xor_shifted, xor_lt}
 use Rattle.std.specs.List.{range_with_len}
 use Rattle.std.proofs.lemmas.Bool.{cases_eq, cases_lt, eqb-true, ltb-true}
@@ -61,12 +95,14 @@ high-is a k h j =
 -- an element by its two halves
 halves : (a : ℕ) → bit_xor (a % 16) (16 * (a / 16)) ≡ a
 halves a =
-    let shifted : bit_xor (a / 16 * 2 ^ 4) (a % 16) ≡ a / 16 * 2 ^ 4 + a % 16 = xor_shifted (a / 16) 4 (a % 16) (mod_below a 16 (omega arith)) in
+    let shifted : bit_xor (a / 16 * 2 ^ 4) (a % 16) ≡ a / 16 * 2 ^ 4 + a % 16 =
+    xor_shifted (a / 16) 4 (a % 16) (mod_below a 16 (omega arith)) in
     let turned : 16 * (a / 16) ≡ a / 16 * 2 ^ 4 = omega arith in
     xor_comm (a % 16) (16 * (a / 16)) ∙ ap (λ z. bit_xor z (a % 16)) turned ∙ shifted ∙ omega arith
 
 pub product-is : (a k : ℕ) → a < 256 → k < 32
-    → bit_xor (get_or LOW_PRODUCTS (32 * (a % 16) + k) 0) (get_or HIGH_PRODUCTS (32 * (a / 16) + k) 0) ≡ times a (generator_coefficient k)
+    → bit_xor (get_or LOW_PRODUCTS (32 * (a % 16) + k) 0) (get_or HIGH_PRODUCTS (32 * (a / 16) + k) 0)
+    ≡ times a (generator_coefficient k)
 product-is a k h j =
     ap (λ z. bit_xor z (get_or HIGH_PRODUCTS (32 * (a / 16) + k) 0)) (low-is (a % 16) k (omega arith) j)
     ∙ ap (bit_xor (times (a % 16) (generator_coefficient k))) (high-is (a / 16) k (omega arith) j)
@@ -87,7 +123,9 @@ root-lt j = power-lt 2 (11 * (112 + j)) (omega arith)
 
 -- its coefficients, the highest first, without that of x^32; they read the same from behind
 tail_coefficients : List ℕ
-tail_coefficients = 0x5B ∷ 0x7F ∷ 0x56 ∷ 0x10 ∷ 0x1E ∷ 0x0D ∷ 0xEB ∷ 0x61 ∷ 0xA5 ∷ 0x08 ∷ 0x2A ∷ 0x36 ∷ 0x56 ∷ 0xAB ∷ 0x20 ∷ 0x71 ∷ 0x20 ∷ 0xAB ∷ 0x56 ∷ 0x36 ∷ 0x2A ∷ 0x08 ∷ 0xA5 ∷ 0x61 ∷ 0xEB ∷ 0x0D ∷ 0x1E ∷ 0x10 ∷ 0x56 ∷ 0x7F ∷ 0x5B ∷ 0x01 ∷ []
+tail_coefficients = 0x5B ∷ 0x7F ∷ 0x56 ∷ 0x10 ∷ 0x1E ∷ 0x0D ∷ 0xEB ∷ 0x61 ∷ 0xA5 ∷ 0x08 ∷ 0x2A ∷ 0x36 ∷ 0x56
+    ∷ 0xAB ∷ 0x20 ∷ 0x71 ∷ 0x20 ∷ 0xAB ∷ 0x56 ∷ 0x36 ∷ 0x2A ∷ 0x08 ∷ 0xA5 ∷ 0x61 ∷ 0xEB ∷ 0x0D ∷ 0x1E ∷ 0x10
+    ∷ 0x56 ∷ 0x7F ∷ 0x5B ∷ 0x01 ∷ []
 
 is_zero_at : ℕ → Bool
 is_zero_at j = eqb (low (1 ∷ tail_coefficients) (power 2 (11 * (112 + j) % 255))) 0
@@ -114,7 +152,8 @@ tail-long = refl
 bytes : All (λ c. c < 256) (1 ∷ tail_coefficients)
 unfolding fits
 bytes = All-from_get_or (λ c. c < 256) (1 ∷ tail_coefficients) 0
-    (λ i h. ltb-true (get_or (1 ∷ tail_coefficients) i 0) 256 (all_below-at 33 fits fits-test i (omega (arith, tail-long))))
+    (λ i h. ltb-true (get_or (1 ∷ tail_coefficients) i 0) 256
+    (all_below-at 33 fits fits-test i (omega (arith, tail-long))))
 
 value-first : (c x : ℕ) (cs : List ℕ) → value_of (c ∷ cs) x ≡ bit_xor (times c (power x (length cs))) (value_of cs x)
 unfolding value_of
@@ -134,21 +173,26 @@ unfolding is_zero_at
 generator-value j h =
     let zero_low : low (1 ∷ tail_coefficients) (root_at j) ≡ 0 =
     ap (low (1 ∷ tail_coefficients)) (sym (root-power j h))
-    ∙ eqb-true (low (1 ∷ tail_coefficients) (power 2 (11 * (112 + j) % 255))) 0 (all_below-at 32 is_zero_at roots-test j h) in
+    ∙ eqb-true (low (1 ∷ tail_coefficients) (power 2 (11 * (112 + j) % 255))) 0
+    (all_below-at 32 is_zero_at roots-test j h) in
     let zero_value : value_of (1 ∷ tail_coefficients) (root_at j) ≡ 0 =
-    ap (λ l. value_of l (root_at j)) (sym palindrome) ∙ low-reverse (1 ∷ tail_coefficients) (root_at j) bytes (root-lt j) ∙ zero_low in
+    ap (λ l. value_of l (root_at j)) (sym palindrome)
+    ∙ low-reverse (1 ∷ tail_coefficients) (root_at j) bytes (root-lt j) ∙ zero_low in
     sym (same_from_sum (power (root_at j) 32) (value_of tail_coefficients (root_at j))
     (ap (λ z. bit_xor z (value_of tail_coefficients (root_at j)))
-    (sym (ap (λ n. times 1 (power (root_at j) n)) tail-long ∙ one-times (power (root_at j) 32) (power-lt (root_at j) 32 (root-lt j))))
+    (sym (ap (λ n. times 1 (power (root_at j) n)) tail-long
+    ∙ one-times (power (root_at j) 32) (power-lt (root_at j) 32 (root-lt j))))
     ∙ sym (value-first 1 (root_at j) tail_coefficients) ∙ zero_value))
 
 coefficient-is : (k : ℕ) → generator_coefficient k ≡ get_or tail_coefficients k 0
 unfolding generator_coefficient tail_coefficients
 coefficient-is k = refl
 
-generator-sum : (x : ℕ) → sum_of 32 (λ k. times (generator_coefficient k) (power x (31 - k))) ≡ value_of tail_coefficients x
+generator-sum : (x : ℕ) → sum_of 32 (λ k. times (generator_coefficient k) (power x (31 - k)))
+    ≡ value_of tail_coefficients x
 generator-sum x =
-    sum_of-same 32 (λ k. times (generator_coefficient k) (power x (31 - k))) (λ k. times (get_or tail_coefficients k 0) (power x (31 - k)))
+    sum_of-same 32 (λ k. times (generator_coefficient k) (power x (31 - k)))
+    (λ k. times (get_or tail_coefficients k 0) (power x (31 - k)))
     (λ k h. ap (λ z. times z (power x (31 - k))) (coefficient-is k))
     ∙ sym (value_as_sum tail_coefficients 32 x tail-long)
 
@@ -164,7 +208,8 @@ new-at first d k rest new h hk s =
       | inr ne ↦
           s.next k (omega (arith, ne))
           ∙ ap (λ z. bit_xor z (times first (generator_coefficient k)))
-          (ap (λ z. get_or (first ∷ rest) z 0) (add-one k) ∙ sym (get_or_append_left rest (d ∷ []) 0 k (omega (arith, ne))))
+          (ap (λ z. get_or (first ∷ rest) z 0) (add-one k)
+          ∙ sym (get_or_append_left rest (d ∷ []) 0 k (omega (arith, ne))))
     ]
 
 -- (b + d) + a = (a + b) + d
@@ -176,12 +221,15 @@ stepped : (first d x : ℕ) (rest new : List ℕ) → length rest ≡ 31 → d <
 stepped first d x rest new h hd g s =
     value_as_sum new 32 x s.long
     ∙ sum_of-same 32 (λ k. times (get_or new k 0) (power x (31 - k)))
-    (λ k. bit_xor (times (get_or (rest ++ d ∷ []) k 0) (power x (31 - k))) (times first (times (generator_coefficient k) (power x (31 - k)))))
+    (λ k. bit_xor (times (get_or (rest ++ d ∷ []) k 0) (power x (31 - k)))
+    (times first (times (generator_coefficient k) (power x (31 - k)))))
     (λ k l.
     ap (λ z. times z (power x (31 - k))) (new-at first d k rest new h l s)
     ∙ times-add-left (get_or (rest ++ d ∷ []) k 0) (times first (generator_coefficient k)) (power x (31 - k))
-    ∙ ap (bit_xor (times (get_or (rest ++ d ∷ []) k 0) (power x (31 - k)))) (group first (generator_coefficient k) (power x (31 - k))))
-    ∙ sum_of-add 32 (λ k. times (get_or (rest ++ d ∷ []) k 0) (power x (31 - k))) (λ k. times first (times (generator_coefficient k) (power x (31 - k))))
+    ∙ ap (bit_xor (times (get_or (rest ++ d ∷ []) k 0) (power x (31 - k))))
+    (group first (generator_coefficient k) (power x (31 - k))))
+    ∙ sum_of-add 32 (λ k. times (get_or (rest ++ d ∷ []) k 0) (power x (31 - k)))
+    (λ k. times first (times (generator_coefficient k) (power x (31 - k))))
     ∙ ap (λ z. bit_xor z (sum_of 32 (λ k. times first (times (generator_coefficient k) (power x (31 - k))))))
     (sym (value_as_sum (rest ++ d ∷ []) 32 x (length_push rest d ∙ omega arith)) ∙ value-push rest d x hd)
     ∙ ap (bit_xor (bit_xor (times (value_of rest x) x) d))
@@ -195,23 +243,28 @@ stepped first d x rest new h hd g s =
     whole first x rest h =
         ap (λ z. times z x) (value-first first x rest ∙ ap (λ n. bit_xor (times first (power x n)) (value_of rest x)) h)
         ∙ times-add-left (times first (power x 31)) (value_of rest x) x
-        ∙ ap (λ z. bit_xor z (times (value_of rest x) x)) (group first (power x 31) x ∙ ap (times first) (sym (power-suc x 31)))
+        ∙ ap (λ z. bit_xor z (times (value_of rest x) x)) (group first (power x 31) x
+        ∙ ap (times first) (sym (power-suc x 31)))
 
 pub value-step : (old new : List ℕ) (d j : ℕ) → length old ≡ 32 → d < 256 → j < 32 → IsDivisionStep d old new
     → value_of new (root_at j) ≡ bit_xor (times (value_of old (root_at j)) (root_at j)) d
 value-step [] new d j h hd hj s = absurd (omega arith)
-value-step (first ∷ rest) new d j h hd hj s = stepped first d (root_at j) rest new (omega arith) hd (generator-value j hj) s
+value-step (first ∷ rest) new d j h hd hj s =
+    stepped first d (root_at j) rest new (omega arith) hd (generator-value j hj) s
 
-pub elements-step : (old new : List ℕ) (d : ℕ) → d < 256 → ((k : ℕ) → get_or old k 0 < 256) → IsDivisionStep d old new → (k : ℕ) → get_or new k 0 < 256
+pub elements-step : (old new : List ℕ) (d : ℕ) → d < 256 → ((k : ℕ) → get_or old k 0 < 256)
+    → IsDivisionStep d old new → (k : ℕ) → get_or new k 0 < 256
 elements-step old new d hd h s k =
     elim (cases_lt k 31) [
       | inl l ↦
           subst (λ (n : ℕ). n < 256) (sym (s.next k l))
-          (xor_lt 8 (get_or old (k + 1) 0) (times (get_or old 0 0) (generator_coefficient k)) (h (k + 1)) (below (get_or old 0 0) (generator_coefficient k)))
+          (xor_lt 8 (get_or old (k + 1) 0) (times (get_or old 0 0) (generator_coefficient k)) (h (k + 1))
+          (below (get_or old 0 0) (generator_coefficient k)))
       | inr l ↦ elim (cases_eq k 31) [
         | inl e ↦
             subst (λ (n : ℕ). n < 256) (sym (ap (λ z. get_or new z 0) e ∙ s.last))
-            (xor_lt 8 d (times (get_or old 0 0) (generator_coefficient 31)) hd (below (get_or old 0 0) (generator_coefficient 31)))
+            (xor_lt 8 d (times (get_or old 0 0) (generator_coefficient 31)) hd
+            (below (get_or old 0 0) (generator_coefficient 31)))
         | inr ne ↦ subst (λ (n : ℕ). n < 256) (sym (get_or_past new k 0 (omega (arith, ne, s.long)))) (omega arith)
       ]
     ]
@@ -225,7 +278,8 @@ roots_of_code = record {
   different = λ i j hi hj e.
       omega (
         arith,
-        locators.different (142 - i) (142 - j) (omega arith) (omega arith) (as_locator i hi ∙ e ∙ sym (as_locator j hj)),
+        locators.different (142 - i) (142 - j) (omega arith) (omega arith) (as_locator i hi ∙ e
+            ∙ sym (as_locator j hj)),
       );
 }
   where
@@ -240,14 +294,21 @@ codeword_from_values word h = record {
       ap (λ i. word_value word (power 2 (11 * i))) e ∙ h (j - 112) (omega arith);
 }
 
-pub codeword_of_zeros : (word rest : List ℕ) → IsRemainder word rest → ((k : ℕ) → k < 32 → get_or rest k 0 ≡ 0) → IsCodeword word
+pub codeword_of_zeros : (word rest : List ℕ) → IsRemainder word rest → ((k : ℕ) → k < 32 → get_or rest k 0 ≡ 0)
+    → IsCodeword word
 unfolding root_at
 codeword_of_zeros word rest r z =
     codeword_from_values word (λ j h. sym (r.same j h) ∙ value-zeros rest 32 (root_at j) r.long z)
 
-pub zeros_of_codeword : (word rest : List ℕ) → IsRemainder word rest → IsCodeword word → (k : ℕ) → k < 32 → get_or rest k 0 ≡ 0
+pub zeros_of_codeword : (word rest : List ℕ) → IsRemainder word rest → IsCodeword word → (k : ℕ) → k < 32
+    → get_or rest k 0 ≡ 0
 unfolding root_at
 zeros_of_codeword word rest r code k h =
     All-get_or (λ c. c ≡ 0) rest k 0 (omega (arith, r.long))
-    (roots_of_value 32 32 rest root_at r.long roots_of_code (All-from_get_or (λ c. c < 256) rest 0 (λ i l. r.elements i))
-    (omega (arith, weight-zero 32 (λ j. value_of rest (root_at j)) (λ j l. r.same j l ∙ code.zero_at (112 + j) (omega arith) (omega arith)))))
+    (roots_of_value 32 32 rest root_at r.long roots_of_code
+    (All-from_get_or (λ c. c < 256) rest 0 (λ i l. r.elements i))
+    (omega (
+      arith,
+      weight-zero 32 (λ j. value_of rest (root_at j)) (λ j l. r.same j l
+          ∙ code.zero_at (112 + j) (omega arith) (omega arith)),
+    )))

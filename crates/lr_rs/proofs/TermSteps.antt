@@ -1,5 +1,32 @@
 -- The terms of a polynomial of degree 16, led from each locator to the next.
-use Rattle.std.proofs.Common.{◌≡◌, ℕ, zero, suc, ◌+◌, ◌-◌, ◌*◌, ◌/◌, ◌%◌, ◌<◌, Bool, true, eqb, List, length, get_or, slice_index, map, refl, sym, ap, ◌∙◌, arith, inl, inr, zero-add}
+use Rattle.std.proofs.Common.{
+  ◌≡◌,
+  ℕ,
+  zero,
+  suc,
+  ◌+◌,
+  ◌-◌,
+  ◌*◌,
+  ◌/◌,
+  ◌%◌,
+  ◌<◌,
+  Bool,
+  true,
+  eqb,
+  List,
+  length,
+  get_or,
+  slice_index,
+  map,
+  refl,
+  sym,
+  ap,
+  ◌∙◌,
+  arith,
+  inl,
+  inr,
+  zero-add,
+}
 use Rattle.std.specs.List.{range_with_len}
 use Rattle.std.proofs.lemmas.Bool.{cases_eq, eqb-true}
 use Rattle.std.proofs.lemmas.List.FromFn.{get_or-map-range_with_len}
@@ -96,7 +123,8 @@ terms_start cs h = record {
 }
 
 pub terms_next : (cs old new : List ℕ) (p : ℕ) → p < 255 → AreTerms cs old p
-    → ((k : ℕ) → k < 16 → get_or new k 0 ≡ times (get_or old k 0) (term_factor k)) → get_or new 16 0 ≡ get_or old 16 0 → AreTerms cs new (p + 1)
+    → ((k : ℕ) → k < 16 → get_or new k 0 ≡ times (get_or old k 0) (term_factor k))
+    → get_or new 16 0 ≡ get_or old 16 0 → AreTerms cs new (p + 1)
 terms_next cs old new p h t stepped constant = record {
   term = λ k l.
       elim (cases_eq k 16) [
@@ -110,11 +138,13 @@ terms_next cs old new p h t stepped constant = record {
             ∙ ap (times (times (get_or cs k 0) (power (place_before p) (16 - k)))) (factor-is k (omega (arith, ne)))
             ∙ group (get_or cs k 0) (power (place_before p) (16 - k)) (power (power 2 244) (16 - k))
             ∙ ap (times (get_or cs k 0))
-            (sym (power-times (place_before p) (power 2 244) (16 - k)) ∙ ap (λ z. power z (16 - k)) (sym (before_next p h)))
+            (sym (power-times (place_before p) (power 2 244) (16 - k))
+            ∙ ap (λ z. power z (16 - k)) (sym (before_next p h)))
       ];
 }
 
-pub terms_value : (cs terms : List ℕ) (p : ℕ) → length cs ≡ 17 → p < 255 → AreTerms cs terms (p + 1) → sum_of 17 (slice_index terms) ≡ value_of cs (locator p)
+pub terms_value : (cs terms : List ℕ) (p : ℕ) → length cs ≡ 17 → p < 255 → AreTerms cs terms (p + 1)
+    → sum_of 17 (slice_index terms) ≡ value_of cs (locator p)
 terms_value cs terms p long h t =
     sum_of-same 17 (slice_index terms) (λ k. times (get_or cs k 0) (power (locator p) (16 - k)))
     (λ k l. t.term k l ∙ ap (λ z. times (get_or cs k 0) (power z (16 - k))) (before_is_locator p h))

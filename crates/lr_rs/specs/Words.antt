@@ -1,6 +1,21 @@
 -- Words of 255 bytes, codewords, and the restored word: CCSDS 131.0-B, section 4, with 223 bytes of
 -- information.
-use Rattle.std.specs.Prelude.{ℕ, ◌+◌, ◌-◌, ◌*◌, ◌<◌, ◌≤◌, ◌≡◌, ◌==◌, List, length, slice_index, zero, suc, if◌then◌else◌}
+use Rattle.std.specs.Prelude.{
+  ℕ,
+  ◌+◌,
+  ◌-◌,
+  ◌*◌,
+  ◌<◌,
+  ◌≤◌,
+  ◌≡◌,
+  ◌==◌,
+  List,
+  length,
+  slice_index,
+  zero,
+  suc,
+  if◌then◌else◌,
+}
 use Rattle.lr_gf.specs.Sums.{sum_of}
 use Rattle.lr_gf.specs.Field.{times, power}
 use Rattle.lr_gf.specs.Dual.{conventional_of}

@@ -1,5 +1,23 @@
 -- The ways out of `append` and `discard`.
-use Rattle.std.proofs.Common.{◌≡◌, ◌≢◌, inl, inr, ℕ, ◌+◌, ◌≤◌, Bool, true, false, List, [], ◌∷◌, ◌++◌, length, take, drop}
+use Rattle.std.proofs.Common.{
+  ◌≡◌,
+  ◌≢◌,
+  inl,
+  inr,
+  ℕ,
+  ◌+◌,
+  ◌≤◌,
+  Bool,
+  true,
+  false,
+  List,
+  [],
+  ◌∷◌,
+  ◌++◌,
+  length,
+  take,
+  drop,
+}
 use Rattle.std.proofs.Common.{Result, Ok, Err, refl, sym, ◌∙◌, ap, subst, arith, length-append}
 use Rattle.lr_bits.specs.Faults.{Rose}
 use Rattle.lr_disk.specs.Disk.{Only, LeavesOnly}
@@ -17,9 +35,28 @@ use Rattle.lr_shelf.specs.Calls.{IsCounted}
 use Rattle.lr_shelf.specs.Kept.{Kept, kept_by, kept_with}
 use Rattle.lr_shelf.specs.Shelf.{HasEitherWay, IsSettled, KeepsWay, StandsForEither}
 use Rattle.lr_shelf.specs.declared.error.ShelfError.{ShelfError}
-use Rattle.lr_shelf.specs.declared.error.ShelfError.TheVariants.{Disk, NotAShelf, NotEmpty, Capacity, NoSuchFile, Crc, NoMemory, Failed, Discarded}
+use Rattle.lr_shelf.specs.declared.error.ShelfError.TheVariants.{
+  Disk,
+  NotAShelf,
+  NotEmpty,
+  Capacity,
+  NoSuchFile,
+  Crc,
+  NoMemory,
+  Failed,
+  Discarded,
+}
 use Rattle.lr_shelf.specs.declared.shelf.Shelf.{Shelf}
-use Rattle.lr_shelf.proofs.AddingLemmas.{either_one, kept_after, ready_there, ready_way, shut_last, way_after, way_either, with_it}
+use Rattle.lr_shelf.proofs.AddingLemmas.{
+  either_one,
+  kept_after,
+  ready_there,
+  ready_way,
+  shut_last,
+  way_after,
+  way_either,
+  with_it,
+}
 
 -- what a shelf keeps, of its parts
 abbrev pub kept_made : ℕ → List Entry → ℕ → Bool → Kept
@@ -154,8 +191,8 @@ module _ {D : Type 0} (disk : DiskOf D) (item : Item) (is : IsItem item) (shelf 
     outside_any_moment = λ t only.
         subst
         (λ n.
-            LeavesOnly disk.moment disk.left_since d d'
-            (StaysOutside (last_gate (kept_by shelf)) n (disk.contents d)))
+        LeavesOnly disk.moment disk.left_since d d'
+        (StaysOutside (last_gate (kept_by shelf)) n (disk.contents d)))
         place (outside_moments t only);
     stands = λ t.
         subst
@@ -207,8 +244,8 @@ module _ {D : Type 0} (disk : DiskOf D) (item : Item) (is : IsItem item) (shelf 
     outside_any_moment = λ t only.
         subst
         (λ n.
-            LeavesOnly disk.moment disk.left_since d d'
-            (StaysOutside (last_gate (kept_by shelf)) n (disk.contents d)))
+        LeavesOnly disk.moment disk.left_since d d'
+        (StaysOutside (last_gate (kept_by shelf)) n (disk.contents d)))
         place (outside_moments t only);
     stands = λ t. tt;
     durable = λ t. tt;

@@ -9,7 +9,17 @@ use Rattle.lr_shelf.specs.Asked.{IsAskable, IsEntryRefusal, entry_of}
 use Rattle.lr_shelf.specs.Discards.{Discards, IsDiscardRefusal}
 use Rattle.lr_shelf.specs.Kept.{Kept, kept_by}
 use Rattle.lr_shelf.specs.declared.error.ShelfError.{ShelfError}
-use Rattle.lr_shelf.specs.declared.error.ShelfError.TheVariants.{Disk, NotAShelf, NotEmpty, Capacity, NoSuchFile, Crc, NoMemory, Failed, Discarded}
+use Rattle.lr_shelf.specs.declared.error.ShelfError.TheVariants.{
+  Disk,
+  NotAShelf,
+  NotEmpty,
+  Capacity,
+  NoSuchFile,
+  Crc,
+  NoMemory,
+  Failed,
+  Discarded,
+}
 use Rattle.lr_shelf.specs.declared.shelf.Shelf.{Shelf}
 use Rattle.lr_shelf.proofs.AddingExits.{refused}
 use Rattle.lr_shelf.proofs.ItemsKept.{entry_count_is}

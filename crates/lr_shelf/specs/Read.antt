@@ -11,7 +11,15 @@ use Rattle.lr_shelf.specs.Calls.{ReadsDisk}
 use Rattle.lr_shelf.specs.Kept.{Kept, kept_by}
 use Rattle.lr_shelf.specs.Shelf.{IsSettled}
 use Rattle.lr_shelf.specs.declared.error.ShelfError.{ShelfError}
-use Rattle.lr_shelf.specs.declared.error.ShelfError.TheVariants.{Disk, NotAShelf, NoSuchFile, Crc, NoMemory, Failed, Discarded}
+use Rattle.lr_shelf.specs.declared.error.ShelfError.TheVariants.{
+  Disk,
+  NotAShelf,
+  NoSuchFile,
+  Crc,
+  NoMemory,
+  Failed,
+  Discarded,
+}
 use Rattle.lr_shelf.specs.declared.shelf.Shelf.{Shelf}
 
 module _ {D : Type 0} (disk : DiskOf D) (entry : Entry) (d : D) where

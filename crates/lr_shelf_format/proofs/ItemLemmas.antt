@@ -1,6 +1,41 @@
 -- What the first bytes of an item tell, and items read back.
-use Rattle.std.proofs.Common.{◌≡◌, ◌<◌, ◌≤◌, ◌+◌, ◌-◌, ◌*◌, ℕ, List, [], ◌∷◌, ◌++◌, length, slice_index, take, drop, refl, sym, ap, ◌∙◌, subst, arith, append_assoc, length-append, length-drop, take-append-drop}
-use Rattle.std.proofs.lemmas.List.{take_at, drop_at, drop-drop, drop-take, take-take, take_all, get_or-take, append_cancel_left}
+use Rattle.std.proofs.Common.{
+  ◌≡◌,
+  ◌<◌,
+  ◌≤◌,
+  ◌+◌,
+  ◌-◌,
+  ◌*◌,
+  ℕ,
+  List,
+  [],
+  ◌∷◌,
+  ◌++◌,
+  length,
+  slice_index,
+  take,
+  drop,
+  refl,
+  sym,
+  ap,
+  ◌∙◌,
+  subst,
+  arith,
+  append_assoc,
+  length-append,
+  length-drop,
+  take-append-drop,
+}
+use Rattle.std.proofs.lemmas.List.{
+  take_at,
+  drop_at,
+  drop-drop,
+  drop-take,
+  take-take,
+  take_all,
+  get_or-take,
+  append_cancel_left,
+}
 use Rattle.std.proofs.Math.Seq.{take-add}
 use Rattle.byteorder.specs.Endian.{big_bytes, big_number}
 use Rattle.byteorder.specs.Numbers.{big_number-reads_back, big_from-take}
@@ -8,13 +43,59 @@ use Rattle.lr_bits.specs.Crc.{crc_of}
 use Rattle.lr_bits.specs.File.{File, IsFile}
 use Rattle.lr_bits.specs.declared.placed.Origin.{Origin}
 use Rattle.std.proofs.Common.{Some, None}
-use Rattle.lr_shelf_format.specs.Items.{Begins, HasBody, HasForm, Holds, IsItem, Item, old_item, add_item, discard_item, old_bytes, add_bytes, discard_bytes, item_bytes, extent_of, head_of_item, stored_checksum, computed_checksum, item_of}
-use Rattle.lr_shelf_format.specs.Record.{file_from, IsHead, body_of, fields_of, head_of, head_of_file, origin_bytes, origin_of, sealed}
+use Rattle.lr_shelf_format.specs.Items.{
+  Begins,
+  HasBody,
+  HasForm,
+  Holds,
+  IsItem,
+  Item,
+  old_item,
+  add_item,
+  discard_item,
+  old_bytes,
+  add_bytes,
+  discard_bytes,
+  item_bytes,
+  extent_of,
+  head_of_item,
+  stored_checksum,
+  computed_checksum,
+  item_of,
+}
+use Rattle.lr_shelf_format.specs.Record.{
+  file_from,
+  IsHead,
+  body_of,
+  fields_of,
+  head_of,
+  head_of_file,
+  origin_bytes,
+  origin_of,
+  sealed,
+}
 use Rattle.lr_shelf_format.specs.declared.item.ItemHead.{ItemHead}
 use Rattle.lr_shelf_format.specs.declared.item.ItemHead.TheVariants.{Old, Add, Discard}
 use Rattle.lr_shelf_format.specs.declared.record.RecordHead.{RecordHead}
-use Rattle.lr_shelf_format.proofs.NumberLemmas.{AreBytes, AreBytes-drop, bytes_of_two, fields_back, first_one, origin_back, eight_low}
-use Rattle.lr_shelf_format.proofs.RecordLemmas.{IsFile-from, IsHead-file, body_of-from, file_from-body, head_of-fields, head_of_file-from, length-body_of, origin_of-bytes}
+use Rattle.lr_shelf_format.proofs.NumberLemmas.{
+  AreBytes,
+  AreBytes-drop,
+  bytes_of_two,
+  fields_back,
+  first_one,
+  origin_back,
+  eight_low,
+}
+use Rattle.lr_shelf_format.proofs.RecordLemmas.{
+  IsFile-from,
+  IsHead-file,
+  body_of-from,
+  file_from-body,
+  head_of-fields,
+  head_of_file-from,
+  length-body_of,
+  origin_of-bytes,
+}
 
 -- ---- heads
 

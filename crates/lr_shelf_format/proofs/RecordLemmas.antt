@@ -1,5 +1,27 @@
 -- The fields and the body of a record read back, and the file that is read of a body.
-use Rattle.std.proofs.Common.{◌≡◌, ◌<◌, ◌+◌, ◌*◌, ℕ, List, ◌++◌, length, take, drop, map, All, refl, sym, ap, ◌∙◌, subst, arith, append_assoc, length-append, length-drop}
+use Rattle.std.proofs.Common.{
+  ◌≡◌,
+  ◌<◌,
+  ◌+◌,
+  ◌*◌,
+  ℕ,
+  List,
+  ◌++◌,
+  length,
+  take,
+  drop,
+  map,
+  All,
+  refl,
+  sym,
+  ap,
+  ◌∙◌,
+  subst,
+  arith,
+  append_assoc,
+  length-append,
+  length-drop,
+}
 use Rattle.std.specs.List.{flat_map}
 use Rattle.std.proofs.lemmas.List.{take_at, drop_at, length-map, length-take-le}
 use Rattle.std.proofs.Math.Seq.{take-add}
@@ -7,11 +29,35 @@ use Rattle.byteorder.specs.Endian.{big_bytes, big_number}
 use Rattle.byteorder.specs.Numbers.{big_number-reads_back}
 use Rattle.lr_bits.specs.File.{File, IsFile, MakeFile, bytes_of, file_of}
 use Rattle.lr_bits.specs.declared.placed.Origin.{Origin}
-use Rattle.lr_bits.proofs.FileLemmas.{MakeFile-parts, file_of-parts, bytes_of-file_of, lengths_of-file_of, length-pieces_of, IsFile-file_of}
+use Rattle.lr_bits.proofs.FileLemmas.{
+  MakeFile-parts,
+  file_of-parts,
+  bytes_of-file_of,
+  lengths_of-file_of,
+  length-pieces_of,
+  IsFile-file_of,
+}
 use Rattle.lr_shelf_format.specs.Items.{HasBody, IsOrigin}
-use Rattle.lr_shelf_format.specs.Record.{IsHead, body_of, file_from, fields_of, head_of, head_of_file, numbers_in, origin_bytes, origin_of}
+use Rattle.lr_shelf_format.specs.Record.{
+  IsHead,
+  body_of,
+  file_from,
+  fields_of,
+  head_of,
+  head_of_file,
+  numbers_in,
+  origin_bytes,
+  origin_of,
+}
 use Rattle.lr_shelf_format.specs.declared.record.RecordHead.{RecordHead}
-use Rattle.lr_shelf_format.proofs.NumberLemmas.{AreBytes, AreBytes-drop, length-numbers_in, length-pairs, numbers_in-pairs, pairs-numbers_in}
+use Rattle.lr_shelf_format.proofs.NumberLemmas.{
+  AreBytes,
+  AreBytes-drop,
+  length-numbers_in,
+  length-pairs,
+  numbers_in-pairs,
+  pairs-numbers_in,
+}
 
 -- ---- what was written is read
 

@@ -1,5 +1,27 @@
 -- Ways from gate to gate: how they go on, and that there is one.
-use Rattle.std.proofs.Common.{◌≡◌, ◌<◌, ◌≤◌, ◌+◌, ◌-◌, ℕ, List, [], ◌∷◌, ◌++◌, length, slice_index, take, drop, refl, sym, ap, ◌∙◌, subst, arith, append_assoc}
+use Rattle.std.proofs.Common.{
+  ◌≡◌,
+  ◌<◌,
+  ◌≤◌,
+  ◌+◌,
+  ◌-◌,
+  ℕ,
+  List,
+  [],
+  ◌∷◌,
+  ◌++◌,
+  length,
+  slice_index,
+  take,
+  drop,
+  refl,
+  sym,
+  ap,
+  ◌∙◌,
+  subst,
+  arith,
+  append_assoc,
+}
 use Rattle.std.proofs.lemmas.List.{append-nil, drop-take, get_or-take, map_push}
 use Rattle.lr_shelf_format.specs.Items.{AreProper, Begins, IsProper, MayFollow}
 use Rattle.lr_shelf_format.specs.Walk.{IsBrokenAt, IsOpen, IsPath, IsWalk, Leads, Step, heads_of, next_gate}

@@ -1,10 +1,45 @@
 -- The items of a shelf, and what their first bytes tell of them.
-use Rattle.std.specs.Prelude.{◌≡◌, ◌<◌, ◌+◌, ◌*◌, ◌-◌, ◌==◌, ◌||◌, ℕ, Bool, false, Option, Some, None, List, [], ◌∷◌, ◌++◌, length, take, drop, sum, slice_index, All}
+use Rattle.std.specs.Prelude.{
+  ◌≡◌,
+  ◌<◌,
+  ◌+◌,
+  ◌*◌,
+  ◌-◌,
+  ◌==◌,
+  ◌||◌,
+  ℕ,
+  Bool,
+  false,
+  Option,
+  Some,
+  None,
+  List,
+  [],
+  ◌∷◌,
+  ◌++◌,
+  length,
+  take,
+  drop,
+  sum,
+  slice_index,
+  All,
+}
 use Rattle.byteorder.specs.Endian.{big_bytes, big_number}
 use Rattle.lr_bits.specs.Crc.{crc_of}
 use Rattle.lr_bits.specs.File.{File, IsFile}
 use Rattle.lr_bits.specs.declared.placed.Origin.{Origin}
-use Rattle.lr_shelf_format.specs.Record.{IsHead, body_of, fields_of, file_from, head_of, head_of_file, numbers_in, origin_bytes, origin_of, sealed}
+use Rattle.lr_shelf_format.specs.Record.{
+  IsHead,
+  body_of,
+  fields_of,
+  file_from,
+  head_of,
+  head_of_file,
+  numbers_in,
+  origin_bytes,
+  origin_of,
+  sealed,
+}
 use Rattle.lr_shelf_format.specs.declared.item.ItemHead.{ItemHead}
 use Rattle.lr_shelf_format.specs.declared.item.ItemHead.TheVariants.{Old, Add, Discard}
 use Rattle.lr_shelf_format.specs.declared.record.RecordHead.{RecordHead}

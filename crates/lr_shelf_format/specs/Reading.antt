@@ -2,7 +2,17 @@
 use Rattle.std.specs.Prelude.{◌≡◌, ◌⊎◌, ◌≤◌, ◌+◌, ℕ, List, ◌∷◌, [], map, All}
 use Rattle.std.specs.List.{sum_by}
 use Rattle.lr_shelf_format.specs.Header.{IsCapacity, header_bytes}
-use Rattle.lr_shelf_format.specs.Items.{IsItem, IsProper, Item, old_item, add_item, discard_item, extent_of, head_of_item, item_bytes}
+use Rattle.lr_shelf_format.specs.Items.{
+  IsItem,
+  IsProper,
+  Item,
+  old_item,
+  add_item,
+  discard_item,
+  extent_of,
+  head_of_item,
+  item_bytes,
+}
 use Rattle.lr_shelf_format.specs.Gates.{front, IsClosedAfter}
 use Rattle.lr_shelf_format.specs.Walk.{IsWalk, Step}
 

@@ -1,6 +1,29 @@
 //! Old and Add items read back from their bytes.
-ghost use Rattle.std.specs.Prelude.{◌≡◌, ◌≤◌, ◌*◌, ◌↔◌, All, IfNone, IfOk, IfSome, IsTrue, OnSome, ◌<◌, drop, length, sum};
-ghost use Rattle.lr_shelf_format.specs.Items.{Begins, HasBody, HasForm, Holds, IsRecord, computed_checksum, stored_checksum};
+ghost use Rattle.std.specs.Prelude.{
+  ◌≡◌,
+  ◌≤◌,
+  ◌*◌,
+  ◌↔◌,
+  All,
+  IfNone,
+  IfOk,
+  IfSome,
+  IsTrue,
+  OnSome,
+  ◌<◌,
+  drop,
+  length,
+  sum,
+};
+ghost use Rattle.lr_shelf_format.specs.Items.{
+  Begins,
+  HasBody,
+  HasForm,
+  Holds,
+  IsRecord,
+  computed_checksum,
+  stored_checksum,
+};
 ghost use Rattle.lr_shelf_format.specs.Record.{IsHead, file_from, numbers_in, origin_of};
 
 use crate::item::{ITEM_BYTES, ItemHead, read_item};

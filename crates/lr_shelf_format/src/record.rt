@@ -5,7 +5,15 @@ ghost use Rattle.byteorder.specs.Endian.{big_bytes};
 ghost use Rattle.lr_bits.specs.Crc.{crc_of};
 ghost use Rattle.lr_bits.specs.File.{IsFile};
 ghost use Rattle.lr_shelf_format.specs.Items.{IsOrigin, add_bytes};
-ghost use Rattle.lr_shelf_format.specs.Record.{IsHead, StartsWith, body_of, fields_of, head_of, head_of_file, origin_bytes};
+ghost use Rattle.lr_shelf_format.specs.Record.{
+  IsHead,
+  StartsWith,
+  body_of,
+  fields_of,
+  head_of,
+  head_of_file,
+  origin_bytes,
+};
 
 use crate::item::ADD;
 use byteorder::{BigEndian, ByteOrder};

@@ -1,5 +1,5 @@
-//! Coded lines, written as texts of 0 and 1, and what they give. What the texts stand for was worked out by hand from the
-//! standard, and agrees with `reference/lines.py`.
+//! Coded lines, written as texts of 0 and 1, and what they give. What the texts stand for was worked out by hand from
+//! the standard, and agrees with `reference/lines.py`.
 
 ghost use Rattle.std.specs.Prelude.{◌≡◌, ◌<◌, ◌≤◌, ◌%◌, ◌^◌};
 
@@ -127,7 +127,8 @@ fn with_zeros(alloc: Global, front: &str, zeros: usize, back: &str) -> Result<St
     Ok(text)
 }
 
-/// Whether sequences after `front` make the fault where they have so many zeros, and no other one where they have one less.
+/// Whether sequences after `front` make the fault where they have so many zeros, and no other one where they have one
+/// less.
 fn is_limit(
     alloc: Global,
     shape: Shape,

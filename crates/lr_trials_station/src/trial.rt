@@ -15,14 +15,15 @@ const TRIAL: [&str; 4] = ["trial", "1", "64", "0"];
 const LINE: &str =
     "symbols 1048576 frames 64 restored 64 lost 0 packets 452 files 63 left 0 stop end\n";
 
-// 512 frames of channel 0 have 452,608 bytes of packets: 97 files of 4,651, the next one's first packet of 43, and 19 of 72
-// behind it. 256 frames of channel 5 have 226,304: 923 packets of 245. So 6,305 + 20 + 923 packets, and 97 + 923 files.
+// 512 frames of channel 0 have 452,608 bytes of packets: 97 files of 4,651, the next one's first packet of 43, and 19
+// of 72 behind it. 256 frames of channel 5 have 226,304: 923 packets of 245. So 6,305 + 20 + 923 packets, and 97 +
+// 923 files.
 const LONG_LINE: &str =
     "symbols 16777216 frames 1024 restored 1024 lost 0 packets 7248 files 1020 left 0 stop end\n";
 
-// The contents of the shelf with those 63 files: 20 bytes of the empty shelf, and for each file a gate of one byte, a record of
-// 13 bytes, two for each packet, and its own bytes. 57 texts of 237 bytes in one packet are 253 each, 14,421 together; 6 images
-// of 4,131 bytes in 65 packets are 4,275 each, 25,650 together.
+// The contents of the shelf with those 63 files: 20 bytes of the empty shelf, and for each file a gate of one byte, a
+// record of 13 bytes, two for each packet, and its own bytes. 57 texts of 237 bytes in one packet are 253 each,
+// 14,421 together; 6 images of 4,131 bytes in 65 packets are 4,275 each, 25,650 together.
 const SHELF: usize = 40_091;
 
 // The same with 923 texts and 97 images: 20 + 233,519 + 414,675.

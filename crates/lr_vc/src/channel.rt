@@ -97,7 +97,8 @@ fn carry(
         continued_packet frame.now.zone frame.now.pointer bytes ≡ [] → IsOk result }
     ensures packets { OnOk result (packets.new.items ≡
         packets.old.items ++ completed_packet frame.now.vc frame.now.zone frame.now.pointer bytes) }
-    ensures open_packet { IfOk result (λ o. option_to_list o ≡ continued_packet frame.now.zone frame.now.pointer bytes) }
+    ensures open_packet { IfOk result
+        (λ o. option_to_list o ≡ continued_packet frame.now.zone frame.now.pointer bytes) }
     ensures short { IfOk result IsShort }
     ensures kept { KeepsFront packets.old.items packets.new.items }
 {
@@ -130,7 +131,8 @@ fn carry_met(
         continued_packets (fields frame.now) (option_to_list met) ≡ [] → IsOk result }
     ensures packets { OnOk result (packets.new.items ≡
         packets.old.items ++ completed_packets (fields frame.now) (option_to_list met)) }
-    ensures open_packet { IfOk result (λ o. option_to_list o ≡ continued_packets (fields frame.now) (option_to_list met)) }
+    ensures open_packet { IfOk result
+        (λ o. option_to_list o ≡ continued_packets (fields frame.now) (option_to_list met)) }
     ensures short { IfOk result IsShort }
     ensures kept { KeepsFront packets.old.items packets.new.items }
 {

@@ -4,7 +4,8 @@ use Rattle.lr_block.proofs.words.put_word.Goals as goal
 
 pub returns-clause-put : goal.returns-clause-put
 returns-clause-put c =
-    sym (every_fourth_by_all 255 c.loop-i.block c.args.word.now c.args.k c.told-word (λ j h. sym (c.loop-i.invariant.done j (omega arith))))
+    sym (every_fourth_by_all 255 c.loop-i.block c.args.word.now c.args.k c.told-word
+    (λ j h. sym (c.loop-i.invariant.done j (omega arith))))
 
 pub returns-clause-kept : goal.returns-clause-kept
 returns-clause-kept c m small other =

@@ -4,7 +4,8 @@ use Rattle.lr_block.proofs.words.take_word.Goals as goal
 
 pub returns : goal.returns
 returns c =
-    every_fourth_by_all 255 c.args.block.now c.loop-i.word c.args.k c.loop-i.invariant.long (λ j h. c.loop-i.invariant.done j (omega arith))
+    every_fourth_by_all 255 c.args.block.now c.loop-i.word c.args.k c.loop-i.invariant.long
+    (λ j h. c.loop-i.invariant.done j (omega arith))
 
 pub loop-i-preserved : goal.loop-i-preserved
 loop-i-preserved c = search (rules, arith)

@@ -24,10 +24,13 @@ pub loop-byte-preserved : goal.loop-byte-preserved
 loop-byte-preserved c =
     let coefficient : c.from_dual.result < 256 = omega arith in (
       c.divide_step.ensures.long,
-      elements-step c.loop-byte.remainder c.divide_step.new.remainder c.from_dual.result coefficient c.loop-byte.invariant.1 c.divide_step.ensures,
+      elements-step c.loop-byte.remainder c.divide_step.new.remainder c.from_dual.result coefficient
+          c.loop-byte.invariant.1 c.divide_step.ensures,
       λ j h.
-          value-step c.loop-byte.remainder c.divide_step.new.remainder c.from_dual.result j c.loop-byte.invariant.0 coefficient h c.divide_step.ensures
-          ∙ word_more c.args.word.now c.loop-byte.byte-index (value_of c.loop-byte.remainder (root_at j)) c.from_dual.result (root_at j)
+          value-step c.loop-byte.remainder c.divide_step.new.remainder c.from_dual.result j
+          c.loop-byte.invariant.0 coefficient h c.divide_step.ensures
+          ∙ word_more c.args.word.now c.loop-byte.byte-index (value_of c.loop-byte.remainder (root_at j))
+          c.from_dual.result (root_at j)
           (omega (arith, c.told-word)) c.from_dual.ensures.from (c.loop-byte.invariant.2 j h),
     )
 
@@ -36,7 +39,8 @@ returns-clause-remainder c = record {
   long = c.loop-byte.invariant.0;
   same = λ j h.
       ap (value_of c.loop-byte.remainder) (sym (root_at-is j)) ∙ c.loop-byte.invariant.2 j h
-      ∙ ap (λ l. value_of (map conventional_of l) (root_at j)) (take_all c.loop-byte.byte-index c.args.word.now (omega (arith, c.told-word)))
+      ∙ ap (λ l. value_of (map conventional_of l) (root_at j))
+      (take_all c.loop-byte.byte-index c.args.word.now (omega (arith, c.told-word)))
       ∙ value_of_word c.args.word.now (root_at j) c.told-word ∙ ap (word_value c.args.word.now) (root_at-is j);
   elements = c.loop-byte.invariant.1;
 }

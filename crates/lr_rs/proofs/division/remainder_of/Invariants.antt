@@ -8,4 +8,5 @@ abbrev pub invariant-loop-byte : goal.invariant-loop-byte
 invariant-loop-byte l =
     (length l.remainder ≡ 32)
     × ((k : ℕ) → get_or l.remainder k 0 < 256)
-    × ((j : ℕ) → j < 32 → value_of l.remainder (root_at j) ≡ value_of (map conventional_of (take l.byte-index l.word)) (root_at j))
+    × ((j : ℕ) → j < 32 → value_of l.remainder (root_at j)
+    ≡ value_of (map conventional_of (take l.byte-index l.word)) (root_at j))

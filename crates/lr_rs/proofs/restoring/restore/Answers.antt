@@ -21,14 +21,17 @@ returns-then-is_codeword-clause-changed c = sym (distance-self 255 c.args.word.n
 pub returns-then-count-gt-MOST_ERRORS-clause-none : goal.returns-then-count-gt-MOST_ERRORS-clause-none
 returns-then-count-gt-MOST_ERRORS-clause-none c c' r =
     let nonzero = c.kernel.ensures.nonzero (cc) in
-    let few = at_most_sixteen c.kernel.new.x c.find_roots-count.new.places c.find_roots-count.result c.find_roots-count.ensures.long
-    (All-from_get_or (λ a. a < 256) c.kernel.new.x 0 (λ i h. c.kernel.ensures.elements (cc) i)) c.find_roots-count.ensures.list nonzero.0 nonzero.1 nonzero.2 in
+    let few = at_most_sixteen c.kernel.new.x c.find_roots-count.new.places c.find_roots-count.result
+    c.find_roots-count.ensures.long
+    (All-from_get_or (λ a. a < 256) c.kernel.new.x 0 (λ i h. c.kernel.ensures.elements (cc) i))
+    c.find_roots-count.ensures.list nonzero.0 nonzero.1 nonzero.2 in
     absurd (omega (arith, few))
 
 -- the error values would be a solution
 pub returns-in-Err-clause-none : goal.returns-in-Err-clause-none
 returns-in-Err-clause-none c c' r =
-    let found : Found c.args.word.now c.kernel.new.x c.find_roots-count.new.places c.find_roots-count.result (slice_index c.syndromes_of.new.syndromes) (entry c.fill_key_equation.new.system) =
+    let found : Found c.args.word.now c.kernel.new.x c.find_roots-count.new.places c.find_roots-count.result
+    (slice_index c.syndromes_of.new.syndromes) (entry c.fill_key_equation.new.system) =
     record {
       values = λ j h. c.syndromes_of.ensures j h ∙ c.is_codeword.ensures.remainder.same j h;
       filled = c.fill_key_equation.ensures;
@@ -38,13 +41,15 @@ returns-in-Err-clause-none c c' r =
       few = c.if-count-gt-MOST_ERRORS.false;
     } in
     c.in-Err.ensures.none _
-    (there_is_a_solution c.args.word.now c' c.kernel.new.x c.find_roots-count.new.places c.find_roots-count.result (slice_index c.syndromes_of.new.syndromes)
+    (there_is_a_solution c.args.word.now c' c.kernel.new.x c.find_roots-count.new.places
+    c.find_roots-count.result (slice_index c.syndromes_of.new.syndromes)
     (entry c.fill_key_equation.new.system) (entry c.fill_equations.new.system) found r c.fill_equations.ensures)
 
 -- the corrected word would be the codeword
 pub returns-then-not-is_codeword-clause-none : goal.returns-then-not-is_codeword-clause-none
 returns-then-not-is_codeword-clause-none c c' r =
-    let found : Found c.args.word.now c.kernel.new.x c.find_roots-count.new.places c.find_roots-count.result (slice_index c.syndromes_of.new.syndromes) (entry c.fill_key_equation.new.system) =
+    let found : Found c.args.word.now c.kernel.new.x c.find_roots-count.new.places c.find_roots-count.result
+    (slice_index c.syndromes_of.new.syndromes) (entry c.fill_key_equation.new.system) =
     record {
       values = λ j h. c.syndromes_of.ensures j h ∙ c.is_codeword.ensures.remainder.same j h;
       filled = c.fill_key_equation.ensures;
@@ -53,10 +58,14 @@ returns-then-not-is_codeword-clause-none c c' r =
       list = c.find_roots-count.ensures.list;
       few = c.if-count-gt-MOST_ERRORS.false;
     } in
-    let same = it_is_the_codeword c.args.word.now c' c.kernel.new.x c.find_roots-count.new.places c.solve.new.x c.correct.new.word c.find_roots-count.result
-    (slice_index c.syndromes_of.new.syndromes) (entry c.fill_key_equation.new.system) (entry c.fill_equations.new.system) found r c.fill_equations.ensures
-    c.in_default.ensures.ok c.in_default.ensures.elements c.is_codeword-2.ensures.word c.correct.ensures.changed c.correct.ensures.kept in
-    absurd (false≢true (sym c.if-not-is_codeword.true ∙ c.is_codeword-2.ensures.codeword.1 (subst IsCodeword (sym same) r.is_codeword)))
+    let same = it_is_the_codeword c.args.word.now c' c.kernel.new.x c.find_roots-count.new.places c.solve.new.x
+    c.correct.new.word c.find_roots-count.result
+    (slice_index c.syndromes_of.new.syndromes) (entry c.fill_key_equation.new.system)
+    (entry c.fill_equations.new.system) found r c.fill_equations.ensures
+    c.in_default.ensures.ok c.in_default.ensures.elements c.is_codeword-2.ensures.word c.correct.ensures.changed
+    c.correct.ensures.kept in
+    absurd (false≢true (sym c.if-not-is_codeword.true
+    ∙ c.is_codeword-2.ensures.codeword.1 (subst IsCodeword (sym same) r.is_codeword)))
 
 pub returns-then-not-is_codeword-clause-same : goal.returns-then-not-is_codeword-clause-same
 returns-then-not-is_codeword-clause-same c = refl
@@ -64,7 +73,8 @@ returns-then-not-is_codeword-clause-same c = refl
 -- and no farther away than it
 pub returns-then-changed-gt-MOST_ERRORS-clause-none : goal.returns-then-changed-gt-MOST_ERRORS-clause-none
 returns-then-changed-gt-MOST_ERRORS-clause-none c c' r =
-    let found : Found c.args.word.now c.kernel.new.x c.find_roots-count.new.places c.find_roots-count.result (slice_index c.syndromes_of.new.syndromes) (entry c.fill_key_equation.new.system) =
+    let found : Found c.args.word.now c.kernel.new.x c.find_roots-count.new.places c.find_roots-count.result
+    (slice_index c.syndromes_of.new.syndromes) (entry c.fill_key_equation.new.system) =
     record {
       values = λ j h. c.syndromes_of.ensures j h ∙ c.is_codeword.ensures.remainder.same j h;
       filled = c.fill_key_equation.ensures;
@@ -73,10 +83,19 @@ returns-then-changed-gt-MOST_ERRORS-clause-none c c' r =
       list = c.find_roots-count.ensures.list;
       few = c.if-count-gt-MOST_ERRORS.false;
     } in
-    let same = it_is_the_codeword c.args.word.now c' c.kernel.new.x c.find_roots-count.new.places c.solve.new.x c.correct.new.word c.find_roots-count.result
-    (slice_index c.syndromes_of.new.syndromes) (entry c.fill_key_equation.new.system) (entry c.fill_equations.new.system) found r c.fill_equations.ensures
-    c.in_default.ensures.ok c.in_default.ensures.elements c.is_codeword-2.ensures.word c.correct.ensures.changed c.correct.ensures.kept in
-    absurd (omega (arith, c.distance_of-changed.ensures, ap (distance 255 c.args.word.now) same, r.near, c.if-changed-gt-MOST_ERRORS.true))
+    let same = it_is_the_codeword c.args.word.now c' c.kernel.new.x c.find_roots-count.new.places c.solve.new.x
+    c.correct.new.word c.find_roots-count.result
+    (slice_index c.syndromes_of.new.syndromes) (entry c.fill_key_equation.new.system)
+    (entry c.fill_equations.new.system) found r c.fill_equations.ensures
+    c.in_default.ensures.ok c.in_default.ensures.elements c.is_codeword-2.ensures.word c.correct.ensures.changed
+    c.correct.ensures.kept in
+    absurd (omega (
+      arith,
+      c.distance_of-changed.ensures,
+      ap (distance 255 c.args.word.now) same,
+      r.near,
+      c.if-changed-gt-MOST_ERRORS.true,
+    ))
 
 pub returns-clause-restored : goal.returns-clause-restored
 returns-clause-restored c = record {

@@ -5,4 +5,5 @@ use Rattle.lr_rs.proofs.roots.find_roots.Given as goal
 
 abbrev pub invariant-loop-place : goal.invariant-loop-place
 invariant-loop-place l =
-    AreTerms l.polynomial l.terms l.place × IsRootList l.polynomial l.place l.count l.places × (l.count ≤ l.place) × (length l.places ≡ 255)
+    AreTerms l.polynomial l.terms l.place × IsRootList l.polynomial l.place l.count l.places
+    × (l.count ≤ l.place) × (length l.places ≡ 255)

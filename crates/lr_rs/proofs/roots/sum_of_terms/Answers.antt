@@ -15,6 +15,7 @@ loop-k-init c = refl
 pub loop-k-preserved : goal.loop-k-preserved
 loop-k-preserved c =
     c.add-sum.ensures
-    ∙ ap (bit_xor c.loop-k.sum) (get_or_default c.args.terms.now c.loop-k.k c.index-terms-k.result 0 (omega (arith, c.told-terms)))
+    ∙ ap (bit_xor c.loop-k.sum) (get_or_default c.args.terms.now c.loop-k.k c.index-terms-k.result 0
+    (omega (arith, c.told-terms)))
     ∙ ap (λ z. bit_xor z (slice_index c.args.terms.now c.loop-k.k)) c.loop-k.invariant
     ∙ sym (sum_more c.loop-k.k (slice_index c.args.terms.now))

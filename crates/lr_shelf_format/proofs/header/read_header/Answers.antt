@@ -1,11 +1,33 @@
-use Rattle.std.proofs.Common.{◌≡◌, ◌⊎◌, get_or, Bool, IsTrue, true, false, not, ◌∷◌, [], take, drop, refl, sym, ap, ◌∙◌, subst, arith}
+use Rattle.std.proofs.Common.{
+  ◌≡◌,
+  ◌⊎◌,
+  get_or,
+  Bool,
+  IsTrue,
+  true,
+  false,
+  not,
+  ◌∷◌,
+  [],
+  take,
+  drop,
+  refl,
+  sym,
+  ap,
+  ◌∙◌,
+  subst,
+  arith,
+}
 use Rattle.std.proofs.lemmas.Slice.Eq.{bytes_eq-Decides}
 use Rattle.byteorder.specs.Endian.{big_number}
 use Rattle.byteorder.specs.Numbers.{big_from-take}
 use Rattle.lr_shelf_format.specs.Header.{header_bytes}
 use Rattle.lr_shelf_format.proofs.HeaderLemmas.{capacity_in, take-header_bytes, version_is}
 use Rattle.lr_shelf_format.proofs.header.read_header.Goals as goal
-use Rattle.lr_shelf_format.proofs.header.read_header.Goals.{then-capacity-lt-LEAST_CAPACITY-via-then-capacity-lt-LEAST_CAPACITY, then-capacity-lt-LEAST_CAPACITY-via-else-capacity-lt-LEAST_CAPACITY+then-capacity-gt-MOST_CAPACITY}
+use Rattle.lr_shelf_format.proofs.header.read_header.Goals.{
+  then-capacity-lt-LEAST_CAPACITY-via-then-capacity-lt-LEAST_CAPACITY,
+  then-capacity-lt-LEAST_CAPACITY-via-else-capacity-lt-LEAST_CAPACITY+then-capacity-gt-MOST_CAPACITY,
+}
 
 is_true : (b : Bool) → not b ≡ false → b ≡ true
 is_true b = elim b as (λ v. not v ≡ false → v ≡ true) [ true ↦ λ e. refl | false ↦ λ e. cc (e) ]

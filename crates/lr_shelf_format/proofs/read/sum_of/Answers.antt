@@ -1,4 +1,24 @@
-use Rattle.std.proofs.Common.{rules, ◌≡◌, ◌-◌, ◌*◌, ◌<◌, ℕ, zero, suc, [], ◌∷◌, All, length, take, drop, sum, ap, subst, ◌∙◌, arith}
+use Rattle.std.proofs.Common.{
+  rules,
+  ◌≡◌,
+  ◌-◌,
+  ◌*◌,
+  ◌<◌,
+  ℕ,
+  zero,
+  suc,
+  [],
+  ◌∷◌,
+  All,
+  length,
+  take,
+  drop,
+  sum,
+  ap,
+  subst,
+  ◌∙◌,
+  arith,
+}
 use Rattle.std.proofs.lemmas.List.{take_rest}
 use Rattle.byteorder.specs.Endian.{big_number}
 use Rattle.lr_shelf_format.specs.Record.{numbers_in}

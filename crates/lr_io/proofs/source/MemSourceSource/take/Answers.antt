@@ -1,4 +1,19 @@
-use Rattle.std.proofs.Common.{arith, refl, length-append, length-drop, length-take, ◌≡◌, ◌++◌, ℕ, List, length, drop, min, rules, subst}
+use Rattle.std.proofs.Common.{
+  arith,
+  refl,
+  length-append,
+  length-drop,
+  length-take,
+  ◌≡◌,
+  ◌++◌,
+  ℕ,
+  List,
+  length,
+  drop,
+  min,
+  rules,
+  subst,
+}
 use Rattle.lr_io.proofs.Moving.{moved_on}
 use Rattle.lr_io.proofs.PlaceLemmas.{moves_of_both}
 use Rattle.lr_io.specs.MemSource.{cut_places, failing_places, left_of, moved}
