@@ -25,7 +25,7 @@ use Rattle.lr_catalog.specs.declared.summary.Summary.TheVariants.{Decode}
 use Rattle.lr_catalog.specs.Outcomes.{window_line}
 use Rattle.lr_catalog.specs.Summaries.{summary_line}
 use Rattle.lr_commands.specs.declared.cause.Cause.{Cause}
-use Rattle.lr_receiving.specs.declared.decode.Decoded.{Decoded}
+use Rattle.lr_receiving.specs.declared.outcome_lines.Decoded.{Decoded}
 use Rattle.lr_receiving.specs.declared.input.Input.TheVariants.{Symbols}
 use Rattle.lr_receiving.specs.Decode.{lines_of_windows, decode_text, decode_last, decode_count}
 use Rattle.lr_receiving.specs.Decoding.{Decoding, IsFresh, outcomes_given, DecodesSoFar, GivesFrame, EndsFrames}

@@ -25,8 +25,19 @@ use Rattle.lr_receiving.specs.Causes.{IsEarlier}
 use Rattle.lr_receiving.specs.Inputs.{outcomes_of_bytes, files_of_bytes, left_of}
 use Rattle.lr_receiving.specs.Onto.{IsFull, HadRoom}
 use Rattle.lr_receiving.specs.Reading.{IsRead, EndsFor}
-use Rattle.lr_receiving.specs.Shelving.{with_files, next_number, shelved_lines, LeavesFronts, Holds, Got, GotPart,
-    DiskStops, MemoryStops, FullStops, LineStops}
+use Rattle.lr_receiving.specs.Shelving.{
+  with_files,
+  next_number,
+  shelved_lines,
+  LeavesFronts,
+  Holds,
+  Got,
+  GotPart,
+  DiskStops,
+  MemoryStops,
+  FullStops,
+  LineStops,
+}
 
 -- how many bytes were taken, how many outcomes there are, of each kind, how many good packets and files, and how many
 -- bytes are left

@@ -3,7 +3,7 @@ use Rattle.std.specs.Prelude.{◌≡◌, ℕ, List, length, count_by}
 use Rattle.lr_io.specs.declared.source.Source.{Ghosts as SourceOf}
 use Rattle.lr_io.specs.declared.sink.Sink.{Ghosts as SinkOf}
 use Rattle.lr_layers.specs.Layers.{is_restored}
-use Rattle.lr_receiving.specs.declared.decode.Decoded.{Decoded}
+use Rattle.lr_receiving.specs.declared.outcome_lines.Decoded.{Decoded}
 use Rattle.lr_receiving.specs.declared.input.Input.TheVariants.{Symbols}
 use Rattle.lr_receiving.specs.Decode.{decode_text}
 use Rattle.lr_receiving.specs.Inputs.{outcomes_of_bytes}

@@ -7,27 +7,27 @@
 #![tactic(auto)]
 
 mod counted;
-mod decode;
 mod ended;
-mod frames;
-mod init;
+mod frame_lines;
 mod input;
-mod make;
-mod packets;
+mod new_shelf;
+mod outcome_lines;
+mod packet_lines;
 mod put;
 mod reader;
-mod receive;
+mod reception;
 mod shelve;
 mod symbols;
-mod trial;
+mod test_stream;
+mod trial_run;
 mod units;
 mod windows;
 
-pub use decode::decode;
-pub use frames::frames;
-pub use init::init;
+pub use frame_lines::frames;
 pub use input::{Input, MOST_BYTES, UnitForm};
-pub use make::make;
-pub use packets::packets;
-pub use receive::receive;
-pub use trial::trial;
+pub use new_shelf::init;
+pub use outcome_lines::decode;
+pub use packet_lines::packets;
+pub use reception::receive;
+pub use test_stream::make;
+pub use trial_run::trial;

@@ -2,8 +2,8 @@
 ghost use Rattle.std.specs.Prelude.{◌≡◌, ◌≤◌, ◌^◌, IfOk};
 ghost use Rattle.lr_receiving.specs.Readers.{input_of, IsReadyFor};
 
-use crate::symbols::Decoder;
 use crate::input::{Input, UnitForm};
+use crate::symbols::Decoder;
 use lr_bits::NoMemory;
 use std::alloc::Global;
 

@@ -14,12 +14,12 @@ ghost use Rattle.lr_receiving.specs.Shelved.{HasWholeFrame, MayStop, ShelvesSoFa
 use crate::put::put_text;
 use lr_bits::{Bytes, Outcome, Placed};
 use lr_catalog::shelved_line;
+use lr_commands::Cause;
 use lr_disk::Disk;
 use lr_io::Sink;
 use lr_layers::Layers;
 use lr_shelf::Shelf;
 use std::alloc::Global;
-use lr_commands::Cause;
 
 /// Shelves one file: its line is composed, the file is appended, and then the line is put.
 fn shelve<D: Disk, O: Sink>(

@@ -9,15 +9,15 @@ ghost use Rattle.lr_receiving.specs.WindowsRead.{EndsWindows};
 ghost use Rattle.lr_receiving.specs.declared.input.Input.TheVariants.{Symbols};
 
 use crate::ended::cause_at;
-use crate::decode::{Decoded, count_restored, put_last};
+use crate::outcome_lines::{Decoded, count_restored, put_last};
 use crate::put::put_text;
 use crate::symbols::Decoder;
 use crate::units::Next;
 use lr_bits::{Bytes, Outcome};
 use lr_catalog::{Stop, window_line};
+use lr_commands::Cause;
 use lr_io::{Sink, Source};
 use std::alloc::Global;
-use lr_commands::Cause;
 
 fn put_window<O: Sink>(
     alloc: Global,
