@@ -22,7 +22,8 @@ use Rattle.lr_receiving.specs.Reading.{units_of}
 use Rattle.lr_receiving.specs.Inputs.{unit_bytes, outcome_of_unit, outcomes_of_units, outcomes_of_bytes, left_of}
 use Rattle.lr_receiving.specs.Decode.{lines_of_units, decode_text, decode_last, decode_count}
 use Rattle.lr_receiving.specs.Printing.{Prints, PrintsAll}
-use Rattle.lr_receiving.specs.Progress.{Gathers, GathersFor, EndsUnits, Puts, PutStops}
+use Rattle.lr_receiving.specs.Progress.{Gathers, GathersFor, EndsUnits, PutStops}
+use Rattle.lr_commands.specs.Puts.{Puts}
 use Rattle.lr_receiving.proofs.Printed.{SoFar, so_far_begun, so_far_more, so_far_stopped, few_units, ended, all_put, last_stopped}
 use Rattle.lr_receiving.proofs.ReceiveLoop.{positive, outcomes_are, outcomes_counted, outcomes_of_units-none, outcomes_of_units-push, rest_of, both_kinds}
 use Rattle.lr_receiving.proofs.UnitsOf.{enumerate_from-push, units_are, length-concat, long}

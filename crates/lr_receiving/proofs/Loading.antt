@@ -9,17 +9,19 @@ use Rattle.lr_disk.specs.Disk.{LeavesOnly}
 use Rattle.lr_layers.proofs.Pushing.{no_files}
 use Rattle.lr_shelf_format.specs.Reading.{StandsFor}
 use Rattle.lr_shelf.specs.Shelf.{IsDurable, IsSettled}
-use Rattle.lr_shelf.specs.Load.{Loads, IsLoadRefusal, IsNoShelfAt, MayRefuseAt}
+use Rattle.lr_shelf.specs.Load.{Loads, IsLoadRefusal, MayRefuseAt}
+use Rattle.lr_shelf_format.specs.Way.{IsNoShelfAt}
 use Rattle.lr_shelf.specs.declared.shelf.Shelf.{Shelf}
 use Rattle.lr_shelf.specs.declared.error.ShelfError.{ShelfError}
 use Rattle.lr_shelf.specs.declared.error.ShelfError.TheVariants.{Disk as Disk', NotAShelf as NotAShelf', NotEmpty as NotEmpty', Capacity as Capacity', NoSuchFile as NoSuchFile', Crc as Crc', NoMemory as NoMemory', Failed as Failed'}
-use Rattle.lr_shelf.proofs.Moments.{weaker}
+use Rattle.lr_disk.proofs.Moments.{weaker}
 use Rattle.lr_catalog.specs.declared.stop.Stop.{Stop}
 use Rattle.lr_catalog.specs.declared.stop.Stop.TheVariants.{End, Limit, Fault}
 use Rattle.lr_commands.specs.declared.cause.Cause.{Cause}
 use Rattle.lr_commands.specs.declared.cause.Cause.TheVariants.{Done, Usage, SourceFailed, DiskFailed, OutputFailed, NotAShelf, NoSuchFile, NoMemory, Capacity, NotEmpty, BadChecksum}
 use Rattle.lr_receiving.specs.declared.input.Input.{Input}
-use Rattle.lr_receiving.specs.Causes.{cause_of, cause_at}
+use Rattle.lr_commands.specs.Causes.{cause_of}
+use Rattle.lr_receiving.specs.Causes.{cause_at}
 use Rattle.lr_receiving.specs.declared.input.Input.TheVariants.{Symbols, Units}
 use Rattle.lr_lock.specs.FramesOf.{frames_of}
 use Rattle.lr_frame.specs.Outcomes.{outcomes_of_symbols}

@@ -8,10 +8,12 @@ use Rattle.lr_make.proofs.Sending.{symbol_stream-more}
 use Rattle.lr_bits.specs.Faults.{Rose}
 use Rattle.lr_io.specs.declared.sink.Sink.{Ghosts as SinkOf}
 use Rattle.lr_commands.specs.declared.cause.Cause.{Cause}
-use Rattle.lr_commands.specs.declared.cause.Cause.TheVariants.{Done, OutputFailed}
-use Rattle.lr_receiving.specs.Causes.{IsCaused}
+use Rattle.lr_commands.specs.declared.cause.Cause.TheVariants.{Done, Failed}
+use Rattle.lr_commands.specs.declared.cause.Party.TheVariants.{Output}
+use Rattle.lr_receiving.specs.Causes.{counts}
+use Rattle.lr_commands.specs.Causes.{IsCaused}
 use Rattle.lr_receiving.specs.Made.{bytes_of_symbols, MakeEnds}
-use Rattle.lr_receiving.specs.Progress.{Puts, PutFails}
+use Rattle.lr_commands.specs.Puts.{Puts, PutFails}
 use Rattle.lr_receiving.proofs.Putting.{put_behind}
 
 pub symbols_more : (start wrong n : ℕ) → bytes_of_symbols (symbol_stream start wrong (n + 1)) ≡ bytes_of_symbols (symbol_stream start wrong n) ++ bytes_of_symbols (symbols_at start wrong n)
@@ -56,12 +58,12 @@ module _ (text item : ℕ → List ℕ) (grows : (n : ℕ) → text (n + 1) ≡ 
 
 -- how the call ends, where the bytes were put or not
 module _ {O : Type 0} (out : SinkOf O) (text : List ℕ) (o o' : O) where
-  pub make_ends : (r : Result (Unit {0}) Cause) (cause : Cause) → IfOk r (λ _. Puts out text o o') → OnErr r (PutFails out text o o') → IfErr r (λ c. c ≡ OutputFailed)
+  pub make_ends : (r : Result (Unit {0}) Cause) (cause : Cause) → IfOk r (λ _. Puts out text o o') → OnErr r (PutFails out text o o') → IfErr r (λ c. c ≡ Failed Output)
       → OnOk r (cause ≡ Done) → IfErr r (λ c. cause ≡ c) → MakeEnds out text cause o o'
   make_ends (Ok u) cause put failed only done stopped = subst (λ (c : Cause). MakeEnds out text c o o') (sym done) (put.put, put.kept)
   make_ends (Err c) cause put failed only done stopped = subst (λ (x : Cause). MakeEnds out text x o o') (sym (stopped ∙ only)) failed.part
 
-  pub make_caused : (r : Result (Unit {0}) Cause) (cause : Cause) → OnErr r (PutFails out text o o') → IfErr r (λ c. c ≡ OutputFailed)
-      → OnOk r (cause ≡ Done) → IfErr r (λ c. cause ≡ c) → IsCaused cause 0 0 0 0 (out.faults o) (out.faults o')
-  make_caused (Ok u) cause failed only done stopped = subst (λ (c : Cause). IsCaused c 0 0 0 0 (out.faults o) (out.faults o')) (sym done) tt
-  make_caused (Err c) cause failed only done stopped = subst (λ (x : Cause). IsCaused x 0 0 0 0 (out.faults o) (out.faults o')) (sym (stopped ∙ only)) failed.rose
+  pub make_caused : (r : Result (Unit {0}) Cause) (cause : Cause) → OnErr r (PutFails out text o o') → IfErr r (λ c. c ≡ Failed Output)
+      → OnOk r (cause ≡ Done) → IfErr r (λ c. cause ≡ c) → IsCaused cause (counts 0 0 (out.faults o)) (counts 0 0 (out.faults o'))
+  make_caused (Ok u) cause failed only done stopped = subst (λ (c : Cause). IsCaused c (counts 0 0 (out.faults o)) (counts 0 0 (out.faults o'))) (sym done) tt
+  make_caused (Err c) cause failed only done stopped = subst (λ (x : Cause). IsCaused x (counts 0 0 (out.faults o)) (counts 0 0 (out.faults o'))) (sym (stopped ∙ only)) failed.rose

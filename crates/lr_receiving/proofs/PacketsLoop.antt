@@ -13,7 +13,8 @@ use Rattle.lr_receiving.specs.Packets.{frames_read, packets_read, lines_of_packe
 use Rattle.lr_receiving.specs.Added.{lines_added}
 use Rattle.lr_receiving.specs.PacketsRead.{IsAfter}
 use Rattle.lr_receiving.specs.Printing.{Prints}
-use Rattle.lr_receiving.specs.Progress.{Gathers, Puts, PutStops}
+use Rattle.lr_receiving.specs.Progress.{Gathers, PutStops}
+use Rattle.lr_commands.specs.Puts.{Puts}
 use Rattle.lr_receiving.proofs.Adding.{lines_of_packets-none, lines_of_packets-push}
 use Rattle.lr_receiving.proofs.Printed.{SoFar, so_far_begun, so_far_more, so_far_stopped, units_fit}
 

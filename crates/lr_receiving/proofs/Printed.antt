@@ -15,7 +15,8 @@ use Rattle.lr_receiving.specs.Causes.{cause_at}
 use Rattle.lr_receiving.specs.Gathered.{Gathered}
 use Rattle.lr_receiving.specs.Reading.{IsRead, EndsFor, units_of}
 use Rattle.lr_receiving.specs.Printing.{PrintsAll, Prints}
-use Rattle.lr_receiving.specs.Progress.{Gathers, GathersFor, ReadsUnits, EndsUnits, Puts, PutStops}
+use Rattle.lr_receiving.specs.Progress.{Gathers, GathersFor, ReadsUnits, EndsUnits, PutStops}
+use Rattle.lr_commands.specs.Puts.{Puts}
 use Rattle.lr_receiving.proofs.Putting.{put_behind, line_stops, last_stops}
 use Rattle.lr_receiving.proofs.UnitsOf.{units_are, length-concat}
 
@@ -86,7 +87,8 @@ module _ {S : Type 0} (source : SourceOf S) (n limit : ℕ) where
       reason_of : (x : Stop) → length (concat units ++ now.held) ≡ now.taken → GathersFor source n (Ended x) now t s' → EndsFor source x limit (concat units ++ now.held) s s'
       reason_of End all w = (omega (arith, all, w.1, more.most, reads.most), λ tells. w.2 (reads.told tells), w.3 ∙ reads.kept)
       reason_of Limit all w = (omega (arith, all, w.1, more.most, reads.most), w.2 ∙ reads.kept)
-      reason_of Fault all w = subst (λ k. Rose k (source.faults s')) reads.kept w.1
+      reason_of Fault all w =
+          (omega (arith, all, w.1, more.most, reads.most), subst (λ k. Rose k (source.faults s')) reads.kept w.2)
 
 module _ {S O : Type 0} (source : SourceOf S) (out : SinkOf O) (n limit : ℕ) (positive : 0 < n) (text : List (List ℕ) → List ℕ) (last : List ℕ → Stop → List ℕ) where
   -- the text of the whole units of the bytes

@@ -5,9 +5,11 @@ use Rattle.lr_io.specs.declared.source.Source.{Ghosts as SourceOf}
 use Rattle.lr_io.specs.declared.sink.Sink.{Ghosts as SinkOf}
 use Rattle.lr_catalog.specs.declared.stop.Stop.{Stop}
 use Rattle.lr_commands.specs.declared.cause.Cause.{Cause}
-use Rattle.lr_commands.specs.declared.cause.Cause.TheVariants.{Done, Usage, SourceFailed, DiskFailed, OutputFailed, NotAShelf, NoSuchFile, NoMemory, Capacity, NotEmpty, BadChecksum}
+use Rattle.lr_commands.specs.declared.cause.Cause.TheVariants.{Failed, NoMemory}
+use Rattle.lr_commands.specs.declared.cause.Party.TheVariants.{Output}
 use Rattle.lr_receiving.specs.Printing.{Prints}
-use Rattle.lr_receiving.specs.Progress.{Puts, PutStops}
+use Rattle.lr_commands.specs.Puts.{Puts}
+use Rattle.lr_receiving.specs.Progress.{PutStops}
 use Rattle.lr_receiving.specs.Reading.{IsRead, EndsFor}
 
 -- one text behind another
@@ -23,16 +25,7 @@ module _ {S O : Type 0} (source : SourceOf S) (out : SinkOf O) (lines : List ℕ
     (read : IsRead source limit bytes s s') (put : Puts out front o p) where
   -- and the next line wasn't
   pub line_stops : (line later : List ℕ) → lines bytes ≡ front ++ (line ++ later) → (o' : O) (cause : Cause) → PutStops out line cause p o' → Prints source out lines last limit cause s s' o o'
-  line_stops line later all o' Done stop = absurd stop
-  line_stops line later all o' Usage stop = stop
-  line_stops line later all o' SourceFailed stop = absurd stop
-  line_stops line later all o' DiskFailed stop = absurd stop
-  line_stops line later all o' (NotAShelf at) stop = absurd stop
-  line_stops line later all o' (NoSuchFile count) stop = absurd stop
-  line_stops line later all o' (Capacity needed capacity) stop = absurd stop
-  line_stops line later all o' (NotEmpty size) stop = absurd stop
-  line_stops line later all o' BadChecksum stop = absurd stop
-  line_stops line later all o' OutputFailed stop = inl (record {
+  line_stops line later all o' (Failed Output) stop = inl (record {
     bytes = bytes;
     read = read;
     part = λ tells.
@@ -53,20 +46,12 @@ module _ {S O : Type 0} (source : SourceOf S) (out : SinkOf O) (lines : List ℕ
     read = read;
     front = λ tells. record { front = front; rest = line ++ later; split = all; put = ap out.contents stop ∙ put.put tells };
   }
+  line_stops line later all o' _ stop = absurd stop
 
   -- and all of them were, but the last line wasn't
   pub last_stops : (stop : Stop) → EndsFor source stop limit bytes s s' → lines bytes ≡ front → (line : List ℕ) → last bytes stop ≡ line → (o' : O) (cause : Cause) → PutStops out line cause p o'
       → Prints source out lines last limit cause s s' o o'
-  last_stops stop reason all line is o' Done wrong = absurd wrong
-  last_stops stop reason all line is o' Usage wrong = wrong
-  last_stops stop reason all line is o' SourceFailed wrong = absurd wrong
-  last_stops stop reason all line is o' DiskFailed wrong = absurd wrong
-  last_stops stop reason all line is o' (NotAShelf at) wrong = absurd wrong
-  last_stops stop reason all line is o' (NoSuchFile count) wrong = absurd wrong
-  last_stops stop reason all line is o' (Capacity needed capacity) wrong = absurd wrong
-  last_stops stop reason all line is o' (NotEmpty size) wrong = absurd wrong
-  last_stops stop reason all line is o' BadChecksum wrong = absurd wrong
-  last_stops stop reason all line is o' OutputFailed failed = inr (record {
+  last_stops stop reason all line is o' (Failed Output) failed = inr (record {
     bytes = bytes;
     stop = stop;
     read = read;
@@ -87,3 +72,4 @@ module _ {S O : Type 0} (source : SourceOf S) (out : SinkOf O) (lines : List ℕ
     read = read;
     front = λ tells. record { front = front; rest = []; split = all ∙ sym (append-nil front); put = ap out.contents same ∙ put.put tells };
   }
+  last_stops stop reason all line is o' _ wrong = absurd wrong

@@ -11,7 +11,7 @@ use Rattle.lr_layers.specs.Standing.{numbers}
 use Rattle.lr_shelf_format.specs.Reading.{StandsFor}
 use Rattle.lr_shelf.specs.Shelf.{IsSettled}
 use Rattle.lr_shelf.specs.declared.shelf.Shelf.{Shelf}
-use Rattle.lr_shelf.proofs.Moments.{weaker}
+use Rattle.lr_disk.proofs.Moments.{weaker}
 use Rattle.lr_catalog.specs.declared.stop.Stop.{Stop}
 use Rattle.lr_catalog.specs.declared.stop.Stop.TheVariants.{End, Limit, Fault}
 use Rattle.lr_commands.specs.declared.cause.Cause.{Cause}
@@ -20,7 +20,7 @@ use Rattle.lr_receiving.specs.declared.ended.Ended.{Ended}
 use Rattle.lr_receiving.specs.declared.input.Input.{Input}
 use Rattle.lr_receiving.specs.Causes.{cause_at}
 use Rattle.lr_receiving.specs.Inputs.{outcomes_of_bytes, files_of_bytes}
-use Rattle.lr_receiving.specs.Progress.{PutFails}
+use Rattle.lr_commands.specs.Puts.{PutFails}
 use Rattle.lr_receiving.specs.Shelving.{shelved_lines, StandsForFront, StopsBy}
 use Rattle.lr_receiving.specs.Shelved.{ShelvesSoFar}
 use Rattle.lr_receiving.specs.Receive.{counts_line, receive_count, receive_last, Finishes, Ends}

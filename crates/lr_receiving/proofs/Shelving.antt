@@ -15,12 +15,12 @@ use Rattle.lr_shelf.specs.Append.{IsAppendRefusal, new_end, needed_by}
 use Rattle.lr_shelf.specs.declared.shelf.Shelf.{Shelf}
 use Rattle.lr_shelf.specs.declared.error.ShelfError.{ShelfError}
 use Rattle.lr_shelf.specs.declared.error.ShelfError.TheVariants.{Disk as Disk', NotAShelf as NotAShelf', NotEmpty as NotEmpty', Capacity as Capacity', NoSuchFile as NoSuchFile', Crc as Crc', NoMemory as NoMemory', Failed as Failed'}
-use Rattle.lr_shelf.proofs.Moments.{weaker, joined}
+use Rattle.lr_disk.proofs.Moments.{weaker, joined}
 use Rattle.lr_catalog.specs.Files.{shelved_line}
 use Rattle.lr_commands.specs.declared.cause.Cause.{Cause}
 use Rattle.lr_commands.specs.declared.cause.Cause.TheVariants.{Done, Usage, SourceFailed, DiskFailed, OutputFailed, NotAShelf, NoSuchFile, NoMemory, Capacity, NotEmpty, BadChecksum}
-use Rattle.lr_receiving.specs.Causes.{cause_of}
-use Rattle.lr_receiving.specs.Progress.{Puts, PutFails}
+use Rattle.lr_commands.specs.Causes.{cause_of}
+use Rattle.lr_commands.specs.Puts.{Puts, PutFails}
 use Rattle.lr_receiving.specs.Shelving.{shelved_lines, StandsForFront, StandsForOneMore, LeavesFronts, StopsBy, Stops}
 use Rattle.lr_receiving.specs.Shelved.{MayStop, ShelvesSoFar}
 use Rattle.lr_receiving.proofs.ShelvedLines.{shelved_lines-push}

@@ -15,15 +15,15 @@ use Rattle.lr_shelf.specs.Shelf.{IsDurable, IsSettled}
 use Rattle.lr_shelf.specs.declared.shelf.Shelf.{Shelf}
 use Rattle.lr_shelf.specs.declared.error.ShelfError.{ShelfError}
 use Rattle.lr_shelf.specs.declared.error.ShelfError.TheVariants.{Disk as Disk', NotAShelf as NotAShelf', NotEmpty as NotEmpty', Capacity as Capacity', NoSuchFile as NoSuchFile', Crc as Crc', NoMemory as NoMemory', Failed as Failed'}
-use Rattle.lr_shelf.proofs.Moments.{weaker, joined}
+use Rattle.lr_disk.proofs.Moments.{weaker, joined}
 use Rattle.lr_catalog.specs.declared.stop.Stop.{Stop}
 use Rattle.lr_catalog.specs.declared.stop.Stop.TheVariants.{End, Limit, Fault}
 use Rattle.lr_commands.specs.declared.cause.Cause.{Cause}
 use Rattle.lr_commands.specs.declared.cause.Cause.TheVariants.{Done, Usage, SourceFailed, DiskFailed, OutputFailed, NotAShelf, NoSuchFile, NoMemory, Capacity, NotEmpty, BadChecksum}
 use Rattle.lr_receiving.specs.declared.ended.Ended.{Ended}
 use Rattle.lr_receiving.specs.declared.input.Input.TheVariants.{Symbols}
-use Rattle.lr_receiving.specs.Causes.{cause_of, IsCaused}
-use Rattle.lr_receiving.specs.Extract.{IsEarlier}
+use Rattle.lr_commands.specs.Causes.{cause_of, IsCaused}
+use Rattle.lr_receiving.specs.Causes.{IsEarlier}
 use Rattle.lr_receiving.specs.Inputs.{files_of_bytes}
 use Rattle.lr_receiving.specs.Reading.{IsRead, EndsFor}
 use Rattle.lr_receiving.specs.Receive.{receive_last}

@@ -31,7 +31,8 @@ use Rattle.lr_receiving.specs.Decode.{lines_of_windows, decode_text, decode_last
 use Rattle.lr_receiving.specs.Decoding.{Decoding, IsFresh, outcomes_given, DecodesSoFar, GivesFrame, EndsFrames}
 use Rattle.lr_receiving.specs.Inputs.{outcomes_of_bytes}
 use Rattle.lr_receiving.specs.Printing.{Prints, PrintsAll}
-use Rattle.lr_receiving.specs.Progress.{Puts, PutStops}
+use Rattle.lr_commands.specs.Puts.{Puts}
+use Rattle.lr_receiving.specs.Progress.{PutStops}
 use Rattle.lr_receiving.specs.Reading.{IsRead, EndsFor}
 use Rattle.lr_receiving.specs.WindowsRead.{EndsWindows}
 use Rattle.lr_receiving.proofs.Putting.{put_behind, line_stops, last_stops}

@@ -33,7 +33,8 @@ use Rattle.lr_catalog.specs.declared.stop.Stop.TheVariants.{End, Limit, Fault}
 use Rattle.lr_commands.specs.declared.cause.Cause.{Cause}
 use Rattle.lr_receiving.specs.declared.ended.Ended.{Ended}
 use Rattle.lr_receiving.specs.declared.input.Input.TheVariants.{Symbols}
-use Rattle.lr_receiving.specs.Causes.{cause_at, IsCaused}
+use Rattle.lr_receiving.specs.Causes.{cause_at}
+use Rattle.lr_commands.specs.Causes.{IsCaused}
 use Rattle.lr_receiving.specs.Reading.{EndsFor}
 use Rattle.lr_receiving.specs.Inputs.{outcomes_of_bytes, files_of_bytes}
 use Rattle.lr_receiving.specs.Decoding.{Decoding, IsFresh, outcomes_given, DecodesSoFar, GivesFrame, EndsFrames}

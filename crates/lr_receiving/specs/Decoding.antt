@@ -68,7 +68,7 @@ module _ {S : Type 0} (source : SourceOf S) where
   abbrev pub FeedsNoneFor : Stop → Decoding → S → S → Type 0
   FeedsNoneFor End before s s' = (before.taken < before.most) × (source.tells s → source.left s' ≡ []) × (source.faults s' ≡ source.faults s)
   FeedsNoneFor Limit before s s' = (before.taken ≡ before.most) × (source.faults s' ≡ source.faults s)
-  FeedsNoneFor Fault before s s' = Rose (source.faults s) (source.faults s')
+  FeedsNoneFor Fault before s s' = (before.taken < before.most) × Rose (source.faults s) (source.faults s')
 
   -- nothing was fed
   pub record FeedsNone (stop : Stop) (before now : Decoding) (s s' : S) : Type 0 where

@@ -19,9 +19,13 @@ module _ {S : Type 0} (source : SourceOf S) where
   -- why a unit of n bytes was gathered no further
   abbrev pub GathersFor : ℕ → Next → Gathered → S → S → Type 0
   GathersFor n Whole now s s' = (length now.held ≡ n) × (source.faults s' ≡ source.faults s)
-  GathersFor n (Ended End) now s s' = (length now.held < n) × (now.taken < now.most) × (source.tells s → source.left s' ≡ []) × (source.faults s' ≡ source.faults s)
-  GathersFor n (Ended Limit) now s s' = (length now.held < n) × (now.taken ≡ now.most) × (source.faults s' ≡ source.faults s)
-  GathersFor n (Ended Fault) now s s' = (length now.held < n) × Rose (source.faults s) (source.faults s')
+  GathersFor n (Ended End) now s s' =
+      (length now.held < n) × (now.taken < now.most) × (source.tells s → source.left s' ≡ [])
+      × (source.faults s' ≡ source.faults s)
+  GathersFor n (Ended Limit) now s s' =
+      (length now.held < n) × (now.taken ≡ now.most) × (source.faults s' ≡ source.faults s)
+  GathersFor n (Ended Fault) now s s' =
+      (length now.held < n) × (now.taken < now.most) × Rose (source.faults s) (source.faults s')
 
   -- a piece of the source stands behind what was held
   pub record Gathers (before now : Gathered) (s s' : S) : Type 0 where

@@ -1,6 +1,7 @@
 use Rattle.std.proofs.Common.{◌+◌, subst, sym, ap, ◌∙◌}
 use Rattle.std.proofs.lemmas.Result.{err_from_is_err_and}
-use Rattle.lr_receiving.specs.Progress.{Puts, PutStops}
+use Rattle.lr_commands.specs.Puts.{Puts}
+use Rattle.lr_receiving.specs.Progress.{PutStops}
 use Rattle.lr_receiving.proofs.PacketsCounted.{lines_are, counted_on}
 use Rattle.lr_receiving.proofs.packet_lines.put_frame.Goals as goal
 

@@ -2,7 +2,8 @@ use Rattle.std.proofs.Common.{◌≡◌, ◌++◌, List, ℕ, IfOk, IfErr, subst
 use Rattle.lr_catalog.specs.declared.summary.Summary.TheVariants.{Packets}
 use Rattle.lr_catalog.specs.Summaries.{summary_line}
 use Rattle.lr_receiving.specs.Packets.{packets_count}
-use Rattle.lr_receiving.specs.Progress.{Puts, PutStops}
+use Rattle.lr_commands.specs.Puts.{Puts}
+use Rattle.lr_receiving.specs.Progress.{PutStops}
 use Rattle.lr_receiving.proofs.PacketsCounted.{counted_line}
 use Rattle.lr_receiving.proofs.packet_lines.put_last.Goals as goal
 
