@@ -62,7 +62,8 @@ module _ {S : Type 0} (source : SourceOf S) where
       → DecodesSoFar source bytes given before s t → before.lock.finished ≡ false → FeedsNoneFor source stop before t s' → EndsFor source stop before.most bytes s s'
   reason End bytes given before s t s' so unfinished why = (omega (arith, why.0, so.long), (λ told. why.1 (so.told told)), why.2 ∙ so.going_on unfinished)
   reason Limit bytes given before s t s' so unfinished why = (omega (arith, why.0, so.long), why.1 ∙ so.going_on unfinished)
-  reason Fault bytes given before s t s' so unfinished why = subst (λ k. Rose k (source.faults s')) (so.going_on unfinished) why
+  reason Fault bytes given before s t s' so unfinished why =
+      (omega (arith, why.0, so.long), subst (λ k. Rose k (source.faults s')) (so.going_on unfinished) why.1)
 
   -- the lock is finished
   pub none_fed : (stop : Stop) {bytes : List ℕ} {given : List Frame} {before now : Decoding} {s t s' : S}

@@ -5,6 +5,7 @@ pub mod Decoding
 pub mod Fitting
 pub mod FramesText
 pub mod Gathering
+pub mod Growing
 pub mod Headline
 pub mod Loading
 pub mod Making

@@ -1,11 +1,12 @@
 -- How far shelving files has come. No clause of a public call cites this.
-use Rattle.std.specs.Prelude.{◌≡◌, ℕ, List, [], ◌++◌, length}
+use Rattle.std.specs.Prelude.{◌≡◌, ℕ, List, [], ◌∷◌, ◌++◌, length}
 use Rattle.lr_bits.specs.declared.outcome.Outcome.{Outcome}
 use Rattle.lr_bits.specs.declared.outcome.Outcome.TheVariants.{Restored, Lost}
 use Rattle.lr_bits.specs.declared.placed.Placed.{Placed}
 use Rattle.lr_bits.specs.declared.sizes.TheConstants.{FRAME_BYTES}
 use Rattle.lr_io.specs.declared.sink.Sink.{Ghosts as SinkOf}
 use Rattle.lr_disk.specs.declared.disk.Disk.{Ghosts as DiskOf}
+use Rattle.lr_layers.specs.Origins.{placed_of_outcomes}
 use Rattle.lr_shelf_format.specs.Items.{Item}
 use Rattle.lr_shelf.specs.Kept.{kept_by}
 use Rattle.lr_shelf.specs.Shelf.{IsSettled}
@@ -53,6 +54,20 @@ pub record GrowsNoMore {D O : Type 0} (cause : Cause) (files : List Placed) (she
   pub full : (needed most : ℕ) → cause ≡ Refused (Capacity needed most)
       → IsFullWith (kept_by shelf).way needed most files
   pub none : files ≡ [] → (cause ≡ NoMemory) × (d' ≡ d) × (o' ≡ o)
+
+-- over every disk: the files that one outcome more adds were shelved
+pub record Gains {D O : Type 0} (outcomes : List Outcome) (outcome : Outcome) (shelf shelf' : Shelf) (d d' : D)
+    (o o' : O) : Type 0 where
+  pub more : List Placed
+  pub files : placed_of_outcomes (outcomes ++ outcome ∷ []) ≡ placed_of_outcomes outcomes ++ more
+  pub grown : Grows more shelf shelf' d d' o o'
+
+-- over every disk: shelving them stopped
+pub record GainsNoMore {D O : Type 0} (cause : Cause) (outcomes : List Outcome) (outcome : Outcome) (shelf : Shelf)
+    (d d' : D) (o o' : O) : Type 0 where
+  pub more : List Placed
+  pub files : placed_of_outcomes (outcomes ++ outcome ∷ []) ≡ placed_of_outcomes outcomes ++ more
+  pub grown : GrowsNoMore cause more shelf d d' o o'
 
 module _ {D O : Type 0} (disk : DiskOf D) (out : SinkOf O) (capacity : ℕ) (before : List Item) where
   -- these files are shelved and their lines put; nothing failed
