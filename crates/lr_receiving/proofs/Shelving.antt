@@ -1,7 +1,7 @@
 -- One file is put onto the shelf, or shelving stops there.
 use Rattle.std.proofs.Common.{◌≡◌, ◌⊎◌, inl, inr, false, true, ◌+◌, ◌≤◌, ◌<◌, ℕ, List, [], ◌∷◌, ◌++◌, length, map, min, refl, sym}
 use Rattle.std.proofs.Common.{◌∙◌, ap, subst, arith, append_assoc, length-append, ⊎_elim, Result, Ok, Err, OnOk, IfErr}
-use Rattle.std.proofs.lemmas.Bool.{cases_le}
+use Rattle.std.proofs.lemmas.Bool.{cases_lt}
 use Rattle.std.proofs.lemmas.List.{map-append, length-map}
 use Rattle.std.proofs.lemmas.List.Sums.{sum_by-append}
 use Rattle.lr_bits.specs.Faults.{Rose}
@@ -363,14 +363,14 @@ module _ {D O : Type 0} (disk : DiskOf D) (out : SinkOf O) (capacity : ℕ) (bef
 pub rose_of : {D A : Type 0} (disk : DiskOf D) (d d' : D) (result : Result A ShelfError) (e : ShelfError)
     → result ≡ Err e → IsCounted (disk.faults d) (disk.faults d') result → e ≡ Disk'
     → Rose (disk.faults d) (disk.faults d')
-rose_of disk d d' result e is counted same =
+rose_of {D = D} {A = A} disk d d' result e is counted same =
     (subst (λ (r : Result A ShelfError). IsCounted (disk.faults d) (disk.faults d') r)
     (is ∙ ap (λ (x : ShelfError). Err x) same) counted).1
 
 -- and stayed at `Ok`
 pub same_of : {D A : Type 0} (disk : DiskOf D) (d d' : D) (result : Result A ShelfError) (answer : A)
     → result ≡ Ok answer → IsCounted (disk.faults d) (disk.faults d') result → disk.faults d' ≡ disk.faults d
-same_of disk d d' result answer is counted =
+same_of {D = D} {A = A} disk d d' result answer is counted =
     subst (λ (r : Result A ShelfError). IsCounted (disk.faults d) (disk.faults d') r) is counted
 
 module _ {D O : Type 0} (disk : DiskOf D) (placed : Placed) (shelf shelf' : Shelf) (d d' : D) (o : O)
@@ -379,8 +379,8 @@ module _ {D O : Type 0} (disk : DiskOf D) (placed : Placed) (shelf shelf' : Shel
   pub appended : (answer : ℕ) → result ≡ Ok answer → (o' : O) → Grows (placed ∷ []) shelf shelf' d d' o o'
   appended answer is o' =
       grows_one placed shelf shelf' d d' o o' (at_ok appends.adds.kept)
-      (⊎_elim (λ fits. omega (arith, fits)) (λ over. absurd (refused over))
-      (cases_le (new_end (item_for placed) (kept_by shelf)) (kept_by shelf).way.capacity))
+      (⊎_elim (λ over. absurd (refused over)) (λ fits. omega (arith, fits))
+      (cases_lt (kept_by shelf).way.capacity (new_end (item_for placed) (kept_by shelf))))
     where
       at_ok : {P : Type 0} → OnOk result P → P
       at_ok {P} p = subst (λ (r : Result ℕ ShelfError). OnOk r P) is p

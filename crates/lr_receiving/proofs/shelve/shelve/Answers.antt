@@ -7,7 +7,7 @@ use Rattle.lr_commands.specs.declared.cause.Party.TheVariants.{Output}
 use Rattle.lr_shelf.specs.Append.{item_for}
 use Rattle.lr_shelf.specs.Kept.{kept_by}
 use Rattle.lr_receiving.proofs.Outcomes.{if_ok_on, if_err_one}
-use Rattle.lr_receiving.proofs.Shelving.{append_kind, append_stopped, shelved, line_stopped, rose_of, same_of}
+use Rattle.lr_receiving.proofs.Shelving.{append_kind, append_stopped, shelved, line_stopped, rose_of, same_of, appended, not_appended}
 use Rattle.lr_receiving.proofs.shelve.shelve.Goals as goal
 
 pub returns-in-Err-clause-kind : goal.returns-in-Err-clause-kind
@@ -49,3 +49,9 @@ returns-clause-stopped g c capacity before done rest d o so_far =
     line_stopped g.D.Disk g.O.Sink capacity before done c.args.shelf.now d c.args.disk.now o c.args.out.now so_far
     c.args.placed.now c.append.new.disk (c.append.ensures.adds.any_moment _ _ settled) c.append.new.self
     (a.acknowledged _ _ settled) c.len.result c.as_slice.result.now c.len.ensures is c.put_text.new.out rest fails)
+
+pub returns-in-Err-clause-grown_no_more : goal.returns-in-Err-clause-grown_no_more
+returns-in-Err-clause-grown_no_more g c =
+    rw c.from.ensures
+    (not_appended g.D.Disk c.args.placed.now c.args.shelf.now c.append.new.self c.args.disk.now c.append.new.disk
+    c.args.out.now c.append.result c.append.ensures c.in-Err.error c.in-Err.ensures.refused)
