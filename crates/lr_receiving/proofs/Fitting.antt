@@ -16,7 +16,8 @@ use Rattle.lr_conv.proofs.Tails.{tail_size}
 use Rattle.lr_conv.specs.Marker.{tail_of}
 use Rattle.lr_frame.specs.Outcomes.{outcome_in, outcomes_of_symbols}
 use Rattle.lr_frame.proofs.Given.{outcomes_are, outcomes_stay}
-use Rattle.lr_layers.specs.Layers.{frame_in, frames_of_outcomes, files_of_outcomes}
+use Rattle.lr_layers.specs.Layers.{frame_in, frames_of_outcomes}
+use Rattle.lr_layers.specs.Origins.{placed_of_outcomes}
 use Rattle.lr_layers.proofs.Fitting.{files_are_some, files_fit_the_frames}
 use Rattle.lr_lock.specs.Frames.{after, IsNext, AreNext}
 use Rattle.lr_lock.specs.FramesOf.{frames_of}
@@ -55,7 +56,7 @@ abbrev weigh_file : File → ℕ
 weigh_file file = length (bytes_of file) + 8 * length file.bodies
 
 -- thirteen ninths of what the bodies weigh are enough for the records and their gates
-records_fit : (files : List File) → All IsFilled files → 9 * sum_by size files ≤ 13 * sum_by weigh_file files
+records_fit : (files : List Placed) → All IsFilled files → 9 * sum_by size files ≤ 13 * sum_by weigh_file files
 records_fit [] filled = omega arith
 records_fit (file ∷ files) filled =
     let one = All-head IsFilled file files filled in
@@ -76,9 +77,9 @@ carries frame = not (nat_eq frame.vc 63)
 abbrev carrying : List Outcome → ℕ
 carrying outcomes = count_by carries (frames_of_outcomes outcomes)
 
-ends_by_frames : (outcomes : List Outcome) → AreFrames (frames_of_outcomes outcomes) → 9 * end_of (files_of_outcomes outcomes) ≤ 180 + 11492 * carrying outcomes
+ends_by_frames : (outcomes : List Outcome) → AreFrames (frames_of_outcomes outcomes) → 9 * end_of (placed_of_outcomes outcomes) ≤ 180 + 11492 * carrying outcomes
 ends_by_frames outcomes frames =
-    omega (arith, files_fit_the_frames outcomes frames, records_fit (files_of_outcomes outcomes) (files_are_some outcomes))
+    omega (arith, files_fit_the_frames outcomes frames, records_fit (placed_of_outcomes outcomes) (files_are_some outcomes))
 
 carrying-append : (front back : List Outcome) → carrying (front ++ back) ≡ carrying front + carrying back
 unfolding frames_of_outcomes

@@ -1,11 +1,12 @@
 -- What follows of how a run of `receive` ends: each image holds what was acknowledged, and a run without faults is complete.
 use Rattle.std.proofs.Common.{◌≡◌, ◌⊎◌, inl, inr, ℕ, ◌+◌, ◌<◌, ◌≤◌, List, [], ◌∷◌, ◌++◌, length, refl, sym, ◌∙◌, ap, subst, arith, append_assoc, append-nil, length-append}
 use Rattle.std.proofs.lemmas.List.Sums.{sum_by-append}
-use Rattle.lr_bits.specs.File.{File}
+use Rattle.lr_bits.specs.declared.placed.Placed.{Placed}
 use Rattle.lr_io.specs.declared.source.Source.{Ghosts as SourceOf}
 use Rattle.lr_io.specs.declared.sink.Sink.{Ghosts as SinkOf}
 use Rattle.lr_disk.specs.declared.disk.Disk.{Ghosts as DiskOf}
 use Rattle.lr_shelf_format.specs.Reading.{StandsFor, end_of, extent_of_file}
+use Rattle.lr_shelf_format.specs.Items.{Item}
 use Rattle.lr_shelf.specs.Shelf.{IsDurable}
 use Rattle.lr_catalog.specs.Files.{shelved_line}
 use Rattle.lr_commands.specs.declared.cause.Cause.{Cause}
@@ -18,7 +19,7 @@ use Rattle.lr_receiving.specs.Receive.{NoFault, Ends, Receives}
 use Rattle.lr_receiving.proofs.ShelvedLines.{shelved_lines-none, shelved_lines-cons, shelved_lines-push, line-some}
 
 -- lists that begin alike: the one with no more text has no more lines
-no_more : (n : ℕ) (whole done r1 r2 : List File) → whole ++ r1 ≡ done ++ r2 → length (shelved_lines n whole) ≤ length (shelved_lines n done) → length whole ≤ length done
+no_more : (n : ℕ) (whole done r1 r2 : List Placed) → whole ++ r1 ≡ done ++ r2 → length (shelved_lines n whole) ≤ length (shelved_lines n done) → length whole ≤ length done
 no_more n [] done r1 r2 same le = omega arith
 no_more n (w ∷ whole) [] r1 r2 same le =
     absurd (omega (arith, le, ap length (shelved_lines-cons n w whole), ap length (shelved_lines-none n), length-append (shelved_line n w) (shelved_lines (n + 1) whole), line-some n w))
@@ -38,7 +39,7 @@ no_more n (w ∷ whole) (x ∷ done) r1 r2 same le =
     omega (arith, next)
 
 -- more files end no earlier
-pub end_of-append : (xs ys : List File) → end_of xs ≤ end_of (xs ++ ys)
+pub end_of-append : (xs ys : List Placed) → end_of xs ≤ end_of (xs ++ ys)
 end_of-append xs ys = let size : File → ℕ = λ f. extent_of_file f + 1 in omega (arith, sum_by-append size xs ys)
 
 -- a text that went out whole
@@ -46,8 +47,8 @@ no_longer : (old new got a b : List ℕ) → new ≡ old ++ got → new ≡ old 
 no_longer old new got a b first second =
     omega (arith, ap length first, ap length second, length-append old got, length-append old (a ++ b), length-append a b)
 
-module _ {D : Type 0} (disk : DiskOf D) (capacity : ℕ) (before files : List File) (d : D) where
-  holds : (first rest : List File) (n : ℕ) → files ≡ first ++ rest → n ≤ length first → IsDurable disk capacity (before ++ first) d → Holds disk capacity before files n d
+module _ {D : Type 0} (disk : DiskOf D) (capacity : ℕ) (before files : List Placed) (d : D) where
+  holds : (first rest : List Placed) (n : ℕ) → files ≡ first ++ rest → n ≤ length first → IsDurable disk capacity (before ++ first) d → Holds disk capacity before files n d
   holds first rest n split enough durable = record {
     contents = record { first = first; rest = rest; split = split; enough = enough; stands = durable.stands };
     images = λ c image. record {
@@ -59,19 +60,19 @@ module _ {D : Type 0} (disk : DiskOf D) (capacity : ℕ) (before files : List Fi
     };
   }
 
-  front_of : (done rest : List File) (n : ℕ) (bytes : List ℕ) → files ≡ done ++ rest → n ≤ length done → StandsForOneMore capacity before done rest bytes → StandsForFront capacity before files n bytes
+  front_of : (done rest : List Placed) (n : ℕ) (bytes : List ℕ) → files ≡ done ++ rest → n ≤ length done → StandsForOneMore capacity before done rest bytes → StandsForFront capacity before files n bytes
   front_of done rest n bytes split enough (inl s) = record { first = done; rest = rest; split = split; enough = enough; stands = s }
   front_of done rest n bytes split enough (inr more) = record {
     first = done ++ more.0 ∷ [];
     rest = more.1;
-    split = split ∙ ap (λ (l : List File). done ++ l) more.2 ∙ sym (append_assoc done (more.0 ∷ []) more.1);
+    split = split ∙ ap (λ (l : List Placed). done ++ l) more.2 ∙ sym (append_assoc done (more.0 ∷ []) more.1);
     enough = omega (arith, enough, length-append done (more.0 ∷ []));
     stands = more.3;
   }
 
 -- as many files are there as whole lines went out
-module _ (before files whole rest : List File) (split : files ≡ whole ++ rest) where
-  acknowledged : (first more : List File) (old new got text : List ℕ) → files ≡ first ++ more → new ≡ old ++ got → length got ≤ length (shelved_lines (length before) first)
+module _ (before files whole rest : List Placed) (split : files ≡ whole ++ rest) where
+  acknowledged : (first more : List Placed) (old new got text : List ℕ) → files ≡ first ++ more → new ≡ old ++ got → length got ≤ length (shelved_lines (length before) first)
       → new ≡ old ++ (shelved_lines (length before) whole ++ text) → length whole ≤ length first
   acknowledged first more old new got text known put le whole_put =
       no_more (length before) whole first rest more (sym split ∙ known) (omega (arith, le, no_longer old new got (shelved_lines (length before) whole) text put whole_put))
@@ -79,16 +80,16 @@ module _ (before files whole rest : List File) (split : files ≡ whole ++ rest)
   all_there : length whole ≤ length files
   all_there = omega (arith, ap length split, length-append whole rest)
 
-module _ {S D O : Type 0} (source : SourceOf S) (disk : DiskOf D) (out : SinkOf O) (input : Input) (capacity : ℕ) (before : List File) (limit : ℕ) (bytes : List ℕ) (s s' : S) (d d' : D) (o o' : O) where
-  files : List File
+module _ {S D O : Type 0} (source : SourceOf S) (disk : DiskOf D) (out : SinkOf O) (input : Input) (capacity : ℕ) (before : List Item) (limit : ℕ) (bytes : List ℕ) (s s' : S) (d d' : D) (o o' : O) where
+  files : List Placed
   files = files_of_bytes input bytes
 
   -- where the last lines are to come, all files are there
   every : (n : ℕ) → n ≤ length (files_of_bytes input bytes) → IsDurable disk capacity (before ++ files_of_bytes input bytes) d' → Holds disk capacity before (files_of_bytes input bytes) n d'
   every n enough durable = holds disk capacity before (files_of_bytes input bytes) d' (files_of_bytes input bytes) [] n (sym (append-nil (files_of_bytes input bytes))) enough durable
 
-  module _ (whole rest : List File) (text : List ℕ) (told : out.tells o) (split : files_of_bytes input bytes ≡ whole ++ rest) (put : out.contents o' ≡ out.contents o ++ (shelved_lines (length before) whole ++ text)) where
-    enough_of : (first more : List File) (got : List ℕ) → files_of_bytes input bytes ≡ first ++ more → out.contents o' ≡ out.contents o ++ got → length got ≤ length (shelved_lines (length before) first) → length whole ≤ length first
+  module _ (whole rest : List Placed) (text : List ℕ) (told : out.tells o) (split : files_of_bytes input bytes ≡ whole ++ rest) (put : out.contents o' ≡ out.contents o ++ (shelved_lines (length before) whole ++ text)) where
+    enough_of : (first more : List Placed) (got : List ℕ) → files_of_bytes input bytes ≡ first ++ more → out.contents o' ≡ out.contents o ++ got → length got ≤ length (shelved_lines (length before) first) → length whole ≤ length first
     enough_of first more got known got_put le = acknowledged before (files_of_bytes input bytes) whole rest split first more (out.contents o) (out.contents o') got text known got_put le put
 
     every_one : IsDurable disk capacity (before ++ files_of_bytes input bytes) d' → Holds disk capacity before (files_of_bytes input bytes) (length whole) d'
@@ -162,9 +163,9 @@ module _ {S D O : Type 0} (source : SourceOf S) (disk : DiskOf D) (out : SinkOf 
   complete NoMemory e quiet fits = inr refl
   complete (Capacity needed most) e quiet fits =
       let all : before ++ files_of_bytes input bytes ≡ (before ++ (e.done ++ e.next ∷ [])) ++ e.rest =
-      ap (λ (l : List File). before ++ l) (e.split ∙ sym (append_assoc e.done (e.next ∷ []) e.rest)) ∙ sym (append_assoc before (e.done ++ e.next ∷ []) e.rest) in
+      ap (λ (l : List Placed). before ++ l) (e.split ∙ sym (append_assoc e.done (e.next ∷ []) e.rest)) ∙ sym (append_assoc before (e.done ++ e.next ∷ []) e.rest) in
       let le : end_of (before ++ (e.done ++ e.next ∷ [])) ≤ end_of (before ++ files_of_bytes input bytes) =
-      subst (λ (l : List File). end_of (before ++ (e.done ++ e.next ∷ [])) ≤ end_of l) (sym all) (end_of-append (before ++ (e.done ++ e.next ∷ [])) e.rest) in
+      subst (λ (l : List Placed). end_of (before ++ (e.done ++ e.next ∷ [])) ≤ end_of l) (sym all) (end_of-append (before ++ (e.done ++ e.next ∷ [])) e.rest) in
       absurd (omega (arith, le, fits, e.needs, e.over))
   complete (NotEmpty size) e quiet fits = absurd e
   complete BadChecksum e quiet fits = absurd e

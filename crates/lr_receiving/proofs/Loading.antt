@@ -1,13 +1,14 @@
 -- What comes of a disk from which no shelf was loaded.
 use Rattle.std.proofs.Common.{◌≡◌, inl, ℕ, List, [], ◌++◌, length, refl, sym, ◌∙◌, ap, subst, arith, append-nil, Result, Ok, Err, IfOk, OnOk, MatchResult}
 use Rattle.std.proofs.lemmas.List.Elements.{All-nil}
-use Rattle.lr_bits.specs.File.{File}
+use Rattle.lr_bits.specs.declared.placed.Placed.{Placed}
 use Rattle.lr_io.specs.declared.source.Source.{Ghosts as SourceOf}
 use Rattle.lr_io.specs.declared.sink.Sink.{Ghosts as SinkOf}
 use Rattle.lr_disk.specs.declared.disk.Disk.{Ghosts as DiskOf}
 use Rattle.lr_disk.specs.Disk.{LeavesOnly}
 use Rattle.lr_layers.proofs.Pushing.{no_files}
 use Rattle.lr_shelf_format.specs.Reading.{StandsFor}
+use Rattle.lr_shelf_format.specs.Items.{Item}
 use Rattle.lr_shelf.specs.Shelf.{IsDurable, IsSettled}
 use Rattle.lr_shelf.specs.Load.{Loads, IsLoadRefusal, MayRefuseAt}
 use Rattle.lr_shelf_format.specs.Way.{IsNoShelfAt}
@@ -75,7 +76,7 @@ no_bytes (Units form) =
 
 module _ {S D O : Type 0} (source : SourceOf S) (disk : DiskOf D) (only_now : (d : D) (c : List ℕ) → disk.tells d → disk.left_since d (disk.moment d) c → disk.may_leave d c)
     (out : SinkOf O) (input : Input) (limit : ℕ) (s : S) (d : D) (o : O) where
-  untouched : (capacity : ℕ) (before : List File) → disk.tells d → IsDurable disk capacity before d → LeavesOnly disk.moment disk.left_since d d (λ c. StandsFor c capacity before)
+  untouched : (capacity : ℕ) (before : List Item) → disk.tells d → IsDurable disk capacity before d → LeavesOnly disk.moment disk.left_since d d (λ c. StandsFor c capacity before)
   untouched capacity before told durable = record {
     later = omega arith;
     each = λ c left. subst (λ (l : List ℕ). StandsFor l capacity before) (sym (durable.durable c (only_now d c told left))) durable.stands;
@@ -89,13 +90,13 @@ module _ {S D O : Type 0} (source : SourceOf S) (disk : DiskOf D) (only_now : (d
     onto_shelf = λ capacity before told durable. (
       [],
       receives source disk out input capacity before limit [] s s d d o o NoMemory (record { moved = λ t. refl; few = omega arith })
-          (subst (λ (l : List File). LeavesFronts disk capacity before l d d) (sym (no_bytes input))
+          (subst (λ (l : List Placed). LeavesFronts disk capacity before l d d) (sym (no_bytes input))
           (weaker disk.moment disk.left_since d d _ _ (front_none disk out capacity before d d o) (untouched capacity before told durable)))
           (record {
             done = [];
             rest = [];
             split = no_bytes input;
-            durable = record { stands = subst (λ (l : List File). StandsFor (disk.contents d) capacity l) (sym (append-nil before)) durable.stands; durable = durable.durable };
+            durable = record { stands = subst (λ (l : List Placed). StandsFor (disk.contents d) capacity l) (sym (append-nil before)) durable.stands; durable = durable.durable };
             got = λ t. sym (ap (λ l. out.contents o ++ l) (shelved_lines-none (length before)) ∙ append-nil (out.contents o));
           }),
     );
@@ -105,7 +106,7 @@ module _ {S D O : Type 0} (source : SourceOf S) (disk : DiskOf D) (only_now : (d
   }
 
 module _ {S D O : Type 0} (source : SourceOf S) (disk : DiskOf D) (out : SinkOf O) (input : Input) (limit : ℕ) (s : S) (d d1 : D) (o : O) (result : Result Shelf ShelfError) (loads : Loads disk d d1 result) where
-  module _ (capacity : ℕ) (before : List File) (told : disk.tells d) (durable : IsDurable disk capacity before d) where
+  module _ (capacity : ℕ) (before : List Item) (told : disk.tells d) (durable : IsDurable disk capacity before d) where
     durable1 : IsDurable disk capacity before d1
     durable1 = loads.durable capacity before told durable
 
@@ -116,11 +117,11 @@ module _ {S D O : Type 0} (source : SourceOf S) (disk : DiskOf D) (out : SinkOf 
 
     none_left : LeavesFronts disk capacity before (files_of_bytes input []) d d1
     none_left =
-        subst (λ (l : List File). LeavesFronts disk capacity before l d d1) (sym (no_bytes input))
+        subst (λ (l : List Placed). LeavesFronts disk capacity before l d d1) (sym (no_bytes input))
         (weaker disk.moment disk.left_since d d1 _ _ (front_none disk out capacity before d d1 o) any_moment)
 
     stands : StandsFor (disk.contents d1) capacity (before ++ [])
-    stands = subst (λ (l : List File). StandsFor (disk.contents d1) capacity l) (sym (append-nil before)) durable1.stands
+    stands = subst (λ (l : List Placed). StandsFor (disk.contents d1) capacity l) (sym (append-nil before)) durable1.stands
 
     got_none : out.tells o → out.contents o ≡ out.contents o ++ shelved_lines (length before) []
     got_none t = sym (ap (λ l. out.contents o ++ l) (shelved_lines-none (length before)) ∙ append-nil (out.contents o))
@@ -178,7 +179,7 @@ module _ {S D O : Type 0} (source : SourceOf S) (disk : DiskOf D) (out : SinkOf 
     on_ok : {P : Type 0} → OnOk result P → P
     on_ok {P} holds = subst (λ (r : Result Shelf ShelfError). OnOk r P) is holds
 
-    onto_shelf : (capacity : ℕ) (before : List File) → disk.tells d → IsDurable disk capacity before d → (bytes : List ℕ) × Receives source disk out input capacity before limit bytes cause s s' d d' o o'
+    onto_shelf : (capacity : ℕ) (before : List Item) → disk.tells d → IsDurable disk capacity before d → (bytes : List ℕ) × Receives source disk out input capacity before limit bytes cause s s' d d' o o'
     onto_shelf capacity before told durable =
         let settled = if_ok (λ x. IsSettled disk capacity before x d1) (loads.settled capacity before told durable.stands) in
         let begun = loaded disk out capacity before d d1 o shelf settled (any_moment capacity before told durable) (on_ok loads.same) in

@@ -1,7 +1,7 @@
 -- How a run of `receive` ends.
 use Rattle.std.proofs.Common.{◌≡◌, inl, inr, ℕ, List, [], ◌++◌, length, refl, sym, ◌∙◌, ap, subst, arith, append_assoc, append-nil}
 use Rattle.lr_bits.specs.Faults.{Rose}
-use Rattle.lr_bits.specs.File.{File}
+use Rattle.lr_bits.specs.declared.placed.Placed.{Placed}
 use Rattle.lr_io.specs.declared.source.Source.{Ghosts as SourceOf}
 use Rattle.lr_io.specs.declared.sink.Sink.{Ghosts as SinkOf}
 use Rattle.lr_disk.specs.declared.disk.Disk.{Ghosts as DiskOf}
@@ -9,6 +9,7 @@ use Rattle.lr_disk.specs.Disk.{LeavesOnly}
 use Rattle.lr_layers.specs.Layers.{Numbers, numbers_of}
 use Rattle.lr_layers.specs.Standing.{numbers}
 use Rattle.lr_shelf_format.specs.Reading.{StandsFor}
+use Rattle.lr_shelf_format.specs.Items.{Item}
 use Rattle.lr_shelf.specs.Shelf.{IsSettled}
 use Rattle.lr_shelf.specs.declared.shelf.Shelf.{Shelf}
 use Rattle.lr_disk.proofs.Moments.{weaker}
@@ -36,21 +37,21 @@ last_line input bytes ended is =
     ∙ ap (λ (n : Numbers). counts_line (length bytes) (length (outcomes_of_bytes input bytes)) n ended.left ended.stop) is.counts
     ∙ ap (λ k. counts_line (length bytes) (length (outcomes_of_bytes input bytes)) (numbers_of (outcomes_of_bytes input bytes)) k ended.stop) is.left
 
-module _ {D O : Type 0} (disk : DiskOf D) (out : SinkOf O) (capacity : ℕ) (before : List File) (d d1 : D) (o : O) where
+module _ {D O : Type 0} (disk : DiskOf D) (out : SinkOf O) (capacity : ℕ) (before : List Item) (d d1 : D) (o : O) where
   pub front_none : (bytes : List ℕ) → StandsFor bytes capacity before → StandsForFront capacity before [] 0 bytes
   front_none bytes s = record {
     first = [];
     rest = [];
     split = refl;
     enough = omega arith;
-    stands = subst (λ (l : List File). StandsFor bytes capacity l) (sym (append-nil before)) s;
+    stands = subst (λ (l : List Placed). StandsFor bytes capacity l) (sym (append-nil before)) s;
   }
 
   -- the shelf is loaded
   pub loaded : (shelf : Shelf) → IsSettled disk capacity before shelf d1 → LeavesOnly disk.moment disk.left_since d d1 (λ c. StandsFor c capacity before) → disk.faults d1 ≡ disk.faults d
       → ShelvesSoFar disk out capacity before [] shelf d d1 o o
   loaded shelf settled run count = record {
-    settled = subst (λ (l : List File). IsSettled disk capacity l shelf d1) (sym (append-nil before)) settled;
+    settled = subst (λ (l : List Placed). IsSettled disk capacity l shelf d1) (sym (append-nil before)) settled;
     any_moment = weaker disk.moment disk.left_since d d1 _ _ front_none run;
     put = record {
       told = λ t. t;
@@ -61,7 +62,7 @@ module _ {D O : Type 0} (disk : DiskOf D) (out : SinkOf O) (capacity : ℕ) (bef
   }
 
 module _ {S D O : Type 0} (source : SourceOf S) (disk : DiskOf D) (out : SinkOf O) (input : Input) (limit : ℕ) where
-  module _ (capacity : ℕ) (before : List File) (bytes : List ℕ) (s s' : S) (d d' : D) (o o' : O) where
+  module _ (capacity : ℕ) (before : List Item) (bytes : List ℕ) (s s' : S) (d d' : D) (o o' : O) where
     ends_of : (cause : Cause) → StopsBy disk out capacity before cause (files_of_bytes input bytes) d d' o o' → Ends source disk out input capacity before limit bytes cause s s' d d' o o'
     ends_of Done stops = absurd stops
     ends_of Usage stops = absurd stops

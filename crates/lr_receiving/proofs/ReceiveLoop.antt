@@ -6,13 +6,14 @@ use Rattle.std.proofs.lemmas.List.{length-map, map-append}
 use Rattle.std.proofs.lemmas.List.Elements.{All-push}
 use Rattle.std.proofs.lemmas.List.Sums.{sum_by-cons}
 use Rattle.lr_bits.specs.declared.outcome.Outcome.{Outcome}
-use Rattle.lr_bits.specs.File.{File}
+use Rattle.lr_bits.specs.declared.placed.Placed.{Placed}
 use Rattle.lr_io.specs.declared.source.Source.{Ghosts as SourceOf}
 use Rattle.lr_io.specs.declared.sink.Sink.{Ghosts as SinkOf}
 use Rattle.lr_disk.specs.declared.disk.Disk.{Ghosts as DiskOf}
-use Rattle.lr_layers.specs.Layers.{Numbers, is_restored, numbers_of, files_of_outcomes}
+use Rattle.lr_layers.specs.Layers.{Numbers, is_restored, numbers_of}
+use Rattle.lr_layers.specs.Origins.{placed_of_outcomes, placed_packets}
 use Rattle.lr_layers.specs.Standing.{Kept, StandsFor, numbers}
-use Rattle.lr_layers.proofs.Pushing.{no_files}
+use Rattle.lr_shelf_format.specs.Items.{Item}
 use Rattle.lr_shelf.specs.Kept.{kept_by}
 use Rattle.lr_shelf.specs.declared.shelf.Shelf.{Shelf}
 use Rattle.lr_catalog.specs.declared.stop.Stop.{Stop}
@@ -27,10 +28,16 @@ use Rattle.lr_receiving.specs.Reading.{EndsFor, units_of}
 use Rattle.lr_receiving.specs.Progress.{Gathers, GathersFor, ReadsUnits, EndsUnits}
 use Rattle.lr_receiving.specs.Inputs.{unit_bytes, outcome_of_unit, outcomes_of_units, outcomes_of_bytes, files_of_bytes}
 use Rattle.lr_receiving.specs.Shelving.{Stops}
-use Rattle.lr_receiving.specs.Shelved.{ShelvesSoFar}
+use Rattle.lr_receiving.specs.Shelved.{ShelvesSoFar, Grows, GrowsNoMore, Gains, GainsNoMore}
 use Rattle.lr_receiving.specs.Reception.{ReadsAll, ReadsSome}
+use Rattle.lr_receiving.proofs.Growing.{grows_none, grows_on, stops_after}
 use Rattle.lr_receiving.proofs.Printed.{begun, gathered_more, cleared, ended, concat-push}
 use Rattle.lr_receiving.proofs.UnitsOf.{units_are, length-concat, long}
+
+-- no outcomes have no files
+pub no_files : placed_of_outcomes [] ≡ []
+unfolding placed_of_outcomes placed_packets
+no_files = refl
 
 pub outcomes_of_units-none : (form : UnitForm) → outcomes_of_units form [] ≡ []
 unfolding outcomes_of_units
@@ -50,9 +57,9 @@ pub outcomes_are : (form : UnitForm) (bytes : List ℕ) (units : List (List ℕ)
 unfolding outcomes_of_bytes
 outcomes_are form bytes units is = ap (outcomes_of_units form) is
 
-pub files_are : (form : UnitForm) (bytes : List ℕ) (outcomes : List Outcome) → outcomes_of_bytes (Units form) bytes ≡ outcomes → files_of_bytes (Units form) bytes ≡ files_of_outcomes outcomes
+pub files_are : (form : UnitForm) (bytes : List ℕ) (outcomes : List Outcome) → outcomes_of_bytes (Units form) bytes ≡ outcomes → files_of_bytes (Units form) bytes ≡ placed_of_outcomes outcomes
 unfolding files_of_bytes
-files_are form bytes outcomes is = ap files_of_outcomes is
+files_are form bytes outcomes is = ap placed_of_outcomes is
 
 -- an outcome is restored or lost
 pub both_kinds : (outcomes : List Outcome) → count_by is_restored outcomes + count_by (λ o. not (is_restored o)) outcomes ≡ length outcomes
@@ -95,8 +102,9 @@ pub record UnitsSoFar {S D O : Type 0} (source : SourceOf S) (disk : DiskOf D) (
   pub working : (kept_by shelf).failed ≡ false → (kept_by shelf').failed ≡ false
   pub disk_count : disk.faults d' ≡ disk.faults d
   pub out_count : out.faults o' ≡ out.faults o
-  pub shelved : (capacity : ℕ) (before : List File) (d0 : D) (o0 : O) → ShelvesSoFar disk out capacity before [] shelf d0 d o0 o
-      → ShelvesSoFar disk out capacity before (files_of_outcomes (outcomes_of_units form units)) shelf' d0 d' o0 o'
+  pub shelved : (capacity : ℕ) (before : List Item) (d0 : D) (o0 : O) → ShelvesSoFar disk out capacity before [] shelf d0 d o0 o
+      → ShelvesSoFar disk out capacity before (placed_of_outcomes (outcomes_of_units form units)) shelf' d0 d' o0 o'
+  pub grown : Grows (placed_of_outcomes (outcomes_of_units form units)) shelf shelf' d d' o o'
 
 module _ {S D O : Type 0} (source : SourceOf S) (disk : DiskOf D) (out : SinkOf O) (form : UnitForm) (n limit : ℕ) (size : n ≡ unit_bytes form) where
   -- nothing is read
@@ -111,7 +119,12 @@ module _ {S D O : Type 0} (source : SourceOf S) (disk : DiskOf D) (out : SinkOf 
     working = λ works. works;
     disk_count = refl;
     out_count = refl;
-    shelved = λ capacity before d0 o0 so_far. subst (λ (l : List File). ShelvesSoFar disk out capacity before l shelf d0 d o0 o) (sym (ap files_of_outcomes (outcomes_of_units-none form) ∙ no_files)) so_far;
+    shelved = λ capacity before d0 o0 so_far.
+        subst (λ (l : List Placed). ShelvesSoFar disk out capacity before l shelf d0 d o0 o)
+        (sym (ap placed_of_outcomes (outcomes_of_units-none form) ∙ no_files)) so_far;
+    grown =
+        subst (λ (l : List Placed). Grows l shelf shelf d d o o)
+        (sym (ap placed_of_outcomes (outcomes_of_units-none form) ∙ no_files)) (grows_none shelf d o);
   }
 
   module _ {place : ℕ} {before now : Gathered} {layers : Kept} {shelf shelf' : Shelf} {s t s' : S} {d d1 : D} {o o1 : O}
@@ -147,31 +160,38 @@ module _ {S D O : Type 0} (source : SourceOf S) (disk : DiskOf D) (out : SinkOf 
         outcomes_are form (concat so.units ++ now.held) (so.units ++ now.held ∷ []) (ap (λ k. units_of k (concat so.units ++ now.held)) (sym size) ∙ units_there) ∙ outcomes_of_units-push form so.units now.held
 
     module _ (outcome : Outcome) (is : outcome ≡ outcome_of_unit form now.held) where
-      files_there : files_of_outcomes (outcomes_of_units form so.units ++ outcome ∷ []) ≡ files_of_bytes (Units form) (concat so.units ++ now.held)
-      files_there = ap (λ (x : Outcome). files_of_outcomes (outcomes_of_units form so.units ++ x ∷ [])) is ∙ sym (files_are form (concat so.units ++ now.held) _ outcomes_there)
+      files_there : placed_of_outcomes (outcomes_of_units form so.units ++ outcome ∷ []) ≡ files_of_bytes (Units form) (concat so.units ++ now.held)
+      files_there = ap (λ (x : Outcome). placed_of_outcomes (outcomes_of_units form so.units ++ x ∷ [])) is ∙ sym (files_are form (concat so.units ++ now.held) _ outcomes_there)
 
       -- the files of a unit were not all shelved
       pub units_stopped : (cause : Cause) (d2 : D) (o2 : O)
-          → ((outcomes : List Outcome) (capacity : ℕ) (before : List File) (d0 : D) (o0 : O) → StandsFor layers outcomes
-          → ShelvesSoFar disk out capacity before (files_of_outcomes outcomes) shelf' d0 d1 o0 o1 → Stops disk out capacity before cause (files_of_outcomes (outcomes ++ outcome ∷ [])) d0 d2 o0 o2)
+          → ((outcomes : List Outcome) (capacity : ℕ) (before : List Item) (d0 : D) (o0 : O) → StandsFor layers outcomes
+          → ShelvesSoFar disk out capacity before (placed_of_outcomes outcomes) shelf' d0 d1 o0 o1 → Stops disk out capacity before cause (placed_of_outcomes (outcomes ++ outcome ∷ [])) d0 d2 o0 o2)
+          → ((outcomes : List Outcome) → StandsFor layers outcomes
+          → GainsNoMore cause outcomes outcome shelf' d1 d2 o1 o2)
           → ReadsSome source disk out (Units form) limit cause shelf s s' d d2 o o2
-      units_stopped cause d2 o2 stops = record {
+      units_stopped cause d2 o2 stops gains = record {
         bytes = concat so.units ++ now.held;
         read = record { moved = reads_now.moved; few = omega (arith, reads_now.few, reads_now.taken) };
         stops = λ capacity before d0 o0 so_far.
-            subst (λ (l : List File). Stops disk out capacity before cause l d0 d2 o0 o2) files_there
+            subst (λ (l : List Placed). Stops disk out capacity before cause l d0 d2 o0 o2) files_there
             (stops (outcomes_of_units form so.units) capacity before d0 o0 so.stands (so.shelved capacity before d0 o0 so_far));
+        grown =
+            let gained = gains (outcomes_of_units form so.units) so.stands in
+            subst (λ (l : List Placed). GrowsNoMore cause l shelf d d2 o o2) (sym gained.files ∙ files_there)
+            (stops_after so.grown gained.grown);
       }
 
       -- they were
       pub units_more : (empty : Gathered) → empty ≡ record { held = []; taken = now.taken; most = now.most } → (layers2 : Kept) (shelf2 : Shelf) (d2 : D) (o2 : O)
           → StandsFor layers2 (outcomes_of_units form so.units ++ outcome ∷ []) → ((kept_by shelf').failed ≡ false → (kept_by shelf2).failed ≡ false)
           → disk.faults d2 ≡ disk.faults d1 → out.faults o2 ≡ out.faults o1
-          → ((capacity : ℕ) (before : List File) (d0 : D) (o0 : O)
-          → ShelvesSoFar disk out capacity before (files_of_outcomes (outcomes_of_units form so.units)) shelf' d0 d1 o0 o1
-          → ShelvesSoFar disk out capacity before (files_of_outcomes (outcomes_of_units form so.units ++ outcome ∷ [])) shelf2 d0 d2 o0 o2)
+          → ((capacity : ℕ) (before : List Item) (d0 : D) (o0 : O)
+          → ShelvesSoFar disk out capacity before (placed_of_outcomes (outcomes_of_units form so.units)) shelf' d0 d1 o0 o1
+          → ShelvesSoFar disk out capacity before (placed_of_outcomes (outcomes_of_units form so.units ++ outcome ∷ [])) shelf2 d0 d2 o0 o2)
+          → Gains (outcomes_of_units form so.units) outcome shelf' shelf2 d1 d2 o1 o2
           → UnitsSoFar source disk out form n limit (place + 1) empty layers2 shelf shelf2 s s' d d2 o o2
-      units_more empty is_empty layers2 shelf2 d2 o2 stands works disk_count out_count shelved =
+      units_more empty is_empty layers2 shelf2 d2 o2 stands works disk_count out_count shelved gains =
           let grown : outcomes_of_units form so.units ++ outcome ∷ [] ≡ outcomes_of_units form (so.units ++ now.held ∷ []) =
           ap (λ (x : Outcome). outcomes_of_units form so.units ++ x ∷ []) is ∙ sym (outcomes_of_units-push form so.units now.held) in
           record {
@@ -184,8 +204,11 @@ module _ {S D O : Type 0} (source : SourceOf S) (disk : DiskOf D) (out : SinkOf 
             disk_count = disk_count ∙ so.disk_count;
             out_count = out_count ∙ so.out_count;
             shelved = λ capacity before d0 o0 so_far.
-                subst (λ (l : List Outcome). ShelvesSoFar disk out capacity before (files_of_outcomes l) shelf2 d0 d2 o0 o2) grown
+                subst (λ (l : List Outcome). ShelvesSoFar disk out capacity before (placed_of_outcomes l) shelf2 d0 d2 o0 o2) grown
                 (shelved capacity before d0 o0 (so.shelved capacity before d0 o0 so_far));
+            grown =
+                subst (λ (l : List Placed). Grows l shelf shelf2 d d2 o o2)
+                (sym gains.files ∙ ap placed_of_outcomes grown) (grows_on so.grown gains.grown);
           }
 
   module _ {place : ℕ} {before now : Gathered} {layers : Kept} {shelf shelf' : Shelf} {s t s' : S} {d d1 : D} {o o1 : O}
@@ -229,6 +252,9 @@ module _ {S D O : Type 0} (source : SourceOf S) (disk : DiskOf D) (out : SinkOf 
         left = rest_of form n (length so.units) ended'.left (length (concat so.units ++ end.held)) size (omega (arith, left, all_bytes, end.long)) (omega (arith, left, end.long, end.short));
       };
       shelved = λ capacity before d0 o0 so_far.
-          subst (λ (l : List File). ShelvesSoFar disk out capacity before l shelf' d0 d1 o0 o1) (sym (files_are form (concat so.units ++ end.held) _ outcomes_at_end))
+          subst (λ (l : List Placed). ShelvesSoFar disk out capacity before l shelf' d0 d1 o0 o1) (sym (files_are form (concat so.units ++ end.held) _ outcomes_at_end))
           (so.shelved capacity before d0 o0 so_far);
+      grown =
+          subst (λ (l : List Placed). Grows l shelf shelf' d d1 o o1)
+          (sym (files_are form (concat so.units ++ end.held) _ outcomes_at_end)) so.grown;
     }

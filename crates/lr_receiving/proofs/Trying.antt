@@ -1,7 +1,7 @@
 -- What `trial` leaves of the disk, at each of its exits.
 use Rattle.std.proofs.Common.{◌≡◌, ◌⊎◌, inl, inr, ⊎_elim, ℕ, ◌<◌, ◌≤◌, false, List, [], ◌∷◌, ◌++◌, length, refl, sym, ◌∙◌, ap, subst, arith, append_assoc, append-nil, length-append, Result, Ok, Err, IfOk, IfErr, OnOk}
 use Rattle.lr_bits.specs.Faults.{Rose}
-use Rattle.lr_bits.specs.File.{File}
+use Rattle.lr_bits.specs.declared.placed.Placed.{Placed}
 use Rattle.lr_io.specs.declared.source.Source.{Ghosts as SourceOf}
 use Rattle.lr_io.specs.declared.sink.Sink.{Ghosts as SinkOf}
 use Rattle.lr_io.specs.Pieces.{PutsPart}
@@ -163,10 +163,10 @@ module _ {D : Type 0} (disk : DiskOf D) (symbols : List ℕ) (d d1 : D) where
           fronts : LeavesFronts disk trial_capacity [] (files_of_bytes Symbols part) d1 d' → LeavesOnly disk.moment disk.left_since d1 d' (StandsForPart symbols)
           fronts = weaker disk.moment disk.left_since d1 d' _ _ (part_of symbols part (source.left s') split)
 
-          front_of : (done rest : List File) → files_of_bytes Symbols part ≡ done ++ rest → (c : List ℕ) → StandsFor c trial_capacity done → StandsForPart symbols c
+          front_of : (done rest : List Placed) → files_of_bytes Symbols part ≡ done ++ rest → (c : List ℕ) → StandsFor c trial_capacity done → StandsForPart symbols c
           front_of done rest is c stands = part_of symbols part (source.left s') split c (record { first = done; rest = rest; split = is; enough = omega arith; stands = stands })
 
-          holds_front : (done rest : List File) → files_of_bytes Symbols part ≡ done ++ rest → IsDurable disk trial_capacity done d' → HoldsPart disk symbols d'
+          holds_front : (done rest : List Placed) → files_of_bytes Symbols part ≡ done ++ rest → IsDurable disk trial_capacity done d' → HoldsPart disk symbols d'
           holds_front done rest is durable = record {
             contents = front_of done rest is (disk.contents d') durable.stands;
             images = λ c image. front_of done rest is c (subst (λ (l : List ℕ). StandsFor l trial_capacity done) (sym (durable.durable c image)) durable.stands);
@@ -178,13 +178,13 @@ module _ {D : Type 0} (disk : DiskOf D) (symbols : List ℕ) (d d1 : D) where
           split : symbols ≡ some.bytes ++ source.left s'
           split = split_of some.bytes some.read
 
-          abbrev files : List File
+          abbrev files : List Placed
           files = files_of_bytes Symbols some.bytes
 
-          all_fit : (done rest : List File) (next : File) → files ≡ done ++ next ∷ rest → (needed : ℕ) → needed ≡ end_of (done ++ next ∷ []) → trial_capacity < needed → ⊥
+          all_fit : (done rest : List Placed) (next : File) → files ≡ done ++ next ∷ rest → (needed : ℕ) → needed ≡ end_of (done ++ next ∷ []) → trial_capacity < needed → ⊥
           all_fit done rest next is needed needs over =
               let whole : files ≡ (done ++ next ∷ []) ++ rest = is ∙ sym (append_assoc done (next ∷ []) rest) in
-              let le = subst (λ (l : List File). end_of (done ++ next ∷ []) ≤ end_of l) (sym whole) (end_of-append (done ++ next ∷ []) rest) in
+              let le = subst (λ (l : List Placed). end_of (done ++ next ∷ []) ≤ end_of l) (sym whole) (end_of-append (done ++ next ∷ []) rest) in
               omega (arith, le, needs, over, fit some.bytes (source.left s') (split_of some.bytes some.read))
 
           stopped_ends : (c : Cause) → (disk.tells d → StopsBy disk out trial_capacity [] c files d1 d' o o') → StopsTrial c → DiskEnds disk symbols c d d'

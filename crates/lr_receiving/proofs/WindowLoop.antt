@@ -5,7 +5,7 @@ use Rattle.std.proofs.Math.Seq.{drop-nil}
 use Rattle.std.proofs.lemmas.List.Elements.{All-nil}
 use Rattle.lr_bits.specs.declared.outcome.Outcome.{Outcome}
 use Rattle.lr_bits.specs.declared.outcome.Outcome.TheVariants.{Restored, Lost}
-use Rattle.lr_bits.specs.File.{File}
+use Rattle.lr_bits.specs.declared.placed.Placed.{Placed}
 use Rattle.lr_io.specs.declared.source.Source.{Ghosts as SourceOf}
 use Rattle.lr_io.specs.declared.sink.Sink.{Ghosts as SinkOf}
 use Rattle.lr_disk.specs.declared.disk.Disk.{Ghosts as DiskOf}
@@ -22,10 +22,11 @@ use Rattle.lr_frame.proofs.Given.{all_outcomes, first_outcomes, outcomes_are}
 use Rattle.lr_frame.proofs.Whole.{whole_of_window}
 use Rattle.lr_vc.specs.Frame.{Fields}
 use Rattle.lr_vc.specs.Runs.{AreFrames}
-use Rattle.lr_layers.specs.Layers.{Numbers, frames_of_outcomes, numbers_of, files_of_outcomes}
+use Rattle.lr_layers.specs.Layers.{Numbers, frames_of_outcomes, numbers_of}
+use Rattle.lr_layers.specs.Origins.{placed_of_outcomes}
 use Rattle.lr_layers.specs.Standing.{Kept, StandsFor, numbers}
 use Rattle.lr_layers.proofs.GoingOn.{go_on}
-use Rattle.lr_layers.proofs.Pushing.{no_files}
+use Rattle.lr_shelf_format.specs.Items.{Item}
 use Rattle.lr_shelf.specs.Kept.{kept_by}
 use Rattle.lr_shelf.specs.declared.shelf.Shelf.{Shelf}
 use Rattle.lr_catalog.specs.declared.stop.Stop.{Stop}
@@ -33,15 +34,16 @@ use Rattle.lr_catalog.specs.declared.stop.Stop.TheVariants.{End, Limit, Fault}
 use Rattle.lr_commands.specs.declared.cause.Cause.{Cause}
 use Rattle.lr_receiving.specs.declared.ended.Ended.{Ended}
 use Rattle.lr_receiving.specs.declared.input.Input.TheVariants.{Symbols}
-use Rattle.lr_receiving.specs.Causes.{cause_at}
+use Rattle.lr_receiving.specs.Causes.{cause_at, counts}
 use Rattle.lr_commands.specs.Causes.{IsCaused}
 use Rattle.lr_receiving.specs.Reading.{EndsFor}
 use Rattle.lr_receiving.specs.Inputs.{outcomes_of_bytes, files_of_bytes}
 use Rattle.lr_receiving.specs.Decoding.{Decoding, IsFresh, outcomes_given, DecodesSoFar, GivesFrame, EndsFrames}
 use Rattle.lr_receiving.specs.Shelving.{Stops}
-use Rattle.lr_receiving.specs.Shelved.{HasWholeFrame, ShelvesSoFar}
+use Rattle.lr_receiving.specs.Shelved.{HasWholeFrame, ShelvesSoFar, Grows, GrowsNoMore, Gains, GainsNoMore}
 use Rattle.lr_receiving.specs.Reception.{ReadsAll, ReadsSome}
-use Rattle.lr_receiving.proofs.ReceiveLoop.{both_kinds}
+use Rattle.lr_receiving.proofs.Growing.{grows_none, grows_on, stops_after, stops_before}
+use Rattle.lr_receiving.proofs.ReceiveLoop.{both_kinds, no_files}
 use Rattle.lr_receiving.proofs.Shelving.{stops_more}
 use Rattle.lr_receiving.proofs.WholeFrames.{with_outcome}
 
@@ -68,21 +70,21 @@ all_whole symbols =
 
 -- the files of frames that were given are the first ones of the bytes
 pub files_first : (bytes : List ℕ) (given : List Frame) → AreNext (tail_of STANDARD) (symbols_of bytes) None given
-    → (rest : List File) × (files_of_bytes Symbols bytes ≡ files_of_outcomes (outcomes_given bytes given) ++ rest)
+    → (rest : List Placed) × (files_of_bytes Symbols bytes ≡ placed_of_outcomes (outcomes_given bytes given) ++ rest)
 unfolding files_of_bytes outcomes_of_bytes outcomes_given
 files_first bytes given next =
     let symbols : List ℤ = symbols_of bytes in
     let first : (rest : List Outcome) × (outcomes_of_symbols STANDARD symbols ≡ map (outcome_in STANDARD symbols) given ++ rest) = first_outcomes STANDARD symbols given next in
     let law = go_on (map (outcome_in STANDARD symbols) given) first.0 (subst (λ (l : List Outcome). AreFrames (frames_of_outcomes l)) first.1 (all_whole symbols)) in
-    (law.more_files, ap files_of_outcomes first.1 ∙ law.files)
+    (law.more_files, ap placed_of_outcomes first.1 ∙ law.files)
 
 pub outcomes_all : (bytes : List ℕ) (given : List Frame) → Rattle.lr_lock.specs.Frames.AreFrames (tail_of STANDARD) (symbols_of bytes) given → outcomes_of_bytes Symbols bytes ≡ outcomes_given bytes given
 unfolding outcomes_of_bytes outcomes_given
 outcomes_all bytes given every = all_outcomes STANDARD (symbols_of bytes) given every
 
-pub files_all : (bytes : List ℕ) (outcomes : List Outcome) → outcomes_of_bytes Symbols bytes ≡ outcomes → files_of_bytes Symbols bytes ≡ files_of_outcomes outcomes
+pub files_all : (bytes : List ℕ) (outcomes : List Outcome) → outcomes_of_bytes Symbols bytes ≡ outcomes → files_of_bytes Symbols bytes ≡ placed_of_outcomes outcomes
 unfolding files_of_bytes
-files_all bytes outcomes is = ap files_of_outcomes is
+files_all bytes outcomes is = ap placed_of_outcomes is
 
 pub outcomes_given-push : (bytes : List ℕ) (given : List Frame) (frame : Frame) → outcomes_given bytes (given ++ frame ∷ []) ≡ outcomes_given bytes given ++ outcome_in STANDARD (symbols_of bytes) frame ∷ []
 unfolding outcomes_given
@@ -98,10 +100,10 @@ outcomes_given-counted bytes given = length-map given (outcome_in STANDARD (symb
 
 -- why no more was taken is a cause
 pub caused_end : {S : Type 0} (source : SourceOf S) (stop : Stop) (limit : ℕ) (bytes : List ℕ) (s s' : S) → EndsFor source stop limit bytes s s'
-    → IsCaused (cause_at stop) (source.faults s) (source.faults s') 0 0 0 0
+    → IsCaused (cause_at stop) (counts (source.faults s) 0 0) (counts (source.faults s') 0 0)
 caused_end source End limit bytes s s' why = tt
 caused_end source Limit limit bytes s s' why = tt
-caused_end source Fault limit bytes s s' why = why
+caused_end source Fault limit bytes s s' why = why.1
 
 -- nothing is taken
 pub decoding_begun : {S : Type 0} (source : SourceOf S) (limit : ℕ) (now : Decoding) → IsFresh limit now → (s : S) → DecodesSoFar source [] [] now s s
@@ -129,8 +131,9 @@ pub record WindowsSoFar {S D O : Type 0} (source : SourceOf S) (disk : DiskOf D)
   pub working : (kept_by shelf).failed ≡ false → (kept_by shelf').failed ≡ false
   pub disk_count : disk.faults d' ≡ disk.faults d
   pub out_count : out.faults o' ≡ out.faults o
-  pub shelved : (capacity : ℕ) (before : List File) (d0 : D) (o0 : O) → ShelvesSoFar disk out capacity before [] shelf d0 d o0 o
-      → ShelvesSoFar disk out capacity before (files_of_outcomes (outcomes_given bytes given)) shelf' d0 d' o0 o'
+  pub shelved : (capacity : ℕ) (before : List Item) (d0 : D) (o0 : O) → ShelvesSoFar disk out capacity before [] shelf d0 d o0 o
+      → ShelvesSoFar disk out capacity before (placed_of_outcomes (outcomes_given bytes given)) shelf' d0 d' o0 o'
+  pub grown : Grows (placed_of_outcomes (outcomes_given bytes given)) shelf shelf' d d' o o'
 
 module _ {S D O : Type 0} (source : SourceOf S) (disk : DiskOf D) (out : SinkOf O) (limit : ℕ) where
   pub windows_begun : (shelf : Shelf) (now : Decoding) → IsFresh limit now → (layers : Kept) → StandsFor layers [] → (s : S) (d : D) (o : O)
@@ -145,7 +148,12 @@ module _ {S D O : Type 0} (source : SourceOf S) (disk : DiskOf D) (out : SinkOf 
     working = λ works. works;
     disk_count = refl;
     out_count = refl;
-    shelved = λ capacity before d0 o0 so_far. subst (λ (l : List File). ShelvesSoFar disk out capacity before l shelf d0 d o0 o) (sym (ap files_of_outcomes (outcomes_given-none []) ∙ no_files)) so_far;
+    shelved = λ capacity before d0 o0 so_far.
+        subst (λ (l : List Placed). ShelvesSoFar disk out capacity before l shelf d0 d o0 o)
+        (sym (ap placed_of_outcomes (outcomes_given-none []) ∙ no_files)) so_far;
+    grown =
+        subst (λ (l : List Placed). Grows l shelf shelf d d o o)
+        (sym (ap placed_of_outcomes (outcomes_given-none []) ∙ no_files)) (grows_none shelf d o);
   }
 
   module _ {place : ℕ} {before now : Decoding} {layers : Kept} {shelf shelf' : Shelf} {s t s' : S} {d d1 : D} {o o1 : O}
@@ -169,36 +177,47 @@ module _ {S D O : Type 0} (source : SourceOf S) (disk : DiskOf D) (out : SinkOf 
           ∙ ap (λ (l : List Outcome). l ++ outcome_in STANDARD (symbols_of gives.all) gives.frame ∷ []) gives.same
           ∙ ap (λ (x : Outcome). outcomes_given so.bytes so.given ++ x ∷ []) (sym (is ∙ ap (λ (w : WindowView). outcome_of_window STANDARD w.symbols) gives.window_is))
 
-      first_files : (rest : List File) × (files_of_bytes Symbols gives.all ≡ files_of_outcomes (outcomes_given gives.all (so.given ++ gives.frame ∷ [])) ++ rest)
+      first_files : (rest : List Placed) × (files_of_bytes Symbols gives.all ≡ placed_of_outcomes (outcomes_given gives.all (so.given ++ gives.frame ∷ [])) ++ rest)
       first_files =
           files_first gives.all (so.given ++ gives.frame ∷ [])
           (subst (λ (l : LineCode). AreNext (tail_of l) (symbols_of gives.all) None (so.given ++ gives.frame ∷ [])) gives.so_far.line gives.so_far.stands.frames)
 
+      files_there : files_of_bytes Symbols gives.all
+          ≡ placed_of_outcomes (outcomes_given so.bytes so.given ++ outcome ∷ []) ++ first_files.0
+      files_there = first_files.1 ∙ ap (λ (l : List Outcome). placed_of_outcomes l ++ first_files.0) outcomes_now
+
       -- the files of a window were not all shelved
       pub windows_stopped : (cause : Cause) (d2 : D) (o2 : O)
-          → ((outcomes : List Outcome) (capacity : ℕ) (before : List File) (d0 : D) (o0 : O) → StandsFor layers outcomes
-          → ShelvesSoFar disk out capacity before (files_of_outcomes outcomes) shelf' d0 d1 o0 o1 → Stops disk out capacity before cause (files_of_outcomes (outcomes ++ outcome ∷ [])) d0 d2 o0 o2)
+          → ((outcomes : List Outcome) (capacity : ℕ) (before : List Item) (d0 : D) (o0 : O) → StandsFor layers outcomes
+          → ShelvesSoFar disk out capacity before (placed_of_outcomes outcomes) shelf' d0 d1 o0 o1 → Stops disk out capacity before cause (placed_of_outcomes (outcomes ++ outcome ∷ [])) d0 d2 o0 o2)
+          → ((outcomes : List Outcome) → StandsFor layers outcomes
+          → GainsNoMore cause outcomes outcome shelf' d1 d2 o1 o2)
           → ReadsSome source disk out Symbols limit cause shelf s s' d d2 o o2
-      windows_stopped cause d2 o2 stops = record {
+      windows_stopped cause d2 o2 stops gains = record {
         bytes = gives.all;
         read = record { moved = gives.so_far.moved; few = omega (arith, gives.so_far.few, gives.so_far.long, limit_is) };
         stops = λ capacity before d0 o0 so_far.
             let early = stops (outcomes_given so.bytes so.given) capacity before d0 o0 so.stands (so.shelved capacity before d0 o0 so_far) in
-            let files = files_of_outcomes (outcomes_given so.bytes so.given ++ outcome ∷ []) in
-            subst (λ (l : List File). Stops disk out capacity before cause l d0 d2 o0 o2)
-            (sym (first_files.1 ∙ ap (λ (l : List Outcome). files_of_outcomes l ++ first_files.0) outcomes_now))
+            let files = placed_of_outcomes (outcomes_given so.bytes so.given ++ outcome ∷ []) in
+            subst (λ (l : List Placed). Stops disk out capacity before cause l d0 d2 o0 o2) (sym files_there)
             (stops_more disk out capacity before d0 d2 o0 o2 files first_files.0 cause early);
+        grown =
+            let gained = gains (outcomes_given so.bytes so.given) so.stands in
+            subst (λ (l : List Placed). GrowsNoMore cause l shelf d d2 o o2)
+            (ap (λ (l : List Placed). l ++ first_files.0) (sym gained.files) ∙ sym files_there)
+            (stops_before first_files.0 (stops_after so.grown gained.grown));
       }
 
       -- they were
       pub windows_more : (layers2 : Kept) (shelf2 : Shelf) (d2 : D) (o2 : O)
           → StandsFor layers2 (outcomes_given so.bytes so.given ++ outcome ∷ []) → ((kept_by shelf').failed ≡ false → (kept_by shelf2).failed ≡ false)
           → disk.faults d2 ≡ disk.faults d1 → out.faults o2 ≡ out.faults o1
-          → ((capacity : ℕ) (before : List File) (d0 : D) (o0 : O)
-          → ShelvesSoFar disk out capacity before (files_of_outcomes (outcomes_given so.bytes so.given)) shelf' d0 d1 o0 o1
-          → ShelvesSoFar disk out capacity before (files_of_outcomes (outcomes_given so.bytes so.given ++ outcome ∷ [])) shelf2 d0 d2 o0 o2)
+          → ((capacity : ℕ) (before : List Item) (d0 : D) (o0 : O)
+          → ShelvesSoFar disk out capacity before (placed_of_outcomes (outcomes_given so.bytes so.given)) shelf' d0 d1 o0 o1
+          → ShelvesSoFar disk out capacity before (placed_of_outcomes (outcomes_given so.bytes so.given ++ outcome ∷ [])) shelf2 d0 d2 o0 o2)
+          → Gains (outcomes_given so.bytes so.given) outcome shelf' shelf2 d1 d2 o1 o2
           → WindowsSoFar source disk out limit (place + 1) now layers2 shelf shelf2 s s' d d2 o o2
-      windows_more layers2 shelf2 d2 o2 stands works disk_count out_count shelved = record {
+      windows_more layers2 shelf2 d2 o2 stands works disk_count out_count shelved gains = record {
         bytes = gives.all;
         given = so.given ++ gives.frame ∷ [];
         count = omega (arith, so.count, length-append so.given (gives.frame ∷ []));
@@ -209,8 +228,11 @@ module _ {S D O : Type 0} (source : SourceOf S) (disk : DiskOf D) (out : SinkOf 
         disk_count = disk_count ∙ so.disk_count;
         out_count = out_count ∙ so.out_count;
         shelved = λ capacity before d0 o0 so_far.
-            subst (λ (l : List Outcome). ShelvesSoFar disk out capacity before (files_of_outcomes l) shelf2 d0 d2 o0 o2) (sym outcomes_now)
+            subst (λ (l : List Outcome). ShelvesSoFar disk out capacity before (placed_of_outcomes l) shelf2 d0 d2 o0 o2) (sym outcomes_now)
             (shelved capacity before d0 o0 (so.shelved capacity before d0 o0 so_far));
+        grown =
+            subst (λ (l : List Placed). Grows l shelf shelf2 d d2 o o2)
+            (sym gains.files ∙ ap placed_of_outcomes (sym outcomes_now)) (grows_on so.grown gains.grown);
       }
 
   module _ {place : ℕ} {before now : Decoding} {layers : Kept} {shelf shelf' : Shelf} {s t s' : S} {d d1 : D} {o o1 : O}
@@ -238,6 +260,9 @@ module _ {S D O : Type 0} (source : SourceOf S) (disk : DiskOf D) (out : SinkOf 
         left = left;
       };
       shelved = λ capacity before d0 o0 so_far.
-          subst (λ (l : List File). ShelvesSoFar disk out capacity before l shelf' d0 d1 o0 o1) (sym (files_all ends.all _ outcomes_at_end))
+          subst (λ (l : List Placed). ShelvesSoFar disk out capacity before l shelf' d0 d1 o0 o1) (sym (files_all ends.all _ outcomes_at_end))
           (so.shelved capacity before d0 o0 so_far);
+      grown =
+          subst (λ (l : List Placed). Grows l shelf shelf' d d1 o o1) (sym (files_all ends.all _ outcomes_at_end))
+          so.grown;
     }

@@ -40,7 +40,8 @@ returns-in_err-shelve_outcome-in-Whole-clause-some g c =
     rw (p.1, p.2)
     (windows_stopped g.S.Source g.D.Disk g.O.Sink c.args.decoder.now.most so gives (c.in-Whole.ensures.most ∙ so.limit_is) c.outcome-outcome.result c.outcome-outcome.ensures.value
     _ c.shelve_outcome.new.disk c.shelve_outcome.new.out
-    (λ outcomes capacity before d0 o0 stands so_far. c.in_err-shelve_outcome-in-Whole.ensures.stopped outcomes capacity before d0 o0 stands c.outcome-outcome.ensures.whole so_far))
+    (λ outcomes capacity before d0 o0 stands so_far. c.in_err-shelve_outcome-in-Whole.ensures.stopped outcomes capacity before d0 o0 stands c.outcome-outcome.ensures.whole so_far)
+    (λ outcomes stands. c.in_err-shelve_outcome-in-Whole.ensures.grown_no_more outcomes stands c.outcome-outcome.ensures.whole))
 
 pub overflow_add-place : goal.overflow_add-place
 overflow_add-place g c =
@@ -58,4 +59,5 @@ windows-preserved g c =
     rw c.outcome-outcome.ensures.stays
     (windows_more g.S.Source g.D.Disk g.O.Sink c.args.decoder.now.most so gives (c.in-Whole.ensures.most ∙ so.limit_is) c.outcome-outcome.result c.outcome-outcome.ensures.value
     c.shelve_outcome.new.layers c.shelve_outcome.new.shelf c.shelve_outcome.new.disk c.shelve_outcome.new.out
-    (e.stands _ so.stands) e.working e.counts.0 e.counts.1 (λ capacity before d0 o0 so_far. e.shelved _ capacity before d0 o0 so.stands so_far))
+    (e.stands _ so.stands) e.working e.counts.0 e.counts.1 (λ capacity before d0 o0 so_far. e.shelved _ capacity before d0 o0 so.stands so_far)
+    (e.grown _ so.stands))

@@ -27,7 +27,8 @@ returns-in_err-shelve_outcome-in-Whole-clause-some g c =
     rw (p.1, p.2)
     (units_stopped g.S.Source g.D.Disk g.O.Sink c.args.form g.row.N c.args.most c.requires.size c.units.invariant c.in-Whole.ensures.gathered why.0 why.1 c.unit_outcome-outcome.result is
     _ c.shelve_outcome.new.disk c.shelve_outcome.new.out
-    (λ outcomes capacity before d0 o0 stands so_far. c.in_err-shelve_outcome-in-Whole.ensures.stopped outcomes capacity before d0 o0 stands c.unit_outcome-outcome.ensures.whole so_far))
+    (λ outcomes capacity before d0 o0 stands so_far. c.in_err-shelve_outcome-in-Whole.ensures.stopped outcomes capacity before d0 o0 stands c.unit_outcome-outcome.ensures.whole so_far)
+    (λ outcomes stands. c.in_err-shelve_outcome-in-Whole.ensures.grown_no_more outcomes stands c.unit_outcome-outcome.ensures.whole))
 
 pub returns-in_err-shelve_outcome-in-Whole-clause-cause : goal.returns-in_err-shelve_outcome-in-Whole-clause-cause
 returns-in_err-shelve_outcome-in-Whole-clause-cause g c works =
@@ -52,3 +53,4 @@ units-preserved g c =
     units_more g.S.Source g.D.Disk g.O.Sink c.args.form g.row.N c.args.most c.requires.size c.units.invariant c.in-Whole.ensures.gathered why.0 why.1 c.unit_outcome-outcome.result is
     c.clear.new.self c.clear.ensures c.shelve_outcome.new.layers c.shelve_outcome.new.shelf c.shelve_outcome.new.disk c.shelve_outcome.new.out
     (e.stands _ so.stands) e.working e.counts.0 e.counts.1 (λ capacity before d0 o0 so_far. e.shelved _ capacity before d0 o0 so.stands so_far)
+    (e.grown _ so.stands)
