@@ -10,7 +10,9 @@ use Rattle.lr_shelf_format.specs.Items.{Item}
 use Rattle.lr_shelf.specs.Shelf.{IsDurable}
 use Rattle.lr_catalog.specs.Files.{shelved_line}
 use Rattle.lr_commands.specs.declared.cause.Cause.{Cause}
-use Rattle.lr_commands.specs.declared.cause.Cause.TheVariants.{Done, Usage, SourceFailed, DiskFailed, OutputFailed, NotAShelf, NoSuchFile, NoMemory, Capacity, NotEmpty, BadChecksum}
+use Rattle.lr_commands.specs.declared.cause.Cause.TheVariants.{Done, Failed, NoMemory, Refused}
+use Rattle.lr_commands.specs.declared.cause.Party.TheVariants.{Source, Disk, Output}
+use Rattle.lr_commands.specs.declared.cause.Refusal.TheVariants.{NotAShelf, Capacity, NotEmpty}
 use Rattle.lr_receiving.specs.declared.input.Input.{Input}
 use Rattle.lr_receiving.specs.Inputs.{files_of_bytes}
 use Rattle.lr_receiving.specs.Reading.{IsRead}
@@ -72,10 +74,10 @@ module _ {D : Type 0} (disk : DiskOf D) (capacity : ℕ) (before files : List Pl
 
 -- as many files are there as whole lines went out
 module _ (before files whole rest : List Placed) (split : files ≡ whole ++ rest) where
-  acknowledged : (first more : List Placed) (old new got text : List ℕ) → files ≡ first ++ more → new ≡ old ++ got → length got ≤ length (shelved_lines (length before) first)
-      → new ≡ old ++ (shelved_lines (length before) whole ++ text) → length whole ≤ length first
+  acknowledged : (first more : List Placed) (old new got text : List ℕ) → files ≡ first ++ more → new ≡ old ++ got → length got ≤ length (shelved_lines (next_number before) first)
+      → new ≡ old ++ (shelved_lines (next_number before) whole ++ text) → length whole ≤ length first
   acknowledged first more old new got text known put le whole_put =
-      no_more (length before) whole first rest more (sym split ∙ known) (omega (arith, le, no_longer old new got (shelved_lines (length before) whole) text put whole_put))
+      no_more (length before) whole first rest more (sym split ∙ known) (omega (arith, le, no_longer old new got (shelved_lines (next_number before) whole) text put whole_put))
 
   all_there : length whole ≤ length files
   all_there = omega (arith, ap length split, length-append whole rest)
@@ -85,23 +87,22 @@ module _ {S D O : Type 0} (source : SourceOf S) (disk : DiskOf D) (out : SinkOf 
   files = files_of_bytes input bytes
 
   -- where the last lines are to come, all files are there
-  every : (n : ℕ) → n ≤ length (files_of_bytes input bytes) → IsDurable disk capacity (before ++ files_of_bytes input bytes) d' → Holds disk capacity before (files_of_bytes input bytes) n d'
+  every : (n : ℕ) → n ≤ length (files_of_bytes input bytes) → IsDurable disk capacity (with_files before (files_of_bytes input bytes)) d' → Holds disk capacity before (files_of_bytes input bytes) n d'
   every n enough durable = holds disk capacity before (files_of_bytes input bytes) d' (files_of_bytes input bytes) [] n (sym (append-nil (files_of_bytes input bytes))) enough durable
 
-  module _ (whole rest : List Placed) (text : List ℕ) (told : out.tells o) (split : files_of_bytes input bytes ≡ whole ++ rest) (put : out.contents o' ≡ out.contents o ++ (shelved_lines (length before) whole ++ text)) where
-    enough_of : (first more : List Placed) (got : List ℕ) → files_of_bytes input bytes ≡ first ++ more → out.contents o' ≡ out.contents o ++ got → length got ≤ length (shelved_lines (length before) first) → length whole ≤ length first
+  module _ (whole rest : List Placed) (text : List ℕ) (told : out.tells o) (split : files_of_bytes input bytes ≡ whole ++ rest) (put : out.contents o' ≡ out.contents o ++ (shelved_lines (next_number before) whole ++ text)) where
+    enough_of : (first more : List Placed) (got : List ℕ) → files_of_bytes input bytes ≡ first ++ more → out.contents o' ≡ out.contents o ++ got → length got ≤ length (shelved_lines (next_number before) first) → length whole ≤ length first
     enough_of first more got known got_put le = acknowledged before (files_of_bytes input bytes) whole rest split first more (out.contents o) (out.contents o') got text known got_put le put
 
-    every_one : IsDurable disk capacity (before ++ files_of_bytes input bytes) d' → Holds disk capacity before (files_of_bytes input bytes) (length whole) d'
+    every_one : IsDurable disk capacity (with_files before (files_of_bytes input bytes)) d' → Holds disk capacity before (files_of_bytes input bytes) (length whole) d'
     every_one durable = every (length whole) (all_there before (files_of_bytes input bytes) whole rest split) durable
 
     held : (cause : Cause) → Ends source disk out input capacity before limit bytes cause s s' d d' o o' → Holds disk capacity before (files_of_bytes input bytes) (length whole) d'
     held Done (inl e) = every_one e.durable
     held Done (inr e) = every_one e.durable
-    held Usage e = absurd e
     held SourceFailed e = every_one e.durable
     held DiskFailed e =
-        let enough = enough_of e.done e.rest (shelved_lines (length before) e.done) e.split (e.got told) (omega arith) in
+        let enough = enough_of e.done e.rest (shelved_lines (next_number before) e.done) e.split (e.got told) (omega arith) in
         record {
           contents = front_of disk capacity before (files_of_bytes input bytes) d' e.done e.rest (length whole) (disk.contents d') e.split enough e.contents;
           images = λ c image. front_of disk capacity before (files_of_bytes input bytes) d' e.done e.rest (length whole) c e.split enough (e.images c image);
@@ -109,33 +110,28 @@ module _ {S D O : Type 0} (source : SourceOf S) (disk : DiskOf D) (out : SinkOf 
     held OutputFailed (inl e) =
         let cut = e.part told in
         let first = e.done ++ e.last ∷ [] in
-        let line = shelved_line (length before + length e.done) e.last in
-        let got = shelved_lines (length before) e.done ++ cut.part in
-        let le : length got ≤ length (shelved_lines (length before) first) = omega (
+        let line = shelved_line (next_number before + length e.done) e.last.file in
+        let got = shelved_lines (next_number before) e.done ++ cut.part in
+        let le : length got ≤ length (shelved_lines (next_number before) first) = omega (
           arith,
-          length-append (shelved_lines (length before) e.done) cut.part,
+          length-append (shelved_lines (next_number before) e.done) cut.part,
           cut.shorter,
           ap length (shelved_lines-push (length before) e.done e.last),
-          length-append (shelved_lines (length before) e.done) line,
+          length-append (shelved_lines (next_number before) e.done) line,
         ) in
-        let put_is : out.contents o' ≡ out.contents o ++ got = cut.put ∙ append_assoc (out.contents o) (shelved_lines (length before) e.done) cut.part in
+        let put_is : out.contents o' ≡ out.contents o ++ got = cut.put ∙ append_assoc (out.contents o) (shelved_lines (next_number before) e.done) cut.part in
         holds disk capacity before (files_of_bytes input bytes) d' first e.rest (length whole) e.split (enough_of first e.rest got e.split put_is le) e.durable
     held OutputFailed (inr e) = every_one e.durable
-    held (NotAShelf at) e = absurd e
-    held (NoSuchFile count) e = absurd e
     held NoMemory e =
-        let enough = enough_of e.done e.rest (shelved_lines (length before) e.done) e.split (e.got told) (omega arith) in
+        let enough = enough_of e.done e.rest (shelved_lines (next_number before) e.done) e.split (e.got told) (omega arith) in
         holds disk capacity before (files_of_bytes input bytes) d' e.done e.rest (length whole) e.split enough e.durable
     held (Capacity needed most) e =
-        let enough = enough_of e.done (e.next ∷ e.rest) (shelved_lines (length before) e.done) e.split (e.got told) (omega arith) in
+        let enough = enough_of e.done (e.next ∷ e.rest) (shelved_lines (next_number before) e.done) e.split (e.got told) (omega arith) in
         holds disk capacity before (files_of_bytes input bytes) d' e.done (e.next ∷ e.rest) (length whole) e.split enough e.durable
-    held (NotEmpty size) e = absurd e
-    held BadChecksum e = absurd e
 
   held_untold : (cause : Cause) → Ends source disk out input capacity before limit bytes cause s s' d d' o o' → Holds disk capacity before (files_of_bytes input bytes) 0 d'
   held_untold Done (inl e) = every 0 (omega arith) e.durable
   held_untold Done (inr e) = every 0 (omega arith) e.durable
-  held_untold Usage e = absurd e
   held_untold SourceFailed e = every 0 (omega arith) e.durable
   held_untold DiskFailed e = record {
     contents = front_of disk capacity before (files_of_bytes input bytes) d' e.done e.rest 0 (disk.contents d') e.split (omega arith) e.contents;
@@ -143,39 +139,30 @@ module _ {S D O : Type 0} (source : SourceOf S) (disk : DiskOf D) (out : SinkOf 
   }
   held_untold OutputFailed (inl e) = holds disk capacity before (files_of_bytes input bytes) d' (e.done ++ e.last ∷ []) e.rest 0 e.split (omega arith) e.durable
   held_untold OutputFailed (inr e) = every 0 (omega arith) e.durable
-  held_untold (NotAShelf at) e = absurd e
-  held_untold (NoSuchFile count) e = absurd e
   held_untold NoMemory e = holds disk capacity before (files_of_bytes input bytes) d' e.done e.rest 0 e.split (omega arith) e.durable
   held_untold (Capacity needed most) e = holds disk capacity before (files_of_bytes input bytes) d' e.done (e.next ∷ e.rest) 0 e.split (omega arith) e.durable
-  held_untold (NotEmpty size) e = absurd e
-  held_untold BadChecksum e = absurd e
 
-  complete : (cause : Cause) → Ends source disk out input capacity before limit bytes cause s s' d d' o o' → NoFault source disk out s s' d d' o o' → end_of (before ++ files_of_bytes input bytes) ≤ capacity
+  complete : (cause : Cause) → Ends source disk out input capacity before limit bytes cause s s' d d' o o' → NoFault source disk out s s' d d' o o' → end_of (with_files before (files_of_bytes input bytes)) ≤ capacity
       → (cause ≡ Done) ⊎ (cause ≡ NoMemory)
   complete Done e quiet fits = inl refl
-  complete Usage e quiet fits = absurd e
   complete SourceFailed e quiet fits = absurd (quiet.of_source e.reason)
   complete DiskFailed e quiet fits = absurd (quiet.of_disk e.rose)
   complete OutputFailed (inl e) quiet fits = absurd (quiet.of_out e.rose)
   complete OutputFailed (inr e) quiet fits = absurd (quiet.of_out e.rose)
-  complete (NotAShelf at) e quiet fits = absurd e
-  complete (NoSuchFile count) e quiet fits = absurd e
   complete NoMemory e quiet fits = inr refl
   complete (Capacity needed most) e quiet fits =
-      let all : before ++ files_of_bytes input bytes ≡ (before ++ (e.done ++ e.next ∷ [])) ++ e.rest =
+      let all : with_files before (files_of_bytes input bytes) ≡ (before ++ (e.done ++ e.next ∷ [])) ++ e.rest =
       ap (λ (l : List Placed). before ++ l) (e.split ∙ sym (append_assoc e.done (e.next ∷ []) e.rest)) ∙ sym (append_assoc before (e.done ++ e.next ∷ []) e.rest) in
-      let le : end_of (before ++ (e.done ++ e.next ∷ [])) ≤ end_of (before ++ files_of_bytes input bytes) =
+      let le : end_of (before ++ (e.done ++ e.next ∷ [])) ≤ end_of (with_files before (files_of_bytes input bytes)) =
       subst (λ (l : List Placed). end_of (before ++ (e.done ++ e.next ∷ [])) ≤ end_of l) (sym all) (end_of-append (before ++ (e.done ++ e.next ∷ [])) e.rest) in
       absurd (omega (arith, le, fits, e.needs, e.over))
-  complete (NotEmpty size) e quiet fits = absurd e
-  complete BadChecksum e quiet fits = absurd e
 
   -- a run that ends well has put all files onto the shelf, so they fit
-  not_done : Ends source disk out input capacity before limit bytes Done s s' d d' o o' → capacity < end_of (before ++ files_of_bytes input bytes) → ⊥
+  not_done : Ends source disk out input capacity before limit bytes Done s s' d d' o o' → capacity < end_of (with_files before (files_of_bytes input bytes)) → ⊥
   not_done (inl e) over = omega (arith, e.durable.stands.fits, over)
   not_done (inr e) over = omega (arith, e.durable.stands.fits, over)
 
-  not_failed : Ends source disk out input capacity before limit bytes SourceFailed s s' d d' o o' → capacity < end_of (before ++ files_of_bytes input bytes) → ⊥
+  not_failed : Ends source disk out input capacity before limit bytes SourceFailed s s' d d' o o' → capacity < end_of (with_files before (files_of_bytes input bytes)) → ⊥
   not_failed e over = omega (arith, e.durable.stands.fits, over)
 
   pub receives : (cause : Cause) → IsRead source limit bytes s s' → LeavesFronts disk capacity before (files_of_bytes input bytes) d d'

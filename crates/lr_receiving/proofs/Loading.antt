@@ -19,7 +19,9 @@ use Rattle.lr_disk.proofs.Moments.{weaker}
 use Rattle.lr_catalog.specs.declared.stop.Stop.{Stop}
 use Rattle.lr_catalog.specs.declared.stop.Stop.TheVariants.{End, Limit, Fault}
 use Rattle.lr_commands.specs.declared.cause.Cause.{Cause}
-use Rattle.lr_commands.specs.declared.cause.Cause.TheVariants.{Done, Usage, SourceFailed, DiskFailed, OutputFailed, NotAShelf, NoSuchFile, NoMemory, Capacity, NotEmpty, BadChecksum}
+use Rattle.lr_commands.specs.declared.cause.Cause.TheVariants.{Done, Failed, NoMemory, Refused}
+use Rattle.lr_commands.specs.declared.cause.Party.TheVariants.{Source, Disk, Output}
+use Rattle.lr_commands.specs.declared.cause.Refusal.TheVariants.{NotAShelf, Capacity, NotEmpty}
 use Rattle.lr_receiving.specs.declared.input.Input.{Input}
 use Rattle.lr_commands.specs.Causes.{cause_of}
 use Rattle.lr_receiving.specs.Causes.{cause_at}
@@ -123,7 +125,7 @@ module _ {S D O : Type 0} (source : SourceOf S) (disk : DiskOf D) (out : SinkOf 
     stands : StandsFor (disk.contents d1) capacity (before ++ [])
     stands = subst (λ (l : List Placed). StandsFor (disk.contents d1) capacity l) (sym (append-nil before)) durable1.stands
 
-    got_none : out.tells o → out.contents o ≡ out.contents o ++ shelved_lines (length before) []
+    got_none : out.tells o → out.contents o ≡ out.contents o ++ shelved_lines (next_number before) []
     got_none t = sym (ap (λ l. out.contents o ++ l) (shelved_lines-none (length before)) ∙ append-nil (out.contents o))
 
     none_read : IsRead source limit [] s s
@@ -211,13 +213,8 @@ done_cause Fault = tt
 
 pub stop_cause : (cause : Cause) → MayStop cause → IsReceiveCause cause
 stop_cause Done may = absurd may
-stop_cause Usage may = absurd may
 stop_cause SourceFailed may = absurd may
 stop_cause DiskFailed may = tt
 stop_cause OutputFailed may = tt
-stop_cause (NotAShelf at) may = absurd may
-stop_cause (NoSuchFile count) may = absurd may
 stop_cause NoMemory may = tt
 stop_cause (Capacity needed most) may = tt
-stop_cause (NotEmpty size) may = absurd may
-stop_cause BadChecksum may = absurd may

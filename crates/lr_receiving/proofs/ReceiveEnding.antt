@@ -16,16 +16,19 @@ use Rattle.lr_disk.proofs.Moments.{weaker}
 use Rattle.lr_catalog.specs.declared.stop.Stop.{Stop}
 use Rattle.lr_catalog.specs.declared.stop.Stop.TheVariants.{End, Limit, Fault}
 use Rattle.lr_commands.specs.declared.cause.Cause.{Cause}
-use Rattle.lr_commands.specs.declared.cause.Cause.TheVariants.{Done, Usage, SourceFailed, DiskFailed, OutputFailed, NotAShelf, NoSuchFile, NoMemory, Capacity, NotEmpty, BadChecksum}
+use Rattle.lr_commands.specs.declared.cause.Cause.TheVariants.{Done, Failed, NoMemory, Refused}
+use Rattle.lr_commands.specs.declared.cause.Party.TheVariants.{Source, Disk, Output}
+use Rattle.lr_commands.specs.declared.cause.Refusal.TheVariants.{NotAShelf, Capacity, NotEmpty}
 use Rattle.lr_receiving.specs.declared.ended.Ended.{Ended}
 use Rattle.lr_receiving.specs.declared.input.Input.{Input}
-use Rattle.lr_receiving.specs.Causes.{cause_at}
+use Rattle.lr_receiving.specs.Causes.{IsEarlier, cause_at}
 use Rattle.lr_receiving.specs.Inputs.{outcomes_of_bytes, files_of_bytes}
 use Rattle.lr_commands.specs.Puts.{PutFails}
-use Rattle.lr_receiving.specs.Shelving.{shelved_lines, StandsForFront, StopsBy}
-use Rattle.lr_receiving.specs.Shelved.{ShelvesSoFar}
-use Rattle.lr_receiving.specs.Receive.{counts_line, receive_count, receive_last, Finishes, Ends}
-use Rattle.lr_receiving.specs.Reception.{IsCountOf, ended_line, PutsLast, LastStops, ReadsAll, ReadsSome, EndsRun}
+use Rattle.lr_receiving.specs.Onto.{HasRoom}
+use Rattle.lr_receiving.specs.Shelving.{with_files, next_number, shelved_lines, StandsForFront, StopsBy}
+use Rattle.lr_receiving.specs.Shelved.{MayStop, ShelvesSoFar, Grows, GrowsNoMore}
+use Rattle.lr_receiving.specs.Receive.{counts_line, receive_count, receive_last, IsWorkDone, Finishes, Ends}
+use Rattle.lr_receiving.specs.Reception.{IsCountOf, ended_line, PutsLast, LastStops, ReadsAll, ReadsSome, EndsOver, EndsRun}
 use Rattle.lr_receiving.proofs.ShelvedLines.{shelved_lines-none}
 
 -- the last line tells what was counted
@@ -44,37 +47,74 @@ module _ {D O : Type 0} (disk : DiskOf D) (out : SinkOf O) (capacity : ℕ) (bef
     rest = [];
     split = refl;
     enough = omega arith;
-    stands = subst (λ (l : List Placed). StandsFor bytes capacity l) (sym (append-nil before)) s;
+    stands = subst (λ (l : List Item). StandsFor bytes capacity l) (sym (append-nil before)) s;
   }
 
   -- the shelf is loaded
   pub loaded : (shelf : Shelf) → IsSettled disk capacity before shelf d1 → LeavesOnly disk.moment disk.left_since d d1 (λ c. StandsFor c capacity before) → disk.faults d1 ≡ disk.faults d
       → ShelvesSoFar disk out capacity before [] shelf d d1 o o
   loaded shelf settled run count = record {
-    settled = subst (λ (l : List Placed). IsSettled disk capacity l shelf d1) (sym (append-nil before)) settled;
+    settled = subst (λ (l : List Item). IsSettled disk capacity l shelf d1) (sym (append-nil before)) settled;
     any_moment = weaker disk.moment disk.left_since d d1 _ _ front_none run;
     put = record {
       told = λ t. t;
-      put = λ t. sym (ap (λ l. out.contents o ++ l) (shelved_lines-none (length before)) ∙ append-nil (out.contents o));
+      put = λ t. sym (ap (λ l. out.contents o ++ l) (shelved_lines-none (next_number before)) ∙ append-nil (out.contents o));
       kept = refl;
     };
     disk_count = count;
   }
 
+-- ---- over every disk
+
+-- the work isn't done where shelving stopped
+no_work : (cause : Cause) → MayStop cause → IsWorkDone cause → ⊥
+no_work (Failed Disk) may done = done
+no_work (Failed Output) may done = done
+no_work NoMemory may done = done
+no_work (Refused (Capacity needed most)) may done = done
+no_work _ may done = absurd may
+
+module _ {D O : Type 0} {shelf : Shelf} {files : List Placed} {d d1 : D} {o o1 : O} where
+  -- shelving stopped
+  over_some : (cause : Cause) → MayStop cause → GrowsNoMore cause files shelf d d1 o o1
+      → EndsOver cause files shelf d d1 o o1
+  over_some cause may stops = record {
+    full = stops.full;
+    room = λ done. absurd (no_work cause may done);
+    same_disk = λ none. (stops.none none).1;
+    silent = λ none early. (stops.none none).2;
+    kind = λ none failed. cc (failed, (stops.none none).0);
+  }
+
+  module _ {shelf1 : Shelf} (grown : Grows files shelf shelf1 d d1 o o1) (o2 : O) where
+    -- all files are shelved, and the last line isn't put
+    over_last : (cause : Cause) → ((needed most : ℕ) → cause ≡ Refused (Capacity needed most) → ⊥)
+        → (cause ≡ Failed Disk → ⊥) → (IsEarlier cause → o2 ≡ o1) → EndsOver cause files shelf d d1 o o2
+    over_last cause other no_fault same = record {
+      full = λ needed most is. absurd (other needed most is);
+      room = λ done. grown.room;
+      same_disk = λ none. (grown.none none).0;
+      silent = λ none early. same early ∙ (grown.none none).1;
+      kind = λ none failed. no_fault failed;
+    }
+
+    -- it is put
+    over_done : (stop : Stop) → EndsOver (cause_at stop) files shelf d d1 o o2
+    over_done End = over_last (cause_at End) (λ needed most is. cc (is)) (λ is. cc (is)) (λ early. absurd early)
+    over_done Limit = over_last (cause_at Limit) (λ needed most is. cc (is)) (λ is. cc (is)) (λ early. absurd early)
+    over_done Fault = over_last (cause_at Fault) (λ needed most is. cc (is)) not_disk (λ early. absurd early)
+      where
+        not_disk : Failed Source ≡ Failed Disk → ⊥
+        not_disk is = let same : Source ≡ Disk = cc (is) in cc (same)
+
 module _ {S D O : Type 0} (source : SourceOf S) (disk : DiskOf D) (out : SinkOf O) (input : Input) (limit : ℕ) where
   module _ (capacity : ℕ) (before : List Item) (bytes : List ℕ) (s s' : S) (d d' : D) (o o' : O) where
     ends_of : (cause : Cause) → StopsBy disk out capacity before cause (files_of_bytes input bytes) d d' o o' → Ends source disk out input capacity before limit bytes cause s s' d d' o o'
-    ends_of Done stops = absurd stops
-    ends_of Usage stops = absurd stops
-    ends_of SourceFailed stops = absurd stops
-    ends_of DiskFailed stops = stops
-    ends_of OutputFailed stops = inl stops
-    ends_of (NotAShelf at) stops = absurd stops
-    ends_of (NoSuchFile count) stops = absurd stops
+    ends_of (Failed Disk) stops = stops
+    ends_of (Failed Output) stops = inl stops
     ends_of NoMemory stops = stops
-    ends_of (Capacity needed most) stops = stops
-    ends_of (NotEmpty size) stops = absurd stops
-    ends_of BadChecksum stops = absurd stops
+    ends_of (Refused (Capacity needed most)) stops = stops
+    ends_of _ stops = absurd stops
 
     ends_at : (stop : Stop) → Finishes source disk out input capacity before limit bytes stop s s' d d' o o' → Ends source disk out input capacity before limit bytes (cause_at stop) s s' d d' o o'
     ends_at End done = inl done
@@ -83,13 +123,14 @@ module _ {S D O : Type 0} (source : SourceOf S) (disk : DiskOf D) (out : SinkOf 
 
   module _ (shelf : Shelf) (s s' : S) (d d1 : D) (o o1 : O) where
     -- shelving stopped
-    pub ended_some : (cause : Cause) → ReadsSome source disk out input limit cause shelf s s' d d1 o o1 → EndsRun source disk out input limit cause shelf s s' d d1 o o1
-    ended_some cause some = record {
+    pub ended_some : (cause : Cause) → MayStop cause → ReadsSome source disk out input limit cause shelf s s' d d1 o o1 → EndsRun source disk out input limit cause shelf s s' d d1 o o1
+    ended_some cause may some = record {
       bytes = some.bytes;
       read = some.read;
       ends = λ capacity before d0 o0 so_far.
           let stops = some.stops capacity before d0 o0 so_far in
           (stops.any_moment, ends_of capacity before some.bytes s s' d0 d1 o0 o1 cause stops.why);
+      over = over_some cause may some.grown;
     }
 
     module _ (ended : Ended) (shelf1 : Shelf) (all : ReadsAll source disk out input limit ended shelf shelf1 s s' d d1 o o1) (o2 : O) where
@@ -97,7 +138,7 @@ module _ {S D O : Type 0} (source : SourceOf S) (disk : DiskOf D) (out : SinkOf 
       line_is = last_line input all.bytes ended all.count
 
       -- a part of the last line was put
-      summary_cut : PutFails out (ended_line ended) o1 o2 → EndsRun source disk out input limit OutputFailed shelf s s' d d1 o o2
+      summary_cut : PutFails out (ended_line ended) o1 o2 → EndsRun source disk out input limit (Failed Output) shelf s s' d d1 o o2
       summary_cut fails = record {
         bytes = all.bytes;
         read = all.read;
@@ -120,6 +161,9 @@ module _ {S D O : Type 0} (source : SourceOf S) (disk : DiskOf D) (out : SinkOf 
                 rose = subst (λ (k : ℕ). Rose k (out.faults o2)) so_far.put.kept fails.rose;
               }),
             );
+        over =
+            over_last all.grown o2 (Failed Output) (λ needed most is. cc (is))
+            (λ is. let same : Output ≡ Disk = cc (is) in cc (same)) (λ early. absurd early);
       }
 
       -- there was no memory for it
@@ -138,21 +182,14 @@ module _ {S D O : Type 0} (source : SourceOf S) (disk : DiskOf D) (out : SinkOf 
                 got = λ t. ap out.contents same ∙ so_far.put.put t;
               },
             );
+        over = over_last all.grown o2 NoMemory (λ needed most is. cc (is)) (λ is. cc (is)) (λ early. same);
       }
 
       -- the last line wasn't put
       pub last_stopped : (cause : Cause) → LastStops out ended cause o1 o2 → EndsRun source disk out input limit cause shelf s s' d d1 o o2
-      last_stopped Done stops = absurd stops
-      last_stopped Usage stops = absurd stops
-      last_stopped SourceFailed stops = absurd stops
-      last_stopped DiskFailed stops = absurd stops
-      last_stopped OutputFailed stops = summary_cut stops
-      last_stopped (NotAShelf at) stops = absurd stops
-      last_stopped (NoSuchFile count) stops = absurd stops
+      last_stopped (Failed Output) stops = summary_cut stops
       last_stopped NoMemory stops = no_summary stops
-      last_stopped (Capacity needed most) stops = absurd stops
-      last_stopped (NotEmpty size) stops = absurd stops
-      last_stopped BadChecksum stops = absurd stops
+      last_stopped _ stops = absurd stops
 
       -- it was put
       pub all_put : PutsLast out ended o1 o2 → EndsRun source disk out input limit (cause_at ended.stop) shelf s s' d d1 o o2
@@ -168,10 +205,11 @@ module _ {S D O : Type 0} (source : SourceOf S) (disk : DiskOf D) (out : SinkOf 
                 durable = so_far.settled.on_disk;
                 got = λ t.
                     put.put (so_far.put.told t) ∙ ap (λ (l : List ℕ). l ++ ended_line ended) (so_far.put.put t)
-                    ∙ append_assoc (out.contents o0) (shelved_lines (length before) files) (ended_line ended)
-                    ∙ ap (λ (l : List ℕ). out.contents o0 ++ (shelved_lines (length before) files ++ l)) line_is;
+                    ∙ append_assoc (out.contents o0) (shelved_lines (next_number before) files) (ended_line ended)
+                    ∙ ap (λ (l : List ℕ). out.contents o0 ++ (shelved_lines (next_number before) files ++ l)) line_is;
                 disk_count = so_far.disk_count;
                 out_count = put.kept ∙ so_far.put.kept;
               }),
             );
+        over = over_done all.grown o2 ended.stop;
       }

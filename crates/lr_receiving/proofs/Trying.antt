@@ -19,7 +19,9 @@ use Rattle.lr_disk.proofs.Moments.{weaker, joined}
 use Rattle.lr_catalog.specs.declared.stop.Stop.{Stop}
 use Rattle.lr_catalog.specs.declared.stop.Stop.TheVariants.{End, Limit, Fault}
 use Rattle.lr_commands.specs.declared.cause.Cause.{Cause}
-use Rattle.lr_commands.specs.declared.cause.Cause.TheVariants.{Done, Usage, SourceFailed, DiskFailed, OutputFailed, NotAShelf, NoSuchFile, NoMemory, Capacity, NotEmpty, BadChecksum}
+use Rattle.lr_commands.specs.declared.cause.Cause.TheVariants.{Done, Failed, NoMemory, Refused}
+use Rattle.lr_commands.specs.declared.cause.Party.TheVariants.{Source, Disk, Output}
+use Rattle.lr_commands.specs.declared.cause.Refusal.TheVariants.{NotAShelf, Capacity, NotEmpty}
 use Rattle.lr_receiving.specs.declared.ended.Ended.{Ended}
 use Rattle.lr_receiving.specs.declared.input.Input.TheVariants.{Symbols}
 use Rattle.lr_commands.specs.Causes.{cause_of, IsCaused}
@@ -43,12 +45,7 @@ stops_trial OutputFailed s s' d d' may caused = absurd (none_rose caused)
 stops_trial NoMemory s s' d d' may caused = tt
 stops_trial (Capacity needed most) s s' d d' may caused = tt
 stops_trial Done s s' d d' may caused = absurd may
-stops_trial Usage s s' d d' may caused = absurd may
 stops_trial SourceFailed s s' d d' may caused = absurd may
-stops_trial (NotAShelf at) s s' d d' may caused = absurd may
-stops_trial (NoSuchFile count) s s' d d' may caused = absurd may
-stops_trial (NotEmpty size) s s' d d' may caused = absurd may
-stops_trial BadChecksum s s' d d' may caused = absurd may
 
 -- a front of the files of a part
 part_of : (symbols part later : List ℕ) → symbols ≡ part ++ later → (bytes : List ℕ) → StandsForFront trial_capacity [] (files_of_bytes Symbols part) 0 bytes → StandsForPart symbols bytes
@@ -194,11 +191,8 @@ module _ {D : Type 0} (disk : DiskOf D) (symbols : List ℕ) (d d1 : D) where
           stopped_ends (Capacity needed most) why kind = λ told. let w = why told in absurd (all_fit w.done w.rest w.next w.split needed w.needs w.over)
           stopped_ends (NotEmpty size) why kind = λ told. absurd (why told)
           stopped_ends Done why kind = absurd kind
-          stopped_ends Usage why kind = absurd kind
           stopped_ends SourceFailed why kind = absurd kind
           stopped_ends OutputFailed why kind = absurd kind
-          stopped_ends (NoSuchFile count) why kind = absurd kind
-          stopped_ends BadChecksum why kind = absurd kind
 
           pub stopped : StopsTrial cause → LeavesDisk disk symbols cause d d'
           stopped kind =
@@ -284,11 +278,6 @@ module _ {D O : Type 0} (disk : DiskOf D) (out : SinkOf O) (symbols : List ℕ) 
     }
     last_stops NoMemory stops = record { on_disk = left_by NoMemory (λ told. inr (all_held told)); on_out = stops }
     last_stops Done stops = absurd stops
-    last_stops Usage stops = absurd stops
     last_stops SourceFailed stops = absurd stops
     last_stops DiskFailed stops = absurd stops
-    last_stops (NotAShelf at) stops = absurd stops
-    last_stops (NoSuchFile count) stops = absurd stops
     last_stops (Capacity needed most) stops = absurd stops
-    last_stops (NotEmpty size) stops = absurd stops
-    last_stops BadChecksum stops = absurd stops

@@ -43,6 +43,16 @@ module _ {O : Type 0} (out : SinkOf O) (ended : Ended) where
   abbrev pub LastStops : Cause → O → O → Type 0
   LastStops cause o o' = PutStops out (ended_line ended) cause o o'
 
+-- over every disk: how a run ends onto the shelf that was loaded
+pub record EndsOver {D O : Type 0} (cause : Cause) (files : List Placed) (shelf : Shelf) (d d' : D) (o o' : O)
+    : Type 0 where
+  pub full : (needed most : ℕ) → cause ≡ Refused (Capacity needed most)
+      → IsFullWith (kept_by shelf).way needed most files
+  pub room : IsWorkDone cause → HasRoom (kept_by shelf).way files
+  pub same_disk : files ≡ [] → d' ≡ d
+  pub silent : files ≡ [] → IsEarlier cause → o' ≡ o
+  pub kind : files ≡ [] → cause ≡ Failed Disk → ⊥
+
 module _ {S D O : Type 0} (source : SourceOf S) (disk : DiskOf D) (out : SinkOf O) (input : Input) (limit : ℕ) where
   -- the input ended, and all its files are shelved, whatever shelf they came onto
   pub record ReadsAll (ended : Ended) (shelf shelf' : Shelf) (s s' : S) (d d' : D) (o o' : O) : Type 0 where
@@ -63,15 +73,6 @@ module _ {S D O : Type 0} (source : SourceOf S) (disk : DiskOf D) (out : SinkOf 
         → ShelvesSoFar disk out capacity before [] shelf d0 d o0 o
         → Stops disk out capacity before cause (files_of_bytes input bytes) d0 d' o0 o'
     pub grown : GrowsNoMore cause (files_of_bytes input bytes) shelf d d' o o'
-
-  -- over every disk: how a run ends onto the shelf that was loaded
-  pub record EndsOver (cause : Cause) (files : List Placed) (shelf : Shelf) (d d' : D) (o o' : O) : Type 0 where
-    pub full : (needed most : ℕ) → cause ≡ Refused (Capacity needed most)
-        → IsFullWith (kept_by shelf).way needed most files
-    pub room : IsWorkDone cause → HasRoom (kept_by shelf).way files
-    pub same_disk : files ≡ [] → d' ≡ d
-    pub silent : files ≡ [] → IsEarlier cause → o' ≡ o
-    pub kind : files ≡ [] → cause ≡ Failed Disk → ⊥
 
   -- how a run ends that took some bytes, whatever shelf it was onto, and what a crash may leave of it
   pub record EndsRun (cause : Cause) (shelf : Shelf) (s s' : S) (d d' : D) (o o' : O) : Type 0 where

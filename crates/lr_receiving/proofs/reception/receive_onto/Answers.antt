@@ -8,7 +8,7 @@ returns-in_err-ended-clause-stopped g c =
     let p = err_from_is_err_and c.from_residual.result c.from_residual.ensures.1 in
     rw (p.1, p.2)
     (ended_some g.S.Source g.D.Disk g.O.Sink (input_of c.args.reader.now) c.args.most c.args.shelf.now c.args.source.now c.receive_all.new.source c.args.disk.now c.receive_all.new.disk c.args.out.now c.receive_all.new.out _
-    c.in_err-ended.ensures.some)
+    c.in_err-ended.ensures.kind c.in_err-ended.ensures.some)
 
 pub returns-in_err-put_last-clause-stopped : goal.returns-in_err-put_last-clause-stopped
 returns-in_err-put_last-clause-stopped g c =
