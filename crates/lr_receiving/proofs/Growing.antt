@@ -19,13 +19,13 @@ pub end_with-append : (end : ℕ) (xs ys : List Placed) → end_with end (xs ++ 
 end_with-append end xs ys = omega (arith, sum_by-append room_for xs ys)
 
 -- there is one file
-some : (xs : List Placed) (x : Placed) (ys : List Placed) → xs ++ x ∷ ys ≡ [] → ⊥
+pub some : (xs : List Placed) (x : Placed) (ys : List Placed) → xs ++ x ∷ ys ≡ [] → ⊥
 some [] x ys is = cc (is)
 some (y ∷ xs) x ys is = cc (is)
 
-none_in : (xs ys : List Placed) → xs ++ ys ≡ [] → (xs ≡ []) × (ys ≡ [])
-none_in [] ys is = (refl, is)
-none_in (x ∷ xs) ys is = absurd (let no : x ∷ (xs ++ ys) ≡ [] = is in cc (no))
+pub none_in : {X : Type 0} (xs ys : List X) → xs ++ ys ≡ [] → (xs ≡ []) × (ys ≡ [])
+none_in {X} [] ys is = (refl, is)
+none_in {X} (x ∷ xs) ys is = absurd (let no : x ∷ (xs ++ ys) ≡ [] = is in cc (no))
 
 room_after : (way way' : Way) (xs ys : List Placed) → way'.end ≡ end_with way.end xs → way'.capacity ≡ way.capacity
     → HasRoom way xs → HasRoom way' ys → HasRoom way (xs ++ ys)

@@ -21,7 +21,7 @@ pub returns-in-Ok-receive_onto-clause-run : goal.returns-in-Ok-receive_onto-clau
 returns-in-Ok-receive_onto-clause-run g c =
     let run = subst (λ (i : Input). EndsRun g.S.Source g.D.Disk g.O.Sink i c.args.most (cause_at c.in-Ok-receive_onto.stop) c.in-Ok-load.shelf c.args.source.now c.receive_onto.new.source c.load.new.disk c.receive_onto.new.disk c.args.out.now c.receive_onto.new.out)
     c.in-Ok.ensures.input c.in-Ok-receive_onto.ensures.done in
-    rw c.at.ensures
+    rw c.cause_at.ensures
     (loaded_run g.S.Source g.D.Disk g.O.Sink c.args.input c.args.most c.args.source.now c.args.disk.now c.load.new.disk c.args.out.now c.load.result c.load.ensures c.in-Ok-load.shelf c.in-Ok-load.is
     c.receive_onto.new.source c.receive_onto.new.disk c.receive_onto.new.out _ run (done_cause c.in-Ok-receive_onto.stop) (done_kind c.in-Ok-receive_onto.stop))
 
