@@ -180,6 +180,11 @@ module _ {S D O : Type 0} (source : SourceOf S) (disk : DiskOf D) (out : SinkOf 
             let gained = gains (outcomes_of_units form so.units) so.stands in
             subst (λ (l : List Placed). GrowsNoMore cause l shelf d d2 o o2) (sym gained.files ∙ files_there)
             (stops_after so.grown gained.grown);
+        files = files_of_bytes (Units form) (concat so.units ++ now.held);
+        early = λ capacity before d0 o0 so_far.
+            subst (λ (l : List Placed). Stops disk out capacity before cause l d0 d2 o0 o2) files_there
+            (stops (outcomes_of_units form so.units) capacity before d0 o0 so.stands (so.shelved capacity before d0 o0 so_far));
+        first = λ symbols told few calm. cc (symbols);
       }
 
       -- they were

@@ -1,5 +1,5 @@
 -- The loop of `receive` over symbols.
-use Rattle.std.proofs.Common.{◌≡◌, ℕ, ℤ, ◌+◌, ◌*◌, ◌<◌, ◌≤◌, ◌^◌, List, [], ◌∷◌, ◌++◌, length, map, ap, ◌∙◌, sym, refl, subst, arith, append_assoc, append-nil, length-append, None, false}
+use Rattle.std.proofs.Common.{◌≡◌, ℕ, ℤ, ◌+◌, ◌*◌, ◌<◌, ◌≤◌, ◌^◌, List, [], ◌∷◌, ◌++◌, length, map, ap, ◌∙◌, sym, refl, subst, arith, append_assoc, append-nil, length-append, None, Bool, true, false, All}
 use Rattle.std.proofs.lemmas.List.{length-map, map-append}
 use Rattle.std.proofs.Math.Seq.{drop-nil}
 use Rattle.std.proofs.lemmas.List.Elements.{All-nil}
@@ -17,8 +17,13 @@ use Rattle.lr_lock.specs.Frames.{AreNext}
 use Rattle.lr_lock.specs.FramesOf.{frames_of}
 use Rattle.lr_lock.specs.Symbols.{symbols_of}
 use Rattle.lr_lock.specs.Windows.{WindowView, window_of}
+use Rattle.lr_lock.specs.declared.sizes.TheConstants.{WINDOW_END}
+use Rattle.lr_lock.proofs.Bytes.{symbols_of-append}
+use Rattle.lr_lock.proofs.Existing.{given_are_front, front_stays}
+use Rattle.lr_conv.proofs.Tails.{tail_size}
+use Rattle.lr_bits.specs.Faults.{Rose}
 use Rattle.lr_frame.specs.Outcomes.{outcome_in, outcome_of_window, outcomes_of_symbols}
-use Rattle.lr_frame.proofs.Given.{all_outcomes, first_outcomes, outcomes_are}
+use Rattle.lr_frame.proofs.Given.{all_outcomes, first_outcomes, outcomes_are, outcomes_stay}
 use Rattle.lr_frame.proofs.Whole.{whole_of_window}
 use Rattle.lr_vc.specs.Frame.{Fields}
 use Rattle.lr_vc.specs.Runs.{AreFrames}
@@ -77,6 +82,42 @@ files_first bytes given next =
     let first : (rest : List Outcome) × (outcomes_of_symbols STANDARD symbols ≡ map (outcome_in STANDARD symbols) given ++ rest) = first_outcomes STANDARD symbols given next in
     let law = go_on (map (outcome_in STANDARD symbols) given) first.0 (subst (λ (l : List Outcome). AreFrames (frames_of_outcomes l)) first.1 (all_whole symbols)) in
     (law.more_files, ap placed_of_outcomes first.1 ∙ law.files)
+
+-- they are the first ones of more bytes too, where their windows are there
+more_files : (bytes more : List ℕ) (given : List Frame) → AreNext (tail_of STANDARD) (symbols_of bytes) None given
+    → All (λ frame. frame.place + WINDOW_END ≤ length (symbols_of bytes)) given
+    → (rest : List Placed) × (files_of_bytes Symbols (bytes ++ more) ≡ placed_of_outcomes (outcomes_given bytes given) ++ rest)
+unfolding files_of_bytes outcomes_of_bytes outcomes_given
+more_files bytes more given next sure =
+    let tail = tail_of STANDARD in
+    let some : List ℤ = symbols_of bytes in
+    let all : List ℤ = some ++ symbols_of more in
+    let front : (rest : List Frame) × (frames_of tail some ≡ given ++ rest) =
+    given_are_front tail some given (tail_size STANDARD) next in
+    let longer : (rest : List Frame) × (frames_of tail all ≡ frames_of tail some ++ rest) =
+    front_stays tail some (symbols_of more) (tail_size STANDARD) in
+    let others : List Outcome = map (outcome_in STANDARD all) (front.0 ++ longer.0) in
+    let is : outcomes_of_symbols STANDARD all ≡ map (outcome_in STANDARD some) given ++ others =
+    outcomes_are STANDARD all
+    ∙ ap (map (outcome_in STANDARD all))
+    (longer.1 ∙ ap (λ (fs : List Frame). fs ++ longer.0) front.1 ∙ append_assoc given front.0 longer.0)
+    ∙ map-append (outcome_in STANDARD all) given (front.0 ++ longer.0)
+    ∙ ap (λ (os : List Outcome). os ++ others) (outcomes_stay STANDARD some (symbols_of more) given sure) in
+    let law = go_on (map (outcome_in STANDARD some) given) others
+    (subst (λ (l : List Outcome). AreFrames (frames_of_outcomes l)) is (all_whole all)) in
+    (
+      law.more_files,
+      ap (λ (s : List ℤ). placed_of_outcomes (outcomes_of_symbols STANDARD s)) (symbols_of-append bytes more)
+      ∙ ap placed_of_outcomes is ∙ law.files,
+    )
+
+-- nothing is left where neither a fault nor the limit ended the reading
+nothing_left : {S : Type 0} (source : SourceOf S) (stop : Stop) (limit : ℕ) (bytes : List ℕ) (s s' : S)
+    → EndsFor source stop limit bytes s s' → source.tells s → length bytes < limit
+    → (Rose (source.faults s) (source.faults s') → ⊥) → source.left s' ≡ []
+nothing_left source End limit bytes s s' why told few calm = why.1 told
+nothing_left source Limit limit bytes s s' why told few calm = absurd (omega (arith, why.0, few))
+nothing_left source Fault limit bytes s s' why told few calm = absurd (calm why.1)
 
 pub outcomes_all : (bytes : List ℕ) (given : List Frame) → Rattle.lr_lock.specs.Frames.AreFrames (tail_of STANDARD) (symbols_of bytes) given → outcomes_of_bytes Symbols bytes ≡ outcomes_given bytes given
 unfolding outcomes_of_bytes outcomes_given
@@ -186,6 +227,23 @@ module _ {S D O : Type 0} (source : SourceOf S) (disk : DiskOf D) (out : SinkOf 
           ≡ placed_of_outcomes (outcomes_given so.bytes so.given ++ outcome ∷ []) ++ first_files.0
       files_there = first_files.1 ∙ ap (λ (l : List Outcome). placed_of_outcomes l ++ first_files.0) outcomes_now
 
+      -- those of all that the source gives begin so too
+      first_of : source.tells s → length gives.all < limit → (Rose (source.faults s) (source.faults s') → ⊥) → (b : Bool)
+          → now.lock.finished ≡ b → (rest : List Placed) × (files_of_bytes Symbols (gives.all ++ source.left s')
+          ≡ placed_of_outcomes (outcomes_given so.bytes so.given ++ outcome ∷ []) ++ rest)
+      first_of told few calm true finished =
+          let why = subst (λ (k : ℕ). EndsFor source now.stop k gives.all s s') limit_is (gives.so_far.ended finished) in
+          let none = nothing_left source now.stop limit gives.all s s' why told few calm in
+          (
+            first_files.0,
+            ap (files_of_bytes Symbols) (ap (λ (l : List ℕ). gives.all ++ l) none ∙ append-nil gives.all) ∙ files_there,
+          )
+      first_of told few calm false unfinished =
+          let longer = more_files gives.all (source.left s') (so.given ++ gives.frame ∷ [])
+          (subst (λ (l : LineCode). AreNext (tail_of l) (symbols_of gives.all) None (so.given ++ gives.frame ∷ []))
+          gives.so_far.line gives.so_far.stands.frames) (gives.so_far.stands.sure unfinished) in
+          (longer.0, longer.1 ∙ ap (λ (l : List Outcome). placed_of_outcomes l ++ longer.0) outcomes_now)
+
       -- the files of a window were not all shelved
       pub windows_stopped : (cause : Cause) (d2 : D) (o2 : O)
           → ((outcomes : List Outcome) (capacity : ℕ) (before : List Item) (d0 : D) (o0 : O) → StandsFor layers outcomes
@@ -206,6 +264,10 @@ module _ {S D O : Type 0} (source : SourceOf S) (disk : DiskOf D) (out : SinkOf 
             subst (λ (l : List Placed). GrowsNoMore cause l shelf d d2 o o2)
             (ap (λ (l : List Placed). l ++ first_files.0) (sym gained.files) ∙ sym files_there)
             (stops_before first_files.0 (stops_after so.grown gained.grown));
+        files = placed_of_outcomes (outcomes_given so.bytes so.given ++ outcome ∷ []);
+        early = λ capacity before d0 o0 so_far.
+            stops (outcomes_given so.bytes so.given) capacity before d0 o0 so.stands (so.shelved capacity before d0 o0 so_far);
+        first = λ symbols told few calm. first_of told few calm now.lock.finished refl;
       }
 
       -- they were

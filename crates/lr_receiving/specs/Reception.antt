@@ -1,5 +1,6 @@
 -- How far `receive` has come in its input. No clause of a public call cites this.
-use Rattle.std.specs.Prelude.{◌≡◌, ℕ, List, [], length}
+use Rattle.std.specs.Prelude.{◌≡◌, ◌<◌, ℕ, List, [], ◌++◌, length}
+use Rattle.lr_bits.specs.Faults.{Rose}
 use Rattle.lr_bits.specs.declared.placed.Placed.{Placed}
 use Rattle.lr_shelf_format.specs.Items.{Item}
 use Rattle.lr_io.specs.declared.source.Source.{Ghosts as SourceOf}
@@ -15,6 +16,7 @@ use Rattle.lr_commands.specs.declared.cause.Party.TheVariants.{Disk}
 use Rattle.lr_commands.specs.declared.cause.Refusal.TheVariants.{Capacity}
 use Rattle.lr_receiving.specs.declared.ended.Ended.{Ended}
 use Rattle.lr_receiving.specs.declared.input.Input.{Input}
+use Rattle.lr_receiving.specs.declared.input.Input.TheVariants.{Symbols}
 use Rattle.lr_receiving.specs.Inputs.{outcomes_of_bytes, files_of_bytes, left_of}
 use Rattle.lr_receiving.specs.Causes.{IsEarlier}
 use Rattle.lr_receiving.specs.Onto.{HasRoom, IsFullWith}
@@ -73,6 +75,15 @@ module _ {S D O : Type 0} (source : SourceOf S) (disk : DiskOf D) (out : SinkOf 
         → ShelvesSoFar disk out capacity before [] shelf d0 d o0 o
         → Stops disk out capacity before cause (files_of_bytes input bytes) d0 d' o0 o'
     pub grown : GrowsNoMore cause (files_of_bytes input bytes) shelf d d' o o'
+    -- more sharply: among these files, up to those of the last outcome
+    pub files : List Placed
+    pub early : (capacity : ℕ) (before : List Item) (d0 : D) (o0 : O)
+        → ShelvesSoFar disk out capacity before [] shelf d0 d o0 o
+        → Stops disk out capacity before cause files d0 d' o0 o'
+    -- of symbols they are the first ones of all that the source gives, where it had not failed nor reached the limit
+    pub first : input ≡ Symbols → source.tells s → length bytes < limit
+        → (Rose (source.faults s) (source.faults s') → ⊥)
+        → (rest : List Placed) × (files_of_bytes input (bytes ++ source.left s') ≡ files ++ rest)
 
   -- how a run ends that took some bytes, whatever shelf it was onto, and what a crash may leave of it
   pub record EndsRun (cause : Cause) (shelf : Shelf) (s s' : S) (d d' : D) (o o' : O) : Type 0 where
