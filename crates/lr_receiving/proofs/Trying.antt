@@ -1,5 +1,5 @@
 -- What `trial` leaves of the disk, at each of its exits.
-use Rattle.std.proofs.Common.{◌≡◌, ◌⊎◌, inl, inr, ⊎_elim, ℕ, ◌<◌, ◌≤◌, false, List, [], ◌∷◌, ◌++◌, length, refl, sym, ◌∙◌, ap, subst, arith, append_assoc, append-nil, length-append, Result, Ok, Err, IfOk, IfErr, OnOk}
+use Rattle.std.proofs.Common.{◌≡◌, ◌⊎◌, inl, inr, ⊎_elim, ℕ, ◌<◌, ◌≤◌, false, List, [], ◌∷◌, ◌++◌, length, map, refl, sym, ◌∙◌, ap, subst, arith, append_assoc, append-nil, length-append, Result, Ok, Err, IfOk, IfErr, OnOk}
 use Rattle.lr_bits.specs.Faults.{Rose}
 use Rattle.lr_bits.specs.declared.placed.Placed.{Placed}
 use Rattle.lr_io.specs.declared.source.Source.{Ghosts as SourceOf}
@@ -7,14 +7,16 @@ use Rattle.lr_io.specs.declared.sink.Sink.{Ghosts as SinkOf}
 use Rattle.lr_io.specs.Pieces.{PutsPart}
 use Rattle.lr_disk.specs.declared.disk.Disk.{Ghosts as DiskOf}
 use Rattle.lr_disk.specs.Disk.{LeavesOnly}
+use Rattle.lr_shelf_format.specs.Items.{Item}
 use Rattle.lr_shelf_format.specs.Reading.{StandsFor, end_of}
+use Rattle.lr_shelf.specs.Append.{item_for}
 use Rattle.lr_shelf.specs.Init.{Inits, IsInitRefusal, IsTaken}
 use Rattle.lr_shelf.specs.Load.{Loads, IsLoadRefusal}
 use Rattle.lr_shelf.specs.Kept.{kept_by}
 use Rattle.lr_shelf.specs.Shelf.{IsDurable, IsSettled}
 use Rattle.lr_shelf.specs.declared.shelf.Shelf.{Shelf}
 use Rattle.lr_shelf.specs.declared.error.ShelfError.{ShelfError}
-use Rattle.lr_shelf.specs.declared.error.ShelfError.TheVariants.{Disk as Disk', NotAShelf as NotAShelf', NotEmpty as NotEmpty', Capacity as Capacity', NoSuchFile as NoSuchFile', Crc as Crc', NoMemory as NoMemory', Failed as Failed'}
+use Rattle.lr_shelf.specs.declared.error.ShelfError.TheVariants.{Disk as Disk', NotAShelf as NotAShelf', NotEmpty as NotEmpty', NoMemory as NoMemory'}
 use Rattle.lr_disk.proofs.Moments.{weaker, joined}
 use Rattle.lr_catalog.specs.declared.stop.Stop.{Stop}
 use Rattle.lr_catalog.specs.declared.stop.Stop.TheVariants.{End, Limit, Fault}
@@ -25,27 +27,28 @@ use Rattle.lr_commands.specs.declared.cause.Refusal.TheVariants.{NotAShelf, Capa
 use Rattle.lr_receiving.specs.declared.ended.Ended.{Ended}
 use Rattle.lr_receiving.specs.declared.input.Input.TheVariants.{Symbols}
 use Rattle.lr_commands.specs.Causes.{cause_of, IsCaused}
-use Rattle.lr_receiving.specs.Causes.{IsEarlier}
+use Rattle.lr_receiving.specs.Causes.{IsEarlier, counts}
 use Rattle.lr_receiving.specs.Inputs.{files_of_bytes}
 use Rattle.lr_receiving.specs.Reading.{IsRead, EndsFor}
 use Rattle.lr_receiving.specs.Receive.{receive_last}
 use Rattle.lr_receiving.specs.Reception.{ended_line, LastStops, ReadsAll, ReadsSome}
-use Rattle.lr_receiving.specs.Shelving.{StandsForFront, LeavesFronts, StopsBy}
+use Rattle.lr_receiving.specs.Shelving.{with_files, StandsForFront, LeavesFronts, StopsBy}
 use Rattle.lr_receiving.specs.Shelved.{MayStop, StopsTrial, ShelvesSoFar}
 use Rattle.lr_receiving.specs.Trial.{trial_capacity, StandsForPart, HoldsPart, DiskEnds, LeavesDisk, TrialRun}
 use Rattle.lr_receiving.proofs.Causing.{none_rose}
 use Rattle.lr_receiving.proofs.Headline.{end_of-append}
 use Rattle.lr_receiving.proofs.Loading.{no_bytes}
 use Rattle.lr_receiving.proofs.ReceiveEnding.{last_line, loaded}
+use Rattle.lr_receiving.proofs.Shelving.{with_files-append, same_of}
 
 -- a sink that counts no fault doesn't stop it
-pub stops_trial : (cause : Cause) (s s' d d' : ℕ) → MayStop cause → IsCaused cause s s' d d' 0 0 → StopsTrial cause
-stops_trial DiskFailed s s' d d' may caused = tt
-stops_trial OutputFailed s s' d d' may caused = absurd (none_rose caused)
+pub stops_trial : (cause : Cause) (s s' d d' : ℕ) → MayStop cause → IsCaused cause (counts s d 0) (counts s' d' 0)
+    → StopsTrial cause
+stops_trial (Failed Disk) s s' d d' may caused = tt
+stops_trial (Failed Output) s s' d d' may caused = absurd (none_rose caused)
 stops_trial NoMemory s s' d d' may caused = tt
-stops_trial (Capacity needed most) s s' d d' may caused = tt
-stops_trial Done s s' d d' may caused = absurd may
-stops_trial SourceFailed s s' d d' may caused = absurd may
+stops_trial (Refused (Capacity needed most)) s s' d d' may caused = tt
+stops_trial _ s s' d d' may caused = absurd may
 
 -- a front of the files of a part
 part_of : (symbols part later : List ℕ) → symbols ≡ part ++ later → (bytes : List ℕ) → StandsForFront trial_capacity [] (files_of_bytes Symbols part) 0 bytes → StandsForPart symbols bytes
@@ -69,25 +72,21 @@ module _ {D : Type 0} (disk : DiskOf D) (symbols : List ℕ) (d d1 : D) where
 
     refused_ends : (e : ShelfError) → IsInitRefusal disk d e → DiskEnds disk symbols (cause_of e) d d1
     refused_ends Disk' r = tt
-    refused_ends (NotAShelf' at) r = absurd r
     refused_ends (NotEmpty' size) r = r
-    refused_ends (Capacity' needed most) r = absurd r
-    refused_ends (NoSuchFile' count) r = absurd r
-    refused_ends (Crc' stored computed) r = absurd r
-    refused_ends NoMemory' r = absurd r
-    refused_ends Failed' r = absurd r
+    refused_ends _ r = absurd r
 
     same_error : (other : ShelfError) → result ≡ Err other → e ≡ other
     same_error other named = cc (is, named)
 
-    refused_why : (n : ℕ) → (result ≡ Err (NotEmpty' n)) ⊎ (result ≡ Err Disk') → (cause_of e ≡ NotEmpty n) ⊎ IsEarlier (cause_of e)
+    refused_why : (n : ℕ) → (result ≡ Err (NotEmpty' n)) ⊎ (result ≡ Err Disk') → (cause_of e ≡ Refused (NotEmpty n)) ⊎ IsEarlier (cause_of e)
     refused_why n (inl named) = inl (ap cause_of (same_error (NotEmpty' n) named))
     refused_why n (inr named) = inr (subst (λ (x : ShelfError). IsEarlier (cause_of x)) (sym (same_error Disk' named)) tt)
 
     pub init_refused : LeavesDisk disk symbols (cause_of e) d d1
     init_refused = record {
       ends = refused_ends e refusal;
-      taken = λ told taken. let t = inits.taken told taken in (refused_why (length (disk.contents d)) t.0, inr t.1);
+      taken = λ told taken. 
+          let t = inits.taken told taken in (refused_why (length (disk.contents d)) t.0, inr t.1);
       any_moment = λ told free only. inr (weaker disk.moment disk.left_since d d1 _ _ (λ c blank. inl blank) (inits.any_moment told free only));
     }
 
@@ -97,7 +96,7 @@ module _ {D : Type 0} (disk : DiskOf D) (symbols : List ℕ) (d d1 : D) where
     durable1 told = subst (λ (r : Result (Unit {0}) ShelfError). OnOk r (IsDurable disk trial_capacity [] d1)) is (inits.made told)
 
     same_count : disk.faults d1 ≡ disk.faults d
-    same_count = subst (λ (r : Result (Unit {0}) ShelfError). OnOk r (disk.faults d1 ≡ disk.faults d)) is inits.same
+    same_count = same_of disk d d1 result tt is inits.calls.counted
 
     not_taken : disk.tells d → IsTaken (disk.contents d) → ⊥
     not_taken told taken = ⊎_elim (λ named. cc (is, named)) (λ named. cc (is, named)) (inits.taken told taken).0
@@ -116,13 +115,13 @@ module _ {D : Type 0} (disk : DiskOf D) (symbols : List ℕ) (d d1 : D) where
     -- ---- it was loaded, or not
     module _ (d2 : D) (result2 : Result Shelf ShelfError) (loads : Loads disk d1 d2 result2) where
       durable2 : disk.tells d → IsDurable disk trial_capacity [] d2
-      durable2 told = loads.durable trial_capacity [] (inits.told told) (durable1 told)
+      durable2 told = loads.durable trial_capacity [] (inits.calls.told told) (durable1 told)
 
       empty_moments : disk.tells d → LeavesOnly disk.moment disk.left_since d1 d2 (λ c. StandsFor c trial_capacity [])
       empty_moments told =
           let durable = durable1 told in
           weaker disk.moment disk.left_since d1 d2 _ _
-          (λ c image. subst (λ (l : List ℕ). StandsFor l trial_capacity []) (sym (durable.durable c image)) durable.stands) (loads.any_moment (inits.told told))
+          (λ c image. subst (λ (l : List ℕ). StandsFor l trial_capacity []) (sym (durable.durable c image)) durable.stands) (loads.unwritten (inits.calls.told told)).any_moment
 
       holds_none : disk.tells d → HoldsPart disk symbols d2
       holds_none told =
@@ -133,13 +132,10 @@ module _ {D : Type 0} (disk : DiskOf D) (symbols : List ℕ) (d d1 : D) where
 
       unloaded_ends : (e : ShelfError) → result2 ≡ Err e → IsLoadRefusal disk d1 e → DiskEnds disk symbols (cause_of e) d d2
       unloaded_ends Disk' is r = tt
-      unloaded_ends (NotAShelf' at) is r = λ told. loads.is_shelf trial_capacity [] (inits.told told) (durable1 told).stands at is
-      unloaded_ends (NotEmpty' size) is r = absurd r
-      unloaded_ends (Capacity' needed most) is r = absurd r
-      unloaded_ends (NoSuchFile' count) is r = absurd r
-      unloaded_ends (Crc' stored computed) is r = absurd r
+      unloaded_ends (NotAShelf' at) is r = λ told.
+          loads.is_shelf trial_capacity [] (inits.calls.told told) (durable1 told).stands at is
       unloaded_ends NoMemory' is r = λ told. inr (holds_none told)
-      unloaded_ends Failed' is r = absurd r
+      unloaded_ends _ is r = absurd r
 
       pub not_loaded : (e : ShelfError) → result2 ≡ Err e → IsLoadRefusal disk d1 e → LeavesDisk disk symbols (cause_of e) d d2
       not_loaded e is r =
@@ -149,8 +145,8 @@ module _ {D : Type 0} (disk : DiskOf D) (symbols : List ℕ) (d d1 : D) where
       module _ {S O : Type 0} (source : SourceOf S) (out : SinkOf O) (limit : ℕ) (few : length symbols < limit) (shelf : Shelf) (is2 : result2 ≡ Ok shelf) (s s' : S) (given : source.tells s) (gives : source.left s ≡ symbols) (d' : D) (o o' : O) where
         begun : disk.tells d → ShelvesSoFar disk out trial_capacity [] [] shelf d1 d2 o o
         begun told =
-            let settled = subst (λ (r : Result Shelf ShelfError). IfOk r (λ x. IsSettled disk trial_capacity [] x d2)) is2 (loads.settled trial_capacity [] (inits.told told) (durable1 told).stands) in
-            loaded disk out trial_capacity [] d1 d2 o shelf settled (empty_moments told) (subst (λ (r : Result Shelf ShelfError). OnOk r (disk.faults d2 ≡ disk.faults d1)) is2 loads.same)
+            let settled = subst (λ (r : Result Shelf ShelfError). IfOk r (λ x. IsSettled disk trial_capacity [] x d2)) is2 (loads.settled trial_capacity [] (inits.calls.told told) (durable1 told).stands) in
+            loaded disk out trial_capacity [] d1 d2 o shelf settled (empty_moments told) (same_of disk d1 d2 result2 shelf is2 loads.calls.counted)
 
         -- what was read is the first of the symbols
         split_of : (bytes : List ℕ) → IsRead source limit bytes s s' → symbols ≡ bytes ++ source.left s'
@@ -160,17 +156,18 @@ module _ {D : Type 0} (disk : DiskOf D) (symbols : List ℕ) (d d1 : D) where
           fronts : LeavesFronts disk trial_capacity [] (files_of_bytes Symbols part) d1 d' → LeavesOnly disk.moment disk.left_since d1 d' (StandsForPart symbols)
           fronts = weaker disk.moment disk.left_since d1 d' _ _ (part_of symbols part (source.left s') split)
 
-          front_of : (done rest : List Placed) → files_of_bytes Symbols part ≡ done ++ rest → (c : List ℕ) → StandsFor c trial_capacity done → StandsForPart symbols c
+          front_of : (done rest : List Placed) → files_of_bytes Symbols part ≡ done ++ rest → (c : List ℕ) → StandsFor c trial_capacity (with_files [] done) → StandsForPart symbols c
           front_of done rest is c stands = part_of symbols part (source.left s') split c (record { first = done; rest = rest; split = is; enough = omega arith; stands = stands })
 
-          holds_front : (done rest : List Placed) → files_of_bytes Symbols part ≡ done ++ rest → IsDurable disk trial_capacity done d' → HoldsPart disk symbols d'
+          holds_front : (done rest : List Placed) → files_of_bytes Symbols part ≡ done ++ rest → IsDurable disk trial_capacity (with_files [] done) d' → HoldsPart disk symbols d'
           holds_front done rest is durable = record {
             contents = front_of done rest is (disk.contents d') durable.stands;
-            images = λ c image. front_of done rest is c (subst (λ (l : List ℕ). StandsFor l trial_capacity done) (sym (durable.durable c image)) durable.stands);
+            images = λ c image. front_of done rest is c (subst (λ (l : List ℕ). StandsFor l trial_capacity (with_files [] done)) (sym (durable.durable c image)) durable.stands);
           }
 
         -- shelving stopped
-        module _ (fit : (part later : List ℕ) → symbols ≡ part ++ later → end_of (files_of_bytes Symbols part) ≤ trial_capacity) (cause : Cause)
+        module _ (calm : Rose (source.faults s) (source.faults s') → ⊥)
+            (fit : end_of (with_files [] (files_of_bytes Symbols symbols)) ≤ trial_capacity) (cause : Cause)
             (some : ReadsSome source disk out Symbols limit cause shelf s s' d2 d' o o') where
           split : symbols ≡ some.bytes ++ source.left s'
           split = split_of some.bytes some.read
@@ -178,25 +175,39 @@ module _ {D : Type 0} (disk : DiskOf D) (symbols : List ℕ) (d d1 : D) where
           abbrev files : List Placed
           files = files_of_bytes Symbols some.bytes
 
-          all_fit : (done rest : List Placed) (next : File) → files ≡ done ++ next ∷ rest → (needed : ℕ) → needed ≡ end_of (done ++ next ∷ []) → trial_capacity < needed → ⊥
+          -- the files that were read are the first ones of all, and these fit
+          all_fit : (done rest : List Placed) (next : Placed) → some.files ≡ done ++ next ∷ rest → (needed : ℕ)
+              → needed ≡ end_of (with_files [] (done ++ next ∷ [])) → trial_capacity < needed → ⊥
           all_fit done rest next is needed needs over =
-              let whole : files ≡ (done ++ next ∷ []) ++ rest = is ∙ sym (append_assoc done (next ∷ []) rest) in
-              let le = subst (λ (l : List Placed). end_of (done ++ next ∷ []) ≤ end_of l) (sym whole) (end_of-append (done ++ next ∷ []) rest) in
-              omega (arith, le, needs, over, fit some.bytes (source.left s') (split_of some.bytes some.read))
+              let few_read : length some.bytes < limit =
+              omega (arith, few, ap length split, length-append some.bytes (source.left s')) in
+              let first = some.first refl given few_read calm in
+              let all : files_of_bytes Symbols symbols ≡ (done ++ next ∷ []) ++ (rest ++ first.0) =
+              ap (files_of_bytes Symbols) split ∙ first.1 ∙ ap (λ (l : List Placed). l ++ first.0) is
+              ∙ append_assoc done (next ∷ rest) first.0 ∙ sym (append_assoc done (next ∷ []) (rest ++ first.0)) in
+              let whole : with_files [] (files_of_bytes Symbols symbols)
+              ≡ with_files [] (done ++ next ∷ []) ++ map item_for (rest ++ first.0) =
+              ap (with_files []) all ∙ with_files-append [] (done ++ next ∷ []) (rest ++ first.0) in
+              let le = subst (λ (l : List Item). end_of (with_files [] (done ++ next ∷ [])) ≤ end_of l) (sym whole)
+              (end_of-append (with_files [] (done ++ next ∷ [])) (map item_for (rest ++ first.0))) in
+              omega (arith, le, needs, over, fit)
 
-          stopped_ends : (c : Cause) → (disk.tells d → StopsBy disk out trial_capacity [] c files d1 d' o o') → StopsTrial c → DiskEnds disk symbols c d d'
-          stopped_ends DiskFailed why kind = tt
-          stopped_ends (NotAShelf at) why kind = λ told. absurd (why told)
-          stopped_ends NoMemory why kind = λ told. let w = why told in inr (holds_front some.bytes split w.done w.rest w.split w.durable)
-          stopped_ends (Capacity needed most) why kind = λ told. let w = why told in absurd (all_fit w.done w.rest w.next w.split needed w.needs w.over)
-          stopped_ends (NotEmpty size) why kind = λ told. absurd (why told)
-          stopped_ends Done why kind = absurd kind
-          stopped_ends SourceFailed why kind = absurd kind
-          stopped_ends OutputFailed why kind = absurd kind
+          stopped_ends : (c : Cause) → (disk.tells d → StopsBy disk out trial_capacity [] c files d1 d' o o')
+              → (disk.tells d → StopsBy disk out trial_capacity [] c some.files d1 d' o o') → StopsTrial c
+              → DiskEnds disk symbols c d d'
+          stopped_ends (Failed Disk) why early kind = tt
+          stopped_ends NoMemory why early kind = λ told.
+              let w = why told in inr (holds_front some.bytes split w.done w.rest w.split w.durable)
+          stopped_ends (Refused (NotAShelf at)) why early kind = λ told. absurd (why told)
+          stopped_ends (Refused (Capacity needed most)) why early kind = λ told.
+              let w = early told in absurd (all_fit w.done w.rest w.next w.split needed w.needs w.over)
+          stopped_ends (Refused (NotEmpty size)) why early kind = λ told. absurd (why told)
+          stopped_ends _ why early kind = absurd kind
 
           pub stopped : StopsTrial cause → LeavesDisk disk symbols cause d d'
           stopped kind =
-              after cause d' (stopped_ends cause (λ told. (some.stops trial_capacity [] d1 o (begun told)).why) kind)
+              after cause d' (stopped_ends cause (λ told. (some.stops trial_capacity [] d1 o (begun told)).why)
+              (λ told. (some.early trial_capacity [] d1 o (begun told)).why) kind)
               (λ told. fronts some.bytes split (some.stops trial_capacity [] d1 o (begun told)).any_moment)
 
         -- all of them are shelved
@@ -210,7 +221,7 @@ module _ {D : Type 0} (disk : DiskOf D) (symbols : List ℕ) (d d1 : D) where
           at_end : (stop : Stop) → EndsFor source stop limit all.bytes s s' → (stop ≡ End) × (all.bytes ≡ symbols)
           at_end End why = (refl, sym (split_all ∙ ap (λ l. all.bytes ++ l) (why.1 given) ∙ append-nil all.bytes))
           at_end Limit why = absurd (omega (arith, why.0, no_longer, few))
-          at_end Fault why = absurd (calm why)
+          at_end Fault why = absurd (calm why.1)
 
           ended_so : (ended.stop ≡ End) × (all.bytes ≡ symbols)
           ended_so = at_end ended.stop all.reason
@@ -221,7 +232,7 @@ module _ {D : Type 0} (disk : DiskOf D) (symbols : List ℕ) (d d1 : D) where
           pub finished : disk.faults d' ≡ disk.faults d2 → disk.faults d2 ≡ disk.faults d1 → LeavesDisk disk symbols Done d d'
           finished count count2 =
               after Done d' (
-                λ told. subst (λ (l : List ℕ). IsDurable disk trial_capacity (files_of_bytes Symbols l) d') ended_so.1 (all.shelved trial_capacity [] d1 o (begun told)).settled.on_disk,
+                λ told. subst (λ (l : List ℕ). IsDurable disk trial_capacity (with_files [] (files_of_bytes Symbols l)) d') ended_so.1 (all.shelved trial_capacity [] d1 o (begun told)).settled.on_disk,
                 count ∙ count2 ∙ same_count,
               )
               (λ told. fronts all.bytes split_all (all.shelved trial_capacity [] d1 o (begun told)).any_moment)
@@ -240,16 +251,18 @@ module _ {D : Type 0} (disk : DiskOf D) (symbols : List ℕ) (d d1 : D) where
 
         pub all_done : (shelf' : Shelf) (answer : Result Ended Cause) → AnswersAll shelf' answer → (Rose (source.faults s) (source.faults s') → ⊥)
             → OnOk answer ((disk.faults d' ≡ disk.faults d2) × (out.faults o' ≡ out.faults o)) → OnOk answer (LeavesDisk disk symbols Done d d')
-        all_done shelf' (Ok ended) all calm counts =
-            finished ended shelf' all calm counts.0 (subst (λ (r : Result Shelf ShelfError). OnOk r (disk.faults d2 ≡ disk.faults d1)) is2 loads.same)
-        all_done shelf' (Err cause) all calm counts = tt
+        all_done shelf' (Ok ended) all calm same =
+            finished ended shelf' all calm same.0 (same_of disk d1 d2 result2 shelf is2 loads.calls.counted)
+        all_done shelf' (Err cause) all calm same = tt
 
-        pub some_done : (answer : Result Ended Cause) → AnswersSome answer → ((part later : List ℕ) → symbols ≡ part ++ later → end_of (files_of_bytes Symbols part) ≤ trial_capacity)
-            → IfErr answer MayStop → (f f' g g' : ℕ) → ((kept_by shelf).failed ≡ false → IfErr answer (λ cause. IsCaused cause f f' g g' 0 0)) → IfErr answer (λ cause. LeavesDisk disk symbols cause d d')
-        some_done (Ok ended) some fit may f f' g g' caused = tt
-        some_done (Err cause) some fit may f f' g g' caused =
+        pub some_done : (answer : Result Ended Cause) → AnswersSome answer → (Rose (source.faults s) (source.faults s') → ⊥)
+            → end_of (with_files [] (files_of_bytes Symbols symbols)) ≤ trial_capacity
+            → IfErr answer MayStop → (f f' g g' : ℕ)
+            → ((kept_by shelf).failed ≡ false → IfErr answer (λ cause. IsCaused cause (counts f g 0) (counts f' g' 0))) → IfErr answer (λ cause. LeavesDisk disk symbols cause d d')
+        some_done (Ok ended) some calm fit may f f' g g' caused = tt
+        some_done (Err cause) some calm fit may f f' g g' caused =
             let working = subst (λ (r : Result Shelf ShelfError). IfOk r (λ x. (kept_by x).failed ≡ false)) is2 loads.working in
-            stopped fit cause some (stops_trial cause f f' g g' may (caused working))
+            stopped calm fit cause some (stops_trial cause f f' g g' may (caused working))
 
 -- the last line wasn't put, after all was shelved
 module _ {D O : Type 0} (disk : DiskOf D) (out : SinkOf O) (symbols : List ℕ) (d d' : D) (o o' : O) (done : LeavesDisk disk symbols Done d d') where
@@ -260,11 +273,11 @@ module _ {D O : Type 0} (disk : DiskOf D) (out : SinkOf O) (symbols : List ℕ) 
   all_held told =
       let durable = done.ends.0 told in
       let files = files_of_bytes Symbols symbols in
-      let whole : (c : List ℕ) → StandsFor c trial_capacity files → StandsForPart symbols c =
+      let whole : (c : List ℕ) → StandsFor c trial_capacity (with_files [] files) → StandsForPart symbols c =
       λ c stands. part_of symbols symbols [] (sym (append-nil symbols)) c (record { first = files; rest = []; split = sym (append-nil files); enough = omega arith; stands = stands }) in
       record {
         contents = whole (disk.contents d') durable.stands;
-        images = λ c image. whole c (subst (λ (l : List ℕ). StandsFor l trial_capacity files) (sym (durable.durable c image)) durable.stands);
+        images = λ c image. whole c (subst (λ (l : List ℕ). StandsFor l trial_capacity (with_files [] files)) (sym (durable.durable c image)) durable.stands);
       }
 
   left_by : (cause : Cause) → DiskEnds disk symbols cause d d' → LeavesDisk disk symbols cause d d'
@@ -272,12 +285,10 @@ module _ {D O : Type 0} (disk : DiskOf D) (out : SinkOf O) (symbols : List ℕ) 
 
   module _ (ended : Ended) (line : ended_line ended ≡ receive_last Symbols symbols End) where
     pub last_stops : (cause : Cause) → LastStops out ended cause o o' → TrialRun disk out symbols cause d d' o o'
-    last_stops OutputFailed stops = record {
-      on_disk = left_by OutputFailed done.ends.0;
+    last_stops (Failed Output) stops = record {
+      on_disk = left_by (Failed Output) done.ends.0;
       on_out = λ told. subst (λ (l : List ℕ). PutsPart l (out.contents o) (out.contents o')) line (stops.part told);
     }
-    last_stops NoMemory stops = record { on_disk = left_by NoMemory (λ told. inr (all_held told)); on_out = stops }
-    last_stops Done stops = absurd stops
-    last_stops SourceFailed stops = absurd stops
-    last_stops DiskFailed stops = absurd stops
-    last_stops (Capacity needed most) stops = absurd stops
+    last_stops NoMemory stops =
+        record { on_disk = left_by NoMemory (λ told. inr (all_held told)); on_out = stops }
+    last_stops _ stops = absurd stops

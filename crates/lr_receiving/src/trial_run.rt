@@ -64,7 +64,7 @@ fn shelve_stream<D: Disk>(
     requires ready { IsReadyFor most_bytes reader.old }
     requires input { input_of reader.old ≡ Input.Symbols }
     requires few { length symbols.items < most_bytes }
-    requires fit { (part later : List ℕ) → symbols.items ≡ part ++ later → end_of (with_files [] (files_of_bytes Input.Symbols part)) ≤ trial_capacity }
+    requires fit { end_of (with_files [] (files_of_bytes Input.Symbols symbols.items)) ≤ trial_capacity }
     ensures cause { IfErr result (λ cause. IsCaused cause (counts 0 (D.faults disk.old) 0) (counts 0 (D.faults disk.new) 0)) }
     ensures kind { IfErr result StopsTrial }
     ensures line { IfOk result (λ ended. ended_line ended ≡ receive_last Input.Symbols symbols.items End) }

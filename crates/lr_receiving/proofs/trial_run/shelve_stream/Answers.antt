@@ -3,7 +3,7 @@ use Rattle.std.proofs.lemmas.Result.{err_from_is_err_and}
 use Rattle.lr_shelf.specs.Load.{IsLoadRefusal}
 use Rattle.lr_shelf.specs.declared.shelf.Shelf.{Shelf}
 use Rattle.lr_shelf.specs.declared.error.ShelfError.{ShelfError}
-use Rattle.lr_receiving.specs.Words.{most_bytes}
+use Rattle.lr_receiving.specs.declared.input.TheConstants.{MOST_BYTES as most_bytes}
 use Rattle.lr_receiving.proofs.Causing.{none_rose}
 use Rattle.lr_receiving.proofs.Trying.{init_refused, not_loaded, lines, all_done, some_done}
 use Rattle.lr_receiving.proofs.trial_run.shelve_stream.Goals as goal
@@ -37,4 +37,4 @@ pub returns-clause-stopped : goal.returns-clause-stopped
 returns-clause-stopped g c =
     some_done g.D.Disk c.args.symbols.items c.args.disk.now c.init.new.disk c.init.result c.in_ok-init.was c.init.ensures c.load.new.disk c.load.result c.load.ensures _ _ most_bytes c.requires.few c.in_ok-shelf.shelf c.in_ok-shelf.was
     c.of-source.result c.receive_all.new.source tt c.of-source.ensures c.receive_all.new.disk c.new-lines.result c.receive_all.new.out c.receive_all.result
-    (rw c.requires.input at c.receive_all.ensures.some) c.requires.fit c.receive_all.ensures.kind _ _ _ _ c.receive_all.ensures.cause
+    (rw c.requires.input at c.receive_all.ensures.some) none_rose c.requires.fit c.receive_all.ensures.kind _ _ _ _ c.receive_all.ensures.cause

@@ -1,5 +1,10 @@
-use Rattle.std.proofs.Common.{◌∙◌, ap, sym, arith, length}
-use Rattle.lr_receiving.proofs.Fitting.{made_length, parts_fit}
+use Rattle.std.proofs.Common.{◌≤◌, ap, sym, subst, arith, List, [], ℕ, length}
+use Rattle.lr_shelf_format.specs.Reading.{end_of}
+use Rattle.lr_receiving.specs.declared.input.Input.TheVariants.{Symbols}
+use Rattle.lr_receiving.specs.Inputs.{files_of_bytes}
+use Rattle.lr_receiving.specs.Shelving.{with_files}
+use Rattle.lr_receiving.specs.Trial.{trial_capacity}
+use Rattle.lr_receiving.proofs.Fitting.{made_length, made_files_fit}
 use Rattle.lr_receiving.proofs.Trying.{last_stops}
 use Rattle.lr_receiving.proofs.trial_run.trial.Goals as goal
 
@@ -8,8 +13,10 @@ shelve_stream-requires-clause-few g c =
     omega (arith, c.requires.few, ap length c.in-Ok.ensures.bytes, made_length c.args.start c.args.wrong c.args.frames)
 
 pub shelve_stream-requires-clause-fit : goal.shelve_stream-requires-clause-fit
-shelve_stream-requires-clause-fit g c = λ part later split.
-    parts_fit c.args.start c.args.wrong c.args.frames c.requires.few c.in-Ok.ensures.received part later (sym c.in-Ok.ensures.bytes ∙ split)
+shelve_stream-requires-clause-fit g c =
+    subst (λ (l : List ℕ). end_of (with_files [] (files_of_bytes Symbols l)) ≤ trial_capacity)
+    (sym c.in-Ok.ensures.bytes)
+    (made_files_fit c.args.start c.args.wrong c.args.frames c.requires.few c.in-Ok.ensures.received)
 
 pub returns-clause-run : goal.returns-clause-run
 returns-clause-run g c =
