@@ -6,4 +6,4 @@
 
 mod laws;
 
-pub use laws::packets_were_sent;
+pub use laws::{made_files_fit, packets_were_sent};
