@@ -1,17 +1,13 @@
 -- The fields of the frames of the test stream.
-use Rattle.std.proofs.Common.{◌≡◌, ℕ, zero, suc, ◌+◌, ◌-◌, ◌*◌, ◌/◌, ◌%◌, ◌^◌, ◌<◌, ◌≤◌, List, [], ◌∷◌, ◌++◌, length, drop, get_or}
-use Rattle.std.proofs.Common.{inl, inr, refl, sym, ap, ◌∙◌, subst, arith, length-append, replicate, unwrap_or, Bool}
-use Rattle.std.specs.List.{find, range_with_len}
+use Rattle.std.proofs.Common.{◌≡◌, ℕ, ◌+◌, ◌-◌, ◌*◌, ◌/◌, ◌%◌, ◌^◌, ◌<◌, ◌≤◌, List, [], ◌∷◌, ◌++◌, length, drop, get_or}
+use Rattle.std.proofs.Common.{inl, inr, sym, ap, ◌∙◌, arith, replicate, unwrap_or, Bool}
 use Rattle.lr_bits.specs.Bits.{field_of}
 use Rattle.lr_bits.proofs.BitsLemmas.{field_of-none, field_of-more}
 use Rattle.lr_block.proofs.Searching.{cases_first}
-use Rattle.lr_vc.specs.Frame.{Fields, fields_of, version_of}
-use Rattle.lr_make.specs.Files.{image_packet, text_packet}
-use Rattle.lr_make.specs.Frames.{frame_of, packet_frame, fill_frame, frame_of_round, frame_at, text_start}
-use Rattle.lr_make.specs.Standing.{image_frames, text_frames}
+use Rattle.lr_vc.specs.Frame.{fields_of, version_of}
+use Rattle.lr_make.specs.Frames.{frame_of, packet_frame, fill_frame}
 use Rattle.lr_make.specs.Zones.{is_start, pointer_at, zone_at}
 use Rattle.lr_make.proofs.Heads.{frame_of-bytes}
-use Rattle.lr_make.proofs.Rounds.{frame_at-turn}
 
 -- ---- fields in bytes
 
@@ -56,7 +52,8 @@ module _ (bytes : List ℕ) (long : 8 ≤ length bytes) where
       let f7 = bit_more bit (width + 7) (width + 8) j 7 (omega arith) (omega arith) (omega arith) (omega arith) in
       omega arith
 
-  counter_bits : field_of bytes 16 24 ≡ (get_or bytes 2 0 % 256 * 256 + get_or bytes 3 0 % 256) * 256 + get_or bytes 4 0 % 256
+  counter_bits : field_of bytes 16 24 ≡ (get_or bytes 2 0 % 256 * 256 + get_or bytes 3 0 % 256) * 256
+      + get_or bytes 4 0 % 256
   counter_bits =
       omega (
         arith,
@@ -85,13 +82,15 @@ pub frame_reads : (vc counter pointer : ℕ) (zone : List ℕ) → vc < 64 → c
     Reads (frame_of vc counter pointer zone) vc counter pointer zone
 frame_reads vc counter pointer zone v c p =
     let bytes = frame_of vc counter pointer zone in
-    let front = (0x41 ∷ (0xC0 + vc) ∷ (counter / 65536) ∷ (counter / 256 % 256) ∷ (counter % 256) ∷ 0 ∷ (pointer / 256) ∷ (pointer % 256) ∷ []) ++ zone in
+    let front = (0x41 ∷ (0xC0 + vc) ∷ (counter / 65536) ∷ (counter / 256 % 256) ∷ (counter % 256) ∷ 0
+    ∷ (pointer / 256) ∷ (pointer % 256) ∷ []) ++ zone in
     let same : bytes ≡ front = sym (frame_of-bytes vc counter pointer zone v c p) in
     let long : 8 ≤ length bytes = omega (arith, ap length same) in
     record {
       version = version_bits bytes long ∙ ap (λ z. get_or z 0 0 / 64 % 4) same;
       channel = channel_bits bytes long ∙ ap (λ z. get_or z 1 0 % 64) same ∙ omega arith;
-      counter_is = counter_bits bytes long ∙ ap (λ z. (get_or z 2 0 % 256 * 256 + get_or z 3 0 % 256) * 256 + get_or z 4 0 % 256) same ∙ omega arith;
+      counter_is = counter_bits bytes long
+          ∙ ap (λ z. (get_or z 2 0 % 256 * 256 + get_or z 3 0 % 256) * 256 + get_or z 4 0 % 256) same ∙ omega arith;
       pointer_is = pointer_bits bytes long ∙ ap (λ z. get_or z 6 0 % 8 * 256 + get_or z 7 0 % 256) same ∙ omega arith;
       zone_is = ap (drop 8) same;
     }
@@ -108,7 +107,8 @@ pointer_small packets t =
 pub packet_frame_reads : (vc : ℕ) (packets : ℕ → List ℕ) (t : ℕ) → vc < 64 →
     Reads (packet_frame vc packets t) vc (t % 16777216) (pointer_at packets t) (zone_at packets t)
 unfolding packet_frame
-packet_frame_reads vc packets t v = frame_reads vc (t % 16777216) (pointer_at packets t) (zone_at packets t) v (omega arith) (pointer_small packets t)
+packet_frame_reads vc packets t v =
+    frame_reads vc (t % 16777216) (pointer_at packets t) (zone_at packets t) v (omega arith) (pointer_small packets t)
 
 pub fill_frame_reads : (t : ℕ) → Reads (fill_frame t) 63 (t % 16777216) 2046 (replicate 884 0)
 unfolding fill_frame

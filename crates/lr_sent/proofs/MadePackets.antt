@@ -1,11 +1,10 @@
 -- The packets of the test stream: what their headers say, and how long they are.
-use Rattle.std.proofs.Common.{◌≡◌, ℕ, zero, suc, ◌+◌, ◌-◌, ◌*◌, ◌/◌, ◌%◌, ◌^◌, ◌<◌, ◌≤◌, List, [], ◌∷◌, ◌++◌, length, drop, get_or}
-use Rattle.std.proofs.Common.{inl, inr, refl, sym, ap, ◌∙◌, subst, arith, length-append, cond, eqb}
-use Rattle.std.proofs.lemmas.Bool.{cases_eq, cond_both}
+use Rattle.std.proofs.Common.{◌≡◌, ℕ, zero, suc, ◌+◌, ◌*◌, ◌/◌, ◌%◌, ◌<◌, ◌≤◌, List, ◌++◌, length, get_or}
+use Rattle.std.proofs.Common.{refl, ap, ◌∙◌, arith, length-append, eqb}
+use Rattle.std.proofs.lemmas.Bool.{cond_both}
 use Rattle.std.specs.Int.{bytes_high_first}
 use Rattle.lr_bits.specs.Bits.{field_of}
 use Rattle.lr_bits.specs.Crc.{crc_of}
-use Rattle.lr_bits.specs.Packet.{length_field_at}
 use Rattle.lr_bits.proofs.BitsLemmas.{field_of-none, field_of-more}
 use Rattle.lr_vc.proofs.Starts.{length_field}
 use Rattle.lr_make.specs.Packets.{head_of, packet_of}
@@ -53,9 +52,11 @@ module _ (apid flags count : ℕ) (body : List ℕ) where
       let field = length_field (packet_of apid flags count body) 0 in
       omega (arith, field, byte_four, byte_five, length-packet)
 
-  pub flags_are : flags < 4 → count < 16384 → length body < 65535 → field_of (packet_of apid flags count body) 16 2 ≡ flags
+  pub flags_are : flags < 4 → count < 16384 → length body < 65535
+      → field_of (packet_of apid flags count body) 16 2 ≡ flags
   flags_are few low small =
-      flags_bits (packet_of apid flags count body) (omega (arith, length-packet)) ∙ ap (λ b. b / 64 % 4) byte_two ∙ omega arith
+      flags_bits (packet_of apid flags count body) (omega (arith, length-packet))
+      ∙ ap (λ b. b / 64 % 4) byte_two ∙ omega arith
 
 -- ---- the packets of images
 

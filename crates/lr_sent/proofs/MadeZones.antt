@@ -1,24 +1,41 @@
 -- The zones of a channel that sends packets one after another carry them.
-use Rattle.std.proofs.Common.{◌≡◌, ℕ, zero, suc, ◌+◌, ◌-◌, ◌*◌, ◌%◌, ◌<◌, ◌≤◌, Bool, true, false, List, [], ◌∷◌, ◌++◌}
-use Rattle.std.proofs.Common.{inl, inr, refl, sym, ap, ap₂, ◌∙◌, subst, arith, map, length, take, drop, get_or, unwrap_or, eqb, eqb-true}
-use Rattle.std.proofs.Common.{append-nil, append_assoc, add-one, zero-add, length-drop, length-append, length-take-le}
-use Rattle.std.specs.Prelude.{All}
-use Rattle.std.specs.List.{concat, find, list_any, range_with_len}
+use Rattle.std.proofs.Common.{◌≡◌, ℕ, zero, suc, ◌+◌, ◌-◌, ◌*◌, ◌<◌, ◌≤◌, Bool, true, List, [], ◌∷◌, ◌++◌}
+use Rattle.std.proofs.Common.{
+  inl,
+  inr,
+  refl,
+  sym,
+  ap,
+  ap₂,
+  ◌∙◌,
+  subst,
+  arith,
+  map,
+  length,
+  take,
+  drop,
+  get_or,
+  unwrap_or,
+  eqb,
+  eqb-true,
+}
+use Rattle.std.proofs.Common.{append-nil, add-one, zero-add, length-drop, length-take-le}
+use Rattle.std.specs.List.{concat, list_any, range_with_len}
 use Rattle.std.proofs.Math.Seq.{take-add}
 use Rattle.std.proofs.lemmas.Bool.{cases_Bool}
 use Rattle.std.proofs.lemmas.List.{map-append, take-append-drop, drop-append-le, take-append-le}
 use Rattle.std.proofs.lemmas.List.FromFn.{map-range_with_len_more, get_or-map-range_with_len, length-map-range_with_len}
 use Rattle.lr_block.proofs.Searching.{cases_first}
 use Rattle.lr_vc.specs.Frame.{Fields, fields_of}
-use Rattle.lr_vc.proofs.Lists.{range_more}
 use Rattle.lr_make.specs.Frames.{packet_frame}
 use Rattle.lr_make.specs.Zones.{joined_packets, zone_at, is_start, pointer_at}
-use Rattle.lr_make.proofs.Joining.{HaveBytes, joined-more, joined-front, length-joined-least}
+use Rattle.lr_make.proofs.Joining.{HaveBytes, joined-front, length-joined-least}
 use Rattle.lr_sent.specs.Carried.{IsEdge, AreCountedOn, CarryPackets}
 use Rattle.lr_sent.proofs.Carrying.{concat-append}
 use Rattle.lr_sent.proofs.MadeFrames.{packet_frame_reads}
 
-any_range : (p : ℕ → Bool) (a n : ℕ) → list_any p (range_with_len a n) ≡ true → (k : ℕ) × (a ≤ k) × (k < a + n) × (p k ≡ true)
+any_range : (p : ℕ → Bool) (a n : ℕ) → list_any p (range_with_len a n) ≡ true → (k : ℕ) × (a ≤ k) × (k < a + n)
+    × (p k ≡ true)
 any_range p a zero e = cc
 any_range p a (suc n) e =
     elim (cases_Bool (p a)) [
@@ -31,7 +48,8 @@ range_both a zero n = ap₂ range_with_len (omega arith) (zero-add n)
 range_both a (suc m) n =
     let e : suc m + n ≡ suc (m + n) = omega arith in
     let next : (a + 1) + m ≡ a + suc m = omega arith in
-    ap (range_with_len a) e ∙ ap (λ ks. a ∷ ks) (range_both (a + 1) m n ∙ ap (λ k. range_with_len (a + 1) m ++ range_with_len k n) next)
+    ap (range_with_len a) e ∙ ap (λ ks. a ∷ ks) (range_both (a + 1) m n
+    ∙ ap (λ k. range_with_len (a + 1) m ++ range_with_len k n) next)
 
 -- the first packets
 abbrev pub first_packets : (ℕ → List ℕ) → ℕ → List (List ℕ)
@@ -43,7 +61,8 @@ module _ (packets : ℕ → List ℕ) (some : HaveBytes packets) where
   joined-is zero = refl
   joined-is (suc n) =
       let more : first_packets packets (suc n) ≡ first_packets packets n ++ packets n ∷ [] =
-      ap (λ k. map packets (range_with_len 0 k)) (sym (add-one n)) ∙ map-range_with_len_more packets 0 n n (zero-add n) in
+      ap (λ k. map packets (range_with_len 0 k)) (sym (add-one n))
+      ∙ map-range_with_len_more packets 0 n n (zero-add n) in
       ap concat more ∙ concat-append (first_packets packets n) (packets n ∷ [])
       ∙ ap₂ (λ xs ys. xs ++ ys) (joined-is n) (append-nil (packets n))
 
@@ -81,15 +100,19 @@ module _ (packets : ℕ → List ℕ) (some : HaveBytes packets) where
       length-take-le 884 (drop (884 * t) few) (omega (arith, length-drop (884 * t) few))
 
   -- the first zones, joined, are the first bytes
-  zones_joined : (n m : ℕ) → 884 * m ≤ n → concat (map (zone_at packets) (range_with_len 0 m)) ≡ take (884 * m) (joined_packets packets n)
+  zones_joined : (n m : ℕ) → 884 * m ≤ n → concat (map (zone_at packets) (range_with_len 0 m))
+      ≡ take (884 * m) (joined_packets packets n)
   zones_joined n zero inside = refl
   zones_joined n (suc m) inside =
       let all = joined_packets packets n in
-      let more : map (zone_at packets) (range_with_len 0 (suc m)) ≡ map (zone_at packets) (range_with_len 0 m) ++ zone_at packets m ∷ [] =
-      ap (λ k. map (zone_at packets) (range_with_len 0 k)) (sym (add-one m)) ∙ map-range_with_len_more (zone_at packets) 0 m m (zero-add m) in
+      let more : map (zone_at packets) (range_with_len 0 (suc m)) ≡ map (zone_at packets) (range_with_len 0 m)
+      ++ zone_at packets m ∷ [] =
+      ap (λ k. map (zone_at packets) (range_with_len 0 k)) (sym (add-one m))
+      ∙ map-range_with_len_more (zone_at packets) 0 m m (zero-add m) in
       let long : 884 * suc m ≡ 884 * m + 884 = omega arith in
       ap concat more ∙ concat-append (map (zone_at packets) (range_with_len 0 m)) (zone_at packets m ∷ [])
-      ∙ ap₂ (λ xs ys. xs ++ ys) (zones_joined n m (omega arith)) (append-nil (zone_at packets m) ∙ zone_in n m (omega arith))
+      ∙ ap₂ (λ xs ys. xs ++ ys) (zones_joined n m (omega arith)) (append-nil (zone_at packets m)
+      ∙ zone_in n m (omega arith))
       ∙ sym (take-add (884 * m) 884 all) ∙ ap (λ k. take k all) (sym long)
 
   module _ (vc : ℕ) (v : vc < 64) where
@@ -100,18 +123,28 @@ module _ (packets : ℕ → List ℕ) (some : HaveBytes packets) where
     counted : (a n : ℕ) → AreCountedOn (map sent_frame (range_with_len a n))
     counted a zero = tt
     counted a (suc zero) = tt
-    counted a (suc (suc n)) =
-        (omega (arith, (packet_frame_reads vc packets a v).counter_is, (packet_frame_reads vc packets (a + 1) v).counter_is), counted (a + 1) (suc n))
+    counted a (suc (suc n)) = (
+      omega (
+        arith,
+        (packet_frame_reads vc packets a v).counter_is,
+        (packet_frame_reads vc packets (a + 1) v).counter_is,
+      ),
+      counted (a + 1) (suc n),
+    )
 
-    zones_are : (a n : ℕ) → map (λ frame. frame.zone) (map sent_frame (range_with_len a n)) ≡ map (zone_at packets) (range_with_len a n)
+    zones_are : (a n : ℕ) → map (λ frame. frame.zone) (map sent_frame (range_with_len a n))
+        ≡ map (zone_at packets) (range_with_len a n)
     zones_are a zero = refl
     zones_are a (suc n) = ap₂ (λ z zs. z ∷ zs) (packet_frame_reads vc packets a v).zone_is (zones_are (a + 1) n)
 
-    pointers_are : (a n : ℕ) → map (λ frame. frame.pointer) (map sent_frame (range_with_len a n)) ≡ map (pointer_at packets) (range_with_len a n)
+    pointers_are : (a n : ℕ) → map (λ frame. frame.pointer) (map sent_frame (range_with_len a n))
+        ≡ map (pointer_at packets) (range_with_len a n)
     pointers_are a zero = refl
-    pointers_are a (suc n) = ap₂ (λ z zs. z ∷ zs) (packet_frame_reads vc packets a v).pointer_is (pointers_are (a + 1) n)
+    pointers_are a (suc n) = ap₂ (λ z zs. z ∷ zs) (packet_frame_reads vc packets a v).pointer_is
+        (pointers_are (a + 1) n)
 
-    edge_pointed : (m t : ℕ) → t < m → pointer_at packets t < 884 → IsEdge (first_packets packets (884 * m)) (884 * t + pointer_at packets t)
+    edge_pointed : (m t : ℕ) → t < m → pointer_at packets t < 884
+        → IsEdge (first_packets packets (884 * m)) (884 * t + pointer_at packets t)
     unfolding pointer_at
     edge_pointed m t inside points =
         let starts : ℕ → Bool = λ place. is_start packets (884 * t + place) in
@@ -130,11 +163,14 @@ module _ (packets : ℕ → List ℕ) (some : HaveBytes packets) where
           counted = counted 0 m;
           later = drop (884 * m) all;
           bytes = joined-is (884 * m) ∙ sym (take-append-drop (884 * m) all)
-              ∙ ap (λ xs. xs ++ drop (884 * m) all) (sym (ap concat (zones_are 0 m) ∙ zones_joined (884 * m) m (omega arith)));
+              ∙ ap (λ xs. xs ++ drop (884 * m) all)
+              (sym (ap concat (zones_are 0 m) ∙ zones_joined (884 * m) m (omega arith)));
           pointers = λ t inside points.
               let low : t < m = omega (arith, inside, length-map-range_with_len sent_frame 0 m) in
-              let here : get_or (map (λ (frame : Fields). frame.pointer) (map sent_frame (range_with_len 0 m))) t 0 ≡ pointer_at packets t =
-              ap (λ ps. get_or ps t 0) (pointers_are 0 m) ∙ get_or-map-range_with_len (pointer_at packets) 0 m t t 0 low (zero-add t) in
+              let here : get_or (map (λ (frame : Fields). frame.pointer) (map sent_frame (range_with_len 0 m)))
+              t 0 ≡ pointer_at packets t =
+              ap (λ ps. get_or ps t 0) (pointers_are 0 m)
+              ∙ get_or-map-range_with_len (pointer_at packets) 0 m t t 0 low (zero-add t) in
               subst (λ p. IsEdge (first_packets packets (884 * m)) (884 * t + p)) (sym here)
               (edge_pointed m t low (subst (λ p. p < 884) here points));
         }

@@ -38,8 +38,8 @@ pub record CarryPackets (frames : List Fields) (packets : List (List ℕ)) : Typ
   pub pointers : (zone : ℕ) → zone < length frames → slice_index (map (λ frame. frame.pointer) frames) zone < 884
       → IsEdge packets (884 * zone + slice_index (map (λ frame. frame.pointer) frames) zone)
 
--- the law: where the frames of a channel carry packets that tell their lengths, each packet that comes of the channel is
--- one of these
+-- the law: where the frames of a channel carry packets that tell their lengths, each packet that comes of the channel
+-- is one of these
 abbrev pub PacketsWereSent : Type 0
 PacketsWereSent =
     (channel : ℕ) (frames : List Fields) (packets : List (List ℕ)) → All TellsItsLength packets →

@@ -3,7 +3,7 @@ use Rattle.std.specs.Prelude.{◌≡◌, ◌≤◌, ◌+◌, ◌*◌, ℕ, List,
 use Rattle.std.specs.List.{range_with_len, sum_by}
 use Rattle.lr_bits.specs.declared.outcome.Outcome.{Outcome}
 use Rattle.lr_bits.specs.declared.outcome.Outcome.TheVariants.{Restored}
-use Rattle.lr_bits.specs.File.{bytes_of}
+use Rattle.lr_bits.specs.File.{File, bytes_of}
 use Rattle.lr_layers.specs.Layers.{files_of_outcomes}
 use Rattle.lr_make.specs.Frames.{frame_at}
 
@@ -12,9 +12,12 @@ abbrev pub made_outcomes : ℕ → ℕ → ℕ → List Outcome
 made_outcomes start wrong n =
     map (λ k. Restored (record { 0 = replicate 4 wrong }) (frame_at start k)) (range_with_len 0 n)
 
--- the law: the files of some first outcomes of n frames have, with 39 bytes more for each file and 2 more for each body,
--- at most 884 bytes for each frame and one frame more
+-- how many bytes these files have, with 2 more for each body and 39 more for each file
+abbrev pub room_for : List File → ℕ
+room_for files = sum_by (λ file. length (bytes_of file) + 2 * length file.bodies + 39) files
+
+-- the law: for the files of some first outcomes of n frames as many bytes are enough as n + 1 zones have
 abbrev pub MadeFilesFit : Type 0
 MadeFilesFit =
     (start wrong n : ℕ) (front later : List Outcome) → made_outcomes start wrong n ≡ front ++ later →
-    sum_by (λ file. length (bytes_of file) + 2 * length file.bodies + 39) (files_of_outcomes front) ≤ 884 * (n + 1)
+    room_for (files_of_outcomes front) ≤ 884 * (n + 1)

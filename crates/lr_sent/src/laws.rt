@@ -8,8 +8,8 @@ pub fn packets_were_sent()
     ensures { PacketsWereSent }
 {}
 
-/// The files of the first frames of the test stream have, with 39 bytes for each of them and 2 for each body, at most
-/// 884 bytes for each frame, and one frame more.
+/// For the files of the first frames of the test stream, each with 2 bytes more for each body and 39 more for itself, as
+/// many bytes are enough as the zones of these frames have, and of one frame more.
 pub fn made_files_fit()
     ensures { MadeFilesFit }
 {}
