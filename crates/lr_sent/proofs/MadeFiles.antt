@@ -75,7 +75,7 @@ use Rattle.lr_make.specs.Standing.{image_frames, text_frames}
 use Rattle.lr_make.proofs.Heads.{length-image_packet, length-text_packet}
 use Rattle.lr_make.proofs.Rounds.{frame_at-turn, frame_at-images}
 use Rattle.lr_sent.specs.Carried.{TellsItsLength, frames_of_channel, CarryPackets}
-use Rattle.lr_sent.specs.Made.{made_outcomes, room_for, MadeFilesFit}
+use Rattle.lr_sent.specs.Made.{made_outcomes, room_of, room_for, MadeFilesFit}
 use Rattle.lr_layers.specs.Origins.{placed_of_outcomes}
 use Rattle.lr_layers.proofs.GoingOn.{have_origins}
 use Rattle.lr_sent.proofs.Carrying.{packets_were_sent, packets_by_channels}
@@ -483,11 +483,10 @@ pub made_files_fit : MadeFilesFit
 made_files_fit start wrong n front later split =
     let is = front_made start wrong n front later split in
     let m = length front in
-    let size : File → ℕ = λ file. length (bytes_of file) + 2 * length file.bodies + 39 in
     let files = files_of_outcomes (made_outcomes start wrong m) in
-    let sizes : sum_by size files ≤ sum_by (file_weight weights) files =
-    sum_by-le-sum_by size (file_weight weights) files (λ file. omega arith) in
-    subst (λ (outcomes : List Outcome). sum_by size (files_of_outcomes outcomes) ≤ 884 * (n + 1)) (sym is.1)
+    let sizes : room_for files ≤ sum_by (file_weight weights) files =
+    sum_by-le-sum_by room_of (file_weight weights) files (λ file. omega arith) in
+    subst (λ (outcomes : List Outcome). room_for (files_of_outcomes outcomes) ≤ 884 * (n + 1)) (sym is.1)
     (omega (arith, sizes, files_fit start wrong m, is.0))
 
 -- the same of the files with their origins

@@ -12,9 +12,12 @@ abbrev pub made_outcomes : ℕ → ℕ → ℕ → List Outcome
 made_outcomes start wrong n =
     map (λ k. Restored (record { 0 = replicate 4 wrong }) (frame_at start k)) (range_with_len 0 n)
 
--- how many bytes these files have, with 2 more for each body and 39 more for each file
+-- how many bytes a file has, with 2 more for each body and 39 more for itself; and of these files together
+abbrev pub room_of : File → ℕ
+room_of file = length (bytes_of file) + 2 * length file.bodies + 39
+
 abbrev pub room_for : List File → ℕ
-room_for files = sum_by (λ file. length (bytes_of file) + 2 * length file.bodies + 39) files
+room_for files = sum_by room_of files
 
 -- the law: for the files of some first outcomes of n frames as many bytes are enough as n + 1 zones have
 abbrev pub MadeFilesFit : Type 0
