@@ -1,10 +1,10 @@
 -- The files of a trial's symbols fit its shelf.
-use Rattle.std.proofs.Common.{◌≡◌, ℕ, ◌*◌, ◌<◌, ◌≤◌, Bool, true, false, List, [], ◌∷◌, map, length, replicate, refl, sym, ◌∙◌, ap, arith}
+use Rattle.std.proofs.Common.{◌≡◌, ℕ, ◌+◌, ◌*◌, ◌<◌, ◌≤◌, Bool, true, false, List, [], ◌∷◌, map, length, replicate, refl, sym, ◌∙◌, ap, arith}
+use Rattle.std.proofs.Common.{append-nil}
 use Rattle.std.specs.Int.{cast_unsigned, w8}
-use Rattle.std.specs.List.{range_with_len}
 use Rattle.std.proofs.lemmas.List.{length-map}
-use Rattle.lr_bits.specs.declared.outcome.Outcome.{Outcome}
-use Rattle.lr_bits.specs.declared.outcome.Outcome.TheVariants.{Restored}
+use Rattle.std.proofs.lemmas.List.Sums.{sum_by-cons}
+use Rattle.lr_bits.specs.declared.placed.Placed.{Placed}
 use Rattle.lr_conv.specs.Convolution.{code}
 use Rattle.lr_conv.specs.declared.line.TheConstants.{STANDARD}
 use Rattle.lr_frame.specs.Outcomes.{outcomes_of_symbols}
@@ -17,7 +17,11 @@ use Rattle.lr_make.specs.Stream.{symbol_stream}
 use Rattle.lr_make.specs.Symbols.{level, sent_bits}
 use Rattle.lr_make.proofs.Sending.{length-all_symbols, symbols_are_one_code}
 use Rattle.lr_make.proofs.Windows.{stream_is_received}
+use Rattle.lr_sent.specs.Made.{made_outcomes, room_for, room_of}
+use Rattle.lr_sent.proofs.MadeFiles.{placed_fit}
+use Rattle.lr_shelf_format.specs.Items.{extent_of, head_of_item}
 use Rattle.lr_shelf_format.specs.Reading.{end_of}
+use Rattle.lr_shelf.specs.Append.{item_for}
 use Rattle.lr_receiving.specs.declared.input.Input.TheVariants.{Symbols}
 use Rattle.lr_receiving.specs.Inputs.{outcomes_of_bytes, files_of_bytes}
 use Rattle.lr_receiving.specs.Made.{bytes_of_symbols, made_bytes}
@@ -52,20 +56,35 @@ made_length start wrong n =
 
 -- ---- the stream's outcomes, and their files
 
-abbrev all_sent : ℕ → ℕ → ℕ → List Outcome
-all_sent start wrong n =
-    map (λ k. Restored (record { 0 = replicate 4 wrong }) (frame_at start k)) (range_with_len 0 n)
-
 files_made : (start wrong n : ℕ) → ((k : ℕ) → k < n → IsReceivedAs wrong (frame_at start k) (block_at start wrong k))
-    → files_of_bytes Symbols (made_bytes Symbols start wrong n) ≡ placed_of_outcomes (all_sent start wrong n)
+    → files_of_bytes Symbols (made_bytes Symbols start wrong n) ≡ placed_of_outcomes (made_outcomes start wrong n)
 unfolding files_of_bytes outcomes_of_bytes
 files_made start wrong n received =
     ap (λ s. placed_of_outcomes (outcomes_of_symbols STANDARD s)) (symbols_made start wrong n)
     ∙ ap placed_of_outcomes (stream_is_received start wrong n received)
 
+-- each file takes its room on the shelf
+room_is : (files : List Placed)
+    → end_of (with_files [] files) ≡ 20 + room_for (map (λ placed. placed.file) files)
+room_is [] = refl
+room_is (placed ∷ files) =
+    omega (
+      arith,
+      room_is files,
+      sum_by-cons (λ item. extent_of (head_of_item item) + 1) (item_for placed) (map item_for files),
+      sum_by-cons room_of placed.file (map (λ (p : Placed). p.file) files),
+    )
+
 sent_files_fit : (start wrong n : ℕ) → n ≤ 1024
-    → end_of (with_files [] (placed_of_outcomes (all_sent start wrong n))) ≤ trial_capacity
-sent_files_fit start wrong n few = ?
+    → end_of (with_files [] (placed_of_outcomes (made_outcomes start wrong n))) ≤ trial_capacity
+sent_files_fit start wrong n few =
+    let outcomes = made_outcomes start wrong n in
+    omega (
+      arith,
+      few,
+      room_is (placed_of_outcomes outcomes),
+      placed_fit start wrong n outcomes [] (sym (append-nil outcomes)),
+    )
 
 pub made_files_fit : (start wrong n : ℕ) → n ≤ 1024
     → ((k : ℕ) → k < n → IsReceivedAs wrong (frame_at start k) (block_at start wrong k))
