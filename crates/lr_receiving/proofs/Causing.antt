@@ -1,5 +1,5 @@
 -- Causes and counts.
-use Rattle.std.proofs.Common.{◌≡◌, ◌≤◌, inl, inr, ℕ, refl, subst, arith}
+use Rattle.std.proofs.Common.{◌≡◌, inl, inr, ℕ, refl, subst, arith}
 use Rattle.lr_bits.specs.Faults.{Rose}
 use Rattle.lr_shelf.specs.declared.error.ShelfError.{ShelfError}
 use Rattle.lr_shelf.specs.declared.error.ShelfError.TheVariants.{Disk as Disk', Failed as Failed'}

@@ -1,6 +1,6 @@
 -- What comes of a disk from which no shelf was loaded, and of one from which it was.
 use Rattle.std.proofs.Common.{◌≡◌, ◌<◌, inl, ℕ, List, [], ◌∷◌, ◌++◌, length, refl, sym, ◌∙◌, ap, subst, arith, append-nil}
-use Rattle.std.proofs.Common.{Result, Ok, Err, IfOk, OnOk, MatchResult}
+use Rattle.std.proofs.Common.{Result, Ok, Err, IfOk, MatchResult}
 use Rattle.std.proofs.lemmas.List.Elements.{All-nil}
 use Rattle.lr_bits.specs.declared.placed.Placed.{Placed}
 use Rattle.lr_io.specs.declared.source.Source.{Ghosts as SourceOf}
@@ -19,22 +19,24 @@ use Rattle.lr_shelf.specs.Load.{Loads, IsLoadRefusal, MayRefuseAt}
 use Rattle.lr_shelf.specs.Shelf.{IsDurable, IsSettled, KeepsWay}
 use Rattle.lr_shelf.specs.declared.shelf.Shelf.{Shelf}
 use Rattle.lr_shelf.specs.declared.error.ShelfError.{ShelfError}
-use Rattle.lr_shelf.specs.declared.error.ShelfError.TheVariants.{Disk as Disk', NotAShelf as NotAShelf',
-    NoMemory as NoMemory'}
+use Rattle.lr_shelf.specs.declared.error.ShelfError.TheVariants.{
+  Disk as Disk',
+  NotAShelf as NotAShelf',
+  NoMemory as NoMemory',
+}
 use Rattle.lr_catalog.specs.declared.stop.Stop.{Stop}
 use Rattle.lr_catalog.specs.declared.stop.Stop.TheVariants.{End, Limit, Fault}
 use Rattle.lr_commands.specs.declared.cause.Cause.{Cause}
-use Rattle.lr_commands.specs.declared.cause.Cause.TheVariants.{Done, Failed, NoMemory, Refused}
-use Rattle.lr_commands.specs.declared.cause.Party.TheVariants.{Source, Disk, Output}
+use Rattle.lr_commands.specs.declared.cause.Cause.TheVariants.{Failed, NoMemory, Refused}
+use Rattle.lr_commands.specs.declared.cause.Party.TheVariants.{Disk, Output}
 use Rattle.lr_commands.specs.declared.cause.Refusal.TheVariants.{NotAShelf, Capacity}
 use Rattle.lr_commands.specs.Causes.{cause_of}
 use Rattle.lr_receiving.specs.declared.input.Input.{Input}
 use Rattle.lr_receiving.specs.declared.input.Input.TheVariants.{Symbols, Units}
 use Rattle.lr_receiving.specs.Causes.{cause_at}
 use Rattle.lr_receiving.specs.Inputs.{unit_bytes, outcomes_of_bytes, files_of_bytes}
-use Rattle.lr_receiving.specs.Onto.{IsFullWith, IsFull, HadRoom}
 use Rattle.lr_receiving.specs.Reading.{IsRead}
-use Rattle.lr_receiving.specs.Shelving.{with_files, next_number, shelved_lines, LeavesFronts}
+use Rattle.lr_receiving.specs.Shelving.{next_number, shelved_lines, LeavesFronts}
 use Rattle.lr_receiving.specs.Shelved.{MayStop}
 use Rattle.lr_receiving.specs.Receive.{Ends, Receives, MayEndBefore, IsReceiveCause, IsWorkDone, IsUntouched, ReceiveRun}
 use Rattle.lr_receiving.specs.Reception.{EndsRun}

@@ -16,16 +16,15 @@ use Rattle.lr_disk.proofs.Moments.{weaker}
 use Rattle.lr_catalog.specs.declared.stop.Stop.{Stop}
 use Rattle.lr_catalog.specs.declared.stop.Stop.TheVariants.{End, Limit, Fault}
 use Rattle.lr_commands.specs.declared.cause.Cause.{Cause}
-use Rattle.lr_commands.specs.declared.cause.Cause.TheVariants.{Done, Failed, NoMemory, Refused}
+use Rattle.lr_commands.specs.declared.cause.Cause.TheVariants.{Failed, NoMemory, Refused}
 use Rattle.lr_commands.specs.declared.cause.Party.TheVariants.{Source, Disk, Output}
-use Rattle.lr_commands.specs.declared.cause.Refusal.TheVariants.{NotAShelf, Capacity, NotEmpty}
+use Rattle.lr_commands.specs.declared.cause.Refusal.TheVariants.{Capacity}
 use Rattle.lr_receiving.specs.declared.ended.Ended.{Ended}
 use Rattle.lr_receiving.specs.declared.input.Input.{Input}
 use Rattle.lr_receiving.specs.Causes.{IsEarlier, cause_at}
 use Rattle.lr_receiving.specs.Inputs.{outcomes_of_bytes, files_of_bytes}
 use Rattle.lr_commands.specs.Puts.{PutFails}
-use Rattle.lr_receiving.specs.Onto.{HasRoom}
-use Rattle.lr_receiving.specs.Shelving.{with_files, next_number, shelved_lines, StandsForFront, StopsBy}
+use Rattle.lr_receiving.specs.Shelving.{next_number, shelved_lines, StandsForFront, StopsBy}
 use Rattle.lr_receiving.specs.Shelved.{MayStop, ShelvesSoFar, Grows, GrowsNoMore}
 use Rattle.lr_receiving.specs.Receive.{counts_line, receive_count, receive_last, IsWorkDone, Finishes, Ends}
 use Rattle.lr_receiving.specs.Reception.{IsCountOf, ended_line, PutsLast, LastStops, ReadsAll, ReadsSome, EndsOver, EndsRun}

@@ -22,7 +22,7 @@ use Rattle.lr_catalog.specs.declared.stop.Stop.{Stop}
 use Rattle.lr_catalog.specs.declared.stop.Stop.TheVariants.{End, Limit, Fault}
 use Rattle.lr_commands.specs.declared.cause.Cause.{Cause}
 use Rattle.lr_commands.specs.declared.cause.Cause.TheVariants.{Done, Failed, NoMemory, Refused}
-use Rattle.lr_commands.specs.declared.cause.Party.TheVariants.{Source, Disk, Output}
+use Rattle.lr_commands.specs.declared.cause.Party.TheVariants.{Disk, Output}
 use Rattle.lr_commands.specs.declared.cause.Refusal.TheVariants.{NotAShelf, Capacity, NotEmpty}
 use Rattle.lr_receiving.specs.declared.ended.Ended.{Ended}
 use Rattle.lr_receiving.specs.declared.input.Input.TheVariants.{Symbols}
@@ -85,7 +85,7 @@ module _ {D : Type 0} (disk : DiskOf D) (symbols : List ℕ) (d d1 : D) where
     pub init_refused : LeavesDisk disk symbols (cause_of e) d d1
     init_refused = record {
       ends = refused_ends e refusal;
-      taken = λ told taken. 
+      taken = λ told taken.
           let t = inits.taken told taken in (refused_why (length (disk.contents d)) t.0, inr t.1);
       any_moment = λ told free only. inr (weaker disk.moment disk.left_since d d1 _ _ (λ c blank. inl blank) (inits.any_moment told free only));
     }

@@ -104,11 +104,10 @@ more_files bytes more given next sure =
     ∙ map-append (outcome_in STANDARD all) given (front.0 ++ longer.0)
     ∙ ap (λ (os : List Outcome). os ++ others) (outcomes_stay STANDARD some (symbols_of more) given sure) in
     let law = go_on (map (outcome_in STANDARD some) given) others
-    (subst (λ (l : List Outcome). AreFrames (frames_of_outcomes l)) is (all_whole all)) in
-    (
+    (subst (λ (l : List Outcome). AreFrames (frames_of_outcomes l)) is (all_whole all)) in (
       law.more_files,
       ap (λ (s : List ℤ). placed_of_outcomes (outcomes_of_symbols STANDARD s)) (symbols_of-append bytes more)
-      ∙ ap placed_of_outcomes is ∙ law.files,
+          ∙ ap placed_of_outcomes is ∙ law.files,
     )
 
 -- nothing is left where neither a fault nor the limit ended the reading
@@ -233,8 +232,7 @@ module _ {S D O : Type 0} (source : SourceOf S) (disk : DiskOf D) (out : SinkOf 
           ≡ placed_of_outcomes (outcomes_given so.bytes so.given ++ outcome ∷ []) ++ rest)
       first_of told few calm true finished =
           let why = subst (λ (k : ℕ). EndsFor source now.stop k gives.all s s') limit_is (gives.so_far.ended finished) in
-          let none = nothing_left source now.stop limit gives.all s s' why told few calm in
-          (
+          let none = nothing_left source now.stop limit gives.all s s' why told few calm in (
             first_files.0,
             ap (files_of_bytes Symbols) (ap (λ (l : List ℕ). gives.all ++ l) none ∙ append-nil gives.all) ∙ files_there,
           )
