@@ -1,5 +1,22 @@
 -- What comes of a disk from which no shelf was loaded, and of one from which it was.
-use Rattle.std.proofs.Common.{◌≡◌, ◌<◌, inl, ℕ, List, [], ◌∷◌, ◌++◌, length, refl, sym, ◌∙◌, ap, subst, arith, append-nil}
+use Rattle.std.proofs.Common.{
+  ◌≡◌,
+  ◌<◌,
+  inl,
+  ℕ,
+  List,
+  [],
+  ◌∷◌,
+  ◌++◌,
+  length,
+  refl,
+  sym,
+  ◌∙◌,
+  ap,
+  subst,
+  arith,
+  append-nil,
+}
 use Rattle.std.proofs.Common.{Result, Ok, Err, IfOk, MatchResult}
 use Rattle.std.proofs.lemmas.List.Elements.{All-nil}
 use Rattle.lr_bits.specs.declared.placed.Placed.{Placed}
@@ -38,7 +55,15 @@ use Rattle.lr_receiving.specs.Inputs.{unit_bytes, outcomes_of_bytes, files_of_by
 use Rattle.lr_receiving.specs.Reading.{IsRead}
 use Rattle.lr_receiving.specs.Shelving.{next_number, shelved_lines, LeavesFronts}
 use Rattle.lr_receiving.specs.Shelved.{MayStop}
-use Rattle.lr_receiving.specs.Receive.{Ends, Receives, MayEndBefore, IsReceiveCause, IsWorkDone, IsUntouched, ReceiveRun}
+use Rattle.lr_receiving.specs.Receive.{
+  Ends,
+  Receives,
+  MayEndBefore,
+  IsReceiveCause,
+  IsWorkDone,
+  IsUntouched,
+  ReceiveRun,
+}
 use Rattle.lr_receiving.specs.Reception.{EndsRun}
 use Rattle.lr_receiving.proofs.Growing.{some, none_in}
 use Rattle.lr_receiving.proofs.Headline.{receives}
@@ -248,7 +273,8 @@ module _ {S D O : Type 0} (source : SourceOf S) (disk : DiskOf D) (out : SinkOf 
     onto_shelf : (capacity : ℕ) (before : List Item) → disk.tells d → IsDurable disk capacity before d
         → Receives source disk out input capacity before limit run.bytes cause s s' d d' o o'
     onto_shelf capacity before told durable =
-        let settled = if_ok (λ x. IsSettled disk capacity before x d1) (loads.settled capacity before told durable.stands) in
+        let settled = if_ok (λ x. IsSettled disk capacity before x d1)
+        (loads.settled capacity before told durable.stands) in
         let begun = loaded disk out capacity before d d1 o shelf settled (any_moment capacity before told durable)
         (same_of disk d d1 result shelf is loads.calls.counted) in
         let all = run.ends capacity before d o begun in

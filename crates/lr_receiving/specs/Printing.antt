@@ -13,7 +13,8 @@ use Rattle.lr_commands.specs.Puts.{PutsFront}
 use Rattle.lr_receiving.specs.Reading.{IsRead, EndsFor}
 
 -- The command's lines of the bytes read, its last line of them, and the most bytes that it takes.
-module _ {S O : Type 0} (source : SourceOf S) (out : SinkOf O) (lines : List ℕ → List ℕ) (last : List ℕ → Stop → List ℕ) (limit : ℕ) where
+module _ {S O : Type 0} (source : SourceOf S) (out : SinkOf O) (lines : List ℕ → List ℕ) (last : List ℕ → Stop
+    → List ℕ) (limit : ℕ) where
   -- all lines of the bytes read were put, and the last line
   pub record PrintsAll (stop : Stop) (s s' : S) (o o' : O) : Type 0 where
     pub bytes : List ℕ

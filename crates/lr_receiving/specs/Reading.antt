@@ -14,7 +14,8 @@ module _ {S : Type 0} (source : SourceOf S) where
 
   -- why no more of them were taken: nothing was left, or the limit was reached, or the source failed
   abbrev pub EndsFor : Stop → ℕ → List ℕ → S → S → Type 0
-  EndsFor End limit bytes s s' = (length bytes < limit) × (source.tells s → source.left s' ≡ []) × (source.faults s' ≡ source.faults s)
+  EndsFor End limit bytes s s' = (length bytes < limit) × (source.tells s → source.left s' ≡ [])
+      × (source.faults s' ≡ source.faults s)
   EndsFor Limit limit bytes s s' = (length bytes ≡ limit) × (source.faults s' ≡ source.faults s)
   EndsFor Fault limit bytes s s' = (length bytes < limit) × Rose (source.faults s) (source.faults s')
 

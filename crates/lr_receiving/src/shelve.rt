@@ -9,7 +9,15 @@ ghost use Rattle.lr_shelf.specs.Kept.{kept_by};
 ghost use Rattle.lr_commands.specs.Causes.{IsCaused};
 ghost use Rattle.lr_receiving.specs.Causes.{counts};
 ghost use Rattle.lr_receiving.specs.Shelving.{Stops};
-ghost use Rattle.lr_receiving.specs.Shelved.{HasWholeFrame, MayStop, ShelvesSoFar, Grows, GrowsNoMore, Gains, GainsNoMore};
+ghost use Rattle.lr_receiving.specs.Shelved.{
+  HasWholeFrame,
+  MayStop,
+  ShelvesSoFar,
+  Grows,
+  GrowsNoMore,
+  Gains,
+  GainsNoMore,
+};
 
 use crate::put::put_text;
 use lr_bits::{Bytes, Outcome, Placed};
@@ -40,10 +48,12 @@ fn shelve<D: Disk, O: Sink>(
     // Over a disk that tells its contents and stands for a shelf.
     ensures shelved { (capacity : ℕ) (before : List Item) (done : List Placed') (d : _) (o : _)
         → ShelvesSoFar D.Disk O.Sink capacity before done shelf.old d disk.old o out.old
-        → OnOk result (ShelvesSoFar D.Disk O.Sink capacity before (done ++ placed.now ∷ []) shelf.new d disk.new o out.new) }
+        → OnOk result (ShelvesSoFar D.Disk O.Sink capacity before (done ++ placed.now ∷ []) shelf.new d disk.new
+        o out.new) }
     ensures stopped { (capacity : ℕ) (before : List Item) (done rest : List Placed') (d : _) (o : _)
         → ShelvesSoFar D.Disk O.Sink capacity before done shelf.old d disk.old o out.old
-        → IfErr result (λ cause. Stops D.Disk O.Sink capacity before cause (done ++ placed.now ∷ rest) d disk.new o out.new) }
+        → IfErr result (λ cause. Stops D.Disk O.Sink capacity before cause (done ++ placed.now ∷ rest) d
+        disk.new o out.new) }
 
     // Over every disk.
     ensures grown { OnOk result (Grows (placed.now ∷ []) shelf.old shelf.new disk.old disk.new out.old out.new) }
