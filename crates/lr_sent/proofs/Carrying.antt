@@ -17,7 +17,19 @@ use Rattle.std.proofs.Common.{
   ⊎_elim,
   arith,
 }
-use Rattle.std.proofs.Common.{append_assoc, append-nil, length-append, length-drop, drop_at, add-zero, ltb, eqb, eq-eqb, ltb-true, Contains}
+use Rattle.std.proofs.Common.{
+  append_assoc,
+  append-nil,
+  length-append,
+  length-drop,
+  drop_at,
+  add-zero,
+  ltb,
+  eqb,
+  eq-eqb,
+  ltb-true,
+  Contains,
+}
 use Rattle.std.specs.Prelude.{All}
 use Rattle.std.specs.List.{AllByRecursion as Each, concat, enumerate_from, list_all, range_with_len}
 use Rattle.std.proofs.lemmas.Bool.{and_parts, cases_eq, cond_both, false≢true}
@@ -56,7 +68,7 @@ pub concat-append : (xs ys : List (List ℕ)) → concat (xs ++ ys) ≡ concat x
 concat-append [] ys = refl
 concat-append (x ∷ xs) ys = ap (λ zs. x ++ zs) (concat-append xs ys) ∙ sym (append_assoc x (concat xs) (concat ys))
 
-All_right : {X : Type 0} (P : X → Type 0) (xs ys : List X) → All P (xs ++ ys) → All P ys
+pub All_right : {X : Type 0} (P : X → Type 0) (xs ys : List X) → All P (xs ++ ys) → All P ys
 All_right P [] ys h = h
 All_right P (x ∷ xs) ys h = All_right P xs ys (All-tail P x (xs ++ ys) h)
 
@@ -212,7 +224,8 @@ module _ (packets : List (List ℕ)) (tell : All TellsItsLength packets) (run : 
     unfolding starts_in_zone
     edges_in_zone zone inside =
         cond_both (ltb (pointer_of run zone) 884) _ _ (Each (IsEdge packets))
-        (λ e. edges_from packets tell (zones_of run) later bytes (884 * zone + 884) 884 (884 * zone + pointer_of run zone)
+        (λ e. edges_from packets tell (zones_of run) later bytes (884 * zone + 884) 884
+        (884 * zone + pointer_of run zone)
         (pointers zone inside (ltb-true (pointer_of run zone) 884 e)))
         (λ _. tt)
 
@@ -231,7 +244,8 @@ module _ (packets : List (List ℕ)) (tell : All TellsItsLength packets) (run : 
         (and_parts (is_whole (zones_of run) s)
         (list_all (agrees run (packet_end (zones_of run) s)) (zones_after run s)) delivered.0).0
 
-    run_packets : (channel place : ℕ) → Each (λ packet. Contains packets packet.bytes) (packets_ending channel place run)
+    run_packets : (channel place : ℕ)
+        → Each (λ packet. Contains packets packet.bytes) (packets_ending channel place run)
     unfolding packets_ending
     run_packets channel place =
         let Sent : Packet → Type 0 = λ packet. Contains packets packet.bytes in
@@ -239,7 +253,8 @@ module _ (packets : List (List ℕ)) (tell : All TellsItsLength packets) (run : 
         Each-map Sent (packet_at channel (zones_of run)) (filter (ends_in run place) (starts_of run))
         (Each_weaker Ends (λ s. Sent (packet_at channel (zones_of run) s))
         (λ s h. packet_there packets tell (zones_of run) later bytes channel s h.0 (ends_whole place s h.1))
-        (filter (ends_in run place) (starts_of run)) (passed (IsEdge packets) (ends_in run place) (starts_of run) edges))
+        (filter (ends_in run place) (starts_of run))
+        (passed (IsEdge packets) (ends_in run place) (starts_of run) edges))
 
 -- ---- all packets
 

@@ -24,7 +24,25 @@ use Rattle.std.proofs.Common.{
   eq-eqb,
   ne_eqb,
 }
-use Rattle.std.proofs.Common.{List, [], ◌∷◌, ◌++◌, inl, inr, refl, sym, ap, ◌∙◌, subst, arith, map, length, take, replicate, ◌||◌}
+use Rattle.std.proofs.Common.{
+  List,
+  [],
+  ◌∷◌,
+  ◌++◌,
+  inl,
+  inr,
+  refl,
+  sym,
+  ap,
+  ◌∙◌,
+  subst,
+  arith,
+  map,
+  length,
+  take,
+  replicate,
+  ◌||◌,
+}
 use Rattle.std.proofs.Common.{
   length-take,
   length-drop,
@@ -55,7 +73,7 @@ use Rattle.lr_bits.specs.declared.outcome.Outcome.{Outcome}
 use Rattle.lr_bits.specs.declared.outcome.Outcome.TheVariants.{Restored}
 use Rattle.lr_bits.specs.Bits.{field_of}
 use Rattle.lr_bits.specs.Crc.{crc_of}
-use Rattle.lr_bits.specs.File.{File, bytes_of}
+use Rattle.lr_bits.specs.File.{File}
 use Rattle.lr_bits.specs.Packet.{Packet}
 use Rattle.lr_packet.specs.declared.packet.PacketFault.{PacketFault}
 use Rattle.lr_packet.specs.declared.packet.PacketFault.TheVariants.{Version, Idle, TooShort, Crc}
@@ -499,3 +517,7 @@ placed_fit start wrong n front later split =
     subst (λ (files : List File). room_for files ≤ 884 * (n + 1))
     (sym (have_origins front (subst AreFrames (sym frames) (all_frames start (length front)))))
     (made_files_fit start wrong n front later split)
+
+-- each fourth frame is of the channel of fill
+pub fill_channel : (start k : ℕ) → k % 4 ≡ 3 → field_of (frame_at start k) 10 6 ≡ 63
+fill_channel start k turn = (sent_fill start k turn).channel
