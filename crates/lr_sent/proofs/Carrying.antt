@@ -1,35 +1,8 @@
 -- Each packet that comes of frames which carry packets is one of these.
 use Rattle.std.proofs.Common.{◌≡◌, ℕ, zero, suc, ◌+◌, ◌-◌, ◌*◌, ◌/◌, ◌<◌, ◌≤◌, Bool, true, false, cond, List, [], ◌∷◌}
-use Rattle.std.proofs.Common.{
-  ◌++◌,
-  map,
-  length,
-  take,
-  drop,
-  filter,
-  flat_map,
-  get_or,
-  refl,
-  sym,
-  ap,
-  ◌∙◌,
-  subst,
-  ⊎_elim,
-  arith,
-}
-use Rattle.std.proofs.Common.{
-  append_assoc,
-  append-nil,
-  length-append,
-  length-drop,
-  drop_at,
-  add-zero,
-  ltb,
-  eqb,
-  eq-eqb,
-  ltb-true,
-  Contains,
-}
+use Rattle.std.proofs.Common.{◌++◌, map, length, take, drop, filter, flat_map, get_or, refl, sym, ap, ◌∙◌, subst}
+use Rattle.std.proofs.Common.{⊎_elim, arith, append_assoc, append-nil, length-append, length-drop, drop_at, add-zero}
+use Rattle.std.proofs.Common.{ltb, eqb, eq-eqb, ltb-true, Contains}
 use Rattle.std.specs.Prelude.{All}
 use Rattle.std.specs.List.{AllByRecursion as Each, concat, enumerate_from, list_all, range_with_len}
 use Rattle.std.proofs.lemmas.Bool.{and_parts, cases_eq, cond_both, false≢true}
@@ -39,28 +12,13 @@ use Rattle.lr_bits.specs.Packet.{Packet, length_field_at}
 use Rattle.lr_vc.specs.Frame.{Fields}
 use Rattle.lr_vc.specs.Runs.{Run, next_counter, channel_frames, put_before, runs_of}
 use Rattle.lr_vc.specs.Packets.{zones_of, pointer_of, packet_end, has_header, is_whole, starts_from, starts_in_zone}
-use Rattle.lr_vc.specs.Packets.{
-  starts_of,
-  zones_after,
-  agrees,
-  is_delivered,
-  packet_at,
-  ends_in,
-  place_of,
-  packets_ending,
-  packets_in,
-  packets_of,
-}
+use Rattle.lr_vc.specs.Packets.{starts_of, zones_after, agrees, is_delivered, packet_at, ends_in, place_of}
+use Rattle.lr_vc.specs.Packets.{packets_ending, packets_in, packets_of}
 use Rattle.lr_vc.proofs.Lists.{Each-map, Each-flat_map, Each_any, Each_weaker, Each-range}
-use Rattle.lr_vc.proofs.Starts.{length_field-append, length_field-behind, packet_end_is, has_header_true, is_whole_true}
-use Rattle.lr_sent.specs.Carried.{
-  TellsItsLength,
-  IsEdge,
-  frames_of_channel,
-  AreCountedOn,
-  CarryPackets,
-  PacketsWereSent,
-}
+use Rattle.lr_vc.proofs.Starts.{length_field-append, length_field-behind, packet_end_is, has_header_true}
+use Rattle.lr_vc.proofs.Starts.{is_whole_true}
+use Rattle.lr_sent.specs.Carried.{TellsItsLength, IsEdge, frames_of_channel, AreCountedOn, CarryPackets}
+use Rattle.lr_sent.specs.Carried.{PacketsWereSent}
 
 -- ---- lists
 

@@ -1,18 +1,16 @@
 -- A window that holds what a list of bits was sent as is read as that list.
-use Rattle.std.proofs.Common.{◌≡◌, ◌⊎◌, inl, inr, ℕ, ℤ, pos, zero, suc, ◌+◌, ◌-◌, ◌*◌, ◌%◌, ◌<◌, ◌≤◌, Bool, true, false}
-use Rattle.std.proofs.Common.{List, [], ◌∷◌, ◌++◌, length, take, drop, get_or, map, replicate, reverse, refl, sym, ap}
-use Rattle.std.proofs.Common.{subst, ◌∙◌, arith, length-append}
+use Rattle.std.proofs.Common.{◌≡◌, ◌⊎◌, inl, inr, ℕ, ℤ, pos, zero, suc, ◌+◌, ◌-◌, ◌*◌, ◌%◌, ◌<◌, ◌≤◌, Bool, true}
+use Rattle.std.proofs.Common.{false, List, [], ◌∷◌, ◌++◌, length, take, drop, get_or, map, replicate, reverse, refl}
+use Rattle.std.proofs.Common.{sym, ap, subst, ◌∙◌, arith, length-append}
 use Rattle.std.proofs.lemmas.List.{drop_at, take_at, take_all, take-append-drop, take_more_same, get_or-take}
 use Rattle.std.proofs.lemmas.List.{length-map}
-use Rattle.lr_conv.specs.Convolution.{bit, first_symbol, generator_sum, first_generator}
+use Rattle.lr_conv.specs.Convolution.{bit, first_symbol, generator_sum, first_generator, code, symbols, second_symbol}
 use Rattle.lr_conv.specs.Levels.{last_level, levels}
 use Rattle.lr_conv.specs.declared.line.LineCode.{LineCode}
 use Rattle.lr_conv.proofs.Lines.{length-levels, levels-append}
-use Rattle.lr_conv.specs.Convolution.{code, symbols, second_symbol}
 use Rattle.lr_conv.specs.Marker.{last_marker_level, marker_end, marker_start}
 use Rattle.lr_conv.proofs.SevenBits.{bit_below, bit_same, bit_test}
-use Rattle.lr_trellis.specs.Path.{symbol_cost, cost, NotAfter}
-use Rattle.lr_trellis.specs.Path.{path_cost, path_levels, IsNearestPath, nearest_path}
+use Rattle.lr_trellis.specs.Path.{symbol_cost, cost, NotAfter, path_cost, path_levels, IsNearestPath, nearest_path}
 use Rattle.lr_trellis.proofs.OnePath.{nearest_path_is_the_one}
 use Rattle.lr_make.specs.Symbols.{level}
 use Rattle.lr_make.proofs.Coding.{length-symbols, length-code, code-front}

@@ -1,72 +1,40 @@
 -- The frames that a lock finds in the symbols of blocks, their windows, and what becomes of them.
 use Rattle.std.proofs.Common.{◌≡◌, ◌⊎◌, inl, inr, ℕ, zero, suc, ◌+◌, ◌*◌, ◌<◌, ◌≤◌, Bool, true, false, not, ℤ, pos}
-use Rattle.std.proofs.Common.{
-  Option,
-  None,
-  Some,
-  List,
-  [],
-  ◌∷◌,
-  ◌++◌,
-  length,
-  take,
-  drop,
-  get_or,
-  map,
-  replicate,
-  refl,
-  sym,
-}
-use Rattle.std.proofs.Common.{ap, ap₂, subst, ◌∙◌, arith, append-nil, append_assoc, length-append}
-use Rattle.std.proofs.lemmas.List.{drop_at, drop-drop, drop-map, get_or-drop, get_or_append_left, length-map, map-append}
-use Rattle.std.proofs.lemmas.List.{take_at, take-map}
+use Rattle.std.proofs.Common.{Option, None, Some, List, [], ◌∷◌, ◌++◌, length, take, drop, get_or, map, replicate}
+use Rattle.std.proofs.Common.{refl, sym, ap, ap₂, subst, ◌∙◌, arith, append-nil, append_assoc, length-append}
+use Rattle.std.proofs.lemmas.List.{drop_at, drop-drop, drop-map, get_or-drop, get_or_append_left, length-map}
+use Rattle.std.proofs.lemmas.List.{map-append, take_at, take-map}
 use Rattle.std.proofs.lemmas.List.FromFn.{fill_by_all}
 use Rattle.std.proofs.lemmas.List.Elements.{All-cons, All-head, All-nil, All-tail}
 use Rattle.std.specs.List.{All}
 use Rattle.lr_bits.specs.declared.outcome.Outcome.{Outcome}
+use Rattle.lr_bits.specs.declared.outcome.Outcome.TheVariants.{Restored}
 use Rattle.lr_block.specs.Outcomes.{IsBlock, outcome_of_block}
+use Rattle.lr_block.specs.Blocks.{changes_of}
+use Rattle.lr_block.specs.Randomiser.{randomised_block}
+use Rattle.lr_block.proofs.Sequence.{randomised_block-randomised_block}
+use Rattle.lr_block.proofs.Outcomes as outcomes_of
 use Rattle.lr_conv.specs.Convolution.{code}
 use Rattle.lr_conv.specs.Levels.{levels, six_zeros}
 use Rattle.lr_conv.specs.Marker.{marker, marker_start, tail_of}
 use Rattle.lr_conv.specs.declared.line.LineCode.{LineCode}
 use Rattle.lr_conv.proofs.Tails.{tail_size}
+use Rattle.lr_trellis.specs.Path.{bytes_of, nearest_path}
 use Rattle.lr_lock.specs.Frames.{AreNext, IsHeld, IsNext, last_of}
 use Rattle.lr_lock.specs.Hits.{agreeing, hits}
 use Rattle.lr_lock.specs.Windows.{turned_value, window_of, window_value}
 use Rattle.lr_lock.specs.declared.frame.Frame.{Frame}
 use Rattle.lr_lock.proofs.Stepping.{reach}
-use Rattle.lr_trellis.specs.Path.{bytes_of, nearest_path}
 use Rattle.lr_frame.specs.Outcomes.{outcome_in, outcomes_of_symbols}
 use Rattle.lr_frame.proofs.Given.{all_outcomes}
 use Rattle.lr_make.specs.Symbols.{bits_of_bytes, level}
-use Rattle.lr_bits.specs.declared.outcome.Outcome.TheVariants.{Restored}
-use Rattle.lr_block.specs.Blocks.{changes_of}
-use Rattle.lr_block.specs.Randomiser.{randomised_block}
-use Rattle.lr_block.proofs.Sequence.{randomised_block-randomised_block}
-use Rattle.lr_block.proofs.Outcomes as outcomes_of
-use Rattle.lr_sent.specs.Sent.{
-  bits_of_blocks,
-  symbols_of_blocks,
-  AreRestored,
-  AreSentFor,
-  BlocksAreReceived,
-  IsFrame,
-  IsSentFor,
-}
-use Rattle.lr_sent.specs.Sent.{SentIsReceived}
+use Rattle.lr_sent.specs.Sent.{bits_of_blocks, symbols_of_blocks, AreRestored, AreSentFor, BlocksAreReceived, IsFrame}
+use Rattle.lr_sent.specs.Sent.{IsSentFor, SentIsReceived}
 use Rattle.lr_sent.proofs.Carrying.{All_right}
 use Rattle.lr_sent.proofs.BytesBack.{bytes_back}
 use Rattle.lr_sent.proofs.Nearest.{length-path_code, nearest_is_sent, path_code, path_code-front}
-use Rattle.lr_sent.proofs.Splitting.{
-  bits-append,
-  bits-cons,
-  bits-none,
-  length-bits,
-  length-block_bits,
-  length-sent,
-  tail_behind,
-  turns,
-}
+use Rattle.lr_sent.proofs.Splitting.{bits-append, bits-cons, bits-none, length-bits, length-block_bits, length-sent}
+use Rattle.lr_sent.proofs.Splitting.{tail_behind, turns}
 use Rattle.lr_sent.proofs.Turning.{turned, length-turned, turned-append}
 
 All_left : {X : Type 0} (P : X → Type 0) (xs ys : List X) → All P (xs ++ ys) → All P xs

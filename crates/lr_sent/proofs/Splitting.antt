@@ -1,9 +1,8 @@
 -- The symbols of blocks from one of their markers on.
-use Rattle.std.proofs.Common.{◌≡◌, ℕ, zero, suc, ◌+◌, ◌-◌, ◌*◌, ◌/◌, ◌%◌, ◌≤◌, Bool, false, nat_eq, ◌&&◌, List, [], ◌∷◌}
-use Rattle.std.proofs.Common.{◌++◌, length, drop, get_or, map, refl, sym, ap, ◌∙◌, arith, append-nil, append_assoc}
-use Rattle.std.proofs.Common.{length-append, length-drop}
-use Rattle.std.proofs.lemmas.List.{drop_at, drop-append-le, drop-drop, get_or-drop, take-append-drop}
-use Rattle.std.proofs.lemmas.List.{length-map}
+use Rattle.std.proofs.Common.{◌≡◌, ℕ, zero, suc, ◌+◌, ◌-◌, ◌*◌, ◌/◌, ◌%◌, ◌≤◌, Bool, false, nat_eq, ◌&&◌, List, []}
+use Rattle.std.proofs.Common.{◌∷◌, ◌++◌, length, drop, get_or, map, refl, sym, ap, ◌∙◌, arith, append-nil}
+use Rattle.std.proofs.Common.{append_assoc, length-append, length-drop}
+use Rattle.std.proofs.lemmas.List.{drop_at, drop-append-le, drop-drop, get_or-drop, take-append-drop, length-map}
 use Rattle.std.proofs.lemmas.List.FromFn.{fill_by_all, get_or-map-range_with_len, length-map-range_with_len}
 use Rattle.std.proofs.lemmas.List.FromFn.{take-map-range_with_len}
 use Rattle.std.specs.Int.{bit_at}
@@ -20,14 +19,8 @@ use Rattle.lr_trellis.specs.Path.{path_levels}
 use Rattle.lr_make.specs.Symbols.{bits_of_bytes, level, marked_block}
 use Rattle.lr_make.proofs.Coding.{bits_of_bytes-all, code-front, length-code, length-first_bits, length-symbols}
 use Rattle.lr_sent.specs.Sent.{bits_of_blocks, symbols_of_blocks}
-use Rattle.lr_sent.proofs.Turning.{
-  after_marker,
-  code_turned,
-  length-marker_end,
-  length-marker_levels,
-  marker_end_turned,
-}
-use Rattle.lr_sent.proofs.Turning.{tail_turned, turned, turned-append}
+use Rattle.lr_sent.proofs.Turning.{after_marker, code_turned, length-marker_end, length-marker_levels}
+use Rattle.lr_sent.proofs.Turning.{marker_end_turned, tail_turned, turned, turned-append}
 
 -- ---- a code in two parts
 

@@ -4,11 +4,11 @@ use Rattle.std.specs.List.{range_with_len, sum_by}
 use Rattle.lr_bits.specs.declared.outcome.Outcome.{Outcome}
 use Rattle.lr_bits.specs.declared.outcome.Outcome.TheVariants.{Restored}
 use Rattle.lr_bits.specs.File.{File, bytes_of}
-use Rattle.lr_layers.specs.Layers.{files_of_outcomes}
 use Rattle.lr_bits.specs.Bits.{field_of}
 use Rattle.lr_bits.specs.declared.sizes.TheConstants.{FILL_CHANNEL}
 use Rattle.lr_conv.specs.declared.line.TheConstants.{STANDARD}
 use Rattle.lr_frame.specs.Outcomes.{outcomes_of_symbols}
+use Rattle.lr_layers.specs.Layers.{files_of_outcomes}
 use Rattle.lr_make.specs.Blocks.{block_at}
 use Rattle.lr_make.specs.Frames.{frame_at}
 use Rattle.lr_make.specs.Received.{IsReceivedAs}
