@@ -425,7 +425,7 @@ module _ (start : ℕ) where
         carrying_few n,
       )
 
--- some first outcomes are those of so many frames
+-- some first outcomes are those of the first frames
 front_made : (start wrong n : ℕ) (front later : List Outcome) → made_outcomes start wrong n ≡ front ++ later →
     (length front ≤ n) × (front ≡ made_outcomes start wrong (length front))
 front_made start wrong n front later split =
