@@ -1,23 +1,8 @@
 -- Each packet that comes of frames which carry packets is one of these.
 use Rattle.std.proofs.Common.{◌≡◌, ℕ, zero, suc, ◌+◌, ◌-◌, ◌*◌, ◌/◌, ◌<◌, ◌≤◌, Bool, true, false, cond, List, [], ◌∷◌}
-use Rattle.std.proofs.Common.{
-  ◌++◌,
-  map,
-  length,
-  take,
-  drop,
-  filter,
-  flat_map,
-  get_or,
-  refl,
-  sym,
-  ap,
-  ◌∙◌,
-  subst,
-  ⊎_elim,
-  arith,
-}
-use Rattle.std.proofs.Common.{append_assoc, append-nil, length-append, length-drop, drop_at, add-zero, ltb, eqb, eq-eqb, ltb-true, Contains}
+use Rattle.std.proofs.Common.{◌++◌, map, length, take, drop, filter, flat_map, get_or, refl, sym, ap, ◌∙◌, subst}
+use Rattle.std.proofs.Common.{⊎_elim, arith, append_assoc, append-nil, length-append, length-drop, drop_at, add-zero}
+use Rattle.std.proofs.Common.{ltb, eqb, eq-eqb, ltb-true, Contains}
 use Rattle.std.specs.Prelude.{All}
 use Rattle.std.specs.List.{AllByRecursion as Each, concat, enumerate_from, list_all, range_with_len}
 use Rattle.std.proofs.lemmas.Bool.{and_parts, cases_eq, cond_both, false≢true}
@@ -27,28 +12,13 @@ use Rattle.lr_bits.specs.Packet.{Packet, length_field_at}
 use Rattle.lr_vc.specs.Frame.{Fields}
 use Rattle.lr_vc.specs.Runs.{Run, next_counter, channel_frames, put_before, runs_of}
 use Rattle.lr_vc.specs.Packets.{zones_of, pointer_of, packet_end, has_header, is_whole, starts_from, starts_in_zone}
-use Rattle.lr_vc.specs.Packets.{
-  starts_of,
-  zones_after,
-  agrees,
-  is_delivered,
-  packet_at,
-  ends_in,
-  place_of,
-  packets_ending,
-  packets_in,
-  packets_of,
-}
+use Rattle.lr_vc.specs.Packets.{starts_of, zones_after, agrees, is_delivered, packet_at, ends_in, place_of}
+use Rattle.lr_vc.specs.Packets.{packets_ending, packets_in, packets_of}
 use Rattle.lr_vc.proofs.Lists.{Each-map, Each-flat_map, Each_any, Each_weaker, Each-range}
-use Rattle.lr_vc.proofs.Starts.{length_field-append, length_field-behind, packet_end_is, has_header_true, is_whole_true}
-use Rattle.lr_sent.specs.Carried.{
-  TellsItsLength,
-  IsEdge,
-  frames_of_channel,
-  AreCountedOn,
-  CarryPackets,
-  PacketsWereSent,
-}
+use Rattle.lr_vc.proofs.Starts.{length_field-append, length_field-behind, packet_end_is, has_header_true}
+use Rattle.lr_vc.proofs.Starts.{is_whole_true}
+use Rattle.lr_sent.specs.Carried.{TellsItsLength, IsEdge, frames_of_channel, AreCountedOn, CarryPackets}
+use Rattle.lr_sent.specs.Carried.{PacketsWereSent}
 
 -- ---- lists
 
@@ -56,7 +26,7 @@ pub concat-append : (xs ys : List (List ℕ)) → concat (xs ++ ys) ≡ concat x
 concat-append [] ys = refl
 concat-append (x ∷ xs) ys = ap (λ zs. x ++ zs) (concat-append xs ys) ∙ sym (append_assoc x (concat xs) (concat ys))
 
-All_right : {X : Type 0} (P : X → Type 0) (xs ys : List X) → All P (xs ++ ys) → All P ys
+pub All_right : {X : Type 0} (P : X → Type 0) (xs ys : List X) → All P (xs ++ ys) → All P ys
 All_right P [] ys h = h
 All_right P (x ∷ xs) ys h = All_right P xs ys (All-tail P x (xs ++ ys) h)
 
@@ -212,7 +182,8 @@ module _ (packets : List (List ℕ)) (tell : All TellsItsLength packets) (run : 
     unfolding starts_in_zone
     edges_in_zone zone inside =
         cond_both (ltb (pointer_of run zone) 884) _ _ (Each (IsEdge packets))
-        (λ e. edges_from packets tell (zones_of run) later bytes (884 * zone + 884) 884 (884 * zone + pointer_of run zone)
+        (λ e. edges_from packets tell (zones_of run) later bytes (884 * zone + 884) 884
+        (884 * zone + pointer_of run zone)
         (pointers zone inside (ltb-true (pointer_of run zone) 884 e)))
         (λ _. tt)
 
@@ -231,7 +202,8 @@ module _ (packets : List (List ℕ)) (tell : All TellsItsLength packets) (run : 
         (and_parts (is_whole (zones_of run) s)
         (list_all (agrees run (packet_end (zones_of run) s)) (zones_after run s)) delivered.0).0
 
-    run_packets : (channel place : ℕ) → Each (λ packet. Contains packets packet.bytes) (packets_ending channel place run)
+    run_packets : (channel place : ℕ)
+        → Each (λ packet. Contains packets packet.bytes) (packets_ending channel place run)
     unfolding packets_ending
     run_packets channel place =
         let Sent : Packet → Type 0 = λ packet. Contains packets packet.bytes in
@@ -239,7 +211,8 @@ module _ (packets : List (List ℕ)) (tell : All TellsItsLength packets) (run : 
         Each-map Sent (packet_at channel (zones_of run)) (filter (ends_in run place) (starts_of run))
         (Each_weaker Ends (λ s. Sent (packet_at channel (zones_of run) s))
         (λ s h. packet_there packets tell (zones_of run) later bytes channel s h.0 (ends_whole place s h.1))
-        (filter (ends_in run place) (starts_of run)) (passed (IsEdge packets) (ends_in run place) (starts_of run) edges))
+        (filter (ends_in run place) (starts_of run))
+        (passed (IsEdge packets) (ends_in run place) (starts_of run) edges))
 
 -- ---- all packets
 

@@ -1,74 +1,38 @@
 -- The files of the test stream fit its frames.
-use Rattle.std.proofs.Common.{
-  ◌≡◌,
-  ◌⊎◌,
-  ℕ,
-  zero,
-  suc,
-  ◌+◌,
-  ◌-◌,
-  ◌*◌,
-  ◌/◌,
-  ◌%◌,
-  ◌<◌,
-  ◌≤◌,
-  min,
-  Bool,
-  true,
-  false,
-  cond,
-  not,
-  nat_eq,
-  ltb,
-  eqb,
-  eq-eqb,
-  ne_eqb,
-}
-use Rattle.std.proofs.Common.{List, [], ◌∷◌, ◌++◌, inl, inr, refl, sym, ap, ◌∙◌, subst, arith, map, length, take, replicate, ◌||◌}
-use Rattle.std.proofs.Common.{
-  length-take,
-  length-drop,
-  length-append,
-  append-nil,
-  Result,
-  Ok,
-  Err,
-  add-one,
-  zero-add,
-  Contains,
-}
+use Rattle.std.proofs.Common.{◌≡◌, ◌⊎◌, ℕ, zero, suc, ◌+◌, ◌-◌, ◌*◌, ◌/◌, ◌%◌, ◌<◌, ◌≤◌, min, Bool, true, false, cond}
+use Rattle.std.proofs.Common.{not, nat_eq, ltb, eqb, eq-eqb, ne_eqb, List, [], ◌∷◌, ◌++◌, inl, inr, refl, sym, ap}
+use Rattle.std.proofs.Common.{◌∙◌, subst, arith, map, length, take, replicate, ◌||◌, length-take, length-drop}
+use Rattle.std.proofs.Common.{length-append, append-nil, Result, Ok, Err, add-one, zero-add, Contains}
 use Rattle.std.specs.Prelude.{All}
 use Rattle.std.specs.List.{AllByRecursion as Each, sum_by, count_by, cons_option, range_with_len}
 use Rattle.std.specs.Result.{result_ok}
 use Rattle.std.proofs.lemmas.Bool.{cases_eq, cases_lt, cond_both, ltb-false}
 use Rattle.std.proofs.lemmas.List.{take_at, length-replicate}
 use Rattle.std.proofs.lemmas.List.Elements.{All-contains, All-from_recursion, recursion_from_All}
-use Rattle.std.proofs.lemmas.List.FromFn.{
-  take-map-range_with_len,
-  filter_of_map_range_with_len_more,
-  map-range_with_len_more,
-  sum_by-map-range_with_len_more,
-  length-map-range_with_len,
-}
+use Rattle.std.proofs.lemmas.List.FromFn.{take-map-range_with_len, filter_of_map_range_with_len_more}
+use Rattle.std.proofs.lemmas.List.FromFn.{map-range_with_len_more, sum_by-map-range_with_len_more}
+use Rattle.std.proofs.lemmas.List.FromFn.{length-map-range_with_len}
 use Rattle.std.proofs.lemmas.List.Sums.{sum_by-cons, sum_by-le-sum_by}
 use Rattle.lr_bits.specs.declared.outcome.Outcome.{Outcome}
 use Rattle.lr_bits.specs.declared.outcome.Outcome.TheVariants.{Restored}
 use Rattle.lr_bits.specs.Bits.{field_of}
 use Rattle.lr_bits.specs.Crc.{crc_of}
-use Rattle.lr_bits.specs.File.{File, bytes_of}
+use Rattle.lr_bits.specs.File.{File}
 use Rattle.lr_bits.specs.Packet.{Packet}
-use Rattle.lr_packet.specs.declared.packet.PacketFault.{PacketFault}
-use Rattle.lr_packet.specs.declared.packet.PacketFault.TheVariants.{Version, Idle, TooShort, Crc}
-use Rattle.lr_packet.specs.Head.{head_of}
-use Rattle.lr_packet.specs.Verdict.{Good, data_of, body_of, stored_of, good_of, verdict_of, good_packets}
 use Rattle.lr_vc.specs.Frame.{Fields, fields_of, version_of}
 use Rattle.lr_vc.specs.Packets.{packets_of}
 use Rattle.lr_vc.specs.Runs.{AreFrames}
 use Rattle.lr_vc.proofs.Fitting.{packets_fit}
 use Rattle.lr_vc.proofs.Lists.{Each-map, Each_any}
+use Rattle.lr_packet.specs.declared.packet.PacketFault.{PacketFault}
+use Rattle.lr_packet.specs.declared.packet.PacketFault.TheVariants.{Version, Idle, TooShort, Crc}
+use Rattle.lr_packet.specs.Head.{head_of}
+use Rattle.lr_packet.specs.Verdict.{Good, data_of, body_of, stored_of, good_of, verdict_of, good_packets}
 use Rattle.lr_file.specs.Laws.{Weights, file_weight, packet_weight}
 use Rattle.lr_layers.specs.Layers.{frames_of_outcomes, good_of_outcomes, files_of_outcomes}
 use Rattle.lr_layers.proofs.Fitting.{files_fit_the_packets}
+use Rattle.lr_layers.specs.Origins.{placed_of_outcomes}
+use Rattle.lr_layers.proofs.GoingOn.{have_origins}
 use Rattle.lr_make.specs.Files.{image_packet, text_packet}
 use Rattle.lr_make.specs.Frames.{frame_at, frame_of_round, fill_frame, packet_frame, text_start}
 use Rattle.lr_make.specs.Standing.{image_frames, text_frames}
@@ -76,8 +40,6 @@ use Rattle.lr_make.proofs.Heads.{length-image_packet, length-text_packet}
 use Rattle.lr_make.proofs.Rounds.{frame_at-turn, frame_at-images}
 use Rattle.lr_sent.specs.Carried.{TellsItsLength, frames_of_channel, CarryPackets}
 use Rattle.lr_sent.specs.Made.{made_outcomes, room_of, room_for, MadeFilesFit}
-use Rattle.lr_layers.specs.Origins.{placed_of_outcomes}
-use Rattle.lr_layers.proofs.GoingOn.{have_origins}
 use Rattle.lr_sent.proofs.Carrying.{packets_were_sent, packets_by_channels}
 use Rattle.lr_sent.proofs.MadeFrames.{packet_frame_reads, fill_frame_reads}
 use Rattle.lr_sent.proofs.MadePackets.{image_tells, image_long, image_not_alone, text_tells, text_long}
@@ -463,7 +425,7 @@ module _ (start : ℕ) where
         carrying_few n,
       )
 
--- some first outcomes are those of so many frames
+-- some first outcomes are those of the first frames
 front_made : (start wrong n : ℕ) (front later : List Outcome) → made_outcomes start wrong n ≡ front ++ later →
     (length front ≤ n) × (front ≡ made_outcomes start wrong (length front))
 front_made start wrong n front later split =
@@ -499,3 +461,7 @@ placed_fit start wrong n front later split =
     subst (λ (files : List File). room_for files ≤ 884 * (n + 1))
     (sym (have_origins front (subst AreFrames (sym frames) (all_frames start (length front)))))
     (made_files_fit start wrong n front later split)
+
+-- each fourth frame is of the channel of fill
+pub fill_channel : (start k : ℕ) → k % 4 ≡ 3 → field_of (frame_at start k) 10 6 ≡ 63
+fill_channel start k turn = (sent_fill start k turn).channel

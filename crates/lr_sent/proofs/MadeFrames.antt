@@ -1,6 +1,6 @@
 -- The fields of the frames of the test stream.
-use Rattle.std.proofs.Common.{◌≡◌, ℕ, ◌+◌, ◌-◌, ◌*◌, ◌/◌, ◌%◌, ◌^◌, ◌<◌, ◌≤◌, List, [], ◌∷◌, ◌++◌, length, drop, get_or}
-use Rattle.std.proofs.Common.{inl, inr, sym, ap, ◌∙◌, arith, replicate, unwrap_or, Bool}
+use Rattle.std.proofs.Common.{◌≡◌, ℕ, ◌+◌, ◌-◌, ◌*◌, ◌/◌, ◌%◌, ◌^◌, ◌<◌, ◌≤◌, List, [], ◌∷◌, ◌++◌, length, drop}
+use Rattle.std.proofs.Common.{get_or, inl, inr, sym, ap, ◌∙◌, arith, replicate, unwrap_or, Bool}
 use Rattle.lr_bits.specs.Bits.{field_of}
 use Rattle.lr_bits.proofs.BitsLemmas.{field_of-none, field_of-more}
 use Rattle.lr_block.proofs.Searching.{cases_first}

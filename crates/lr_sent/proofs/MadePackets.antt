@@ -1,6 +1,6 @@
 -- The packets of the test stream: what their headers say, and how long they are.
-use Rattle.std.proofs.Common.{◌≡◌, ℕ, zero, suc, ◌+◌, ◌*◌, ◌/◌, ◌%◌, ◌<◌, ◌≤◌, List, ◌++◌, length, get_or}
-use Rattle.std.proofs.Common.{refl, ap, ◌∙◌, arith, length-append, eqb}
+use Rattle.std.proofs.Common.{◌≡◌, ℕ, zero, suc, ◌+◌, ◌*◌, ◌/◌, ◌%◌, ◌<◌, ◌≤◌, List, ◌++◌, length, get_or, refl, ap}
+use Rattle.std.proofs.Common.{◌∙◌, arith, length-append, eqb}
 use Rattle.std.proofs.lemmas.Bool.{cond_both}
 use Rattle.std.specs.Int.{bytes_high_first}
 use Rattle.lr_bits.specs.Bits.{field_of}

@@ -1,30 +1,13 @@
 -- The zones of a channel that sends packets one after another carry them.
-use Rattle.std.proofs.Common.{◌≡◌, ℕ, zero, suc, ◌+◌, ◌-◌, ◌*◌, ◌<◌, ◌≤◌, Bool, true, List, [], ◌∷◌, ◌++◌}
-use Rattle.std.proofs.Common.{
-  inl,
-  inr,
-  refl,
-  sym,
-  ap,
-  ap₂,
-  ◌∙◌,
-  subst,
-  arith,
-  map,
-  length,
-  take,
-  drop,
-  get_or,
-  unwrap_or,
-  eqb,
-  eqb-true,
-}
-use Rattle.std.proofs.Common.{append-nil, add-one, zero-add, length-drop, length-take-le}
+use Rattle.std.proofs.Common.{◌≡◌, ℕ, zero, suc, ◌+◌, ◌-◌, ◌*◌, ◌<◌, ◌≤◌, Bool, true, List, [], ◌∷◌, ◌++◌, inl, inr}
+use Rattle.std.proofs.Common.{refl, sym, ap, ap₂, ◌∙◌, subst, arith, map, length, take, drop, get_or, unwrap_or, eqb}
+use Rattle.std.proofs.Common.{eqb-true, append-nil, add-one, zero-add, length-drop, length-take-le}
 use Rattle.std.specs.List.{concat, list_any, range_with_len}
 use Rattle.std.proofs.Math.Seq.{take-add}
 use Rattle.std.proofs.lemmas.Bool.{cases_Bool}
 use Rattle.std.proofs.lemmas.List.{map-append, take-append-drop, drop-append-le, take-append-le}
-use Rattle.std.proofs.lemmas.List.FromFn.{map-range_with_len_more, get_or-map-range_with_len, length-map-range_with_len}
+use Rattle.std.proofs.lemmas.List.FromFn.{map-range_with_len_more, get_or-map-range_with_len}
+use Rattle.std.proofs.lemmas.List.FromFn.{length-map-range_with_len}
 use Rattle.lr_block.proofs.Searching.{cases_first}
 use Rattle.lr_vc.specs.Frame.{Fields, fields_of}
 use Rattle.lr_make.specs.Frames.{packet_frame}
