@@ -1,8 +1,14 @@
 -- What is true of all causes.
 use Rattle.std.specs.Prelude.{◌≡◌}
 use Rattle.lr_commands.specs.declared.cause.Party.{Party}
-use Rattle.lr_commands.specs.declared.cause.Refusal.TheVariants.{NotAShelf, NoSuchFile, Capacity, NotEmpty, BadChecksum,
-    Discarded}
+use Rattle.lr_commands.specs.declared.cause.Refusal.TheVariants.{
+  NotAShelf,
+  NoSuchFile,
+  Capacity,
+  NotEmpty,
+  BadChecksum,
+  Discarded,
+}
 use Rattle.lr_commands.specs.declared.cause.Cause.{Cause}
 use Rattle.lr_commands.specs.declared.cause.Cause.TheVariants.{Done, Usage, Failed, NoMemory, Refused}
 use Rattle.lr_commands.specs.Causes.{status_of}
