@@ -1,1 +1,5 @@
+pub mod Answering
+pub mod Loading
 mod Statuses
+pub mod Taking
+pub mod Texts

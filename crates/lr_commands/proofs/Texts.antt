@@ -23,10 +23,11 @@ pub on_err : {T E : Type 0} {P Q : E → Type 0} (r : Result T E) → ((e : E) �
 on_err (Ok v) f p = tt
 on_err (Err e) f p = f e p
 
-pub on_errs : {T E : Type 0} {P Q R : E → Type 0} (r : Result T E) → ((e : E) → P e → Q e → R e) → IfErr r P
-    → IfErr r Q → IfErr r R
-on_errs (Ok v) f p q = tt
-on_errs (Err e) f p q = f e p q
+-- a refusal that comes only where A doesn't hold
+pub on_sure : {T E A : Type 0} {P Q : E → Type 0} (r : Result T E) → ((e : E) → P e → (A → ⊥) → Q e) → IfErr r P
+    → (A → IfErr r (λ _. ⊥)) → IfErr r Q
+on_sure (Ok v) f p sure = tt
+on_sure (Err e) f p sure = f e p sure
 
 module _ {D O : Type 0} (disk : DiskOf D) (out : SinkOf O) where
   pub same_counts : (d d1 : D) (o o1 : O) → disk.faults d1 ≡ disk.faults d → out.faults o1 ≡ out.faults o

@@ -98,10 +98,18 @@ pub record BegunOn (asked : Asked) (bytes : List ℕ) (way : Way) (passed left :
   pub texts :
       AnswersFrom (without_last asked) bytes way passed range.from [] (record { text = text; refusal = None })
 
+-- nothing yet
+abbrev pub IsNothing : ℕ → List ℕ → Type 0
+IsNothing passed text = (passed ≡ 0) × (text ≡ [])
+
+-- nothing yet, or those of this way
+abbrev pub BegunBy : Asked → List ℕ → Way → (passed left : ℕ) → List ℕ → Type 0
+BegunBy asked bytes way passed left text = IsNothing passed text ⊎ BegunOn asked bytes way passed left text
+
 -- nothing yet, or those of the way that the bytes have
 abbrev pub IsBegun : Asked → List ℕ → (passed left : ℕ) → List ℕ → Type 0
 IsBegun asked bytes passed left text =
-    ((passed ≡ 0) × (text ≡ [])) ⊎ ((way : Way) × IsWay bytes way × BegunOn asked bytes way passed left text)
+    IsNothing passed text ⊎ ((way : Way) × IsWay bytes way × BegunOn asked bytes way passed left text)
 
 -- ---- commands of one entry
 

@@ -10,7 +10,7 @@ use Rattle.lr_commands.specs.declared.cause.Refusal.{Refusal}
 use Rattle.lr_commands.specs.declared.cause.Cause.{Cause}
 use Rattle.lr_commands.specs.declared.cause.Cause.TheVariants.{Done, Failed, NoMemory, Refused}
 use Rattle.lr_shelf_format.specs.Way.{Way}
-use Rattle.lr_commands.specs.Asked.{Asked, Answer, AnswersOn, BegunOn, IsAnswer, IsBegun, PutsOneText}
+use Rattle.lr_commands.specs.Asked.{Asked, Answer, AnswersOn, BegunBy, IsAnswer, IsBegun, PutsOneText}
 use Rattle.lr_commands.specs.Causes.{Counts}
 
 -- the causes that such a command may have, over any disk
@@ -111,7 +111,7 @@ module _ {D O : Type 0} (disk : DiskOf D) (out : SinkOf O) where
 
   -- a run over the entries of a shelf of this way
   abbrev pub RunsOn : Asked → Way → Cause → D → D → O → O → Type 0
-  RunsOn asked way = Runs asked (λ bytes. AnswersOn asked bytes way) (λ bytes. BegunOn asked bytes way)
+  RunsOn asked way = Runs asked (λ bytes. AnswersOn asked bytes way) (λ bytes. BegunBy asked bytes way)
 
   -- a whole run
   pub record RunsOver (asked : Asked) (cause : Cause) (d d' : D) (o o' : O) : Type 0 where
