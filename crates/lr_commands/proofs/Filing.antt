@@ -3,6 +3,8 @@ use Rattle.std.proofs.Common.{
   ◌≡◌,
   ◌<◌,
   ℕ,
+  true,
+  false,
   Option,
   Some,
   None,
@@ -63,16 +65,85 @@ files_of-gone (Bad s c ∷ read) = files_of-gone read
 files_of-gone (Gone ∷ read) = files_of-gone read
 
 module _ {D O : Type 0} (disk : DiskOf D) (out : SinkOf O) where
-  -- a shelf's call failed, and `out` was left alone
-  pub shelf_counted : {A : Type 0} (d d' : D) (o : O) (error : ShelfError)
+  -- a call on a shelf that works was refused, and `out` was left alone
+  pub shelf_counted : (A : Type 0) (d d' : D) (o : O) (error : ShelfError) → (error ≡ Failed' → ⊥)
       → IsCounted {A = A} (disk.faults d) (disk.faults d') (Err error)
       → Counted (cause_of error) (counts_of disk out d o) (counts_of disk out d' o)
-  shelf_counted d d' o Disk' counted = (counted.1, refl, refl)
-  shelf_counted d d' o (NotAShelf' at) counted = same_counts disk out d d' o o counted refl
-  shelf_counted d d' o (NotEmpty' size) counted = same_counts disk out d d' o o counted refl
-  shelf_counted d d' o (Capacity' needed most) counted = same_counts disk out d d' o o counted refl
-  shelf_counted d d' o (NoSuchFile' count) counted = same_counts disk out d d' o o counted refl
-  shelf_counted d d' o (Crc' stored computed) counted = same_counts disk out d d' o o counted refl
-  shelf_counted d d' o NoMemory' counted = same_counts disk out d d' o o counted refl
-  shelf_counted d d' o Failed' counted = ?
-  shelf_counted d d' o Discarded' counted = same_counts disk out d d' o o counted refl
+  shelf_counted A d d' o Disk' works counted = (counted.1, refl, refl)
+  shelf_counted A d d' o (NotAShelf' at) works counted = same_counts disk out d d' o o counted refl
+  shelf_counted A d d' o (NotEmpty' size) works counted = same_counts disk out d d' o o counted refl
+  shelf_counted A d d' o (Capacity' needed most) works counted = same_counts disk out d d' o o counted refl
+  shelf_counted A d d' o (NoSuchFile' count) works counted = same_counts disk out d d' o o counted refl
+  shelf_counted A d d' o (Crc' stored computed) works counted = same_counts disk out d d' o o counted refl
+  shelf_counted A d d' o NoMemory' works counted = same_counts disk out d d' o o counted refl
+  shelf_counted A d d' o Failed' works counted = absurd (works refl)
+  shelf_counted A d d' o Discarded' works counted = same_counts disk out d d' o o counted refl
+
+module _ {D O : Type 0} (disk : DiskOf D) (out : SinkOf O) (kept : Kept) (number : ℕ) (d : D)
+    (works : kept.failed ≡ false) (there : number < length kept.way.entries) where
+  pub not_failed : (error : ShelfError) → IsGetRefusal disk kept number d error → error ≡ Failed' → ⊥
+  not_failed error refusal is = failed_or_not (subst (IsGetRefusal disk kept number d) is refusal) where
+    failed_or_not : kept.failed ≡ true → ⊥
+    failed_or_not failed = cc (works, failed)
+
+  -- what is refused at an entry by every command, or else by what was found there
+  pub get_stops : (asked : Asked) (read : List Found) (o : O) (error : ShelfError)
+      → ((stored computed : ℕ) → error ≡ Crc' stored computed
+      → asked.becomes read number (Bad stored computed) ≡ Err BadChecksum)
+      → (error ≡ Discarded' → ⊥) → IsGetRefusal disk kept number d error
+      → EntryStops disk out asked kept.way read number (cause_of error) d o o
+  get_stops asked read o Disk' bad stays refusal = refl
+  get_stops asked read o (NotAShelf' at) bad stays refusal = record {
+    found = None;
+    stands = refusal.1.1;
+    stops = (ap (λ (n : ℕ). Err (NotAShelf n)) (sym refusal.1.0), refl);
+  }
+  get_stops asked read o (NotEmpty' size) bad stays refusal = absurd refusal.1
+  get_stops asked read o (Capacity' needed most) bad stays refusal = absurd refusal.1
+  get_stops asked read o (NoSuchFile' count) bad stays refusal =
+      absurd (omega (arith, there, refusal.1, refusal.2))
+  get_stops asked read o (Crc' stored computed) bad stays refusal = record {
+    found = Some (Bad stored computed);
+    stands = refusal.1.1;
+    stops = (bad stored computed refl, refl);
+  }
+  get_stops asked read o NoMemory' bad stays refusal = refl
+  get_stops asked read o Failed' bad stays refusal = absurd (not_failed Failed' refusal refl)
+  get_stops asked read o Discarded' bad stays refusal = absurd (stays refl)
+
+  -- one that is gone
+  pub found_gone : IsGetRefusal disk kept number d Discarded' → Finds disk (entry_of kept number) d (Some Gone)
+  found_gone refusal t = refusal.2
+
+  module _ (asked : AskedOfFiles) (read : List Found) (o o' : O) where
+    module _ (stored : Stored) (finds : Finds disk (entry_of kept number) d (Some (Sound stored))) where
+      pub takes_file : (gathers : List Stored → Type 0)
+          → PutsText out (asked.becomes (files_of read) number stored) o o'
+          → gathers (files_of read ++ stored ∷ [])
+          → TakesEntry disk out (asked_of_files asked) kept.way read number (λ read'. gathers (files_of read')) d o o'
+      takes_file gathers puts gathered = record {
+        found = Sound stored;
+        stands = finds;
+        puts = puts;
+        gathered = subst gathers (sym (files_of-sound read stored)) gathered;
+      }
+
+      pub stops_file : (cause : Cause) → TextStops out (asked.becomes (files_of read) number stored) cause o o'
+          → EntryStops disk out (asked_of_files asked) kept.way read number cause d o o'
+      stops_file = stops_found disk out (asked_of_files asked) kept.way read number d o o' (Some (Sound stored)) finds
+
+    module _ (gone : IsGetRefusal disk kept number d Discarded') where
+      pub takes_gone : (gathers : List Stored → Type 0) → PutsText out (asked.gone number) o o'
+          → gathers (files_of read)
+          → TakesEntry disk out (asked_of_files asked) kept.way read number (λ read'. gathers (files_of read')) d o o'
+      takes_gone gathers puts gathered = record {
+        found = Gone;
+        stands = found_gone gone;
+        puts = puts;
+        gathered = subst gathers (sym (files_of-gone read)) gathered;
+      }
+
+      pub stops_gone : (cause : Cause) → TextStops out (asked.gone number) cause o o'
+          → EntryStops disk out (asked_of_files asked) kept.way read number cause d o o'
+      stops_gone =
+          stops_found disk out (asked_of_files asked) kept.way read number d o o' (Some Gone) (found_gone gone)

@@ -1,4 +1,5 @@
 pub mod Answering
+pub mod Filing
 pub mod Loading
 mod Statuses
 pub mod Taking

@@ -104,8 +104,10 @@ impl<C: ReadsFiles> ReadsEntries for Files<C> {
     ) -> Result<(), Cause> {
         match shelf.get(disk, number) {
             Ok(stored) => self.0.file(alloc, number, &stored, gathered, out),
-            Err(ShelfError::Discarded) => self.0.gone(alloc, number, out),
-            Err(error) => Err(Cause::from(error)),
+            Err(error) => match error {
+                ShelfError::Discarded => self.0.gone(alloc, number, out),
+                refused => Err(Cause::from(refused)),
+            },
         }
     }
 

@@ -76,12 +76,14 @@ impl ReadsEntries for VerifyAll {
     ) -> Result<(), Cause> {
         match shelf.check(disk, number) {
             Ok(()) => put_check(alloc, number, None, out),
-            Err(ShelfError::Crc { stored, computed }) => {
-                *sound = false;
-                put_check(alloc, number, Some((stored, computed)), out)
-            }
-            Err(ShelfError::Discarded) => put_gone(alloc, number, out),
-            Err(error) => Err(Cause::from(error)),
+            Err(error) => match error {
+                ShelfError::Crc { stored, computed } => {
+                    *sound = false;
+                    put_check(alloc, number, Some((stored, computed)), out)
+                }
+                ShelfError::Discarded => put_gone(alloc, number, out),
+                refused => Err(Cause::from(refused)),
+            },
         }
     }
 
