@@ -29,7 +29,7 @@ module _ {D : Type 0} (disk : DiskOf D) (entry : Entry) (d : D) where
 
   -- a file does
   abbrev pub FindsFile : Type 0
-  FindsFile = disk.tells d → (stored : Stored) × IsFound (disk.contents d) entry (Some (Sound stored))
+  FindsFile = (stored : Stored) × Finds (Some (Sound stored))
 
   -- a record with the right checksum does
   abbrev pub FindsSound : Type 0
