@@ -30,7 +30,7 @@ use Rattle.std.proofs.Common.{
   append-nil,
   append_assoc,
 }
-use Rattle.lr_shelf_format.specs.Way.{Way, IsWay, Found, IsFound}
+use Rattle.lr_shelf_format.specs.Way.{Way, Found, IsFound}
 use Rattle.lr_shelf_format.proofs.WayLemmas.{found_once, has_one_way}
 use Rattle.lr_commands.specs.declared.cause.Refusal.{Refusal}
 use Rattle.lr_commands.specs.declared.cause.Refusal.TheVariants.{NotAShelf}

@@ -36,7 +36,7 @@ use Rattle.lr_disk.specs.declared.disk.Disk.{Ghosts as DiskOf}
 use Rattle.lr_disk.proofs.Moments.{joined, unwritten_yet, weaker}
 use Rattle.lr_shelf_format.specs.Items.{Item, discard_item}
 use Rattle.lr_shelf_format.specs.Reading.{StandsFor}
-use Rattle.lr_shelf_format.specs.Way.{Way, IsWay, IsNoShelfAt, way_with}
+use Rattle.lr_shelf_format.specs.Way.{Way, IsWay, IsNoShelfAt}
 use Rattle.lr_shelf_format.proofs.WayLemmas.{has_one_way}
 use Rattle.lr_shelf.specs.Calls.{IsCounted}
 use Rattle.lr_shelf.specs.Discards.{Discards, IsDiscardRefusal as IsShelfRefusal}
@@ -71,21 +71,7 @@ use Rattle.lr_commands.specs.declared.cause.Cause.{Cause}
 use Rattle.lr_commands.specs.declared.cause.Cause.TheVariants.{Done, Usage, Failed, NoMemory, Refused}
 use Rattle.lr_commands.specs.Asked.{entry_at}
 use Rattle.lr_commands.specs.Causes.{Counts, cause_of}
-use Rattle.lr_commands.specs.Discard.{
-  MayGo,
-  IsRefusedOn,
-  IsDiscardRefusal,
-  IsFree,
-  IsEarlier,
-  IsDiscarded,
-  WritesNothing,
-  GotLine,
-  StandsEither,
-  Leaves,
-  LeavesWay,
-  RunsDiscard,
-  way_after,
-}
+use Rattle.lr_commands.specs.Discard.{IsRefusedOn, IsDiscardRefusal, IsFree, IsEarlier, IsDiscarded, WritesNothing, GotLine, Leaves, LeavesWay, RunsDiscard, way_after}
 use Rattle.lr_commands.specs.Puts.{Puts, PutFails}
 use Rattle.lr_commands.specs.Runs.{Counted, CutsNothing, MayCause, counts_of}
 use Rattle.lr_commands.proofs.Filing.{shelf_counted}
@@ -381,18 +367,18 @@ module _ {D O : Type 0} (disk : DiskOf D) (out : SinkOf O) (number : ℕ) where
             (λ way t is_way free.
             absurd (not_free number there refusal refused
             (subst (IsFree number) ((has_one_way (disk.contents d)).way way there is_way (way_is t)) free))) where
-          untouched : (error ≡ Disk') ⊎ ((d2 ≡ d1) × (kept_by shelf2 ≡ kept_by shelf))
-          untouched =
-              subst
-              (λ (r : Result (Unit {0}) ShelfError). IfErr r
-              (λ e. (e ≡ Disk') ⊎ ((d2 ≡ d1) × (kept_by shelf2 ≡ kept_by shelf)))) same discards.adds.untouched
+              untouched : (error ≡ Disk') ⊎ ((d2 ≡ d1) × (kept_by shelf2 ≡ kept_by shelf))
+              untouched =
+                  subst
+                  (λ (r : Result (Unit {0}) ShelfError). IfErr r
+                  (λ e. (e ≡ Disk') ⊎ ((d2 ≡ d1) × (kept_by shelf2 ≡ kept_by shelf)))) same discards.adds.untouched
 
-          stays_by : (error ≡ Disk') ⊎ ((d2 ≡ d1) × (kept_by shelf2 ≡ kept_by shelf)) → d2 ≡ d1
-          stays_by (inl disk_failed) = absurd (not_disk disk_failed)
-          stays_by (inr stay) = stay.0
+              stays_by : (error ≡ Disk') ⊎ ((d2 ≡ d1) × (kept_by shelf2 ≡ kept_by shelf)) → d2 ≡ d1
+              stays_by (inl disk_failed) = absurd (not_disk disk_failed)
+              stays_by (inr stay) = stay.0
 
-          stays : d2 ≡ d1
-          stays = stays_by untouched
+              stays : d2 ≡ d1
+              stays = stays_by untouched
 
         -- the disk failed: with the Discard or without it
         disk_failed : answer ≡ Err Disk' → RunsDiscard disk out number (Failed Disk) d d2 o o
@@ -456,7 +442,7 @@ module _ {D O : Type 0} (disk : DiskOf D) (out : SinkOf O) (number : ℕ) where
           fits_there : (way_after number there).end ≤ there.capacity
           fits_there = elim (cases_lt there.capacity (way_after number there).end) [
             | inl over ↦ absurd (no_error _ (discards.full
-            (record { working = works; there = is_there; stays = stays_there }) over))
+                (record { working = works; there = is_there; stays = stays_there }) over))
             | inr fits ↦ fits
           ]
 

@@ -1,29 +1,8 @@
 -- What `get` and `check` answer, as what stands at an entry.
-use Rattle.std.proofs.Common.{
-  ◌≡◌,
-  ◌<◌,
-  ℕ,
-  true,
-  false,
-  Option,
-  Some,
-  None,
-  Ok,
-  Err,
-  List,
-  [],
-  ◌∷◌,
-  ◌++◌,
-  length,
-  refl,
-  arith,
-  ap,
-  sym,
-  subst,
-}
+use Rattle.std.proofs.Common.{◌≡◌, ◌<◌, ℕ, true, false, Some, None, Err, List, [], ◌∷◌, ◌++◌, length, refl, arith, ap, sym, subst}
 use Rattle.lr_io.specs.declared.sink.Sink.{Ghosts as SinkOf}
 use Rattle.lr_disk.specs.declared.disk.Disk.{Ghosts as DiskOf}
-use Rattle.lr_shelf_format.specs.Way.{Found, Sound, Bad, Gone, IsFound}
+use Rattle.lr_shelf_format.specs.Way.{Found, Sound, Bad, Gone}
 use Rattle.lr_shelf_format.specs.declared.stored.Stored.{Stored}
 use Rattle.lr_shelf.specs.Asked.{entry_of}
 use Rattle.lr_shelf.specs.Calls.{IsCounted}
@@ -41,10 +20,9 @@ use Rattle.lr_shelf.specs.declared.error.ShelfError.TheVariants.{
   Failed as Failed',
   Discarded as Discarded',
 }
-use Rattle.lr_commands.specs.declared.cause.Refusal.{Refusal}
 use Rattle.lr_commands.specs.declared.cause.Refusal.TheVariants.{NotAShelf, BadChecksum}
 use Rattle.lr_commands.specs.declared.cause.Cause.{Cause}
-use Rattle.lr_commands.specs.Asked.{Asked, fate_of}
+use Rattle.lr_commands.specs.Asked.{Asked}
 use Rattle.lr_commands.specs.Causes.{cause_of}
 use Rattle.lr_commands.specs.Files.{AskedOfFiles, asked_of_files, files_of}
 use Rattle.lr_commands.specs.Runs.{Counted, counts_of}

@@ -1,33 +1,5 @@
 -- What a run does, by what loading the shelf answered.
-use Rattle.std.proofs.Common.{
-  ◌≡◌,
-  ◌⊎◌,
-  ◌+◌,
-  ◌<◌,
-  inl,
-  inr,
-  ℕ,
-  Option,
-  Some,
-  None,
-  Result,
-  Ok,
-  Err,
-  IfOk,
-  OnOk,
-  List,
-  [],
-  ◌++◌,
-  length,
-  refl,
-  arith,
-  ap,
-  ◌∙◌,
-  sym,
-  subst,
-  append-nil,
-  length-append,
-}
+use Rattle.std.proofs.Common.{◌≡◌, ◌⊎◌, ◌+◌, ◌<◌, inl, inr, ℕ, Some, None, Result, Ok, Err, IfOk, List, [], ◌++◌, length, refl, arith, ap, ◌∙◌, sym, subst, append-nil, length-append}
 use Rattle.lr_io.specs.declared.sink.Sink.{Ghosts as SinkOf}
 use Rattle.lr_disk.specs.declared.disk.Disk.{Ghosts as DiskOf}
 use Rattle.lr_disk.proofs.Moments.{unwritten_joined, unwritten_yet}
@@ -50,19 +22,9 @@ use Rattle.lr_shelf.specs.declared.error.ShelfError.TheVariants.{
   Discarded as Discarded',
 }
 use Rattle.lr_commands.specs.declared.cause.Party.TheVariants.{Source, Disk, Output}
-use Rattle.lr_commands.specs.declared.cause.Refusal.{Refusal}
-use Rattle.lr_commands.specs.declared.cause.Refusal.TheVariants.{NotAShelf}
 use Rattle.lr_commands.specs.declared.cause.Cause.{Cause}
 use Rattle.lr_commands.specs.declared.cause.Cause.TheVariants.{Done, Usage, Failed, NoMemory, Refused}
-use Rattle.lr_commands.specs.Asked.{
-  Asked,
-  Answer,
-  ended,
-  AnswersOn,
-  BegunBy,
-  IsAnswer,
-  IsBegun,
-}
+use Rattle.lr_commands.specs.Asked.{Asked, Answer, AnswersOn, BegunBy, IsAnswer, IsBegun}
 use Rattle.lr_commands.specs.Causes.{Counts, cause_of}
 use Rattle.lr_commands.specs.Runs.{
   Counted,

@@ -40,33 +40,10 @@ use Rattle.lr_commands.specs.declared.cause.Refusal.TheVariants.{NoSuchFile}
 use Rattle.lr_commands.specs.declared.cause.Cause.{Cause}
 use Rattle.lr_commands.specs.declared.cause.Cause.TheVariants.{Done, Usage, Failed, NoMemory, Refused}
 use Rattle.lr_commands.specs.declared.range.Range.{Range}
-use Rattle.lr_commands.specs.Asked.{
-  Asked,
-  Answer,
-  entry_at,
-  fate_of,
-  ended,
-  then_rest,
-  AnswersFrom,
-  AnswersIn,
-  AnswersOn,
-  BegunBy,
-  PutsOneText,
-}
+use Rattle.lr_commands.specs.Asked.{Asked, Answer, entry_at, fate_of, ended, then_rest, AnswersFrom, AnswersIn, AnswersOn, BegunBy}
 use Rattle.lr_commands.specs.Causes.{Counts}
 use Rattle.lr_commands.specs.Puts.{Puts}
-use Rattle.lr_commands.specs.Runs.{
-  Counted,
-  CutsNothing,
-  MayCause,
-  PutsAll,
-  PutsFirst,
-  PutsRefused,
-  PutsCut,
-  Got,
-  RunsOn,
-  counts_of,
-}
+use Rattle.lr_commands.specs.Runs.{Counted, PutsAll, PutsFirst, PutsRefused, PutsCut, Got, RunsOn, counts_of}
 use Rattle.lr_commands.specs.Steps.{PutsText, CutsText, TextStops, TakesEntry, EntryStops}
 use Rattle.lr_commands.proofs.Answering.{
   Reaches,

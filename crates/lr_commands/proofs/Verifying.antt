@@ -1,29 +1,12 @@
 -- What `check` answers, as a line of `verify`.
-use Rattle.std.proofs.Common.{
-  ◌≡◌,
-  ◌<◌,
-  ℕ,
-  Bool,
-  false,
-  Some,
-  None,
-  Ok,
-  List,
-  [],
-  ◌∷◌,
-  ◌++◌,
-  length,
-  refl,
-  ◌∙◌,
-  sym,
-}
+use Rattle.std.proofs.Common.{◌≡◌, ℕ, Bool, false, Some, None, Ok, List, [], ◌∷◌, ◌++◌, refl, ◌∙◌, sym}
 use Rattle.lr_io.specs.declared.sink.Sink.{Ghosts as SinkOf}
 use Rattle.lr_disk.specs.declared.disk.Disk.{Ghosts as DiskOf}
-use Rattle.lr_shelf_format.specs.Way.{Found, Sound, Bad, Gone, IsFound}
+use Rattle.lr_shelf_format.specs.Way.{Found, Sound, Bad, Gone}
 use Rattle.lr_shelf_format.specs.declared.stored.Stored.{Stored}
 use Rattle.lr_shelf.specs.Asked.{entry_of}
 use Rattle.lr_shelf.specs.Kept.{Kept}
-use Rattle.lr_shelf.specs.Read.{Finds, FindsFile, IsCheckRefusal, IsGetRefusal}
+use Rattle.lr_shelf.specs.Read.{FindsFile, IsCheckRefusal, IsGetRefusal}
 use Rattle.lr_shelf.specs.declared.error.ShelfError.{ShelfError}
 use Rattle.lr_shelf.specs.declared.error.ShelfError.TheVariants.{
   Disk as Disk',

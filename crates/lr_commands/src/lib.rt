@@ -21,7 +21,10 @@ pub mod verify;
 
 pub use cause::{Cause, Party, Refusal};
 pub use files::{Files, ReadsFiles};
-pub use laws::statuses_have_one_kind;
+pub use laws::{
+    begun_texts_come_first, bytes_have_one_answer, extract_has_reasons, extract_puts_one_text,
+    statuses_have_one_kind, verify_has_reasons,
+};
 pub use line::{Line, line_for};
 pub use put::put_text;
 pub use range::Range;

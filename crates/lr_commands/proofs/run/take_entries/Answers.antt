@@ -1,4 +1,4 @@
-use Rattle.std.proofs.Common.{◌≡◌, ◌∙◌, sym, ap, subst, refl, arith, length, Ok, [], ℕ, List, Result, OnOk, IfErr}
+use Rattle.std.proofs.Common.{◌≡◌, ◌∙◌, sym, ap, subst, refl, arith, length, Ok, [], OnOk, IfErr}
 use Rattle.std.proofs.lemmas.Result.{err_from_is_err_and}
 use Rattle.lr_disk.proofs.Moments.{unwritten_joined, unwritten_yet}
 use Rattle.lr_shelf.specs.Kept.{Kept, kept_by}

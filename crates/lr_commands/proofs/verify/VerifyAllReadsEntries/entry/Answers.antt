@@ -3,7 +3,7 @@ use Rattle.lr_shelf.specs.Kept.{kept_by}
 use Rattle.lr_shelf.specs.Read.{IsCheckRefusal}
 use Rattle.lr_commands.specs.Verify.{verify_asked}
 use Rattle.lr_commands.proofs.Filing.{get_stops, not_failed, shelf_counted}
-use Rattle.lr_commands.proofs.Texts.{on_both, on_ok, on_err}
+use Rattle.lr_commands.proofs.Texts.{on_ok, on_err}
 use Rattle.lr_commands.proofs.Verifying.{
   check_refusal,
   takes_right,
