@@ -71,9 +71,22 @@ use Rattle.lr_commands.specs.declared.cause.Cause.{Cause}
 use Rattle.lr_commands.specs.declared.cause.Cause.TheVariants.{Done, Usage, Failed, NoMemory, Refused}
 use Rattle.lr_commands.specs.Asked.{entry_at}
 use Rattle.lr_commands.specs.Causes.{Counts, cause_of}
-use Rattle.lr_commands.specs.Discard.{IsRefusedOn, IsDiscardRefusal, IsFree, IsEarlier, IsDiscarded, WritesNothing, GotLine, Leaves, LeavesWay, RunsDiscard, way_after}
+use Rattle.lr_commands.specs.Discard.{
+  IsRefusedOn,
+  IsDiscardRefusal,
+  IsFree,
+  IsEarlier,
+  MayEnd,
+  IsDiscarded,
+  WritesNothing,
+  GotLine,
+  Leaves,
+  LeavesWay,
+  RunsDiscard,
+  way_after,
+}
 use Rattle.lr_commands.specs.Puts.{Puts, PutFails}
-use Rattle.lr_commands.specs.Runs.{Counted, CutsNothing, MayCause, counts_of}
+use Rattle.lr_commands.specs.Runs.{Counted, CutsNothing, counts_of}
 use Rattle.lr_commands.proofs.Filing.{shelf_counted}
 use Rattle.lr_commands.proofs.Texts.{same_counts}
 
@@ -165,15 +178,6 @@ on_none number bytes at none Discarded refused = absurd ((has_one_way bytes).non
 -- ---- nothing was written
 
 module _ {D O : Type 0} (disk : DiskOf D) (out : SinkOf O) (number : ℕ) where
-  silent_may : (cause : Cause) → CutsNothing cause → MayCause cause
-  silent_may Done cuts = absurd cuts
-  silent_may Usage cuts = absurd cuts
-  silent_may (Failed Source) cuts = absurd cuts
-  silent_may (Failed Disk) cuts = tt
-  silent_may (Failed Output) cuts = absurd cuts
-  silent_may NoMemory cuts = tt
-  silent_may (Refused refusal) cuts = tt
-
   silent_got : (o : O) (cause : Cause) → CutsNothing cause → GotLine out number cause o o
   silent_got o Done cuts = absurd cuts
   silent_got o Usage cuts = absurd cuts
@@ -232,7 +236,7 @@ module _ {D O : Type 0} (disk : DiskOf D) (out : SinkOf O) (number : ℕ) where
       unwritten.any_moment
 
   module _ (d d' : D) (o : O) (cause : Cause) (cuts : CutsNothing cause) where
-    pub unwritten_run : Counted cause (counts_of disk out d o) (counts_of disk out d' o)
+    pub unwritten_run : MayEnd cause → Counted cause (counts_of disk out d o) (counts_of disk out d' o)
         → (disk.tells d → disk.tells d') → (disk.tells d → IsUnwritten disk d d')
         → ((refusal : Refusal) → cause ≡ Refused refusal → disk.tells d
         → IsDiscardRefusal number (disk.contents d) refusal)
@@ -241,8 +245,8 @@ module _ {D O : Type 0} (disk : DiskOf D) (out : SinkOf O) (number : ℕ) where
         → ((way : Way) → disk.tells d → IsWay (disk.contents d) way → IsFree number way
         → IsDiscarded cause ⊎ IsEarlier cause)
         → RunsDiscard disk out number cause d d' o o
-    unwritten_run counted told unwritten refused refuses discards = record {
-      may = silent_may cause cuts;
+    unwritten_run may counted told unwritten refused refuses discards = record {
+      may = may;
       counted = counted;
       got = silent_got o cause cuts;
       refused = refused;
@@ -264,7 +268,7 @@ module _ {D O : Type 0} (disk : DiskOf D) (out : SinkOf O) (number : ℕ) where
       ((x : D) (c : List ℕ) → disk.tells x → disk.left_since x (disk.moment x) c → disk.may_leave x c)
       → (d : D) (o : O) → RunsDiscard disk out number NoMemory d d o o
   not_begun only_now d o =
-      unwritten_run d d o NoMemory tt refl (λ t. t) (unwritten_yet disk only_now d) (λ r is t. cc (is))
+      unwritten_run d d o NoMemory tt tt refl (λ t. t) (unwritten_yet disk only_now d) (λ r is t. cc (is))
       (λ r t is. inr tt) (λ way t is free. inr tt)
 
   -- ---- loading
@@ -279,10 +283,11 @@ module _ {D O : Type 0} (disk : DiskOf D) (out : SinkOf O) (number : ℕ) where
     pub not_loaded : (error : ShelfError) → result ≡ Err error → IsLoadRefusal disk d error
         → RunsDiscard disk out number (cause_of error) d d1 o o
     not_loaded Disk' is refusal =
-        unwritten_run d d1 o (Failed Disk) tt ((counted_load Disk' is).1, refl, refl) loads.calls.told loads.unwritten
+        unwritten_run d d1 o (Failed Disk) tt tt ((counted_load Disk' is).1, refl, refl) loads.calls.told
+        loads.unwritten
         (λ r same t. cc (same)) (λ r t refused. inr tt) (λ way t there free. inr tt)
     not_loaded (NotAShelf' at) is refusal =
-        unwritten_run d d1 o (Refused (NotAShelf at)) tt
+        unwritten_run d d1 o (Refused (NotAShelf at)) tt tt
         (same_counts disk out d d1 o o (counted_load (NotAShelf' at) is) refl) loads.calls.told loads.unwritten
         (λ r same t.
         subst (IsDiscardRefusal number (disk.contents d)) (refused_is (NotAShelf at) r same) (refusal t))
@@ -293,7 +298,7 @@ module _ {D O : Type 0} (disk : DiskOf D) (out : SinkOf O) (number : ℕ) where
     not_loaded (NoSuchFile' count) is refusal = absurd refusal
     not_loaded (Crc' stored computed) is refusal = absurd refusal
     not_loaded NoMemory' is refusal =
-        unwritten_run d d1 o NoMemory tt (same_counts disk out d d1 o o (counted_load NoMemory' is) refl)
+        unwritten_run d d1 o NoMemory tt tt (same_counts disk out d d1 o o (counted_load NoMemory' is) refl)
         loads.calls.told loads.unwritten (λ r same t. cc (same)) (λ r t refused. inr tt)
         (λ way t there free. inr tt)
     not_loaded Failed' is refusal = absurd refusal
@@ -348,12 +353,12 @@ module _ {D O : Type 0} (disk : DiskOf D) (out : SinkOf O) (number : ℕ) where
             (discards.adds.any_moment capacity items (settled capacity items t durable))
 
         -- the shelf refused, and nothing was written
-        refused_on : (error : ShelfError) (refusal : Refusal) → answer ≡ Err error
+        refused_on : (error : ShelfError) (refusal : Refusal) → MayEnd (Refused refusal) → answer ≡ Err error
             → cause_of error ≡ Refused refusal → (error ≡ Disk' → ⊥)
             → (error ≡ Failed' → ⊥) → IsRefusedOn number there refusal
             → RunsDiscard disk out number (Refused refusal) d d2 o o
-        refused_on error refusal same cause not_disk not_failed refused =
-            unwritten_run d d2 o (Refused refusal) tt
+        refused_on error refusal may same cause not_disk not_failed refused =
+            unwritten_run d d2 o (Refused refusal) tt may
             (subst (λ (c : Cause). Counted c (counts_of disk out d o) (counts_of disk out d2 o)) cause
             (counted_both error same not_failed))
             told_both
@@ -409,16 +414,16 @@ module _ {D O : Type 0} (disk : DiskOf D) (out : SinkOf O) (number : ℕ) where
         not_added (NotAShelf' at) same refusal = absurd refusal
         not_added (NotEmpty' size) same refusal = absurd refusal
         not_added (Capacity' needed most) same refusal =
-            refused_on (Capacity' needed most) (Capacity needed most) same refl (λ is. cc (is)) (λ is. cc (is))
+            refused_on (Capacity' needed most) (Capacity needed most) tt same refl (λ is. cc (is)) (λ is. cc (is))
             (record { there = refusal.0.there; stays = refusal.0.stays }, refusal.1, refusal.2, refusal.3)
         not_added (NoSuchFile' count) same refusal =
-            refused_on (NoSuchFile' count) (NoSuchFile count) same refl (λ is. cc (is)) (λ is. cc (is))
+            refused_on (NoSuchFile' count) (NoSuchFile count) tt same refl (λ is. cc (is)) (λ is. cc (is))
             (omega (arith, refusal.1, refusal.2), refusal.1)
         not_added (Crc' stored computed) same refusal = absurd refusal
         not_added NoMemory' same refusal = absurd refusal
         not_added Failed' same refusal = cc (works, refusal)
         not_added Discarded' same refusal =
-            refused_on Discarded' Discarded same refl (λ is. cc (is)) (λ is. cc (is)) (refusal.1, refusal.2)
+            refused_on Discarded' Discarded tt same refl (λ is. cc (is)) (λ is. cc (is)) (refusal.1, refusal.2)
 
         -- ---- the Discard was added
 
@@ -462,7 +467,7 @@ module _ {D O : Type 0} (disk : DiskOf D) (out : SinkOf O) (number : ℕ) where
               (on_ok (KeepsWay (disk.contents d2) shelf2) (discards.adds.way (loads.calls.told t) (keeps t)))
 
           -- for the causes that come then
-          pub added_run : (o2 : O) (cause : Cause) → MayCause cause → IsDiscarded cause
+          pub added_run : (o2 : O) (cause : Cause) → MayEnd cause → IsDiscarded cause
               → ((refusal : Refusal) → cause ≡ Refused refusal → ⊥)
               → Counted cause (counts_of disk out d o) (counts_of disk out d2 o2)
               → GotLine out number cause o o2

@@ -1,5 +1,31 @@
 -- What a run does, by what loading the shelf answered.
-use Rattle.std.proofs.Common.{◌≡◌, ◌⊎◌, ◌+◌, ◌<◌, inl, inr, ℕ, Some, None, Result, Ok, Err, IfOk, List, [], ◌++◌, length, refl, arith, ap, ◌∙◌, sym, subst, append-nil, length-append}
+use Rattle.std.proofs.Common.{
+  ◌≡◌,
+  ◌⊎◌,
+  ◌+◌,
+  ◌<◌,
+  inl,
+  inr,
+  ℕ,
+  Some,
+  None,
+  Result,
+  Ok,
+  Err,
+  IfOk,
+  List,
+  [],
+  ◌++◌,
+  length,
+  refl,
+  arith,
+  ap,
+  ◌∙◌,
+  sym,
+  subst,
+  append-nil,
+  length-append,
+}
 use Rattle.lr_io.specs.declared.sink.Sink.{Ghosts as SinkOf}
 use Rattle.lr_disk.specs.declared.disk.Disk.{Ghosts as DiskOf}
 use Rattle.lr_disk.proofs.Moments.{unwritten_joined, unwritten_yet}
@@ -34,6 +60,7 @@ use Rattle.lr_commands.specs.Runs.{
   Runs,
   RunsOn,
   RunsOver,
+  at_place,
   cause_for,
   counts_of,
 }
@@ -128,7 +155,7 @@ module _ {D O : Type 0} (disk : DiskOf D) (out : SinkOf O) (asked : Asked) where
       untouched = λ one cuts. refl;
     }
     not_loaded (NotAShelf' at) is refusal = record {
-      may = tt;
+      may = at_place at refl;
       counted = same_counts disk out d d1 o o (counted_load (NotAShelf' at) is) refl;
       told = loads.calls.told;
       reads = loads.unwritten;

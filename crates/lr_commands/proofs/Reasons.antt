@@ -1,5 +1,36 @@
 -- Each reason that `extract` and `verify` have for a refusal.
-use Rattle.std.proofs.Common.{◌≡◌, ◌⊎◌, ◌<◌, ◌≤◌, ◌+◌, ◌-◌, inl, inr, ℕ, zero, suc, Bool, true, false, Option, Some, None, Ok, Err, List, [], ◌∷◌, ◌++◌, length, refl, arith, ap, ◌∙◌, sym, subst}
+use Rattle.std.proofs.Common.{
+  ◌≡◌,
+  ◌⊎◌,
+  ◌<◌,
+  ◌≤◌,
+  ◌+◌,
+  ◌-◌,
+  inl,
+  inr,
+  ℕ,
+  zero,
+  suc,
+  Bool,
+  true,
+  false,
+  Option,
+  Some,
+  None,
+  Ok,
+  Err,
+  List,
+  [],
+  ◌∷◌,
+  ◌++◌,
+  length,
+  refl,
+  arith,
+  ap,
+  ◌∙◌,
+  sym,
+  subst,
+}
 use Rattle.std.specs.Prelude.{if◌then◌else◌}
 use Rattle.std.proofs.lemmas.Bool.{cases_lt, lt-ltb, le-ltb}
 use Rattle.std.proofs.lemmas.List.{append-nil}
@@ -155,8 +186,11 @@ module _ (bytes : List ℕ) (way : Way) where
   at_none : (read : List Found) (number : ℕ) (found : Option Found) (refusal : Refusal)
       → fate_of verify_asked way read number found ≡ Err refusal
       → (found ≡ None) × (NotAShelf (entry_at way number).gate ≡ refusal)
-  at_none read number None refusal fate =
-      (refl, err_is (fate_of verify_asked way read number None) (NotAShelf (entry_at way number).gate) refusal refl fate)
+  at_none read number None refusal fate = (
+    refl,
+    err_is (fate_of verify_asked way read number None) (NotAShelf (entry_at way number).gate) refusal
+        refl fate,
+  )
   at_none read number (Some found) refusal fate = cc (fate)
 
   none_from : (left number : ℕ) (read : List Found) (answer : Answer) → From left number read answer → (which : ℕ)

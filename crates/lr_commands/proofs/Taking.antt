@@ -40,10 +40,21 @@ use Rattle.lr_commands.specs.declared.cause.Refusal.TheVariants.{NoSuchFile}
 use Rattle.lr_commands.specs.declared.cause.Cause.{Cause}
 use Rattle.lr_commands.specs.declared.cause.Cause.TheVariants.{Done, Usage, Failed, NoMemory, Refused}
 use Rattle.lr_commands.specs.declared.range.Range.{Range}
-use Rattle.lr_commands.specs.Asked.{Asked, Answer, entry_at, fate_of, ended, then_rest, AnswersFrom, AnswersIn, AnswersOn, BegunBy}
+use Rattle.lr_commands.specs.Asked.{
+  Asked,
+  Answer,
+  entry_at,
+  fate_of,
+  ended,
+  then_rest,
+  AnswersFrom,
+  AnswersIn,
+  AnswersOn,
+  BegunBy,
+}
 use Rattle.lr_commands.specs.Causes.{Counts}
 use Rattle.lr_commands.specs.Puts.{Puts}
-use Rattle.lr_commands.specs.Runs.{Counted, PutsAll, PutsFirst, PutsRefused, PutsCut, Got, RunsOn, counts_of}
+use Rattle.lr_commands.specs.Runs.{Counted, PutsAll, PutsFirst, PutsRefused, PutsCut, Got, RunsOn, by_count, counts_of}
 use Rattle.lr_commands.specs.Steps.{PutsText, CutsText, TextStops, TakesEntry, EntryStops}
 use Rattle.lr_commands.proofs.Answering.{
   Reaches,
@@ -56,7 +67,7 @@ use Rattle.lr_commands.proofs.Answering.{
 use Rattle.lr_commands.proofs.Texts.{
   same_counts,
   text_counted,
-  text_may,
+  last_may,
   entry_may,
   entry_untouched,
 }
@@ -255,7 +266,7 @@ module _ {D O : Type 0} (disk : DiskOf D) (out : SinkOf O) (asked : Asked) (way 
       → (count : ℕ) → count ≡ length way.entries → asked.range count ≡ None
       → RunsOn disk out asked way (Refused (NoSuchFile count)) d d o o
   not_allowed only_now count count_is none = record {
-    may = tt;
+    may = by_count count none refl;
     counted = refl;
     told = λ t. t;
     reads = unwritten_yet disk only_now d;
@@ -320,7 +331,7 @@ module _ {D O : Type 0} (disk : DiskOf D) (out : SinkOf O) (asked : Asked) (way 
         → TextStops out (asked.last way so.read) cause o1 o2 → (asked.last way so.read ≡ Ok [] → ⊥)
         → RunsOn disk out asked way cause d d1 o o2
     last_stopped inside all cause stops some = record {
-      may = text_may disk out (asked.last way so.read) o1 o2 cause stops;
+      may = last_may disk out asked way so.read o1 o2 cause stops;
       counted = subst (λ (c : Counts). Counted cause c (counts_of disk out d1 o2)) same_here
           (text_counted disk out (asked.last way so.read) d1 d1 o1 o2 refl cause stops);
       told = told;

@@ -1,14 +1,16 @@
 -- What a text that was put, or wasn't, says of the counts; and answers that go on.
-use Rattle.std.proofs.Common.{◌≡◌, ℕ, Option, Result, Ok, Err, IfErr, OnOk, List, refl, ap, ◌∙◌}
+use Rattle.std.proofs.Common.{◌≡◌, ℕ, Option, Result, Ok, Err, IfErr, OnOk, List, refl, ap, ◌∙◌, Some, None}
 use Rattle.lr_io.specs.declared.sink.Sink.{Ghosts as SinkOf}
 use Rattle.lr_disk.specs.declared.disk.Disk.{Ghosts as DiskOf}
 use Rattle.lr_shelf_format.specs.Way.{Way, Found, IsFound}
 use Rattle.lr_commands.specs.declared.cause.Party.TheVariants.{Source, Disk, Output}
 use Rattle.lr_commands.specs.declared.cause.Refusal.{Refusal}
+use Rattle.lr_commands.specs.declared.cause.Refusal.TheVariants.{NotAShelf}
 use Rattle.lr_commands.specs.declared.cause.Cause.{Cause}
 use Rattle.lr_commands.specs.declared.cause.Cause.TheVariants.{Done, Usage, Failed, NoMemory, Refused}
 use Rattle.lr_commands.specs.Asked.{Asked, entry_at, fate_of}
-use Rattle.lr_commands.specs.Runs.{Counted, CutsNothing, MayCause, counts_of}
+use Rattle.lr_commands.proofs.Answering.{err_is}
+use Rattle.lr_commands.specs.Runs.{Counted, CutsNothing, MayCause, MayRefuse, at_place, at_entry, at_end, counts_of}
 use Rattle.lr_commands.specs.Steps.{TextStops, EntryStops}
 
 pub on_both : {T E A B C : Type 0} (r : Result T E) → (A → B → C) → OnOk r A → OnOk r B → OnOk r C
@@ -48,25 +50,32 @@ module _ {D O : Type 0} (disk : DiskOf D) (out : SinkOf O) where
     text_counted NoMemory stops = same_counts d d' o o' same (ap out.faults stops)
     text_counted (Refused refusal) stops = same_counts d d' o o' same (ap out.faults stops.1)
 
-  pub text_may : (fate : Result (List ℕ) Refusal) (o o' : O) (cause : Cause) → TextStops out fate cause o o'
-      → MayCause cause
-  text_may fate o o' Done stops = absurd stops
-  text_may fate o o' Usage stops = absurd stops
-  text_may fate o o' (Failed Source) stops = absurd stops
-  text_may fate o o' (Failed Disk) stops = absurd stops
-  text_may fate o o' (Failed Output) stops = tt
-  text_may fate o o' NoMemory stops = tt
-  text_may fate o o' (Refused refusal) stops = tt
+  pub last_may : (asked : Asked) (way : Way) (read : List Found) (o o' : O) (cause : Cause)
+      → TextStops out (asked.last way read) cause o o' → MayCause asked cause
+  last_may asked way read o o' Done stops = absurd stops
+  last_may asked way read o o' Usage stops = absurd stops
+  last_may asked way read o o' (Failed Source) stops = absurd stops
+  last_may asked way read o o' (Failed Disk) stops = absurd stops
+  last_may asked way read o o' (Failed Output) stops = tt
+  last_may asked way read o o' NoMemory stops = tt
+  last_may asked way read o o' (Refused refusal) stops = at_end way read stops.0
 
   module _ (asked : Asked) (way : Way) (read : List Found) (number : ℕ) (d : D) (o o' : O) where
-    pub entry_may : (cause : Cause) → EntryStops disk out asked way read number cause d o o' → MayCause cause
+    entry_refused : (found : Option Found) (refusal : Refusal) → fate_of asked way read number found ≡ Err refusal
+        → MayRefuse asked refusal
+    entry_refused None refusal fate =
+        at_place (entry_at way number).gate
+        (err_is (fate_of asked way read number None) refusal (NotAShelf (entry_at way number).gate) fate refl)
+    entry_refused (Some found) refusal fate = at_entry read number found fate
+
+    pub entry_may : (cause : Cause) → EntryStops disk out asked way read number cause d o o' → MayCause asked cause
     entry_may Done stops = absurd stops.stops
     entry_may Usage stops = absurd stops.stops
     entry_may (Failed Source) stops = absurd stops.stops
     entry_may (Failed Disk) stops = tt
     entry_may (Failed Output) stops = tt
     entry_may NoMemory stops = tt
-    entry_may (Refused refusal) stops = tt
+    entry_may (Refused refusal) stops = entry_refused stops.found refusal stops.stops.0
 
     pub entry_untouched : (cause : Cause) → EntryStops disk out asked way read number cause d o o' → CutsNothing cause
         → o' ≡ o

@@ -16,7 +16,7 @@ use Rattle.lr_commands.specs.declared.cause.Cause.{Cause}
 use Rattle.lr_commands.specs.declared.cause.Cause.TheVariants.{Done, Failed, NoMemory, Refused}
 use Rattle.lr_commands.specs.Asked.{entry_at}
 use Rattle.lr_commands.specs.Puts.{Puts, PutFails}
-use Rattle.lr_commands.specs.Runs.{Counted, MayCause, counts_of}
+use Rattle.lr_commands.specs.Runs.{Counted, counts_of}
 
 -- ---- what it is refused for
 
@@ -47,6 +47,18 @@ IsDiscardRefusal number bytes refusal = (way : Way) × IsWay bytes way × IsRefu
 pub record IsFree (number : ℕ) (way : Way) : Type 0 where
   pub may_go : MayGo number way
   pub fits : (way_after number way).end ≤ way.capacity
+
+-- the causes that it may have, over any disk
+abbrev pub MayEnd : Cause → Type 0
+MayEnd Done = Unit {0}
+MayEnd (Failed Disk) = Unit {0}
+MayEnd (Failed Output) = Unit {0}
+MayEnd NoMemory = Unit {0}
+MayEnd (Refused (NotAShelf at)) = Unit {0}
+MayEnd (Refused (NoSuchFile count)) = Unit {0}
+MayEnd (Refused (Capacity needed capacity)) = Unit {0}
+MayEnd (Refused Discarded) = Unit {0}
+MayEnd _ = ⊥
 
 -- an event that comes before a refusal
 abbrev pub IsEarlier : Cause → Type 0
@@ -100,7 +112,7 @@ module _ {D : Type 0} (disk : DiskOf D) (number : ℕ) where
 
 pub record RunsDiscard {D O : Type 0} (disk : DiskOf D) (out : SinkOf O) (number : ℕ) (cause : Cause) (d d' : D)
     (o o' : O) : Type 0 where
-  pub may : MayCause cause
+  pub may : MayEnd cause
   pub counted : Counted cause (counts_of disk out d o) (counts_of disk out d' o')
   pub got : GotLine out number cause o o'
   -- a refusal comes exactly where it stands, unless the disk failed or memory was refused; the entry is discarded

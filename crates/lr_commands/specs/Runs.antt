@@ -1,5 +1,5 @@
 -- What a command that reads entries does to `out` and to the disk, for each cause.
-use Rattle.std.specs.Prelude.{◌≡◌, ◌⊎◌, ◌<◌, ◌+◌, ℕ, Option, Some, None, List, ◌++◌, length}
+use Rattle.std.specs.Prelude.{◌≡◌, ◌⊎◌, ◌<◌, ◌+◌, ℕ, Option, Some, None, Err, List, ◌++◌, length}
 use Rattle.lr_bits.specs.Faults.{Rose}
 use Rattle.lr_io.specs.declared.sink.Sink.{Ghosts as SinkOf}
 use Rattle.lr_io.specs.Pieces.{PutsPart}
@@ -7,20 +7,30 @@ use Rattle.lr_disk.specs.Reads.{IsUnwritten}
 use Rattle.lr_disk.specs.declared.disk.Disk.{Ghosts as DiskOf}
 use Rattle.lr_commands.specs.declared.cause.Party.TheVariants.{Source, Disk, Output}
 use Rattle.lr_commands.specs.declared.cause.Refusal.{Refusal}
+use Rattle.lr_commands.specs.declared.cause.Refusal.TheVariants.{NotAShelf, NoSuchFile}
 use Rattle.lr_commands.specs.declared.cause.Cause.{Cause}
 use Rattle.lr_commands.specs.declared.cause.Cause.TheVariants.{Done, Failed, NoMemory, Refused}
-use Rattle.lr_shelf_format.specs.Way.{Way}
+use Rattle.lr_shelf_format.specs.Way.{Way, Found}
 use Rattle.lr_commands.specs.Asked.{Asked, Answer, AnswersOn, BegunBy, IsAnswer, IsBegun, PutsOneText}
 use Rattle.lr_commands.specs.Causes.{Counts}
 
--- the causes that such a command may have, over any disk
-abbrev pub MayCause : Cause → Type 0
-MayCause Done = Unit {0}
-MayCause (Failed Disk) = Unit {0}
-MayCause (Failed Output) = Unit {0}
-MayCause NoMemory = Unit {0}
-MayCause (Refused refusal) = Unit {0}
-MayCause _ = ⊥
+-- what a command may be refused for, over any disk: no shelf or no item at a place, a count by which a number isn't
+-- allowed, or what it says of something that was found or of all that was read
+pub data MayRefuse (asked : Asked) (refusal : Refusal) : Type 0 where
+  at_place : (at : ℕ) → refusal ≡ NotAShelf at → MayRefuse asked refusal
+  by_count : (count : ℕ) → asked.range count ≡ None → refusal ≡ NoSuchFile count → MayRefuse asked refusal
+  at_entry : (read : List Found) (number : ℕ) (found : Found) → asked.becomes read number found ≡ Err refusal
+      → MayRefuse asked refusal
+  at_end : (way : Way) (read : List Found) → asked.last way read ≡ Err refusal → MayRefuse asked refusal
+
+-- the causes that it may have, over any disk
+abbrev pub MayCause : Asked → Cause → Type 0
+MayCause asked Done = Unit {0}
+MayCause asked (Failed Disk) = Unit {0}
+MayCause asked (Failed Output) = Unit {0}
+MayCause asked NoMemory = Unit {0}
+MayCause asked (Refused refusal) = MayRefuse asked refusal
+MayCause asked _ = ⊥
 
 -- the count of the party that a cause names rose, and all other counts stay
 abbrev pub Counted : Cause → Counts → Counts → Type 0
@@ -99,7 +109,7 @@ module _ {D O : Type 0} (disk : DiskOf D) (out : SinkOf O) where
   pub record Runs (asked : Asked) (IsOne : List ℕ → Answer → Type 0)
       (IsFirst : List ℕ → (passed left : ℕ) → List ℕ → Type 0)
       (cause : Cause) (d d' : D) (o o' : O) : Type 0 where
-    pub may : MayCause cause
+    pub may : MayCause asked cause
     pub counted : Counted cause (counts_of d o) (counts_of d' o')
     -- nothing on the disk changes
     pub told : disk.tells d → disk.tells d'

@@ -3,7 +3,15 @@ use Rattle.lr_shelf.specs.Kept.{kept_by}
 use Rattle.lr_shelf.specs.Read.{IsGetRefusal}
 use Rattle.lr_shelf_format.specs.declared.stored.Stored.{Stored}
 use Rattle.lr_commands.specs.Files.{asked_of_files}
-use Rattle.lr_commands.proofs.Filing.{shelf_counted, not_failed, get_stops, takes_file, stops_file, takes_gone, stops_gone}
+use Rattle.lr_commands.proofs.Filing.{
+  shelf_counted,
+  not_failed,
+  get_stops,
+  takes_file,
+  stops_file,
+  takes_gone,
+  stops_gone,
+}
 use Rattle.lr_commands.proofs.Texts.{on_both, on_ok, on_err}
 use Rattle.lr_commands.proofs.files.FilesReadsEntries.entry.Goals as goal
 
