@@ -37,7 +37,7 @@ use Rattle.lr_make.specs.Received.{IsReceivedAs}
 use Rattle.lr_make.specs.Stream.{symbol_stream}
 use Rattle.lr_make.specs.Symbols.{level, sent_bits}
 use Rattle.lr_make.proofs.Sending.{length-all_symbols, symbols_are_one_code}
-use Rattle.lr_make.proofs.Windows.{stream_is_received}
+use Rattle.lr_sent.proofs.MadeBlocks.{stream_is_received}
 use Rattle.lr_sent.specs.Made.{made_outcomes, room_for, room_of}
 use Rattle.lr_sent.proofs.MadeFiles.{placed_fit}
 use Rattle.lr_shelf_format.specs.Items.{extent_of, head_of_item}
