@@ -132,6 +132,7 @@ module _ {D O : Type 0} (disk : DiskOf D) (out : SinkOf O) (asked : Asked) where
     may = tt;
     counted = refl;
     told = λ t. t;
+    told_by_out = λ t. t;
     reads = unwritten_yet disk only_now d;
     got = λ t. nothing_yet (disk.contents d) o;
     untouched = λ one cuts. refl;
@@ -150,6 +151,7 @@ module _ {D O : Type 0} (disk : DiskOf D) (out : SinkOf O) (asked : Asked) where
       may = tt;
       counted = ((counted_load Disk' is).1, refl, refl);
       told = loads.calls.told;
+      told_by_out = λ t. t;
       reads = loads.unwritten;
       got = λ t. nothing (disk.contents d) o;
       untouched = λ one cuts. refl;
@@ -158,6 +160,7 @@ module _ {D O : Type 0} (disk : DiskOf D) (out : SinkOf O) (asked : Asked) where
       may = at_place at refl;
       counted = same_counts disk out d d1 o o (counted_load (NotAShelf' at) is) refl;
       told = loads.calls.told;
+      told_by_out = λ t. t;
       reads = loads.unwritten;
       got = λ t. record {
         first = record {
@@ -179,6 +182,7 @@ module _ {D O : Type 0} (disk : DiskOf D) (out : SinkOf O) (asked : Asked) where
       may = tt;
       counted = same_counts disk out d d1 o o (counted_load NoMemory' is) refl;
       told = loads.calls.told;
+      told_by_out = λ t. t;
       reads = loads.unwritten;
       got = λ t. nothing_yet (disk.contents d) o;
       untouched = λ one cuts. refl;
@@ -266,6 +270,7 @@ module _ {D O : Type 0} (disk : DiskOf D) (out : SinkOf O) (asked : Asked) where
         counted = subst (λ (c : Counts). Counted cause c (counts_of disk out d2 o'))
             (same_counts disk out d d1 o o counted_ok refl) runs.counted;
         told = λ t. runs.told (loads.calls.told t);
+        told_by_out = runs.told_by_out;
         reads = λ t. unwritten_joined disk d d1 d2 (loads.unwritten t) (runs.reads (loads.calls.told t));
         got = λ t.
             got_all t cause o'

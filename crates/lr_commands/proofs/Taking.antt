@@ -70,6 +70,8 @@ use Rattle.lr_commands.proofs.Texts.{
   last_may,
   entry_may,
   entry_untouched,
+  entry_told,
+  text_told,
 }
 
 module _ {D O : Type 0} (disk : DiskOf D) (out : SinkOf O) (asked : Asked) (way : Way) (range : Range) (d : D)
@@ -269,6 +271,7 @@ module _ {D O : Type 0} (disk : DiskOf D) (out : SinkOf O) (asked : Asked) (way 
     may = by_count count none refl;
     counted = refl;
     told = λ t. t;
+    told_by_out = λ t. t;
     reads = unwritten_yet disk only_now d;
     got = λ t. record {
       first = record {
@@ -305,6 +308,8 @@ module _ {D O : Type 0} (disk : DiskOf D) (out : SinkOf O) (asked : Asked) (way 
       may = entry_may disk out asked way so.read number d1 o1 o2 cause stops;
       counted = subst (λ (c : Counts). Counted cause c (counts_of disk out d2 o2)) same_here counted;
       told = λ t. told2 (told t);
+      told_by_out = λ t.
+          entry_told disk out asked way so.read number d1 o1 o2 cause stops (so.puts.told t);
       reads = λ t. unwritten_joined disk d d1 d2 (reads t) (unwritten (told t));
       got = λ t.
           entry_got disk out asked way range d o gathers number o1 o2 so more d1 told (λ t'. (reads t').contents)
@@ -321,6 +326,7 @@ module _ {D O : Type 0} (disk : DiskOf D) (out : SinkOf O) (asked : Asked) (way 
       may = tt;
       counted = same_counts disk out d d1 o o2 count (puts.puts.kept ∙ so.puts.kept);
       told = told;
+      told_by_out = λ t. puts.puts.told (so.puts.told t);
       reads = reads;
       got = λ t. last_put disk out asked way range d o gathers number o1 o2 so inside all allowed t puts;
       untouched = λ one cuts. absurd cuts;
@@ -335,6 +341,7 @@ module _ {D O : Type 0} (disk : DiskOf D) (out : SinkOf O) (asked : Asked) (way 
       counted = subst (λ (c : Counts). Counted cause c (counts_of disk out d1 o2)) same_here
           (text_counted disk out (asked.last way so.read) d1 d1 o1 o2 refl cause stops);
       told = told;
+      told_by_out = λ t. text_told disk out (asked.last way so.read) o1 o2 cause stops (so.puts.told t);
       reads = reads;
       got = λ t. last_got disk out asked way range d o gathers number o1 o2 so inside all allowed t cause stops;
       untouched = λ one cuts. absurd (some (one.nothing_last way so.read));

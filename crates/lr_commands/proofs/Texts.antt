@@ -1,5 +1,5 @@
 -- What a text that was put, or wasn't, says of the counts; and answers that go on.
-use Rattle.std.proofs.Common.{◌≡◌, ℕ, Option, Result, Ok, Err, IfErr, OnOk, List, refl, ap, ◌∙◌, Some, None}
+use Rattle.std.proofs.Common.{◌≡◌, ℕ, Option, Result, Ok, Err, IfErr, OnOk, List, refl, sym, ap, subst, ◌∙◌, Some, None}
 use Rattle.lr_io.specs.declared.sink.Sink.{Ghosts as SinkOf}
 use Rattle.lr_disk.specs.declared.disk.Disk.{Ghosts as DiskOf}
 use Rattle.lr_shelf_format.specs.Way.{Way, Found, IsFound}
@@ -50,6 +50,14 @@ module _ {D O : Type 0} (disk : DiskOf D) (out : SinkOf O) where
     text_counted NoMemory stops = same_counts d d' o o' same (ap out.faults stops)
     text_counted (Refused refusal) stops = same_counts d d' o o' same (ap out.faults stops.1)
 
+  -- a sink still tells what it holds
+  pub text_told : (fate : Result (List ℕ) Refusal) (o o' : O) (cause : Cause) → TextStops out fate cause o o'
+      → out.tells o → out.tells o'
+  text_told fate o o' (Failed Output) stops t = stops.fails.told t
+  text_told fate o o' NoMemory stops t = subst (λ (x : O). out.tells x) (sym stops) t
+  text_told fate o o' (Refused refusal) stops t = subst (λ (x : O). out.tells x) (sym stops.1) t
+  text_told fate o o' _ stops t = absurd stops
+
   pub last_may : (asked : Asked) (way : Way) (read : List Found) (o o' : O) (cause : Cause)
       → TextStops out (asked.last way read) cause o o' → MayCause asked cause
   last_may asked way read o o' Done stops = absurd stops
@@ -86,6 +94,17 @@ module _ {D O : Type 0} (disk : DiskOf D) (out : SinkOf O) where
     entry_untouched (Failed Output) stops cuts = absurd cuts
     entry_untouched NoMemory stops cuts = stops
     entry_untouched (Refused refusal) stops cuts = stops.stops.1
+
+    -- a sink still tells what it holds
+    pub entry_told : (cause : Cause) → EntryStops disk out asked way read number cause d o o' → out.tells o
+        → out.tells o'
+    entry_told (Failed Disk) stops t = subst (λ (x : O). out.tells x) (sym stops) t
+    entry_told (Failed Output) stops t = stops.stops.fails.told t
+    entry_told NoMemory stops t = subst (λ (x : O). out.tells x) (sym stops) t
+    entry_told (Refused refusal) stops t = subst (λ (x : O). out.tells x) (sym stops.stops.1) t
+    entry_told Done stops t = absurd stops.stops
+    entry_told Usage stops t = absurd stops.stops
+    entry_told (Failed Source) stops t = absurd stops.stops
 
     -- what stands there is known, and its text was not put
     pub stops_found : (found : Option Found)

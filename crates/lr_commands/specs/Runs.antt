@@ -113,6 +113,7 @@ module _ {D O : Type 0} (disk : DiskOf D) (out : SinkOf O) where
     pub counted : Counted cause (counts_of d o) (counts_of d' o')
     -- nothing on the disk changes
     pub told : disk.tells d → disk.tells d'
+    pub told_by_out : out.tells o → out.tells o'
     pub reads : disk.tells d → IsUnwritten disk d d'
     -- `out` got what the bytes answer; a refusal comes only where it is that of the answer, with its values
     pub got : disk.tells d → Got (IsOne (disk.contents d)) (IsFirst (disk.contents d)) cause o o'

@@ -148,7 +148,7 @@ module _ {S D O : Type 0} (source : SourceOf S) (disk : DiskOf D)
   not_made = record {
     causes = tt;
     bytes = [];
-    read = record { moved = λ t. refl; few = omega arith };
+    read = record { told = λ t. t; moved = λ t. refl; few = omega arith };
     onto_shelf = λ capacity before told durable.
         receives source disk out input capacity before limit [] s s d d o o NoMemory
         (subst (λ (l : List Placed). LeavesFronts disk capacity before l d d) (sym (no_bytes input))
@@ -252,7 +252,7 @@ module _ {S D O : Type 0} (source : SourceOf S) (disk : DiskOf D) (out : SinkOf 
   not_loaded e is refusal = record {
     causes = load_cause disk d e refusal;
     bytes = [];
-    read = record { moved = λ t. refl; few = omega arith };
+    read = record { told = λ t. t; moved = λ t. refl; few = omega arith };
     onto_shelf = λ capacity before told durable. nothing capacity before told durable e is refusal;
     refused = λ at named. (refused e at refusal named, only_read);
     broken = λ at told no. (ended_before e at (may_refuse at result e is (loads.broken at told no)), only_read);

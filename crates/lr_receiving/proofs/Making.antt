@@ -85,6 +85,7 @@ module _ (text item : ℕ → List ℕ) (grows : (n : ℕ) → text (n + 1) ≡ 
         ap text (sym there) ∙ all.1 ∙ ap (λ (l : List ℕ). l ++ all.0) (grows n
         ∙ ap (λ (l : List ℕ). text n ++ l) (sym is)) ∙ append_assoc (text n) bytes all.0 in
         record {
+          told = λ tells. fails.told (before.told tells);
           part = λ tells.
               let cut = fails.part (before.told tells) in
               record {
@@ -114,9 +115,10 @@ module _ {O : Type 0} (out : SinkOf O) (text : List ℕ) (o o' : O) where
       → OnErr r (PutFails out text o o') → IfErr r (λ c. c ≡ Failed Output)
       → OnOk r (cause ≡ Done) → IfErr r (λ c. cause ≡ c) → MakeEnds out text cause o o'
   make_ends (Ok u) cause put failed only done stopped =
-      subst (λ (c : Cause). MakeEnds out text c o o') (sym done) (put.put, put.kept)
+      subst (λ (c : Cause). MakeEnds out text c o o') (sym done) (put.put, put.kept, put.told)
   make_ends (Err c) cause put failed only done stopped =
-      subst (λ (x : Cause). MakeEnds out text x o o') (sym (stopped ∙ only)) failed.part
+      subst (λ (x : Cause). MakeEnds out text x o o') (sym (stopped ∙ only))
+      (failed.part, failed.told)
 
   pub make_caused : (r : Result (Unit {0}) Cause) (cause : Cause) → OnErr r (PutFails out text o o')
       → IfErr r (λ c. c ≡ Failed Output)

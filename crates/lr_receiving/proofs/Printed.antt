@@ -109,6 +109,7 @@ module _ {S : Type 0} (source : SourceOf S) (n limit : ℕ) where
       ∙ ap (λ k. k + length more.piece) (sym reads.taken) ∙ sym more.taken in
       let few : length bytes ≤ limit = omega (arith, all, more.few, more.most, reads.most) in
       let read : IsRead source limit bytes s s' = record {
+        told = λ tells. more.told (reads.told tells);
         moved = λ tells. reads.moved tells
             ∙ ap (λ l. (concat units ++ before.held) ++ l) (more.moved (reads.told tells))
             ∙ sym (append_assoc (concat units ++ before.held) more.piece (source.left s'))
@@ -160,7 +161,7 @@ module _ {S O : Type 0} (source : SourceOf S) (out : SinkOf O) (n limit : ℕ) (
   module _ {units : List (List ℕ)} {now : Gathered} {s s' : S}
       (reads : ReadsUnits source n limit units now s s') (whole : length now.held ≡ n) where
     read_so_far : IsRead source limit (concat units ++ now.held) s s'
-    read_so_far = record { moved = reads.moved; few = omega (arith, reads.few, reads.taken) }
+    read_so_far = record { told = reads.told; moved = reads.moved; few = omega (arith, reads.few, reads.taken) }
 
     lines_so_far : lines (concat units ++ now.held) ≡ text (units ++ now.held ∷ [])
     lines_so_far =
@@ -189,6 +190,7 @@ module _ {S O : Type 0} (source : SourceOf S) (out : SinkOf O) (n limit : ℕ) (
       bytes = concat units ++ end.held;
       read = end.read;
       reason = end.reason;
+      told = (put_behind out put more).told;
       put = λ tells. (put_behind out put more).put tells
           ∙ ap (λ l. out.contents o ++ l) (ap (λ l. l ++ line) (sym all_lines)
           ∙ ap (λ l. lines (concat units ++ end.held) ++ l) (sym is));

@@ -49,6 +49,7 @@ module _ {S O : Type 0} (source : SourceOf S) (out : SinkOf O) (lines : List ℕ
   line_stops line later all o' (Failed Output) stop = inl (record {
     bytes = bytes;
     read = read;
+    told = λ tells. stop.told (put.told tells);
     part = λ tells.
         let cut = stop.part (put.told tells) in
         record {
@@ -73,6 +74,7 @@ module _ {S O : Type 0} (source : SourceOf S) (out : SinkOf O) (lines : List ℕ
   line_stops line later all o' NoMemory stop = record {
     bytes = bytes;
     read = read;
+    told = λ tells. subst (λ x. out.tells x) (sym stop) (put.told tells);
     front = λ tells. record {
       front = front;
       rest = line ++ later;
@@ -92,6 +94,7 @@ module _ {S O : Type 0} (source : SourceOf S) (out : SinkOf O) (lines : List ℕ
     stop = stop;
     read = read;
     reason = reason;
+    told = λ tells. failed.told (put.told tells);
     part = λ tells.
         let cut = failed.part (put.told tells) in
         record {
@@ -106,6 +109,7 @@ module _ {S O : Type 0} (source : SourceOf S) (out : SinkOf O) (lines : List ℕ
   last_stops stop reason all line is o' NoMemory same = record {
     bytes = bytes;
     read = read;
+    told = λ tells. subst (λ x. out.tells x) (sym same) (put.told tells);
     front = λ tells. record {
       front = front;
       rest = [];

@@ -131,6 +131,8 @@ pub record UnitsSoFar {S D O : Type 0} (source : SourceOf S) (disk : DiskOf D) (
   pub empty : now.held ≡ []
   pub reads : ReadsUnits source n limit units now s s'
   pub stands : StandsFor layers (outcomes_of_units form units)
+  pub told_by_disk : disk.tells d → disk.tells d'
+  pub told_by_out : out.tells o → out.tells o'
   pub working : (kept_by shelf).failed ≡ false → (kept_by shelf').failed ≡ false
   pub disk_count : disk.faults d' ≡ disk.faults d
   pub out_count : out.faults o' ≡ out.faults o
@@ -151,6 +153,8 @@ module _ {S D O : Type 0} (source : SourceOf S) (disk : DiskOf D) (out : SinkOf 
     empty = ap (λ (g : Gathered). g.held) fresh;
     reads = subst (λ (g : Gathered). ReadsUnits source n limit [] g s s) (sym fresh) (begun source n limit s);
     stands = subst (λ l. StandsFor layers l) (sym (outcomes_of_units-none form)) stands;
+    told_by_disk = λ t. t;
+    told_by_out = λ t. t;
     working = λ works. works;
     disk_count = refl;
     out_count = refl;
@@ -229,7 +233,7 @@ module _ {S D O : Type 0} (source : SourceOf S) (disk : DiskOf D) (out : SinkOf 
           → ReadsSome source disk out (Units form) limit cause shelf s s' d d2 o o2
       units_stopped cause d2 o2 stops gains = record {
         bytes = concat so.units ++ now.held;
-        read = record { moved = reads_now.moved; few = omega (arith, reads_now.few, reads_now.taken) };
+        read = record { told = reads_now.told; moved = reads_now.moved; few = omega (arith, reads_now.few, reads_now.taken) };
         stops = λ capacity before d0 o0 so_far.
             subst (λ (l : List Placed). Stops disk out capacity before cause l d0 d2 o0 o2) files_there
             (stops (outcomes_of_units form so.units) capacity before d0 o0 so.stands
@@ -251,6 +255,7 @@ module _ {S D O : Type 0} (source : SourceOf S) (disk : DiskOf D) (out : SinkOf 
           → (layers2 : Kept) (shelf2 : Shelf) (d2 : D) (o2 : O)
           → StandsFor layers2 (outcomes_of_units form so.units ++ outcome ∷ [])
           → ((kept_by shelf').failed ≡ false → (kept_by shelf2).failed ≡ false)
+          → (disk.tells d1 → disk.tells d2) → (out.tells o1 → out.tells o2)
           → disk.faults d2 ≡ disk.faults d1 → out.faults o2 ≡ out.faults o1
           → ((capacity : ℕ) (before : List Item) (d0 : D) (o0 : O)
           → ShelvesSoFar disk out capacity before (placed_of_outcomes (outcomes_of_units form so.units)) shelf'
@@ -259,7 +264,7 @@ module _ {S D O : Type 0} (source : SourceOf S) (disk : DiskOf D) (out : SinkOf 
           (placed_of_outcomes (outcomes_of_units form so.units ++ outcome ∷ [])) shelf2 d0 d2 o0 o2)
           → Gains (outcomes_of_units form so.units) outcome shelf' shelf2 d1 d2 o1 o2
           → UnitsSoFar source disk out form n limit (place + 1) empty layers2 shelf shelf2 s s' d d2 o o2
-      units_more empty is_empty layers2 shelf2 d2 o2 stands works disk_count out_count shelved gains =
+      units_more empty is_empty layers2 shelf2 d2 o2 stands works tell_disk tell_out disk_count out_count shelved gains =
           let grown : outcomes_of_units form so.units ++ outcome ∷ []
           ≡ outcomes_of_units form (so.units ++ now.held ∷ []) =
           ap (λ (x : Outcome). outcomes_of_units form so.units ++ x ∷ []) is
@@ -271,6 +276,8 @@ module _ {S D O : Type 0} (source : SourceOf S) (disk : DiskOf D) (out : SinkOf 
             reads = subst (λ (g : Gathered). ReadsUnits source n limit (so.units ++ now.held ∷ []) g s s')
                 (sym is_empty) (cleared source n limit reads_now whole);
             stands = subst (λ (l : List Outcome). StandsFor layers2 l) grown stands;
+            told_by_disk = λ t. tell_disk (so.told_by_disk t);
+            told_by_out = λ t. tell_out (so.told_by_out t);
             working = λ worked. works (so.working worked);
             disk_count = disk_count ∙ so.disk_count;
             out_count = out_count ∙ so.out_count;

@@ -215,6 +215,8 @@ pub record WindowsSoFar {S D O : Type 0} (source : SourceOf S) (disk : DiskOf D)
   pub limit_is : now.most ≡ limit
   pub decodes : DecodesSoFar source bytes given now s s'
   pub stands : StandsFor layers (outcomes_given bytes given)
+  pub told_by_disk : disk.tells d → disk.tells d'
+  pub told_by_out : out.tells o → out.tells o'
   pub working : (kept_by shelf).failed ≡ false → (kept_by shelf').failed ≡ false
   pub disk_count : disk.faults d' ≡ disk.faults d
   pub out_count : out.faults o' ≡ out.faults o
@@ -234,6 +236,8 @@ module _ {S D O : Type 0} (source : SourceOf S) (disk : DiskOf D) (out : SinkOf 
     limit_is = fresh.most_is;
     decodes = decoding_begun source limit now fresh s;
     stands = subst (λ l. StandsFor layers l) (sym (outcomes_given-none [])) stands;
+    told_by_disk = λ t. t;
+    told_by_out = λ t. t;
     working = λ works. works;
     disk_count = refl;
     out_count = refl;
@@ -316,6 +320,7 @@ module _ {S D O : Type 0} (source : SourceOf S) (disk : DiskOf D) (out : SinkOf 
       windows_stopped cause d2 o2 stops gains = record {
         bytes = gives.all;
         read = record {
+          told = gives.so_far.told;
           moved = gives.so_far.moved;
           few =
               omega (arith, gives.so_far.few, gives.so_far.long, limit_is);
@@ -342,6 +347,7 @@ module _ {S D O : Type 0} (source : SourceOf S) (disk : DiskOf D) (out : SinkOf 
       pub windows_more : (layers2 : Kept) (shelf2 : Shelf) (d2 : D) (o2 : O)
           → StandsFor layers2 (outcomes_given so.bytes so.given ++ outcome ∷ [])
           → ((kept_by shelf').failed ≡ false → (kept_by shelf2).failed ≡ false)
+          → (disk.tells d1 → disk.tells d2) → (out.tells o1 → out.tells o2)
           → disk.faults d2 ≡ disk.faults d1 → out.faults o2 ≡ out.faults o1
           → ((capacity : ℕ) (before : List Item) (d0 : D) (o0 : O)
           → ShelvesSoFar disk out capacity before (placed_of_outcomes (outcomes_given so.bytes so.given)) shelf'
@@ -350,13 +356,15 @@ module _ {S D O : Type 0} (source : SourceOf S) (disk : DiskOf D) (out : SinkOf 
           (placed_of_outcomes (outcomes_given so.bytes so.given ++ outcome ∷ [])) shelf2 d0 d2 o0 o2)
           → Gains (outcomes_given so.bytes so.given) outcome shelf' shelf2 d1 d2 o1 o2
           → WindowsSoFar source disk out limit (place + 1) now layers2 shelf shelf2 s s' d d2 o o2
-      windows_more layers2 shelf2 d2 o2 stands works disk_count out_count shelved gains = record {
+      windows_more layers2 shelf2 d2 o2 stands works tell_disk tell_out disk_count out_count shelved gains = record {
         bytes = gives.all;
         given = so.given ++ gives.frame ∷ [];
         count = omega (arith, so.count, length-append so.given (gives.frame ∷ []));
         limit_is = limit_is;
         decodes = gives.so_far;
         stands = subst (λ (l : List Outcome). StandsFor layers2 l) (sym outcomes_now) stands;
+        told_by_disk = λ t. tell_disk (so.told_by_disk t);
+        told_by_out = λ t. tell_out (so.told_by_out t);
         working = λ worked. works (so.working worked);
         disk_count = disk_count ∙ so.disk_count;
         out_count = out_count ∙ so.out_count;
@@ -386,7 +394,7 @@ module _ {S D O : Type 0} (source : SourceOf S) (disk : DiskOf D) (out : SinkOf 
         → ReadsAll source disk out Symbols limit ended shelf shelf' s s' d d1 o o1
     windows_ended ended stops symbols frames counts left = record {
       bytes = ends.all;
-      read = record { moved = ends.so_far.moved; few = omega (arith, ends.so_far.few, ends.so_far.long, limit_is) };
+      read = record { told = ends.so_far.told; moved = ends.so_far.moved; few = omega (arith, ends.so_far.few, ends.so_far.long, limit_is) };
       reason = subst (λ (x : Stop). EndsFor source x limit ends.all s s') (sym stops) end_reason;
       count = record {
         symbols = symbols ∙ ends.so_far.long;

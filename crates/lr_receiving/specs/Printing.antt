@@ -20,6 +20,7 @@ module _ {S O : Type 0} (source : SourceOf S) (out : SinkOf O) (lines : List ℕ
     pub bytes : List ℕ
     pub read : IsRead source limit bytes s s'
     pub reason : EndsFor source stop limit bytes s s'
+    pub told : out.tells o → out.tells o'
     pub put : out.tells o → out.contents o' ≡ out.contents o ++ (lines bytes ++ last bytes stop)
     pub out_count : out.faults o' ≡ out.faults o
 
@@ -27,6 +28,7 @@ module _ {S O : Type 0} (source : SourceOf S) (out : SinkOf O) (lines : List ℕ
   pub record CutInLines (s s' : S) (o o' : O) : Type 0 where
     pub bytes : List ℕ
     pub read : IsRead source limit bytes s s'
+    pub told : out.tells o → out.tells o'
     pub part : out.tells o → PutsPart (lines bytes) (out.contents o) (out.contents o')
     pub rose : Rose (out.faults o) (out.faults o')
 
@@ -36,6 +38,7 @@ module _ {S O : Type 0} (source : SourceOf S) (out : SinkOf O) (lines : List ℕ
     pub stop : Stop
     pub read : IsRead source limit bytes s s'
     pub reason : EndsFor source stop limit bytes s s'
+    pub told : out.tells o → out.tells o'
     pub part : out.tells o → PutsPart (last bytes stop) (out.contents o ++ lines bytes) (out.contents o')
     pub rose : Rose (out.faults o) (out.faults o')
 
@@ -43,6 +46,7 @@ module _ {S O : Type 0} (source : SourceOf S) (out : SinkOf O) (lines : List ℕ
   pub record StopsForMemory (s s' : S) (o o' : O) : Type 0 where
     pub bytes : List ℕ
     pub read : IsRead source limit bytes s s'
+    pub told : out.tells o → out.tells o'
     pub front : out.tells o → PutsFront (lines bytes) (out.contents o) (out.contents o')
 
   -- how such a command ends, for each cause that it may have

@@ -9,6 +9,7 @@ use Rattle.lr_catalog.specs.declared.stop.Stop.TheVariants.{End, Limit, Fault}
 module _ {S : Type 0} (source : SourceOf S) where
   -- these bytes were taken, at most this many
   pub record IsRead (limit : ℕ) (bytes : List ℕ) (s s' : S) : Type 0 where
+    pub told : source.tells s → source.tells s'
     pub moved : source.tells s → source.left s ≡ bytes ++ source.left s'
     pub few : length bytes ≤ limit
 

@@ -67,6 +67,8 @@ fn receive_units<const N: usize, S: Source, D: Disk, O: Sink>(
     ensures counts { OnOk result ((D.faults disk.new ≡ D.faults disk.old) × (O.faults out.new ≡ O.faults out.old)) }
     ensures reason { IfOk result (λ ended. IsCaused (cause_at ended.stop) (counts (S.faults source.old) 0 0)
         (counts (S.faults source.new) 0 0)) }
+    ensures told_by_disk { D.tells disk.old → D.tells disk.new }
+    ensures told_by_out { O.tells out.old → O.tells out.new }
     ensures kind { IfErr result MayStop }
     ensures cause { (kept_by shelf.old).failed ≡ false
         → IfErr result (λ cause. IsCaused cause
@@ -117,6 +119,8 @@ fn receive_symbols<S: Source, D: Disk, O: Sink>(
     ensures counts { OnOk result ((D.faults disk.new ≡ D.faults disk.old) × (O.faults out.new ≡ O.faults out.old)) }
     ensures reason { IfOk result (λ ended. IsCaused (cause_at ended.stop) (counts (S.faults source.old) 0 0)
         (counts (S.faults source.new) 0 0)) }
+    ensures told_by_disk { D.tells disk.old → D.tells disk.new }
+    ensures told_by_out { O.tells out.old → O.tells out.new }
     ensures kind { IfErr result MayStop }
     ensures cause { (kept_by shelf.old).failed ≡ false
         → IfErr result (λ cause. IsCaused cause
@@ -165,6 +169,8 @@ pub(crate) fn receive_all<S: Source, D: Disk, O: Sink>(
     ensures counts { OnOk result ((D.faults disk.new ≡ D.faults disk.old) × (O.faults out.new ≡ O.faults out.old)) }
     ensures reason { IfOk result (λ ended. IsCaused (cause_at ended.stop) (counts (S.faults source.old) 0 0)
         (counts (S.faults source.new) 0 0)) }
+    ensures told_by_disk { D.tells disk.old → D.tells disk.new }
+    ensures told_by_out { O.tells out.old → O.tells out.new }
     ensures kind { IfErr result MayStop }
     ensures cause { (kept_by shelf.old).failed ≡ false
         → IfErr result (λ cause. IsCaused cause
@@ -200,6 +206,7 @@ pub(crate) fn receive_all<S: Source, D: Disk, O: Sink>(
 
 /// Puts the last line.
 pub(crate) fn put_last<O: Sink>(alloc: Global, ended: &Ended, out: &mut O) -> Result<(), Cause>
+    ensures told { O.tells out.old → O.tells out.new }
     ensures put { IfOk result (λ _. PutsLast O.Sink ended.now out.old out.new) }
     ensures stopped { IfErr result (λ cause. LastStops O.Sink ended.now cause out.old out.new) }
 {
@@ -231,6 +238,8 @@ fn receive_onto<S: Source, D: Disk, O: Sink>(
     requires few { most ≤ 2 ^ 48 }
     ensures reason { IfOk result (λ stop. IsCaused (cause_at stop) (counts (S.faults source.old) 0 0)
         (counts (S.faults source.new) 0 0)) }
+    ensures told_by_disk { D.tells disk.old → D.tells disk.new }
+    ensures told_by_out { O.tells out.old → O.tells out.new }
     ensures kind { IfErr result MayStop }
     ensures cause { (kept_by shelf.old).failed ≡ false
         → IfErr result (λ cause. IsCaused cause
@@ -260,6 +269,8 @@ pub fn receive<S: Source, D: Disk, O: Sink>(
     requires few { most ≤ 2 ^ 48 }
     ensures cause { IsCaused result (counts (S.faults source.old) (D.faults disk.old) (O.faults out.old))
         (counts (S.faults source.new) (D.faults disk.new) (O.faults out.new)) }
+    ensures told_by_disk { D.tells disk.old → D.tells disk.new }
+    ensures told_by_out { O.tells out.old → O.tells out.new }
     ensures run { ReceiveRun S.Source D.Disk O.Sink input most result source.old source.new disk.old disk.new
         out.old out.new }
 {

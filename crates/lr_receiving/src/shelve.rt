@@ -40,6 +40,8 @@ fn shelve<D: Disk, O: Sink>(
     ensures working { OnOk result ((kept_by shelf.new).failed ≡ false) }
     ensures counts { OnOk result
         ((D.faults disk.new ≡ D.faults disk.old) × (O.faults out.new ≡ O.faults out.old)) }
+    ensures told_by_disk { D.tells disk.old → D.tells disk.new }
+    ensures told_by_out { O.tells out.old → O.tells out.new }
     ensures kind { IfErr result MayStop }
     ensures cause { (kept_by shelf.old).failed ≡ false
         → IfErr result (λ cause. IsCaused cause (counts 0 (D.faults disk.old) (O.faults out.old))
@@ -81,6 +83,8 @@ fn shelve_all<D: Disk, O: Sink>(
     ensures working { (kept_by shelf.old).failed ≡ false → OnOk result ((kept_by shelf.new).failed ≡ false) }
     ensures counts { OnOk result
         ((D.faults disk.new ≡ D.faults disk.old) × (O.faults out.new ≡ O.faults out.old)) }
+    ensures told_by_disk { D.tells disk.old → D.tells disk.new }
+    ensures told_by_out { O.tells out.old → O.tells out.new }
     ensures kind { IfErr result MayStop }
     ensures cause { (kept_by shelf.old).failed ≡ false
         → IfErr result (λ cause. IsCaused cause (counts 0 (D.faults disk.old) (O.faults out.old))
@@ -119,6 +123,8 @@ pub(crate) fn shelve_outcome<D: Disk, O: Sink>(
     ensures working { (kept_by shelf.old).failed ≡ false → OnOk result ((kept_by shelf.new).failed ≡ false) }
     ensures counts { OnOk result
         ((D.faults disk.new ≡ D.faults disk.old) × (O.faults out.new ≡ O.faults out.old)) }
+    ensures told_by_disk { D.tells disk.old → D.tells disk.new }
+    ensures told_by_out { O.tells out.old → O.tells out.new }
     ensures kind { IfErr result MayStop }
     ensures cause { (kept_by shelf.old).failed ≡ false
         → IfErr result (λ cause. IsCaused cause (counts 0 (D.faults disk.old) (O.faults out.old))

@@ -68,6 +68,7 @@ fn shelve_stream<D: Disk>(
     requires fit { end_of (with_files [] (files_of_bytes Input.Symbols symbols.items)) ≤ trial_capacity }
     ensures cause { IfErr result (λ cause. IsCaused cause (counts 0 (D.faults disk.old) 0)
         (counts 0 (D.faults disk.new) 0)) }
+    ensures told { D.tells disk.old → D.tells disk.new }
     ensures kind { IfErr result StopsTrial }
     ensures line { IfOk result (λ ended. ended_line ended ≡ receive_last Input.Symbols symbols.items End) }
     ensures done { OnOk result (LeavesDisk D.Disk symbols.items Cause.Done disk.old disk.new) }
@@ -103,6 +104,8 @@ pub fn trial<D: Disk, O: Sink>(
     requires wrong { wrong ≤ 16 }
     ensures cause { IsCaused result (counts 0 (D.faults disk.old) (O.faults out.old))
         (counts 0 (D.faults disk.new) (O.faults out.new)) }
+    ensures told_by_disk { D.tells disk.old → D.tells disk.new }
+    ensures told_by_out { O.tells out.old → O.tells out.new }
     ensures run { TrialRun D.Disk O.Sink (made_bytes Input.Symbols start wrong frames) result disk.old disk.new
         out.old out.new }
 {

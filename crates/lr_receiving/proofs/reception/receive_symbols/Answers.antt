@@ -79,6 +79,7 @@ windows-preserved g c =
     (windows_more g.S.Source g.D.Disk g.O.Sink c.args.decoder.now.most so gives (c.in-Whole.ensures.most
     ∙ so.limit_is) c.outcome-outcome.result c.outcome-outcome.ensures.value
     c.shelve_outcome.new.layers c.shelve_outcome.new.shelf c.shelve_outcome.new.disk c.shelve_outcome.new.out
-    (e.stands _ so.stands) e.working e.counts.0 e.counts.1
+    (e.stands _ so.stands) e.working c.shelve_outcome.ensures.told_by_disk
+    c.shelve_outcome.ensures.told_by_out e.counts.0 e.counts.1
     (λ capacity before d0 o0 so_far. e.shelved _ capacity before d0 o0 so.stands so_far)
     (e.grown _ so.stands))

@@ -72,6 +72,7 @@ units-preserved g c =
     c.in-Whole.ensures.gathered why.0 why.1 c.unit_outcome-outcome.result is
     c.clear.new.self c.clear.ensures c.shelve_outcome.new.layers c.shelve_outcome.new.shelf
     c.shelve_outcome.new.disk c.shelve_outcome.new.out
-    (e.stands _ so.stands) e.working e.counts.0 e.counts.1
+    (e.stands _ so.stands) e.working c.shelve_outcome.ensures.told_by_disk
+    c.shelve_outcome.ensures.told_by_out e.counts.0 e.counts.1
     (λ capacity before d0 o0 so_far. e.shelved _ capacity before d0 o0 so.stands so_far)
     (e.grown _ so.stands)

@@ -34,6 +34,8 @@ loop-placed-preserved g c = record {
       c.loop-placed.out _ c.args.files.now c.loop-placed.placed-index mid
       c.placed-item.result inside c.placed-item.is c.shelve.new.shelf c.shelve.new.disk c.shelve.new.out
       (c.in_ok-shelve.ensures.shelved capacity before mid.done d o mid.so_far);
+  told_by_disk = λ t. c.in_ok-shelve.ensures.told_by_disk (c.loop-placed.invariant.told_by_disk t);
+  told_by_out = λ t. c.in_ok-shelve.ensures.told_by_out (c.loop-placed.invariant.told_by_out t);
   grown =
       let inside : c.loop-placed.placed-index < length c.args.files.now = omega arith in
       grown_more c.args.files.now c.loop-placed.placed-index c.placed-item.result inside c.placed-item.is

@@ -15,5 +15,7 @@ invariant-loop-placed g l =
           → ShelvesSoFar g.D.Disk g.O.Sink capacity before done l.fn.shelf d l.fn.disk o l.fn.out
           → Midway g.D.Disk g.O.Sink capacity before (done ++ l.files) (drop l.placed-index l.files) l.shelf d
           l.disk o l.out;
+      told_by_disk : g.D.Disk.tells l.fn.disk → g.D.Disk.tells l.disk;
+      told_by_out : g.O.Sink.tells l.fn.out → g.O.Sink.tells l.out;
       grown : Grows (take l.placed-index l.files) l.fn.shelf l.shelf l.fn.disk l.disk l.fn.out l.out;
     }
