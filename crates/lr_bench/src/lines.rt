@@ -80,7 +80,7 @@ fn write_samples(rt: &HostRuntime, bits: u32, samples: &[u16]) -> Result<(), Tro
 }
 
 /// The names `lines` and `samples`: the words are BITS BLOCK COLUMNS LINES ROUNDS. The lines on standard input are
-/// decoded so many times; then a line tells a checksum of the samples, or the samples are written.
+/// decoded this many times; then a line tells a checksum of the samples, or the samples are written.
 pub fn run(rt: &HostRuntime, name: &str, words: &[String]) -> Result<(), Trouble> {
     let (Some(shape), Some(rounds)) = (shape_of(words), number_at(words, 4)) else {
         return Ok(eprintln!(rt; "usage: {name} BITS BLOCK COLUMNS LINES ROUNDS")?);

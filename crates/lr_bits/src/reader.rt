@@ -138,7 +138,7 @@ impl<'a> BitReader<'a> {
         self.at += count;
     }
 
-    /// The same bits again. A loop that keeps its reader in a local of its own is faster than one behind a `&mut`.
+    /// The same bits again. A loop that keeps its reader in a local of its own is faster than one through a `&mut`.
     #[inline(always)]
     pub fn copied(&self) -> BitReader<'a>
         ensures same { result ≡ self.now }

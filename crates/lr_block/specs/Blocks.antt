@@ -4,7 +4,7 @@ use Rattle.std.specs.Prelude.{◌≡◌, ◌<◌, ℕ, ◌+◌, ◌*◌, List, [
 use Rattle.std.specs.List.{range_with_len}
 use Rattle.lr_rs.specs.Words.{IsWord, IsCodeword, IsRestored, distance}
 
--- every fourth byte from place k on, so many of them
+-- every fourth byte from place k on, this many of them
 unfoldable pub every_fourth : ℕ → List ℕ → ℕ → List ℕ
 every_fourth count bytes k = map (λ i. slice_index bytes (4 * i + k)) (range_with_len 0 count)
 

@@ -48,7 +48,7 @@ IsOutcome block (Restored corrected frame) =
     × (frame ≡ take 892 restored)
 IsOutcome block (Lost k) = IsFirstLost (randomised_block block) k
 
--- all lists of so many numbers below a limit
+-- all lists of this many numbers below a limit
 unfoldable pub all_lists : ℕ → ℕ → List (List ℕ)
 all_lists limit zero = [] ∷ []
 all_lists limit (suc n) = flat_map (λ rest. map (λ number. number ∷ rest) (range_with_len 0 limit)) (all_lists limit n)

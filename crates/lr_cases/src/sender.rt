@@ -31,7 +31,7 @@ impl Sender {
         }
     }
 
-    /// The next byte, behind the start of a packet if the one before is all sent.
+    /// The next byte, after the start of a packet if the one before is all sent.
     fn next_byte(&mut self, draw: &mut Draw, left: u32) -> u8
         requires { left ≤ 884 }
     {
@@ -64,7 +64,7 @@ impl Sender {
     }
 }
 
-/// The length of a packet at whose start so many bytes are left in the zone. Many packets end with a zone.
+/// The length of a packet at whose start this many bytes are left in the zone. Many packets end with a zone.
 fn draw_length(draw: &mut Draw, left: u32) -> u32
     requires { left ≤ 884 }
 {

@@ -5,7 +5,7 @@ use crate::{Disk, MemDisk, RandomAccessFile};
 use lr_bits::Failed;
 use std::io;
 
-/// A disk in memory as a file, which moves at most so many bytes in a call. It tells what the disk tells.
+/// A disk in memory as a file, which moves at most this many bytes in a call. It tells what the disk tells.
 #[derive(Drop)]
 pub struct MemFile {
     disk: MemDisk,

@@ -55,11 +55,11 @@ length-open-le-one [] = omega arith
 length-open-le-one (q ∷ qs) = one_open q qs (is_open (q ∷ qs)) refl (length-open-le-one qs)
 
 -- the flags are 0, and 2 at the end
-abbrev end_with_two : Good → List Good → Bool
+abbrev pub end_with_two : Good → List Good → Bool
 end_with_two q qs = bytes_eq (flags (q ∷ qs)) (zeros (length qs) ++ 2 ∷ [])
 
 -- the flags of a file of several packets
-several_flags : (q r : Good) (rs : List Good) →
+pub several_flags : (q r : Good) (rs : List Good) →
     bytes_eq (flags (q ∷ r ∷ rs)) (flags_of_file (length (q ∷ r ∷ rs))) ≡ (eqb q.flags 1 && end_with_two r rs)
 several_flags q r rs =
     let not_one : eqb (suc (suc (length rs))) 1 ≡ false = grind (arith, nat_tests) in

@@ -1,5 +1,6 @@
 -- Laws of files.
-use Rattle.std.specs.Prelude.{◌≡◌, ◌≤◌, ◌+◌, ◌*◌, List, [], ◌∷◌, ◌++◌, length, filter, option_to_list, All}
+use Rattle.std.specs.Prelude.{◌≡◌, ◌≤◌, ◌+◌, ◌*◌, ◌==◌, ◌||◌, ℕ, if◌then◌else◌, List, [], ◌∷◌, ◌++◌, length, filter}
+use Rattle.std.specs.Prelude.{option_to_list, All}
 use Rattle.std.specs.List.{sum_by}
 use Rattle.lr_bits.specs.File.{File, bytes_of}
 use Rattle.lr_packet.specs.Verdict.{Good}
@@ -24,12 +25,28 @@ OneFileEnds = (packets : List Good) → length (filter is_file (last_stretches p
 abbrev pub OneFileIsOpen : Type 0
 OneFileIsOpen = (packets : List Good) → length (filter is_open (last_stretches packets)) ≤ 1
 
--- the files of packets have, with eight bytes for each body, at most as many bytes as the bodies of the packets with
--- eight for each
+-- how much the first packet of a file weighs, how much the last one, and how much each of them
+pub record Weights : Type 0 where
+  pub first : ℕ
+  pub last : ℕ
+  pub each : ℕ
+
+-- the weight of a packet, with one for each byte of its body; a packet with the flags 3 is the first and the last one
+abbrev pub packet_weight : Weights → Good → ℕ
+packet_weight weights packet =
+    (if (packet.flags == 1) || (packet.flags == 3) then weights.first else 0)
+    + (if (packet.flags == 2) || (packet.flags == 3) then weights.last else 0)
+    + weights.each + length packet.body
+
+-- the weight of a file, with one for each of its bytes
+abbrev pub file_weight : Weights → File → ℕ
+file_weight weights file =
+    weights.first + weights.last + weights.each * length file.bodies + length (bytes_of file)
+
+-- the files of packets weigh at most what the packets do
 abbrev pub FilesFitThePackets : Type 0
-FilesFitThePackets = (packets : List Good) →
-    sum_by (λ file. length (bytes_of file) + 8 * length file.bodies) (files_of packets) ≤ sum_by
-    (λ packet. length packet.body + 8) packets
+FilesFitThePackets = (weights : Weights) (packets : List Good) →
+    sum_by (file_weight weights) (files_of packets) ≤ sum_by (packet_weight weights) packets
 
 -- each file has a body, and ten bytes
 abbrev pub FilesAreSome : Type 0

@@ -21,8 +21,8 @@ pub fn one_file_is_open()
     ensures { OneFileIsOpen }
 {}
 
-/// The files of packets have, with eight bytes for each body, at most as many bytes as the packets' bodies with eight
-/// for each.
+/// The files of packets weigh at most what the packets do, whatever the first and the last packet of a file and each
+/// packet weigh besides the bytes of their bodies.
 pub fn files_fit_the_packets()
     ensures { FilesFitThePackets }
 {}

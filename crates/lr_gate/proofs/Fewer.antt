@@ -22,7 +22,7 @@ module _ {J : Type 0} where
       ap (count_of i) e ∙ count_end i v.finished p in
       let z : tick (i == p) ≡ 0 = ap tick (ne_eqb i p ne) in omega (arith, t, z)
 
-  -- behind the job nothing changes
+  -- after the job nothing changes
   behind : (v w : View J) (p i n : ℕ) → w.finished ≡ v.finished ++ p ∷ [] → p < i
       → unfinished_from w i n ≡ unfinished_from v i n
   behind v w p i zero e l = refl

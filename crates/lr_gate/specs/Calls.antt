@@ -12,7 +12,7 @@ use Rattle.lr_gate.specs.Shows.{count_of}
 use Rattle.lr_gate.specs.Steps.{SeatState, free_cells}
 use Rattle.lr_gate.specs.Reads.{IsPassedOver, ClaimsJob}
 
--- the conductor's seat between two calls, with so many seats split off
+-- the conductor's seat between two calls, with this many seats split off
 pub record IsConductor {J D : Type 0} (z : TableId) (cells crew : ℕ) (seat : Seat (Cargo J D) (View J))
     (put taken : ℕ) : Type 0 where
   pub table : seat.table_id ≡ z

@@ -14,7 +14,7 @@ use Rattle.lr_gate.specs.Words.{stage_code}
 use Rattle.lr_gate.specs.Shows.{flag, held_job, finishes_of, IsHeldBy, IsSpent, Shows, machine_of}
 
 module _ {J D : Type 0} (gives : J → D) where
-  -- With n cells and so many worker seats, the table s shows the machine m, of which `me` is the conductor's view
+  -- With n cells and this many worker seats, the table s shows the machine m, of which `me` is the conductor's view
   pub record ShowsMachine (n workers : ℕ) (s : State (Cargo J D) (View J)) (m : Machine) (me : View J) : Type 0 where
     -- the machine is in a state, with one worker more, the conductor
     pub state : IsState n (workers + 1) m

@@ -31,7 +31,7 @@ module _ {W J D : Type 0} where
   abbrev pub seat_view : WorkerSeat W J D → View J
   seat_view s = s.seat.me.0
 
-  -- the conductor is the one of this gate, and so many seats were split off
+  -- the conductor is the one of this gate, and this many seats were split off
   abbrev pub IsConductorWith : Gate W J D → ℕ → Conductor W J D → Type 0
   IsConductorWith gate crew c = IsConductor gate.table.shared.table_id gate.cells crew c.seat c.put c.taken
 

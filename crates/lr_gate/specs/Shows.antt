@@ -67,7 +67,7 @@ module _ {J D : Type 0} (gives : J → D) where
     pub word : slice_index_or s.words (p % n + 1) 0 ≡ word_of p (get_elem? stages p)
     pub lies : Lies me s.homes s.views p (p % n) (get_elem? stages p)
 
-  -- The rule, with n cells and so many worker seats to come. A cell is told by the one number p of the next n jobs
+  -- The rule, with n cells and this many worker seats to come. A cell is told by the one number p of the next n jobs
   -- that lies in it: `stages` are those of all jobs put, and a p after them is a free cell
   pub record Shows (n workers : ℕ) (s : State (Cargo J D) (View J)) : Type 0 where
     pub stages : List Stage

@@ -47,7 +47,7 @@ fn seat_workers<W: Work>(
 }
 
 impl<W: Work> Gate<W> {
-    /// A ring of so many cells, its conductor, and so many worker seats.
+    /// A ring of this many cells, its conductor, and this many worker seats.
     pub fn build(
         alloc: Global,
         cells: u32,

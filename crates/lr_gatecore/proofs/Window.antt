@@ -1,4 +1,4 @@
--- The stages of all jobs, as those taken and the window behind them.
+-- The stages of all jobs, as those taken and the window after them.
 use Rattle.std.proofs.Common.{◌≡◌, ℕ, zero, suc, ◌+◌, List, ◌∷◌, ◌++◌, set, replicate, refl, ap, arith}
 use lib.ListN.{get_elem?}
 

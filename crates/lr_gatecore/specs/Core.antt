@@ -26,7 +26,7 @@ MachineSteps cells workers m event false n = IsRefused cells workers m event × 
 abbrev pub Steps : Core → Event → Bool → Core → Type 0
 Steps old event moved new = MachineSteps old.cells old.workers old.machine event moved new.machine
 
--- the machine of which so many jobs were taken, and the jobs put after them have these stages
+-- the machine of which this many jobs were taken, and the jobs put after them have these stages
 abbrev pub machine_of : ℕ → List Stage → Bool → Machine
 machine_of taken window stopped = record { stages = replicate taken Done ++ window; taken = taken; stopped = stopped }
 

@@ -25,7 +25,7 @@ put_count m = length m.stages
 abbrev pub HasStage : Machine → ℕ → Stage → Type 0
 HasStage m i stage = (m.taken ≤ i) × (get_elem? m.stages i ≡ some stage)
 
--- The moves, with so many cells and workers: the event leads from m to n, and is about this job.
+-- The moves, with this many cells and workers: the event leads from m to n, and is about this job.
 -- A stop is about no job, and is told with the number of the next one
 abbrev pub Moves : ℕ → ℕ → Machine → Event → ℕ → Machine → Type 0
 Moves cells workers m Put job n =

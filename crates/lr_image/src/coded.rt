@@ -108,7 +108,7 @@ fn room(
     Ok(pixels)
 }
 
-/// How many lines the pieces can have, `each` in a piece and `all` together, where a line has at least so many bits.
+/// How many lines the pieces can have, `each` in a piece and `all` together, where a line has at least this many bits.
 fn most_lines(pieces: Pieces, least: u64, each: u32, all: u32) -> u32
     requires { 1 ≤ least }
     ensures { result ≤ all }

@@ -1,5 +1,5 @@
--- The packets and files of outcomes that go on, and how many bytes the files of outcomes have at most.
-use Rattle.std.specs.Prelude.{◌≡◌, ◌≤◌, ◌+◌, ◌*◌, ◌==◌, not, List, ◌++◌, length, map, count_by, All}
+-- The packets and files of outcomes that go on, and how much the files of outcomes weigh at most.
+use Rattle.std.specs.Prelude.{◌≡◌, ◌≤◌, List, ◌++◌, length, map, All}
 use Rattle.std.specs.List.{sum_by}
 use Rattle.lr_bits.specs.declared.outcome.Outcome.{Outcome}
 use Rattle.lr_bits.specs.declared.placed.Placed.{Placed}
@@ -8,6 +8,7 @@ use Rattle.lr_bits.specs.Packet.{Packet}
 use Rattle.lr_vc.specs.Runs.{AreFrames}
 use Rattle.lr_vc.specs.Packets.{packets_of}
 use Rattle.lr_packet.specs.Verdict.{Good}
+use Rattle.lr_file.specs.Laws.{Weights, file_weight, packet_weight}
 use Rattle.lr_layers.specs.Layers.{frames_of_outcomes, good_of_outcomes, files_of_outcomes}
 use Rattle.lr_layers.specs.Origins.{placed_of_outcomes}
 
@@ -30,11 +31,11 @@ FilesHaveOrigins = (outcomes : List Outcome) → AreFrames (frames_of_outcomes o
 abbrev pub FilesGoOn : Type 0
 FilesGoOn = (outcomes later : List Outcome) → AreFrames (frames_of_outcomes (outcomes ++ later)) → GoOn outcomes later
 
--- the files of outcomes have, with eight bytes for each body, at most 884 bytes for each frame that isn't fill
-abbrev pub FilesFitTheFrames : Type 0
-FilesFitTheFrames = (outcomes : List Outcome) → AreFrames (frames_of_outcomes outcomes) →
-    sum_by (λ file. length (bytes_of file) + 8 * length file.bodies) (files_of_outcomes outcomes) ≤ 884 * count_by
-    (λ frame. not (frame.vc == 63)) (frames_of_outcomes outcomes)
+-- the files of outcomes weigh at most what the good packets of the outcomes do
+abbrev pub FilesFitThePackets : Type 0
+FilesFitThePackets = (weights : Weights) (outcomes : List Outcome) →
+    sum_by (file_weight weights) (files_of_outcomes outcomes)
+    ≤ sum_by (packet_weight weights) (good_of_outcomes outcomes)
 
 -- each file of outcomes has a body, and ten bytes
 abbrev pub FilesAreSome : Type 0

@@ -1,15 +1,16 @@
 //! Laws on the files of outcomes.
 
-ghost use Rattle.lr_layers.specs.Laws.{FilesAreSome, FilesFitTheFrames, FilesGoOn, FilesHaveOrigins};
+ghost use Rattle.lr_layers.specs.Laws.{FilesAreSome, FilesFitThePackets, FilesGoOn, FilesHaveOrigins};
 
 /// The packets, the good packets and the files of the first outcomes are the first ones.
 pub fn files_go_on()
     ensures { FilesGoOn }
 {}
 
-/// The files of outcomes have, with eight bytes for each body, at most 884 bytes for each frame that isn't fill.
-pub fn files_fit_the_frames()
-    ensures { FilesFitTheFrames }
+/// The files of outcomes weigh at most what the good packets of the outcomes do, whatever the first and the last packet
+/// of a file and each packet weigh besides the bytes of their bodies.
+pub fn files_fit_the_packets()
+    ensures { FilesFitThePackets }
 {}
 
 /// Each file of outcomes has a body, and ten bytes.

@@ -15,5 +15,5 @@ mod packets;
 mod starts;
 
 pub use counts::Counts;
-pub use laws::{files_are_some, files_fit_the_frames, files_go_on, files_have_origins};
+pub use laws::{files_are_some, files_fit_the_packets, files_go_on, files_have_origins};
 pub use layers::Layers;

@@ -10,6 +10,7 @@ use Rattle.std.proofs.lemmas.List.{drop-append-le, map-append, take_more_set, sa
 use Rattle.std.proofs.lemmas.List.FromFn.{map-range_with_len_more, length-map-range_with_len, get_or-map-range_with_len}
 use Rattle.lr_bits.specs.Bits.{bit_of}
 use Rattle.lr_conv.specs.Convolution.{first_symbol}
+use Rattle.lr_conv.specs.declared.line.LineCode.{LineCode}
 use Rattle.lr_conv.specs.declared.line.TheConstants.{STANDARD}
 use Rattle.lr_conv.specs.Convolution.{code, symbols, second_symbol}
 use Rattle.lr_conv.specs.Encoder.{past_of}
@@ -18,43 +19,43 @@ use Rattle.lr_make.specs.Symbols.{bits_of_bytes, level, marked_block}
 
 -- ---- the code of a list
 
-pub length-symbols : (t : List Bool) (n : ℕ) → length (symbols STANDARD t n) ≡ 2 * n
-length-symbols t zero = refl
-length-symbols t (suc n) =
+pub length-symbols : (line : LineCode) (t : List Bool) (n : ℕ) → length (symbols line t n) ≡ 2 * n
+length-symbols line t zero = refl
+length-symbols line t (suc n) =
     omega (
       arith,
-      length-append (symbols STANDARD t n) (first_symbol t n ∷ second_symbol STANDARD t n ∷ []),
-      length-symbols t n,
+      length-append (symbols line t n) (first_symbol t n ∷ second_symbol line t n ∷ []),
+      length-symbols line t n,
     )
 
-pub length-code : (past x : List Bool) → length (code STANDARD past x) ≡ 2 * length x
-length-code past x = length-symbols (past ++ x) (length x)
+pub length-code : (line : LineCode) (past x : List Bool) → length (code line past x) ≡ 2 * length x
+length-code line past x = length-symbols line (past ++ x) (length x)
 
 -- one bit more leaves the symbols so far
-code-more : (past x : List Bool) (b : Bool) → length past ≡ 6 →
-    (pair : List Bool) × (code STANDARD past (x ++ b ∷ []) ≡ code STANDARD past x ++ pair)
-code-more past x b six =
+code-more : (line : LineCode) (past x : List Bool) (b : Bool) → length past ≡ 6 →
+    (pair : List Bool) × (code line past (x ++ b ∷ []) ≡ code line past x ++ pair)
+code-more line past x b six =
     let t : List Bool = past ++ x in
     let n : ℕ = length x in
     let size : length t ≡ n + 6 = omega (arith, length-append past x, six) in
     let more : length (x ++ b ∷ []) ≡ suc n = omega (arith, length-append x (b ∷ [])) in
     let all : past ++ (x ++ b ∷ []) ≡ t ++ b ∷ [] = sym (append_assoc past x (b ∷ [])) in (
-      first_symbol (t ++ b ∷ []) n ∷ second_symbol STANDARD (t ++ b ∷ []) n ∷ [],
-      ap (λ z. symbols STANDARD z (length (x ++ b ∷ []))) all ∙ ap (symbols STANDARD (t ++ b ∷ [])) more
-          ∙ ap (λ z. z ++ first_symbol (t ++ b ∷ []) n ∷ second_symbol STANDARD (t ++ b ∷ []) n ∷ [])
-          (symbols-more b t STANDARD n (omega (arith, size))),
+      first_symbol (t ++ b ∷ []) n ∷ second_symbol line (t ++ b ∷ []) n ∷ [],
+      ap (λ z. symbols line z (length (x ++ b ∷ []))) all ∙ ap (symbols line (t ++ b ∷ [])) more
+          ∙ ap (λ z. z ++ first_symbol (t ++ b ∷ []) n ∷ second_symbol line (t ++ b ∷ []) n ∷ [])
+          (symbols-more b t line n (omega (arith, size))),
     )
 
 -- nor do more bits change them
-pub code-front : (past x y : List Bool) → length past ≡ 6 →
-    (rest : List Bool) × (code STANDARD past (x ++ y) ≡ code STANDARD past x ++ rest)
-code-front past x [] six = ([], ap (code STANDARD past) (append-nil x) ∙ sym (append-nil (code STANDARD past x)))
-code-front past x (b ∷ y) six =
-    let one = code-more past x b six in
-    let rest = code-front past (x ++ b ∷ []) y six in (
+pub code-front : (line : LineCode) (past x y : List Bool) → length past ≡ 6 →
+    (rest : List Bool) × (code line past (x ++ y) ≡ code line past x ++ rest)
+code-front line past x [] six = ([], ap (code line past) (append-nil x) ∙ sym (append-nil (code line past x)))
+code-front line past x (b ∷ y) six =
+    let one = code-more line past x b six in
+    let rest = code-front line past (x ++ b ∷ []) y six in (
       one.0 ++ rest.0,
-      ap (code STANDARD past) (sym (append_assoc x (b ∷ []) y)) ∙ rest.1 ∙ ap (λ z. z ++ rest.0) one.1
-          ∙ append_assoc (code STANDARD past x) one.0 rest.0,
+      ap (code line past) (sym (append_assoc x (b ∷ []) y)) ∙ rest.1 ∙ ap (λ z. z ++ rest.0) one.1
+          ∙ append_assoc (code line past x) one.0 rest.0,
     )
 
 -- ---- the first bits of some bytes
@@ -100,7 +101,7 @@ symbols_more past bits bytes n first second old long small done pushed =
     ap (λ z. bits ++ z) (first_bits-more bytes n) ∙ sym (append_assoc bits (first_bits bytes n)
     (nat_eq (bit_of bytes n) 1 ∷ [])) in
     let enough : 2 * length bits ≤ length before =
-    omega (arith, length-code past (bits ++ first_bits bytes n), length-append bits (first_bits bytes n)) in
+    omega (arith, length-code STANDARD past (bits ++ first_bits bytes n), length-append bits (first_bits bytes n)) in
     written ∙ ap (λ z. z ++ u ∷ v ∷ []) done
     ∙ sym (ap (λ z. map level (drop (2 * length bits) (code STANDARD past z))) longer
     ∙ ap (λ z. map level (drop (2 * length bits) z)) pushed

@@ -76,7 +76,7 @@ length-all_symbols start wrong n =
     omega (
       arith,
       length-map (code STANDARD (replicate 6 false) (sent_bits start wrong n)) level,
-      length-code (replicate 6 false) (sent_bits start wrong n),
+      length-code STANDARD (replicate 6 false) (sent_bits start wrong n),
       length-sent_bits start wrong n,
     )
 
@@ -90,7 +90,7 @@ symbols_are_one_code start wrong zero = refl
 symbols_are_one_code start wrong (suc n) =
     let zeros : List Bool = replicate 6 false in
     let more : List Bool = bits_of_bytes (marked_block (block_at start wrong n)) in
-    let front = code-front zeros (sent_bits start wrong n) more refl in
+    let front = code-front STANDARD zeros (sent_bits start wrong n) more refl in
     let whole : all_symbols start wrong (suc n) ≡ all_symbols start wrong n ++ map level front.0 =
     ap (map level) front.1 ∙ map-append level (code STANDARD zeros (sent_bits start wrong n)) front.0 in
     let next : n + 1 ≡ suc n = add-one n in

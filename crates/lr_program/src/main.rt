@@ -19,7 +19,7 @@ const CALLS: u64 = 65_536;
 /// The status where the path can't be opened. Nothing is printed then.
 const UNOPENED: u8 = 1;
 
-/// The path of the shelf and the words behind it.
+/// The path of the shelf and the words after it.
 fn all_words(rt: &HostRuntime) -> Result<Vec<String>, Cause> {
     let args = match env::args(rt) {
         Ok(args) => args.skip(1),

@@ -80,7 +80,7 @@ leading_block bits block string rest (lead ∷ values) size some small is =
       are_places = refl;
     }
 
--- the values behind the first place of a line
+-- the values after the first place of a line
 pub behind_first : (first : Bool) (places values : List ℕ) (skipped : ℕ) → skipped ≡ bool_byte first
     → get_or places 0 0 ≡ 0 → 1 ≤ length places → length values ≡ length places - skipped →
     take skipped places ++ (values ++ post_of skipped (length places - skipped) places) ≡ whole_block first values

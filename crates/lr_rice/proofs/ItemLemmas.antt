@@ -78,7 +78,7 @@ first_tested false small = inr (small (inr refl))
 
 -- ---- identifiers
 
--- the bit behind a short identifier of zeros
+-- the bit after a short identifier of zeros
 pub long_identifier : (width short number bit : ℕ) (string now rest : List ℕ) → width ≡ short → number ≡ 0
     → bit < 2 → string ≡ number_bits width number ++ now → now ≡ bit ∷ rest →
     string ≡ number_bits (short + 1) bit ++ rest
@@ -89,7 +89,7 @@ long_identifier width short number bit string now rest same none fits is more =
     is ∙ ap (λ l. number_bits width number ++ l) more
     ∙ sym (append_assoc (number_bits width number) (bit ∷ []) rest) ∙ ap (λ l. l ++ rest) front
 
--- ---- faults behind items that are there
+-- ---- faults after items that are there
 
 pub SequencesFail-behind : (bits : ℕ) (front : List ℕ) (n m : ℕ) (whole rest : List ℕ) (cause : Cause)
     → m ≡ length front + n →

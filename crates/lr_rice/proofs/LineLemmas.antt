@@ -84,7 +84,7 @@ span-pos form at (Pairs lead values) before = omega arith
 span-pos form at (Halves k values) before = omega arith
 span-pos form at (Numbers values) before = omega arith
 
--- no part ends behind the line
+-- no part ends after the line
 pub span-inside : (form : Form) (at : ℕ) (part : Part) → at < block_count form
     → IsPart form.bits form.block (at == 0) (left_in_segment form at) part →
     at + span_of (left_in_segment form at) part ≤ block_count form
@@ -164,7 +164,7 @@ whole_block-later : (first : Bool) (values : List ℕ) → first ≡ false → w
 whole_block-later true values later = cc
 whole_block-later false values later = refl
 
--- behind a line's first part no place is its first
+-- after a line's first part no place is its first
 later-places : (form : Form) (start : ℕ) (parts : List Part) (at : ℕ) → 1 ≤ start → Follow form start parts at
     → places_from form start parts ≡ values_from form start parts
 later-places form start [] at behind follow = refl

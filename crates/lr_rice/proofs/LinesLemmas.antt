@@ -6,7 +6,7 @@ use Rattle.lr_rice.specs.declared.fault.RiceFault.{RiceFault}
 use Rattle.lr_rice.specs.CodedLines.{AreLines, Form, IsLine, form_of}
 use Rattle.lr_rice.specs.LineFaults.{LineFails, LinesFail, fault_in}
 
--- so many lines were read
+-- this many lines were read
 pub record LinesRead (form : Form) (n : ℕ) (samples string rest : List ℕ) : Type 0 where
   pub coding : List ℕ
   pub lines : AreLines form n samples coding

@@ -29,7 +29,7 @@ use Rattle.lr_rice.proofs.Reading.{take_pairs, take_pairs-fails, take_pairs-is, 
 use Rattle.lr_rice.proofs.Reading.{take_sequence-is, take_splits, take_splits-fails, take_splits-is, take_values}
 use Rattle.lr_rice.proofs.Reading.{take_values-fails, take_values-is}
 
--- ---- what stands behind a head: how many blocks, their values, and what is left
+-- ---- what stands after a head: how many blocks, their values, and what is left
 
 abbrev Body : Type 0
 Body = Result (ℕ × List ℕ × List ℕ) Cause

@@ -7,7 +7,7 @@ use Rattle.lr_bits.specs.Bits.{number_bits, zeros_and_one}
 use Rattle.lr_rice.specs.declared.choice.BlockOption.{BlockOption}
 use Rattle.lr_rice.specs.declared.choice.BlockOption.TheVariants.{ZeroBlock, SecondExtension, Split, Uncoded}
 
--- how lines are coded: samples of so many bits, blocks of so many samples, lines of so many columns
+-- how lines are coded: samples of this many bits, blocks of this many samples, lines of this many columns
 pub record Form : Type 0 where
   pub bits : ℕ
   pub block : ℕ
@@ -16,7 +16,7 @@ pub record Form : Type 0 where
 abbrev pub form_of : ℕ → ℕ → ℕ → Form
 form_of bits block columns = record { bits = bits; block = block; columns = columns }
 
--- the greatest sample of so many bits, and the greatest mapped value
+-- the greatest sample of this many bits, and the greatest mapped value
 abbrev pub greatest : ℕ → ℕ
 greatest bits = 2 ^ bits - 1
 
@@ -61,7 +61,7 @@ option_of (Pairs lead values) = SecondExtension
 option_of (Halves k values) = Split k
 option_of (Numbers values) = Uncoded
 
--- how many blocks a zero block of this number stands for, where so many are left in the segment
+-- how many blocks a zero block of this number stands for, where this many are left in the segment
 abbrev pub run_of : ℕ → ℕ → ℕ
 run_of left m = if nat_lt m 4 then m + 1 else (if m == 4 then left else m)
 
@@ -70,7 +70,7 @@ abbrev pub span_of : ℕ → Part → ℕ
 span_of left (Zeros m) = run_of left m
 span_of left part = 1
 
--- how many mapped values so many blocks have: of a line's first one the reference takes the first place
+-- how many mapped values this many blocks have: of a line's first one the reference takes the first place
 abbrev pub places : ℕ → Bool → ℕ → ℕ
 places block first span = span * block - (if first then 1 else 0)
 
@@ -188,19 +188,19 @@ pub record LineThen (form : Form) (Others : List ℕ → List ℕ → Type 0) (s
   pub are_samples : samples ≡ line ++ others
   pub is_string : string ≡ front ++ back
 
--- so many lines, one after another
+-- this many lines, one after another
 abbrev pub AreLines : Form → ℕ → List ℕ → List ℕ → Type 0
 AreLines form zero samples string = (samples ≡ []) × (string ≡ [])
 AreLines form (suc n) samples string = LineThen form (AreLines form n) samples string
 
--- the string begins with a coding of so many lines, of these samples
+-- the string begins with a coding of this many lines, of these samples
 pub record BeginsWithLines (form : Form) (n : ℕ) (samples string : List ℕ) : Type 0 where
   pub coding : List ℕ
   pub rest : List ℕ
   pub lines : AreLines form n samples coding
   pub is_string : string ≡ coding ++ rest
 
--- the pixels grew by the samples of so many lines, with which the string begins
+-- the pixels grew by the samples of this many lines, with which the string begins
 pub record GrowsByLines (form : Form) (n : ℕ) (string old new : List ℕ) : Type 0 where
   pub samples : List ℕ
   pub begins : BeginsWithLines form n samples string

@@ -33,7 +33,7 @@ FaultsAreOne =
     (form : Form) → IsForm form → (n : ℕ) (string : List ℕ) (fault other : RiceFault)
     → LinesFail form n string fault → LinesFail form n string other → fault ≡ other
 
--- so many lines have this many samples, each of them in range
+-- this many lines have this many samples, each of them in range
 pub record AreSamples (form : Form) (n : ℕ) (samples : List ℕ) : Type 0 where
   pub whole : length samples ≡ n * form.columns
   pub small : All (λ sample. sample ≤ greatest form.bits) samples

@@ -19,7 +19,7 @@ use Rattle.lr_rice.specs.CodedLines.{string_from}
 abbrev pub NoSequence : List ℕ → Type 0
 NoSequence string = All (λ bit. bit ≡ 0) string
 
--- the first of so many values that can't be read, each written as a sequence
+-- the first of this many values that can't be read, each written as a sequence
 abbrev pub SequencesFail : ℕ → ℕ → List ℕ → Cause → Type 0
 SequencesFail bits zero string cause = ⊥
 SequencesFail bits (suc n) string cause =
@@ -36,21 +36,21 @@ LowBitsFail bits k (high ∷ highs) string cause =
     × (((greatest bits < high * 2 ^ k + low) × (cause ≡ OutOfRange))
     ⊎ ((high * 2 ^ k + low ≤ greatest bits) × LowBitsFail bits k highs rest cause)))
 
--- of so many values split by k bits: a high part isn't there, or the low bits fail
+-- of this many values split by k bits: a high part isn't there, or the low bits fail
 abbrev pub SplitsFail : ℕ → ℕ → ℕ → List ℕ → Cause → Type 0
 SplitsFail bits k n string cause =
     (highs : List ℕ) × (rest : List ℕ) × (string ≡ flat_map zeros_and_one highs ++ rest)
     × (((length highs < n) × NoSequence rest × (cause ≡ Ended))
     ⊎ ((length highs ≡ n) × LowBitsFail bits k highs rest cause))
 
--- so many values can't be read, in an option in which each is written by itself
+-- this many values can't be read, in an option in which each is written by itself
 abbrev pub ValuesFail : ℕ → ℕ → BlockOption → List ℕ → Cause → Type 0
 ValuesFail bits n (Split zero) string cause = SequencesFail bits n string cause
 ValuesFail bits n (Split (suc k)) string cause = SplitsFail bits (suc k) n string cause
 ValuesFail bits n Uncoded string cause = (length string < n * bits) × (cause ≡ Ended)
 ValuesFail bits n option string cause = ⊥
 
--- The first of so many pairs that can't be read. The first value of the leading one isn't tested, if that is a line's
+-- The first of this many pairs that can't be read. The first value of the leading one isn't tested, if that is a line's
 -- first.
 abbrev pub PairsFail : ℕ → Bool → ℕ → List ℕ → Cause → Type 0
 PairsFail bits lead zero string cause = ⊥
@@ -106,7 +106,7 @@ fault_in line Ended = fault.Ended line
 fault_in line OutOfRange = fault.OutOfRange line
 fault_in line RunPastSegment = fault.RunPastSegment line
 
--- so many lines can't be read: some are there, but not the next one
+-- this many lines can't be read: some are there, but not the next one
 pub record LinesFail (form : Form) (n : ℕ) (string : List ℕ) (fault : RiceFault) : Type 0 where
   pub line : ℕ
   pub before : line < n

@@ -62,8 +62,8 @@ pub record ReadsBlock (bits block : ℕ) (first : Bool) (left : ℕ) (option : B
   pub one : span_of left part ≡ 1
   pub are_places : places ≡ whole_block first (values_of block first left part)
 
--- a part was read, which stands for so many blocks, and the samples after p were written over the places; `last` is the
--- last of them, if all have a place
+-- a part was read, which stands for this many blocks, and the samples after p were written over the places; `last` is
+-- the last of them, if all have a place
 pub record WritesPart (bits block : ℕ) (first : Bool) (left : ℕ) (option : BlockOption) (p : ℕ)
     (string rest old new : List ℕ) (blocks last : ℕ) : Type 0 where
   pub part : Part
@@ -75,7 +75,7 @@ pub record WritesPart (bits block : ℕ) (first : Bool) (left : ℕ) (option : B
       last ≡ sample_after (greatest bits) p (whole_block first (values_of block first left part))
   pub in_range : last ≤ greatest bits
 
--- a sequence was read that stands for so many blocks, which are left in the segment
+-- a sequence was read that stands for this many blocks, which are left in the segment
 pub record IsRun (left blocks : ℕ) (string rest : List ℕ) : Type 0 where
   pub number : ℕ
   pub is_string : string ≡ zeros_and_one number ++ rest

@@ -7,7 +7,7 @@ pub fn lines_are_one()
     ensures { LinesAreOne }
 {}
 
-/// What begins with a coding of so many lines has no fault in them.
+/// What begins with a coding of this many lines has no fault in them.
 pub fn lines_have_no_fault()
     ensures { LinesHaveNoFault }
 {}

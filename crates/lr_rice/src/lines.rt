@@ -10,7 +10,7 @@ use crate::RiceFault;
 use crate::line::decode_line;
 use lr_bits::{BitReader, Pixels};
 
-/// Appends the samples of so many lines, with which the bytes begin. The memory for all of them is taken before the
+/// Appends the samples of this many lines, with which the bytes begin. The memory for all of them is taken before the
 /// first line is read. A refusal leaves the pixels as they were.
 pub fn decode_lines(
     coded: &[u8],
@@ -45,7 +45,7 @@ pub fn decode_lines(
     }
 }
 
-/// Writes the samples of so many lines, with which the bytes begin. This takes no memory. After a refusal the places
+/// Writes the samples of this many lines, with which the bytes begin. This takes no memory. After a refusal the places
 /// may hold anything.
 pub fn decode_into(
     coded: &[u8],

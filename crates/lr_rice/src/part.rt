@@ -101,7 +101,7 @@ fn decode_block(
     Ok(Decoded { blocks: 1, last })
 }
 
-/// Reads the run of a zero block, where so many blocks are left in the segment.
+/// Reads the run of a zero block, where this many blocks are left in the segment.
 fn read_run(reader: &mut BitReader<'_>, left: u32) -> Result<u32, Cause>
     requires { left ≤ 64 }
     ensures ok { IfOk result (λ blocks. IsRun left blocks reader.old reader.new) }

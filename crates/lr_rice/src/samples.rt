@@ -4,7 +4,7 @@ ghost use Rattle.std.specs.Prelude.{◌≡◌, ◌+◌, ◌/◌, ◌%◌, ◌<�
 ghost use Rattle.lr_rice.specs.CodedLines.{greatest};
 ghost use Rattle.lr_rice.specs.Samples.{overwritten, sample_after, sample_of, samples_from};
 
-/// The greatest sample of so many bits.
+/// The greatest sample of this many bits.
 #[inline(always)]
 pub(crate) fn most_of(bits: u32) -> u64
     requires { bits ≤ 16 }
@@ -63,7 +63,7 @@ pub(crate) fn write_samples(most: u64, p: u64, values: &[u64], out: &mut [u16]) 
     last
 }
 
-/// Writes the sample `p` so many times, as far as there are places.
+/// Writes the sample `p` this many times, as far as there are places.
 pub(crate) fn repeat_sample(most: u64, p: u64, count: usize, out: &mut [u16])
     requires narrow { most < 2 ^ 16 }
     requires sample { p ≤ most }

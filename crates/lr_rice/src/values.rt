@@ -78,7 +78,7 @@ fn read_values(
     }
 }
 
-/// Reads values that are written in so many bits each.
+/// Reads values that are written in this many bits each.
 fn read_numbers(reader: &mut BitReader<'_>, width: u32, values: &mut [u64]) -> Result<(), Ended>
     requires { width ≤ 16 }
     ensures ok { OnOk result (reader.old ≡ flat_map (number_bits width) values.new ++ reader.new) }

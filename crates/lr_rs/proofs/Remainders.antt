@@ -121,7 +121,7 @@ root-lt : (j : ℕ) → root_at j < 256
 unfolding root_at
 root-lt j = power-lt 2 (11 * (112 + j)) (omega arith)
 
--- its coefficients, the highest first, without that of x^32; they read the same from behind
+-- its coefficients, the highest first, without that of x^32; they read the same from the end
 tail_coefficients : List ℕ
 tail_coefficients = 0x5B ∷ 0x7F ∷ 0x56 ∷ 0x10 ∷ 0x1E ∷ 0x0D ∷ 0xEB ∷ 0x61 ∷ 0xA5 ∷ 0x08 ∷ 0x2A ∷ 0x36 ∷ 0x56
     ∷ 0xAB ∷ 0x20 ∷ 0x71 ∷ 0x20 ∷ 0xAB ∷ 0x56 ∷ 0x36 ∷ 0x2A ∷ 0x08 ∷ 0xA5 ∷ 0x61 ∷ 0xEB ∷ 0x0D ∷ 0x1E ∷ 0x10

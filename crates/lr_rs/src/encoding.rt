@@ -1,4 +1,4 @@
-//! Encoding: the information, and behind it the check bytes.
+//! Encoding: the information, and after it the check bytes.
 #![tactic(auto)]
 
 ghost use Rattle.std.specs.Prelude.{◌≡◌, ℕ, ◌+◌, ◌<◌, ◌≤◌, slice_index, take, List};
@@ -8,7 +8,7 @@ ghost use Rattle.lr_rs.specs.Words.{IsWord, IsCodeword};
 use crate::division::remainder_of;
 use lr_gf::{Gf, to_dual};
 
-/// Writes the information, and zeros behind it.
+/// Writes the information, and zeros after it.
 fn put_information(information: &[u8; 223], word: &mut [u8; 255])
     ensures begins { (i : ℕ) → i < 223 → slice_index word.new i ≡ slice_index information.now i }
     ensures zeros { (i : ℕ) → 223 ≤ i → slice_index word.new i ≡ 0 }
@@ -20,7 +20,7 @@ fn put_information(information: &[u8; 223], word: &mut [u8; 255])
     }
 }
 
-/// Writes the check bytes behind the information.
+/// Writes the check bytes after the information.
 fn put_check(word: &mut [u8; 255], check: &[Gf; 32])
     ensures kept { (i : ℕ) → i < 223 → slice_index word.new i ≡ slice_index word.old i }
     ensures bytes { (k : ℕ) → k < 32 → slice_index word.new (223 + k) < 256 }

@@ -79,7 +79,7 @@ fn gives(alloc: Global, shape: Shape, text: &str, wanted: &[u16]) -> Result<bool
     })
 }
 
-/// Whether the text gives so many samples, all of this value.
+/// Whether the text gives this many samples, all of this value.
 fn gives_all(
     alloc: Global,
     shape: Shape,
@@ -116,7 +116,7 @@ fn fails(alloc: Global, shape: Shape, text: &str, wanted: RiceFault) -> Result<b
     })
 }
 
-/// A text, so many zeros, and another text.
+/// A text, this many zeros, and another text.
 fn with_zeros(alloc: Global, front: &str, zeros: usize, back: &str) -> Result<String, NoMemory> {
     let mut text = String::new(alloc);
     text.push_str(front)?;
@@ -127,7 +127,7 @@ fn with_zeros(alloc: Global, front: &str, zeros: usize, back: &str) -> Result<St
     Ok(text)
 }
 
-/// Whether sequences after `front` make the fault where they have so many zeros, and no other one where they have one
+/// Whether sequences after `front` make the fault where they have this many zeros, and no other one where they have one
 /// less.
 fn is_limit(
     alloc: Global,

@@ -1,5 +1,5 @@
 // `Channels` over a few frames of channel 0.
-use lr_bits::{NoMemory, RawPacket};
+use lr_bits::{NoMemory, RawPacket, ZONE_BYTES};
 use lr_vc::{Channels, TransferFrame};
 use std::alloc::Global;
 use std::test::Fail;
@@ -74,7 +74,7 @@ fn one_frame(alloc: Global) -> Result<bool, NoMemory> {
     Ok(have_lengths(&packets, &[17, 867]) && packets.first().is_some_and(is_digits))
 }
 
-/// The first three bytes of the digits end a zone, behind an idle packet. The second frame has this counter and
+/// The first three bytes of the digits end a zone, after an idle packet. The second frame has this counter and
 /// pointer, the other bytes of the digits, and an idle packet that ends with its zone.
 fn two_frames(
     alloc: Global,
@@ -104,7 +104,7 @@ fn header_of_one_byte(alloc: Global, pointer: u16, lengths: &[usize]) -> Result<
     Ok(have_lengths(&packets, lengths))
 }
 
-/// A packet of 65,542 bytes: 74 zones and 126 bytes. Its frames break off behind the first `zones`, and go on with a
+/// A packet of 65,542 bytes: 74 zones and 126 bytes. Its frames break off after the first `zones`, and go on with a
 /// frame that has the counter `counter`, the pointer 126, and an idle packet from there to its end.
 fn longest_packet(
     alloc: Global,

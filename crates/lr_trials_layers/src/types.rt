@@ -60,7 +60,7 @@ fn is_file(
     Ok(built.is_some())
 }
 
-/// Whether ten bytes, and so many empty bodies behind them, are a file.
+/// Whether ten bytes, and this many empty bodies after them, are a file.
 fn is_file_of_empty_bodies(alloc: Global, more: u32) -> Result<bool, NoMemory> {
     let mut lengths = Lengths::new(alloc);
     lengths.push(10)?;

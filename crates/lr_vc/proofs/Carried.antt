@@ -72,7 +72,7 @@ module _ (b zone : List ℕ) (p : ℕ) where
       is_packet_at channel (b ++ zone) 0 fits (is_whole_if (b ++ zone) 0 (omega (arith, length-append b zone))
       (omega (arith, length-append b zone)))
 
--- where a packet starts in the zone, no open one goes on behind it
+-- where a packet starts in the zone, no open one goes on after it
 pub flat_map-continued_packet : (zone : List ℕ) (p : ℕ) (met : List (List ℕ)) → p < 884 →
     flat_map (continued_packet zone p) met ≡ []
 flat_map-continued_packet zone p met h =

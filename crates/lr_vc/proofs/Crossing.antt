@@ -18,7 +18,7 @@ use Rattle.lr_vc.proofs.Lists.{Each_weaker, Each-range, list_all_same}
 use Rattle.lr_vc.proofs.Starts.{packet_end_is, packet_end-append, packet_end-behind, packet_end-drop, is_whole_true}
 use Rattle.lr_vc.proofs.Starts.{is_whole_if, is_whole_false, is_whole_too_long, is_whole-append, is_whole-behind}
 
--- the zones behind a start lie behind its zone, in the run
+-- the zones after a start lie after its zone, in the run
 pub zones_after_within : (run : Run) (s : ℕ) → Each (λ u. u < length run) (zones_after run s)
 unfolding zones_after
 zones_after_within run s =
@@ -67,7 +67,7 @@ module _ (run : Run) (f : ℕ × Fields) (zones : AreZones run) (long : length f
       packet_end (zones_of run ++ f.1.zone) s ≡ s + packet_end (drop s (zones_of run) ++ f.1.zone) 0
   end_there s h = packet_end-drop (zones_of run ++ f.1.zone) s ∙ ap (λ zs. s + packet_end zs 0) (rest_grown s h)
 
-  -- what isn't whole yet ends behind the zones that were there
+  -- what isn't whole yet ends after the zones that were there
   end_beyond : (s : ℕ) → s < 884 * length run → is_whole (zones_of run) s ≡ false →
       884 * length run < packet_end (zones_of run ++ f.1.zone) s
   end_beyond s h e =
@@ -131,7 +131,7 @@ module _ (run : Run) (f : ℕ × Fields) (zones : AreZones run) (long : length f
       ∙ sym (ap (λ o. o && (more && q)) (right ∙ ap (λ w. not w && late run s) part)))
       (cases_Bool (is_whole Z s))
 
-  -- the pointers of the zones that were there, and of the new one, against a packet that ends behind the former
+  -- the pointers of the zones that were there, and of the new one, against a packet that ends after the former
   agrees_old : (s : ℕ) → s < 884 * length run → is_whole (zones_of run) s ≡ false →
       list_all (agrees (run ++ f ∷ []) (packet_end (zones_of run ++ f.1.zone) s)) (zones_after run s) ≡ late run s
   unfolding agrees late

@@ -1,4 +1,4 @@
--- The packets that end in the last frame of a run, and those that are open behind it.
+-- The packets that end in the last frame of a run, and those that are open after it.
 use Rattle.std.proofs.Common.{◌≡◌, ℕ, ◌+◌, ◌*◌, ◌<◌, ◌≤◌, Bool, true, false, cond, not, ◌&&◌, List, [], ◌∷◌, ◌++◌, map}
 use Rattle.std.proofs.Common.{length, drop, filter, flat_map, refl, sym, ap, ap₂, ◌∙◌, arith, append-nil, ltb, eqb}
 use Rattle.std.proofs.Common.{eq-eqb, ne_eqb}

@@ -30,14 +30,14 @@ use Rattle.lr_vc.proofs.History.{packets_at-last, packets_at-next}
 abbrev bytes_of : List Packet → ℕ
 bytes_of packets = sum_by (λ packet. length packet.bytes) packets
 
--- a packet has no bytes behind its end
+-- a packet has no bytes after its end
 packet_within : (channel : ℕ) (xs : List ℕ) (s : ℕ) → length (packet_at channel xs s).bytes ≤ packet_end xs s - s
 unfolding packet_at
 packet_within channel xs s = omega (arith, length-take (packet_end xs s - s) (drop s xs))
 
 -- ---- one zone
 
--- packets that ended, and at most one that is open behind them, have at most so many bytes
+-- packets that ended, and at most one that is open after them, have at most this many bytes
 record Holds (whole : List Packet) (unfinished : List (List ℕ)) (most : ℕ) : Type 0 where
   few : length unfinished ≤ 1
   fit : bytes_of whole + sum_by length unfinished ≤ most
@@ -130,7 +130,7 @@ module _ (zone : List ℕ) (long : length zone ≡ 884) (channel p : ℕ) where
       (record { few = one.few; fit = omega (arith, one.fit) })
   carried (b ∷ b' ∷ bs) few = absurd (omega arith)
 
--- a frame's packets and the open one behind them have the bytes of the open one that it meets and of its zone
+-- a frame's packets and the open one after them have the bytes of the open one that it meets and of its zone
 frame_holds : (f : Fields) (bs : List (List ℕ)) → length f.zone ≡ 884 → length bs ≤ 1 →
     Holds (packets_with f bs) (open_after f bs) (sum_by length bs + 884)
 frame_holds f bs long few =

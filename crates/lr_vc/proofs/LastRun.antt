@@ -218,7 +218,7 @@ place_of_below n [] u h k = absurd (omega arith)
 place_of_below n (f ∷ fs) zero h k = h.0
 place_of_below n (f ∷ fs) (suc u) h k = place_of_below n fs u h.1 (omega arith)
 
--- no packet of a run ends in a frame that comes behind all of its own
+-- no packet of a run ends in a frame that comes after all of its own
 pub packets_ending_none : (channel n : ℕ) (run : Run) → AreZones run → Each (λ f. f.0 < n) run →
     packets_ending channel n run ≡ []
 unfolding packets_ending ends_in is_delivered

@@ -135,7 +135,7 @@ Each-enumerate_from {X} n (x ∷ xs) =
           (Each-enumerate_from (n + 1) xs),
     )
 
--- a list that begins with an older one still does with more behind it
+-- a list that begins with an older one still does with more after it
 pub front_kept : {X : Type 0} (old done more : List X) → take (length old) done ≡ old →
     take (length old) (done ++ more) ≡ old
 front_kept old done more e =

@@ -1,4 +1,4 @@
--- Places in joined bytes: what more bytes behind them, or before them, change.
+-- Places in joined bytes: what more bytes after them, or before them, change.
 use Rattle.lr_vc.specs.Runs.{Run}
 use Rattle.std.proofs.Common.{◌≡◌, ℕ, zero, suc, ◌+◌, ◌-◌, ◌*◌, ◌<◌, ◌≤◌, Bool, true, false, cond, ◌&&◌, List, [], ◌∷◌}
 use Rattle.std.proofs.Common.{◌++◌, map, length, take, drop, get_or, refl, sym, ap, ap₂, ◌∙◌, arith, add-zero}
@@ -128,7 +128,7 @@ leb_shift n a b =
     ⊎_elim (λ h. lt-leb (n + a) (n + b) (omega arith) ∙ sym (lt-leb a b h))
     (λ h. le-leb (n + a) (n + b) (omega arith) ∙ sym (le-leb a b h)) (cases_lt b a)
 
--- what lies behind other bytes is whole where it is whole alone
+-- what lies after other bytes is whole where it is whole alone
 pub is_whole-behind : (xs ys : List ℕ) (n s : ℕ) → length xs ≡ n → is_whole (xs ++ ys) (n + s) ≡ is_whole ys s
 unfolding is_whole has_header
 is_whole-behind xs ys n s e =
@@ -182,7 +182,7 @@ unfolding starts_from
 starts_from_past xs edge zero s h = refl
 starts_from_past xs edge (suc steps) s h = rw (le-ltb s edge h) refl
 
--- behind the edge more bytes start nothing
+-- after the edge more bytes start nothing
 pub starts_from-append : (xs ys : List ℕ) (edge steps s : ℕ) → edge ≤ length xs →
     starts_from (xs ++ ys) edge steps s ≡ starts_from xs edge steps s
 unfolding starts_from

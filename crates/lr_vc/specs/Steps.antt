@@ -30,7 +30,8 @@ is_nowhere (At place) = false
 is_nowhere Nowhere = true
 is_nowhere Idle = false
 
--- whether a packet of which so many bytes lie before a zone, and that ends at this place, ends as the zone's start says
+-- whether a packet of which this many bytes lie before a zone, and that ends at this place, ends as the zone's start
+-- says
 abbrev pub ends_at : ℕ → ℕ → ZoneStart → Bool
 ends_at so_far end (At place) = nat_lt place 884 && end == so_far + place
 ends_at so_far end Nowhere = end == so_far + 884

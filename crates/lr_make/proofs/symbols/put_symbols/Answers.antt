@@ -15,7 +15,7 @@ loop-place-init c = record {
   long = c.told-symbols;
   code = λ past bits s.
       sym (ap (map level) (drop_all (2 * length bits) (code STANDARD past (bits ++ []))
-      (omega (arith, length-code past (bits ++ []), length-append bits []))));
+      (omega (arith, length-code STANDARD past (bits ++ []), length-append bits []))));
   stands = λ past bits s. subst (StandsFor c.args.encoder.now past) (sym (append-nil bits)) s;
 }
 

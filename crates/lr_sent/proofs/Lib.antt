@@ -1,0 +1,11 @@
+pub mod BytesBack
+pub mod Carrying
+pub mod MadeBlocks
+pub mod MadeFiles
+pub mod MadeFrames
+pub mod MadePackets
+pub mod MadeZones
+pub mod Nearest
+pub mod Receiving
+pub mod Splitting
+pub mod Turning

@@ -1,0 +1,154 @@
+//! Headers, the faults of bytes that are none, what their records say, and time stamps as text.
+
+use lr_bits::{Bytes, NoMemory};
+use lr_headers::{HeaderFault, Records, Stamp, stamp_text};
+use std::alloc::Global;
+use std::test::Fail;
+
+/// A primary record of file type 2, of a header of 16 bytes.
+static PRIMARY: [u8; 16] = [
+    0x00, 0x00, 0x10, 0x02, 0x00, 0x00, 0x00, 0x10, 0, 0, 0, 0, 0, 0, 0, 0,
+];
+
+/// A header with a time stamp record and one of an unknown kind.
+static STAMPED: [u8; 29] = [
+    0x00, 0x00, 0x10, 0x02, 0x00, 0x00, 0x00, 0x1D, 0, 0, 0, 0, 0, 0, 0, 0x40, 0x05, 0x00, 0x0A,
+    0x40, 0x11, 0x1F, 0x05, 0x26, 0x5B, 0xFF, 0xC8, 0x00, 0x03,
+];
+
+/// A header with two key records, of which the second has a content byte that isn't 0, a structure record, a segment
+/// record of 16 bytes, which isn't read as one, and one of 17.
+static KEYED: [u8; 67] = [
+    0x00, 0x00, 0x10, 0x00, 0x00, 0x00, 0x00, 0x43, 0, 0, 0, 0, 0, 0, 0, 0x20, 0x07, 0x00, 0x04,
+    0x00, 0x07, 0x00, 0x05, 0x00, 0x01, 0x01, 0x00, 0x09, 8, 0, 64, 0, 48, 1, 0x80, 0x00, 0x10, 0,
+    0, 0, 0, 0, 0, 0, 0, 0, 0, 0, 0, 0, 0x80, 0x00, 0x11, 0, 1, 0, 2, 0, 3, 0, 4, 0, 5, 0, 6, 0, 7,
+];
+
+fn is_same(found: HeaderFault, wanted: HeaderFault) -> bool {
+    match (found, wanted) {
+        (HeaderFault::Ended { at }, HeaderFault::Ended { at: other }) => at == other,
+        (HeaderFault::NotPrimary, HeaderFault::NotPrimary) => true,
+        (HeaderFault::ShortRecord { at }, HeaderFault::ShortRecord { at: other }) => at == other,
+        (HeaderFault::Overrun { at }, HeaderFault::Overrun { at: other }) => at == other,
+        (
+            HeaderFault::WrongLength { kind, length },
+            HeaderFault::WrongLength {
+                kind: other,
+                length: size,
+            },
+        ) => kind == other && length == size,
+        _ => false,
+    }
+}
+
+/// Whether these bytes have no header, and this fault.
+fn fails(alloc: Global, proper: &[u8], wanted: HeaderFault) -> bool {
+    match Records::read(alloc, proper) {
+        Ok(_) => false,
+        Err(fault) => is_same(fault, wanted),
+    }
+}
+
+/// The primary record with the last byte of another header length, and what comes after it.
+fn with_length(length: u8, rest: &[u8; 3]) -> [u8; 19] {
+    let mut bytes = [0; 19];
+    bytes[..16].copy_from_slice(&PRIMARY);
+    bytes[7] = length;
+    bytes[16..].copy_from_slice(rest);
+    bytes
+}
+
+/// Whether the stamp is written as this text.
+fn is_written(alloc: Global, stamp: Stamp, wanted: &[u8]) -> Result<bool, NoMemory> {
+    let mut text = Bytes::new(alloc);
+    stamp_text(alloc, &stamp, &mut text)?;
+    Ok(*text.as_slice() == *wanted)
+}
+
+fn stamp(form: u8, days: u16, milliseconds: u32) -> Stamp {
+    Stamp {
+        form,
+        days,
+        milliseconds,
+    }
+}
+
+#[test]
+fn a_header_of_the_primary_record_alone(rt: HostRuntime) -> Result<(), Fail> {
+    let records = Records::read(rt.alloc(), &PRIMARY).ok().ok_or("no header")?;
+    assert!(rt; records.count() == 1 && records.file_type() == 2);
+    assert!(rt; records.header_length() == 16 && records.data_bits() == 0);
+    assert!(rt; records.structure().is_none() && records.navigation().is_none());
+    assert!(rt; records.stamp().is_none() && records.segment().is_none());
+    assert!(rt; records.lossless().is_none() && !records.is_encrypted());
+    Ok(())
+}
+
+#[test]
+fn the_first_fault_is_named(rt: HostRuntime) -> Result<(), Fail> {
+    let alloc = rt.alloc();
+    let mut long = PRIMARY;
+    long[4..8].copy_from_slice(&[0xFF; 4]);
+    assert!(rt; fails(alloc, &long, HeaderFault::Ended { at: 16 }));
+    assert!(rt; fails(alloc, &PRIMARY[..15], HeaderFault::Ended { at: 15 }));
+    let short = with_length(15, &[0; 3]);
+    assert!(rt; fails(alloc, &short[..16], HeaderFault::Overrun { at: 0 }));
+    let two_left = with_length(18, &[0x04, 0x00, 0]);
+    assert!(rt; fails(alloc, &two_left[..18], HeaderFault::Overrun { at: 16 }));
+    let too_short = with_length(19, &[0x04, 0x00, 0x02]);
+    assert!(rt; fails(alloc, &too_short, HeaderFault::ShortRecord { at: 16 }));
+    let too_long = with_length(19, &[0x04, 0x00, 0x04]);
+    assert!(rt; fails(alloc, &too_long, HeaderFault::Overrun { at: 16 }));
+    let mut other = PRIMARY;
+    other[0] = 1;
+    assert!(rt; fails(alloc, &other, HeaderFault::NotPrimary));
+    Ok(())
+}
+
+#[test]
+fn a_stamp_of_another_length_is_refused(rt: HostRuntime) -> Result<(), Fail> {
+    let mut bytes = STAMPED;
+    bytes[18] = 0x0B;
+    let fault = HeaderFault::WrongLength {
+        kind: 5,
+        length: 11,
+    };
+    assert!(rt; fails(rt.alloc(), &bytes, fault));
+    Ok(())
+}
+
+#[test]
+fn stamps_are_written(rt: HostRuntime) -> Result<(), Fail> {
+    let alloc = rt.alloc();
+    let records = Records::read(alloc, &STAMPED).ok().ok_or("no header")?;
+    let own = records.stamp().ok_or("no stamp")?;
+    assert!(rt; records.count() == 3);
+    assert!(rt; is_written(alloc, own, b"1970-01-01T23:59:59.999Z")?);
+    assert!(rt;
+        is_written(
+            alloc,
+            stamp(0x40, 0, 3_723_004),
+            b"1958-01-01T01:02:03.004Z"
+        )?
+    );
+    assert!(rt; is_written(alloc, stamp(0x40, 789, 0), b"1960-02-29T00:00:00.000Z")?);
+    assert!(rt; is_written(alloc, stamp(0x40, 65_535, 0), b"2137-06-06T00:00:00.000Z")?);
+    let late = stamp(0x40, 7, 86_400_000);
+    assert!(rt; is_written(alloc, late, b"form 64 days 7 milliseconds 86400000")?);
+    assert!(rt; is_written(alloc, stamp(0x41, 7, 0), b"form 65 days 7 milliseconds 0")?);
+    Ok(())
+}
+
+#[test]
+fn records_say_what_they_hold(rt: HostRuntime) -> Result<(), Fail> {
+    let records = Records::read(rt.alloc(), &KEYED).ok().ok_or("no header")?;
+    let structure = records.structure().ok_or("no structure")?;
+    assert!(rt; structure.bits == 8 && structure.columns == 64);
+    assert!(rt; structure.lines == 48 && structure.compression == 1);
+    let segment = records.segment().ok_or("no segment")?;
+    assert!(rt; segment.image == 1 && segment.number == 2 && segment.start_column == 3);
+    assert!(rt; segment.start_line == 4 && segment.segments == 5);
+    assert!(rt; segment.columns == 6 && segment.lines == 7);
+    assert!(rt; records.is_encrypted() && records.count() == 6);
+    Ok(())
+}
