@@ -30,7 +30,7 @@ use Rattle.std.proofs.Common.{
 }
 use Rattle.std.proofs.lemmas.Bool.{cases_lt}
 use Rattle.lr_io.specs.declared.sink.Sink.{Ghosts as SinkOf}
-use Rattle.lr_disk.specs.Disk.{LeavesOnly}
+use Rattle.lr_disk.specs.Disk.{LeavesOnly, Only}
 use Rattle.lr_disk.specs.Reads.{IsUnwritten}
 use Rattle.lr_disk.specs.declared.disk.Disk.{Ghosts as DiskOf}
 use Rattle.lr_disk.proofs.Moments.{joined, unwritten_yet, weaker}
@@ -235,6 +235,13 @@ module _ {D O : Type 0} (disk : DiskOf D) (out : SinkOf O) (number : ℕ) where
       (λ c image. inl (subst (λ (l : List ℕ). StandsFor l capacity items) (sym (is.durable c image)) is.stands))
       unwritten.any_moment
 
+  way_still : (way : Way) (d d' : D) → IsUnwritten disk d d' → IsWay (disk.contents d) way
+      → Only (disk.contents d) (disk.may_leave d)
+      → LeavesOnly disk.moment disk.left_since d d' (HasEitherWay way (discard_item number))
+  way_still way d d' unwritten is only =
+      weaker disk.moment disk.left_since d d' (disk.may_leave d) (HasEitherWay way (discard_item number))
+      (λ c image. inl (subst (λ (l : List ℕ). IsWay l way) (sym (only c image)) is)) unwritten.any_moment
+
   module _ (d d' : D) (o : O) (cause : Cause) (cuts : CutsNothing cause) where
     pub unwritten_run : MayEnd cause → Counted cause (counts_of disk out d o) (counts_of disk out d' o)
         → (disk.tells d → disk.tells d') → (disk.tells d → IsUnwritten disk d d')
@@ -260,6 +267,7 @@ module _ {D O : Type 0} (disk : DiskOf D) (out : SinkOf O) (number : ℕ) where
           (subst (λ (l : List ℕ). IsWay l way) (sym (unwritten t).contents) is);
       leaves = λ capacity items t is.
           kept_items capacity items d' cause cuts (durable_still capacity items d d' (unwritten t) is);
+      way_any_moment = λ way t is only. way_still way d d' (unwritten t) is only;
       any_moment = λ capacity items t is. moment_still capacity items d d' (unwritten t) is;
     }
 
@@ -352,6 +360,19 @@ module _ {D O : Type 0} (disk : DiskOf D) (out : SinkOf O) (number : ℕ) where
             (moment_still capacity items d d1 (loads.unwritten t) durable)
             (discards.adds.any_moment capacity items (settled capacity items t durable))
 
+        both_ways : (way : Way) → disk.tells d → IsWay (disk.contents d) way
+            → Only (disk.contents d) (disk.may_leave d)
+            → LeavesOnly disk.moment disk.left_since d d2 (HasEitherWay way (discard_item number))
+        both_ways way t is_way only =
+            joined disk.moment disk.left_since d d1 d2 (HasEitherWay way (discard_item number))
+            (way_still way d d1 (loads.unwritten t) is_way only)
+            (subst
+            (λ (w : Way). LeavesOnly disk.moment disk.left_since d1 d2 (HasEitherWay w (discard_item number)))
+            ((has_one_way (disk.contents d)).way there way (way_is t) is_way)
+            (discards.adds.way_any_moment (loads.calls.told t) (keeps t)
+            (subst (λ (r : Result Shelf ShelfError). OnOk r (Only (disk.contents d1) (disk.may_leave d1))) is
+            (loads.synced t))))
+
         -- the shelf refused, and nothing was written
         refused_on : (error : ShelfError) (refusal : Refusal) → MayEnd (Refused refusal) → answer ≡ Err error
             → cause_of error ≡ Refused refusal → (error ≡ Disk' → ⊥)
@@ -404,6 +425,7 @@ module _ {D O : Type 0} (disk : DiskOf D) (out : SinkOf O) (number : ℕ) where
           leaves = λ capacity items t durable.
               let either = discards.adds.either capacity items (settled capacity items t durable) in
               record { contents = either.0; images = either.1 };
+          way_any_moment = both_ways;
           any_moment = both_moments;
         }
 
@@ -499,6 +521,7 @@ module _ {D O : Type 0} (disk : DiskOf D) (out : SinkOf O) (number : ℕ) where
                 leaves_of capacity items
                 (on_ok (IsSettled disk capacity (items ++ discard_item number ∷ []) shelf2 d2)
                 (discards.adds.acknowledged capacity items (settled capacity items t durable))).on_disk;
+            way_any_moment = both_ways;
             any_moment = both_moments;
           }
 

@@ -128,7 +128,12 @@ pub record RunsDiscard {D O : Type 0} (disk : DiskOf D) (out : SinkOf O) (number
   -- the disk: where something is refused, or memory is, nothing is written
   pub told : disk.tells d → disk.tells d'
   pub unwritten : WritesNothing cause → disk.tells d → IsUnwritten disk d d'
+  -- over every disk that has a way, whatever its items hold: what is there at the return, and, with nothing pending,
+  -- what a stop at any moment leaves
   pub way : (way : Way) → disk.tells d → IsWay (disk.contents d) way → LeavesWay disk number way cause d'
+  pub way_any_moment : (way : Way) → disk.tells d → IsWay (disk.contents d) way
+      → Only (disk.contents d) (disk.may_leave d)
+      → LeavesOnly disk.moment disk.left_since d d' (HasEitherWay way (discard_item number))
   -- over a shelf of these items with nothing pending: what is there at the return, and what a stop at any moment leaves
   pub leaves : (capacity : ℕ) (items : List Item) → disk.tells d → IsDurable disk capacity items d
       → Leaves disk number capacity items cause d'

@@ -233,7 +233,12 @@ module _ {S D O : Type 0} (source : SourceOf S) (disk : DiskOf D) (out : SinkOf 
           → ReadsSome source disk out (Units form) limit cause shelf s s' d d2 o o2
       units_stopped cause d2 o2 stops gains = record {
         bytes = concat so.units ++ now.held;
-        read = record { told = reads_now.told; moved = reads_now.moved; few = omega (arith, reads_now.few, reads_now.taken) };
+        read = record {
+          told = reads_now.told;
+          moved = reads_now.moved;
+          few =
+              omega (arith, reads_now.few, reads_now.taken);
+        };
         stops = λ capacity before d0 o0 so_far.
             subst (λ (l : List Placed). Stops disk out capacity before cause l d0 d2 o0 o2) files_there
             (stops (outcomes_of_units form so.units) capacity before d0 o0 so.stands
@@ -264,7 +269,8 @@ module _ {S D O : Type 0} (source : SourceOf S) (disk : DiskOf D) (out : SinkOf 
           (placed_of_outcomes (outcomes_of_units form so.units ++ outcome ∷ [])) shelf2 d0 d2 o0 o2)
           → Gains (outcomes_of_units form so.units) outcome shelf' shelf2 d1 d2 o1 o2
           → UnitsSoFar source disk out form n limit (place + 1) empty layers2 shelf shelf2 s s' d d2 o o2
-      units_more empty is_empty layers2 shelf2 d2 o2 stands works tell_disk tell_out disk_count out_count shelved gains =
+      units_more empty is_empty layers2 shelf2 d2 o2 stands works tell_disk tell_out disk_count out_count
+          shelved gains =
           let grown : outcomes_of_units form so.units ++ outcome ∷ []
           ≡ outcomes_of_units form (so.units ++ now.held ∷ []) =
           ap (λ (x : Outcome). outcomes_of_units form so.units ++ x ∷ []) is

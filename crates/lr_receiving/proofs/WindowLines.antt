@@ -228,7 +228,12 @@ module _ {S O : Type 0} (source : SourceOf S) (out : SinkOf O) (limit : ℕ) whe
           (window_line place at positive outcome) later.0
 
       read : IsRead source limit gives.all s s'
-      read = record { told = gives.so_far.told; moved = gives.so_far.moved; few = omega (arith, gives.so_far.few, gives.so_far.long, limit_is) }
+      read = record {
+        told = gives.so_far.told;
+        moved = gives.so_far.moved;
+        few =
+            omega (arith, gives.so_far.few, gives.so_far.long, limit_is);
+      }
 
       -- the line of a window wasn't put
       pub window_stopped : (o' : O) (cause : Cause)
@@ -279,7 +284,12 @@ module _ {S O : Type 0} (source : SourceOf S) (out : SinkOf O) (limit : ℕ) whe
       ap (lines_of_windows (symbols_of ends.all)) same ∙ lines_stay so.bytes ends.all so.given ends.same in
       record {
         bytes = ends.all;
-        read = record { told = ends.so_far.told; moved = ends.so_far.moved; few = omega (arith, ends.so_far.few, ends.so_far.long, limit_is) };
+        read = record {
+          told = ends.so_far.told;
+          moved = ends.so_far.moved;
+          few =
+              omega (arith, ends.so_far.few, ends.so_far.long, limit_is);
+        };
         reason =
             subst (λ (x : Stop). EndsFor source x limit ends.all s s') (sym stops)
             (subst (λ (k : ℕ). EndsFor source stop k ends.all s s') limit_is

@@ -394,7 +394,12 @@ module _ {S D O : Type 0} (source : SourceOf S) (disk : DiskOf D) (out : SinkOf 
         → ReadsAll source disk out Symbols limit ended shelf shelf' s s' d d1 o o1
     windows_ended ended stops symbols frames counts left = record {
       bytes = ends.all;
-      read = record { told = ends.so_far.told; moved = ends.so_far.moved; few = omega (arith, ends.so_far.few, ends.so_far.long, limit_is) };
+      read = record {
+        told = ends.so_far.told;
+        moved = ends.so_far.moved;
+        few =
+            omega (arith, ends.so_far.few, ends.so_far.long, limit_is);
+      };
       reason = subst (λ (x : Stop). EndsFor source x limit ends.all s s') (sym stops) end_reason;
       count = record {
         symbols = symbols ∙ ends.so_far.long;

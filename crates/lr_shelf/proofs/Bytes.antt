@@ -1,5 +1,26 @@
 -- What was read is of bytes, and an item of bytes with the right checksum holds a file.
-use Rattle.std.proofs.Common.{◌≡◌, ◌<◌, ◌+◌, ℕ, false, Some, None, All, List, take, drop, refl, sym, subst, Bool, true, slice_index, ◌==◌, arith, ap}
+use Rattle.std.proofs.Common.{
+  ◌≡◌,
+  ◌<◌,
+  ◌+◌,
+  ℕ,
+  false,
+  Some,
+  None,
+  All,
+  List,
+  take,
+  drop,
+  refl,
+  sym,
+  subst,
+  Bool,
+  true,
+  slice_index,
+  ◌==◌,
+  arith,
+  ap,
+}
 use Rattle.std.proofs.Math.Seq.{take-add}
 use Rattle.std.proofs.lemmas.Bool.{eqb-false, eqb-true}
 use Rattle.std.proofs.lemmas.List.{drop-drop}
