@@ -1,0 +1,48 @@
+-- Causes and counts.
+use Rattle.std.proofs.Common.{◌≡◌, ◌≤◌, inl, inr, ℕ, refl, subst, arith}
+use Rattle.lr_bits.specs.Faults.{Rose}
+use Rattle.lr_shelf.specs.declared.error.ShelfError.{ShelfError}
+use Rattle.lr_shelf.specs.declared.error.ShelfError.TheVariants.{Disk as Disk', Failed as Failed'}
+use Rattle.lr_catalog.specs.declared.stop.Stop.{Stop}
+use Rattle.lr_catalog.specs.declared.stop.Stop.TheVariants.{End, Limit, Fault}
+use Rattle.lr_commands.specs.declared.cause.Cause.{Cause}
+use Rattle.lr_commands.specs.declared.cause.Cause.TheVariants.{Failed}
+use Rattle.lr_commands.specs.declared.cause.Party.TheVariants.{Source, Disk, Output}
+use Rattle.lr_commands.specs.Causes.{cause_of, IsCaused}
+use Rattle.lr_receiving.specs.Causes.{cause_at, counts}
+
+-- counts that stayed before
+pub caused_later : (cause : Cause) (s s' d0 d1 d2 o0 o1 o2 : ℕ) → d1 ≡ d0 → o1 ≡ o0
+    → IsCaused cause (counts s d1 o1) (counts s' d2 o2) → IsCaused cause (counts s d0 o0) (counts s' d2 o2)
+caused_later cause s s' d0 d1 d2 o0 o1 o2 d o caused =
+    subst (λ (k : ℕ). IsCaused cause (counts s d0 k) (counts s' d2 o2)) o
+    (subst (λ (k : ℕ). IsCaused cause (counts s k o1) (counts s' d2 o2)) d caused)
+
+pub none_rose : Rose 0 0 → ⊥
+none_rose (inl h) = omega arith
+none_rose (inr h) = omega arith
+
+-- no source was asked
+pub caused_beside : (cause : Cause) (s s' d d' o o' : ℕ) → IsCaused cause (counts 0 d o) (counts 0 d' o')
+    → IsCaused cause (counts s d o) (counts s' d' o')
+caused_beside (Failed Source) s s' d d' o o' c = absurd (none_rose c)
+caused_beside (Failed Disk) s s' d d' o o' c = c
+caused_beside (Failed Output) s s' d d' o o' c = c
+caused_beside _ s s' d d' o o' c = c
+
+-- a run that put its last line
+pub caused_at : (stop : Stop) (s s' d d' o o' : ℕ) → IsCaused (cause_at stop) (counts s 0 0) (counts s' 0 0)
+    → IsCaused (cause_at stop) (counts s d o) (counts s' d' o')
+caused_at End s s' d d' o o' c = c
+caused_at Limit s s' d d' o o' c = c
+caused_at Fault s s' d d' o o' c = c
+
+-- a call on a shelf that works
+pub caused_by_shelf : (e : ShelfError) (d d' o o' : ℕ) → (e ≡ Disk' → Rose d d') → (e ≡ Failed' → ⊥)
+    → IsCaused (cause_of e) (counts 0 d o) (counts 0 d' o')
+caused_by_shelf Disk' d d' o o' rose works = rose refl
+caused_by_shelf Failed' d d' o o' rose works = absurd (works refl)
+caused_by_shelf _ d d' o o' rose works = tt
+
+pub rose_later : (s0 s1 s2 : ℕ) → s1 ≡ s0 → Rose s1 s2 → Rose s0 s2
+rose_later s0 s1 s2 same rose = subst (λ (k : ℕ). Rose k s2) same rose

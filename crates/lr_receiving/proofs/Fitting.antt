@@ -1,0 +1,94 @@
+-- The files of a trial's symbols fit its shelf.
+use Rattle.std.proofs.Common.{◌≡◌, ℕ, ◌+◌, ◌*◌, ◌<◌, ◌≤◌, Bool, true, false, List, [], ◌∷◌, map, length, replicate, refl, sym, ◌∙◌, ap, arith}
+use Rattle.std.proofs.Common.{append-nil}
+use Rattle.std.specs.Int.{cast_unsigned, w8}
+use Rattle.std.proofs.lemmas.List.{length-map}
+use Rattle.std.proofs.lemmas.List.Sums.{sum_by-cons}
+use Rattle.lr_bits.specs.declared.placed.Placed.{Placed}
+use Rattle.lr_conv.specs.Convolution.{code}
+use Rattle.lr_conv.specs.declared.line.TheConstants.{STANDARD}
+use Rattle.lr_frame.specs.Outcomes.{outcomes_of_symbols}
+use Rattle.lr_layers.specs.Origins.{placed_of_outcomes}
+use Rattle.lr_lock.specs.Symbols.{symbol_of, symbols_of}
+use Rattle.lr_make.specs.Blocks.{block_at}
+use Rattle.lr_make.specs.Frames.{frame_at}
+use Rattle.lr_make.specs.Received.{IsReceivedAs}
+use Rattle.lr_make.specs.Stream.{symbol_stream}
+use Rattle.lr_make.specs.Symbols.{level, sent_bits}
+use Rattle.lr_make.proofs.Sending.{length-all_symbols, symbols_are_one_code}
+use Rattle.lr_make.proofs.Windows.{stream_is_received}
+use Rattle.lr_sent.specs.Made.{made_outcomes, room_for, room_of}
+use Rattle.lr_sent.proofs.MadeFiles.{placed_fit}
+use Rattle.lr_shelf_format.specs.Items.{extent_of, head_of_item}
+use Rattle.lr_shelf_format.specs.Reading.{end_of}
+use Rattle.lr_shelf.specs.Append.{item_for}
+use Rattle.lr_receiving.specs.declared.input.Input.TheVariants.{Symbols}
+use Rattle.lr_receiving.specs.Inputs.{outcomes_of_bytes, files_of_bytes}
+use Rattle.lr_receiving.specs.Made.{bytes_of_symbols, made_bytes}
+use Rattle.lr_receiving.specs.Shelving.{with_files}
+use Rattle.lr_receiving.specs.Trial.{trial_capacity}
+
+-- ---- symbols in bytes
+
+level_back : (b : Bool) → symbol_of (cast_unsigned w8 (level b)) ≡ level b
+level_back true = refl
+level_back false = refl
+
+levels_back : (bits : List Bool) → symbols_of (bytes_of_symbols (map level bits)) ≡ map level bits
+levels_back [] = refl
+levels_back (bit ∷ bits) =
+    ap (λ s. s ∷ symbols_of (bytes_of_symbols (map level bits))) (level_back bit)
+    ∙ ap (λ s. level bit ∷ s) (levels_back bits)
+
+-- the symbols of the made bytes are the stream's
+symbols_made : (start wrong n : ℕ) → symbols_of (made_bytes Symbols start wrong n) ≡ symbol_stream start wrong n
+unfolding made_bytes
+symbols_made start wrong n =
+    let one = symbols_are_one_code start wrong n in
+    ap (λ s. symbols_of (bytes_of_symbols s)) one
+    ∙ levels_back (code STANDARD (replicate 6 false) (sent_bits start wrong n)) ∙ sym one
+
+pub made_length : (start wrong n : ℕ) → length (made_bytes Symbols start wrong n) ≡ 16384 * n
+unfolding made_bytes
+made_length start wrong n =
+    length-map (symbol_stream start wrong n) (cast_unsigned w8) ∙ ap length (symbols_are_one_code start wrong n)
+    ∙ length-all_symbols start wrong n
+
+-- ---- the stream's outcomes, and their files
+
+files_made : (start wrong n : ℕ) → ((k : ℕ) → k < n → IsReceivedAs wrong (frame_at start k) (block_at start wrong k))
+    → files_of_bytes Symbols (made_bytes Symbols start wrong n) ≡ placed_of_outcomes (made_outcomes start wrong n)
+unfolding files_of_bytes outcomes_of_bytes
+files_made start wrong n received =
+    ap (λ s. placed_of_outcomes (outcomes_of_symbols STANDARD s)) (symbols_made start wrong n)
+    ∙ ap placed_of_outcomes (stream_is_received start wrong n received)
+
+-- each file takes its room on the shelf
+room_is : (files : List Placed)
+    → end_of (with_files [] files) ≡ 20 + room_for (map (λ placed. placed.file) files)
+room_is [] = refl
+room_is (placed ∷ files) =
+    omega (
+      arith,
+      room_is files,
+      sum_by-cons (λ item. extent_of (head_of_item item) + 1) (item_for placed) (map item_for files),
+      sum_by-cons room_of placed.file (map (λ (p : Placed). p.file) files),
+    )
+
+sent_files_fit : (start wrong n : ℕ) → n ≤ 1024
+    → end_of (with_files [] (placed_of_outcomes (made_outcomes start wrong n))) ≤ trial_capacity
+sent_files_fit start wrong n few =
+    let outcomes = made_outcomes start wrong n in
+    omega (
+      arith,
+      few,
+      room_is (placed_of_outcomes outcomes),
+      placed_fit start wrong n outcomes [] (sym (append-nil outcomes)),
+    )
+
+pub made_files_fit : (start wrong n : ℕ) → n ≤ 1024
+    → ((k : ℕ) → k < n → IsReceivedAs wrong (frame_at start k) (block_at start wrong k))
+    → end_of (with_files [] (files_of_bytes Symbols (made_bytes Symbols start wrong n))) ≤ trial_capacity
+made_files_fit start wrong n few received =
+    let fit = sent_files_fit start wrong n few in
+    omega (arith, fit, ap (λ files. end_of (with_files [] files)) (files_made start wrong n received))

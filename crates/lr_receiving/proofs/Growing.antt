@@ -1,0 +1,133 @@
+-- Over every disk: where a shelf ends after more files, and whether there was room for them.
+use Rattle.std.proofs.Common.{◌≡◌, ◌⊎◌, inl, inr, ◌<◌, ◌≤◌, ◌+◌, ℕ, List, [], ◌∷◌, ◌++◌, length, min, refl, sym, ap, ◌∙◌}
+use Rattle.std.proofs.Common.{subst, arith, append_assoc, append-nil, ⊎_elim}
+use Rattle.std.specs.List.{sum_by}
+use Rattle.std.proofs.lemmas.List.Sums.{sum_by-append}
+use Rattle.lr_bits.specs.declared.placed.Placed.{Placed}
+use Rattle.lr_shelf_format.specs.Way.{Way}
+use Rattle.lr_shelf.specs.Append.{item_for}
+use Rattle.lr_shelf.specs.Kept.{kept_by, kept_with}
+use Rattle.lr_shelf.specs.declared.shelf.Shelf.{Shelf}
+use Rattle.lr_commands.specs.declared.cause.Cause.{Cause}
+use Rattle.lr_commands.specs.declared.cause.Cause.TheVariants.{NoMemory, Refused}
+use Rattle.lr_commands.specs.declared.cause.Refusal.TheVariants.{Capacity}
+use Rattle.lr_receiving.specs.Onto.{room_for, end_with, HasRoom, IsFullWith}
+use Rattle.lr_receiving.specs.Shelved.{Grows, GrowsNoMore}
+
+-- more files end later
+pub end_with-append : (end : ℕ) (xs ys : List Placed) → end_with end (xs ++ ys) ≡ end_with (end_with end xs) ys
+end_with-append end xs ys = omega (arith, sum_by-append room_for xs ys)
+
+-- there is one file
+pub some : (xs : List Placed) (x : Placed) (ys : List Placed) → xs ++ x ∷ ys ≡ [] → ⊥
+some [] x ys is = cc (is)
+some (y ∷ xs) x ys is = cc (is)
+
+pub none_in : {X : Type 0} (xs ys : List X) → xs ++ ys ≡ [] → (xs ≡ []) × (ys ≡ [])
+none_in {X} [] ys is = (refl, is)
+none_in {X} (x ∷ xs) ys is = absurd (let no : x ∷ (xs ++ ys) ≡ [] = is in cc (no))
+
+room_after : (way way' : Way) (xs ys : List Placed) → way'.end ≡ end_with way.end xs → way'.capacity ≡ way.capacity
+    → HasRoom way xs → HasRoom way' ys → HasRoom way (xs ++ ys)
+room_after way way' xs ys ends same first (inl none) =
+    subst (λ (l : List Placed). HasRoom way l) (sym (ap (λ (l : List Placed). xs ++ l) none ∙ append-nil xs)) first
+room_after way way' xs ys ends same first (inr fits) =
+    inr (omega (arith, end_with-append way.end xs ys, ap (λ (n : ℕ). end_with n ys) ends, same, fits))
+
+module _ {D O : Type 0} where
+  -- no file
+  pub grows_none : (shelf : Shelf) (d : D) (o : O) → Grows [] shelf shelf d d o o
+  grows_none shelf d o = record { ends = omega arith; same = refl; room = inl refl; none = λ is. (refl, refl) }
+
+  module _ {xs ys : List Placed} {shelf shelf1 : Shelf} {d d1 : D} {o o1 : O}
+      (first : Grows xs shelf shelf1 d d1 o o1) where
+    -- files after files
+    pub grows_on : {shelf2 : Shelf} {d2 : D} {o2 : O} → Grows ys shelf1 shelf2 d1 d2 o1 o2
+        → Grows (xs ++ ys) shelf shelf2 d d2 o o2
+    grows_on next = record {
+      ends = next.ends ∙ ap (λ (n : ℕ). end_with n ys) first.ends ∙ sym (end_with-append (kept_by shelf).way.end xs ys);
+      same = next.same ∙ first.same;
+      room = room_after (kept_by shelf).way (kept_by shelf1).way xs ys first.ends first.same first.room next.room;
+      none = λ is.
+          let both = none_in xs ys is in
+          let before = first.none both.0 in
+          let after = next.none both.1 in
+          (after.0 ∙ before.0, after.1 ∙ before.1);
+    }
+
+    full_on : {needed most : ℕ} → IsFullWith (kept_by shelf1).way needed most ys
+        → IsFullWith (kept_by shelf).way needed most (xs ++ ys)
+    full_on full =
+        let way = (kept_by shelf).way in
+        let there : end_with way.end ((xs ++ full.done) ++ full.next ∷ [])
+        ≡ end_with (kept_by shelf1).way.end (full.done ++ full.next ∷ []) =
+        ap (λ (l : List Placed). end_with way.end l) (append_assoc xs full.done (full.next ∷ []))
+        ∙ end_with-append way.end xs (full.done ++ full.next ∷ [])
+        ∙ ap (λ (n : ℕ). end_with n (full.done ++ full.next ∷ [])) (sym first.ends) in
+        record {
+          done = xs ++ full.done;
+          next = full.next;
+          rest = full.rest;
+          split = ap (λ (l : List Placed). xs ++ l) full.split ∙ sym (append_assoc xs full.done (full.next ∷ full.rest));
+          room = room_after way (kept_by shelf1).way xs full.done first.ends first.same first.room full.room;
+          over = omega (arith, there, first.same, full.over);
+          needs = full.needs ∙ ap (λ (n : ℕ). min n 18446744073709551615) (sym there);
+          of = full.of ∙ first.same;
+        }
+
+    -- shelving stopped after some files
+    pub stops_after : {cause : Cause} {d2 : D} {o2 : O} → GrowsNoMore cause ys shelf1 d1 d2 o1 o2
+        → GrowsNoMore cause (xs ++ ys) shelf d d2 o o2
+    stops_after stops = record {
+      full = λ needed most is. full_on (stops.full needed most is);
+      none = λ is.
+          let both = none_in xs ys is in
+          let before = first.none both.0 in
+          let after = stops.none both.1 in
+          (after.0, after.1 ∙ before.0, after.2 ∙ before.1);
+    }
+
+  -- it stopped before more of them
+  pub stops_before : {cause : Cause} {xs : List Placed} (ys : List Placed) {shelf : Shelf} {d d' : D} {o o' : O}
+      → GrowsNoMore cause xs shelf d d' o o' → GrowsNoMore cause (xs ++ ys) shelf d d' o o'
+  stops_before {cause} {xs} ys stops = record {
+    full = λ needed most is.
+        let full = stops.full needed most is in
+        record {
+          done = full.done;
+          next = full.next;
+          rest = full.rest ++ ys;
+          split =
+              ap (λ (l : List Placed). l ++ ys) full.split ∙ append_assoc full.done (full.next ∷ full.rest) ys;
+          room = full.room;
+          over = full.over;
+          needs = full.needs;
+          of = full.of;
+        };
+    none = λ is. stops.none (none_in xs ys is).0;
+  }
+
+  -- it stopped for want of memory, before anything was done
+  pub stops_for_memory : (files : List Placed) (shelf : Shelf) (d : D) (o : O) → GrowsNoMore NoMemory files shelf d d o o
+  stops_for_memory files shelf d o = record { full = λ needed most is. cc (is); none = λ is. (refl, refl, refl) }
+
+  -- one file was appended, and its line put
+  pub grows_one : (placed : Placed) (shelf shelf' : Shelf) (d d' : D) (o o' : O)
+      → kept_by shelf' ≡ kept_with (item_for placed) (kept_by shelf)
+      → end_with (kept_by shelf).way.end (placed ∷ []) ≤ (kept_by shelf).way.capacity
+      → Grows (placed ∷ []) shelf shelf' d d' o o'
+  grows_one placed shelf shelf' d d' o o' kept fits = record {
+    ends = omega (arith, ap (λ (k : Rattle.lr_shelf.specs.Kept.Kept). k.way.end) kept);
+    same = ap (λ (k : Rattle.lr_shelf.specs.Kept.Kept). k.way.capacity) kept;
+    room = inr fits;
+    none = λ is. cc (is);
+  }
+
+  -- it wasn't, whatever the cause but the capacity
+  pub stops_at_one : (cause : Cause) (placed : Placed) (shelf : Shelf) (d d' : D) (o o' : O)
+      → ((needed most : ℕ) → cause ≡ Refused (Capacity needed most) → ⊥)
+      → GrowsNoMore cause (placed ∷ []) shelf d d' o o'
+  stops_at_one cause placed shelf d d' o o' other = record {
+    full = λ needed most is. absurd (other needed most is);
+    none = λ is. cc (is);
+  }

@@ -1,0 +1,215 @@
+-- How a run of `receive` ends.
+use Rattle.std.proofs.Common.{◌≡◌, inl, inr, ℕ, List, [], ◌++◌, length, refl, sym, ◌∙◌, ap, subst, arith, append_assoc, append-nil}
+use Rattle.lr_bits.specs.Faults.{Rose}
+use Rattle.lr_bits.specs.declared.placed.Placed.{Placed}
+use Rattle.lr_io.specs.declared.source.Source.{Ghosts as SourceOf}
+use Rattle.lr_io.specs.declared.sink.Sink.{Ghosts as SinkOf}
+use Rattle.lr_disk.specs.declared.disk.Disk.{Ghosts as DiskOf}
+use Rattle.lr_disk.specs.Disk.{LeavesOnly}
+use Rattle.lr_layers.specs.Layers.{Numbers, numbers_of}
+use Rattle.lr_layers.specs.Standing.{numbers}
+use Rattle.lr_shelf_format.specs.Reading.{StandsFor}
+use Rattle.lr_shelf_format.specs.Items.{Item}
+use Rattle.lr_shelf.specs.Shelf.{IsSettled}
+use Rattle.lr_shelf.specs.declared.shelf.Shelf.{Shelf}
+use Rattle.lr_disk.proofs.Moments.{weaker}
+use Rattle.lr_catalog.specs.declared.stop.Stop.{Stop}
+use Rattle.lr_catalog.specs.declared.stop.Stop.TheVariants.{End, Limit, Fault}
+use Rattle.lr_commands.specs.declared.cause.Cause.{Cause}
+use Rattle.lr_commands.specs.declared.cause.Cause.TheVariants.{Done, Failed, NoMemory, Refused}
+use Rattle.lr_commands.specs.declared.cause.Party.TheVariants.{Source, Disk, Output}
+use Rattle.lr_commands.specs.declared.cause.Refusal.TheVariants.{NotAShelf, Capacity, NotEmpty}
+use Rattle.lr_receiving.specs.declared.ended.Ended.{Ended}
+use Rattle.lr_receiving.specs.declared.input.Input.{Input}
+use Rattle.lr_receiving.specs.Causes.{IsEarlier, cause_at}
+use Rattle.lr_receiving.specs.Inputs.{outcomes_of_bytes, files_of_bytes}
+use Rattle.lr_commands.specs.Puts.{PutFails}
+use Rattle.lr_receiving.specs.Onto.{HasRoom}
+use Rattle.lr_receiving.specs.Shelving.{with_files, next_number, shelved_lines, StandsForFront, StopsBy}
+use Rattle.lr_receiving.specs.Shelved.{MayStop, ShelvesSoFar, Grows, GrowsNoMore}
+use Rattle.lr_receiving.specs.Receive.{counts_line, receive_count, receive_last, IsWorkDone, Finishes, Ends}
+use Rattle.lr_receiving.specs.Reception.{IsCountOf, ended_line, PutsLast, LastStops, ReadsAll, ReadsSome, EndsOver, EndsRun}
+use Rattle.lr_receiving.proofs.ShelvedLines.{shelved_lines-none}
+
+-- the last line tells what was counted
+pub last_line : (input : Input) (bytes : List ℕ) (ended : Ended) → IsCountOf input bytes ended → ended_line ended ≡ receive_last input bytes ended.stop
+unfolding receive_last receive_count
+last_line input bytes ended is =
+    ap (λ k. counts_line k ended.frames (numbers ended.counts) ended.left ended.stop) is.symbols
+    ∙ ap (λ k. counts_line (length bytes) k (numbers ended.counts) ended.left ended.stop) is.frames
+    ∙ ap (λ (n : Numbers). counts_line (length bytes) (length (outcomes_of_bytes input bytes)) n ended.left ended.stop) is.counts
+    ∙ ap (λ k. counts_line (length bytes) (length (outcomes_of_bytes input bytes)) (numbers_of (outcomes_of_bytes input bytes)) k ended.stop) is.left
+
+module _ {D O : Type 0} (disk : DiskOf D) (out : SinkOf O) (capacity : ℕ) (before : List Item) (d d1 : D) (o : O) where
+  pub front_none : (bytes : List ℕ) → StandsFor bytes capacity before → StandsForFront capacity before [] 0 bytes
+  front_none bytes s = record {
+    first = [];
+    rest = [];
+    split = refl;
+    enough = omega arith;
+    stands = subst (λ (l : List Item). StandsFor bytes capacity l) (sym (append-nil before)) s;
+  }
+
+  -- the shelf is loaded
+  pub loaded : (shelf : Shelf) → IsSettled disk capacity before shelf d1 → LeavesOnly disk.moment disk.left_since d d1 (λ c. StandsFor c capacity before) → disk.faults d1 ≡ disk.faults d
+      → ShelvesSoFar disk out capacity before [] shelf d d1 o o
+  loaded shelf settled run count = record {
+    settled = subst (λ (l : List Item). IsSettled disk capacity l shelf d1) (sym (append-nil before)) settled;
+    any_moment = weaker disk.moment disk.left_since d d1 _ _ front_none run;
+    put = record {
+      told = λ t. t;
+      put = λ t. sym (ap (λ l. out.contents o ++ l) (shelved_lines-none (next_number before)) ∙ append-nil (out.contents o));
+      kept = refl;
+    };
+    disk_count = count;
+  }
+
+-- ---- over every disk
+
+-- the work isn't done where shelving stopped
+no_work : (cause : Cause) → MayStop cause → IsWorkDone cause → ⊥
+no_work (Failed Disk) may done = done
+no_work (Failed Output) may done = done
+no_work NoMemory may done = done
+no_work (Refused (Capacity needed most)) may done = done
+no_work _ may done = absurd may
+
+module _ {D O : Type 0} {shelf : Shelf} {files : List Placed} {d d1 : D} {o o1 : O} where
+  -- shelving stopped
+  over_some : (cause : Cause) → MayStop cause → GrowsNoMore cause files shelf d d1 o o1
+      → EndsOver cause files shelf d d1 o o1
+  over_some cause may stops = record {
+    full = stops.full;
+    room = λ done. absurd (no_work cause may done);
+    same_disk = λ none. (stops.none none).1;
+    silent = λ none early. (stops.none none).2;
+    kind = λ none failed. cc (failed, (stops.none none).0);
+  }
+
+  module _ {shelf1 : Shelf} (grown : Grows files shelf shelf1 d d1 o o1) (o2 : O) where
+    -- all files are shelved, and the last line isn't put
+    over_last : (cause : Cause) → ((needed most : ℕ) → cause ≡ Refused (Capacity needed most) → ⊥)
+        → (cause ≡ Failed Disk → ⊥) → (IsEarlier cause → o2 ≡ o1) → EndsOver cause files shelf d d1 o o2
+    over_last cause other no_fault same = record {
+      full = λ needed most is. absurd (other needed most is);
+      room = λ done. grown.room;
+      same_disk = λ none. (grown.none none).0;
+      silent = λ none early. same early ∙ (grown.none none).1;
+      kind = λ none failed. no_fault failed;
+    }
+
+    -- it is put
+    over_done : (stop : Stop) → EndsOver (cause_at stop) files shelf d d1 o o2
+    over_done End = over_last (cause_at End) (λ needed most is. cc (is)) (λ is. cc (is)) (λ early. absurd early)
+    over_done Limit = over_last (cause_at Limit) (λ needed most is. cc (is)) (λ is. cc (is)) (λ early. absurd early)
+    over_done Fault = over_last (cause_at Fault) (λ needed most is. cc (is)) not_disk (λ early. absurd early)
+      where
+        not_disk : Failed Source ≡ Failed Disk → ⊥
+        not_disk is = let same : Source ≡ Disk = cc (is) in cc (same)
+
+module _ {S D O : Type 0} (source : SourceOf S) (disk : DiskOf D) (out : SinkOf O) (input : Input) (limit : ℕ) where
+  module _ (capacity : ℕ) (before : List Item) (bytes : List ℕ) (s s' : S) (d d' : D) (o o' : O) where
+    ends_of : (cause : Cause) → StopsBy disk out capacity before cause (files_of_bytes input bytes) d d' o o' → Ends source disk out input capacity before limit bytes cause s s' d d' o o'
+    ends_of (Failed Disk) stops = stops
+    ends_of (Failed Output) stops = inl stops
+    ends_of NoMemory stops = stops
+    ends_of (Refused (Capacity needed most)) stops = stops
+    ends_of _ stops = absurd stops
+
+    ends_at : (stop : Stop) → Finishes source disk out input capacity before limit bytes stop s s' d d' o o' → Ends source disk out input capacity before limit bytes (cause_at stop) s s' d d' o o'
+    ends_at End done = inl done
+    ends_at Limit done = inr done
+    ends_at Fault done = done
+
+  module _ (shelf : Shelf) (s s' : S) (d d1 : D) (o o1 : O) where
+    -- shelving stopped
+    pub ended_some : (cause : Cause) → MayStop cause → ReadsSome source disk out input limit cause shelf s s' d d1 o o1 → EndsRun source disk out input limit cause shelf s s' d d1 o o1
+    ended_some cause may some = record {
+      bytes = some.bytes;
+      read = some.read;
+      ends = λ capacity before d0 o0 so_far.
+          let stops = some.stops capacity before d0 o0 so_far in
+          (stops.any_moment, ends_of capacity before some.bytes s s' d0 d1 o0 o1 cause stops.why);
+      over = over_some cause may some.grown;
+    }
+
+    module _ (ended : Ended) (shelf1 : Shelf) (all : ReadsAll source disk out input limit ended shelf shelf1 s s' d d1 o o1) (o2 : O) where
+      line_is : ended_line ended ≡ receive_last input all.bytes ended.stop
+      line_is = last_line input all.bytes ended all.count
+
+      -- a part of the last line was put
+      summary_cut : PutFails out (ended_line ended) o1 o2 → EndsRun source disk out input limit (Failed Output) shelf s s' d d1 o o2
+      summary_cut fails = record {
+        bytes = all.bytes;
+        read = all.read;
+        ends = λ capacity before d0 o0 begun.
+            let so_far = all.shelved capacity before d0 o0 begun in (
+              so_far.any_moment,
+              inr (record {
+                stop = ended.stop;
+                reason = all.reason;
+                durable = so_far.settled.on_disk;
+                part = λ t.
+                    let cut = fails.part (so_far.put.told t) in
+                    record {
+                      part = cut.part;
+                      rest = cut.rest;
+                      split = sym line_is ∙ cut.split;
+                      shorter = omega (arith, cut.shorter, ap length line_is);
+                      put = cut.put ∙ ap (λ (l : List ℕ). l ++ cut.part) (so_far.put.put t);
+                    };
+                rose = subst (λ (k : ℕ). Rose k (out.faults o2)) so_far.put.kept fails.rose;
+              }),
+            );
+        over =
+            over_last all.grown o2 (Failed Output) (λ needed most is. cc (is))
+            (λ is. let same : Output ≡ Disk = cc (is) in cc (same)) (λ early. absurd early);
+      }
+
+      -- there was no memory for it
+      no_summary : o2 ≡ o1 → EndsRun source disk out input limit NoMemory shelf s s' d d1 o o2
+      no_summary same = record {
+        bytes = all.bytes;
+        read = all.read;
+        ends = λ capacity before d0 o0 begun.
+            let so_far = all.shelved capacity before d0 o0 begun in (
+              so_far.any_moment,
+              record {
+                done = files_of_bytes input all.bytes;
+                rest = [];
+                split = sym (append-nil (files_of_bytes input all.bytes));
+                durable = so_far.settled.on_disk;
+                got = λ t. ap out.contents same ∙ so_far.put.put t;
+              },
+            );
+        over = over_last all.grown o2 NoMemory (λ needed most is. cc (is)) (λ is. cc (is)) (λ early. same);
+      }
+
+      -- the last line wasn't put
+      pub last_stopped : (cause : Cause) → LastStops out ended cause o1 o2 → EndsRun source disk out input limit cause shelf s s' d d1 o o2
+      last_stopped (Failed Output) stops = summary_cut stops
+      last_stopped NoMemory stops = no_summary stops
+      last_stopped _ stops = absurd stops
+
+      -- it was put
+      pub all_put : PutsLast out ended o1 o2 → EndsRun source disk out input limit (cause_at ended.stop) shelf s s' d d1 o o2
+      all_put put = record {
+        bytes = all.bytes;
+        read = all.read;
+        ends = λ capacity before d0 o0 begun.
+            let so_far = all.shelved capacity before d0 o0 begun in
+            let files = files_of_bytes input all.bytes in (
+              so_far.any_moment,
+              ends_at capacity before all.bytes s s' d0 d1 o0 o2 ended.stop (record {
+                reason = all.reason;
+                durable = so_far.settled.on_disk;
+                got = λ t.
+                    put.put (so_far.put.told t) ∙ ap (λ (l : List ℕ). l ++ ended_line ended) (so_far.put.put t)
+                    ∙ append_assoc (out.contents o0) (shelved_lines (next_number before) files) (ended_line ended)
+                    ∙ ap (λ (l : List ℕ). out.contents o0 ++ (shelved_lines (next_number before) files ++ l)) line_is;
+                disk_count = so_far.disk_count;
+                out_count = put.kept ∙ so_far.put.kept;
+              }),
+            );
+        over = over_done all.grown o2 ended.stop;
+      }

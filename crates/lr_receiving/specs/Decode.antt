@@ -1,0 +1,42 @@
+-- What `decode` prints of the bytes read.
+use Rattle.std.specs.Prelude.{ℕ, ℤ, not, List, length, map, count_by}
+use Rattle.std.specs.List.{concat, enumerate_from}
+use Rattle.lr_bits.specs.declared.outcome.Outcome.{Outcome}
+use Rattle.lr_layers.specs.Layers.{is_restored}
+use Rattle.lr_catalog.specs.declared.stop.Stop.{Stop}
+use Rattle.lr_catalog.specs.declared.summary.Summary.TheVariants.{Decode}
+use Rattle.lr_catalog.specs.Outcomes.{block_line, window_line}
+use Rattle.lr_catalog.specs.Summaries.{summary_line}
+use Rattle.lr_conv.specs.Marker.{tail_of}
+use Rattle.lr_conv.specs.declared.line.TheConstants.{STANDARD}
+use Rattle.lr_lock.specs.FramesOf.{frames_of}
+use Rattle.lr_lock.specs.declared.frame.Frame.{Frame}
+use Rattle.lr_lock.specs.Symbols.{symbols_of}
+use Rattle.lr_frame.specs.Outcomes.{outcome_in}
+use Rattle.lr_receiving.specs.declared.input.UnitForm.{UnitForm}
+use Rattle.lr_receiving.specs.declared.input.Input.{Input}
+use Rattle.lr_receiving.specs.declared.input.Input.TheVariants.{Symbols, Units}
+use Rattle.lr_receiving.specs.Inputs.{unit_bytes, outcome_of_unit, outcomes_of_bytes, left_of}
+use Rattle.lr_receiving.specs.Reading.{units_of}
+
+-- the lines of these blocks, each numbered by its place
+unfoldable pub lines_of_units : UnitForm → List (List ℕ) → List ℕ
+lines_of_units form units = concat (map (λ u. block_line u.0 (outcome_of_unit form u.1)) (enumerate_from 0 units))
+
+-- the lines of the windows of these frames of some symbols, each numbered by its place among the frames
+unfoldable pub lines_of_windows : List ℤ → List Frame → List ℕ
+lines_of_windows symbols frames =
+    concat (map (λ f. window_line f.0 f.1.place f.1.positive (outcome_in STANDARD symbols f.1)) (enumerate_from 0 frames))
+
+-- a line for the window of each frame of the symbols, or for each whole block
+abbrev pub decode_text : Input → List ℕ → List ℕ
+decode_text Symbols bytes = lines_of_windows (symbols_of bytes) (frames_of (tail_of STANDARD) (symbols_of bytes))
+decode_text (Units form) bytes = lines_of_units form (units_of (unit_bytes form) bytes)
+
+-- how many bytes were taken, how many outcomes there are, of each kind, and how many bytes are left
+unfoldable pub decode_count : List Outcome → ℕ → ℕ → Stop → List ℕ
+decode_count outcomes symbols left stop =
+    summary_line (Decode symbols (length outcomes) (count_by is_restored outcomes) (count_by (λ o. not (is_restored o)) outcomes) left) stop
+
+abbrev pub decode_last : Input → List ℕ → Stop → List ℕ
+decode_last input bytes stop = decode_count (outcomes_of_bytes input bytes) (length bytes) (left_of input bytes) stop

@@ -1,0 +1,121 @@
+-- Symbols that are taken to windows. No clause of a public call cites this.
+use Rattle.std.specs.Prelude.{◌≡◌, ◌<◌, ◌≤◌, ◌+◌, ◌-◌, ◌*◌, ℕ, ℤ, true, false, Option, Some, None, List, [], ◌∷◌, ◌++◌, length, map, cond}
+use Rattle.lr_bits.specs.declared.outcome.Outcome.{Outcome}
+use Rattle.lr_bits.specs.Faults.{Rose}
+use Rattle.lr_conv.specs.declared.line.TheConstants.{STANDARD}
+use Rattle.lr_conv.specs.Marker.{tail_of}
+use Rattle.lr_io.specs.declared.source.Source.{Ghosts as SourceOf}
+use Rattle.lr_lock.specs.declared.frame.Frame.{Frame}
+use Rattle.lr_lock.specs.Frames.{AreFrames}
+use Rattle.lr_lock.specs.Standing.{LockState, StandsFor}
+use Rattle.lr_lock.specs.Symbols.{symbols_of}
+use Rattle.lr_lock.specs.Windows.{WindowView, window_view}
+use Rattle.lr_frame.specs.Outcomes.{outcome_in}
+use Rattle.lr_catalog.specs.declared.stop.Stop.{Stop}
+use Rattle.lr_catalog.specs.declared.stop.Stop.TheVariants.{End, Limit, Fault}
+use Rattle.lr_receiving.specs.declared.units.Next.{Next}
+use Rattle.lr_receiving.specs.declared.units.Next.TheVariants.{Whole, Ended}
+use Rattle.lr_receiving.specs.Reading.{EndsFor}
+
+-- the lock, the window that it shows, how many bytes were taken and the most that may be, and why no more are taken
+pub record Decoding : Type 0 where
+  pub lock : LockState
+  pub window : WindowView
+  pub taken : ℕ
+  pub most : ℕ
+  pub stop : Stop
+
+-- the lock stands for some symbols and frames
+abbrev pub IsStanding : LockState → Type 0
+IsStanding lock = (fed : List ℤ) × (given : List Frame) × StandsFor lock fed given
+
+-- what decreases with each feeding
+abbrev pub steps_left : Decoding → ℕ
+steps_left now = now.most - now.taken + cond now.lock.finished 0 1
+
+-- the symbols that are to be fed or stand in the lock
+abbrev pub symbols_left : Decoding → ℕ
+symbols_left now = now.most - now.taken + length now.lock.kept
+
+-- nothing was taken
+pub record IsFresh (most : ℕ) (now : Decoding) : Type 0 where
+  pub stands : StandsFor now.lock [] []
+  pub line : now.lock.line ≡ STANDARD
+  pub unfinished : now.lock.finished ≡ false
+  pub taken : now.taken ≡ 0
+  pub most_is : now.most ≡ most
+
+-- the outcomes of frames of these bytes
+unfoldable pub outcomes_given : List ℕ → List Frame → List Outcome
+outcomes_given bytes given = map (outcome_in STANDARD (symbols_of bytes)) given
+
+module _ {S : Type 0} (source : SourceOf S) where
+  -- a piece of the source was fed
+  pub record FeedsPiece (before now : Decoding) (s s' : S) : Type 0 where
+    pub piece : List ℕ
+    pub some : 0 < length piece
+    pub lock_is : now.lock ≡ record before.lock { kept = before.lock.kept ++ symbols_of piece }
+    pub stands : (fed : List ℤ) (given : List Frame) → StandsFor before.lock fed given → StandsFor now.lock (fed ++ symbols_of piece) given
+    pub window_stays : now.window ≡ before.window
+    pub taken : now.taken ≡ before.taken + length piece
+    pub most_stays : now.most ≡ before.most
+    pub few : now.taken ≤ now.most
+    pub told : source.tells s → source.tells s'
+    pub moved : source.tells s → source.left s ≡ piece ++ source.left s'
+    pub kept : source.faults s' ≡ source.faults s
+
+  -- why nothing was fed
+  abbrev pub FeedsNoneFor : Stop → Decoding → S → S → Type 0
+  FeedsNoneFor End before s s' = (before.taken < before.most) × (source.tells s → source.left s' ≡ []) × (source.faults s' ≡ source.faults s)
+  FeedsNoneFor Limit before s s' = (before.taken ≡ before.most) × (source.faults s' ≡ source.faults s)
+  FeedsNoneFor Fault before s s' = (before.taken < before.most) × Rose (source.faults s) (source.faults s')
+
+  -- nothing was fed
+  pub record FeedsNone (stop : Stop) (before now : Decoding) (s s' : S) : Type 0 where
+    pub same : now ≡ before
+    pub told : source.tells s → source.tells s'
+    pub moved : source.tells s → source.left s' ≡ source.left s
+    pub why : FeedsNoneFor stop before s s'
+
+  abbrev pub Takes : Option Stop → Decoding → Decoding → S → S → Type 0
+  Takes None before now s s' = FeedsPiece before now s s'
+  Takes (Some stop) before now s s' = FeedsNone stop before now s s'
+
+  -- these bytes were taken, and these frames given of them
+  pub record DecodesSoFar (bytes : List ℕ) (given : List Frame) (now : Decoding) (s s' : S) : Type 0 where
+    pub stands : StandsFor now.lock (symbols_of bytes) given
+    pub line : now.lock.line ≡ STANDARD
+    pub long : now.taken ≡ length bytes
+    pub few : now.taken ≤ now.most
+    pub passed : 16384 * length given + length now.lock.kept ≤ now.taken
+    pub told : source.tells s → source.tells s'
+    pub moved : source.tells s → source.left s ≡ bytes ++ source.left s'
+    pub going_on : now.lock.finished ≡ false → source.faults s' ≡ source.faults s
+    pub ended : now.lock.finished ≡ true → EndsFor source now.stop now.most bytes s s'
+
+  -- more bytes were taken; the outcomes of the frames given stay
+  pub record DecodesOn (bytes : List ℕ) (given : List Frame) (now : Decoding) (s s' : S) : Type 0 where
+    pub all : List ℕ
+    pub so_far : DecodesSoFar all given now s s'
+    pub same : outcomes_given all given ≡ outcomes_given bytes given
+
+  -- the next frame was given
+  pub record GivesFrame (bytes : List ℕ) (given : List Frame) (now : Decoding) (s s' : S) : Type 0 where
+    pub all : List ℕ
+    pub frame : Frame
+    pub so_far : DecodesSoFar all (given ++ frame ∷ []) now s s'
+    pub window_is : now.window ≡ window_view STANDARD (symbols_of all) frame
+    pub same : outcomes_given all given ≡ outcomes_given bytes given
+
+  -- there is none: all frames were given
+  pub record EndsFrames (stop : Stop) (bytes : List ℕ) (given : List Frame) (now : Decoding) (s s' : S) : Type 0 where
+    pub all : List ℕ
+    pub so_far : DecodesSoFar all given now s s'
+    pub closed : now.lock.finished ≡ true
+    pub stop_is : now.stop ≡ stop
+    pub every : AreFrames (tail_of STANDARD) (symbols_of all) given
+    pub same : outcomes_given all given ≡ outcomes_given bytes given
+
+  abbrev pub Decodes : Next → List ℕ → List Frame → Decoding → S → S → Type 0
+  Decodes Whole bytes given now s s' = GivesFrame bytes given now s s'
+  Decodes (Ended stop) bytes given now s s' = EndsFrames stop bytes given now s s'

@@ -1,0 +1,29 @@
+-- What `make` writes, and what it does to the outside.
+use Rattle.std.specs.Prelude.{◌≡◌, ◌++◌, ℕ, ℤ, List, map}
+use Rattle.std.specs.Int.{cast_unsigned, w8}
+use Rattle.lr_io.specs.declared.sink.Sink.{Ghosts as SinkOf}
+use Rattle.lr_io.specs.Pieces.{PutsPart}
+use Rattle.lr_make.specs.Stream.{frame_stream, block_stream, symbol_stream}
+use Rattle.lr_commands.specs.declared.cause.Cause.{Cause}
+use Rattle.lr_commands.specs.declared.cause.Cause.TheVariants.{Done, Failed}
+use Rattle.lr_commands.specs.declared.cause.Party.TheVariants.{Output}
+use Rattle.lr_receiving.specs.declared.input.Input.{Input}
+use Rattle.lr_receiving.specs.declared.input.Input.TheVariants.{Symbols, Units}
+use Rattle.lr_receiving.specs.declared.input.UnitForm.TheVariants.{Blocks, Frames}
+
+-- each symbol in one byte
+abbrev pub bytes_of_symbols : List ℤ → List ℕ
+bytes_of_symbols symbols = map (cast_unsigned w8) symbols
+
+-- the first frames of the test stream of this start, in each form; frames have no wrong bytes
+unfoldable pub made_bytes : Input → ℕ → ℕ → ℕ → List ℕ
+made_bytes Symbols start wrong frames = bytes_of_symbols (symbol_stream start wrong frames)
+made_bytes (Units Blocks) start wrong frames = block_stream start wrong frames
+made_bytes (Units Frames) start wrong frames = frame_stream start frames
+
+-- how the call ends: `out` got these bytes, or it failed and got a front of them that isn't all of them
+module _ {O : Type 0} (out : SinkOf O) (bytes : List ℕ) where
+  abbrev pub MakeEnds : Cause → O → O → Type 0
+  MakeEnds Done o o' = (out.tells o → out.contents o' ≡ out.contents o ++ bytes) × (out.faults o' ≡ out.faults o)
+  MakeEnds (Failed Output) o o' = out.tells o → PutsPart bytes (out.contents o) (out.contents o')
+  MakeEnds _ o o' = ⊥

@@ -1,0 +1,27 @@
+-- The bytes that a call read, and why it read no more of them.
+use Rattle.std.specs.Prelude.{◌≡◌, ◌<◌, ◌≤◌, ◌*◌, ◌/◌, ℕ, List, [], ◌++◌, length, take, drop, map}
+use Rattle.std.specs.List.{range_with_len}
+use Rattle.lr_bits.specs.Faults.{Rose}
+use Rattle.lr_io.specs.declared.source.Source.{Ghosts as SourceOf}
+use Rattle.lr_catalog.specs.declared.stop.Stop.{Stop}
+use Rattle.lr_catalog.specs.declared.stop.Stop.TheVariants.{End, Limit, Fault}
+
+module _ {S : Type 0} (source : SourceOf S) where
+  -- these bytes were taken, at most this many
+  pub record IsRead (limit : ℕ) (bytes : List ℕ) (s s' : S) : Type 0 where
+    pub moved : source.tells s → source.left s ≡ bytes ++ source.left s'
+    pub few : length bytes ≤ limit
+
+  -- why no more of them were taken: nothing was left, or the limit was reached, or the source failed
+  abbrev pub EndsFor : Stop → ℕ → List ℕ → S → S → Type 0
+  EndsFor End limit bytes s s' = (length bytes < limit) × (source.tells s → source.left s' ≡ []) × (source.faults s' ≡ source.faults s)
+  EndsFor Limit limit bytes s s' = (length bytes ≡ limit) × (source.faults s' ≡ source.faults s)
+  EndsFor Fault limit bytes s s' = (length bytes < limit) × Rose (source.faults s) (source.faults s')
+
+-- one unit of the bytes, each of which is n bytes long
+abbrev pub unit_of : ℕ → List ℕ → ℕ → List ℕ
+unit_of n bytes place = take n (drop (n * place) bytes)
+
+-- all whole units of the bytes
+unfoldable pub units_of : ℕ → List ℕ → List (List ℕ)
+units_of n bytes = map (unit_of n bytes) (range_with_len 0 (length bytes / n))

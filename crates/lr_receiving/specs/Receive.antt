@@ -1,0 +1,167 @@
+-- What `receive` does to the outside.
+use Rattle.std.specs.Prelude.{◌≡◌, ◌⊎◌, ◌<◌, ◌≤◌, ℕ, List, [], ◌++◌, length}
+use Rattle.lr_bits.specs.declared.outcome.Outcome.{Outcome}
+use Rattle.lr_bits.specs.declared.placed.Placed.{Placed}
+use Rattle.lr_bits.specs.Faults.{Rose}
+use Rattle.lr_io.specs.declared.source.Source.{Ghosts as SourceOf}
+use Rattle.lr_io.specs.declared.sink.Sink.{Ghosts as SinkOf}
+use Rattle.lr_disk.specs.declared.disk.Disk.{Ghosts as DiskOf}
+use Rattle.lr_disk.specs.Reads.{IsUnwritten}
+use Rattle.lr_layers.specs.Layers.{Numbers, numbers_of}
+use Rattle.lr_shelf_format.specs.Items.{Item}
+use Rattle.lr_shelf_format.specs.Reading.{end_of}
+use Rattle.lr_shelf_format.specs.Way.{IsNoShelfAt}
+use Rattle.lr_shelf.specs.Shelf.{IsDurable}
+use Rattle.lr_catalog.specs.declared.stop.Stop.{Stop}
+use Rattle.lr_catalog.specs.declared.stop.Stop.TheVariants.{End, Limit, Fault}
+use Rattle.lr_catalog.specs.declared.summary.Summary.TheVariants.{Receive}
+use Rattle.lr_catalog.specs.Summaries.{summary_line}
+use Rattle.lr_commands.specs.declared.cause.Cause.{Cause}
+use Rattle.lr_commands.specs.declared.cause.Cause.TheVariants.{Done, Failed, NoMemory, Refused}
+use Rattle.lr_commands.specs.declared.cause.Party.TheVariants.{Source, Disk, Output}
+use Rattle.lr_commands.specs.declared.cause.Refusal.TheVariants.{NotAShelf, Capacity}
+use Rattle.lr_receiving.specs.declared.input.Input.{Input}
+use Rattle.lr_receiving.specs.Causes.{IsEarlier}
+use Rattle.lr_receiving.specs.Inputs.{outcomes_of_bytes, files_of_bytes, left_of}
+use Rattle.lr_receiving.specs.Onto.{IsFull, HadRoom}
+use Rattle.lr_receiving.specs.Reading.{IsRead, EndsFor}
+use Rattle.lr_receiving.specs.Shelving.{
+  with_files,
+  next_number,
+  shelved_lines,
+  LeavesFronts,
+  Holds,
+  Got,
+  GotPart,
+  DiskStops,
+  MemoryStops,
+  FullStops,
+  LineStops,
+}
+
+-- how many bytes were taken, how many outcomes there are, of each kind, how many good packets and files, and how many
+-- bytes are left
+abbrev pub counts_line : ℕ → ℕ → Numbers → ℕ → Stop → List ℕ
+counts_line symbols frames numbers left stop =
+    summary_line (Receive symbols frames numbers.restored numbers.lost numbers.packets numbers.files left) stop
+
+-- the last line of outcomes
+unfoldable pub receive_count : List Outcome → ℕ → ℕ → Stop → List ℕ
+receive_count outcomes symbols left stop = counts_line symbols (length outcomes) (numbers_of outcomes) left stop
+
+-- the last line of the bytes read
+unfoldable pub receive_last : Input → List ℕ → Stop → List ℕ
+receive_last input bytes stop = receive_count (outcomes_of_bytes input bytes) (length bytes) (left_of input bytes) stop
+
+-- the causes that come before any byte is read: the disk failed, no shelf stands there at this place, or memory was
+-- refused
+abbrev pub MayEndBefore : ℕ → Cause → Type 0
+MayEndBefore at (Failed Disk) = Unit {0}
+MayEndBefore at (Refused (NotAShelf at')) = at' ≡ at
+MayEndBefore at NoMemory = Unit {0}
+MayEndBefore at _ = ⊥
+
+-- the causes that a run may have, over any disk
+abbrev pub IsReceiveCause : Cause → Type 0
+IsReceiveCause Done = Unit {0}
+IsReceiveCause (Failed party) = Unit {0}
+IsReceiveCause NoMemory = Unit {0}
+IsReceiveCause (Refused (NotAShelf at)) = Unit {0}
+IsReceiveCause (Refused (Capacity needed capacity)) = Unit {0}
+IsReceiveCause _ = ⊥
+
+-- the causes of a run that put its last line: all files of the bytes read are shelved
+abbrev pub IsWorkDone : Cause → Type 0
+IsWorkDone Done = Unit {0}
+IsWorkDone (Failed Source) = Unit {0}
+IsWorkDone _ = ⊥
+
+module _ {S D O : Type 0} (source : SourceOf S) (disk : DiskOf D) (out : SinkOf O) where
+  -- no count rose
+  pub record NoFault (s s' : S) (d d' : D) (o o' : O) : Type 0 where
+    pub of_source : Rose (source.faults s) (source.faults s') → ⊥
+    pub of_disk : Rose (disk.faults d) (disk.faults d') → ⊥
+    pub of_out : Rose (out.faults o) (out.faults o') → ⊥
+
+  -- The shelf had these items before, and `files` are those of the bytes read.
+  module _ (input : Input) (capacity : ℕ) (before : List Item) (limit : ℕ) (bytes : List ℕ) where
+    -- all files are shelved, and the last line is put
+    pub record Finishes (stop : Stop) (s s' : S) (d d' : D) (o o' : O) : Type 0 where
+      pub reason : EndsFor source stop limit bytes s s'
+      pub durable : IsDurable disk capacity (with_files before (files_of_bytes input bytes)) d'
+      pub got : Got out
+          (shelved_lines (next_number before) (files_of_bytes input bytes) ++ receive_last input bytes stop) o o'
+      pub disk_count : disk.faults d' ≡ disk.faults d
+      pub out_count : out.faults o' ≡ out.faults o
+
+    -- `out` failed in the last line
+    pub record SummaryStops (s s' : S) (d d' : D) (o o' : O) : Type 0 where
+      pub stop : Stop
+      pub reason : EndsFor source stop limit bytes s s'
+      pub durable : IsDurable disk capacity (with_files before (files_of_bytes input bytes)) d'
+      pub part : GotPart out (shelved_lines (next_number before) (files_of_bytes input bytes))
+          (receive_last input bytes stop) o o'
+      pub rose : Rose (out.faults o) (out.faults o')
+
+    -- how a run ends, for each cause that it may have
+    abbrev pub Ends : Cause → S → S → D → D → O → O → Type 0
+    Ends Done s s' d d' o o' = Finishes End s s' d d' o o' ⊎ Finishes Limit s s' d d' o o'
+    Ends (Failed Source) s s' d d' o o' = Finishes Fault s s' d d' o o'
+    Ends (Failed Disk) s s' d d' o o' = DiskStops disk out capacity before (files_of_bytes input bytes) d d' o o'
+    Ends (Failed Output) s s' d d' o o' =
+        LineStops disk out capacity before (files_of_bytes input bytes) d d' o o' ⊎ SummaryStops s s' d d' o o'
+    Ends NoMemory s s' d d' o o' = MemoryStops disk out capacity before (files_of_bytes input bytes) d d' o o'
+    Ends (Refused (Capacity needed most)) s s' d d' o o' =
+        FullStops disk out capacity before needed most (files_of_bytes input bytes) d d' o o'
+    Ends _ s s' d d' o o' = ⊥
+
+    -- a run that took these bytes
+    pub record Receives (cause : Cause) (s s' : S) (d d' : D) (o o' : O) : Type 0 where
+      -- the contents and each crash image hold each file whose line was put whole
+      pub held : (whole rest : List Placed) (text : List ℕ) → out.tells o → files_of_bytes input bytes ≡ whole ++ rest
+          → out.contents o' ≡ out.contents o ++ (shelved_lines (next_number before) whole ++ text)
+          → Holds disk capacity before (files_of_bytes input bytes) (length whole) d'
+      pub held_untold : Holds disk capacity before (files_of_bytes input bytes) 0 d'
+      -- so does every moment of the call
+      pub any_moment : LeavesFronts disk capacity before (files_of_bytes input bytes) d d'
+      -- what a finished run leaves, and one that stopped early
+      pub ends : Ends cause s s' d d' o o'
+      -- where no count rises and all files fit, the work is done or memory was refused
+      pub complete : NoFault s s' d d' o o' → end_of (with_files before (files_of_bytes input bytes)) ≤ capacity
+          → (cause ≡ Done) ⊎ (cause ≡ NoMemory)
+      -- where they don't all fit, the work isn't done
+      pub overfull : capacity < end_of (with_files before (files_of_bytes input bytes))
+          → (cause ≡ Done → ⊥) × (cause ≡ Failed Source → ⊥)
+
+  -- the disk was only read, and the source and `out` are as they were
+  pub record IsUntouched (s s' : S) (d d' : D) (o o' : O) : Type 0 where
+    pub only_read : disk.tells d → IsUnwritten disk d d'
+    pub source_stays : s' ≡ s
+    pub out_stays : o' ≡ o
+
+  -- the whole call, over every disk
+  pub record ReceiveRun (input : Input) (limit : ℕ) (cause : Cause) (s s' : S) (d d' : D) (o o' : O) : Type 0 where
+    pub causes : IsReceiveCause cause
+    -- these bytes were taken
+    pub bytes : List ℕ
+    pub read : IsRead source limit bytes s s'
+    -- over a disk that tells its contents, stands for a shelf, and has nothing pending
+    pub onto_shelf : (capacity : ℕ) (before : List Item) → disk.tells d → IsDurable disk capacity before d
+        → Receives input capacity before limit bytes cause s s' d d' o o'
+    -- a disk on which no shelf stands is refused, exactly then
+    pub refused : (at : ℕ) → cause ≡ Refused (NotAShelf at)
+        → (disk.tells d → IsNoShelfAt (disk.contents d) at) × IsUntouched s s' d d' o o'
+    pub broken : (at : ℕ) → disk.tells d → IsNoShelfAt (disk.contents d) at
+        → MayEndBefore at cause × IsUntouched s s' d d' o o'
+    -- over every disk that tells its contents the capacity is refused only where the next file's end passes it, which
+    -- an empty source never brings about, and the work is done only where there was room for all files
+    pub full : (needed most : ℕ) → cause ≡ Refused (Capacity needed most) → disk.tells d
+        → IsFull disk needed most (files_of_bytes input bytes) d
+    pub nothing_fits : (needed most : ℕ) → cause ≡ Refused (Capacity needed most) → source.tells s
+        → source.left s ≡ [] → ⊥
+    pub room : IsWorkDone cause → disk.tells d → HadRoom disk (files_of_bytes input bytes) d
+    -- where no file was read, the disk was only read; where it failed or memory was refused, `out` is as it was, and
+    -- where it failed, the source too
+    pub only_read : files_of_bytes input bytes ≡ [] → disk.tells d → IsUnwritten disk d d'
+    pub silent : files_of_bytes input bytes ≡ [] → IsEarlier cause → o' ≡ o
+    pub unasked : files_of_bytes input bytes ≡ [] → cause ≡ Failed Disk → s' ≡ s

@@ -1,0 +1,96 @@
+-- How far `receive` has come in its input. No clause of a public call cites this.
+use Rattle.std.specs.Prelude.{◌≡◌, ◌<◌, ℕ, List, [], ◌++◌, length}
+use Rattle.lr_bits.specs.Faults.{Rose}
+use Rattle.lr_bits.specs.declared.placed.Placed.{Placed}
+use Rattle.lr_shelf_format.specs.Items.{Item}
+use Rattle.lr_io.specs.declared.source.Source.{Ghosts as SourceOf}
+use Rattle.lr_io.specs.declared.sink.Sink.{Ghosts as SinkOf}
+use Rattle.lr_disk.specs.declared.disk.Disk.{Ghosts as DiskOf}
+use Rattle.lr_layers.specs.Layers.{numbers_of}
+use Rattle.lr_layers.specs.Standing.{numbers}
+use Rattle.lr_shelf.specs.Kept.{kept_by}
+use Rattle.lr_shelf.specs.declared.shelf.Shelf.{Shelf}
+use Rattle.lr_commands.specs.declared.cause.Cause.{Cause}
+use Rattle.lr_commands.specs.declared.cause.Cause.TheVariants.{Failed, Refused}
+use Rattle.lr_commands.specs.declared.cause.Party.TheVariants.{Disk}
+use Rattle.lr_commands.specs.declared.cause.Refusal.TheVariants.{Capacity}
+use Rattle.lr_receiving.specs.declared.ended.Ended.{Ended}
+use Rattle.lr_receiving.specs.declared.input.Input.{Input}
+use Rattle.lr_receiving.specs.declared.input.Input.TheVariants.{Symbols}
+use Rattle.lr_receiving.specs.Inputs.{outcomes_of_bytes, files_of_bytes, left_of}
+use Rattle.lr_receiving.specs.Causes.{IsEarlier}
+use Rattle.lr_receiving.specs.Onto.{HasRoom, IsFullWith}
+use Rattle.lr_receiving.specs.Reading.{IsRead, EndsFor}
+use Rattle.lr_commands.specs.Puts.{Puts}
+use Rattle.lr_receiving.specs.Progress.{PutStops}
+use Rattle.lr_receiving.specs.Receive.{counts_line, IsWorkDone, Ends}
+use Rattle.lr_receiving.specs.Shelving.{LeavesFronts, Stops}
+use Rattle.lr_receiving.specs.Shelved.{ShelvesSoFar, Grows, GrowsNoMore}
+
+-- what the last line tells of these bytes
+pub record IsCountOf (input : Input) (bytes : List ℕ) (ended : Ended) : Type 0 where
+  pub symbols : ended.symbols ≡ length bytes
+  pub frames : ended.frames ≡ length (outcomes_of_bytes input bytes)
+  pub counts : numbers ended.counts ≡ numbers_of (outcomes_of_bytes input bytes)
+  pub left : ended.left ≡ left_of input bytes
+
+-- the last line of what was counted
+abbrev pub ended_line : Ended → List ℕ
+ended_line ended = counts_line ended.symbols ended.frames (numbers ended.counts) ended.left ended.stop
+
+module _ {O : Type 0} (out : SinkOf O) (ended : Ended) where
+  abbrev pub PutsLast : O → O → Type 0
+  PutsLast o o' = Puts out (ended_line ended) o o'
+
+  abbrev pub LastStops : Cause → O → O → Type 0
+  LastStops cause o o' = PutStops out (ended_line ended) cause o o'
+
+-- over every disk: how a run ends onto the shelf that was loaded
+pub record EndsOver {D O : Type 0} (cause : Cause) (files : List Placed) (shelf : Shelf) (d d' : D) (o o' : O)
+    : Type 0 where
+  pub full : (needed most : ℕ) → cause ≡ Refused (Capacity needed most)
+      → IsFullWith (kept_by shelf).way needed most files
+  pub room : IsWorkDone cause → HasRoom (kept_by shelf).way files
+  pub same_disk : files ≡ [] → d' ≡ d
+  pub silent : files ≡ [] → IsEarlier cause → o' ≡ o
+  pub kind : files ≡ [] → cause ≡ Failed Disk → ⊥
+
+module _ {S D O : Type 0} (source : SourceOf S) (disk : DiskOf D) (out : SinkOf O) (input : Input) (limit : ℕ) where
+  -- the input ended, and all its files are shelved, whatever shelf they came onto
+  pub record ReadsAll (ended : Ended) (shelf shelf' : Shelf) (s s' : S) (d d' : D) (o o' : O) : Type 0 where
+    pub bytes : List ℕ
+    pub read : IsRead source limit bytes s s'
+    pub reason : EndsFor source ended.stop limit bytes s s'
+    pub count : IsCountOf input bytes ended
+    pub shelved : (capacity : ℕ) (before : List Item) (d0 : D) (o0 : O)
+        → ShelvesSoFar disk out capacity before [] shelf d0 d o0 o
+        → ShelvesSoFar disk out capacity before (files_of_bytes input bytes) shelf' d0 d' o0 o'
+    pub grown : Grows (files_of_bytes input bytes) shelf shelf' d d' o o'
+
+  -- shelving stopped among the files of these bytes
+  pub record ReadsSome (cause : Cause) (shelf : Shelf) (s s' : S) (d d' : D) (o o' : O) : Type 0 where
+    pub bytes : List ℕ
+    pub read : IsRead source limit bytes s s'
+    pub stops : (capacity : ℕ) (before : List Item) (d0 : D) (o0 : O)
+        → ShelvesSoFar disk out capacity before [] shelf d0 d o0 o
+        → Stops disk out capacity before cause (files_of_bytes input bytes) d0 d' o0 o'
+    pub grown : GrowsNoMore cause (files_of_bytes input bytes) shelf d d' o o'
+    -- more sharply: among these files, up to those of the last outcome
+    pub files : List Placed
+    pub early : (capacity : ℕ) (before : List Item) (d0 : D) (o0 : O)
+        → ShelvesSoFar disk out capacity before [] shelf d0 d o0 o
+        → Stops disk out capacity before cause files d0 d' o0 o'
+    -- of symbols they are the first ones of all that the source gives, where it had not failed nor reached the limit
+    pub first : input ≡ Symbols → source.tells s → length bytes < limit
+        → (Rose (source.faults s) (source.faults s') → ⊥)
+        → (rest : List Placed) × (files_of_bytes input (bytes ++ source.left s') ≡ files ++ rest)
+
+  -- how a run ends that took some bytes, whatever shelf it was onto, and what a crash may leave of it
+  pub record EndsRun (cause : Cause) (shelf : Shelf) (s s' : S) (d d' : D) (o o' : O) : Type 0 where
+    pub bytes : List ℕ
+    pub read : IsRead source limit bytes s s'
+    pub ends : (capacity : ℕ) (before : List Item) (d0 : D) (o0 : O)
+        → ShelvesSoFar disk out capacity before [] shelf d0 d o0 o
+        → LeavesFronts disk capacity before (files_of_bytes input bytes) d0 d'
+        × Ends source disk out input capacity before limit bytes cause s s' d0 d' o0 o'
+    pub over : EndsOver cause (files_of_bytes input bytes) shelf d d' o o'

@@ -1,0 +1,76 @@
+-- What `trial` does to the outside.
+use Rattle.std.specs.Prelude.{◌≡◌, ◌⊎◌, ◌++◌, ℕ, List, [], length}
+use Rattle.lr_io.specs.declared.sink.Sink.{Ghosts as SinkOf}
+use Rattle.lr_io.specs.Pieces.{PutsPart}
+use Rattle.lr_disk.specs.declared.disk.Disk.{Ghosts as DiskOf}
+use Rattle.lr_disk.specs.Disk.{Only, LeavesOnly}
+use Rattle.lr_disk.specs.Reads.{IsUnwritten}
+use Rattle.lr_shelf.specs.Init.{IsTaken, IsBlank}
+use Rattle.lr_shelf.specs.Shelf.{IsDurable}
+use Rattle.lr_catalog.specs.declared.stop.Stop.TheVariants.{End}
+use Rattle.lr_commands.specs.declared.cause.Cause.{Cause}
+use Rattle.lr_commands.specs.declared.cause.Cause.TheVariants.{Done, Failed, NoMemory, Refused}
+use Rattle.lr_commands.specs.declared.cause.Party.TheVariants.{Disk, Output}
+use Rattle.lr_commands.specs.declared.cause.Refusal.TheVariants.{NotAShelf, Capacity, NotEmpty}
+use Rattle.lr_receiving.specs.declared.input.Input.TheVariants.{Symbols}
+use Rattle.lr_receiving.specs.Causes.{IsEarlier}
+use Rattle.lr_receiving.specs.Inputs.{files_of_bytes}
+use Rattle.lr_receiving.specs.Receive.{receive_last}
+use Rattle.lr_receiving.specs.Shelving.{with_files, StandsForFront, Got}
+
+-- how many bytes the shelf may have
+abbrev pub trial_capacity : ℕ
+trial_capacity = 1048576
+
+-- a shelf of that capacity with a front of the files of these symbols, or of the first of them, stands for these bytes
+pub record StandsForPart (symbols bytes : List ℕ) : Type 0 where
+  pub part : List ℕ
+  pub later : List ℕ
+  pub split : symbols ≡ part ++ later
+  pub stands : StandsForFront trial_capacity [] (files_of_bytes Symbols part) 0 bytes
+
+module _ {D : Type 0} (disk : DiskOf D) (symbols : List ℕ) where
+  -- the contents are such a shelf, and so is each crash image
+  pub record HoldsPart (d : D) : Type 0 where
+    pub contents : StandsForPart symbols (disk.contents d)
+    pub images : (c : List ℕ) → disk.may_leave d c → StandsForPart symbols c
+
+  -- How the call leaves the disk, for each cause that it may have. Where the disk tells its contents, there is never no
+  -- shelf, and all files fit.
+  abbrev pub DiskEnds : Cause → D → D → Type 0
+  DiskEnds Done d d' =
+      (disk.tells d → IsDurable disk trial_capacity (with_files [] (files_of_bytes Symbols symbols)) d')
+      × (disk.faults d' ≡ disk.faults d)
+  DiskEnds (Failed Disk) d d' = Unit {0}
+  DiskEnds (Failed Output) d d' =
+      disk.tells d → IsDurable disk trial_capacity (with_files [] (files_of_bytes Symbols symbols)) d'
+  DiskEnds NoMemory d d' = disk.tells d → (d' ≡ d) ⊎ HoldsPart d'
+  DiskEnds (Refused (NotAShelf at)) d d' = disk.tells d → ⊥
+  DiskEnds (Refused (Capacity needed most)) d d' = disk.tells d → ⊥
+  DiskEnds (Refused (NotEmpty size)) d d' =
+      disk.tells d → (size ≡ length (disk.contents d)) × IsTaken (disk.contents d)
+  DiskEnds _ d d' = ⊥
+
+  pub record LeavesDisk (cause : Cause) (d d' : D) : Type 0 where
+    pub ends : DiskEnds cause d d'
+    -- a disk that is taken is refused, exactly then, and nothing is written
+    pub taken : disk.tells d → IsTaken (disk.contents d)
+        → ((cause ≡ Refused (NotEmpty (length (disk.contents d)))) ⊎ IsEarlier cause)
+        × ((d' ≡ d) ⊎ IsUnwritten disk d d')
+    -- otherwise a crash at any moment of the call leaves at most 20 bytes, with no header or an empty shelf, or a shelf
+    -- with some of the files
+    pub any_moment : disk.tells d → (IsTaken (disk.contents d) → ⊥) → Only (disk.contents d) (disk.may_leave d)
+        → (d' ≡ d)
+        ⊎ LeavesOnly disk.moment disk.left_since d d' (λ c. IsBlank trial_capacity c ⊎ StandsForPart symbols c)
+
+module _ {D O : Type 0} (disk : DiskOf D) (out : SinkOf O) (symbols : List ℕ) where
+  -- what `out` got: the last line of `receive` alone, where the work is done
+  abbrev pub OutEnds : Cause → O → O → Type 0
+  OutEnds Done o o' = Got out (receive_last Symbols symbols End) o o' × (out.faults o' ≡ out.faults o)
+  OutEnds (Failed Output) o o' =
+      out.tells o → PutsPart (receive_last Symbols symbols End) (out.contents o) (out.contents o')
+  OutEnds _ o o' = o' ≡ o
+
+  pub record TrialRun (cause : Cause) (d d' : D) (o o' : O) : Type 0 where
+    pub on_disk : LeavesDisk disk symbols cause d d'
+    pub on_out : OutEnds cause o o'

@@ -1,0 +1,19 @@
+/// The most bytes that a call takes from the source where no word gives another number.
+pub const MOST_BYTES: u64 = 1_099_511_627_776;
+
+/// Units of a fixed number of bytes, one after another.
+#[derive(Clone, Copy)]
+pub enum UnitForm {
+    /// Blocks of 1,020 bytes as they are received.
+    Blocks,
+    /// Transfer frames of 892 bytes.
+    Frames,
+}
+
+/// What the source gives, or what is made.
+#[derive(Clone, Copy)]
+pub enum Input {
+    /// Soft symbols, each in a byte that is read as a signed one.
+    Symbols,
+    Units(UnitForm),
+}

@@ -1,0 +1,33 @@
+//! The commands that read the input, make it, or make a shelf.
+//!
+//! `frames`, `packets` and `decode` print lines of the bytes that they read, and their contract is `Prints`. `receive`
+//! puts the mission files of its input onto the shelf, each acknowledged by its line; its contract is `ReceiveRun`.
+//! `init` makes an empty shelf (`InitRun`), `make` writes the test stream (`MakeEnds`), and `trial` receives that
+//! stream onto a shelf that it makes (`TrialRun`). Each says for every cause what became of source, disk and `out`.
+#![tactic(auto)]
+
+mod counted;
+mod ended;
+mod frame_lines;
+mod input;
+mod new_shelf;
+mod outcome_lines;
+mod packet_lines;
+mod put;
+mod reader;
+mod reception;
+mod shelve;
+mod symbols;
+mod test_stream;
+mod trial_run;
+mod units;
+mod windows;
+
+pub use frame_lines::frames;
+pub use input::{Input, MOST_BYTES, UnitForm};
+pub use new_shelf::init;
+pub use outcome_lines::decode;
+pub use packet_lines::packets;
+pub use reception::receive;
+pub use test_stream::make;
+pub use trial_run::trial;

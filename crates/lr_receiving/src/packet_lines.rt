@@ -1,0 +1,198 @@
+//! `packets`: a line for each packet of the frames.
+ghost use Rattle.std.specs.Prelude.{◌≡◌, ◌<◌, ◌≤◌, ◌+◌, ◌^◌, ◌++◌, ◌∷◌, [], List, ℕ, IfOk, IfErr, OnOk, OnErr, length, if◌then◌else◌};
+ghost use Rattle.lr_bits.specs.Packet.{Packet};
+ghost use Rattle.lr_vc.specs.Standing.{StandsFor};
+ghost use Rattle.lr_packet.specs.Verdict.{good_of, good_packets};
+ghost use Rattle.lr_receiving.specs.Added.{packets_added, lines_added};
+ghost use Rattle.lr_receiving.specs.Packets.{frames_read, packets_read, lines_from, lines_of_packets, packets_count, packets_text, packets_last};
+ghost use Rattle.lr_receiving.specs.PacketsRead.{IsAfter, IsCounted};
+ghost use Rattle.lr_receiving.specs.Printing.{Prints, PrintsAll};
+ghost use Rattle.lr_commands.specs.Puts.{Puts};
+ghost use Rattle.lr_receiving.specs.Progress.{EndsUnits, PutStops};
+
+use crate::counted::Counted;
+use crate::ended::cause_at;
+use crate::put::put_text;
+use crate::units::{Next, Units};
+use lr_bits::{Bytes, FRAME_BYTES, NoMemory, RawPacket};
+use lr_catalog::{Stop, Summary, packet_line, summary_line};
+use lr_commands::Cause;
+use lr_io::{Sink, Source};
+use lr_packet::check;
+use lr_vc::{Channels, TransferFrame};
+use std::alloc::Global;
+
+/// How the reading ended: how many frames and packets there were, how many bytes are no whole frame, and why.
+#[derive(Clone, Copy)]
+struct Ended {
+    frames: u64,
+    counted: Counted,
+    left: u64,
+    stop: Stop,
+}
+
+fn is_good(raw: &RawPacket) -> bool
+    ensures { good_packets (raw.now ∷ []) ≡ (if result then good_of raw.now ∷ [] else []) }
+{
+    check(raw).is_ok()
+}
+
+/// How many of the packets are good.
+fn count_good(packets: &[RawPacket]) -> u64
+    ensures good { result ≡ length (good_packets packets.now) }
+    ensures few { result ≤ length packets.now }
+{
+    let mut good = 0;
+    for raw in packets {
+        if is_good(raw) {
+            good += 1;
+        }
+    }
+    good
+}
+
+/// The lines of these packets, the first of which has that number.
+fn compose(
+    alloc: Global,
+    first: u64,
+    packets: &[RawPacket],
+    lines: &mut Bytes,
+) -> Result<(), NoMemory>
+    requires { first + length packets.now < 2 ^ 64 }
+    ensures { OnOk result (lines.new ≡ lines.old ++ lines_from first packets.now) }
+{
+    for (place, raw) in packets.iter().enumerate() {
+        packet_line(alloc, first + place as u64, raw, lines)?;
+    }
+    Ok(())
+}
+
+/// The packets that end in one frame more.
+fn read_packets(
+    frame: &[u8; FRAME_BYTES],
+    channels: &mut Channels,
+    packets: &mut Vec<RawPacket>,
+) -> Result<(), NoMemory>
+    ensures stands { (frames : List (List ℕ)) → StandsFor channels.old (frames_read frames)
+        → OnOk result (StandsFor channels.new (frames_read (frames ++ frame.now ∷ []))) }
+    ensures packets { (frames : List (List ℕ)) → StandsFor channels.old (frames_read frames)
+        → OnOk result (packets.new.items ≡ packets.old.items ++ packets_added frames frame.now) }
+    ensures few { OnOk result (length packets.new.items ≤ length packets.old.items + 885) }
+{
+    match TransferFrame::read(frame) {
+        Ok(frame) => channels.push(&frame, packets),
+        Err(_) => Ok(()),
+    }
+}
+
+/// Puts the lines of the packets that end in one frame more, and counts them.
+fn put_frame<O: Sink>(
+    alloc: Global,
+    frame: &[u8; FRAME_BYTES],
+    channels: &mut Channels,
+    packets: &mut Vec<RawPacket>,
+    counted: &mut Counted,
+    out: &mut O,
+) -> Result<(), Cause>
+    requires room { counted.old.packets + 885 < 2 ^ 64 }
+    ensures stands { (frames : List (List ℕ)) → IsAfter channels.old counted.old frames
+        → OnOk result (IsAfter channels.new counted.new (frames ++ frame.now ∷ [])) }
+    ensures put { (frames : List (List ℕ)) → IsAfter channels.old counted.old frames
+        → OnOk result (Puts O.Sink (lines_added frames frame.now) out.old out.new) }
+    ensures stopped { (frames : List (List ℕ)) → IsAfter channels.old counted.old frames
+        → IfErr result (λ cause. PutStops O.Sink (lines_added frames frame.now) cause out.old out.new) }
+    ensures few { OnOk result (counted.new.packets ≤ counted.old.packets + 885) }
+{
+    packets.clear();
+    read_packets(frame, channels, packets)?;
+    let mut lines = Bytes::new(alloc);
+    compose(alloc, counted.packets, packets, &mut lines)?;
+    put_text(lines.as_slice(), out)?;
+    *counted = Counted {
+        packets: counted.packets + packets.len() as u64,
+        good: counted.good + count_good(packets),
+    };
+    Ok(())
+}
+
+fn put_each_packet<S: Source, O: Sink>(
+    alloc: Global,
+    most: u64,
+    source: &mut S,
+    out: &mut O,
+) -> Result<Ended, Cause>
+    ensures ended { IfOk result (λ ended. (frames : List (List ℕ))
+        × EndsUnits S.Source 892 most frames ended.left ended.stop source.old source.new
+        × (ended.frames ≡ length frames) × IsCounted ended.counted frames × Puts O.Sink (lines_of_packets frames) out.old out.new) }
+    ensures stopped { IfErr result (λ cause. Prints S.Source O.Sink packets_text packets_last most cause source.old source.new out.old out.new) }
+{
+    let mut units = Units::<FRAME_BYTES>::new(most);
+    let mut channels = Channels::new(alloc);
+    let mut packets = Vec::new(alloc);
+    let mut counted = Counted {
+        packets: 0,
+        good: 0,
+    };
+    let mut place = 0u64;
+    'frames: loop {
+        match units.next(source) {
+            Next::Ended(stop) => {
+                let left = units.len() as u64;
+                return Ok(Ended {
+                    frames: place,
+                    counted,
+                    left,
+                    stop,
+                });
+            }
+            Next::Whole => {
+                let frame = units.unit();
+                put_frame(alloc, frame, &mut channels, &mut packets, &mut counted, out)?;
+                units.clear();
+                place += 1;
+            }
+        }
+    }
+}
+
+fn put_last<O: Sink>(alloc: Global, ended: &Ended, out: &mut O) -> Result<(), Cause>
+    ensures put { (frames : List (List ℕ)) → IsCounted ended.now.counted frames
+        → IfOk result (λ _. Puts O.Sink (packets_count frames ended.now.frames ended.now.left ended.now.stop) out.old out.new) }
+    ensures stopped { (frames : List (List ℕ)) → IsCounted ended.now.counted frames
+        → IfErr result (λ cause. PutStops O.Sink (packets_count frames ended.now.frames ended.now.left ended.now.stop) cause out.old out.new) }
+{
+    let mut line = Bytes::new(alloc);
+    let summary = Summary::Packets {
+        frames: ended.frames,
+        packets: ended.counted.packets,
+        good: ended.counted.good,
+        left: ended.left,
+    };
+    summary_line(alloc, &summary, ended.stop, &mut line)?;
+    put_text(line.as_slice(), out)
+}
+
+fn put_packets<S: Source, O: Sink>(
+    alloc: Global,
+    most: u64,
+    source: &mut S,
+    out: &mut O,
+) -> Result<Stop, Cause>
+    ensures all { IfOk result (λ stop. PrintsAll S.Source O.Sink packets_text packets_last most stop source.old source.new out.old out.new) }
+    ensures stopped { IfErr result (λ cause. Prints S.Source O.Sink packets_text packets_last most cause source.old source.new out.old out.new) }
+{
+    let ended = put_each_packet(alloc, most, source, out)?;
+    put_last(alloc, &ended, out)?;
+    Ok(ended.stop)
+}
+
+/// A line for each packet of the frames of the source, and a last line. At most `most` bytes are
+/// taken.
+pub fn packets<S: Source, O: Sink>(alloc: Global, most: u64, source: &mut S, out: &mut O) -> Cause
+    ensures { Prints S.Source O.Sink packets_text packets_last most result source.old source.new out.old out.new }
+{
+    match put_packets(alloc, most, source, out) {
+        Ok(stop) => cause_at(stop),
+        Err(cause) => cause,
+    }
+}

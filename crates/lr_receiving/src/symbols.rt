@@ -1,0 +1,193 @@
+//! The symbols of the input are taken to the windows of its frames, however its reads are cut.
+ghost use Rattle.std.specs.Prelude.{◌≡◌, ◌↔◌, ◌<◌, ◌≤◌, ◌++◌, [], length, take, IfOk, OnErr};
+ghost use Rattle.lr_bits.specs.Faults.{HasCause};
+
+use crate::units::Next;
+use lr_bits::{Failed, NoMemory, Outcome};
+use lr_catalog::Stop;
+use lr_conv::STANDARD;
+use lr_frame::FrameWork;
+use lr_io::Source;
+use lr_lock::{Lock, Step, Window};
+use std::alloc::Global;
+use std::marker::Model;
+
+/// The most bytes that are taken at a time, for which the lock has room.
+const ROOM: usize = 65_536;
+
+/// How many bytes are taken at a time.
+fn size_within(left: u64, room: usize) -> usize
+    requires left { 0 < left }
+    requires room { 0 < room }
+    ensures some { 0 < result }
+    ensures left { result ≤ left }
+    ensures room { result ≤ room }
+{
+    if left < room as u64 {
+        left as usize
+    } else {
+        room
+    }
+}
+
+/// Moves at most `size` bytes of the source to the front of `into`.
+fn take_within<S: Source>(source: &mut S, into: &mut [u8], size: usize) -> Result<usize, Failed>
+    requires some { 0 < size }
+    requires room { size ≤ length into.old }
+    ensures cause { HasCause (S.faults source.old) (S.faults source.new) result }
+    ensures within { IfOk result (λ n. n ≤ size) }
+    ensures told { S.tells source.old → S.tells source.new }
+    ensures moved { S.tells source.old → IfOk result (λ n. S.left source.old ≡ take n into.new ++ S.left source.new) }
+    ensures ended { S.tells source.old → IfOk result (λ n. (n ≡ 0) ↔ (S.left source.old ≡ [])) }
+    ensures failed { S.tells source.old → OnErr result (S.left source.new ≡ S.left source.old) }
+    ensures stays { length into.new ≡ length into.old }
+{
+    source.take(&mut into[..size])
+}
+
+/// The lock, the window that it shows, the work on its frame, and a buffer for what is taken.
+#[derive(Drop)]
+pub(crate) struct Decoder {
+    lock: Lock,
+    window: Window,
+    work: FrameWork,
+    buffer: Vec<u8>,
+    taken: u64,
+    most: u64,
+    /// Why no more is taken, once the lock is finished.
+    stop: Stop,
+}
+
+impl Model for Decoder {
+    ghost use Rattle.std.specs.Prelude.{◌≡◌, ◌≤◌, ◌+◌, ◌^◌, length};
+    ghost use Rattle.lr_conv.specs.declared.line.TheConstants.{STANDARD};
+    ghost use Rattle.lr_receiving.specs.Decoding.{Decoding};
+
+    ghost Value = { Decoding };
+
+    ghost view = { λ d. record { lock = d.lock; window = d.window; taken = d.taken; most = d.most; stop = d.stop } };
+
+    ghost invariant = { λ d. (length d.buffer.items ≡ 65536) × (d.taken ≤ d.most) × (d.most ≤ 2 ^ 61) × (d.lock.place + length d.lock.kept ≤ d.taken) × (d.lock.line ≡ STANDARD) × (d.window.line ≡ STANDARD) };
+}
+
+impl Decoder {
+    ghost use Rattle.std.specs.Prelude.{◌≡◌, ◌<◌, ◌≤◌, ◌+◌, ◌-◌, ◌^◌, List, ℕ, false, true, IfOk, length, cond};
+    ghost use Rattle.lr_lock.specs.declared.frame.Frame.{Frame};
+    ghost use Rattle.lr_frame.specs.Outcomes.{outcome_of_window};
+    ghost use Rattle.lr_receiving.specs.Decoding.{IsFresh, IsStanding, steps_left, symbols_left, Takes, DecodesSoFar, DecodesOn, Decodes};
+    ghost use Rattle.lr_receiving.specs.Shelved.{HasWholeFrame};
+    ghost use Rattle.lr_receiving.specs.declared.units.Next.TheVariants.{Whole};
+
+    /// All memory that symbols take. At most `most` bytes will be taken.
+    pub(crate) fn new(alloc: Global, most: u64) -> Result<Self, NoMemory>
+        requires { most ≤ 2 ^ 61 }
+        ensures { IfOk result (IsFresh most) }
+    {
+        let lock = Lock::new(alloc, STANDARD)?;
+        let window = Window::new(alloc, STANDARD)?;
+        let work = FrameWork::new(alloc)?;
+        let buffer = vec![in alloc; 0; ROOM]?;
+        Ok(Decoder {
+            lock,
+            window,
+            work,
+            buffer,
+            taken: 0,
+            most,
+            stop: Stop::End,
+        })
+    }
+
+    /// How many bytes were taken.
+    pub(crate) fn taken(&self) -> u64
+        ensures { result ≡ self.now.taken }
+    {
+        self.taken
+    }
+
+    /// The place of the frame in the stream.
+    pub(crate) fn position(&self) -> u64
+        ensures { result ≡ self.now.window.position }
+    {
+        self.window.position()
+    }
+
+    pub(crate) fn positive(&self) -> bool
+        ensures { result ≡ self.now.window.positive }
+    {
+        self.window.positive()
+    }
+
+    /// What becomes of the frame of the window.
+    pub(crate) fn outcome(&mut self) -> Outcome
+        ensures value { result ≡ outcome_of_window STANDARD self.old.window.symbols }
+        ensures whole { HasWholeFrame result }
+        ensures stays { self.new ≡ self.old }
+    {
+        self.work.outcome(&self.window)
+    }
+
+    /// Feeds the lock what the source gives, as much as there is room for. Answers why there is nothing to feed, if so.
+    fn take<S: Source>(&mut self, source: &mut S) -> Option<Stop>
+        requires unfinished { self.old.lock.finished ≡ false }
+        requires room { length self.old.lock.kept < 65536 }
+        ensures takes { Takes S.Source result self.old self.new source.old source.new }
+    {
+        let left = self.most - self.taken;
+        if left == 0 {
+            return Some(Stop::Limit);
+        }
+        let size = size_within(left, self.lock.room());
+        match take_within(source, &mut self.buffer, size) {
+            Err(Failed) => Some(Stop::Fault),
+            Ok(0) => Some(Stop::End),
+            Ok(count) => {
+                self.lock.feed_bytes(&self.buffer[..count]);
+                self.taken += count as u64;
+                None
+            }
+        }
+    }
+
+    /// No more bytes are taken.
+    fn finish(&mut self, stop: Stop)
+        ensures { self.new ≡ record self.old { lock = record self.old.lock { finished = true }; stop = stop } }
+    {
+        self.lock.finish();
+        self.stop = stop;
+    }
+
+    /// Feeds the lock once more, or finishes it.
+    fn more<S: Source>(&mut self, source: &mut S)
+        requires unfinished { self.old.lock.finished ≡ false }
+        requires room { length self.old.lock.kept < 65536 }
+        ensures decodes { (bytes : List ℕ) (given : List Frame) (s : _) → DecodesSoFar S.Source bytes given self.old s source.old
+            → DecodesOn S.Source bytes given self.new s source.new }
+        ensures standing { IsStanding self.old.lock → IsStanding self.new.lock }
+        ensures most { self.new.most ≡ self.old.most }
+        ensures goes_on { steps_left self.new < steps_left self.old }
+        ensures fewer { symbols_left self.new ≤ symbols_left self.old }
+    {
+        if let Some(stop) = self.take(source) {
+            self.finish(stop);
+        }
+    }
+
+    /// Takes bytes until the window of the next frame is shown, or there is none.
+    pub(crate) fn next<S: Source>(&mut self, source: &mut S) -> Next
+        requires { IsStanding self.old.lock }
+        ensures decodes { (bytes : List ℕ) (given : List Frame) (s : _) → DecodesSoFar S.Source bytes given self.old s source.old
+            → Decodes S.Source result bytes given self.new s source.new }
+        ensures standing { IsStanding self.new.lock }
+        ensures most { self.new.most ≡ self.old.most }
+        ensures fewer { result ≡ Whole → symbols_left self.new < symbols_left self.old }
+    {
+        'steps: loop {
+            match self.lock.next_window(&mut self.window) {
+                Step::Window => return Next::Whole,
+                Step::End => return Next::Ended(self.stop),
+                Step::More => self.more(source),
+            }
+        }
+    }
+}

@@ -1,0 +1,120 @@
+//! `trial`: the main job on the test stream, without any input.
+ghost use Rattle.std.specs.Prelude.{◌≡◌, ◌≤◌, ◌<◌, ◌++◌, [], ℕ, List, length, IfOk, IfErr, OnOk};
+ghost use Rattle.lr_catalog.specs.declared.stop.Stop.TheVariants.{End};
+ghost use Rattle.lr_shelf_format.specs.Reading.{end_of};
+ghost use Rattle.lr_make.specs.Blocks.{block_at};
+ghost use Rattle.lr_make.specs.Frames.{frame_at};
+ghost use Rattle.lr_make.specs.Received.{IsReceivedAs};
+ghost use Rattle.lr_commands.specs.Causes.{IsCaused};
+ghost use Rattle.lr_receiving.specs.Causes.{counts};
+ghost use Rattle.lr_receiving.specs.Inputs.{files_of_bytes};
+ghost use Rattle.lr_receiving.specs.Made.{made_bytes};
+ghost use Rattle.lr_receiving.specs.Readers.{input_of, IsReadyFor};
+ghost use Rattle.lr_receiving.specs.Receive.{receive_last};
+ghost use Rattle.lr_receiving.specs.Reception.{ended_line};
+ghost use Rattle.lr_receiving.specs.Shelved.{StopsTrial};
+ghost use Rattle.lr_receiving.specs.Shelving.{with_files};
+ghost use Rattle.lr_receiving.specs.Trial.{trial_capacity, LeavesDisk, TrialRun};
+ghost use Rattle.lr_receiving.specs.declared.input.TheConstants.{MOST_BYTES as most_bytes};
+
+use crate::ended::Ended;
+use crate::input::{Input, MOST_BYTES};
+use crate::reader::Reader;
+use crate::reception::{put_last, receive_all};
+use crate::test_stream::put_bytes;
+use lr_bits::{FRAME_SYMBOLS, NoMemory};
+use lr_commands::Cause;
+use lr_disk::Disk;
+use lr_io::{Sink, SureSink, SureSource};
+use lr_make::Maker;
+use lr_shelf::Shelf;
+use std::alloc::Global;
+
+/// How many bytes the shelf may have.
+const CAPACITY: u64 = 1_048_576;
+
+/// The symbols of this many frames, each in a byte. Each of their blocks is received as its frame.
+fn stream(alloc: Global, start: u64, frames: u64, wrong: u8) -> Result<Vec<u8>, NoMemory>
+    requires few { frames ≤ 1024 }
+    requires wrong { wrong ≤ 16 }
+    ensures bytes { IfOk result (λ bytes. bytes.items ≡ made_bytes Input.Symbols start wrong frames) }
+    ensures received { (k : ℕ) → k < frames → IfOk result (λ _. IsReceivedAs wrong (frame_at start k) (block_at start wrong k)) }
+{
+    let mut maker = Maker::new(start, wrong)?;
+    let mut all = Vec::with_capacity(alloc, frames as usize * FRAME_SYMBOLS)?;
+    let mut symbols = [0; FRAME_SYMBOLS];
+    let mut bytes = [0; FRAME_SYMBOLS];
+    let mut made = 0;
+    'frames: while made < frames {
+        maker.next_symbols(&mut symbols)?;
+        put_bytes(&symbols, &mut bytes);
+        all.extend_from_slice(&bytes)?;
+        made += 1;
+    }
+    Ok(all)
+}
+
+/// Makes an empty shelf on the disk, and puts the files of these symbols onto it.
+fn shelve_stream<D: Disk>(
+    alloc: Global,
+    reader: &mut Reader,
+    symbols: Vec<u8>,
+    disk: &mut D,
+) -> Result<Ended, Cause>
+    requires ready { IsReadyFor most_bytes reader.old }
+    requires input { input_of reader.old ≡ Input.Symbols }
+    requires few { length symbols.items < most_bytes }
+    requires fit { end_of (with_files [] (files_of_bytes Input.Symbols symbols.items)) ≤ trial_capacity }
+    ensures cause { IfErr result (λ cause. IsCaused cause (counts 0 (D.faults disk.old) 0) (counts 0 (D.faults disk.new) 0)) }
+    ensures kind { IfErr result StopsTrial }
+    ensures line { IfOk result (λ ended. ended_line ended ≡ receive_last Input.Symbols symbols.items End) }
+    ensures done { OnOk result (LeavesDisk D.Disk symbols.items Cause.Done disk.old disk.new) }
+    ensures stopped { IfErr result (λ cause. LeavesDisk D.Disk symbols.items cause disk.old disk.new) }
+{
+    Shelf::init(disk, CAPACITY)?;
+    let mut shelf = Shelf::load(alloc, disk)?;
+    let mut source = SureSource::of(symbols);
+    let mut lines = SureSink::new();
+    receive_all(
+        alloc,
+        reader,
+        MOST_BYTES,
+        &mut shelf,
+        &mut source,
+        disk,
+        &mut lines,
+    )
+}
+
+/// Makes the symbols of this many frames of the test stream, an empty shelf on the disk, and puts the mission files of the
+/// symbols onto it. The last line alone is printed. The memory for the symbols, and for reading them, is taken first.
+pub fn trial<D: Disk, O: Sink>(
+    alloc: Global,
+    start: u64,
+    frames: u64,
+    wrong: u8,
+    disk: &mut D,
+    out: &mut O,
+) -> Cause
+    requires few { frames ≤ 1024 }
+    requires wrong { wrong ≤ 16 }
+    ensures cause { IsCaused result (counts 0 (D.faults disk.old) (O.faults out.old)) (counts 0 (D.faults disk.new) (O.faults out.new)) }
+    ensures run { TrialRun D.Disk O.Sink (made_bytes Input.Symbols start wrong frames) result disk.old disk.new out.old out.new }
+{
+    let symbols = match stream(alloc, start, frames, wrong) {
+        Ok(symbols) => symbols,
+        Err(NoMemory) => return Cause::NoMemory,
+    };
+    let mut reader = match Reader::new(alloc, Input::Symbols, MOST_BYTES) {
+        Ok(reader) => reader,
+        Err(NoMemory) => return Cause::NoMemory,
+    };
+    let ended = match shelve_stream(alloc, &mut reader, symbols, disk) {
+        Ok(ended) => ended,
+        Err(cause) => return cause,
+    };
+    match put_last(alloc, &ended, out) {
+        Ok(()) => Cause::Done,
+        Err(cause) => cause,
+    }
+}
