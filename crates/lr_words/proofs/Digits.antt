@@ -1,9 +1,36 @@
 -- Numbers as words give them, and as `parse` reads them.
-use Rattle.std.proofs.Common.{◌≡◌, ◌≢◌, ◌&&◌, ◌<◌, ◌≤◌, ◌^◌, ℕ, true, false, List, length, get_or, Some, None, Ok, Err, refl, arith, nat_lt, nat_le}
+use Rattle.std.proofs.Common.{
+  ◌≡◌,
+  ◌≢◌,
+  ◌&&◌,
+  ◌<◌,
+  ◌≤◌,
+  ◌^◌,
+  ℕ,
+  true,
+  false,
+  List,
+  length,
+  get_or,
+  Some,
+  None,
+  Ok,
+  Err,
+  refl,
+  arith,
+  nat_lt,
+  nat_le,
+}
 use Rattle.std.specs.Str.{all_ascii_digits}
 use Rattle.std.specs.Str.Parse.{ParsesUnsigned, digits_value}
 use Rattle.std.proofs.lemmas.Bool.{and_parts, and_from, false_from_ne_true, leb-true, le-leb, ltb-true, lt-ltb}
-use Rattle.std.proofs.lemmas.Str.Parse.{IsNumeralModel, numerals_by_value, tells_all_ascii_digits, not_in_digits, parse_plain}
+use Rattle.std.proofs.lemmas.Str.Parse.{
+  IsNumeralModel,
+  numerals_by_value,
+  tells_all_ascii_digits,
+  not_in_digits,
+  parse_plain,
+}
 use Rattle.lr_words.specs.Numbers.{is_number, number_of}
 
 own : IsNumeralModel (λ ds. all_ascii_digits ds ≡ true) (digits_value 10)
@@ -31,7 +58,8 @@ pub plus_none : (text : List ℕ) → 0 < length text → get_or text 0 0 ≡ 43
 plus_none text some plus = fails text (λ p.
     not_in_digits own text 43 (and_parts _ _ (and_parts _ _ p.0).1).1 (λ r. omega arith) 0 some plus)
 
-pub parsed_some : (E : Type 0) (text : List ℕ) (n : ℕ) → ParsesUnsigned {E = E} 64 10 text (Ok n) → get_or text 0 0 ≢ 43 → length text ≤ 20
+pub parsed_some : (E : Type 0) (text : List ℕ) (n : ℕ) → ParsesUnsigned {E = E} 64 10 text (Ok n)
+    → get_or text 0 0 ≢ 43 → length text ≤ 20
     → Some n ≡ number_of text
 unfolding number_of
 parsed_some E text n h first short =
@@ -41,7 +69,8 @@ parsed_some E text n h first short =
     (lt-ltb _ _ p.0.2) in
     rw (test, p.1) refl
 
-pub parsed_none : (E : Type 0) (text : List ℕ) (e : E) → ParsesUnsigned {E = E} 64 10 text (Err e) → get_or text 0 0 ≢ 43
+pub parsed_none : (E : Type 0) (text : List ℕ) (e : E) → ParsesUnsigned {E = E} 64 10 text (Err e)
+    → get_or text 0 0 ≢ 43
     → None ≡ number_of text
 parsed_none E text e h first =
     let p = parse_plain own {E = E} 64 text (Err e) h first in

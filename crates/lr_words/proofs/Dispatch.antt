@@ -1,11 +1,41 @@
 -- A first word that names no command.
-use Rattle.std.proofs.Common.{◌≡◌, ◌∙◌, ap, ℕ, false, List, [], ◌∷◌, map, codes, Some, None, String, Global, string_bytes, refl}
+use Rattle.std.proofs.Common.{
+  ◌≡◌,
+  ◌∙◌,
+  ap,
+  ℕ,
+  false,
+  List,
+  [],
+  ◌∷◌,
+  map,
+  codes,
+  Some,
+  None,
+  String,
+  Global,
+  string_bytes,
+  refl,
+}
 use Rattle.std.specs.Prelude.{slice_get}
 use Rattle.std.specs.Str.{bytes_eq}
 use Rattle.std.proofs.lemmas.Bool.{false_from_ne_true}
 use Rattle.std.proofs.lemmas.Slice.Eq.{bytes_eq-Decides}
 use Rattle.clap.specs.Words.{Text}
-use Rattle.lr_words.specs.Commands.{command_of, named, init_of, frames_of, packets_of, decode_of, receive_of, extract_of, verify_of, discard_of, make_of, trial_of}
+use Rattle.lr_words.specs.Commands.{
+  command_of,
+  named,
+  init_of,
+  frames_of,
+  packets_of,
+  decode_of,
+  receive_of,
+  extract_of,
+  verify_of,
+  discard_of,
+  make_of,
+  trial_of,
+}
 
 differs : (a b : List ℕ) → (a ≡ b → ⊥) → bytes_eq a b ≡ false
 differs a b h = false_from_ne_true _ (λ e. h ((bytes_eq-Decides a b).0 e))
@@ -23,7 +53,18 @@ pub other_name : (name : Text) (words : List Text)
     → (name ≡ codes "trial" → ⊥)
     → None ≡ named name words
 other_name name words h0 h1 h2 h3 h4 h5 h6 h7 h8 h9 =
-    rw (differs _ _ h0, differs _ _ h1, differs _ _ h2, differs _ _ h3, differs _ _ h4, differs _ _ h5, differs _ _ h6, differs _ _ h7, differs _ _ h8, differs _ _ h9) refl
+    rw (
+      differs _ _ h0,
+      differs _ _ h1,
+      differs _ _ h2,
+      differs _ _ h3,
+      differs _ _ h4,
+      differs _ _ h5,
+      differs _ _ h6,
+      differs _ _ h7,
+      differs _ _ h8,
+      differs _ _ h9,
+    ) refl
 
 first_named : (words : List (String Global)) (name : String Global) → Some name ≡ slice_get words 0
     → named (string_bytes name) (map string_bytes words) ≡ command_of (map string_bytes words)

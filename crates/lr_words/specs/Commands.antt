@@ -1,13 +1,43 @@
 -- Which command the words give, if they give one.
-use Rattle.std.specs.Prelude.{◌≤◌, ◌^◌, ◌||◌, ℕ, Bool, false, List, [], ◌∷◌, Option, Some, None, if◌then◌else◌, option_map, option_and_then, codes}
+use Rattle.std.specs.Prelude.{
+  ◌≤◌,
+  ◌^◌,
+  ◌||◌,
+  ℕ,
+  Bool,
+  false,
+  List,
+  [],
+  ◌∷◌,
+  Option,
+  Some,
+  None,
+  if◌then◌else◌,
+  option_map,
+  option_and_then,
+  codes,
+}
 use Rattle.std.specs.Str.{bytes_eq}
 use Rattle.clap.specs.Words.{App, Text, new_app, with_rule}
+use Rattle.lr_shelf_format.specs.declared.header.TheConstants.{LEAST_CAPACITY, MOST_CAPACITY}
+use Rattle.lr_shelf_format.specs.Header.{IsCapacity}
 use Rattle.lr_words.specs.Arguments.{place, option, number_app, symbols_app, intake_app, stream_app}
 use Rattle.lr_words.specs.Numbers.{number_given}
 use Rattle.lr_words.specs.Values.{coded_input, any_input, most_of, intake_of}
 use Rattle.lr_words.specs.Words.{is_taken, value_of}
 use Rattle.lr_words.specs.declared.command.Command.{Command}
-use Rattle.lr_words.specs.declared.command.Command.TheVariants.{Init, Frames, Packets, Decode, Receive, Extract, Verify, Discard, Make, Trial}
+use Rattle.lr_words.specs.declared.command.Command.TheVariants.{
+  Init,
+  Frames,
+  Packets,
+  Decode,
+  Receive,
+  Extract,
+  Verify,
+  Discard,
+  Make,
+  Trial,
+}
 
 abbrev pub most_u64 : ℕ
 most_u64 = 18446744073709551615
@@ -18,7 +48,8 @@ init_app = with_rule (new_app (codes "init")) (place (codes "capacity"))
 
 abbrev pub init_of : List Text → Option Command
 init_of words = if is_taken init_app words
-    then option_map (λ n. Init n) (number_given 20 1099511627776 (value_of init_app words (codes "capacity")))
+    then option_map (λ n. Init n)
+    (number_given LEAST_CAPACITY MOST_CAPACITY (value_of init_app words (codes "capacity")))
     else None
 
 -- `frames [--symbols N]`
@@ -140,7 +171,7 @@ writes_shelf (name ∷ rest) = bytes_eq name (codes "init") || bytes_eq name (co
 
 -- The numbers of a command are in their ranges.
 abbrev pub IsInRange : Option Command → Type 0
-IsInRange (Some (Init capacity)) = (20 ≤ capacity) × (capacity ≤ 1099511627776)
+IsInRange (Some (Init capacity)) = IsCapacity capacity
 IsInRange (Some (Frames most)) = most ≤ 2 ^ 48
 IsInRange (Some (Packets most)) = most ≤ 2 ^ 48
 IsInRange (Some (Decode intake)) = intake.most ≤ 2 ^ 48

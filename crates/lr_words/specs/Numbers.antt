@@ -1,5 +1,19 @@
 -- Numbers as words give them: 1 to 20 decimal digits without a sign.
-use Rattle.std.specs.Prelude.{◌&&◌, ◌^◌, ℕ, Bool, List, Option, Some, None, length, nat_lt, nat_le, if◌then◌else◌, option_and_then}
+use Rattle.std.specs.Prelude.{
+  ◌&&◌,
+  ◌^◌,
+  ℕ,
+  Bool,
+  List,
+  Option,
+  Some,
+  None,
+  length,
+  nat_lt,
+  nat_le,
+  if◌then◌else◌,
+  option_and_then,
+}
 use Rattle.std.specs.Str.{all_ascii_digits}
 use Rattle.std.specs.Str.Parse.{digits_value}
 

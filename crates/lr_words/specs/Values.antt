@@ -1,11 +1,24 @@
 -- The values of the options that several commands have, and what stands where an option isn't given.
-use Rattle.std.specs.Prelude.{ℕ, Bool, true, false, Option, Some, None, codes, if◌then◌else◌, option_map, option_and_then}
+use Rattle.std.specs.Prelude.{
+  ℕ,
+  Bool,
+  true,
+  false,
+  Option,
+  Some,
+  None,
+  codes,
+  if◌then◌else◌,
+  option_map,
+  option_and_then,
+}
 use Rattle.std.specs.Str.{bytes_eq}
 use Rattle.clap.specs.Words.{Text}
 use Rattle.lr_receiving.specs.declared.input.Input.{Input}
 use Rattle.lr_receiving.specs.declared.input.Input.TheVariants.{Symbols, Units}
 use Rattle.lr_receiving.specs.declared.input.Intake.{Intake}
 use Rattle.lr_receiving.specs.declared.input.UnitForm.TheVariants.{Blocks, Frames}
+use Rattle.lr_receiving.specs.declared.input.TheConstants.{MOST_BYTES}
 use Rattle.lr_words.specs.Numbers.{number_or}
 
 -- `--input` of `decode`
@@ -43,18 +56,20 @@ inverted_of (Some text) =
 
 -- `--symbols`: the most bytes that are taken
 abbrev pub most_of : Option Text → Option ℕ
-most_of = number_or 0 1099511627776 1099511627776
+most_of = number_or 0 MOST_BYTES MOST_BYTES
 
 -- `--workers`: one, since there aren't more yet
 abbrev pub workers_of : Option Text → Option ℕ
 workers_of = number_or 1 1 1
 
-abbrev pub intake_with : Input → ℕ → Bool → Bool → ℕ → Intake
-intake_with form workers marks inverted most =
+-- what is taken, in this form
+abbrev pub intake_with : Input → Bool → Bool → ℕ → Intake
+intake_with form marks inverted most =
     record { input = form; line = record { marks = marks; inverted = inverted }; most = most }
 
--- what `decode` and `receive` take, by the values of `--workers`, `--line`, `--g2` and `--symbols`
+-- the same of the values of `--workers`, `--line`, `--g2` and `--symbols`
 abbrev pub intake_of : Input → Option Text → Option Text → Option Text → Option Text → Option Intake
 intake_of form workers line g2 symbols =
-    option_and_then (λ w. option_and_then (λ marks. option_and_then (λ inverted.
-    option_map (intake_with form w marks inverted) (most_of symbols)) (inverted_of g2)) (marks_of line)) (workers_of workers)
+    option_and_then (λ one. option_and_then (λ marks. option_and_then (λ inverted.
+    option_map (intake_with form marks inverted) (most_of symbols))
+    (inverted_of g2)) (marks_of line)) (workers_of workers)

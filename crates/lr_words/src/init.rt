@@ -9,12 +9,8 @@ use crate::matched::matched;
 use crate::numbers::number_given;
 use clap::Command as Parser;
 use lr_bits::NoMemory;
+use lr_shelf_format::{LEAST_CAPACITY, MOST_CAPACITY};
 use std::alloc::{AllocError, Global};
-
-/// The least and the greatest capacity of a shelf, in bytes.
-const LEAST_CAPACITY: u64 = 20;
-
-const MOST_CAPACITY: u64 = 1_099_511_627_776;
 
 fn init_parser<'a>(alloc: Global) -> Result<Parser<'a>, AllocError>
     ensures { IfOk result (λ c. app_of c ≡ init_app) }

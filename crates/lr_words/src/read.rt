@@ -18,7 +18,7 @@ use std::alloc::Global;
 
 /// The command that the first word names, with what the others say; none exactly where they give no command.
 ///
-/// Want of memory is the one error, and then no word is judged.
+/// Want of memory is the one error, which says nothing of the words.
 pub fn read_words(alloc: Global, words: &[String]) -> Result<Option<Command>, NoMemory>
     ensures gives { IfOk result (λ r. r ≡ command_of (map string_bytes words.now)) }
     ensures range { IfOk result IsInRange }

@@ -21,11 +21,12 @@ unfolding intake_app
 returns c =
     let name = c.args.name.now in
     let at_input : app_of c.in_ok-arg.field-0 ≡ to_input name =
-        c.in_ok-arg.ensures.shape c.option.ensures.local ∙ ap₂ with_rule c.new.ensures.app c.option.ensures.rule in
+    c.in_ok-arg.ensures.shape c.option.ensures.local ∙ ap₂ with_rule c.new.ensures.app c.option.ensures.rule in
     let at_workers : app_of c.in_ok-arg-2.field-0 ≡ to_workers name =
-        c.in_ok-arg-2.ensures.shape c.option-2.ensures.local ∙ ap₂ with_rule at_input c.option-2.ensures.rule in
+    c.in_ok-arg-2.ensures.shape c.option-2.ensures.local ∙ ap₂ with_rule at_input c.option-2.ensures.rule in
     let at_symbols : app_of c.in_ok-arg-3.field-0 ≡ to_symbols name =
-        c.in_ok-arg-3.ensures.shape c.option-3.ensures.local ∙ ap₂ with_rule at_workers c.option-3.ensures.rule in
+    c.in_ok-arg-3.ensures.shape c.option-3.ensures.local ∙ ap₂ with_rule at_workers c.option-3.ensures.rule in
     let at_line : app_of c.in_ok-arg-4.field-0 ≡ to_line name =
-        c.in_ok-arg-4.ensures.shape c.option-4.ensures.local ∙ ap₂ with_rule at_symbols c.option-4.ensures.rule in
-    IfOk-weaker c.arg-5.result _ _ (λ r a. a.shape c.option-5.ensures.local ∙ ap₂ with_rule at_line c.option-5.ensures.rule) c.arg-5.ensures
+    c.in_ok-arg-4.ensures.shape c.option-4.ensures.local ∙ ap₂ with_rule at_symbols c.option-4.ensures.rule in
+    IfOk-weaker c.arg-5.result _ _ (λ r a. a.shape c.option-5.ensures.local
+    ∙ ap₂ with_rule at_line c.option-5.ensures.rule) c.arg-5.ensures

@@ -6,4 +6,5 @@ use Rattle.lr_words.proofs.arguments.number_parser.Goals as goal
 
 pub returns : goal.returns
 unfolding number_app
-returns c = IfOk-weaker c.arg.result _ _ (λ r a. a.shape c.place.ensures.local ∙ ap₂ with_rule c.new.ensures.app c.place.ensures.rule) c.arg.ensures
+returns c = IfOk-weaker c.arg.result _ _ (λ r a. a.shape c.place.ensures.local
+    ∙ ap₂ with_rule c.new.ensures.app c.place.ensures.rule) c.arg.ensures

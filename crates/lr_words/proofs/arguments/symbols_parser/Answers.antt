@@ -6,4 +6,5 @@ use Rattle.lr_words.proofs.arguments.symbols_parser.Goals as goal
 
 pub returns : goal.returns
 unfolding symbols_app
-returns c = IfOk-weaker c.arg.result _ _ (λ r a. a.shape c.option.ensures.local ∙ ap₂ with_rule c.new.ensures.app c.option.ensures.rule) c.arg.ensures
+returns c = IfOk-weaker c.arg.result _ _ (λ r a. a.shape c.option.ensures.local
+    ∙ ap₂ with_rule c.new.ensures.app c.option.ensures.rule) c.arg.ensures

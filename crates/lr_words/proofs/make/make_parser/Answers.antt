@@ -6,4 +6,5 @@ use Rattle.lr_words.proofs.make.make_parser.Goals as goal
 
 pub returns : goal.returns
 unfolding make_app
-returns c = IfOk-weaker c.arg.result _ _ (λ r a. a.shape c.option.ensures.local ∙ ap₂ with_rule c.in_ok-stream_parser.ensures c.option.ensures.rule) c.arg.ensures
+returns c = IfOk-weaker c.arg.result _ _ (λ r a. a.shape c.option.ensures.local
+    ∙ ap₂ with_rule c.in_ok-stream_parser.ensures c.option.ensures.rule) c.arg.ensures

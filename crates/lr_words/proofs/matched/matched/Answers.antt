@@ -9,8 +9,10 @@ pub returns-in-Ok : goal.returns-in-Ok
 unfolding value_of
 returns-in-Ok c = (
   taken_unless (app_of c.args.command) _ c.requires (c.in-Ok.ensures.kinds (covered_free _ c.requires)),
-  λ id. first_value-rows (found_of c.in-Ok.matches) id ∙ ap (first_of id) (c.in-Ok.ensures.matches (covered_simple _ c.requires)).0,
+  λ id. first_value-rows (found_of c.in-Ok.matches) id
+      ∙ ap (first_of id) (c.in-Ok.ensures.matches (covered_simple _ c.requires)).0,
 )
 
 pub returns : goal.returns
-returns c = refused_since (app_of c.args.command) _ (λ taken. c.in_default.not-OutOfMemory (c.kind.ensures ∙ c.in-Err.ensures.passes taken))
+returns c = refused_since (app_of c.args.command) _
+    (λ taken. c.in_default.not-OutOfMemory (c.kind.ensures ∙ c.in-Err.ensures.passes taken))
