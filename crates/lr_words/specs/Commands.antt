@@ -163,11 +163,14 @@ unfoldable pub command_of : List Text → Option Command
 command_of [] = None
 command_of (name ∷ rest) = named name (name ∷ rest)
 
--- whether the first word names a command that may change the shelf
+-- whether a command of this name may change the shelf
+abbrev pub is_writing : Text → Bool
+is_writing name = bytes_eq name (codes "init") || bytes_eq name (codes "receive")
+    || bytes_eq name (codes "trial") || bytes_eq name (codes "discard")
+
 abbrev pub writes_shelf : List Text → Bool
 writes_shelf [] = false
-writes_shelf (name ∷ rest) = bytes_eq name (codes "init") || bytes_eq name (codes "receive")
-    || bytes_eq name (codes "trial") || bytes_eq name (codes "discard")
+writes_shelf (name ∷ rest) = is_writing name
 
 -- The numbers of a command are in their ranges.
 abbrev pub IsInRange : Option Command → Type 0

@@ -1,6 +1,6 @@
 // The command that the words give.
 ghost use Rattle.std.specs.Prelude.{◌≡◌, map, IfOk, string_bytes};
-ghost use Rattle.lr_words.specs.Commands.{command_of, writes_shelf, IsInRange};
+ghost use Rattle.lr_words.specs.Commands.{command_of, is_writing, writes_shelf, IsInRange};
 
 use crate::command::Command;
 use crate::decode::read_decode;
@@ -41,13 +41,19 @@ pub fn read_words(alloc: Global, words: &[String]) -> Result<Option<Command>, No
     }
 }
 
+// Whether a command of this name may change the shelf.
+fn is_writing(name: &str) -> bool
+    ensures { result ≡ is_writing name.now }
+{
+    name == "init" || name == "receive" || name == "trial" || name == "discard"
+}
+
 /// Whether the first word is that of a command that may change the shelf: `init`, `receive`, `trial` or `discard`.
 pub fn writes_shelf(words: &[String]) -> bool
     ensures { result ≡ writes_shelf (map string_bytes words.now) }
 {
-    let Some(name) = words.first() else {
-        return false;
-    };
-    let name = name.as_str();
-    name == "init" || name == "receive" || name == "trial" || name == "discard"
+    match words.first() {
+        Some(name) => is_writing(name.as_str()),
+        None => false,
+    }
 }
