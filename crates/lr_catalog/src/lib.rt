@@ -4,6 +4,7 @@
 //! call appends exactly its line to the bytes that it is given, or leaves them as they were where memory is refused.
 #![tactic(auto)]
 
+mod discards;
 mod files;
 mod frames;
 mod hex;
@@ -12,6 +13,7 @@ mod packets;
 mod stop;
 mod summary;
 
+pub use discards::{discard_line, gone_line};
 pub use files::{check_line, shelved_line};
 pub use frames::frame_line;
 pub use outcomes::{block_line, window_line};

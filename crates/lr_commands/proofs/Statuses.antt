@@ -2,22 +2,41 @@
 use Rattle.std.proofs.Common.{◌≡◌, ◌==◌, ℕ, refl, ap, ◌∙◌, sym}
 use Rattle.std.specs.Prelude.{if◌then◌else◌}
 use Rattle.lr_commands.specs.declared.cause.Party.TheVariants.{Source, Disk, Output}
-use Rattle.lr_commands.specs.declared.cause.Refusal.TheVariants.{NotAShelf, NoSuchFile, Capacity, NotEmpty,
-    BadChecksum, Discarded}
+use Rattle.lr_commands.specs.declared.cause.Refusal.TheVariants.{
+  NotAShelf,
+  NoSuchFile,
+  Capacity,
+  NotEmpty,
+  BadChecksum,
+  Discarded,
+}
 use Rattle.lr_commands.specs.declared.cause.Cause.{Cause}
 use Rattle.lr_commands.specs.declared.cause.Cause.TheVariants.{Done, Usage, Failed, NoMemory, Refused}
 use Rattle.lr_commands.specs.Causes.{status_of}
-use Rattle.lr_commands.specs.Laws.{Kind, IsDone, IsUsage, HasFailed, IsNoMemory, IsNotAShelf, IsNoSuchFile,
-    IsCapacity, IsNotEmpty, IsBadChecksum, IsDiscarded, kind_of, HasOneKind}
+use Rattle.lr_commands.specs.Laws.{
+  Kind,
+  IsDone,
+  IsUsage,
+  HasFailed,
+  IsNoMemory,
+  IsNotAShelf,
+  IsNoSuchFile,
+  IsCapacity,
+  IsNotEmpty,
+  IsBadChecksum,
+  IsDiscarded,
+  kind_of,
+  HasOneKind,
+}
 
 -- the kind of a status
 abbrev kind_at : ℕ → Kind
 kind_at n =
     if n == 0 then IsDone else if n == 2 then IsUsage else if n == 3 then HasFailed Source else if n == 4 then
-        HasFailed Disk
+    HasFailed Disk
     else if n == 5 then HasFailed Output else if n == 6 then IsNotAShelf else if n == 7 then IsNoSuchFile
     else if n == 9 then IsNoMemory else if n == 10 then IsCapacity else if n == 11 then IsNotEmpty else if n ==
-        12 then IsBadChecksum else IsDiscarded
+    12 then IsBadChecksum else IsDiscarded
 
 kind_is : (cause : Cause) → kind_at (status_of cause) ≡ kind_of cause
 kind_is Done = refl

@@ -2,13 +2,27 @@
 use Rattle.std.specs.Prelude.{ℕ, List, [], ◌++◌, codes, decimal}
 use Rattle.lr_bits.specs.Faults.{Rose}
 use Rattle.lr_shelf.specs.declared.error.ShelfError.{ShelfError}
-use Rattle.lr_shelf.specs.declared.error.ShelfError.TheVariants.{Disk as Disk', NotAShelf as NotAShelf',
-    NotEmpty as NotEmpty', Capacity as Capacity', NoSuchFile as NoSuchFile', Crc as Crc', NoMemory as NoMemory',
-    Failed as Failed', Discarded as Discarded'}
+use Rattle.lr_shelf.specs.declared.error.ShelfError.TheVariants.{
+  Disk as Disk',
+  NotAShelf as NotAShelf',
+  NotEmpty as NotEmpty',
+  Capacity as Capacity',
+  NoSuchFile as NoSuchFile',
+  Crc as Crc',
+  NoMemory as NoMemory',
+  Failed as Failed',
+  Discarded as Discarded',
+}
 use Rattle.lr_commands.specs.declared.cause.Party.{Party}
 use Rattle.lr_commands.specs.declared.cause.Party.TheVariants.{Source, Disk, Output}
-use Rattle.lr_commands.specs.declared.cause.Refusal.TheVariants.{NotAShelf, NoSuchFile, Capacity, NotEmpty,
-    BadChecksum, Discarded}
+use Rattle.lr_commands.specs.declared.cause.Refusal.TheVariants.{
+  NotAShelf,
+  NoSuchFile,
+  Capacity,
+  NotEmpty,
+  BadChecksum,
+  Discarded,
+}
 use Rattle.lr_commands.specs.declared.cause.Cause.{Cause}
 use Rattle.lr_commands.specs.declared.cause.Cause.TheVariants.{Done, Usage, Failed, NoMemory, Refused}
 

@@ -1,8 +1,20 @@
--- What is true of all causes.
-use Rattle.std.specs.Prelude.{◌≡◌}
+-- What is true of all causes, and of all bytes.
+use Rattle.std.specs.Prelude.{◌≡◌, ◌⊎◌, ◌<◌, ◌≤◌, ◌++◌, ℕ, true, false, Some, None, List, length}
+use Rattle.lr_bits.specs.File.{proper_of}
+use Rattle.lr_shelf_format.specs.Way.{Way, IsWay, Bad, HasSoundRecord, IsFound, Sound}
+use Rattle.lr_shelf_format.specs.declared.stored.Stored.{Stored}
+use Rattle.lr_commands.specs.Asked.{Asked, Answer, entry_at, IsAnswer, IsBegun, IsRefusedFor, PutsOneText}
+use Rattle.lr_commands.specs.Extract.{extract_asked}
+use Rattle.lr_commands.specs.Verify.{verify_asked}
 use Rattle.lr_commands.specs.declared.cause.Party.{Party}
-use Rattle.lr_commands.specs.declared.cause.Refusal.TheVariants.{NotAShelf, NoSuchFile, Capacity, NotEmpty, BadChecksum,
-    Discarded}
+use Rattle.lr_commands.specs.declared.cause.Refusal.TheVariants.{
+  NotAShelf,
+  NoSuchFile,
+  Capacity,
+  NotEmpty,
+  BadChecksum,
+  Discarded,
+}
 use Rattle.lr_commands.specs.declared.cause.Cause.{Cause}
 use Rattle.lr_commands.specs.declared.cause.Cause.TheVariants.{Done, Usage, Failed, NoMemory, Refused}
 use Rattle.lr_commands.specs.Causes.{status_of}
@@ -35,3 +47,65 @@ kind_of (Refused Discarded) = IsDiscarded
 -- equal statuses mean equal kinds
 abbrev pub HasOneKind : Type 0
 HasOneKind = (one other : Cause) → status_of one ≡ status_of other → kind_of one ≡ kind_of other
+
+-- ---- answers
+
+-- bytes have one answer, if they have any
+abbrev pub HasOneAnswer : Type 0
+HasOneAnswer =
+    (asked : Asked) (bytes : List ℕ) (one other : Answer) → IsAnswer asked bytes one → IsAnswer asked bytes other
+    → one ≡ other
+
+-- the texts that are begun are a front of the answer
+abbrev pub BegunComesFirst : Type 0
+BegunComesFirst =
+    (asked : Asked) (bytes : List ℕ) (passed left : ℕ) (text : List ℕ) (answer : Answer)
+    → IsBegun asked bytes passed left text → IsAnswer asked bytes answer
+    → (rest : List ℕ) × (answer.text ≡ text ++ rest)
+
+-- ---- reasons
+
+-- Each reason that `extract` has for a refusal, in its order: no such number, gone, no record there, a wrong checksum;
+-- and what it puts where there is none.
+pub record HasReasons (number : ℕ) (bytes : List ℕ) (way : Way) : Type 0 where
+  pub no_file : length way.entries ≤ number
+      → IsRefusedFor (extract_asked number) bytes (NoSuchFile (length way.entries))
+  pub gone : number < length way.entries → (entry_at way number).gone ≡ true
+      → IsRefusedFor (extract_asked number) bytes Discarded
+  pub no_record : number < length way.entries → IsFound bytes (entry_at way number) None
+      → IsRefusedFor (extract_asked number) bytes (NotAShelf (entry_at way number).gate)
+  pub bad : number < length way.entries → (stored computed : ℕ)
+      → IsFound bytes (entry_at way number) (Some (Bad stored computed))
+      → IsRefusedFor (extract_asked number) bytes BadChecksum
+  pub sound : number < length way.entries → (stored : Stored)
+      → IsFound bytes (entry_at way number) (Some (Sound stored))
+      → IsAnswer (extract_asked number) bytes (record { text = proper_of stored.file; refusal = None })
+  -- whether or not such a record holds a file, nothing is refused for it
+  pub right : number < length way.entries → (entry_at way number).gone ≡ false
+      → HasSoundRecord bytes (entry_at way number) → (answer : Answer) → IsAnswer (extract_asked number) bytes answer
+      → answer.refusal ≡ None
+
+abbrev pub ExtractHasReasons : Type 0
+ExtractHasReasons = (number : ℕ) (bytes : List ℕ) (way : Way) → IsWay bytes way → HasReasons number bytes way
+
+-- its only text is that of one entry
+abbrev pub ExtractPutsOneText : Type 0
+ExtractPutsOneText = (number : ℕ) → PutsOneText (extract_asked number)
+
+-- Each reason that `verify` has for a refusal, and that it has no other.
+pub record SaysWhy (bytes : List ℕ) (way : Way) (answer : Answer) : Type 0 where
+  pub no_record : (number : ℕ) → number < length way.entries → IsFound bytes (entry_at way number) None
+      → (at : ℕ) × (answer.refusal ≡ Some (NotAShelf at))
+  pub bad : ((each : ℕ) → each < length way.entries → IsFound bytes (entry_at way each) None → ⊥) → (number : ℕ)
+      → number < length way.entries → (stored computed : ℕ)
+      → IsFound bytes (entry_at way number) (Some (Bad stored computed))
+      → answer.refusal ≡ Some BadChecksum
+  pub sound :
+      ((each : ℕ) → each < length way.entries
+      → ((entry_at way each).gone ≡ true) ⊎ HasSoundRecord bytes (entry_at way each))
+      → answer.refusal ≡ None
+
+abbrev pub VerifyHasReasons : Type 0
+VerifyHasReasons =
+    (bytes : List ℕ) (way : Way) (answer : Answer) → IsWay bytes way → IsAnswer verify_asked bytes answer
+    → SaysWhy bytes way answer

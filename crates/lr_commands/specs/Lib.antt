@@ -1,3 +1,10 @@
+pub mod Asked
 pub mod Causes
+pub mod Discard
+pub mod Extract
+pub mod Files
 pub mod Laws
 pub mod Puts
+pub mod Runs
+pub mod Steps
+pub mod Verify

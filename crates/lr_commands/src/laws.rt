@@ -1,7 +1,39 @@
-//! What is true of all causes.
-ghost use Rattle.lr_commands.specs.Laws.{HasOneKind};
+//! What is true of all causes, and of all bytes.
+ghost use Rattle.lr_commands.specs.Laws.{
+  BegunComesFirst,
+  ExtractHasReasons,
+  ExtractPutsOneText,
+  HasOneAnswer,
+  HasOneKind,
+  VerifyHasReasons,
+};
 
 /// Equal statuses mean equal causes, but for the values that their lines tell.
 pub fn statuses_have_one_kind()
     ensures { HasOneKind }
+{}
+
+/// Bytes have one answer to what a command asks, if they have any: so a run is refused for one thing, the first.
+pub fn bytes_have_one_answer()
+    ensures { HasOneAnswer }
+{}
+
+/// What a run puts before an event ends it is a front of what it would have put.
+pub fn begun_texts_come_first()
+    ensures { BegunComesFirst }
+{}
+
+/// What `extract` is refused for, reason by reason, and what it puts.
+pub fn extract_has_reasons()
+    ensures { ExtractHasReasons }
+{}
+
+/// `extract` puts the text of one entry, and nothing else.
+pub fn extract_puts_one_text()
+    ensures { ExtractPutsOneText }
+{}
+
+/// What `verify` is refused for, reason by reason.
+pub fn verify_has_reasons()
+    ensures { VerifyHasReasons }
 {}

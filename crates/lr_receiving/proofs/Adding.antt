@@ -1,5 +1,23 @@
 -- One frame more adds its packets, and their lines.
-use Rattle.std.proofs.Common.{◌≡◌, ℕ, List, [], ◌∷◌, ◌++◌, length, drop, ap, ◌∙◌, sym, refl, arith, Result, Ok, Err, length-drop}
+use Rattle.std.proofs.Common.{
+  ◌≡◌,
+  ℕ,
+  List,
+  [],
+  ◌∷◌,
+  ◌++◌,
+  length,
+  drop,
+  ap,
+  ◌∙◌,
+  sym,
+  refl,
+  arith,
+  Result,
+  Ok,
+  Err,
+  length-drop,
+}
 use Rattle.std.specs.Prelude.{Bool, true, false, ◌==◌, if◌then◌else◌}
 use Rattle.std.proofs.Math.Seq.{drop-append_seam}
 use Rattle.std.proofs.lemmas.List.Elements.{All-push}
@@ -11,16 +29,19 @@ use Rattle.lr_receiving.specs.Packets.{frames_read, packets_read, lines_from, li
 use Rattle.lr_receiving.specs.Added.{packets_added, lines_added}
 use Rattle.lr_receiving.proofs.PacketsText.{packets_read-good, packets_read-bad, lines_from-append}
 
--- whatever is known to be behind the packets is what was added
-pub added_is : (frames : List (List ℕ)) (frame : List ℕ) (more : List Packet) → packets_read (frames ++ frame ∷ []) ≡ packets_read frames ++ more → packets_added frames frame ≡ more
+-- whatever is known to stand after the packets is what was added
+pub added_is : (frames : List (List ℕ)) (frame : List ℕ) (more : List Packet)
+    → packets_read (frames ++ frame ∷ []) ≡ packets_read frames ++ more → packets_added frames frame ≡ more
 unfolding packets_added
-added_is frames frame more is = ap (drop (length (packets_read frames))) is ∙ drop-append_seam (packets_read frames) more
+added_is frames frame more is = ap (drop (length (packets_read frames))) is
+    ∙ drop-append_seam (packets_read frames) more
 
 abbrev read_at : List ℕ → Bool → Result Fields ℕ
 read_at frame b = if b then Ok (fields_of frame) else Err (version_of frame)
 
 -- the zone of a frame of 892 bytes has 884
-pub zone_is : (frame : List ℕ) (fields : Fields) → length frame ≡ 892 → frame_of frame ≡ Ok fields → length fields.zone ≡ 884
+pub zone_is : (frame : List ℕ) (fields : Fields) → length frame ≡ 892 → frame_of frame ≡ Ok fields
+    → length fields.zone ≡ 884
 zone_is frame fields whole is = cases (version_of frame == 1) is where
   cases : (b : Bool) → read_at frame b ≡ Ok fields → length fields.zone ≡ 884
   cases true e =
@@ -28,12 +49,16 @@ zone_is frame fields whole is = cases (version_of frame == 1) is where
       ap (λ (f : Fields). length f.zone) (sym same) ∙ length-drop 8 frame ∙ omega (arith, whole)
   cases false e = cc
 
-pub packets_read-push : (frames : List (List ℕ)) (frame : List ℕ) → AreFrames (frames_read frames) → length frame ≡ 892 → packets_read (frames ++ frame ∷ []) ≡ packets_read frames ++ packets_added frames frame
+pub packets_read-push : (frames : List (List ℕ)) (frame : List ℕ) → AreFrames (frames_read frames)
+    → length frame ≡ 892 → packets_read (frames ++ frame ∷ []) ≡ packets_read frames ++ packets_added frames frame
 packets_read-push frames frame all whole = cases (frame_of frame) refl where
-  cases : (r : Result Fields ℕ) → frame_of frame ≡ r → packets_read (frames ++ frame ∷ []) ≡ packets_read frames ++ packets_added frames frame
+  cases : (r : Result Fields ℕ) → frame_of frame ≡ r → packets_read (frames ++ frame ∷ []) ≡ packets_read frames
+      ++ packets_added frames frame
   cases (Ok fields) is =
       let more = packets_at (frames_read frames ++ fields ∷ []) (length (frames_read frames)) in
-      let grown = packets_read-good frames frame fields is (All-push (λ (f : Fields). length f.zone ≡ 884) (frames_read frames) fields all (zone_is frame fields whole is)) in
+      let grown = packets_read-good frames frame fields is
+      (All-push (λ (f : Fields). length f.zone ≡ 884) (frames_read frames) fields all
+      (zone_is frame fields whole is)) in
       grown ∙ ap (λ l. packets_read frames ++ l) (sym (added_is frames frame more grown))
   cases (Err version) is =
       let same = packets_read-bad frames frame version is in
@@ -43,7 +68,8 @@ pub lines_of_packets-none : lines_of_packets [] ≡ []
 unfolding lines_of_packets packets_read frames_read lines_from packets_of
 lines_of_packets-none = refl
 
-pub lines_of_packets-push : (frames : List (List ℕ)) (frame : List ℕ) → AreFrames (frames_read frames) → length frame ≡ 892 → lines_of_packets (frames ++ frame ∷ []) ≡ lines_of_packets frames ++ lines_added frames frame
+pub lines_of_packets-push : (frames : List (List ℕ)) (frame : List ℕ) → AreFrames (frames_read frames)
+    → length frame ≡ 892 → lines_of_packets (frames ++ frame ∷ []) ≡ lines_of_packets frames ++ lines_added frames frame
 unfolding lines_of_packets lines_added
 lines_of_packets-push frames frame all whole =
     ap (lines_from 0) (packets_read-push frames frame all whole)

@@ -1,5 +1,5 @@
 -- Causes and counts.
-use Rattle.std.proofs.Common.{◌≡◌, ◌≤◌, inl, inr, ℕ, refl, subst, arith}
+use Rattle.std.proofs.Common.{◌≡◌, inl, inr, ℕ, refl, subst, arith}
 use Rattle.lr_bits.specs.Faults.{Rose}
 use Rattle.lr_shelf.specs.declared.error.ShelfError.{ShelfError}
 use Rattle.lr_shelf.specs.declared.error.ShelfError.TheVariants.{Disk as Disk', Failed as Failed'}
@@ -29,20 +29,3 @@ caused_beside (Failed Source) s s' d d' o o' c = absurd (none_rose c)
 caused_beside (Failed Disk) s s' d d' o o' c = c
 caused_beside (Failed Output) s s' d d' o o' c = c
 caused_beside _ s s' d d' o o' c = c
-
--- a run that put its last line
-pub caused_at : (stop : Stop) (s s' d d' o o' : ℕ) → IsCaused (cause_at stop) (counts s 0 0) (counts s' 0 0)
-    → IsCaused (cause_at stop) (counts s d o) (counts s' d' o')
-caused_at End s s' d d' o o' c = c
-caused_at Limit s s' d d' o o' c = c
-caused_at Fault s s' d d' o o' c = c
-
--- a call on a shelf that works
-pub caused_by_shelf : (e : ShelfError) (d d' o o' : ℕ) → (e ≡ Disk' → Rose d d') → (e ≡ Failed' → ⊥)
-    → IsCaused (cause_of e) (counts 0 d o) (counts 0 d' o')
-caused_by_shelf Disk' d d' o o' rose works = rose refl
-caused_by_shelf Failed' d d' o o' rose works = absurd (works refl)
-caused_by_shelf _ d d' o o' rose works = tt
-
-pub rose_later : (s0 s1 s2 : ℕ) → s1 ≡ s0 → Rose s1 s2 → Rose s0 s2
-rose_later s0 s1 s2 same rose = subst (λ (k : ℕ). Rose k s2) same rose

@@ -1,5 +1,28 @@
 -- Symbols are taken to windows.
-use Rattle.std.proofs.Common.{◌≡◌, ◌≤◌, ◌+◌, ◌*◌, ℕ, ℤ, true, false, List, [], ◌∷◌, ◌++◌, length, map, refl, sym, ap, ◌∙◌, subst, arith, length-append, append_assoc}
+use Rattle.std.proofs.Common.{
+  ◌≡◌,
+  ◌≤◌,
+  ◌+◌,
+  ◌*◌,
+  ℕ,
+  ℤ,
+  true,
+  false,
+  List,
+  [],
+  ◌∷◌,
+  ◌++◌,
+  length,
+  map,
+  refl,
+  sym,
+  ap,
+  ◌∙◌,
+  subst,
+  arith,
+  length-append,
+  append_assoc,
+}
 use Rattle.lr_bits.specs.Faults.{Rose}
 use Rattle.lr_io.specs.declared.source.Source.{Ghosts as SourceOf}
 use Rattle.lr_lock.specs.declared.frame.Frame.{Frame}
@@ -17,10 +40,21 @@ use Rattle.lr_frame.proofs.Given.{outcomes_stay}
 use Rattle.lr_catalog.specs.declared.stop.Stop.{Stop}
 use Rattle.lr_catalog.specs.declared.stop.Stop.TheVariants.{End, Limit, Fault}
 use Rattle.lr_receiving.specs.Reading.{EndsFor}
-use Rattle.lr_receiving.specs.Decoding.{Decoding, outcomes_given, FeedsPiece, FeedsNone, FeedsNoneFor, DecodesSoFar, DecodesOn, GivesFrame, EndsFrames}
+use Rattle.lr_receiving.specs.Decoding.{
+  Decoding,
+  outcomes_given,
+  FeedsPiece,
+  FeedsNone,
+  FeedsNoneFor,
+  DecodesSoFar,
+  DecodesOn,
+  GivesFrame,
+  EndsFrames,
+}
 
 -- a lock that is finished stands for what it stood for
-pub finished_stands : {lock : LockState} {fed : List ℤ} {given : List Frame} → StandsFor lock fed given → StandsFor (record lock { finished = true }) fed given
+pub finished_stands : {lock : LockState} {fed : List ℤ} {given : List Frame} → StandsFor lock fed given
+    → StandsFor (record lock { finished = true }) fed given
 finished_stands stands = record {
   within = stands.within;
   rest = stands.rest;
@@ -30,25 +64,38 @@ finished_stands stands = record {
 }
 
 -- outcomes of frames whose symbols were all fed stay
-pub outcomes_given-stay : (lock : LockState) (bytes piece : List ℕ) (given : List Frame) → StandsFor lock (symbols_of bytes) given → lock.finished ≡ false → outcomes_given (bytes ++ piece) given ≡ outcomes_given bytes given
+pub outcomes_given-stay : (lock : LockState) (bytes piece : List ℕ) (given : List Frame)
+    → StandsFor lock (symbols_of bytes) given → lock.finished ≡ false → outcomes_given (bytes ++ piece) given
+    ≡ outcomes_given bytes given
 unfolding outcomes_given
 outcomes_given-stay lock bytes piece given stands unfinished =
-    ap (λ (l : List ℤ). map (outcome_in STANDARD l) given) (symbols_of-append bytes piece) ∙ outcomes_stay STANDARD (symbols_of bytes) (symbols_of piece) given (stands.sure unfinished)
+    ap (λ (l : List ℤ). map (outcome_in STANDARD l) given) (symbols_of-append bytes piece)
+    ∙ outcomes_stay STANDARD (symbols_of bytes) (symbols_of piece) given (stands.sure unfinished)
 
 module _ {S : Type 0} (source : SourceOf S) where
   -- a piece is fed
   pub piece_fed : {bytes : List ℕ} {given : List Frame} {before now : Decoding} {s t s' : S}
-      → DecodesSoFar source bytes given before s t → before.lock.finished ≡ false → FeedsPiece source before now t s' → DecodesOn source bytes given now s s'
+      → DecodesSoFar source bytes given before s t → before.lock.finished ≡ false
+      → FeedsPiece source before now t s' → DecodesOn source bytes given now s s'
   piece_fed {bytes} {given} {before} {now} {s} {t} {s'} so unfinished fed = record {
     all = bytes ++ fed.piece;
     so_far = record {
-      stands = subst (λ (l : List ℤ). StandsFor now.lock l given) (sym (symbols_of-append bytes fed.piece)) (fed.stands (symbols_of bytes) given so.stands);
+      stands = subst (λ (l : List ℤ). StandsFor now.lock l given) (sym (symbols_of-append bytes fed.piece))
+          (fed.stands (symbols_of bytes) given so.stands);
       line = ap (λ (l : LockState). l.line) fed.lock_is ∙ so.line;
       long = omega (arith, fed.taken, so.long, length-append bytes fed.piece);
       few = fed.few;
-      passed = omega (arith, so.passed, fed.taken, ap (λ (l : LockState). length l.kept) fed.lock_is, length-append before.lock.kept (symbols_of fed.piece), length-symbols_of fed.piece);
+      passed = omega (
+        arith,
+        so.passed,
+        fed.taken,
+        ap (λ (l : LockState). length l.kept) fed.lock_is,
+        length-append before.lock.kept (symbols_of fed.piece),
+        length-symbols_of fed.piece,
+      );
       told = λ told. fed.told (so.told told);
-      moved = λ told. so.moved told ∙ ap (λ (l : List ℕ). bytes ++ l) (fed.moved (so.told told)) ∙ sym (append_assoc bytes fed.piece (source.left s'));
+      moved = λ told. so.moved told ∙ ap (λ (l : List ℕ). bytes ++ l) (fed.moved (so.told told))
+          ∙ sym (append_assoc bytes fed.piece (source.left s'));
       going_on = λ e. fed.kept ∙ so.going_on unfinished;
       ended = λ e. absurd (open_still e);
     };
@@ -56,37 +103,50 @@ module _ {S : Type 0} (source : SourceOf S) where
   }
     where
       open_still : now.lock.finished ≡ true → ⊥
-      open_still e = let is : now.lock.finished ≡ false = ap (λ (l : LockState). l.finished) fed.lock_is ∙ unfinished in cc
+      open_still e = let is : now.lock.finished ≡ false = ap (λ (l : LockState). l.finished) fed.lock_is
+          ∙ unfinished in cc
 
   reason : (stop : Stop) (bytes : List ℕ) (given : List Frame) (before : Decoding) (s t s' : S)
-      → DecodesSoFar source bytes given before s t → before.lock.finished ≡ false → FeedsNoneFor source stop before t s' → EndsFor source stop before.most bytes s s'
-  reason End bytes given before s t s' so unfinished why = (omega (arith, why.0, so.long), (λ told. why.1 (so.told told)), why.2 ∙ so.going_on unfinished)
-  reason Limit bytes given before s t s' so unfinished why = (omega (arith, why.0, so.long), why.1 ∙ so.going_on unfinished)
+      → DecodesSoFar source bytes given before s t → before.lock.finished ≡ false
+      → FeedsNoneFor source stop before t s' → EndsFor source stop before.most bytes s s'
+  reason End bytes given before s t s' so unfinished why =
+      (omega (arith, why.0, so.long), (λ told. why.1 (so.told told)), why.2 ∙ so.going_on unfinished)
+  reason Limit bytes given before s t s' so unfinished why =
+      (omega (arith, why.0, so.long), why.1 ∙ so.going_on unfinished)
   reason Fault bytes given before s t s' so unfinished why =
       (omega (arith, why.0, so.long), subst (λ k. Rose k (source.faults s')) (so.going_on unfinished) why.1)
 
   -- the lock is finished
   pub none_fed : (stop : Stop) {bytes : List ℕ} {given : List Frame} {before now : Decoding} {s t s' : S}
-      → DecodesSoFar source bytes given before s t → before.lock.finished ≡ false → FeedsNone source stop before now t s'
+      → DecodesSoFar source bytes given before s t → before.lock.finished ≡ false
+      → FeedsNone source stop before now t s'
       → DecodesOn source bytes given (record now { lock = record now.lock { finished = true }; stop = stop }) s s'
   none_fed stop {bytes} {given} {before} {now} {s} {t} {s'} so unfinished fed = record {
     all = bytes;
     so_far = record {
-      stands = finished_stands (subst (λ (n : Decoding). StandsFor n.lock (symbols_of bytes) given) (sym fed.same) so.stands);
+      stands = finished_stands (subst (λ (n : Decoding). StandsFor n.lock (symbols_of bytes) given)
+          (sym fed.same) so.stands);
       line = ap (λ (n : Decoding). n.lock.line) fed.same ∙ so.line;
       long = ap (λ (n : Decoding). n.taken) fed.same ∙ so.long;
       few = omega (arith, so.few, ap (λ (n : Decoding). n.taken) fed.same, ap (λ (n : Decoding). n.most) fed.same);
-      passed = omega (arith, so.passed, ap (λ (n : Decoding). n.taken) fed.same, ap (λ (n : Decoding). length n.lock.kept) fed.same);
+      passed = omega (
+        arith,
+        so.passed,
+        ap (λ (n : Decoding). n.taken) fed.same,
+        ap (λ (n : Decoding). length n.lock.kept) fed.same,
+      );
       told = λ told. fed.told (so.told told);
       moved = λ told. so.moved told ∙ ap (λ (l : List ℕ). bytes ++ l) (sym (fed.moved (so.told told)));
       going_on = λ e. absurd cc;
-      ended = λ e. subst (λ (n : Decoding). EndsFor source stop n.most bytes s s') (sym fed.same) (reason stop bytes given before s t s' so unfinished fed.why);
+      ended = λ e. subst (λ (n : Decoding). EndsFor source stop n.most bytes s s') (sym fed.same)
+          (reason stop bytes given before s t s' so unfinished fed.why);
     };
     same = refl;
   }
 
   -- the lock steps
-  pub stepped : {bytes : List ℕ} {given given' : List Frame} {now : Decoding} {s t : S} (later : LockState) (seen : WindowView) → DecodesSoFar source bytes given now s t
+  pub stepped : {bytes : List ℕ} {given given' : List Frame} {now : Decoding} {s t : S} (later : LockState)
+      (seen : WindowView) → DecodesSoFar source bytes given now s t
       → StandsFor later (symbols_of bytes) given' → later.line ≡ now.lock.line → later.finished ≡ now.lock.finished
       → 16384 * length given' + length later.kept ≤ 16384 * length given + length now.lock.kept
       → DecodesSoFar source bytes given' (record now { lock = later; window = seen }) s t
@@ -102,14 +162,17 @@ module _ {S : Type 0} (source : SourceOf S) where
     ended = λ e. so.ended (sym finished ∙ e);
   }
 
-  module _ {bytes : List ℕ} {given : List Frame} {now : Decoding} {s t : S} (on : DecodesOn source bytes given now s t) (later : LockState) (seen : WindowView)
+  module _ {bytes : List ℕ} {given : List Frame} {now : Decoding} {s t : S}
+      (on : DecodesOn source bytes given now s t) (later : LockState) (seen : WindowView)
       (line : later.line ≡ now.lock.line) (finished : later.finished ≡ now.lock.finished) where
-    pub window_given : GivesWindow now.lock later seen (symbols_of on.all) given → length later.kept + 16384 ≤ length now.lock.kept
+    pub window_given : GivesWindow now.lock later seen (symbols_of on.all) given → length later.kept + 16384
+        ≤ length now.lock.kept
         → GivesFrame source bytes given (record now { lock = later; window = seen }) s t
     window_given gives shorter = record {
       all = on.all;
       frame = gives.frame;
-      so_far = stepped later seen on.so_far gives.stands line finished (omega (arith, shorter, length-append given (gives.frame ∷ [])));
+      so_far = stepped later seen on.so_far gives.stands line finished
+          (omega (arith, shorter, length-append given (gives.frame ∷ [])));
       window_is = gives.window ∙ ap (λ (l : LineCode). window_view l (symbols_of on.all) gives.frame) on.so_far.line;
       same = on.same;
     }
@@ -133,9 +196,11 @@ module _ {S : Type 0} (source : SourceOf S) where
       same = on.same;
     }
 
-  pub joined : {bytes all : List ℕ} {given : List Frame} {now : Decoding} {s t : S} → DecodesOn source all given now s t → outcomes_given all given ≡ outcomes_given bytes given
+  pub joined : {bytes all : List ℕ} {given : List Frame} {now : Decoding} {s t : S}
+      → DecodesOn source all given now s t → outcomes_given all given ≡ outcomes_given bytes given
       → DecodesOn source bytes given now s t
   joined on same = record { all = on.all; so_far = on.so_far; same = on.same ∙ same }
 
-  pub begun : {bytes : List ℕ} {given : List Frame} {now : Decoding} {s t : S} → DecodesSoFar source bytes given now s t → DecodesOn source bytes given now s t
+  pub begun : {bytes : List ℕ} {given : List Frame} {now : Decoding} {s t : S}
+      → DecodesSoFar source bytes given now s t → DecodesOn source bytes given now s t
   begun {bytes} so = record { all = bytes; so_far = so; same = refl }

@@ -1,5 +1,26 @@
 -- The files of a trial's symbols fit its shelf.
-use Rattle.std.proofs.Common.{◌≡◌, ℕ, ◌+◌, ◌*◌, ◌<◌, ◌≤◌, Bool, true, false, List, [], ◌∷◌, map, length, replicate, refl, sym, ◌∙◌, ap, arith}
+use Rattle.std.proofs.Common.{
+  ◌≡◌,
+  ℕ,
+  ◌+◌,
+  ◌*◌,
+  ◌<◌,
+  ◌≤◌,
+  Bool,
+  true,
+  false,
+  List,
+  [],
+  ◌∷◌,
+  map,
+  length,
+  replicate,
+  refl,
+  sym,
+  ◌∙◌,
+  ap,
+  arith,
+}
 use Rattle.std.proofs.Common.{append-nil}
 use Rattle.std.specs.Int.{cast_unsigned, w8}
 use Rattle.std.proofs.lemmas.List.{length-map}
@@ -16,7 +37,7 @@ use Rattle.lr_make.specs.Received.{IsReceivedAs}
 use Rattle.lr_make.specs.Stream.{symbol_stream}
 use Rattle.lr_make.specs.Symbols.{level, sent_bits}
 use Rattle.lr_make.proofs.Sending.{length-all_symbols, symbols_are_one_code}
-use Rattle.lr_make.proofs.Windows.{stream_is_received}
+use Rattle.lr_sent.proofs.MadeBlocks.{stream_is_received}
 use Rattle.lr_sent.specs.Made.{made_outcomes, room_for, room_of}
 use Rattle.lr_sent.proofs.MadeFiles.{placed_fit}
 use Rattle.lr_shelf_format.specs.Items.{extent_of, head_of_item}

@@ -1,7 +1,6 @@
 -- Over every disk: where a shelf ends after more files, and whether there was room for them.
-use Rattle.std.proofs.Common.{◌≡◌, ◌⊎◌, inl, inr, ◌<◌, ◌≤◌, ◌+◌, ℕ, List, [], ◌∷◌, ◌++◌, length, min, refl, sym, ap, ◌∙◌}
-use Rattle.std.proofs.Common.{subst, arith, append_assoc, append-nil, ⊎_elim}
-use Rattle.std.specs.List.{sum_by}
+use Rattle.std.proofs.Common.{◌≡◌, inl, inr, ◌≤◌, ℕ, List, [], ◌∷◌, ◌++◌, min, refl, sym, ap, ◌∙◌}
+use Rattle.std.proofs.Common.{subst, arith, append_assoc, append-nil}
 use Rattle.std.proofs.lemmas.List.Sums.{sum_by-append}
 use Rattle.lr_bits.specs.declared.placed.Placed.{Placed}
 use Rattle.lr_shelf_format.specs.Way.{Way}
@@ -68,7 +67,8 @@ module _ {D O : Type 0} where
           done = xs ++ full.done;
           next = full.next;
           rest = full.rest;
-          split = ap (λ (l : List Placed). xs ++ l) full.split ∙ sym (append_assoc xs full.done (full.next ∷ full.rest));
+          split = ap (λ (l : List Placed). xs ++ l) full.split
+              ∙ sym (append_assoc xs full.done (full.next ∷ full.rest));
           room = room_after way (kept_by shelf1).way xs full.done first.ends first.same first.room full.room;
           over = omega (arith, there, first.same, full.over);
           needs = full.needs ∙ ap (λ (n : ℕ). min n 18446744073709551615) (sym there);
@@ -108,7 +108,8 @@ module _ {D O : Type 0} where
   }
 
   -- it stopped for want of memory, before anything was done
-  pub stops_for_memory : (files : List Placed) (shelf : Shelf) (d : D) (o : O) → GrowsNoMore NoMemory files shelf d d o o
+  pub stops_for_memory : (files : List Placed) (shelf : Shelf) (d : D) (o : O)
+      → GrowsNoMore NoMemory files shelf d d o o
   stops_for_memory files shelf d o = record { full = λ needed most is. cc (is); none = λ is. (refl, refl, refl) }
 
   -- one file was appended, and its line put

@@ -1,6 +1,23 @@
 -- What comes of a disk from which no shelf was loaded, and of one from which it was.
-use Rattle.std.proofs.Common.{◌≡◌, ◌<◌, inl, ℕ, List, [], ◌∷◌, ◌++◌, length, refl, sym, ◌∙◌, ap, subst, arith, append-nil}
-use Rattle.std.proofs.Common.{Result, Ok, Err, IfOk, OnOk, MatchResult}
+use Rattle.std.proofs.Common.{
+  ◌≡◌,
+  ◌<◌,
+  inl,
+  ℕ,
+  List,
+  [],
+  ◌∷◌,
+  ◌++◌,
+  length,
+  refl,
+  sym,
+  ◌∙◌,
+  ap,
+  subst,
+  arith,
+  append-nil,
+}
+use Rattle.std.proofs.Common.{Result, Ok, Err, IfOk, MatchResult}
 use Rattle.std.proofs.lemmas.List.Elements.{All-nil}
 use Rattle.lr_bits.specs.declared.placed.Placed.{Placed}
 use Rattle.lr_io.specs.declared.source.Source.{Ghosts as SourceOf}
@@ -19,24 +36,34 @@ use Rattle.lr_shelf.specs.Load.{Loads, IsLoadRefusal, MayRefuseAt}
 use Rattle.lr_shelf.specs.Shelf.{IsDurable, IsSettled, KeepsWay}
 use Rattle.lr_shelf.specs.declared.shelf.Shelf.{Shelf}
 use Rattle.lr_shelf.specs.declared.error.ShelfError.{ShelfError}
-use Rattle.lr_shelf.specs.declared.error.ShelfError.TheVariants.{Disk as Disk', NotAShelf as NotAShelf',
-    NoMemory as NoMemory'}
+use Rattle.lr_shelf.specs.declared.error.ShelfError.TheVariants.{
+  Disk as Disk',
+  NotAShelf as NotAShelf',
+  NoMemory as NoMemory',
+}
 use Rattle.lr_catalog.specs.declared.stop.Stop.{Stop}
 use Rattle.lr_catalog.specs.declared.stop.Stop.TheVariants.{End, Limit, Fault}
 use Rattle.lr_commands.specs.declared.cause.Cause.{Cause}
-use Rattle.lr_commands.specs.declared.cause.Cause.TheVariants.{Done, Failed, NoMemory, Refused}
-use Rattle.lr_commands.specs.declared.cause.Party.TheVariants.{Source, Disk, Output}
+use Rattle.lr_commands.specs.declared.cause.Cause.TheVariants.{Failed, NoMemory, Refused}
+use Rattle.lr_commands.specs.declared.cause.Party.TheVariants.{Disk, Output}
 use Rattle.lr_commands.specs.declared.cause.Refusal.TheVariants.{NotAShelf, Capacity}
 use Rattle.lr_commands.specs.Causes.{cause_of}
 use Rattle.lr_receiving.specs.declared.input.Input.{Input}
 use Rattle.lr_receiving.specs.declared.input.Input.TheVariants.{Symbols, Units}
 use Rattle.lr_receiving.specs.Causes.{cause_at}
 use Rattle.lr_receiving.specs.Inputs.{unit_bytes, outcomes_of_bytes, files_of_bytes}
-use Rattle.lr_receiving.specs.Onto.{IsFullWith, IsFull, HadRoom}
 use Rattle.lr_receiving.specs.Reading.{IsRead}
-use Rattle.lr_receiving.specs.Shelving.{with_files, next_number, shelved_lines, LeavesFronts}
+use Rattle.lr_receiving.specs.Shelving.{next_number, shelved_lines, LeavesFronts}
 use Rattle.lr_receiving.specs.Shelved.{MayStop}
-use Rattle.lr_receiving.specs.Receive.{Ends, Receives, MayEndBefore, IsReceiveCause, IsWorkDone, IsUntouched, ReceiveRun}
+use Rattle.lr_receiving.specs.Receive.{
+  Ends,
+  Receives,
+  MayEndBefore,
+  IsReceiveCause,
+  IsWorkDone,
+  IsUntouched,
+  ReceiveRun,
+}
 use Rattle.lr_receiving.specs.Reception.{EndsRun}
 use Rattle.lr_receiving.proofs.Growing.{some, none_in}
 use Rattle.lr_receiving.proofs.Headline.{receives}
@@ -121,7 +148,7 @@ module _ {S D O : Type 0} (source : SourceOf S) (disk : DiskOf D)
   not_made = record {
     causes = tt;
     bytes = [];
-    read = record { moved = λ t. refl; few = omega arith };
+    read = record { told = λ t. t; moved = λ t. refl; few = omega arith };
     onto_shelf = λ capacity before told durable.
         receives source disk out input capacity before limit [] s s d d o o NoMemory
         (subst (λ (l : List Placed). LeavesFronts disk capacity before l d d) (sym (no_bytes input))
@@ -225,7 +252,7 @@ module _ {S D O : Type 0} (source : SourceOf S) (disk : DiskOf D) (out : SinkOf 
   not_loaded e is refusal = record {
     causes = load_cause disk d e refusal;
     bytes = [];
-    read = record { moved = λ t. refl; few = omega arith };
+    read = record { told = λ t. t; moved = λ t. refl; few = omega arith };
     onto_shelf = λ capacity before told durable. nothing capacity before told durable e is refusal;
     refused = λ at named. (refused e at refusal named, only_read);
     broken = λ at told no. (ended_before e at (may_refuse at result e is (loads.broken at told no)), only_read);
@@ -246,7 +273,8 @@ module _ {S D O : Type 0} (source : SourceOf S) (disk : DiskOf D) (out : SinkOf 
     onto_shelf : (capacity : ℕ) (before : List Item) → disk.tells d → IsDurable disk capacity before d
         → Receives source disk out input capacity before limit run.bytes cause s s' d d' o o'
     onto_shelf capacity before told durable =
-        let settled = if_ok (λ x. IsSettled disk capacity before x d1) (loads.settled capacity before told durable.stands) in
+        let settled = if_ok (λ x. IsSettled disk capacity before x d1)
+        (loads.settled capacity before told durable.stands) in
         let begun = loaded disk out capacity before d d1 o shelf settled (any_moment capacity before told durable)
         (same_of disk d d1 result shelf is loads.calls.counted) in
         let all = run.ends capacity before d o begun in

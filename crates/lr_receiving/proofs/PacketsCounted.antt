@@ -1,5 +1,23 @@
 -- `packets` goes on by one frame.
-use Rattle.std.proofs.Common.{◌≡◌, ℕ, ◌+◌, ◌*◌, ◌/◌, ◌%◌, ◌<◌, lit<, List, [], ◌∷◌, ◌++◌, length, ap, ◌∙◌, arith, length-append}
+use Rattle.std.proofs.Common.{
+  ◌≡◌,
+  ℕ,
+  ◌+◌,
+  ◌*◌,
+  ◌/◌,
+  ◌%◌,
+  ◌<◌,
+  lit<,
+  List,
+  [],
+  ◌∷◌,
+  ◌++◌,
+  length,
+  ap,
+  ◌∙◌,
+  arith,
+  length-append,
+}
 use Rattle.std.specs.Prelude.{All}
 use Rattle.std.specs.List.{concat}
 use Rattle.lr_bits.specs.Packet.{Packet}
@@ -17,31 +35,45 @@ use Rattle.lr_receiving.proofs.Adding.{packets_read-push}
 use Rattle.lr_receiving.proofs.UnitsOf.{long, units_are}
 
 -- what was composed is what is added
-pub lines_are : (channels : Kept) (counted : Counted) (frames : List (List ℕ)) (frame : List ℕ) → IsAfter channels counted frames
-    → (cleared items listed : List Packet) → cleared ≡ [] → items ≡ cleared ++ packets_added frames frame → listed ≡ items
-    → (fresh lines text : List ℕ) → fresh ≡ [] → lines ≡ fresh ++ lines_from counted.packets listed → text ≡ lines → text ≡ lines_added frames frame
+pub lines_are : (channels : Kept) (counted : Counted) (frames : List (List ℕ)) (frame : List ℕ)
+    → IsAfter channels counted frames
+    → (cleared items listed : List Packet) → cleared ≡ [] → items ≡ cleared ++ packets_added frames frame
+    → listed ≡ items
+    → (fresh lines text : List ℕ) → fresh ≡ [] → lines ≡ fresh ++ lines_from counted.packets listed
+    → text ≡ lines → text ≡ lines_added frames frame
 unfolding lines_added
-lines_are channels counted frames frame after cleared items listed none read same fresh lines text empty composed taken =
+lines_are channels counted frames frame after cleared items listed none read same fresh lines text empty
+    composed taken =
     let added : listed ≡ packets_added frames frame = same ∙ read ∙ ap (λ l. l ++ packets_added frames frame) none in
     taken ∙ composed ∙ ap (λ l. l ++ lines_from counted.packets listed) empty
     ∙ ap (lines_from counted.packets) added
     ∙ ap (λ k. lines_from k (packets_added frames frame)) after.all.packets
 
 -- the packets that were counted are those that are added
-pub counted_on : (channels now : Kept) (counted then : Counted) (frames : List (List ℕ)) (frame : List ℕ) → IsAfter channels counted frames → length frame ≡ 892
+pub counted_on : (channels now : Kept) (counted then : Counted) (frames : List (List ℕ)) (frame : List ℕ)
+    → IsAfter channels counted frames → length frame ≡ 892
     → StandsFor now (frames_read (frames ++ frame ∷ []))
-    → (cleared items listed : List Packet) → cleared ≡ [] → items ≡ cleared ++ packets_added frames frame → listed ≡ items
+    → (cleared items listed : List Packet) → cleared ≡ [] → items ≡ cleared ++ packets_added frames frame
+    → listed ≡ items
     → then.packets ≡ counted.packets + length listed → then.good ≡ counted.good + length (good_packets listed)
     → IsAfter now then (frames ++ frame ∷ [])
 counted_on channels now counted then frames frame after whole stands cleared items listed none read same packets good =
     let more = packets_added frames frame in
-    let all : packets_read (frames ++ frame ∷ []) ≡ packets_read frames ++ more = packets_read-push frames frame after.stands.frames whole in
+    let all : packets_read (frames ++ frame ∷ []) ≡ packets_read frames ++ more =
+    packets_read-push frames frame after.stands.frames whole in
     let items_are : items ≡ more = read ∙ ap (λ l. l ++ more) none in
     let listed_are : listed ≡ more = same ∙ items_are in
     record {
       stands = stands;
       all = record {
-        packets = omega (arith, packets, after.all.packets, ap length all, length-append (packets_read frames) more, ap length listed_are);
+        packets = omega (
+          arith,
+          packets,
+          after.all.packets,
+          ap length all,
+          length-append (packets_read frames) more,
+          ap length listed_are,
+        );
         good = omega (
           arith,
           good,
@@ -55,19 +87,24 @@ counted_on channels now counted then frames frame after whole stands cleared ite
     }
 
 -- the last line of the packets that were counted
-pub counted_line : (counted : Counted) (frames : List (List ℕ)) (count rest : ℕ) (stop : Stop) → IsCounted counted frames → summary_line (Packets count counted.packets counted.good rest) stop ≡ packets_count frames count rest stop
+pub counted_line : (counted : Counted) (frames : List (List ℕ)) (count rest : ℕ) (stop : Stop)
+    → IsCounted counted frames → summary_line (Packets count counted.packets counted.good rest) stop
+    ≡ packets_count frames count rest stop
 unfolding packets_count
 counted_line counted frames count rest stop all =
     ap (λ k. summary_line (Packets count k counted.good rest) stop) all.packets
     ∙ ap (λ k. summary_line (Packets count (length (packets_read frames)) k rest) stop) all.good
 
 -- it says how many frames and packets there are, and how long the rest is
-pub packets_last-units : (units : List (List ℕ)) (held : List ℕ) (count rest : ℕ) (stop : Stop) → All (λ unit. length unit ≡ 892) units → length held < 892 → count ≡ length units → length held ≡ rest
+pub packets_last-units : (units : List (List ℕ)) (held : List ℕ) (count rest : ℕ) (stop : Stop)
+    → All (λ unit. length unit ≡ 892) units → length held < 892 → count ≡ length units → length held ≡ rest
     → packets_last (concat units ++ held) stop ≡ packets_count units count rest stop
 packets_last-units units held count rest stop whole short counted is =
     let bytes = concat units ++ held in
     let all : length bytes ≡ 892 * length units + length held = long 892 (lit< tt) units held whole short in
     let quotient : length bytes / 892 ≡ count = omega (arith, all, short, counted) in
     let remainder : length bytes % 892 ≡ rest = omega (arith, all, short, is) in
-    ap (λ u. packets_count u (length bytes / 892) (length bytes % 892) stop) (units_are 892 (lit< tt) units held whole short)
-    ∙ ap (λ k. packets_count units k (length bytes % 892) stop) quotient ∙ ap (λ k. packets_count units count k stop) remainder
+    ap (λ u. packets_count u (length bytes / 892) (length bytes % 892) stop)
+    (units_are 892 (lit< tt) units held whole short)
+    ∙ ap (λ k. packets_count units k (length bytes % 892) stop) quotient
+    ∙ ap (λ k. packets_count units count k stop) remainder

@@ -1,5 +1,22 @@
 -- How a run of `receive` ends.
-use Rattle.std.proofs.Common.{◌≡◌, inl, inr, ℕ, List, [], ◌++◌, length, refl, sym, ◌∙◌, ap, subst, arith, append_assoc, append-nil}
+use Rattle.std.proofs.Common.{
+  ◌≡◌,
+  inl,
+  inr,
+  ℕ,
+  List,
+  [],
+  ◌++◌,
+  length,
+  refl,
+  sym,
+  ◌∙◌,
+  ap,
+  subst,
+  arith,
+  append_assoc,
+  append-nil,
+}
 use Rattle.lr_bits.specs.Faults.{Rose}
 use Rattle.lr_bits.specs.declared.placed.Placed.{Placed}
 use Rattle.lr_io.specs.declared.source.Source.{Ghosts as SourceOf}
@@ -16,29 +33,40 @@ use Rattle.lr_disk.proofs.Moments.{weaker}
 use Rattle.lr_catalog.specs.declared.stop.Stop.{Stop}
 use Rattle.lr_catalog.specs.declared.stop.Stop.TheVariants.{End, Limit, Fault}
 use Rattle.lr_commands.specs.declared.cause.Cause.{Cause}
-use Rattle.lr_commands.specs.declared.cause.Cause.TheVariants.{Done, Failed, NoMemory, Refused}
+use Rattle.lr_commands.specs.declared.cause.Cause.TheVariants.{Failed, NoMemory, Refused}
 use Rattle.lr_commands.specs.declared.cause.Party.TheVariants.{Source, Disk, Output}
-use Rattle.lr_commands.specs.declared.cause.Refusal.TheVariants.{NotAShelf, Capacity, NotEmpty}
+use Rattle.lr_commands.specs.declared.cause.Refusal.TheVariants.{Capacity}
 use Rattle.lr_receiving.specs.declared.ended.Ended.{Ended}
 use Rattle.lr_receiving.specs.declared.input.Input.{Input}
 use Rattle.lr_receiving.specs.Causes.{IsEarlier, cause_at}
 use Rattle.lr_receiving.specs.Inputs.{outcomes_of_bytes, files_of_bytes}
 use Rattle.lr_commands.specs.Puts.{PutFails}
-use Rattle.lr_receiving.specs.Onto.{HasRoom}
-use Rattle.lr_receiving.specs.Shelving.{with_files, next_number, shelved_lines, StandsForFront, StopsBy}
+use Rattle.lr_receiving.specs.Shelving.{next_number, shelved_lines, StandsForFront, StopsBy}
 use Rattle.lr_receiving.specs.Shelved.{MayStop, ShelvesSoFar, Grows, GrowsNoMore}
 use Rattle.lr_receiving.specs.Receive.{counts_line, receive_count, receive_last, IsWorkDone, Finishes, Ends}
-use Rattle.lr_receiving.specs.Reception.{IsCountOf, ended_line, PutsLast, LastStops, ReadsAll, ReadsSome, EndsOver, EndsRun}
+use Rattle.lr_receiving.specs.Reception.{
+  IsCountOf,
+  ended_line,
+  PutsLast,
+  LastStops,
+  ReadsAll,
+  ReadsSome,
+  EndsOver,
+  EndsRun,
+}
 use Rattle.lr_receiving.proofs.ShelvedLines.{shelved_lines-none}
 
 -- the last line tells what was counted
-pub last_line : (input : Input) (bytes : List ℕ) (ended : Ended) → IsCountOf input bytes ended → ended_line ended ≡ receive_last input bytes ended.stop
+pub last_line : (input : Input) (bytes : List ℕ) (ended : Ended) → IsCountOf input bytes ended
+    → ended_line ended ≡ receive_last input bytes ended.stop
 unfolding receive_last receive_count
 last_line input bytes ended is =
     ap (λ k. counts_line k ended.frames (numbers ended.counts) ended.left ended.stop) is.symbols
     ∙ ap (λ k. counts_line (length bytes) k (numbers ended.counts) ended.left ended.stop) is.frames
-    ∙ ap (λ (n : Numbers). counts_line (length bytes) (length (outcomes_of_bytes input bytes)) n ended.left ended.stop) is.counts
-    ∙ ap (λ k. counts_line (length bytes) (length (outcomes_of_bytes input bytes)) (numbers_of (outcomes_of_bytes input bytes)) k ended.stop) is.left
+    ∙ ap (λ (n : Numbers). counts_line (length bytes) (length (outcomes_of_bytes input bytes)) n ended.left
+    ended.stop) is.counts
+    ∙ ap (λ k. counts_line (length bytes) (length (outcomes_of_bytes input bytes))
+    (numbers_of (outcomes_of_bytes input bytes)) k ended.stop) is.left
 
 module _ {D O : Type 0} (disk : DiskOf D) (out : SinkOf O) (capacity : ℕ) (before : List Item) (d d1 : D) (o : O) where
   pub front_none : (bytes : List ℕ) → StandsFor bytes capacity before → StandsForFront capacity before [] 0 bytes
@@ -51,14 +79,16 @@ module _ {D O : Type 0} (disk : DiskOf D) (out : SinkOf O) (capacity : ℕ) (bef
   }
 
   -- the shelf is loaded
-  pub loaded : (shelf : Shelf) → IsSettled disk capacity before shelf d1 → LeavesOnly disk.moment disk.left_since d d1 (λ c. StandsFor c capacity before) → disk.faults d1 ≡ disk.faults d
+  pub loaded : (shelf : Shelf) → IsSettled disk capacity before shelf d1
+      → LeavesOnly disk.moment disk.left_since d d1 (λ c. StandsFor c capacity before) → disk.faults d1 ≡ disk.faults d
       → ShelvesSoFar disk out capacity before [] shelf d d1 o o
   loaded shelf settled run count = record {
     settled = subst (λ (l : List Item). IsSettled disk capacity l shelf d1) (sym (append-nil before)) settled;
     any_moment = weaker disk.moment disk.left_since d d1 _ _ front_none run;
     put = record {
       told = λ t. t;
-      put = λ t. sym (ap (λ l. out.contents o ++ l) (shelved_lines-none (next_number before)) ∙ append-nil (out.contents o));
+      put = λ t. sym (ap (λ l. out.contents o ++ l) (shelved_lines-none (next_number before))
+          ∙ append-nil (out.contents o));
       kept = refl;
     };
     disk_count = count;
@@ -109,21 +139,25 @@ module _ {D O : Type 0} {shelf : Shelf} {files : List Placed} {d d1 : D} {o o1 :
 
 module _ {S D O : Type 0} (source : SourceOf S) (disk : DiskOf D) (out : SinkOf O) (input : Input) (limit : ℕ) where
   module _ (capacity : ℕ) (before : List Item) (bytes : List ℕ) (s s' : S) (d d' : D) (o o' : O) where
-    ends_of : (cause : Cause) → StopsBy disk out capacity before cause (files_of_bytes input bytes) d d' o o' → Ends source disk out input capacity before limit bytes cause s s' d d' o o'
+    ends_of : (cause : Cause) → StopsBy disk out capacity before cause (files_of_bytes input bytes) d d' o o'
+        → Ends source disk out input capacity before limit bytes cause s s' d d' o o'
     ends_of (Failed Disk) stops = stops
     ends_of (Failed Output) stops = inl stops
     ends_of NoMemory stops = stops
     ends_of (Refused (Capacity needed most)) stops = stops
     ends_of _ stops = absurd stops
 
-    ends_at : (stop : Stop) → Finishes source disk out input capacity before limit bytes stop s s' d d' o o' → Ends source disk out input capacity before limit bytes (cause_at stop) s s' d d' o o'
+    ends_at : (stop : Stop) → Finishes source disk out input capacity before limit bytes stop s s' d d' o o'
+        → Ends source disk out input capacity before limit bytes (cause_at stop) s s' d d' o o'
     ends_at End done = inl done
     ends_at Limit done = inr done
     ends_at Fault done = done
 
   module _ (shelf : Shelf) (s s' : S) (d d1 : D) (o o1 : O) where
     -- shelving stopped
-    pub ended_some : (cause : Cause) → MayStop cause → ReadsSome source disk out input limit cause shelf s s' d d1 o o1 → EndsRun source disk out input limit cause shelf s s' d d1 o o1
+    pub ended_some : (cause : Cause) → MayStop cause
+        → ReadsSome source disk out input limit cause shelf s s' d d1 o o1
+        → EndsRun source disk out input limit cause shelf s s' d d1 o o1
     ended_some cause may some = record {
       bytes = some.bytes;
       read = some.read;
@@ -133,12 +167,14 @@ module _ {S D O : Type 0} (source : SourceOf S) (disk : DiskOf D) (out : SinkOf 
       over = over_some cause may some.grown;
     }
 
-    module _ (ended : Ended) (shelf1 : Shelf) (all : ReadsAll source disk out input limit ended shelf shelf1 s s' d d1 o o1) (o2 : O) where
+    module _ (ended : Ended) (shelf1 : Shelf)
+        (all : ReadsAll source disk out input limit ended shelf shelf1 s s' d d1 o o1) (o2 : O) where
       line_is : ended_line ended ≡ receive_last input all.bytes ended.stop
       line_is = last_line input all.bytes ended all.count
 
       -- a part of the last line was put
-      summary_cut : PutFails out (ended_line ended) o1 o2 → EndsRun source disk out input limit (Failed Output) shelf s s' d d1 o o2
+      summary_cut : PutFails out (ended_line ended) o1 o2
+          → EndsRun source disk out input limit (Failed Output) shelf s s' d d1 o o2
       summary_cut fails = record {
         bytes = all.bytes;
         read = all.read;
@@ -186,13 +222,15 @@ module _ {S D O : Type 0} (source : SourceOf S) (disk : DiskOf D) (out : SinkOf 
       }
 
       -- the last line wasn't put
-      pub last_stopped : (cause : Cause) → LastStops out ended cause o1 o2 → EndsRun source disk out input limit cause shelf s s' d d1 o o2
+      pub last_stopped : (cause : Cause) → LastStops out ended cause o1 o2
+          → EndsRun source disk out input limit cause shelf s s' d d1 o o2
       last_stopped (Failed Output) stops = summary_cut stops
       last_stopped NoMemory stops = no_summary stops
       last_stopped _ stops = absurd stops
 
       -- it was put
-      pub all_put : PutsLast out ended o1 o2 → EndsRun source disk out input limit (cause_at ended.stop) shelf s s' d d1 o o2
+      pub all_put : PutsLast out ended o1 o2
+          → EndsRun source disk out input limit (cause_at ended.stop) shelf s s' d d1 o o2
       all_put put = record {
         bytes = all.bytes;
         read = all.read;

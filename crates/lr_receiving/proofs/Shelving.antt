@@ -1,6 +1,25 @@
 -- One file is put onto the shelf, or shelving stops there.
-use Rattle.std.proofs.Common.{◌≡◌, ◌⊎◌, inl, inr, false, true, ◌+◌, ◌≤◌, ◌<◌, ℕ, List, [], ◌∷◌, ◌++◌, length, map, min, refl, sym}
-use Rattle.std.proofs.Common.{◌∙◌, ap, subst, arith, append_assoc, length-append, ⊎_elim, Result, Ok, Err, OnOk, IfErr}
+use Rattle.std.proofs.Common.{
+  ◌≡◌,
+  inl,
+  inr,
+  false,
+  true,
+  ◌+◌,
+  ◌≤◌,
+  ◌<◌,
+  ℕ,
+  List,
+  [],
+  ◌∷◌,
+  ◌++◌,
+  length,
+  map,
+  min,
+  refl,
+  sym,
+}
+use Rattle.std.proofs.Common.{◌∙◌, ap, subst, arith, append_assoc, length-append, ⊎_elim, Result, Ok, Err, OnOk}
 use Rattle.std.proofs.lemmas.Bool.{cases_lt}
 use Rattle.std.proofs.lemmas.List.{map-append, length-map}
 use Rattle.std.proofs.lemmas.List.Sums.{sum_by-append}
@@ -21,7 +40,12 @@ use Rattle.lr_shelf.specs.Kept.{Kept, kept_by}
 use Rattle.lr_shelf.specs.Shelf.{StandsForEither, IsSettled, IsDurable}
 use Rattle.lr_shelf.specs.declared.shelf.Shelf.{Shelf}
 use Rattle.lr_shelf.specs.declared.error.ShelfError.{ShelfError}
-use Rattle.lr_shelf.specs.declared.error.ShelfError.TheVariants.{Disk as Disk', Capacity as Capacity', NoMemory as NoMemory', Failed as Failed'}
+use Rattle.lr_shelf.specs.declared.error.ShelfError.TheVariants.{
+  Disk as Disk',
+  Capacity as Capacity',
+  NoMemory as NoMemory',
+  Failed as Failed',
+}
 use Rattle.lr_shelf.proofs.ItemsKept.{entry_count_is}
 use Rattle.lr_catalog.specs.Files.{shelved_line}
 use Rattle.lr_commands.specs.declared.cause.Cause.{Cause}
@@ -31,7 +55,16 @@ use Rattle.lr_commands.specs.declared.cause.Refusal.TheVariants.{Capacity}
 use Rattle.lr_commands.specs.Causes.{cause_of}
 use Rattle.lr_commands.specs.Puts.{Puts, PutFails}
 use Rattle.lr_receiving.specs.Onto.{end_with}
-use Rattle.lr_receiving.specs.Shelving.{with_files, next_number, shelved_lines, StandsForFront, StandsForOneMore, LeavesFronts, StopsBy, Stops}
+use Rattle.lr_receiving.specs.Shelving.{
+  with_files,
+  next_number,
+  shelved_lines,
+  StandsForFront,
+  StandsForOneMore,
+  LeavesFronts,
+  StopsBy,
+  Stops,
+}
 use Rattle.lr_receiving.specs.Shelved.{MayStop, ShelvesSoFar, Grows, GrowsNoMore}
 use Rattle.lr_receiving.proofs.Growing.{grows_one, stops_at_one}
 use Rattle.lr_receiving.proofs.ShelvedLines.{shelved_lines-push}
@@ -213,7 +246,8 @@ module _ {D O : Type 0} (disk : DiskOf D) (out : SinkOf O) (capacity : ℕ) (bef
   capacity_is = ap (λ (way : Way). way.capacity) so_far.settled.kept.way
 
   -- where it would end with the next file
-  ends : (placed : Placed) → new_end (item_for placed) (kept_by shelf) ≡ end_of (with_files before (done ++ placed ∷ []))
+  ends : (placed : Placed) → new_end (item_for placed) (kept_by shelf)
+      ≡ end_of (with_files before (done ++ placed ∷ []))
   ends placed =
       let size : Item → ℕ = λ item. extent_of (head_of_item item) + 1 in
       let grown : new_end (item_for placed) (kept_by shelf) ≡ end_of (with_files before done ++ item_for placed ∷ []) =

@@ -1,5 +1,36 @@
 -- What `trial` leaves of the disk, at each of its exits.
-use Rattle.std.proofs.Common.{◌≡◌, ◌⊎◌, inl, inr, ⊎_elim, ℕ, ◌<◌, ◌≤◌, false, List, [], ◌∷◌, ◌++◌, length, map, refl, sym, ◌∙◌, ap, subst, arith, append_assoc, append-nil, length-append, Result, Ok, Err, IfOk, IfErr, OnOk}
+use Rattle.std.proofs.Common.{
+  ◌≡◌,
+  ◌⊎◌,
+  inl,
+  inr,
+  ⊎_elim,
+  ℕ,
+  ◌<◌,
+  ◌≤◌,
+  false,
+  List,
+  [],
+  ◌∷◌,
+  ◌++◌,
+  length,
+  map,
+  refl,
+  sym,
+  ◌∙◌,
+  ap,
+  subst,
+  arith,
+  append_assoc,
+  append-nil,
+  length-append,
+  Result,
+  Ok,
+  Err,
+  IfOk,
+  IfErr,
+  OnOk,
+}
 use Rattle.lr_bits.specs.Faults.{Rose}
 use Rattle.lr_bits.specs.declared.placed.Placed.{Placed}
 use Rattle.lr_io.specs.declared.source.Source.{Ghosts as SourceOf}
@@ -16,13 +47,18 @@ use Rattle.lr_shelf.specs.Kept.{kept_by}
 use Rattle.lr_shelf.specs.Shelf.{IsDurable, IsSettled}
 use Rattle.lr_shelf.specs.declared.shelf.Shelf.{Shelf}
 use Rattle.lr_shelf.specs.declared.error.ShelfError.{ShelfError}
-use Rattle.lr_shelf.specs.declared.error.ShelfError.TheVariants.{Disk as Disk', NotAShelf as NotAShelf', NotEmpty as NotEmpty', NoMemory as NoMemory'}
+use Rattle.lr_shelf.specs.declared.error.ShelfError.TheVariants.{
+  Disk as Disk',
+  NotAShelf as NotAShelf',
+  NotEmpty as NotEmpty',
+  NoMemory as NoMemory',
+}
 use Rattle.lr_disk.proofs.Moments.{weaker, joined}
 use Rattle.lr_catalog.specs.declared.stop.Stop.{Stop}
 use Rattle.lr_catalog.specs.declared.stop.Stop.TheVariants.{End, Limit, Fault}
 use Rattle.lr_commands.specs.declared.cause.Cause.{Cause}
 use Rattle.lr_commands.specs.declared.cause.Cause.TheVariants.{Done, Failed, NoMemory, Refused}
-use Rattle.lr_commands.specs.declared.cause.Party.TheVariants.{Source, Disk, Output}
+use Rattle.lr_commands.specs.declared.cause.Party.TheVariants.{Disk, Output}
 use Rattle.lr_commands.specs.declared.cause.Refusal.TheVariants.{NotAShelf, Capacity, NotEmpty}
 use Rattle.lr_receiving.specs.declared.ended.Ended.{Ended}
 use Rattle.lr_receiving.specs.declared.input.Input.TheVariants.{Symbols}
@@ -51,7 +87,8 @@ stops_trial (Refused (Capacity needed most)) s s' d d' may caused = tt
 stops_trial _ s s' d d' may caused = absurd may
 
 -- a front of the files of a part
-part_of : (symbols part later : List ℕ) → symbols ≡ part ++ later → (bytes : List ℕ) → StandsForFront trial_capacity [] (files_of_bytes Symbols part) 0 bytes → StandsForPart symbols bytes
+part_of : (symbols part later : List ℕ) → symbols ≡ part ++ later → (bytes : List ℕ)
+    → StandsForFront trial_capacity [] (files_of_bytes Symbols part) 0 bytes → StandsForPart symbols bytes
 part_of symbols part later split bytes stands = record { part = part; later = later; split = split; stands = stands }
 
 -- an empty shelf
@@ -66,7 +103,8 @@ none_of symbols bytes stands = part_of symbols [] symbols refl bytes (record {
 
 module _ {D : Type 0} (disk : DiskOf D) (symbols : List ℕ) (d d1 : D) where
   -- ---- no shelf was made
-  module _ (result : Result (Unit {0}) ShelfError) (e : ShelfError) (is : result ≡ Err e) (inits : Inits disk trial_capacity d d1 result) where
+  module _ (result : Result (Unit {0}) ShelfError) (e : ShelfError) (is : result ≡ Err e)
+      (inits : Inits disk trial_capacity d d1 result) where
     refusal : IsInitRefusal disk d e
     refusal = subst (λ (r : Result (Unit {0}) ShelfError). IfErr r (IsInitRefusal disk d)) is inits.refused
 
@@ -78,22 +116,27 @@ module _ {D : Type 0} (disk : DiskOf D) (symbols : List ℕ) (d d1 : D) where
     same_error : (other : ShelfError) → result ≡ Err other → e ≡ other
     same_error other named = cc (is, named)
 
-    refused_why : (n : ℕ) → (result ≡ Err (NotEmpty' n)) ⊎ (result ≡ Err Disk') → (cause_of e ≡ Refused (NotEmpty n)) ⊎ IsEarlier (cause_of e)
+    refused_why : (n : ℕ) → (result ≡ Err (NotEmpty' n)) ⊎ (result ≡ Err Disk')
+        → (cause_of e ≡ Refused (NotEmpty n)) ⊎ IsEarlier (cause_of e)
     refused_why n (inl named) = inl (ap cause_of (same_error (NotEmpty' n) named))
-    refused_why n (inr named) = inr (subst (λ (x : ShelfError). IsEarlier (cause_of x)) (sym (same_error Disk' named)) tt)
+    refused_why n (inr named) = inr
+        (subst (λ (x : ShelfError). IsEarlier (cause_of x)) (sym (same_error Disk' named)) tt)
 
     pub init_refused : LeavesDisk disk symbols (cause_of e) d d1
     init_refused = record {
       ends = refused_ends e refusal;
-      taken = λ told taken. 
+      taken = λ told taken.
           let t = inits.taken told taken in (refused_why (length (disk.contents d)) t.0, inr t.1);
-      any_moment = λ told free only. inr (weaker disk.moment disk.left_since d d1 _ _ (λ c blank. inl blank) (inits.any_moment told free only));
+      any_moment = λ told free only. inr
+          (weaker disk.moment disk.left_since d d1 _ _ (λ c blank. inl blank) (inits.any_moment told free only));
     }
 
   -- ---- an empty shelf was made
-  module _ (result : Result (Unit {0}) ShelfError) (is : result ≡ Ok tt) (inits : Inits disk trial_capacity d d1 result) where
+  module _ (result : Result (Unit {0}) ShelfError) (is : result ≡ Ok tt)
+      (inits : Inits disk trial_capacity d d1 result) where
     durable1 : disk.tells d → IsDurable disk trial_capacity [] d1
-    durable1 told = subst (λ (r : Result (Unit {0}) ShelfError). OnOk r (IsDurable disk trial_capacity [] d1)) is (inits.made told)
+    durable1 told = subst (λ (r : Result (Unit {0}) ShelfError). OnOk r (IsDurable disk trial_capacity [] d1))
+        is (inits.made told)
 
     same_count : disk.faults d1 ≡ disk.faults d
     same_count = same_of disk d d1 result tt is inits.calls.counted
@@ -102,7 +145,9 @@ module _ {D : Type 0} (disk : DiskOf D) (symbols : List ℕ) (d d1 : D) where
     not_taken told taken = ⊎_elim (λ named. cc (is, named)) (λ named. cc (is, named)) (inits.taken told taken).0
 
     -- whatever comes after it
-    after : (cause : Cause) (d' : D) → DiskEnds disk symbols cause d d' → (disk.tells d → LeavesOnly disk.moment disk.left_since d1 d' (StandsForPart symbols)) → LeavesDisk disk symbols cause d d'
+    after : (cause : Cause) (d' : D) → DiskEnds disk symbols cause d d'
+        → (disk.tells d → LeavesOnly disk.moment disk.left_since d1 d' (StandsForPart symbols))
+        → LeavesDisk disk symbols cause d d'
     after cause d' ends moments = record {
       ends = ends;
       taken = λ told taken. absurd (not_taken told taken);
@@ -121,48 +166,66 @@ module _ {D : Type 0} (disk : DiskOf D) (symbols : List ℕ) (d d1 : D) where
       empty_moments told =
           let durable = durable1 told in
           weaker disk.moment disk.left_since d1 d2 _ _
-          (λ c image. subst (λ (l : List ℕ). StandsFor l trial_capacity []) (sym (durable.durable c image)) durable.stands) (loads.unwritten (inits.calls.told told)).any_moment
+          (λ c image. subst (λ (l : List ℕ). StandsFor l trial_capacity []) (sym (durable.durable c image))
+          durable.stands) (loads.unwritten (inits.calls.told told)).any_moment
 
       holds_none : disk.tells d → HoldsPart disk symbols d2
       holds_none told =
           let durable = durable2 told in record {
             contents = none_of symbols (disk.contents d2) durable.stands;
-            images = λ c image. none_of symbols c (subst (λ (l : List ℕ). StandsFor l trial_capacity []) (sym (durable.durable c image)) durable.stands);
+            images = λ c image. none_of symbols c
+                (subst (λ (l : List ℕ). StandsFor l trial_capacity []) (sym (durable.durable c image)) durable.stands);
           }
 
-      unloaded_ends : (e : ShelfError) → result2 ≡ Err e → IsLoadRefusal disk d1 e → DiskEnds disk symbols (cause_of e) d d2
+      unloaded_ends : (e : ShelfError) → result2 ≡ Err e → IsLoadRefusal disk d1 e
+          → DiskEnds disk symbols (cause_of e) d d2
       unloaded_ends Disk' is r = tt
       unloaded_ends (NotAShelf' at) is r = λ told.
           loads.is_shelf trial_capacity [] (inits.calls.told told) (durable1 told).stands at is
       unloaded_ends NoMemory' is r = λ told. inr (holds_none told)
       unloaded_ends _ is r = absurd r
 
-      pub not_loaded : (e : ShelfError) → result2 ≡ Err e → IsLoadRefusal disk d1 e → LeavesDisk disk symbols (cause_of e) d d2
+      pub not_loaded : (e : ShelfError) → result2 ≡ Err e → IsLoadRefusal disk d1 e
+          → LeavesDisk disk symbols (cause_of e) d d2
       not_loaded e is r =
-          after (cause_of e) d2 (unloaded_ends e is r) (λ told. weaker disk.moment disk.left_since d1 d2 _ _ (λ c stands. none_of symbols c stands) (empty_moments told))
+          after (cause_of e) d2 (unloaded_ends e is r)
+          (λ told. weaker disk.moment disk.left_since d1 d2 _ _ (λ c stands. none_of symbols c stands)
+          (empty_moments told))
 
       -- ---- the files of the symbols, or of the first of them
-      module _ {S O : Type 0} (source : SourceOf S) (out : SinkOf O) (limit : ℕ) (few : length symbols < limit) (shelf : Shelf) (is2 : result2 ≡ Ok shelf) (s s' : S) (given : source.tells s) (gives : source.left s ≡ symbols) (d' : D) (o o' : O) where
+      module _ {S O : Type 0} (source : SourceOf S) (out : SinkOf O) (limit : ℕ) (few : length symbols < limit)
+          (shelf : Shelf) (is2 : result2 ≡ Ok shelf) (s s' : S) (given : source.tells s)
+          (gives : source.left s ≡ symbols) (d' : D) (o o' : O) where
         begun : disk.tells d → ShelvesSoFar disk out trial_capacity [] [] shelf d1 d2 o o
         begun told =
-            let settled = subst (λ (r : Result Shelf ShelfError). IfOk r (λ x. IsSettled disk trial_capacity [] x d2)) is2 (loads.settled trial_capacity [] (inits.calls.told told) (durable1 told).stands) in
-            loaded disk out trial_capacity [] d1 d2 o shelf settled (empty_moments told) (same_of disk d1 d2 result2 shelf is2 loads.calls.counted)
+            let settled = subst (λ (r : Result Shelf ShelfError). IfOk r
+            (λ x. IsSettled disk trial_capacity [] x d2)) is2
+            (loads.settled trial_capacity [] (inits.calls.told told) (durable1 told).stands) in
+            loaded disk out trial_capacity [] d1 d2 o shelf settled (empty_moments told)
+            (same_of disk d1 d2 result2 shelf is2 loads.calls.counted)
 
         -- what was read is the first of the symbols
         split_of : (bytes : List ℕ) → IsRead source limit bytes s s' → symbols ≡ bytes ++ source.left s'
         split_of bytes read = sym gives ∙ read.moved given
 
         module _ (part : List ℕ) (split : symbols ≡ part ++ source.left s') where
-          fronts : LeavesFronts disk trial_capacity [] (files_of_bytes Symbols part) d1 d' → LeavesOnly disk.moment disk.left_since d1 d' (StandsForPart symbols)
+          fronts : LeavesFronts disk trial_capacity [] (files_of_bytes Symbols part) d1 d'
+              → LeavesOnly disk.moment disk.left_since d1 d' (StandsForPart symbols)
           fronts = weaker disk.moment disk.left_since d1 d' _ _ (part_of symbols part (source.left s') split)
 
-          front_of : (done rest : List Placed) → files_of_bytes Symbols part ≡ done ++ rest → (c : List ℕ) → StandsFor c trial_capacity (with_files [] done) → StandsForPart symbols c
-          front_of done rest is c stands = part_of symbols part (source.left s') split c (record { first = done; rest = rest; split = is; enough = omega arith; stands = stands })
+          front_of : (done rest : List Placed) → files_of_bytes Symbols part ≡ done ++ rest → (c : List ℕ)
+              → StandsFor c trial_capacity (with_files [] done) → StandsForPart symbols c
+          front_of done rest is c stands =
+              part_of symbols part (source.left s') split c
+              (record { first = done; rest = rest; split = is; enough = omega arith; stands = stands })
 
-          holds_front : (done rest : List Placed) → files_of_bytes Symbols part ≡ done ++ rest → IsDurable disk trial_capacity (with_files [] done) d' → HoldsPart disk symbols d'
+          holds_front : (done rest : List Placed) → files_of_bytes Symbols part ≡ done ++ rest
+              → IsDurable disk trial_capacity (with_files [] done) d' → HoldsPart disk symbols d'
           holds_front done rest is durable = record {
             contents = front_of done rest is (disk.contents d') durable.stands;
-            images = λ c image. front_of done rest is c (subst (λ (l : List ℕ). StandsFor l trial_capacity (with_files [] done)) (sym (durable.durable c image)) durable.stands);
+            images = λ c image. front_of done rest is c
+                (subst (λ (l : List ℕ). StandsFor l trial_capacity (with_files [] done))
+                (sym (durable.durable c image)) durable.stands);
           }
 
         -- shelving stopped
@@ -211,7 +274,9 @@ module _ {D : Type 0} (disk : DiskOf D) (symbols : List ℕ) (d d1 : D) where
               (λ told. fronts some.bytes split (some.stops trial_capacity [] d1 o (begun told)).any_moment)
 
         -- all of them are shelved
-        module _ (ended : Ended) (shelf' : Shelf) (all : ReadsAll source disk out Symbols limit ended shelf shelf' s s' d2 d' o o') (calm : Rose (source.faults s) (source.faults s') → ⊥) where
+        module _ (ended : Ended) (shelf' : Shelf)
+            (all : ReadsAll source disk out Symbols limit ended shelf shelf' s s' d2 d' o o')
+            (calm : Rose (source.faults s) (source.faults s') → ⊥) where
           split_all : symbols ≡ all.bytes ++ source.left s'
           split_all = split_of all.bytes all.read
 
@@ -227,45 +292,59 @@ module _ {D : Type 0} (disk : DiskOf D) (symbols : List ℕ) (d d1 : D) where
           ended_so = at_end ended.stop all.reason
 
           pub line : ended_line ended ≡ receive_last Symbols symbols End
-          line = last_line Symbols all.bytes ended all.count ∙ ap (λ stop. receive_last Symbols all.bytes stop) ended_so.0 ∙ ap (λ bytes. receive_last Symbols bytes End) ended_so.1
+          line = last_line Symbols all.bytes ended all.count
+              ∙ ap (λ stop. receive_last Symbols all.bytes stop) ended_so.0
+              ∙ ap (λ bytes. receive_last Symbols bytes End) ended_so.1
 
-          pub finished : disk.faults d' ≡ disk.faults d2 → disk.faults d2 ≡ disk.faults d1 → LeavesDisk disk symbols Done d d'
+          pub finished : disk.faults d' ≡ disk.faults d2 → disk.faults d2 ≡ disk.faults d1
+              → LeavesDisk disk symbols Done d d'
           finished count count2 =
               after Done d' (
-                λ told. subst (λ (l : List ℕ). IsDurable disk trial_capacity (with_files [] (files_of_bytes Symbols l)) d') ended_so.1 (all.shelved trial_capacity [] d1 o (begun told)).settled.on_disk,
+                λ told. subst (λ (l : List ℕ). IsDurable disk trial_capacity
+                    (with_files [] (files_of_bytes Symbols l)) d') ended_so.1
+                    (all.shelved trial_capacity [] d1 o (begun told)).settled.on_disk,
                 count ∙ count2 ∙ same_count,
               )
               (λ told. fronts all.bytes split_all (all.shelved trial_capacity [] d1 o (begun told)).any_moment)
 
         -- ---- for either answer
         abbrev AnswersAll : Shelf → Result Ended Cause → Type 0
-        AnswersAll shelf' answer = IfOk answer (λ ended. ReadsAll source disk out Symbols limit ended shelf shelf' s s' d2 d' o o')
+        AnswersAll shelf' answer = IfOk answer
+            (λ ended. ReadsAll source disk out Symbols limit ended shelf shelf' s s' d2 d' o o')
 
         abbrev AnswersSome : Result Ended Cause → Type 0
         AnswersSome answer = IfErr answer (λ cause. ReadsSome source disk out Symbols limit cause shelf s s' d2 d' o o')
 
-        pub lines : (shelf' : Shelf) (answer : Result Ended Cause) → AnswersAll shelf' answer → (Rose (source.faults s) (source.faults s') → ⊥)
+        pub lines : (shelf' : Shelf) (answer : Result Ended Cause) → AnswersAll shelf' answer
+            → (Rose (source.faults s) (source.faults s') → ⊥)
             → IfOk answer (λ ended. ended_line ended ≡ receive_last Symbols symbols End)
         lines shelf' (Ok ended) all calm = line ended shelf' all calm
         lines shelf' (Err cause) all calm = tt
 
-        pub all_done : (shelf' : Shelf) (answer : Result Ended Cause) → AnswersAll shelf' answer → (Rose (source.faults s) (source.faults s') → ⊥)
-            → OnOk answer ((disk.faults d' ≡ disk.faults d2) × (out.faults o' ≡ out.faults o)) → OnOk answer (LeavesDisk disk symbols Done d d')
+        pub all_done : (shelf' : Shelf) (answer : Result Ended Cause) → AnswersAll shelf' answer
+            → (Rose (source.faults s) (source.faults s') → ⊥)
+            → OnOk answer ((disk.faults d' ≡ disk.faults d2) × (out.faults o' ≡ out.faults o))
+            → OnOk answer (LeavesDisk disk symbols Done d d')
         all_done shelf' (Ok ended) all calm same =
             finished ended shelf' all calm same.0 (same_of disk d1 d2 result2 shelf is2 loads.calls.counted)
         all_done shelf' (Err cause) all calm same = tt
 
-        pub some_done : (answer : Result Ended Cause) → AnswersSome answer → (Rose (source.faults s) (source.faults s') → ⊥)
+        pub some_done : (answer : Result Ended Cause) → AnswersSome answer
+            → (Rose (source.faults s) (source.faults s') → ⊥)
             → end_of (with_files [] (files_of_bytes Symbols symbols)) ≤ trial_capacity
             → IfErr answer MayStop → (f f' g g' : ℕ)
-            → ((kept_by shelf).failed ≡ false → IfErr answer (λ cause. IsCaused cause (counts f g 0) (counts f' g' 0))) → IfErr answer (λ cause. LeavesDisk disk symbols cause d d')
+            → ((kept_by shelf).failed ≡ false
+            → IfErr answer (λ cause. IsCaused cause (counts f g 0) (counts f' g' 0)))
+            → IfErr answer (λ cause. LeavesDisk disk symbols cause d d')
         some_done (Ok ended) some calm fit may f f' g g' caused = tt
         some_done (Err cause) some calm fit may f f' g g' caused =
-            let working = subst (λ (r : Result Shelf ShelfError). IfOk r (λ x. (kept_by x).failed ≡ false)) is2 loads.working in
+            let working = subst (λ (r : Result Shelf ShelfError). IfOk r (λ x. (kept_by x).failed ≡ false)) is2
+            loads.working in
             stopped calm fit cause some (stops_trial cause f f' g g' may (caused working))
 
 -- the last line wasn't put, after all was shelved
-module _ {D O : Type 0} (disk : DiskOf D) (out : SinkOf O) (symbols : List ℕ) (d d' : D) (o o' : O) (done : LeavesDisk disk symbols Done d d') where
+module _ {D O : Type 0} (disk : DiskOf D) (out : SinkOf O) (symbols : List ℕ) (d d' : D) (o o' : O)
+    (done : LeavesDisk disk symbols Done d d') where
   not_done : disk.tells d → IsTaken (disk.contents d) → ⊥
   not_done told taken = ⊎_elim (λ named. cc (named)) (λ early. absurd early) (done.taken told taken).0
 
@@ -274,14 +353,28 @@ module _ {D O : Type 0} (disk : DiskOf D) (out : SinkOf O) (symbols : List ℕ) 
       let durable = done.ends.0 told in
       let files = files_of_bytes Symbols symbols in
       let whole : (c : List ℕ) → StandsFor c trial_capacity (with_files [] files) → StandsForPart symbols c =
-      λ c stands. part_of symbols symbols [] (sym (append-nil symbols)) c (record { first = files; rest = []; split = sym (append-nil files); enough = omega arith; stands = stands }) in
+      λ c stands. part_of symbols symbols [] (sym (append-nil symbols)) c
+      (record {
+        first = files;
+        rest = [];
+        split = sym (append-nil files);
+        enough = omega arith;
+        stands =
+            stands;
+      }) in
       record {
         contents = whole (disk.contents d') durable.stands;
-        images = λ c image. whole c (subst (λ (l : List ℕ). StandsFor l trial_capacity (with_files [] files)) (sym (durable.durable c image)) durable.stands);
+        images = λ c image. whole c (subst (λ (l : List ℕ). StandsFor l trial_capacity (with_files [] files))
+            (sym (durable.durable c image)) durable.stands);
       }
 
   left_by : (cause : Cause) → DiskEnds disk symbols cause d d' → LeavesDisk disk symbols cause d d'
-  left_by cause ends = record { ends = ends; taken = λ told taken. absurd (not_done told taken); any_moment = done.any_moment }
+  left_by cause ends = record {
+    ends = ends;
+    taken = λ told taken. absurd (not_done told taken);
+    any_moment =
+        done.any_moment;
+  }
 
   module _ (ended : Ended) (line : ended_line ended ≡ receive_last Symbols symbols End) where
     pub last_stops : (cause : Cause) → LastStops out ended cause o o' → TrialRun disk out symbols cause d d' o o'

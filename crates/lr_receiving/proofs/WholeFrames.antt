@@ -12,13 +12,18 @@ use Rattle.lr_receiving.specs.Shelved.{HasWholeFrame}
 use Rattle.lr_receiving.proofs.Adding.{zone_is}
 
 -- one outcome more, whose frame has 892 bytes if it has one
-pub with_outcome : (outcomes : List Outcome) (outcome : Outcome) → AreFrames (frames_of_outcomes outcomes) → HasWholeFrame outcome → AreFrames (frames_of_outcomes (outcomes ++ outcome ∷ []))
-with_outcome outcomes (Lost word) all whole = subst (λ (l : List Fields). AreFrames l) (sym (frames_same outcomes (Lost word) refl)) all
+pub with_outcome : (outcomes : List Outcome) (outcome : Outcome) → AreFrames (frames_of_outcomes outcomes)
+    → HasWholeFrame outcome → AreFrames (frames_of_outcomes (outcomes ++ outcome ∷ []))
+with_outcome outcomes (Lost word) all whole =
+    subst (λ (l : List Fields). AreFrames l) (sym (frames_same outcomes (Lost word) refl)) all
 with_outcome outcomes (Restored corrected frame) all whole = cases (frame_of frame) refl where
-  cases : (r : Result Fields ℕ) → frame_of frame ≡ r → AreFrames (frames_of_outcomes (outcomes ++ Restored corrected frame ∷ []))
+  cases : (r : Result Fields ℕ) → frame_of frame ≡ r
+      → AreFrames (frames_of_outcomes (outcomes ++ Restored corrected frame ∷ []))
   cases (Ok f) is =
       let more = frames_more outcomes (Restored corrected frame) f (ap (λ (x : Result Fields ℕ). result_ok x) is) in
-      subst (λ (l : List Fields). AreFrames l) (sym more) (All-push (λ (f : Fields). length f.zone ≡ 884) (frames_of_outcomes outcomes) f all (zone_is frame f whole is))
+      subst (λ (l : List Fields). AreFrames l) (sym more)
+      (All-push (λ (f : Fields). length f.zone ≡ 884) (frames_of_outcomes outcomes) f all
+      (zone_is frame f whole is))
   cases (Err version) is =
       let same = frames_same outcomes (Restored corrected frame) (ap (λ (x : Result Fields ℕ). result_ok x) is) in
       subst (λ (l : List Fields). AreFrames l) (sym same) all

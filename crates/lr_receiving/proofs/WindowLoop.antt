@@ -1,5 +1,34 @@
 -- The loop of `receive` over symbols.
-use Rattle.std.proofs.Common.{◌≡◌, ℕ, ℤ, ◌+◌, ◌*◌, ◌<◌, ◌≤◌, ◌^◌, List, [], ◌∷◌, ◌++◌, length, map, ap, ◌∙◌, sym, refl, subst, arith, append_assoc, append-nil, length-append, None, Bool, true, false, All}
+use Rattle.std.proofs.Common.{
+  ◌≡◌,
+  ℕ,
+  ℤ,
+  ◌+◌,
+  ◌*◌,
+  ◌<◌,
+  ◌≤◌,
+  ◌^◌,
+  List,
+  [],
+  ◌∷◌,
+  ◌++◌,
+  length,
+  map,
+  ap,
+  ◌∙◌,
+  sym,
+  refl,
+  subst,
+  arith,
+  append_assoc,
+  append-nil,
+  length-append,
+  None,
+  Bool,
+  true,
+  false,
+  All,
+}
 use Rattle.std.proofs.lemmas.List.{length-map, map-append}
 use Rattle.std.proofs.Math.Seq.{drop-nil}
 use Rattle.std.proofs.lemmas.List.Elements.{All-nil}
@@ -58,12 +87,17 @@ whole_at : (window : List ℤ) (outcome : Outcome) → outcome ≡ outcome_of_wi
 whole_at window (Lost word) is = tt
 whole_at window (Restored corrected frame) is = whole_of_window STANDARD window frame corrected is
 
-with_frames : (symbols : List ℤ) (frames : List Frame) (outcomes : List Outcome) → AreFrames (frames_of_outcomes outcomes) → AreFrames (frames_of_outcomes (outcomes ++ map (outcome_in STANDARD symbols) frames))
-with_frames symbols [] outcomes all = subst (λ (l : List Outcome). AreFrames (frames_of_outcomes l)) (sym (append-nil outcomes)) all
+with_frames : (symbols : List ℤ) (frames : List Frame) (outcomes : List Outcome)
+    → AreFrames (frames_of_outcomes outcomes)
+    → AreFrames (frames_of_outcomes (outcomes ++ map (outcome_in STANDARD symbols) frames))
+with_frames symbols [] outcomes all =
+    subst (λ (l : List Outcome). AreFrames (frames_of_outcomes l)) (sym (append-nil outcomes)) all
 with_frames symbols (frame ∷ frames) outcomes all =
-    subst (λ (l : List Outcome). AreFrames (frames_of_outcomes l)) (append_assoc outcomes (outcome_in STANDARD symbols frame ∷ []) (map (outcome_in STANDARD symbols) frames))
+    subst (λ (l : List Outcome). AreFrames (frames_of_outcomes l))
+    (append_assoc outcomes (outcome_in STANDARD symbols frame ∷ []) (map (outcome_in STANDARD symbols) frames))
     (with_frames symbols frames (outcomes ++ outcome_in STANDARD symbols frame ∷ [])
-    (with_outcome outcomes (outcome_in STANDARD symbols frame) all (whole_at (window_of symbols frame.place frame.positive) (outcome_in STANDARD symbols frame) refl)))
+    (with_outcome outcomes (outcome_in STANDARD symbols frame) all
+    (whole_at (window_of symbols frame.place frame.positive) (outcome_in STANDARD symbols frame) refl)))
 
 no_frames : AreFrames (frames_of_outcomes [])
 unfolding frames_of_outcomes
@@ -71,7 +105,8 @@ no_frames = All-nil (λ (f : Fields). length f.zone ≡ 884)
 
 pub all_whole : (symbols : List ℤ) → AreFrames (frames_of_outcomes (outcomes_of_symbols STANDARD symbols))
 all_whole symbols =
-    subst (λ (l : List Outcome). AreFrames (frames_of_outcomes l)) (sym (outcomes_are STANDARD symbols)) (with_frames symbols (frames_of (tail_of STANDARD) symbols) [] no_frames)
+    subst (λ (l : List Outcome). AreFrames (frames_of_outcomes l)) (sym (outcomes_are STANDARD symbols))
+    (with_frames symbols (frames_of (tail_of STANDARD) symbols) [] no_frames)
 
 -- the files of frames that were given are the first ones of the bytes
 pub files_first : (bytes : List ℕ) (given : List Frame) → AreNext (tail_of STANDARD) (symbols_of bytes) None given
@@ -79,14 +114,18 @@ pub files_first : (bytes : List ℕ) (given : List Frame) → AreNext (tail_of S
 unfolding files_of_bytes outcomes_of_bytes outcomes_given
 files_first bytes given next =
     let symbols : List ℤ = symbols_of bytes in
-    let first : (rest : List Outcome) × (outcomes_of_symbols STANDARD symbols ≡ map (outcome_in STANDARD symbols) given ++ rest) = first_outcomes STANDARD symbols given next in
-    let law = go_on (map (outcome_in STANDARD symbols) given) first.0 (subst (λ (l : List Outcome). AreFrames (frames_of_outcomes l)) first.1 (all_whole symbols)) in
+    let first : (rest : List Outcome)
+    × (outcomes_of_symbols STANDARD symbols ≡ map (outcome_in STANDARD symbols) given ++ rest) =
+    first_outcomes STANDARD symbols given next in
+    let law = go_on (map (outcome_in STANDARD symbols) given) first.0
+    (subst (λ (l : List Outcome). AreFrames (frames_of_outcomes l)) first.1 (all_whole symbols)) in
     (law.more_files, ap placed_of_outcomes first.1 ∙ law.files)
 
 -- they are the first ones of more bytes too, where their windows are there
 more_files : (bytes more : List ℕ) (given : List Frame) → AreNext (tail_of STANDARD) (symbols_of bytes) None given
     → All (λ frame. frame.place + WINDOW_END ≤ length (symbols_of bytes)) given
-    → (rest : List Placed) × (files_of_bytes Symbols (bytes ++ more) ≡ placed_of_outcomes (outcomes_given bytes given) ++ rest)
+    → (rest : List Placed) × (files_of_bytes Symbols (bytes ++ more)
+    ≡ placed_of_outcomes (outcomes_given bytes given) ++ rest)
 unfolding files_of_bytes outcomes_of_bytes outcomes_given
 more_files bytes more given next sure =
     let tail = tail_of STANDARD in
@@ -104,11 +143,10 @@ more_files bytes more given next sure =
     ∙ map-append (outcome_in STANDARD all) given (front.0 ++ longer.0)
     ∙ ap (λ (os : List Outcome). os ++ others) (outcomes_stay STANDARD some (symbols_of more) given sure) in
     let law = go_on (map (outcome_in STANDARD some) given) others
-    (subst (λ (l : List Outcome). AreFrames (frames_of_outcomes l)) is (all_whole all)) in
-    (
+    (subst (λ (l : List Outcome). AreFrames (frames_of_outcomes l)) is (all_whole all)) in (
       law.more_files,
       ap (λ (s : List ℤ). placed_of_outcomes (outcomes_of_symbols STANDARD s)) (symbols_of-append bytes more)
-      ∙ ap placed_of_outcomes is ∙ law.files,
+          ∙ ap placed_of_outcomes is ∙ law.files,
     )
 
 -- nothing is left where neither a fault nor the limit ended the reading
@@ -119,15 +157,20 @@ nothing_left source End limit bytes s s' why told few calm = why.1 told
 nothing_left source Limit limit bytes s s' why told few calm = absurd (omega (arith, why.0, few))
 nothing_left source Fault limit bytes s s' why told few calm = absurd (calm why.1)
 
-pub outcomes_all : (bytes : List ℕ) (given : List Frame) → Rattle.lr_lock.specs.Frames.AreFrames (tail_of STANDARD) (symbols_of bytes) given → outcomes_of_bytes Symbols bytes ≡ outcomes_given bytes given
+pub outcomes_all : (bytes : List ℕ) (given : List Frame)
+    → Rattle.lr_lock.specs.Frames.AreFrames (tail_of STANDARD) (symbols_of bytes) given
+    → outcomes_of_bytes Symbols bytes ≡ outcomes_given bytes given
 unfolding outcomes_of_bytes outcomes_given
 outcomes_all bytes given every = all_outcomes STANDARD (symbols_of bytes) given every
 
-pub files_all : (bytes : List ℕ) (outcomes : List Outcome) → outcomes_of_bytes Symbols bytes ≡ outcomes → files_of_bytes Symbols bytes ≡ placed_of_outcomes outcomes
+pub files_all : (bytes : List ℕ) (outcomes : List Outcome) → outcomes_of_bytes Symbols bytes ≡ outcomes
+    → files_of_bytes Symbols bytes ≡ placed_of_outcomes outcomes
 unfolding files_of_bytes
 files_all bytes outcomes is = ap placed_of_outcomes is
 
-pub outcomes_given-push : (bytes : List ℕ) (given : List Frame) (frame : Frame) → outcomes_given bytes (given ++ frame ∷ []) ≡ outcomes_given bytes given ++ outcome_in STANDARD (symbols_of bytes) frame ∷ []
+pub outcomes_given-push : (bytes : List ℕ) (given : List Frame) (frame : Frame)
+    → outcomes_given bytes (given ++ frame ∷ []) ≡ outcomes_given bytes given
+    ++ outcome_in STANDARD (symbols_of bytes) frame ∷ []
 unfolding outcomes_given
 outcomes_given-push bytes given frame = map-append (outcome_in STANDARD (symbols_of bytes)) given (frame ∷ [])
 
@@ -140,14 +183,16 @@ unfolding outcomes_given
 outcomes_given-counted bytes given = length-map given (outcome_in STANDARD (symbols_of bytes))
 
 -- why no more was taken is a cause
-pub caused_end : {S : Type 0} (source : SourceOf S) (stop : Stop) (limit : ℕ) (bytes : List ℕ) (s s' : S) → EndsFor source stop limit bytes s s'
+pub caused_end : {S : Type 0} (source : SourceOf S) (stop : Stop) (limit : ℕ) (bytes : List ℕ) (s s' : S)
+    → EndsFor source stop limit bytes s s'
     → IsCaused (cause_at stop) (counts (source.faults s) 0 0) (counts (source.faults s') 0 0)
 caused_end source End limit bytes s s' why = tt
 caused_end source Limit limit bytes s s' why = tt
 caused_end source Fault limit bytes s s' why = why.1
 
 -- nothing is taken
-pub decoding_begun : {S : Type 0} (source : SourceOf S) (limit : ℕ) (now : Decoding) → IsFresh limit now → (s : S) → DecodesSoFar source [] [] now s s
+pub decoding_begun : {S : Type 0} (source : SourceOf S) (limit : ℕ) (now : Decoding) → IsFresh limit now
+    → (s : S) → DecodesSoFar source [] [] now s s
 decoding_begun source limit now fresh s = record {
   stands = fresh.stands;
   line = fresh.line;
@@ -160,8 +205,9 @@ decoding_begun source limit now fresh s = record {
   ended = λ e. absurd cc;
 }
 
--- so many windows were decoded, and the files of their outcomes shelved
-pub record WindowsSoFar {S D O : Type 0} (source : SourceOf S) (disk : DiskOf D) (out : SinkOf O) (limit place : ℕ) (now : Decoding) (layers : Kept)
+-- this many windows were decoded, and the files of their outcomes shelved
+pub record WindowsSoFar {S D O : Type 0} (source : SourceOf S) (disk : DiskOf D) (out : SinkOf O)
+    (limit place : ℕ) (now : Decoding) (layers : Kept)
     (shelf shelf' : Shelf) (s s' : S) (d d' : D) (o o' : O) : Type 0 where
   pub bytes : List ℕ
   pub given : List Frame
@@ -169,15 +215,19 @@ pub record WindowsSoFar {S D O : Type 0} (source : SourceOf S) (disk : DiskOf D)
   pub limit_is : now.most ≡ limit
   pub decodes : DecodesSoFar source bytes given now s s'
   pub stands : StandsFor layers (outcomes_given bytes given)
+  pub told_by_disk : disk.tells d → disk.tells d'
+  pub told_by_out : out.tells o → out.tells o'
   pub working : (kept_by shelf).failed ≡ false → (kept_by shelf').failed ≡ false
   pub disk_count : disk.faults d' ≡ disk.faults d
   pub out_count : out.faults o' ≡ out.faults o
-  pub shelved : (capacity : ℕ) (before : List Item) (d0 : D) (o0 : O) → ShelvesSoFar disk out capacity before [] shelf d0 d o0 o
+  pub shelved : (capacity : ℕ) (before : List Item) (d0 : D) (o0 : O)
+      → ShelvesSoFar disk out capacity before [] shelf d0 d o0 o
       → ShelvesSoFar disk out capacity before (placed_of_outcomes (outcomes_given bytes given)) shelf' d0 d' o0 o'
   pub grown : Grows (placed_of_outcomes (outcomes_given bytes given)) shelf shelf' d d' o o'
 
 module _ {S D O : Type 0} (source : SourceOf S) (disk : DiskOf D) (out : SinkOf O) (limit : ℕ) where
-  pub windows_begun : (shelf : Shelf) (now : Decoding) → IsFresh limit now → (layers : Kept) → StandsFor layers [] → (s : S) (d : D) (o : O)
+  pub windows_begun : (shelf : Shelf) (now : Decoding) → IsFresh limit now → (layers : Kept)
+      → StandsFor layers [] → (s : S) (d : D) (o : O)
       → WindowsSoFar source disk out limit 0 now layers shelf shelf s s d d o o
   windows_begun shelf now fresh layers stands s d o = record {
     bytes = [];
@@ -186,6 +236,8 @@ module _ {S D O : Type 0} (source : SourceOf S) (disk : DiskOf D) (out : SinkOf 
     limit_is = fresh.most_is;
     decodes = decoding_begun source limit now fresh s;
     stands = subst (λ l. StandsFor layers l) (sym (outcomes_given-none [])) stands;
+    told_by_disk = λ t. t;
+    told_by_out = λ t. t;
     working = λ works. works;
     disk_count = refl;
     out_count = refl;
@@ -209,32 +261,45 @@ module _ {S D O : Type 0} (source : SourceOf S) (disk : DiskOf D) (out : SinkOf 
 
     pub window_outcome_fits : limit ≤ 2 ^ 48 → layers.numbers.restored + layers.numbers.lost < 2 ^ 48
     window_outcome_fits few =
-        omega (arith, few, fits, both_kinds (outcomes_given so.bytes so.given), outcomes_given-counted so.bytes so.given, ap (λ (m : Numbers). m.restored + m.lost) so.stands.numbers)
+        omega (
+          arith,
+          few,
+          fits,
+          both_kinds (outcomes_given so.bytes so.given),
+          outcomes_given-counted so.bytes so.given,
+          ap (λ (m : Numbers). m.restored + m.lost) so.stands.numbers,
+        )
 
     module _ (outcome : Outcome) (is : outcome ≡ outcome_of_window STANDARD now.window.symbols) where
-      outcomes_now : outcomes_given gives.all (so.given ++ gives.frame ∷ []) ≡ outcomes_given so.bytes so.given ++ outcome ∷ []
+      outcomes_now : outcomes_given gives.all (so.given ++ gives.frame ∷ []) ≡ outcomes_given so.bytes so.given
+          ++ outcome ∷ []
       outcomes_now =
           outcomes_given-push gives.all so.given gives.frame
           ∙ ap (λ (l : List Outcome). l ++ outcome_in STANDARD (symbols_of gives.all) gives.frame ∷ []) gives.same
-          ∙ ap (λ (x : Outcome). outcomes_given so.bytes so.given ++ x ∷ []) (sym (is ∙ ap (λ (w : WindowView). outcome_of_window STANDARD w.symbols) gives.window_is))
+          ∙ ap (λ (x : Outcome). outcomes_given so.bytes so.given ++ x ∷ [])
+          (sym (is ∙ ap (λ (w : WindowView). outcome_of_window STANDARD w.symbols) gives.window_is))
 
-      first_files : (rest : List Placed) × (files_of_bytes Symbols gives.all ≡ placed_of_outcomes (outcomes_given gives.all (so.given ++ gives.frame ∷ [])) ++ rest)
+      first_files : (rest : List Placed)
+          × (files_of_bytes Symbols gives.all
+          ≡ placed_of_outcomes (outcomes_given gives.all (so.given ++ gives.frame ∷ [])) ++ rest)
       first_files =
           files_first gives.all (so.given ++ gives.frame ∷ [])
-          (subst (λ (l : LineCode). AreNext (tail_of l) (symbols_of gives.all) None (so.given ++ gives.frame ∷ [])) gives.so_far.line gives.so_far.stands.frames)
+          (subst (λ (l : LineCode). AreNext (tail_of l) (symbols_of gives.all) None (so.given ++ gives.frame
+          ∷ [])) gives.so_far.line gives.so_far.stands.frames)
 
       files_there : files_of_bytes Symbols gives.all
           ≡ placed_of_outcomes (outcomes_given so.bytes so.given ++ outcome ∷ []) ++ first_files.0
       files_there = first_files.1 ∙ ap (λ (l : List Outcome). placed_of_outcomes l ++ first_files.0) outcomes_now
 
       -- those of all that the source gives begin so too
-      first_of : source.tells s → length gives.all < limit → (Rose (source.faults s) (source.faults s') → ⊥) → (b : Bool)
+      first_of : source.tells s → length gives.all < limit → (Rose (source.faults s) (source.faults s') → ⊥)
+          → (b : Bool)
           → now.lock.finished ≡ b → (rest : List Placed) × (files_of_bytes Symbols (gives.all ++ source.left s')
           ≡ placed_of_outcomes (outcomes_given so.bytes so.given ++ outcome ∷ []) ++ rest)
       first_of told few calm true finished =
-          let why = subst (λ (k : ℕ). EndsFor source now.stop k gives.all s s') limit_is (gives.so_far.ended finished) in
-          let none = nothing_left source now.stop limit gives.all s s' why told few calm in
-          (
+          let why = subst (λ (k : ℕ). EndsFor source now.stop k gives.all s s') limit_is
+          (gives.so_far.ended finished) in
+          let none = nothing_left source now.stop limit gives.all s s' why told few calm in (
             first_files.0,
             ap (files_of_bytes Symbols) (ap (λ (l : List ℕ). gives.all ++ l) none ∙ append-nil gives.all) ∙ files_there,
           )
@@ -247,15 +312,22 @@ module _ {S D O : Type 0} (source : SourceOf S) (disk : DiskOf D) (out : SinkOf 
       -- the files of a window were not all shelved
       pub windows_stopped : (cause : Cause) (d2 : D) (o2 : O)
           → ((outcomes : List Outcome) (capacity : ℕ) (before : List Item) (d0 : D) (o0 : O) → StandsFor layers outcomes
-          → ShelvesSoFar disk out capacity before (placed_of_outcomes outcomes) shelf' d0 d1 o0 o1 → Stops disk out capacity before cause (placed_of_outcomes (outcomes ++ outcome ∷ [])) d0 d2 o0 o2)
+          → ShelvesSoFar disk out capacity before (placed_of_outcomes outcomes) shelf' d0 d1 o0 o1
+          → Stops disk out capacity before cause (placed_of_outcomes (outcomes ++ outcome ∷ [])) d0 d2 o0 o2)
           → ((outcomes : List Outcome) → StandsFor layers outcomes
           → GainsNoMore cause outcomes outcome shelf' d1 d2 o1 o2)
           → ReadsSome source disk out Symbols limit cause shelf s s' d d2 o o2
       windows_stopped cause d2 o2 stops gains = record {
         bytes = gives.all;
-        read = record { moved = gives.so_far.moved; few = omega (arith, gives.so_far.few, gives.so_far.long, limit_is) };
+        read = record {
+          told = gives.so_far.told;
+          moved = gives.so_far.moved;
+          few =
+              omega (arith, gives.so_far.few, gives.so_far.long, limit_is);
+        };
         stops = λ capacity before d0 o0 so_far.
-            let early = stops (outcomes_given so.bytes so.given) capacity before d0 o0 so.stands (so.shelved capacity before d0 o0 so_far) in
+            let early = stops (outcomes_given so.bytes so.given) capacity before d0 o0 so.stands
+            (so.shelved capacity before d0 o0 so_far) in
             let files = placed_of_outcomes (outcomes_given so.bytes so.given ++ outcome ∷ []) in
             subst (λ (l : List Placed). Stops disk out capacity before cause l d0 d2 o0 o2) (sym files_there)
             (stops_more disk out capacity before d0 d2 o0 o2 files first_files.0 cause early);
@@ -266,31 +338,39 @@ module _ {S D O : Type 0} (source : SourceOf S) (disk : DiskOf D) (out : SinkOf 
             (stops_before first_files.0 (stops_after so.grown gained.grown));
         files = placed_of_outcomes (outcomes_given so.bytes so.given ++ outcome ∷ []);
         early = λ capacity before d0 o0 so_far.
-            stops (outcomes_given so.bytes so.given) capacity before d0 o0 so.stands (so.shelved capacity before d0 o0 so_far);
+            stops (outcomes_given so.bytes so.given) capacity before d0 o0 so.stands
+            (so.shelved capacity before d0 o0 so_far);
         first = λ symbols told few calm. first_of told few calm now.lock.finished refl;
       }
 
       -- they were
       pub windows_more : (layers2 : Kept) (shelf2 : Shelf) (d2 : D) (o2 : O)
-          → StandsFor layers2 (outcomes_given so.bytes so.given ++ outcome ∷ []) → ((kept_by shelf').failed ≡ false → (kept_by shelf2).failed ≡ false)
+          → StandsFor layers2 (outcomes_given so.bytes so.given ++ outcome ∷ [])
+          → ((kept_by shelf').failed ≡ false → (kept_by shelf2).failed ≡ false)
+          → (disk.tells d1 → disk.tells d2) → (out.tells o1 → out.tells o2)
           → disk.faults d2 ≡ disk.faults d1 → out.faults o2 ≡ out.faults o1
           → ((capacity : ℕ) (before : List Item) (d0 : D) (o0 : O)
-          → ShelvesSoFar disk out capacity before (placed_of_outcomes (outcomes_given so.bytes so.given)) shelf' d0 d1 o0 o1
-          → ShelvesSoFar disk out capacity before (placed_of_outcomes (outcomes_given so.bytes so.given ++ outcome ∷ [])) shelf2 d0 d2 o0 o2)
+          → ShelvesSoFar disk out capacity before (placed_of_outcomes (outcomes_given so.bytes so.given)) shelf'
+          d0 d1 o0 o1
+          → ShelvesSoFar disk out capacity before
+          (placed_of_outcomes (outcomes_given so.bytes so.given ++ outcome ∷ [])) shelf2 d0 d2 o0 o2)
           → Gains (outcomes_given so.bytes so.given) outcome shelf' shelf2 d1 d2 o1 o2
           → WindowsSoFar source disk out limit (place + 1) now layers2 shelf shelf2 s s' d d2 o o2
-      windows_more layers2 shelf2 d2 o2 stands works disk_count out_count shelved gains = record {
+      windows_more layers2 shelf2 d2 o2 stands works tell_disk tell_out disk_count out_count shelved gains = record {
         bytes = gives.all;
         given = so.given ++ gives.frame ∷ [];
         count = omega (arith, so.count, length-append so.given (gives.frame ∷ []));
         limit_is = limit_is;
         decodes = gives.so_far;
         stands = subst (λ (l : List Outcome). StandsFor layers2 l) (sym outcomes_now) stands;
+        told_by_disk = λ t. tell_disk (so.told_by_disk t);
+        told_by_out = λ t. tell_out (so.told_by_out t);
         working = λ worked. works (so.working worked);
         disk_count = disk_count ∙ so.disk_count;
         out_count = out_count ∙ so.out_count;
         shelved = λ capacity before d0 o0 so_far.
-            subst (λ (l : List Outcome). ShelvesSoFar disk out capacity before (placed_of_outcomes l) shelf2 d0 d2 o0 o2) (sym outcomes_now)
+            subst (λ (l : List Outcome). ShelvesSoFar disk out capacity before (placed_of_outcomes l) shelf2 d0
+            d2 o0 o2) (sym outcomes_now)
             (shelved capacity before d0 o0 (so.shelved capacity before d0 o0 so_far));
         grown =
             subst (λ (l : List Placed). Grows l shelf shelf2 d d2 o o2)
@@ -309,11 +389,17 @@ module _ {S D O : Type 0} (source : SourceOf S) (disk : DiskOf D) (out : SinkOf 
         (subst (λ (x : Stop). EndsFor source x now.most ends.all s s') ends.stop_is (ends.so_far.ended ends.closed))
 
     -- the symbols ended
-    pub windows_ended : (ended : Ended) → ended.stop ≡ stop → ended.symbols ≡ now.taken → ended.frames ≡ place → numbers ended.counts ≡ layers.numbers → ended.left ≡ 0
+    pub windows_ended : (ended : Ended) → ended.stop ≡ stop → ended.symbols ≡ now.taken → ended.frames ≡ place
+        → numbers ended.counts ≡ layers.numbers → ended.left ≡ 0
         → ReadsAll source disk out Symbols limit ended shelf shelf' s s' d d1 o o1
     windows_ended ended stops symbols frames counts left = record {
       bytes = ends.all;
-      read = record { moved = ends.so_far.moved; few = omega (arith, ends.so_far.few, ends.so_far.long, limit_is) };
+      read = record {
+        told = ends.so_far.told;
+        moved = ends.so_far.moved;
+        few =
+            omega (arith, ends.so_far.few, ends.so_far.long, limit_is);
+      };
       reason = subst (λ (x : Stop). EndsFor source x limit ends.all s s') (sym stops) end_reason;
       count = record {
         symbols = symbols ∙ ends.so_far.long;
@@ -322,7 +408,8 @@ module _ {S D O : Type 0} (source : SourceOf S) (disk : DiskOf D) (out : SinkOf 
         left = left;
       };
       shelved = λ capacity before d0 o0 so_far.
-          subst (λ (l : List Placed). ShelvesSoFar disk out capacity before l shelf' d0 d1 o0 o1) (sym (files_all ends.all _ outcomes_at_end))
+          subst (λ (l : List Placed). ShelvesSoFar disk out capacity before l shelf' d0 d1 o0 o1)
+          (sym (files_all ends.all _ outcomes_at_end))
           (so.shelved capacity before d0 o0 so_far);
       grown =
           subst (λ (l : List Placed). Grows l shelf shelf' d d1 o o1) (sym (files_all ends.all _ outcomes_at_end))

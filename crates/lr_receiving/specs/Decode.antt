@@ -26,7 +26,8 @@ lines_of_units form units = concat (map (λ u. block_line u.0 (outcome_of_unit f
 -- the lines of the windows of these frames of some symbols, each numbered by its place among the frames
 unfoldable pub lines_of_windows : List ℤ → List Frame → List ℕ
 lines_of_windows symbols frames =
-    concat (map (λ f. window_line f.0 f.1.place f.1.positive (outcome_in STANDARD symbols f.1)) (enumerate_from 0 frames))
+    concat (map (λ f. window_line f.0 f.1.place f.1.positive (outcome_in STANDARD symbols f.1))
+    (enumerate_from 0 frames))
 
 -- a line for the window of each frame of the symbols, or for each whole block
 abbrev pub decode_text : Input → List ℕ → List ℕ
@@ -36,7 +37,8 @@ decode_text (Units form) bytes = lines_of_units form (units_of (unit_bytes form)
 -- how many bytes were taken, how many outcomes there are, of each kind, and how many bytes are left
 unfoldable pub decode_count : List Outcome → ℕ → ℕ → Stop → List ℕ
 decode_count outcomes symbols left stop =
-    summary_line (Decode symbols (length outcomes) (count_by is_restored outcomes) (count_by (λ o. not (is_restored o)) outcomes) left) stop
+    summary_line (Decode symbols (length outcomes) (count_by is_restored outcomes)
+    (count_by (λ o. not (is_restored o)) outcomes) left) stop
 
 abbrev pub decode_last : Input → List ℕ → Stop → List ℕ
 decode_last input bytes stop = decode_count (outcomes_of_bytes input bytes) (length bytes) (left_of input bytes) stop

@@ -1,5 +1,26 @@
 -- Symbols that are taken to windows. No clause of a public call cites this.
-use Rattle.std.specs.Prelude.{◌≡◌, ◌<◌, ◌≤◌, ◌+◌, ◌-◌, ◌*◌, ℕ, ℤ, true, false, Option, Some, None, List, [], ◌∷◌, ◌++◌, length, map, cond}
+use Rattle.std.specs.Prelude.{
+  ◌≡◌,
+  ◌<◌,
+  ◌≤◌,
+  ◌+◌,
+  ◌-◌,
+  ◌*◌,
+  ℕ,
+  ℤ,
+  true,
+  false,
+  Option,
+  Some,
+  None,
+  List,
+  [],
+  ◌∷◌,
+  ◌++◌,
+  length,
+  map,
+  cond,
+}
 use Rattle.lr_bits.specs.declared.outcome.Outcome.{Outcome}
 use Rattle.lr_bits.specs.Faults.{Rose}
 use Rattle.lr_conv.specs.declared.line.TheConstants.{STANDARD}
@@ -55,7 +76,8 @@ module _ {S : Type 0} (source : SourceOf S) where
     pub piece : List ℕ
     pub some : 0 < length piece
     pub lock_is : now.lock ≡ record before.lock { kept = before.lock.kept ++ symbols_of piece }
-    pub stands : (fed : List ℤ) (given : List Frame) → StandsFor before.lock fed given → StandsFor now.lock (fed ++ symbols_of piece) given
+    pub stands : (fed : List ℤ) (given : List Frame) → StandsFor before.lock fed given
+        → StandsFor now.lock (fed ++ symbols_of piece) given
     pub window_stays : now.window ≡ before.window
     pub taken : now.taken ≡ before.taken + length piece
     pub most_stays : now.most ≡ before.most
@@ -66,7 +88,8 @@ module _ {S : Type 0} (source : SourceOf S) where
 
   -- why nothing was fed
   abbrev pub FeedsNoneFor : Stop → Decoding → S → S → Type 0
-  FeedsNoneFor End before s s' = (before.taken < before.most) × (source.tells s → source.left s' ≡ []) × (source.faults s' ≡ source.faults s)
+  FeedsNoneFor End before s s' = (before.taken < before.most) × (source.tells s → source.left s' ≡ [])
+      × (source.faults s' ≡ source.faults s)
   FeedsNoneFor Limit before s s' = (before.taken ≡ before.most) × (source.faults s' ≡ source.faults s)
   FeedsNoneFor Fault before s s' = (before.taken < before.most) × Rose (source.faults s) (source.faults s')
 

@@ -19,11 +19,12 @@ unfoldable pub capacity_line : ℕ → List ℕ
 capacity_line capacity = concat (codes "shelf capacity " ∷ decimal capacity ∷ codes "\n" ∷ [])
 
 module _ {D O : Type 0} (disk : DiskOf D) (out : SinkOf O) (capacity : ℕ) where
-  -- how the call ends, for each cause that it may have: with an empty shelf of this capacity, on which nothing is pending, or
-  -- with the disk as it was, or failed
+  -- how the call ends, for each cause that it may have: with an empty shelf of this capacity, on which nothing is
+  -- pending, or with the disk as it was, or failed
   abbrev pub InitEnds : Cause → D → D → O → O → Type 0
   InitEnds Done d d' o o' =
-      (disk.tells d → IsDurable disk capacity [] d') × (out.tells o → out.contents o' ≡ out.contents o ++ capacity_line capacity)
+      (disk.tells d → IsDurable disk capacity [] d')
+      × (out.tells o → out.contents o' ≡ out.contents o ++ capacity_line capacity)
       × (disk.faults d' ≡ disk.faults d) × (out.faults o' ≡ out.faults o)
   InitEnds (Failed Disk) d d' o o' = o' ≡ o
   InitEnds (Failed Output) d d' o o' =

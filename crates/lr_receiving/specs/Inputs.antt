@@ -33,7 +33,8 @@ outcome_of_unit Frames frame = as_restored frame
 unfoldable pub outcomes_of_units : UnitForm → List (List ℕ) → List Outcome
 outcomes_of_units form units = map (outcome_of_unit form) units
 
--- The outcomes of the bytes read: those of the windows of all frames of the symbols, or those of each whole block or frame.
+-- The outcomes of the bytes read: those of the windows of all frames of the symbols, or those of each whole block or
+-- frame.
 unfoldable pub outcomes_of_bytes : Input → List ℕ → List Outcome
 outcomes_of_bytes Symbols bytes = outcomes_of_symbols STANDARD (symbols_of bytes)
 outcomes_of_bytes (Units form) bytes = outcomes_of_units form (units_of (unit_bytes form) bytes)

@@ -24,6 +24,9 @@ made_bytes (Units Frames) start wrong frames = frame_stream start frames
 -- how the call ends: `out` got these bytes, or it failed and got a front of them that isn't all of them
 module _ {O : Type 0} (out : SinkOf O) (bytes : List ℕ) where
   abbrev pub MakeEnds : Cause → O → O → Type 0
-  MakeEnds Done o o' = (out.tells o → out.contents o' ≡ out.contents o ++ bytes) × (out.faults o' ≡ out.faults o)
-  MakeEnds (Failed Output) o o' = out.tells o → PutsPart bytes (out.contents o) (out.contents o')
+  MakeEnds Done o o' =
+      (out.tells o → out.contents o' ≡ out.contents o ++ bytes) × (out.faults o' ≡ out.faults o)
+      × (out.tells o → out.tells o')
+  MakeEnds (Failed Output) o o' =
+      (out.tells o → PutsPart bytes (out.contents o) (out.contents o')) × (out.tells o → out.tells o')
   MakeEnds _ o o' = ⊥

@@ -19,8 +19,8 @@ end_with end files = end + sum_by room_for files
 abbrev pub HasRoom : Way → List Placed → Type 0
 HasRoom way files = (files ≡ []) ⊎ (end_with way.end files ≤ way.capacity)
 
--- There is room for the first of these files, and the end of the next one passes the capacity. Both numbers are these; an
--- end of more than 64 bits is told as the greatest number of 64 bits.
+-- There is room for the first of these files, and the end of the next one passes the capacity. Both numbers are
+-- these; an end of more than 64 bits is told as the greatest number of 64 bits.
 pub record IsFullWith (way : Way) (needed most : ℕ) (files : List Placed) : Type 0 where
   pub done : List Placed
   pub next : Placed

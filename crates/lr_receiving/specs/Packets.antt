@@ -39,4 +39,5 @@ packets_count frames count left stop =
     summary_line (Packets count (length (packets_read frames)) (length (good_packets (packets_read frames))) left) stop
 
 abbrev pub packets_last : List ℕ → Stop → List ℕ
-packets_last bytes stop = packets_count (units_of FRAME_BYTES bytes) (length bytes / FRAME_BYTES) (length bytes % FRAME_BYTES) stop
+packets_last bytes stop = packets_count (units_of FRAME_BYTES bytes) (length bytes / FRAME_BYTES)
+    (length bytes % FRAME_BYTES) stop

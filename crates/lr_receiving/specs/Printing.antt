@@ -13,12 +13,14 @@ use Rattle.lr_commands.specs.Puts.{PutsFront}
 use Rattle.lr_receiving.specs.Reading.{IsRead, EndsFor}
 
 -- The command's lines of the bytes read, its last line of them, and the most bytes that it takes.
-module _ {S O : Type 0} (source : SourceOf S) (out : SinkOf O) (lines : List ℕ → List ℕ) (last : List ℕ → Stop → List ℕ) (limit : ℕ) where
+module _ {S O : Type 0} (source : SourceOf S) (out : SinkOf O) (lines : List ℕ → List ℕ) (last : List ℕ → Stop
+    → List ℕ) (limit : ℕ) where
   -- all lines of the bytes read were put, and the last line
   pub record PrintsAll (stop : Stop) (s s' : S) (o o' : O) : Type 0 where
     pub bytes : List ℕ
     pub read : IsRead source limit bytes s s'
     pub reason : EndsFor source stop limit bytes s s'
+    pub told : out.tells o → out.tells o'
     pub put : out.tells o → out.contents o' ≡ out.contents o ++ (lines bytes ++ last bytes stop)
     pub out_count : out.faults o' ≡ out.faults o
 
@@ -26,6 +28,7 @@ module _ {S O : Type 0} (source : SourceOf S) (out : SinkOf O) (lines : List ℕ
   pub record CutInLines (s s' : S) (o o' : O) : Type 0 where
     pub bytes : List ℕ
     pub read : IsRead source limit bytes s s'
+    pub told : out.tells o → out.tells o'
     pub part : out.tells o → PutsPart (lines bytes) (out.contents o) (out.contents o')
     pub rose : Rose (out.faults o) (out.faults o')
 
@@ -35,6 +38,7 @@ module _ {S O : Type 0} (source : SourceOf S) (out : SinkOf O) (lines : List ℕ
     pub stop : Stop
     pub read : IsRead source limit bytes s s'
     pub reason : EndsFor source stop limit bytes s s'
+    pub told : out.tells o → out.tells o'
     pub part : out.tells o → PutsPart (last bytes stop) (out.contents o ++ lines bytes) (out.contents o')
     pub rose : Rose (out.faults o) (out.faults o')
 
@@ -42,6 +46,7 @@ module _ {S O : Type 0} (source : SourceOf S) (out : SinkOf O) (lines : List ℕ
   pub record StopsForMemory (s s' : S) (o o' : O) : Type 0 where
     pub bytes : List ℕ
     pub read : IsRead source limit bytes s s'
+    pub told : out.tells o → out.tells o'
     pub front : out.tells o → PutsFront (lines bytes) (out.contents o) (out.contents o')
 
   -- how such a command ends, for each cause that it may have

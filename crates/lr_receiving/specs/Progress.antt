@@ -27,7 +27,7 @@ module _ {S : Type 0} (source : SourceOf S) where
   GathersFor n (Ended Fault) now s s' =
       (length now.held < n) × (now.taken < now.most) × Rose (source.faults s) (source.faults s')
 
-  -- a piece of the source stands behind what was held
+  -- a piece of the source stands after what was held
   pub record Gathers (before now : Gathered) (s s' : S) : Type 0 where
     pub piece : List ℕ
     pub held : now.held ≡ before.held ++ piece

@@ -11,7 +11,7 @@ abbrev pub input_of : Reader → Input
 input_of (Symbols decoder) = Symbols'
 input_of (Units form) = Units' form
 
--- it has taken nothing, and takes at most so many bytes
+-- it has taken nothing, and takes at most this many bytes
 abbrev pub IsReadyFor : ℕ → Reader → Type 0
 IsReadyFor most (Symbols decoder) = IsFresh most decoder
 IsReadyFor most (Units form) = Unit {0}

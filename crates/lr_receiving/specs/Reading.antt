@@ -9,12 +9,14 @@ use Rattle.lr_catalog.specs.declared.stop.Stop.TheVariants.{End, Limit, Fault}
 module _ {S : Type 0} (source : SourceOf S) where
   -- these bytes were taken, at most this many
   pub record IsRead (limit : ℕ) (bytes : List ℕ) (s s' : S) : Type 0 where
+    pub told : source.tells s → source.tells s'
     pub moved : source.tells s → source.left s ≡ bytes ++ source.left s'
     pub few : length bytes ≤ limit
 
   -- why no more of them were taken: nothing was left, or the limit was reached, or the source failed
   abbrev pub EndsFor : Stop → ℕ → List ℕ → S → S → Type 0
-  EndsFor End limit bytes s s' = (length bytes < limit) × (source.tells s → source.left s' ≡ []) × (source.faults s' ≡ source.faults s)
+  EndsFor End limit bytes s s' = (length bytes < limit) × (source.tells s → source.left s' ≡ [])
+      × (source.faults s' ≡ source.faults s)
   EndsFor Limit limit bytes s s' = (length bytes ≡ limit) × (source.faults s' ≡ source.faults s)
   EndsFor Fault limit bytes s s' = (length bytes < limit) × Rose (source.faults s) (source.faults s')
 

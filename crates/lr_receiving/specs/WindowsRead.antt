@@ -11,7 +11,8 @@ use Rattle.lr_commands.specs.Puts.{Puts}
 use Rattle.lr_receiving.specs.Reading.{IsRead, EndsFor}
 
 -- the input ended, the lines of all windows were put, and what the last line tells is counted
-pub record EndsWindows {S O : Type 0} (source : SourceOf S) (out : SinkOf O) (limit : ℕ) (ended : Decoded) (s s' : S) (o o' : O) : Type 0 where
+pub record EndsWindows {S O : Type 0} (source : SourceOf S) (out : SinkOf O) (limit : ℕ) (ended : Decoded)
+    (s s' : S) (o o' : O) : Type 0 where
   pub bytes : List ℕ
   pub read : IsRead source limit bytes s s'
   pub reason : EndsFor source ended.stop limit bytes s s'

@@ -33,7 +33,8 @@ fn put_frame<O: Sink>(
     out: &mut O,
 ) -> Result<(), Cause>
     ensures put { IfOk result (λ _. Puts O.Sink (frame_line place (frame_of frame.now)) out.old out.new) }
-    ensures stopped { IfErr result (λ cause. PutStops O.Sink (frame_line place (frame_of frame.now)) cause out.old out.new) }
+    ensures stopped { IfErr result
+        (λ cause. PutStops O.Sink (frame_line place (frame_of frame.now)) cause out.old out.new) }
 {
     let mut line = Bytes::new(alloc);
     frame_line(alloc, place, &TransferFrame::read(frame), &mut line)?;
@@ -49,7 +50,8 @@ fn put_each_frame<S: Source, O: Sink>(
     ensures ended { IfOk result (λ ended. (frames : List (List ℕ))
         × EndsUnits S.Source 892 most frames ended.left ended.stop source.old source.new
         × (ended.units ≡ length frames) × Puts O.Sink (lines_of_frames frames) out.old out.new) }
-    ensures stopped { IfErr result (λ cause. Prints S.Source O.Sink frames_text frames_last most cause source.old source.new out.old out.new) }
+    ensures stopped { IfErr result
+        (λ cause. Prints S.Source O.Sink frames_text frames_last most cause source.old source.new out.old out.new) }
 {
     let mut units = Units::<FRAME_BYTES>::new(most);
     let mut place = 0u64;
@@ -73,8 +75,11 @@ fn put_each_frame<S: Source, O: Sink>(
 }
 
 fn put_last<O: Sink>(alloc: Global, ended: &Ended, out: &mut O) -> Result<(), Cause>
-    ensures put { IfOk result (λ _. Puts O.Sink (summary_line (Summary.Frames ended.now.units ended.now.left) ended.now.stop) out.old out.new) }
-    ensures stopped { IfErr result (λ cause. PutStops O.Sink (summary_line (Summary.Frames ended.now.units ended.now.left) ended.now.stop) cause out.old out.new) }
+    ensures put { IfOk result (λ _. Puts O.Sink
+        (summary_line (Summary.Frames ended.now.units ended.now.left) ended.now.stop) out.old out.new) }
+    ensures stopped { IfErr result
+        (λ cause. PutStops O.Sink (summary_line (Summary.Frames ended.now.units ended.now.left) ended.now.stop)
+        cause out.old out.new) }
 {
     let mut line = Bytes::new(alloc);
     let summary = Summary::Frames {
@@ -91,8 +96,10 @@ fn put_frames<S: Source, O: Sink>(
     source: &mut S,
     out: &mut O,
 ) -> Result<Stop, Cause>
-    ensures all { IfOk result (λ stop. PrintsAll S.Source O.Sink frames_text frames_last most stop source.old source.new out.old out.new) }
-    ensures stopped { IfErr result (λ cause. Prints S.Source O.Sink frames_text frames_last most cause source.old source.new out.old out.new) }
+    ensures all { IfOk result (λ stop. PrintsAll S.Source O.Sink frames_text frames_last most stop source.old
+        source.new out.old out.new) }
+    ensures stopped { IfErr result
+        (λ cause. Prints S.Source O.Sink frames_text frames_last most cause source.old source.new out.old out.new) }
 {
     let ended = put_each_frame(alloc, most, source, out)?;
     put_last(alloc, &ended, out)?;

@@ -22,7 +22,10 @@ fn capacity_line(alloc: Global, capacity: u64) -> Result<String, AllocError>
 /// Makes an empty shelf of this capacity, in bytes, and prints its line, for which memory is taken first.
 pub fn init<D: Disk, O: Sink>(alloc: Global, capacity: u64, disk: &mut D, out: &mut O) -> Cause
     requires { IsCapacity capacity }
-    ensures cause { IsCaused result (counts 0 (D.faults disk.old) (O.faults out.old)) (counts 0 (D.faults disk.new) (O.faults out.new)) }
+    ensures cause { IsCaused result (counts 0 (D.faults disk.old) (O.faults out.old))
+        (counts 0 (D.faults disk.new) (O.faults out.new)) }
+    ensures told_by_disk { D.tells disk.old → D.tells disk.new }
+    ensures told_by_out { O.tells out.old → O.tells out.new }
     ensures run { InitRun D.Disk O.Sink capacity result disk.old disk.new out.old out.new }
 {
     let line = match capacity_line(alloc, capacity) {

@@ -70,8 +70,11 @@ fn put_each_block<const N: usize, S: Source, O: Sink>(
     ensures ended { IfOk result (λ ended. (units : List (List ℕ))
         × EndsUnits S.Source N most units ended.left ended.stop source.old source.new
         × (ended.frames ≡ length units) × (ended.symbols ≡ N * length units + ended.left)
-        × (ended.restored ≡ count_by is_restored (outcomes_of_units form units)) × Puts O.Sink (lines_of_units form units) out.old out.new) }
-    ensures stopped { IfErr result (λ cause. Prints S.Source O.Sink (decode_text (Input.Units form)) (decode_last (Input.Units form)) most cause source.old source.new out.old out.new) }
+        × (ended.restored ≡ count_by is_restored (outcomes_of_units form units))
+        × Puts O.Sink (lines_of_units form units) out.old out.new) }
+    ensures stopped { IfErr result
+        (λ cause. Prints S.Source O.Sink (decode_text (Input.Units form)) (decode_last (Input.Units form)) most
+        cause source.old source.new out.old out.new) }
 {
     let mut units = Units::<N>::new(most);
     let mut scratch = RsScratch::new();
@@ -101,8 +104,13 @@ fn put_each_block<const N: usize, S: Source, O: Sink>(
 
 /// The last line.
 pub(crate) fn put_last<O: Sink>(alloc: Global, ended: &Decoded, out: &mut O) -> Result<(), Cause>
-    ensures put { IfOk result (λ _. Puts O.Sink (summary_line (Summary.Decode ended.now.symbols ended.now.frames ended.now.restored (ended.now.frames - ended.now.restored) ended.now.left) ended.now.stop) out.old out.new) }
-    ensures stopped { IfErr result (λ cause. PutStops O.Sink (summary_line (Summary.Decode ended.now.symbols ended.now.frames ended.now.restored (ended.now.frames - ended.now.restored) ended.now.left) ended.now.stop) cause out.old out.new) }
+    ensures put { IfOk result (λ _. Puts O.Sink
+        (summary_line (Summary.Decode ended.now.symbols ended.now.frames ended.now.restored
+        (ended.now.frames - ended.now.restored) ended.now.left) ended.now.stop) out.old out.new) }
+    ensures stopped { IfErr result
+        (λ cause. PutStops O.Sink (summary_line
+        (Summary.Decode ended.now.symbols ended.now.frames ended.now.restored
+        (ended.now.frames - ended.now.restored) ended.now.left) ended.now.stop) cause out.old out.new) }
 {
     let mut line = Bytes::new(alloc);
     let summary = Summary::Decode {
@@ -124,8 +132,11 @@ fn put_blocks<const N: usize, S: Source, O: Sink>(
     out: &mut O,
 ) -> Result<Stop, Cause>
     requires size { N ≡ unit_bytes form }
-    ensures all { IfOk result (λ stop. PrintsAll S.Source O.Sink (decode_text (Input.Units form)) (decode_last (Input.Units form)) most stop source.old source.new out.old out.new) }
-    ensures stopped { IfErr result (λ cause. Prints S.Source O.Sink (decode_text (Input.Units form)) (decode_last (Input.Units form)) most cause source.old source.new out.old out.new) }
+    ensures all { IfOk result (λ stop. PrintsAll S.Source O.Sink (decode_text (Input.Units form))
+        (decode_last (Input.Units form)) most stop source.old source.new out.old out.new) }
+    ensures stopped { IfErr result
+        (λ cause. Prints S.Source O.Sink (decode_text (Input.Units form)) (decode_last (Input.Units form)) most
+        cause source.old source.new out.old out.new) }
 {
     let ended = put_each_block::<N, S, O>(alloc, form, most, source, out)?;
     put_last(alloc, &ended, out)?;
@@ -140,7 +151,8 @@ fn decode_units<const N: usize, S: Source, O: Sink>(
     out: &mut O,
 ) -> Cause
     requires size { N ≡ unit_bytes form }
-    ensures { Prints S.Source O.Sink (decode_text (Input.Units form)) (decode_last (Input.Units form)) most result source.old source.new out.old out.new }
+    ensures { Prints S.Source O.Sink (decode_text (Input.Units form)) (decode_last (Input.Units form)) most
+        result source.old source.new out.old out.new }
 {
     match put_blocks::<N, S, O>(alloc, form, most, source, out) {
         Ok(stop) => cause_at(stop),
@@ -158,7 +170,8 @@ pub fn decode<S: Source, O: Sink>(
     out: &mut O,
 ) -> Cause
     requires few { most ≤ 2 ^ 48 }
-    ensures { Prints S.Source O.Sink (decode_text input) (decode_last input) most result source.old source.new out.old out.new }
+    ensures { Prints S.Source O.Sink (decode_text input) (decode_last input) most result source.old source.new
+        out.old out.new }
 {
     match input {
         Input::Symbols => decode_symbols(alloc, most, source, out),

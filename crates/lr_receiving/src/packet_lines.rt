@@ -1,10 +1,35 @@
 //! `packets`: a line for each packet of the frames.
-ghost use Rattle.std.specs.Prelude.{◌≡◌, ◌<◌, ◌≤◌, ◌+◌, ◌^◌, ◌++◌, ◌∷◌, [], List, ℕ, IfOk, IfErr, OnOk, OnErr, length, if◌then◌else◌};
+ghost use Rattle.std.specs.Prelude.{
+  ◌≡◌,
+  ◌<◌,
+  ◌≤◌,
+  ◌+◌,
+  ◌^◌,
+  ◌++◌,
+  ◌∷◌,
+  [],
+  List,
+  ℕ,
+  IfOk,
+  IfErr,
+  OnOk,
+  OnErr,
+  length,
+  if◌then◌else◌,
+};
 ghost use Rattle.lr_bits.specs.Packet.{Packet};
 ghost use Rattle.lr_vc.specs.Standing.{StandsFor};
 ghost use Rattle.lr_packet.specs.Verdict.{good_of, good_packets};
 ghost use Rattle.lr_receiving.specs.Added.{packets_added, lines_added};
-ghost use Rattle.lr_receiving.specs.Packets.{frames_read, packets_read, lines_from, lines_of_packets, packets_count, packets_text, packets_last};
+ghost use Rattle.lr_receiving.specs.Packets.{
+  frames_read,
+  packets_read,
+  lines_from,
+  lines_of_packets,
+  packets_count,
+  packets_text,
+  packets_last,
+};
 ghost use Rattle.lr_receiving.specs.PacketsRead.{IsAfter, IsCounted};
 ghost use Rattle.lr_receiving.specs.Printing.{Prints, PrintsAll};
 ghost use Rattle.lr_commands.specs.Puts.{Puts};
@@ -123,8 +148,10 @@ fn put_each_packet<S: Source, O: Sink>(
 ) -> Result<Ended, Cause>
     ensures ended { IfOk result (λ ended. (frames : List (List ℕ))
         × EndsUnits S.Source 892 most frames ended.left ended.stop source.old source.new
-        × (ended.frames ≡ length frames) × IsCounted ended.counted frames × Puts O.Sink (lines_of_packets frames) out.old out.new) }
-    ensures stopped { IfErr result (λ cause. Prints S.Source O.Sink packets_text packets_last most cause source.old source.new out.old out.new) }
+        × (ended.frames ≡ length frames) × IsCounted ended.counted frames
+        × Puts O.Sink (lines_of_packets frames) out.old out.new) }
+    ensures stopped { IfErr result
+        (λ cause. Prints S.Source O.Sink packets_text packets_last most cause source.old source.new out.old out.new) }
 {
     let mut units = Units::<FRAME_BYTES>::new(most);
     let mut channels = Channels::new(alloc);
@@ -157,9 +184,11 @@ fn put_each_packet<S: Source, O: Sink>(
 
 fn put_last<O: Sink>(alloc: Global, ended: &Ended, out: &mut O) -> Result<(), Cause>
     ensures put { (frames : List (List ℕ)) → IsCounted ended.now.counted frames
-        → IfOk result (λ _. Puts O.Sink (packets_count frames ended.now.frames ended.now.left ended.now.stop) out.old out.new) }
+        → IfOk result (λ _. Puts O.Sink (packets_count frames ended.now.frames ended.now.left ended.now.stop)
+        out.old out.new) }
     ensures stopped { (frames : List (List ℕ)) → IsCounted ended.now.counted frames
-        → IfErr result (λ cause. PutStops O.Sink (packets_count frames ended.now.frames ended.now.left ended.now.stop) cause out.old out.new) }
+        → IfErr result (λ cause. PutStops O.Sink
+        (packets_count frames ended.now.frames ended.now.left ended.now.stop) cause out.old out.new) }
 {
     let mut line = Bytes::new(alloc);
     let summary = Summary::Packets {
@@ -178,8 +207,10 @@ fn put_packets<S: Source, O: Sink>(
     source: &mut S,
     out: &mut O,
 ) -> Result<Stop, Cause>
-    ensures all { IfOk result (λ stop. PrintsAll S.Source O.Sink packets_text packets_last most stop source.old source.new out.old out.new) }
-    ensures stopped { IfErr result (λ cause. Prints S.Source O.Sink packets_text packets_last most cause source.old source.new out.old out.new) }
+    ensures all { IfOk result (λ stop. PrintsAll S.Source O.Sink packets_text packets_last most stop source.old
+        source.new out.old out.new) }
+    ensures stopped { IfErr result
+        (λ cause. Prints S.Source O.Sink packets_text packets_last most cause source.old source.new out.old out.new) }
 {
     let ended = put_each_packet(alloc, most, source, out)?;
     put_last(alloc, &ended, out)?;

@@ -65,12 +65,19 @@ fn receive_units<const N: usize, S: Source, D: Disk, O: Sink>(
     requires size { N ≡ unit_bytes form }
     requires few { most ≤ 2 ^ 48 }
     ensures counts { OnOk result ((D.faults disk.new ≡ D.faults disk.old) × (O.faults out.new ≡ O.faults out.old)) }
-    ensures reason { IfOk result (λ ended. IsCaused (cause_at ended.stop) (counts (S.faults source.old) 0 0) (counts (S.faults source.new) 0 0)) }
+    ensures reason { IfOk result (λ ended. IsCaused (cause_at ended.stop) (counts (S.faults source.old) 0 0)
+        (counts (S.faults source.new) 0 0)) }
+    ensures told_by_disk { D.tells disk.old → D.tells disk.new }
+    ensures told_by_out { O.tells out.old → O.tells out.new }
     ensures kind { IfErr result MayStop }
     ensures cause { (kept_by shelf.old).failed ≡ false
-        → IfErr result (λ cause. IsCaused cause (counts (S.faults source.old) (D.faults disk.old) (O.faults out.old)) (counts (S.faults source.new) (D.faults disk.new) (O.faults out.new))) }
-    ensures all { IfOk result (λ ended. ReadsAll S.Source D.Disk O.Sink (Input.Units form) most ended shelf.old shelf.new source.old source.new disk.old disk.new out.old out.new) }
-    ensures some { IfErr result (λ cause. ReadsSome S.Source D.Disk O.Sink (Input.Units form) most cause shelf.old source.old source.new disk.old disk.new out.old out.new) }
+        → IfErr result (λ cause. IsCaused cause
+        (counts (S.faults source.old) (D.faults disk.old) (O.faults out.old))
+        (counts (S.faults source.new) (D.faults disk.new) (O.faults out.new))) }
+    ensures all { IfOk result (λ ended. ReadsAll S.Source D.Disk O.Sink (Input.Units form) most ended shelf.old
+        shelf.new source.old source.new disk.old disk.new out.old out.new) }
+    ensures some { IfErr result (λ cause. ReadsSome S.Source D.Disk O.Sink (Input.Units form) most cause
+        shelf.old source.old source.new disk.old disk.new out.old out.new) }
 {
     let mut units = Units::<N>::new(most);
     let mut scratch = RsScratch::new();
@@ -110,12 +117,19 @@ fn receive_symbols<S: Source, D: Disk, O: Sink>(
     requires fresh { IsFresh decoder.old.most decoder.old }
     requires few { decoder.old.most ≤ 2 ^ 48 }
     ensures counts { OnOk result ((D.faults disk.new ≡ D.faults disk.old) × (O.faults out.new ≡ O.faults out.old)) }
-    ensures reason { IfOk result (λ ended. IsCaused (cause_at ended.stop) (counts (S.faults source.old) 0 0) (counts (S.faults source.new) 0 0)) }
+    ensures reason { IfOk result (λ ended. IsCaused (cause_at ended.stop) (counts (S.faults source.old) 0 0)
+        (counts (S.faults source.new) 0 0)) }
+    ensures told_by_disk { D.tells disk.old → D.tells disk.new }
+    ensures told_by_out { O.tells out.old → O.tells out.new }
     ensures kind { IfErr result MayStop }
     ensures cause { (kept_by shelf.old).failed ≡ false
-        → IfErr result (λ cause. IsCaused cause (counts (S.faults source.old) (D.faults disk.old) (O.faults out.old)) (counts (S.faults source.new) (D.faults disk.new) (O.faults out.new))) }
-    ensures all { IfOk result (λ ended. ReadsAll S.Source D.Disk O.Sink Input.Symbols decoder.old.most ended shelf.old shelf.new source.old source.new disk.old disk.new out.old out.new) }
-    ensures some { IfErr result (λ cause. ReadsSome S.Source D.Disk O.Sink Input.Symbols decoder.old.most cause shelf.old source.old source.new disk.old disk.new out.old out.new) }
+        → IfErr result (λ cause. IsCaused cause
+        (counts (S.faults source.old) (D.faults disk.old) (O.faults out.old))
+        (counts (S.faults source.new) (D.faults disk.new) (O.faults out.new))) }
+    ensures all { IfOk result (λ ended. ReadsAll S.Source D.Disk O.Sink Input.Symbols decoder.old.most ended
+        shelf.old shelf.new source.old source.new disk.old disk.new out.old out.new) }
+    ensures some { IfErr result (λ cause. ReadsSome S.Source D.Disk O.Sink Input.Symbols decoder.old.most cause
+        shelf.old source.old source.new disk.old disk.new out.old out.new) }
 {
     let mut layers = Layers::new(alloc);
     let mut files = Vec::new(alloc);
@@ -153,12 +167,19 @@ pub(crate) fn receive_all<S: Source, D: Disk, O: Sink>(
     requires ready { IsReadyFor most reader.old }
     requires few { most ≤ 2 ^ 48 }
     ensures counts { OnOk result ((D.faults disk.new ≡ D.faults disk.old) × (O.faults out.new ≡ O.faults out.old)) }
-    ensures reason { IfOk result (λ ended. IsCaused (cause_at ended.stop) (counts (S.faults source.old) 0 0) (counts (S.faults source.new) 0 0)) }
+    ensures reason { IfOk result (λ ended. IsCaused (cause_at ended.stop) (counts (S.faults source.old) 0 0)
+        (counts (S.faults source.new) 0 0)) }
+    ensures told_by_disk { D.tells disk.old → D.tells disk.new }
+    ensures told_by_out { O.tells out.old → O.tells out.new }
     ensures kind { IfErr result MayStop }
     ensures cause { (kept_by shelf.old).failed ≡ false
-        → IfErr result (λ cause. IsCaused cause (counts (S.faults source.old) (D.faults disk.old) (O.faults out.old)) (counts (S.faults source.new) (D.faults disk.new) (O.faults out.new))) }
-    ensures all { IfOk result (λ ended. ReadsAll S.Source D.Disk O.Sink (input_of reader.old) most ended shelf.old shelf.new source.old source.new disk.old disk.new out.old out.new) }
-    ensures some { IfErr result (λ cause. ReadsSome S.Source D.Disk O.Sink (input_of reader.old) most cause shelf.old source.old source.new disk.old disk.new out.old out.new) }
+        → IfErr result (λ cause. IsCaused cause
+        (counts (S.faults source.old) (D.faults disk.old) (O.faults out.old))
+        (counts (S.faults source.new) (D.faults disk.new) (O.faults out.new))) }
+    ensures all { IfOk result (λ ended. ReadsAll S.Source D.Disk O.Sink (input_of reader.old) most ended
+        shelf.old shelf.new source.old source.new disk.old disk.new out.old out.new) }
+    ensures some { IfErr result (λ cause. ReadsSome S.Source D.Disk O.Sink (input_of reader.old) most cause
+        shelf.old source.old source.new disk.old disk.new out.old out.new) }
 {
     match reader {
         Reader::Symbols(decoder) => receive_symbols(alloc, decoder, shelf, source, disk, out),
@@ -185,6 +206,7 @@ pub(crate) fn receive_all<S: Source, D: Disk, O: Sink>(
 
 /// Puts the last line.
 pub(crate) fn put_last<O: Sink>(alloc: Global, ended: &Ended, out: &mut O) -> Result<(), Cause>
+    ensures told { O.tells out.old → O.tells out.new }
     ensures put { IfOk result (λ _. PutsLast O.Sink ended.now out.old out.new) }
     ensures stopped { IfErr result (λ cause. LastStops O.Sink ended.now cause out.old out.new) }
 {
@@ -214,12 +236,20 @@ fn receive_onto<S: Source, D: Disk, O: Sink>(
 ) -> Result<Stop, Cause>
     requires ready { IsReadyFor most reader.old }
     requires few { most ≤ 2 ^ 48 }
-    ensures reason { IfOk result (λ stop. IsCaused (cause_at stop) (counts (S.faults source.old) 0 0) (counts (S.faults source.new) 0 0)) }
+    ensures reason { IfOk result (λ stop. IsCaused (cause_at stop) (counts (S.faults source.old) 0 0)
+        (counts (S.faults source.new) 0 0)) }
+    ensures told_by_disk { D.tells disk.old → D.tells disk.new }
+    ensures told_by_out { O.tells out.old → O.tells out.new }
     ensures kind { IfErr result MayStop }
     ensures cause { (kept_by shelf.old).failed ≡ false
-        → IfErr result (λ cause. IsCaused cause (counts (S.faults source.old) (D.faults disk.old) (O.faults out.old)) (counts (S.faults source.new) (D.faults disk.new) (O.faults out.new))) }
-    ensures done { IfOk result (λ stop. EndsRun S.Source D.Disk O.Sink (input_of reader.old) most (cause_at stop) shelf.old source.old source.new disk.old disk.new out.old out.new) }
-    ensures stopped { IfErr result (λ cause. EndsRun S.Source D.Disk O.Sink (input_of reader.old) most cause shelf.old source.old source.new disk.old disk.new out.old out.new) }
+        → IfErr result (λ cause. IsCaused cause
+        (counts (S.faults source.old) (D.faults disk.old) (O.faults out.old))
+        (counts (S.faults source.new) (D.faults disk.new) (O.faults out.new))) }
+    ensures done { IfOk result (λ stop. EndsRun S.Source D.Disk O.Sink (input_of reader.old) most
+        (cause_at stop) shelf.old source.old source.new disk.old disk.new out.old out.new) }
+    ensures stopped { IfErr result
+        (λ cause. EndsRun S.Source D.Disk O.Sink (input_of reader.old) most cause shelf.old source.old
+        source.new disk.old disk.new out.old out.new) }
 {
     let ended = receive_all(alloc, reader, most, shelf, source, disk, out)?;
     put_last(alloc, &ended, out)?;
@@ -237,8 +267,12 @@ pub fn receive<S: Source, D: Disk, O: Sink>(
     out: &mut O,
 ) -> Cause
     requires few { most ≤ 2 ^ 48 }
-    ensures cause { IsCaused result (counts (S.faults source.old) (D.faults disk.old) (O.faults out.old)) (counts (S.faults source.new) (D.faults disk.new) (O.faults out.new)) }
-    ensures run { ReceiveRun S.Source D.Disk O.Sink input most result source.old source.new disk.old disk.new out.old out.new }
+    ensures cause { IsCaused result (counts (S.faults source.old) (D.faults disk.old) (O.faults out.old))
+        (counts (S.faults source.new) (D.faults disk.new) (O.faults out.new)) }
+    ensures told_by_disk { D.tells disk.old → D.tells disk.new }
+    ensures told_by_out { O.tells out.old → O.tells out.new }
+    ensures run { ReceiveRun S.Source D.Disk O.Sink input most result source.old source.new disk.old disk.new
+        out.old out.new }
 {
     let mut reader = match Reader::new(alloc, input, most) {
         Ok(reader) => reader,

@@ -9,7 +9,15 @@ ghost use Rattle.lr_shelf.specs.Kept.{kept_by};
 ghost use Rattle.lr_commands.specs.Causes.{IsCaused};
 ghost use Rattle.lr_receiving.specs.Causes.{counts};
 ghost use Rattle.lr_receiving.specs.Shelving.{Stops};
-ghost use Rattle.lr_receiving.specs.Shelved.{HasWholeFrame, MayStop, ShelvesSoFar, Grows, GrowsNoMore, Gains, GainsNoMore};
+ghost use Rattle.lr_receiving.specs.Shelved.{
+  HasWholeFrame,
+  MayStop,
+  ShelvesSoFar,
+  Grows,
+  GrowsNoMore,
+  Gains,
+  GainsNoMore,
+};
 
 use crate::put::put_text;
 use lr_bits::{Bytes, Outcome, Placed};
@@ -32,6 +40,8 @@ fn shelve<D: Disk, O: Sink>(
     ensures working { OnOk result ((kept_by shelf.new).failed ≡ false) }
     ensures counts { OnOk result
         ((D.faults disk.new ≡ D.faults disk.old) × (O.faults out.new ≡ O.faults out.old)) }
+    ensures told_by_disk { D.tells disk.old → D.tells disk.new }
+    ensures told_by_out { O.tells out.old → O.tells out.new }
     ensures kind { IfErr result MayStop }
     ensures cause { (kept_by shelf.old).failed ≡ false
         → IfErr result (λ cause. IsCaused cause (counts 0 (D.faults disk.old) (O.faults out.old))
@@ -40,10 +50,12 @@ fn shelve<D: Disk, O: Sink>(
     // Over a disk that tells its contents and stands for a shelf.
     ensures shelved { (capacity : ℕ) (before : List Item) (done : List Placed') (d : _) (o : _)
         → ShelvesSoFar D.Disk O.Sink capacity before done shelf.old d disk.old o out.old
-        → OnOk result (ShelvesSoFar D.Disk O.Sink capacity before (done ++ placed.now ∷ []) shelf.new d disk.new o out.new) }
+        → OnOk result (ShelvesSoFar D.Disk O.Sink capacity before (done ++ placed.now ∷ []) shelf.new d disk.new
+        o out.new) }
     ensures stopped { (capacity : ℕ) (before : List Item) (done rest : List Placed') (d : _) (o : _)
         → ShelvesSoFar D.Disk O.Sink capacity before done shelf.old d disk.old o out.old
-        → IfErr result (λ cause. Stops D.Disk O.Sink capacity before cause (done ++ placed.now ∷ rest) d disk.new o out.new) }
+        → IfErr result (λ cause. Stops D.Disk O.Sink capacity before cause (done ++ placed.now ∷ rest) d
+        disk.new o out.new) }
 
     // Over every disk.
     ensures grown { OnOk result (Grows (placed.now ∷ []) shelf.old shelf.new disk.old disk.new out.old out.new) }
@@ -71,6 +83,8 @@ fn shelve_all<D: Disk, O: Sink>(
     ensures working { (kept_by shelf.old).failed ≡ false → OnOk result ((kept_by shelf.new).failed ≡ false) }
     ensures counts { OnOk result
         ((D.faults disk.new ≡ D.faults disk.old) × (O.faults out.new ≡ O.faults out.old)) }
+    ensures told_by_disk { D.tells disk.old → D.tells disk.new }
+    ensures told_by_out { O.tells out.old → O.tells out.new }
     ensures kind { IfErr result MayStop }
     ensures cause { (kept_by shelf.old).failed ≡ false
         → IfErr result (λ cause. IsCaused cause (counts 0 (D.faults disk.old) (O.faults out.old))
@@ -109,6 +123,8 @@ pub(crate) fn shelve_outcome<D: Disk, O: Sink>(
     ensures working { (kept_by shelf.old).failed ≡ false → OnOk result ((kept_by shelf.new).failed ≡ false) }
     ensures counts { OnOk result
         ((D.faults disk.new ≡ D.faults disk.old) × (O.faults out.new ≡ O.faults out.old)) }
+    ensures told_by_disk { D.tells disk.old → D.tells disk.new }
+    ensures told_by_out { O.tells out.old → O.tells out.new }
     ensures kind { IfErr result MayStop }
     ensures cause { (kept_by shelf.old).failed ≡ false
         → IfErr result (λ cause. IsCaused cause (counts 0 (D.faults disk.old) (O.faults out.old))

@@ -67,14 +67,24 @@ impl Model for Decoder {
 
     ghost view = { λ d. record { lock = d.lock; window = d.window; taken = d.taken; most = d.most; stop = d.stop } };
 
-    ghost invariant = { λ d. (length d.buffer.items ≡ 65536) × (d.taken ≤ d.most) × (d.most ≤ 2 ^ 61) × (d.lock.place + length d.lock.kept ≤ d.taken) × (d.lock.line ≡ STANDARD) × (d.window.line ≡ STANDARD) };
+    ghost invariant = { λ d. (length d.buffer.items ≡ 65536) × (d.taken ≤ d.most) × (d.most ≤ 2 ^ 61)
+        × (d.lock.place + length d.lock.kept ≤ d.taken) × (d.lock.line ≡ STANDARD) × (d.window.line ≡ STANDARD) };
 }
 
 impl Decoder {
     ghost use Rattle.std.specs.Prelude.{◌≡◌, ◌<◌, ◌≤◌, ◌+◌, ◌-◌, ◌^◌, List, ℕ, false, true, IfOk, length, cond};
     ghost use Rattle.lr_lock.specs.declared.frame.Frame.{Frame};
     ghost use Rattle.lr_frame.specs.Outcomes.{outcome_of_window};
-    ghost use Rattle.lr_receiving.specs.Decoding.{IsFresh, IsStanding, steps_left, symbols_left, Takes, DecodesSoFar, DecodesOn, Decodes};
+    ghost use Rattle.lr_receiving.specs.Decoding.{
+      IsFresh,
+      IsStanding,
+      steps_left,
+      symbols_left,
+      Takes,
+      DecodesSoFar,
+      DecodesOn,
+      Decodes,
+    };
     ghost use Rattle.lr_receiving.specs.Shelved.{HasWholeFrame};
     ghost use Rattle.lr_receiving.specs.declared.units.Next.TheVariants.{Whole};
 
@@ -161,7 +171,8 @@ impl Decoder {
     fn more<S: Source>(&mut self, source: &mut S)
         requires unfinished { self.old.lock.finished ≡ false }
         requires room { length self.old.lock.kept < 65536 }
-        ensures decodes { (bytes : List ℕ) (given : List Frame) (s : _) → DecodesSoFar S.Source bytes given self.old s source.old
+        ensures decodes { (bytes : List ℕ) (given : List Frame) (s : _)
+            → DecodesSoFar S.Source bytes given self.old s source.old
             → DecodesOn S.Source bytes given self.new s source.new }
         ensures standing { IsStanding self.old.lock → IsStanding self.new.lock }
         ensures most { self.new.most ≡ self.old.most }
@@ -176,7 +187,8 @@ impl Decoder {
     /// Takes bytes until the window of the next frame is shown, or there is none.
     pub(crate) fn next<S: Source>(&mut self, source: &mut S) -> Next
         requires { IsStanding self.old.lock }
-        ensures decodes { (bytes : List ℕ) (given : List Frame) (s : _) → DecodesSoFar S.Source bytes given self.old s source.old
+        ensures decodes { (bytes : List ℕ) (given : List Frame) (s : _)
+            → DecodesSoFar S.Source bytes given self.old s source.old
             → Decodes S.Source result bytes given self.new s source.new }
         ensures standing { IsStanding self.new.lock }
         ensures most { self.new.most ≡ self.old.most }

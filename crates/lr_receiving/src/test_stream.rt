@@ -64,7 +64,8 @@ fn make_blocks<O: Sink>(start: u64, frames: u64, wrong: u8, out: &mut O) -> Resu
 fn make_symbols<O: Sink>(start: u64, frames: u64, wrong: u8, out: &mut O) -> Result<(), Cause>
     requires { wrong ≤ 16 }
     ensures put { IfOk result (λ _. Puts O.Sink (bytes_of_symbols (symbol_stream start wrong frames)) out.old out.new) }
-    ensures failed { OnErr result (PutFails O.Sink (bytes_of_symbols (symbol_stream start wrong frames)) out.old out.new) }
+    ensures failed { OnErr result
+        (PutFails O.Sink (bytes_of_symbols (symbol_stream start wrong frames)) out.old out.new) }
     ensures cause { IfErr result (λ cause. cause ≡ Cause.Failed Output) }
 {
     let Ok(mut maker) = Maker::new(start, wrong) else {

@@ -38,7 +38,8 @@ fn stream(alloc: Global, start: u64, frames: u64, wrong: u8) -> Result<Vec<u8>, 
     requires few { frames ≤ 1024 }
     requires wrong { wrong ≤ 16 }
     ensures bytes { IfOk result (λ bytes. bytes.items ≡ made_bytes Input.Symbols start wrong frames) }
-    ensures received { (k : ℕ) → k < frames → IfOk result (λ _. IsReceivedAs wrong (frame_at start k) (block_at start wrong k)) }
+    ensures received { (k : ℕ) → k < frames
+        → IfOk result (λ _. IsReceivedAs wrong (frame_at start k) (block_at start wrong k)) }
 {
     let mut maker = Maker::new(start, wrong)?;
     let mut all = Vec::with_capacity(alloc, frames as usize * FRAME_SYMBOLS)?;
@@ -65,7 +66,9 @@ fn shelve_stream<D: Disk>(
     requires input { input_of reader.old ≡ Input.Symbols }
     requires few { length symbols.items < most_bytes }
     requires fit { end_of (with_files [] (files_of_bytes Input.Symbols symbols.items)) ≤ trial_capacity }
-    ensures cause { IfErr result (λ cause. IsCaused cause (counts 0 (D.faults disk.old) 0) (counts 0 (D.faults disk.new) 0)) }
+    ensures cause { IfErr result (λ cause. IsCaused cause (counts 0 (D.faults disk.old) 0)
+        (counts 0 (D.faults disk.new) 0)) }
+    ensures told { D.tells disk.old → D.tells disk.new }
     ensures kind { IfErr result StopsTrial }
     ensures line { IfOk result (λ ended. ended_line ended ≡ receive_last Input.Symbols symbols.items End) }
     ensures done { OnOk result (LeavesDisk D.Disk symbols.items Cause.Done disk.old disk.new) }
@@ -86,8 +89,9 @@ fn shelve_stream<D: Disk>(
     )
 }
 
-/// Makes the symbols of this many frames of the test stream, an empty shelf on the disk, and puts the mission files of the
-/// symbols onto it. The last line alone is printed. The memory for the symbols, and for reading them, is taken first.
+/// Makes the symbols of this many frames of the test stream, an empty shelf on the disk, and puts the mission files
+/// of the symbols onto it. The last line alone is printed. The memory for the symbols, and for reading them, is taken
+/// first.
 pub fn trial<D: Disk, O: Sink>(
     alloc: Global,
     start: u64,
@@ -98,8 +102,12 @@ pub fn trial<D: Disk, O: Sink>(
 ) -> Cause
     requires few { frames ≤ 1024 }
     requires wrong { wrong ≤ 16 }
-    ensures cause { IsCaused result (counts 0 (D.faults disk.old) (O.faults out.old)) (counts 0 (D.faults disk.new) (O.faults out.new)) }
-    ensures run { TrialRun D.Disk O.Sink (made_bytes Input.Symbols start wrong frames) result disk.old disk.new out.old out.new }
+    ensures cause { IsCaused result (counts 0 (D.faults disk.old) (O.faults out.old))
+        (counts 0 (D.faults disk.new) (O.faults out.new)) }
+    ensures told_by_disk { D.tells disk.old → D.tells disk.new }
+    ensures told_by_out { O.tells out.old → O.tells out.new }
+    ensures run { TrialRun D.Disk O.Sink (made_bytes Input.Symbols start wrong frames) result disk.old disk.new
+        out.old out.new }
 {
     let symbols = match stream(alloc, start, frames, wrong) {
         Ok(symbols) => symbols,

@@ -28,7 +28,8 @@ fn put_window<O: Sink>(
     out: &mut O,
 ) -> Result<(), Cause>
     ensures put { IfOk result (λ _. Puts O.Sink (window_line place at positive outcome.now) out.old out.new) }
-    ensures stopped { IfErr result (λ cause. PutStops O.Sink (window_line place at positive outcome.now) cause out.old out.new) }
+    ensures stopped { IfErr result
+        (λ cause. PutStops O.Sink (window_line place at positive outcome.now) cause out.old out.new) }
 {
     let mut line = Bytes::new(alloc);
     window_line(alloc, place, at, positive, outcome, &mut line)?;
@@ -42,8 +43,11 @@ fn put_each_window<S: Source, O: Sink>(
     out: &mut O,
 ) -> Result<Decoded, Cause>
     requires few { most ≤ 2 ^ 48 }
-    ensures ended { IfOk result (λ ended. EndsWindows S.Source O.Sink most ended source.old source.new out.old out.new) }
-    ensures stopped { IfErr result (λ cause. Prints S.Source O.Sink (decode_text Symbols) (decode_last Symbols) most cause source.old source.new out.old out.new) }
+    ensures ended { IfOk result (λ ended. EndsWindows S.Source O.Sink most ended source.old source.new out.old
+        out.new) }
+    ensures stopped { IfErr result
+        (λ cause. Prints S.Source O.Sink (decode_text Symbols) (decode_last Symbols) most cause source.old
+        source.new out.old out.new) }
 {
     let mut decoder = Decoder::new(alloc, most)?;
     let mut place = 0u64;
@@ -77,8 +81,11 @@ fn put_windows<S: Source, O: Sink>(
     out: &mut O,
 ) -> Result<Stop, Cause>
     requires few { most ≤ 2 ^ 48 }
-    ensures all { IfOk result (λ stop. PrintsAll S.Source O.Sink (decode_text Symbols) (decode_last Symbols) most stop source.old source.new out.old out.new) }
-    ensures stopped { IfErr result (λ cause. Prints S.Source O.Sink (decode_text Symbols) (decode_last Symbols) most cause source.old source.new out.old out.new) }
+    ensures all { IfOk result (λ stop. PrintsAll S.Source O.Sink (decode_text Symbols) (decode_last Symbols)
+        most stop source.old source.new out.old out.new) }
+    ensures stopped { IfErr result
+        (λ cause. Prints S.Source O.Sink (decode_text Symbols) (decode_last Symbols) most cause source.old
+        source.new out.old out.new) }
 {
     let ended = put_each_window(alloc, most, source, out)?;
     put_last(alloc, &ended, out)?;
@@ -94,7 +101,8 @@ pub(crate) fn decode_symbols<S: Source, O: Sink>(
     out: &mut O,
 ) -> Cause
     requires few { most ≤ 2 ^ 48 }
-    ensures { Prints S.Source O.Sink (decode_text Symbols) (decode_last Symbols) most result source.old source.new out.old out.new }
+    ensures { Prints S.Source O.Sink (decode_text Symbols) (decode_last Symbols) most result source.old
+        source.new out.old out.new }
 {
     match put_windows(alloc, most, source, out) {
         Ok(stop) => cause_at(stop),

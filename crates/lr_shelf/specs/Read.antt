@@ -27,6 +27,10 @@ module _ {D : Type 0} (disk : DiskOf D) (entry : Entry) (d : D) where
   abbrev pub Finds : Option Found → Type 0
   Finds found = disk.tells d → IsFound (disk.contents d) entry found
 
+  -- a file does
+  abbrev pub FindsFile : Type 0
+  FindsFile = (stored : Stored) × Finds (Some (Sound stored))
+
   -- a record with the right checksum does
   abbrev pub FindsSound : Type 0
   FindsSound = disk.tells d → HasSoundRecord (disk.contents d) entry
@@ -59,6 +63,8 @@ module _ {D : Type 0} (disk : DiskOf D) where
     pub refused : IfErr result (IsCheckRefusal disk (kept_by old) number d)
     pub askable : OnOk result (IsAskable (kept_by old) number)
     pub sound : OnOk result (FindsSound disk (entry_of (kept_by old) number) d)
+    -- `get` would answer this file, if memory is to be had
+    pub file : OnOk result (FindsFile disk (entry_of (kept_by old) number) d)
 
   pub record Gets (number : ℕ) (old new : Shelf) (d d' : D) (result : Result Stored ShelfError) : Type 0 where
     pub reads : ReadsDisk disk d d' result

@@ -1,4 +1,4 @@
-ghost use Rattle.std.specs.Prelude.{◌≡◌, ◌<◌, ◌≤◌, ◌-◌, length, min, take, IfOk};
+ghost use Rattle.std.specs.Prelude.{◌≡◌, ◌<◌, ◌≤◌, ◌-◌, length, min, take, All, IfOk};
 ghost use Rattle.lr_disk.specs.Disk.{bytes_at};
 ghost use Rattle.lr_disk.specs.Reads.{OnlyReads};
 
@@ -19,6 +19,7 @@ pub(crate) fn read_front<D: Disk>(
     ensures count { D.tells disk.old → IfOk result (λ n. n ≡ min size (length (D.contents disk.old) - at)) }
     ensures bytes { D.tells disk.old
         → IfOk result (λ n. take n buffer.new ≡ bytes_at at n (D.contents disk.old)) }
+    ensures fit { All (λ one. one < 256) buffer.new }
 {
     disk.read(at, &mut buffer[..size])
 }

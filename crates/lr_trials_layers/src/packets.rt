@@ -1,5 +1,5 @@
 // `Channels` over a few frames of channel 0.
-use lr_bits::{NoMemory, RawPacket};
+use lr_bits::{NoMemory, RawPacket, ZONE_BYTES};
 use lr_vc::{Channels, TransferFrame};
 use std::alloc::Global;
 use std::test::Fail;

@@ -14,7 +14,9 @@ returns-in_err-put_last-clause-stopped g c =
     let end = all.1 in
     let last = frames_last-units all.0 end.held ended.units ended.left ended.stop end.whole end.short all.2 end.long in
     let p = err_from_is_err_and c.from_residual-in_err-put_last.result c.from_residual-in_err-put_last.ensures.1 in
-    rw (p.1, p.2) (last_stopped g.S.Source g.O.Sink 892 c.args.most (lit< tt) lines_of_frames frames_last end (summary_line (Frames ended.units ended.left) ended.stop) c.args.out.now c.put_each_frame.new.out c.put_last.new.out last all.3 c.in_err-put_last.field-0.0 c.in_err-put_last.ensures.stopped)
+    rw (p.1, p.2) (last_stopped g.S.Source g.O.Sink 892 c.args.most (lit< tt) lines_of_frames frames_last end
+    (summary_line (Frames ended.units ended.left) ended.stop) c.args.out.now c.put_each_frame.new.out
+    c.put_last.new.out last all.3 c.in_err-put_last.field-0.0 c.in_err-put_last.ensures.stopped)
 
 pub returns-clause-all : goal.returns-clause-all
 returns-clause-all g c =
@@ -22,4 +24,5 @@ returns-clause-all g c =
     let all = c.in_ok-ended.ensures.ended in
     let end = all.1 in
     let last = frames_last-units all.0 end.held ended.units ended.left ended.stop end.whole end.short all.2 end.long in
-    all_put g.S.Source g.O.Sink 892 c.args.most (lit< tt) lines_of_frames frames_last end last all.3 c.in_ok-put_last.ensures.put
+    all_put g.S.Source g.O.Sink 892 c.args.most (lit< tt) lines_of_frames frames_last end last all.3
+    c.in_ok-put_last.ensures.put

@@ -12,15 +12,21 @@ returns-clause-put g c =
     λ frames all.
     let ended = c.args.ended.now in
     let line : c.as_slice.result.now ≡ packets_count frames ended.frames ended.left ended.stop =
-    c.as_slice.ensures ∙ c.in_ok-summary_line.ensures.ok ∙ ap (λ l. l ++ summary_line (Packets ended.frames ended.counted.packets ended.counted.good ended.left) ended.stop) c.new-line.ensures
+    c.as_slice.ensures ∙ c.in_ok-summary_line.ensures.ok
+    ∙ ap (λ l. l ++ summary_line (Packets ended.frames ended.counted.packets ended.counted.good ended.left)
+    ended.stop) c.new-line.ensures
     ∙ counted_line ended.counted frames ended.frames ended.left ended.stop all in
-    subst (λ (l : List ℕ). IfOk c.put_text.result (λ _. Puts g.O.Sink l c.args.out.now c.put_text.new.out)) line c.put_text.ensures.put
+    subst (λ (l : List ℕ). IfOk c.put_text.result (λ _. Puts g.O.Sink l c.args.out.now c.put_text.new.out)) line
+    c.put_text.ensures.put
 
 pub returns-clause-stopped : goal.returns-clause-stopped
 returns-clause-stopped g c =
     λ frames all.
     let ended = c.args.ended.now in
     let line : c.as_slice.result.now ≡ packets_count frames ended.frames ended.left ended.stop =
-    c.as_slice.ensures ∙ c.in_ok-summary_line.ensures.ok ∙ ap (λ l. l ++ summary_line (Packets ended.frames ended.counted.packets ended.counted.good ended.left) ended.stop) c.new-line.ensures
+    c.as_slice.ensures ∙ c.in_ok-summary_line.ensures.ok
+    ∙ ap (λ l. l ++ summary_line (Packets ended.frames ended.counted.packets ended.counted.good ended.left)
+    ended.stop) c.new-line.ensures
     ∙ counted_line ended.counted frames ended.frames ended.left ended.stop all in
-    subst (λ (l : List ℕ). IfErr c.put_text.result (λ cause. PutStops g.O.Sink l cause c.args.out.now c.put_text.new.out)) line c.put_text.ensures.stopped
+    subst (λ (l : List ℕ). IfErr c.put_text.result
+    (λ cause. PutStops g.O.Sink l cause c.args.out.now c.put_text.new.out)) line c.put_text.ensures.stopped

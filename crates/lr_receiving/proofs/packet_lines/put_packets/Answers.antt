@@ -10,14 +10,19 @@ returns-in_err-put_last-clause-stopped g c =
     let ended = c.in_ok-ended.ended in
     let all = c.in_ok-ended.ensures.ended in
     let end = all.1 in
-    let last = packets_last-units all.0 end.held ended.frames ended.left ended.stop end.whole end.short all.2 end.long in
+    let last = packets_last-units all.0 end.held ended.frames ended.left ended.stop end.whole end.short all.2
+    end.long in
     let p = err_from_is_err_and c.from_residual-in_err-put_last.result c.from_residual-in_err-put_last.ensures.1 in
-    rw (p.1, p.2) (last_stopped g.S.Source g.O.Sink 892 c.args.most (lit< tt) lines_of_packets packets_last end (packets_count all.0 ended.frames ended.left ended.stop) c.args.out.now c.put_each_packet.new.out c.put_last.new.out last all.4 c.in_err-put_last.field-0.0 (c.in_err-put_last.ensures.stopped all.0 all.3))
+    rw (p.1, p.2) (last_stopped g.S.Source g.O.Sink 892 c.args.most (lit< tt) lines_of_packets packets_last end
+    (packets_count all.0 ended.frames ended.left ended.stop) c.args.out.now c.put_each_packet.new.out
+    c.put_last.new.out last all.4 c.in_err-put_last.field-0.0 (c.in_err-put_last.ensures.stopped all.0 all.3))
 
 pub returns-clause-all : goal.returns-clause-all
 returns-clause-all g c =
     let ended = c.in_ok-ended.ended in
     let all = c.in_ok-ended.ensures.ended in
     let end = all.1 in
-    let last = packets_last-units all.0 end.held ended.frames ended.left ended.stop end.whole end.short all.2 end.long in
-    all_put g.S.Source g.O.Sink 892 c.args.most (lit< tt) lines_of_packets packets_last end last all.4 (c.in_ok-put_last.ensures.put all.0 all.3)
+    let last = packets_last-units all.0 end.held ended.frames ended.left ended.stop end.whole end.short all.2
+    end.long in
+    all_put g.S.Source g.O.Sink 892 c.args.most (lit< tt) lines_of_packets packets_last end last all.4
+    (c.in_ok-put_last.ensures.put all.0 all.3)

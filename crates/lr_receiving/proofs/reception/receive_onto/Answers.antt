@@ -7,17 +7,25 @@ pub returns-in_err-ended-clause-stopped : goal.returns-in_err-ended-clause-stopp
 returns-in_err-ended-clause-stopped g c =
     let p = err_from_is_err_and c.from_residual.result c.from_residual.ensures.1 in
     rw (p.1, p.2)
-    (ended_some g.S.Source g.D.Disk g.O.Sink (input_of c.args.reader.now) c.args.most c.args.shelf.now c.args.source.now c.receive_all.new.source c.args.disk.now c.receive_all.new.disk c.args.out.now c.receive_all.new.out _
+    (ended_some g.S.Source g.D.Disk g.O.Sink (input_of c.args.reader.now) c.args.most c.args.shelf.now
+    c.args.source.now c.receive_all.new.source c.args.disk.now c.receive_all.new.disk c.args.out.now
+    c.receive_all.new.out _
     c.in_err-ended.ensures.kind c.in_err-ended.ensures.some)
 
 pub returns-in_err-put_last-clause-stopped : goal.returns-in_err-put_last-clause-stopped
 returns-in_err-put_last-clause-stopped g c =
     let p = err_from_is_err_and c.from_residual-in_err-put_last.result c.from_residual-in_err-put_last.ensures.1 in
     rw (p.1, p.2)
-    (last_stopped g.S.Source g.D.Disk g.O.Sink (input_of c.args.reader.now) c.args.most c.args.shelf.now c.args.source.now c.receive_all.new.source c.args.disk.now c.receive_all.new.disk c.args.out.now c.receive_all.new.out
-    c.in_ok-ended.ended c.receive_all.new.shelf c.in_ok-ended.ensures.all c.put_last.new.out _ c.in_err-put_last.ensures.stopped)
+    (last_stopped g.S.Source g.D.Disk g.O.Sink (input_of c.args.reader.now) c.args.most c.args.shelf.now
+    c.args.source.now c.receive_all.new.source c.args.disk.now c.receive_all.new.disk c.args.out.now
+    c.receive_all.new.out
+    c.in_ok-ended.ended c.receive_all.new.shelf c.in_ok-ended.ensures.all c.put_last.new.out _
+    c.in_err-put_last.ensures.stopped)
 
 pub returns-clause-done : goal.returns-clause-done
 returns-clause-done g c =
-    all_put g.S.Source g.D.Disk g.O.Sink (input_of c.args.reader.now) c.args.most c.args.shelf.now c.args.source.now c.receive_all.new.source c.args.disk.now c.receive_all.new.disk c.args.out.now c.receive_all.new.out
-    c.in_ok-ended.ended c.receive_all.new.shelf c.in_ok-ended.ensures.all c.put_last.new.out c.in_ok-put_last.ensures.put
+    all_put g.S.Source g.D.Disk g.O.Sink (input_of c.args.reader.now) c.args.most c.args.shelf.now
+    c.args.source.now c.receive_all.new.source c.args.disk.now c.receive_all.new.disk c.args.out.now
+    c.receive_all.new.out
+    c.in_ok-ended.ended c.receive_all.new.shelf c.in_ok-ended.ensures.all c.put_last.new.out
+    c.in_ok-put_last.ensures.put

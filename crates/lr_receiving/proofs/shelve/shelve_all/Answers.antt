@@ -10,14 +10,17 @@ returns-in_err-shelve-clause-stopped g c capacity before done d o so_far =
     let inside : c.loop-placed.placed-index < length c.args.files.now = omega arith in
     let p = err_from_is_err_and c.from_residual.result c.from_residual.ensures.1 in
     rw (p.1, p.2)
-    (one_stopped g.D.Disk g.O.Sink capacity before c.loop-placed.shelf d c.loop-placed.disk o c.loop-placed.out _ c.args.files.now c.loop-placed.placed-index mid
-    c.placed-item.result inside c.placed-item.is _ c.shelve.new.disk c.shelve.new.out (c.in_err-shelve.ensures.stopped capacity before mid.done _ d o mid.so_far))
+    (one_stopped g.D.Disk g.O.Sink capacity before c.loop-placed.shelf d c.loop-placed.disk o c.loop-placed.out
+    _ c.args.files.now c.loop-placed.placed-index mid
+    c.placed-item.result inside c.placed-item.is _ c.shelve.new.disk c.shelve.new.out
+    (c.in_err-shelve.ensures.stopped capacity before mid.done _ d o mid.so_far))
 
 pub returns-in_err-shelve-clause-cause : goal.returns-in_err-shelve-clause-cause
 returns-in_err-shelve-clause-cause g c works =
     let inv = c.loop-placed.invariant in
     let p = err_from_is_err_and c.from_residual.result c.from_residual.ensures.1 in
-    rw (p.1, p.2) (caused_later _ 0 0 _ _ _ _ _ _ inv.disk_count inv.out_count (c.in_err-shelve.ensures.cause (inv.working works)))
+    rw (p.1, p.2) (caused_later _ 0 0 _ _ _ _ _ _ inv.disk_count inv.out_count
+    (c.in_err-shelve.ensures.cause (inv.working works)))
 
 pub loop-placed-preserved : goal.loop-placed-preserved
 loop-placed-preserved g c = record {
@@ -27,8 +30,12 @@ loop-placed-preserved g c = record {
   mid = λ capacity before done d o so_far.
       let mid = c.loop-placed.invariant.mid capacity before done d o so_far in
       let inside : c.loop-placed.placed-index < length c.args.files.now = omega arith in
-      one_more_done g.D.Disk g.O.Sink capacity before c.loop-placed.shelf d c.loop-placed.disk o c.loop-placed.out _ c.args.files.now c.loop-placed.placed-index mid
-      c.placed-item.result inside c.placed-item.is c.shelve.new.shelf c.shelve.new.disk c.shelve.new.out (c.in_ok-shelve.ensures.shelved capacity before mid.done d o mid.so_far);
+      one_more_done g.D.Disk g.O.Sink capacity before c.loop-placed.shelf d c.loop-placed.disk o
+      c.loop-placed.out _ c.args.files.now c.loop-placed.placed-index mid
+      c.placed-item.result inside c.placed-item.is c.shelve.new.shelf c.shelve.new.disk c.shelve.new.out
+      (c.in_ok-shelve.ensures.shelved capacity before mid.done d o mid.so_far);
+  told_by_disk = λ t. c.in_ok-shelve.ensures.told_by_disk (c.loop-placed.invariant.told_by_disk t);
+  told_by_out = λ t. c.in_ok-shelve.ensures.told_by_out (c.loop-placed.invariant.told_by_out t);
   grown =
       let inside : c.loop-placed.placed-index < length c.args.files.now = omega arith in
       grown_more c.args.files.now c.loop-placed.placed-index c.placed-item.result inside c.placed-item.is
@@ -38,7 +45,8 @@ loop-placed-preserved g c = record {
 pub returns-clause-shelved : goal.returns-clause-shelved
 returns-clause-shelved g c capacity before done d o so_far =
     let past : length c.args.files.now ≤ c.loop-placed.placed-index = omega arith in
-    all_done g.D.Disk g.O.Sink capacity before c.loop-placed.shelf d c.loop-placed.disk o c.loop-placed.out _ c.args.files.now c.loop-placed.placed-index
+    all_done g.D.Disk g.O.Sink capacity before c.loop-placed.shelf d c.loop-placed.disk o c.loop-placed.out _
+    c.args.files.now c.loop-placed.placed-index
     (c.loop-placed.invariant.mid capacity before done d o so_far) past
 
 pub returns-in_err-shelve-clause-grown_no_more : goal.returns-in_err-shelve-clause-grown_no_more

@@ -13,6 +13,9 @@ invariant-loop-placed g l =
       out_count : g.O.Sink.faults l.out ≡ g.O.Sink.faults l.fn.out;
       mid : (capacity : ℕ) (before : List Item) (done : List Placed) (d : _) (o : _)
           → ShelvesSoFar g.D.Disk g.O.Sink capacity before done l.fn.shelf d l.fn.disk o l.fn.out
-          → Midway g.D.Disk g.O.Sink capacity before (done ++ l.files) (drop l.placed-index l.files) l.shelf d l.disk o l.out;
+          → Midway g.D.Disk g.O.Sink capacity before (done ++ l.files) (drop l.placed-index l.files) l.shelf d
+          l.disk o l.out;
+      told_by_disk : g.D.Disk.tells l.fn.disk → g.D.Disk.tells l.disk;
+      told_by_out : g.O.Sink.tells l.fn.out → g.O.Sink.tells l.out;
       grown : Grows (take l.placed-index l.files) l.fn.shelf l.shelf l.fn.disk l.disk l.fn.out l.out;
     }

@@ -26,11 +26,13 @@ frames-preserved c =
       stands = c.next_symbols.ensures.moves start wrong c.frames.made so.stands;
       bytes =
           c.in_ok-extend_from_slice.ensures.items ∙ ap (λ l. l ++ c.put_bytes.new.bytes) so.bytes
-          ∙ ap (λ l. bytes_of_symbols (symbol_stream start wrong c.frames.made) ++ l) (c.put_bytes.ensures ∙ ap bytes_of_symbols (c.next_symbols.ensures.symbols start wrong c.frames.made so.stands))
+          ∙ ap (λ l. bytes_of_symbols (symbol_stream start wrong c.frames.made) ++ l) (c.put_bytes.ensures
+          ∙ ap bytes_of_symbols (c.next_symbols.ensures.symbols start wrong c.frames.made so.stands))
           ∙ sym (symbols_more start wrong c.frames.made);
       received = λ k below.
           ⊎_elim (λ before. so.received k before)
-          (λ last. subst (λ (j : ℕ). IsReceivedAs wrong (frame_at start j) (block_at start wrong j)) (omega (arith, below, last)) (c.next_symbols.ensures.received start wrong c.frames.made so.stands))
+          (λ last. subst (λ (j : ℕ). IsReceivedAs wrong (frame_at start j) (block_at start wrong j))
+          (omega (arith, below, last)) (c.next_symbols.ensures.received start wrong c.frames.made so.stands))
           (cases_lt k c.frames.made);
       few = omega (arith, c.frames-test.true);
     }

@@ -21,5 +21,7 @@ shelve_stream-requires-clause-fit g c =
 pub returns-clause-run : goal.returns-clause-run
 returns-clause-run g c =
     rw (sym c.in-Ok.ensures.bytes)
-    (last_stops g.D.Disk g.O.Sink c.in-Ok.symbols.items c.args.disk.now c.shelve_stream.new.disk c.args.out.now c.put_last.new.out c.in-Ok-shelve_stream.ensures.done
-    c.in-Ok-shelve_stream.ended c.in-Ok-shelve_stream.ensures.line c.in-Err-put_last.cause c.in-Err-put_last.ensures.stopped)
+    (last_stops g.D.Disk g.O.Sink c.in-Ok.symbols.items c.args.disk.now c.shelve_stream.new.disk c.args.out.now
+    c.put_last.new.out c.in-Ok-shelve_stream.ensures.done
+    c.in-Ok-shelve_stream.ended c.in-Ok-shelve_stream.ensures.line c.in-Err-put_last.cause
+    c.in-Err-put_last.ensures.stopped)

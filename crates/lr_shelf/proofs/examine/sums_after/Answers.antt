@@ -1,5 +1,6 @@
 use Rattle.std.proofs.Common.{rules, ◌≡◌, ◌+◌, ◌-◌, ◌≤◌, Some, List, ℕ, length, sym, ◌∙◌, subst, arith}
 use Rattle.lr_shelf.specs.Pieces.{AddUpTo, IsChecksumAt, IsNumberAt, IsTotalAt}
+use Rattle.lr_shelf.proofs.Bytes.{fit_item}
 use Rattle.lr_shelf.proofs.Records.{adds_from, computed_is, has_body, stored_is}
 use Rattle.lr_shelf.proofs.examine.sums_after.Goals as goal
 
@@ -60,5 +61,6 @@ returns-clause-found g c told =
       record {
         stored = stored_is b entry inside (omega (arith, c.requires.extent)) c.in-Some-3.stored stored;
         computed = computed_is b entry inside c.in-Some-2.computed computed;
+        fit = fit_item b entry size (omega (arith, c.requires.extent)) computed.2 stored.2;
       },
     )

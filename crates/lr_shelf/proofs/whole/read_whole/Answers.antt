@@ -23,4 +23,4 @@ pub returns-clause-whole : goal.returns-clause-whole
 returns-clause-whole g c told =
     let read = c.in_ok-read.ensures in
     read_there (g.D.Disk.contents c.args.disk.now) c.args.entry c.read_front.new.buffer c.in_ok-read.read
-    (read.count told) (read.bytes told) c.if-read-size.false c.if-buffer-ne-OPEN.false
+    (read.count told) (read.bytes told) read.fit c.if-read-size.false c.if-buffer-ne-OPEN.false

@@ -7,7 +7,8 @@ abbrev pub invariant-steps : goal.invariant-steps
 invariant-steps g l =
     let source = g.S.Source in
     record {
-      decodes : (bytes : List ℕ) (given : List Frame) (s : _) → DecodesSoFar source bytes given l.fn.self s l.fn.source → DecodesOn source bytes given l.self s l.source;
+      decodes : (bytes : List ℕ) (given : List Frame) (s : _)
+          → DecodesSoFar source bytes given l.fn.self s l.fn.source → DecodesOn source bytes given l.self s l.source;
       standing : IsStanding l.self.lock;
       most : l.self.most ≡ l.fn.self.most;
       fewer : symbols_left l.self ≤ symbols_left l.fn.self;

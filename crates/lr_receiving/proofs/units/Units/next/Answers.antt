@@ -4,7 +4,8 @@ use Rattle.lr_receiving.proofs.units.Units.next.Goals as goal
 
 pub loop-self-init : goal.loop-self-init
 loop-self-init g c = record {
-  gathered = nothing_taken g.S.Source c.args.source.now c.args.source.now c.args.self.now (search rules) (λ t. t) (λ t. refl);
+  gathered = nothing_taken g.S.Source c.args.source.now c.args.source.now c.args.self.now (search rules)
+      (λ t. t) (λ t. refl);
   kept = refl;
   short = search rules;
 }

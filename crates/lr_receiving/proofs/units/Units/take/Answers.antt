@@ -9,4 +9,6 @@ returns-clause-gathered g c =
     let filled : inside.filled ≤ length inside.buffer = search rules in
     let enough : c.in_ok-count.count ≤ length c.take.new.into = search rules in
     let few : inside.taken + c.in_ok-count.count ≤ inside.most = search rules in
-    piece_taken g.S.Source c.args.source.now c.take.new.self c.args.self.now inside.buffer c.take.new.into inside.filled room c.in_ok-count.count inside.taken inside.most filled enough few c.in_ok-count.ensures.told c.in_ok-count.ensures.moved c.self.view_is
+    piece_taken g.S.Source c.args.source.now c.take.new.self c.args.self.now inside.buffer c.take.new.into
+    inside.filled room c.in_ok-count.count inside.taken inside.most filled enough few
+    c.in_ok-count.ensures.told c.in_ok-count.ensures.moved c.self.view_is

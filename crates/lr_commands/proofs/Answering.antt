@@ -1,0 +1,245 @@
+-- Bytes have one answer; the texts that are begun are a front of it; and what was read on the way to it.
+use Rattle.std.proofs.Common.{
+  ◌≡◌,
+  inl,
+  inr,
+  ℕ,
+  zero,
+  suc,
+  ◌+◌,
+  ◌-◌,
+  ◌<◌,
+  ◌≤◌,
+  Option,
+  Some,
+  None,
+  Result,
+  Ok,
+  Err,
+  List,
+  [],
+  ◌∷◌,
+  ◌++◌,
+  length,
+  refl,
+  arith,
+  ap,
+  ◌∙◌,
+  sym,
+  subst,
+  append-nil,
+  append_assoc,
+}
+use Rattle.lr_shelf_format.specs.Way.{Way, Found, IsFound}
+use Rattle.lr_shelf_format.proofs.WayLemmas.{found_once, has_one_way}
+use Rattle.lr_commands.specs.declared.cause.Refusal.{Refusal}
+use Rattle.lr_commands.specs.declared.cause.Refusal.TheVariants.{NotAShelf}
+use Rattle.lr_commands.specs.declared.range.Range.{Range}
+use Rattle.lr_commands.specs.Asked.{
+  Asked,
+  Answer,
+  entry_at,
+  fate_of,
+  ended,
+  then_rest,
+  AnswersFrom,
+  AnswersIn,
+  AnswersOn,
+  BegunOn,
+  IsAnswer,
+  IsBegun,
+  without_last,
+}
+
+-- a text was given or refused, not both
+pub ok_is : {A B : Type 0} (r : Result A B) (a a' : A) → r ≡ Ok a → r ≡ Ok a' → a ≡ a'
+ok_is r a a' is is' = cc (is, is')
+
+pub err_is : {A B : Type 0} (r : Result A B) (e e' : B) → r ≡ Err e → r ≡ Err e' → e ≡ e'
+err_is r e e' is is' = cc (is, is')
+
+pub ok_or_err : {A B : Type 0} (r : Result A B) (a : A) (e : B) → r ≡ Ok a → r ≡ Err e → ⊥
+ok_or_err r a e is is' = cc (is, is')
+
+pub some_is : {A : Type 0} (a a' : A) → Some a ≡ Some a' → a ≡ a'
+some_is a a' is = cc (is)
+
+pub some_or_none : {A : Type 0} (o : Option A) (a : A) → o ≡ Some a → o ≡ None → ⊥
+some_or_none o a is is' = cc (is, is')
+
+-- ---- one answer
+
+module _ (asked : Asked) (bytes : List ℕ) (way : Way) where
+  -- what becomes of what stands there
+  pub fates : (read : List Found) (number : ℕ) (one other : Option Found) → IsFound bytes (entry_at way number) one
+      → IsFound bytes (entry_at way number) other
+      → fate_of asked way read number one ≡ fate_of asked way read number other
+  fates read number one other is is' =
+      ap (fate_of asked way read number) (found_once bytes (entry_at way number) one other is is')
+
+  pub from_is : (left number : ℕ) (read : List Found) (one other : Answer)
+      → AnswersFrom asked bytes way left number read one → AnswersFrom asked bytes way left number read other
+      → one ≡ other
+  from_is zero number read one other is is' = is ∙ sym is'
+  from_is (suc left) number read one other (inl a) (inl b) =
+      let same = some_is a.found b.found
+      (found_once bytes (entry_at way number) (Some a.found) (Some b.found) a.stands b.stands) in
+      let text = ok_is (asked.becomes read number b.found) a.text b.text
+      (ap (asked.becomes read number) (sym same) ∙ a.fate) b.fate in
+      let rest = from_is left (number + 1) (read ++ b.found ∷ []) a.rest b.rest
+      (subst (λ (f : Found). AnswersFrom asked bytes way left (number + 1) (read ++ f ∷ []) a.rest) same a.after)
+      b.after in
+      a.is ∙ ap (λ (t : List ℕ). then_rest t a.rest) text ∙ ap (then_rest b.text) rest ∙ sym b.is
+  from_is (suc left) number read one other (inl a) (inr b) =
+      absurd (ok_or_err (fate_of asked way read number b.found) a.text b.refusal
+      (fates read number b.found (Some a.found) b.stands a.stands ∙ a.fate) b.fate)
+  from_is (suc left) number read one other (inr a) (inl b) =
+      absurd (ok_or_err (fate_of asked way read number a.found) b.text a.refusal
+      (fates read number a.found (Some b.found) a.stands b.stands ∙ b.fate) a.fate)
+  from_is (suc left) number read one other (inr a) (inr b) =
+      let refusal = err_is (fate_of asked way read number b.found) a.refusal b.refusal
+      (fates read number b.found a.found b.stands a.stands ∙ a.fate) b.fate in
+      a.is ∙ ap (λ (r : Refusal). ended (Err r)) refusal ∙ sym b.is
+
+  in_is : (range : Option Range) (one other : Answer) → AnswersIn asked bytes way range one
+      → AnswersIn asked bytes way range other → one ≡ other
+  in_is None one other is is' = is ∙ sym is'
+  in_is (Some range) one other is is' = from_is (range.to - range.from) range.from [] one other is is'
+
+-- bytes have one answer
+pub answer_is : (asked : Asked) (bytes : List ℕ) (one other : Answer) → IsAnswer asked bytes one
+    → IsAnswer asked bytes other → one ≡ other
+answer_is asked bytes one other (inl a) (inl b) =
+    a.2 ∙ ap (λ (n : ℕ). ended (Err (NotAShelf n))) ((has_one_way bytes).place a.0 b.0 a.1 b.1) ∙ sym b.2
+answer_is asked bytes one other (inl a) (inr b) = absurd ((has_one_way bytes).none b.0 a.0 b.1 a.1)
+answer_is asked bytes one other (inr a) (inl b) = absurd ((has_one_way bytes).none a.0 b.0 a.1 b.1)
+answer_is asked bytes one other (inr a) (inr b) =
+    in_is asked bytes b.0 (asked.range (length b.0.entries)) one other
+    (subst (λ (w : Way). AnswersOn asked bytes w one) ((has_one_way bytes).way a.0 b.0 a.1 b.1) a.2) b.2
+
+-- ---- the texts that are begun
+
+-- these bytes begin with those
+abbrev pub StartsWith : List ℕ → List ℕ → Type 0
+StartsWith text whole = (rest : List ℕ) × (whole ≡ text ++ rest)
+
+module _ (asked : Asked) (bytes : List ℕ) (way : Way) where
+  front_from : (passed left number : ℕ) (read : List Found) (begun answer : Answer) → passed ≤ left
+      → begun.refusal ≡ None → AnswersFrom (without_last asked) bytes way passed number read begun
+      → AnswersFrom asked bytes way left number read answer → StartsWith begun.text answer.text
+  front_from zero left number read begun answer few none is is' =
+      (answer.text, ap (λ (a : Answer). a.text ++ answer.text) (sym is))
+  front_from (suc passed) zero number read begun answer few none is is' = absurd (omega (arith, few))
+  front_from (suc passed) (suc left) number read begun answer few none (inl a) (inl b) =
+      let same = some_is a.found b.found
+      (found_once bytes (entry_at way number) (Some a.found) (Some b.found) a.stands b.stands) in
+      let text = ok_is (asked.becomes read number b.found) a.text b.text
+      (ap (asked.becomes read number) (sym same) ∙ a.fate) b.fate in
+      let more = front_from passed left (number + 1) (read ++ b.found ∷ []) a.rest b.rest (omega (arith, few))
+      (ap (λ (x : Answer). x.refusal) (sym a.is) ∙ none)
+      (subst (λ (f : Found). AnswersFrom (without_last asked) bytes way passed (number + 1) (read ++ f ∷ []) a.rest)
+      same a.after) b.after in (
+        more.0,
+        ap (λ (x : Answer). x.text) b.is ∙ ap (λ (l : List ℕ). b.text ++ l) more.1
+            ∙ sym (append_assoc b.text a.rest.text more.0)
+            ∙ ap (λ (l : List ℕ). (l ++ a.rest.text) ++ more.0) (sym text)
+            ∙ ap (λ (x : Answer). x.text ++ more.0) (sym a.is),
+      )
+  front_from (suc passed) (suc left) number read begun answer few none (inl a) (inr b) =
+      absurd (ok_or_err (fate_of asked way read number b.found) a.text b.refusal
+      (fates asked bytes way read number b.found (Some a.found) b.stands a.stands ∙ a.fate) b.fate)
+  front_from (suc passed) (suc left) number read begun answer few none (inr a) is' =
+      absurd (some_or_none begun.refusal a.refusal (ap (λ (x : Answer). x.refusal) a.is) none)
+
+  front_on : (passed left : ℕ) (text : List ℕ) (answer : Answer) → BegunOn asked bytes way passed left text
+      → AnswersOn asked bytes way answer → StartsWith text answer.text
+  front_on passed left text answer begun is =
+      front_from passed (begun.range.to - begun.range.from) begun.range.from []
+      (record { text = text; refusal = None }) answer (omega (arith, begun.inside)) refl begun.texts
+      (subst (λ (r : Option Range). AnswersIn asked bytes way r answer) begun.allowed is)
+
+-- what is begun is a front of the answer
+pub begun_front : (asked : Asked) (bytes : List ℕ) (passed left : ℕ) (text : List ℕ) (answer : Answer)
+    → IsBegun asked bytes passed left text → IsAnswer asked bytes answer → StartsWith text answer.text
+begun_front asked bytes passed left text answer (inl nothing) is =
+    (answer.text, ap (λ (l : List ℕ). l ++ answer.text) (sym nothing.1))
+begun_front asked bytes passed left text answer (inr begun) (inl none) =
+    absurd ((has_one_way bytes).none begun.0 none.0 begun.1 none.1)
+begun_front asked bytes passed left text answer (inr begun) (inr some) =
+    front_on asked bytes some.0 passed left text answer
+    (subst (λ (w : Way). BegunOn asked bytes w passed left text)
+    ((has_one_way bytes).way begun.0 some.0 begun.1 some.1) begun.2)
+    some.2
+
+-- ---- what was read
+
+module _ (asked : Asked) (bytes : List ℕ) (way : Way) (from : ℕ) where
+  -- The entries before this number were read, and their texts are this text: wherever the range ends after them, and
+  -- whatever comes last.
+  pub record Reaches (number : ℕ) (read : List Found) (text : List ℕ) : Type 0 where
+    pub on : (last : Way → List Found → Result (List ℕ) Refusal) (to : ℕ) → number ≤ to → (rest : Answer)
+        → AnswersFrom (record asked { last = last }) bytes way (to - number) number read rest
+        → AnswersFrom (record asked { last = last }) bytes way (to - from) from [] (then_rest text rest)
+
+  pub reaches_first : Reaches from [] []
+  reaches_first = record { on = λ last to inside rest is. is }
+
+  module _ (number : ℕ) (read : List Found) (text : List ℕ) (reaches : Reaches number read text) where
+    together : (one : List ℕ) (rest : Answer)
+        → then_rest text (then_rest one rest) ≡ then_rest (text ++ one) rest
+    together one rest =
+        ap (λ (t : List ℕ). record { text = t; refusal = rest.refusal }) (sym (append_assoc text one rest.text))
+
+    -- one entry more
+    pub reaches_more : (found : Found) → IsFound bytes (entry_at way number) (Some found) → (one : List ℕ)
+        → asked.becomes read number found ≡ Ok one → Reaches (number + 1) (read ++ found ∷ []) (text ++ one)
+    reaches_more found stands one fate = record {
+      on = λ last to inside rest is.
+          let left : to - number ≡ suc (to - (number + 1)) = omega (arith, inside) in
+          subst (AnswersFrom (record asked { last = last }) bytes way (to - from) from []) (together one rest)
+          (reaches.on last to (omega (arith, inside)) (then_rest one rest)
+          (subst (λ n. AnswersFrom (record asked { last = last }) bytes way n number read (then_rest one rest))
+          (sym left)
+          (inl (record {
+            found = found;
+            text = one;
+            rest = rest;
+            stands = stands;
+            fate = fate;
+            after = is;
+            is = refl;
+          }))));
+    }
+
+    -- the run is refused here
+    pub refused_here : (to : ℕ) → number < to → (found : Option Found) (refusal : Refusal)
+        → IsFound bytes (entry_at way number) found → fate_of asked way read number found ≡ Err refusal
+        → AnswersFrom asked bytes way (to - from) from [] (record { text = text; refusal = Some refusal })
+    refused_here to more found refusal stands fate =
+        let left : to - number ≡ suc (to - (number + 1)) = omega (arith, more) in
+        subst
+        (λ (t : List ℕ). AnswersFrom asked bytes way (to - from) from []
+        (record { text = t; refusal = Some refusal })) (append-nil text)
+        (reaches.on asked.last to (omega (arith, more)) (ended (Err refusal))
+        (subst (λ n. AnswersFrom asked bytes way n number read (ended (Err refusal))) (sym left)
+        (inr (record { found = found; refusal = refusal; stands = stands; fate = fate; is = refl }))))
+
+    -- the texts before this number
+    pub begun_before : AnswersFrom (without_last asked) bytes way (number - from) from []
+        (record { text = text; refusal = None })
+    begun_before =
+        let none : number - number ≡ 0 = omega arith in
+        subst
+        (λ (t : List ℕ). AnswersFrom (without_last asked) bytes way (number - from) from []
+        (record { text = t; refusal = None })) (append-nil text)
+        (reaches.on (λ w r. Ok []) number (omega arith) (ended (Ok []))
+        (subst (λ n. AnswersFrom (without_last asked) bytes way n number read (ended (Ok []))) (sym none) refl))
+
+    -- all were read
+    pub ends_here : (to : ℕ) → number ≤ to → to ≤ number → (last : Result (List ℕ) Refusal)
+        → asked.last way read ≡ last
+        → AnswersFrom asked bytes way (to - from) from [] (then_rest text (ended last))
+    ends_here to inside all last is =
+        let none : to - number ≡ 0 = omega (arith, all) in
+        reaches.on asked.last to (omega (arith, inside)) (ended last)
+        (subst (λ n. AnswersFrom asked bytes way n number read (ended last)) (sym none) (ap ended (sym is)))

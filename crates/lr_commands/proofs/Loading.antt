@@ -1,0 +1,281 @@
+-- What a run does, by what loading the shelf answered.
+use Rattle.std.proofs.Common.{
+  ◌≡◌,
+  ◌⊎◌,
+  ◌+◌,
+  ◌<◌,
+  inl,
+  inr,
+  ℕ,
+  Some,
+  None,
+  Result,
+  Ok,
+  Err,
+  IfOk,
+  List,
+  [],
+  ◌++◌,
+  length,
+  refl,
+  arith,
+  ap,
+  ◌∙◌,
+  sym,
+  subst,
+  append-nil,
+  length-append,
+}
+use Rattle.lr_io.specs.declared.sink.Sink.{Ghosts as SinkOf}
+use Rattle.lr_disk.specs.declared.disk.Disk.{Ghosts as DiskOf}
+use Rattle.lr_disk.proofs.Moments.{unwritten_joined, unwritten_yet}
+use Rattle.lr_shelf_format.specs.Way.{Way, IsWay}
+use Rattle.lr_shelf.specs.Calls.{IsCounted}
+use Rattle.lr_shelf.specs.Kept.{kept_by}
+use Rattle.lr_shelf.specs.Load.{Loads, IsLoadRefusal}
+use Rattle.lr_shelf.specs.Shelf.{KeepsWay}
+use Rattle.lr_shelf.specs.declared.shelf.Shelf.{Shelf}
+use Rattle.lr_shelf.specs.declared.error.ShelfError.{ShelfError}
+use Rattle.lr_shelf.specs.declared.error.ShelfError.TheVariants.{
+  Disk as Disk',
+  NotAShelf as NotAShelf',
+  NotEmpty as NotEmpty',
+  Capacity as Capacity',
+  NoSuchFile as NoSuchFile',
+  Crc as Crc',
+  NoMemory as NoMemory',
+  Failed as Failed',
+  Discarded as Discarded',
+}
+use Rattle.lr_commands.specs.declared.cause.Party.TheVariants.{Source, Disk, Output}
+use Rattle.lr_commands.specs.declared.cause.Cause.{Cause}
+use Rattle.lr_commands.specs.declared.cause.Cause.TheVariants.{Done, Usage, Failed, NoMemory, Refused}
+use Rattle.lr_commands.specs.Asked.{Asked, Answer, AnswersOn, BegunBy, IsAnswer, IsBegun}
+use Rattle.lr_commands.specs.Causes.{Counts, cause_of}
+use Rattle.lr_commands.specs.Runs.{
+  Counted,
+  PutsFirst,
+  Got,
+  Precedes,
+  Runs,
+  RunsOn,
+  RunsOver,
+  at_place,
+  cause_for,
+  counts_of,
+}
+use Rattle.lr_commands.proofs.Answering.{answer_is, begun_front}
+use Rattle.lr_commands.proofs.Texts.{same_counts}
+
+-- a text that goes on after some byte isn't empty
+some_after : (text one rest whole : List ℕ) → whole ≡ (text ++ one) ++ rest → 0 < length one → 0 < length whole
+some_after text one rest whole same some =
+    omega (arith, some, ap length same, length-append (text ++ one) rest, length-append text one)
+
+module _ {D O : Type 0} (disk : DiskOf D) (out : SinkOf O) (asked : Asked) where
+  -- what the bytes answer comes, unless an event came before it
+  ends : (bytes : List ℕ) (o o' : O) (cause : Cause)
+      → Got disk out (IsAnswer asked bytes) (IsBegun asked bytes) cause o o' → (answer : Answer)
+      → IsAnswer asked bytes answer → (cause ≡ cause_for answer.refusal) ⊎ Precedes cause answer
+  ends bytes o o' Done got answer is =
+      inl (ap (λ (a : Answer). cause_for a.refusal)
+      (answer_is asked bytes (record { text = got.text; refusal = None }) answer got.is is))
+  ends bytes o o' Usage got answer is = absurd got
+  ends bytes o o' (Failed Source) got answer is = absurd got
+  ends bytes o o' (Failed Disk) got answer is = inr tt
+  ends bytes o o' (Failed Output) got answer is = inr (cut got.next) where
+    cut : IsBegun asked bytes (got.passed + 1) 0 (got.text ++ got.one)
+        ⊎ IsAnswer asked bytes (record { text = got.text ++ got.one; refusal = None }) → 0 < length answer.text
+    cut (inl begun) =
+        let front = begun_front asked bytes (got.passed + 1) 0 (got.text ++ got.one) answer begun is in
+        some_after got.text got.one front.0 answer.text front.1 got.some
+    cut (inr whole) =
+        some_after got.text got.one [] answer.text
+        (ap (λ (a : Answer). a.text)
+        (answer_is asked bytes answer (record { text = got.text ++ got.one; refusal = None }) is whole)
+        ∙ sym (append-nil (got.text ++ got.one))) got.some
+  ends bytes o o' NoMemory got answer is = inr tt
+  ends bytes o o' (Refused refusal) got answer is =
+      inl (ap (λ (a : Answer). cause_for a.refusal)
+      (answer_is asked bytes (record { text = got.first.text; refusal = Some refusal }) answer got.is is))
+
+  pub over : (d d' : D) (o o' : O) (cause : Cause)
+      → Runs disk out asked (IsAnswer asked) (IsBegun asked) cause d d' o o'
+      → RunsOver disk out asked cause d d' o o'
+  over d d' o o' cause runs =
+      record { runs = runs; ends = λ answer t. ends (disk.contents d) o o' cause (runs.got t) answer }
+
+  -- nothing was put
+  nothing : (bytes : List ℕ) (o : O) → PutsFirst disk out (IsAnswer asked bytes) (IsBegun asked bytes) 1 o o
+  nothing bytes o = record {
+    passed = 0;
+    text = [];
+    begun = inl (refl, refl);
+    put = λ told_out. sym (append-nil (out.contents o));
+    untouched = λ none. refl;
+  }
+
+  nothing_yet : (bytes : List ℕ) (o : O) → PutsFirst disk out (IsAnswer asked bytes) (IsBegun asked bytes) 0 o o
+  nothing_yet bytes o = record {
+    passed = 0;
+    text = [];
+    begun = inl (refl, refl);
+    put = λ told_out. sym (append-nil (out.contents o));
+    untouched = λ none. refl;
+  }
+
+  -- memory was refused before the shelf was loaded
+  pub not_started :
+      ((x : D) (c : List ℕ) → disk.tells x → disk.left_since x (disk.moment x) c → disk.may_leave x c)
+      → (d : D) (o : O) → Runs disk out asked (IsAnswer asked) (IsBegun asked) NoMemory d d o o
+  not_started only_now d o = record {
+    may = tt;
+    counted = refl;
+    told = λ t. t;
+    told_by_out = λ t. t;
+    reads = unwritten_yet disk only_now d;
+    got = λ t. nothing_yet (disk.contents d) o;
+    untouched = λ one cuts. refl;
+  }
+
+  module _ (d d1 : D) (o : O) (result : Result Shelf ShelfError) (loads : Loads disk d d1 result) where
+    counted_load : (error : ShelfError) → result ≡ Err error
+        → IsCounted {A = Shelf} (disk.faults d) (disk.faults d1) (Err error)
+    counted_load error is =
+        subst (λ (r : Result Shelf ShelfError). IsCounted (disk.faults d) (disk.faults d1) r) is loads.calls.counted
+
+    -- no shelf was loaded
+    pub not_loaded : (error : ShelfError) → result ≡ Err error → IsLoadRefusal disk d error
+        → Runs disk out asked (IsAnswer asked) (IsBegun asked) (cause_of error) d d1 o o
+    not_loaded Disk' is refusal = record {
+      may = tt;
+      counted = ((counted_load Disk' is).1, refl, refl);
+      told = loads.calls.told;
+      told_by_out = λ t. t;
+      reads = loads.unwritten;
+      got = λ t. nothing (disk.contents d) o;
+      untouched = λ one cuts. refl;
+    }
+    not_loaded (NotAShelf' at) is refusal = record {
+      may = at_place at refl;
+      counted = same_counts disk out d d1 o o (counted_load (NotAShelf' at) is) refl;
+      told = loads.calls.told;
+      told_by_out = λ t. t;
+      reads = loads.unwritten;
+      got = λ t. record {
+        first = record {
+          passed = 0;
+          text = [];
+          begun = inl (refl, refl);
+          put = λ told_out. sym (append-nil (out.contents o));
+          untouched = λ none. refl;
+        };
+        is = inl (at, refusal t, refl);
+      };
+      untouched = λ one cuts. refl;
+    }
+    not_loaded (NotEmpty' size) is refusal = absurd refusal
+    not_loaded (Capacity' needed most) is refusal = absurd refusal
+    not_loaded (NoSuchFile' count) is refusal = absurd refusal
+    not_loaded (Crc' stored computed) is refusal = absurd refusal
+    not_loaded NoMemory' is refusal = record {
+      may = tt;
+      counted = same_counts disk out d d1 o o (counted_load NoMemory' is) refl;
+      told = loads.calls.told;
+      told_by_out = λ t. t;
+      reads = loads.unwritten;
+      got = λ t. nothing_yet (disk.contents d) o;
+      untouched = λ one cuts. refl;
+    }
+    not_loaded Failed' is refusal = absurd refusal
+    not_loaded Discarded' is refusal = absurd refusal
+
+    module _ (shelf : Shelf) (is : result ≡ Ok shelf) where
+      pub way_there : disk.tells d → IsWay (disk.contents d) (kept_by shelf).way
+      way_there told =
+          subst (λ (l : List ℕ). IsWay l (kept_by shelf).way) (loads.unwritten told).contents
+          (subst (λ (r : Result Shelf ShelfError). IfOk r (KeepsWay (disk.contents d1))) is (loads.way told))
+
+      pub counted_ok : disk.faults d1 ≡ disk.faults d
+      counted_ok =
+          subst (λ (r : Result Shelf ShelfError). IsCounted (disk.faults d) (disk.faults d1) r) is
+          loads.calls.counted
+
+      module _ (t : disk.tells d) where
+        abbrev way : Way
+        way = (kept_by shelf).way
+
+        abbrev bytes : List ℕ
+        bytes = disk.contents d
+
+        onto : (answer : Answer) → AnswersOn asked bytes way answer → IsAnswer asked bytes answer
+        onto answer one = inr (way, way_there t, one)
+
+        first : (passed left : ℕ) (text : List ℕ) → BegunBy asked bytes way passed left text
+            → IsBegun asked bytes passed left text
+        first passed left text (inl none) = inl none
+        first passed left text (inr begun) = inr (way, way_there t, begun)
+
+        first_all : (left : ℕ) (o' : O)
+            → PutsFirst disk out (AnswersOn asked bytes way) (BegunBy asked bytes way) left o o'
+            → PutsFirst disk out (IsAnswer asked bytes) (IsBegun asked bytes) left o o'
+        first_all left o' got = record {
+          passed = got.passed;
+          text = got.text;
+          begun = first got.passed left got.text got.begun;
+          put = got.put;
+          untouched = got.untouched;
+        }
+
+        next_all : (passed : ℕ) (text : List ℕ)
+            → BegunBy asked bytes way passed 0 text
+            ⊎ AnswersOn asked bytes way (record { text = text; refusal = None })
+            → IsBegun asked bytes passed 0 text ⊎ IsAnswer asked bytes (record { text = text; refusal = None })
+        next_all passed text (inl begun) = inl (first passed 0 text begun)
+        next_all passed text (inr one) = inr (onto (record { text = text; refusal = None }) one)
+
+        got_all : (cause : Cause) (o' : O)
+            → Got disk out (AnswersOn asked bytes way) (BegunBy asked bytes way) cause o o'
+            → Got disk out (IsAnswer asked bytes) (IsBegun asked bytes) cause o o'
+        unfolding first_all
+        got_all Done o' got = record {
+          text = got.text;
+          is = onto (record { text = got.text; refusal = None }) got.is;
+          put = got.put;
+        }
+        got_all Usage o' got = absurd got
+        got_all (Failed Source) o' got = absurd got
+        got_all (Failed Disk) o' got = first_all 1 o' got
+        got_all (Failed Output) o' got = record {
+          passed = got.passed;
+          text = got.text;
+          one = got.one;
+          begun = first got.passed 0 got.text got.begun;
+          next = next_all (got.passed + 1) (got.text ++ got.one) got.next;
+          some = got.some;
+          part = got.part;
+        }
+        got_all NoMemory o' got = first_all 0 o' got
+        got_all (Refused refusal) o' got = record {
+          first = first_all 0 o' got.first;
+          is = onto (record { text = got.first.text; refusal = Some refusal }) got.is;
+        }
+
+      -- a shelf was loaded, and its entries were run over
+      pub loaded : (d2 : D) (o' : O) (cause : Cause)
+          → RunsOn disk out asked (kept_by shelf).way cause d1 d2 o o'
+          → Runs disk out asked (IsAnswer asked) (IsBegun asked) cause d d2 o o'
+      loaded d2 o' cause runs = record {
+        may = runs.may;
+        counted = subst (λ (c : Counts). Counted cause c (counts_of disk out d2 o'))
+            (same_counts disk out d d1 o o counted_ok refl) runs.counted;
+        told = λ t. runs.told (loads.calls.told t);
+        told_by_out = runs.told_by_out;
+        reads = λ t. unwritten_joined disk d d1 d2 (loads.unwritten t) (runs.reads (loads.calls.told t));
+        got = λ t.
+            got_all t cause o'
+            (subst
+            (λ (b : List ℕ). Got disk out (AnswersOn asked b (kept_by shelf).way) (BegunBy asked b (kept_by shelf).way)
+            cause o o') (loads.unwritten t).contents (runs.got (loads.calls.told t)));
+        untouched = runs.untouched;
+      }

@@ -1,0 +1,348 @@
+-- How a run over the entries of a loaded shelf goes on, and how it ends.
+use Rattle.std.proofs.Common.{
+  ◌≡◌,
+  inl,
+  inr,
+  ℕ,
+  ◌+◌,
+  ◌-◌,
+  ◌<◌,
+  ◌≤◌,
+  Option,
+  Some,
+  None,
+  Result,
+  Ok,
+  Err,
+  List,
+  [],
+  ◌∷◌,
+  ◌++◌,
+  length,
+  refl,
+  arith,
+  ap,
+  ◌∙◌,
+  sym,
+  subst,
+  append-nil,
+  append_assoc,
+}
+use Rattle.lr_io.specs.declared.sink.Sink.{Ghosts as SinkOf}
+use Rattle.lr_io.specs.Pieces.{PutsPart}
+use Rattle.lr_disk.specs.Reads.{IsUnwritten}
+use Rattle.lr_disk.specs.declared.disk.Disk.{Ghosts as DiskOf}
+use Rattle.lr_disk.proofs.Moments.{unwritten_joined, unwritten_yet}
+use Rattle.lr_shelf_format.specs.Way.{Way, Found, IsFound}
+use Rattle.lr_commands.specs.declared.cause.Party.TheVariants.{Source, Disk, Output}
+use Rattle.lr_commands.specs.declared.cause.Refusal.{Refusal}
+use Rattle.lr_commands.specs.declared.cause.Refusal.TheVariants.{NoSuchFile}
+use Rattle.lr_commands.specs.declared.cause.Cause.{Cause}
+use Rattle.lr_commands.specs.declared.cause.Cause.TheVariants.{Done, Usage, Failed, NoMemory, Refused}
+use Rattle.lr_commands.specs.declared.range.Range.{Range}
+use Rattle.lr_commands.specs.Asked.{
+  Asked,
+  Answer,
+  entry_at,
+  fate_of,
+  ended,
+  then_rest,
+  AnswersFrom,
+  AnswersIn,
+  AnswersOn,
+  BegunBy,
+}
+use Rattle.lr_commands.specs.Causes.{Counts}
+use Rattle.lr_commands.specs.Puts.{Puts}
+use Rattle.lr_commands.specs.Runs.{Counted, PutsAll, PutsFirst, PutsRefused, PutsCut, Got, RunsOn, by_count, counts_of}
+use Rattle.lr_commands.specs.Steps.{PutsText, CutsText, TextStops, TakesEntry, EntryStops}
+use Rattle.lr_commands.proofs.Answering.{
+  Reaches,
+  reaches_first,
+  reaches_more,
+  refused_here,
+  begun_before,
+  ends_here,
+}
+use Rattle.lr_commands.proofs.Texts.{
+  same_counts,
+  text_counted,
+  last_may,
+  entry_may,
+  entry_untouched,
+  entry_told,
+  text_told,
+}
+
+module _ {D O : Type 0} (disk : DiskOf D) (out : SinkOf O) (asked : Asked) (way : Way) (range : Range) (d : D)
+    (o : O) where
+  -- the entries before this number were read, and their texts put
+  pub record SoFar (gathers : List Found → Type 0) (number : ℕ) (o1 : O) : Type 0 where
+    pub read : List Found
+    pub text : List ℕ
+    pub gathered : gathers read
+    pub after : range.from ≤ number
+    pub puts : Puts out text o o1
+    pub untouched : number ≡ range.from → o1 ≡ o
+    pub reaches : disk.tells d → Reaches asked (disk.contents d) way range.from number read text
+
+  pub so_first : (gathers : List Found → Type 0) → gathers [] → SoFar gathers range.from o
+  so_first gathers fresh = record {
+    read = [];
+    text = [];
+    gathered = fresh;
+    after = omega arith;
+    puts = record { told = λ t. t; put = λ t. sym (append-nil (out.contents o)); kept = refl };
+    untouched = λ same. refl;
+    reaches = λ t. reaches_first asked (disk.contents d) way range.from;
+  }
+
+  module _ (gathers : List Found → Type 0) (number : ℕ) (o1 o2 : O) (so : SoFar gathers number o1) where
+    module _ (t : disk.tells d) (allowed : asked.range (length way.entries) ≡ Some range) where
+      abbrev IsOne : Answer → Type 0
+      IsOne = AnswersOn asked (disk.contents d) way
+
+      abbrev IsFirst : (passed left : ℕ) → List ℕ → Type 0
+      IsFirst = BegunBy asked (disk.contents d) way
+
+      pub onto : (answer : Answer)
+          → AnswersFrom asked (disk.contents d) way (range.to - range.from) range.from [] answer → IsOne answer
+      onto answer is = subst (λ (r : Option Range). AnswersIn asked (disk.contents d) way r answer) (sym allowed) is
+
+      -- the texts so far
+      pub begun_so : (left : ℕ) → number + left ≤ range.to → IsFirst (number - range.from) left so.text
+      begun_so left inside = inr (record {
+        range = range;
+        allowed = allowed;
+        inside = omega (arith, so.after, inside);
+        texts = begun_before asked (disk.contents d) way range.from number so.read so.text (so.reaches t);
+      })
+
+      -- nothing was put after them
+      pub first_put : (left : ℕ) → number + left ≤ range.to → o2 ≡ o1 → PutsFirst disk out IsOne IsFirst left o o2
+      first_put left inside still = record {
+        passed = number - range.from;
+        text = so.text;
+        begun = begun_so left inside;
+        put = λ told. ap out.contents still ∙ so.puts.put told;
+        untouched = λ none. still ∙ so.untouched (omega (arith, so.after, none));
+      }
+
+      pub refused_put : (refusal : Refusal) → number ≤ range.to → o2 ≡ o1
+          → AnswersFrom asked (disk.contents d) way (range.to - range.from) range.from []
+          (record { text = so.text; refusal = Some refusal })
+          → PutsRefused disk out IsOne IsFirst refusal o o2
+      unfolding first_put
+      refused_put refusal inside still is = record {
+        first = first_put 0 (omega (arith, inside)) still;
+        is = onto (record { text = so.text; refusal = Some refusal }) is;
+      }
+
+    -- one entry more, or the one at which it ends
+    module _ (more : number < range.to) (d1 : D) (told : disk.tells d → disk.tells d1)
+        (same : disk.tells d → disk.contents d1 ≡ disk.contents d) where
+      at_start : (found : Option Found)
+          → (disk.tells d1 → IsFound (disk.contents d1) (entry_at way number) found) → disk.tells d
+          → IsFound (disk.contents d) (entry_at way number) found
+      at_start found stands t =
+          subst (λ (b : List ℕ). IsFound b (entry_at way number) found) (same t) (stands (told t))
+
+      pub so_more : (gathers' : List Found → Type 0)
+          → TakesEntry disk out asked way so.read number gathers' d1 o1 o2
+          → SoFar gathers' (number + 1) o2
+      so_more gathers' takes = record {
+        read = so.read ++ takes.found ∷ [];
+        text = so.text ++ takes.puts.text;
+        gathered = takes.gathered;
+        after = omega (arith, so.after);
+        puts = record {
+          told = λ t. takes.puts.puts.told (so.puts.told t);
+          put = λ t.
+              takes.puts.puts.put (so.puts.told t) ∙ ap (λ (l : List ℕ). l ++ takes.puts.text) (so.puts.put t)
+              ∙ append_assoc (out.contents o) so.text takes.puts.text;
+          kept = takes.puts.puts.kept ∙ so.puts.kept;
+        };
+        untouched = λ none. absurd (omega (arith, so.after, none));
+        reaches = λ t.
+            reaches_more asked (disk.contents d) way range.from number so.read so.text (so.reaches t) takes.found
+            (at_start (Some takes.found) takes.stands t) takes.puts.text takes.puts.is;
+      }
+
+      module _ (allowed : asked.range (length way.entries) ≡ Some range) (t : disk.tells d) where
+        -- `out` failed in the text of the entry
+        cut_here : (found : Option Found)
+            → (disk.tells d1 → IsFound (disk.contents d1) (entry_at way number) found)
+            → CutsText out (fate_of asked way so.read number found) o1 o2
+            → PutsCut disk out (IsOne t allowed) (IsFirst t allowed) o o2
+        cut_here None stands cuts = absurd (no_text cuts.is) where
+          no_text : {e : Refusal} → ◌≡◌ {A = Result (List ℕ) Refusal} (Err e) (Ok cuts.text) → ⊥
+          no_text same = cc (same)
+        cut_here (Some found) stands cuts = record {
+          passed = number - range.from;
+          text = so.text;
+          one = cuts.text;
+          begun = begun_so t allowed 0 (omega (arith, more));
+          next = inl (inr (record {
+            range = range;
+            allowed = allowed;
+            inside = omega (arith, so.after, more);
+            texts =
+                let passed : number + 1 - range.from ≡ number - range.from + 1 = omega (arith, so.after) in
+                subst
+                (λ n. AnswersFrom (record asked { last = λ w r. Ok [] }) (disk.contents d) way n range.from []
+                (record { text = so.text ++ cuts.text; refusal = None })) passed
+                (begun_before asked (disk.contents d) way range.from (number + 1) (so.read ++ found ∷ [])
+                (so.text ++ cuts.text)
+                (reaches_more asked (disk.contents d) way range.from number so.read so.text (so.reaches t) found
+                (at_start (Some found) stands t) cuts.text cuts.is));
+          }));
+          some = cuts.some;
+          part = λ told_out.
+              subst (λ (l : List ℕ). PutsPart cuts.text l (out.contents o2)) (so.puts.put told_out)
+              (cuts.fails.part (so.puts.told told_out));
+        }
+
+        pub entry_got : (cause : Cause) → EntryStops disk out asked way so.read number cause d1 o1 o2
+            → Got disk out (IsOne t allowed) (IsFirst t allowed) cause o o2
+        entry_got Done stops = absurd stops.stops
+        entry_got Usage stops = absurd stops.stops
+        entry_got (Failed Source) stops = absurd stops.stops
+        entry_got (Failed Disk) stops = first_put t allowed 1 (omega (arith, more)) stops
+        entry_got (Failed Output) stops = cut_here stops.found stops.stands stops.stops
+        entry_got NoMemory stops = first_put t allowed 0 (omega (arith, more)) stops
+        entry_got (Refused refusal) stops =
+            refused_put t allowed refusal (omega (arith, more)) stops.stops.1
+            (refused_here asked (disk.contents d) way range.from number so.read so.text (so.reaches t) range.to more
+            stops.found refusal (at_start stops.found stops.stands t) stops.stops.0)
+
+    -- after the last entry
+    module _ (inside : number ≤ range.to) (all : range.to ≤ number)
+        (allowed : asked.range (length way.entries) ≡ Some range) (t : disk.tells d) where
+      last_from : (last : Result (List ℕ) Refusal) → asked.last way so.read ≡ last
+          → AnswersFrom asked (disk.contents d) way (range.to - range.from) range.from []
+          (then_rest so.text (ended last))
+      last_from last is =
+          ends_here asked (disk.contents d) way range.from number so.read so.text (so.reaches t) range.to inside all
+          last is
+
+      pub last_put : PutsText out (asked.last way so.read) o1 o2
+          → PutsAll disk out (IsOne t allowed) (IsFirst t allowed) o o2
+      last_put puts = record {
+        text = so.text ++ puts.text;
+        is = onto t allowed (then_rest so.text (ended (Ok puts.text))) (last_from (Ok puts.text) puts.is);
+        put = λ told_out.
+            puts.puts.put (so.puts.told told_out) ∙ ap (λ (l : List ℕ). l ++ puts.text) (so.puts.put told_out)
+            ∙ append_assoc (out.contents o) so.text puts.text;
+      }
+
+      pub last_got : (cause : Cause) → TextStops out (asked.last way so.read) cause o1 o2
+          → Got disk out (IsOne t allowed) (IsFirst t allowed) cause o o2
+      last_got Done stops = absurd stops
+      last_got Usage stops = absurd stops
+      last_got (Failed Source) stops = absurd stops
+      last_got (Failed Disk) stops = absurd stops
+      last_got (Failed Output) stops = record {
+        passed = number - range.from;
+        text = so.text;
+        one = stops.text;
+        begun = begun_so t allowed 0 (omega (arith, inside));
+        next = inr (onto t allowed (then_rest so.text (ended (Ok stops.text))) (last_from (Ok stops.text) stops.is));
+        some = stops.some;
+        part = λ told_out.
+            subst (λ (l : List ℕ). PutsPart stops.text l (out.contents o2)) (so.puts.put told_out)
+            (stops.fails.part (so.puts.told told_out));
+      }
+      last_got NoMemory stops = first_put t allowed 0 (omega (arith, inside)) stops
+      last_got (Refused refusal) stops =
+          refused_put t allowed refusal inside stops.1
+          (subst
+          (λ (l : List ℕ). AnswersFrom asked (disk.contents d) way (range.to - range.from) range.from []
+          (record { text = l; refusal = Some refusal })) (append-nil so.text) (last_from (Err refusal) stops.0))
+
+-- ---- the ways out
+
+module _ {D O : Type 0} (disk : DiskOf D) (out : SinkOf O) (asked : Asked) (way : Way) (d : D) (o : O) where
+  -- a number isn't allowed
+  pub not_allowed :
+      ((x : D) (c : List ℕ) → disk.tells x → disk.left_since x (disk.moment x) c → disk.may_leave x c)
+      → (count : ℕ) → count ≡ length way.entries → asked.range count ≡ None
+      → RunsOn disk out asked way (Refused (NoSuchFile count)) d d o o
+  not_allowed only_now count count_is none = record {
+    may = by_count count none refl;
+    counted = refl;
+    told = λ t. t;
+    told_by_out = λ t. t;
+    reads = unwritten_yet disk only_now d;
+    got = λ t. record {
+      first = record {
+        passed = 0;
+        text = [];
+        begun = inl (refl, refl);
+        put = λ told_out. sym (append-nil (out.contents o));
+        untouched = λ none. refl;
+      };
+      is =
+          subst
+          (λ (r : Option Range). AnswersIn asked (disk.contents d) way r
+          (record { text = []; refusal = Some (NoSuchFile count) }))
+          (sym (ap asked.range (sym count_is) ∙ none))
+          (ap (λ (n : ℕ). record { text = []; refusal = Some (NoSuchFile n) }) count_is);
+    };
+    untouched = λ one cuts. refl;
+  }
+
+  module _ (range : Range) (allowed : asked.range (length way.entries) ≡ Some range)
+      (gathers : List Found → Type 0) (number : ℕ) (d1 : D) (o1 o2 : O)
+      (so : SoFar disk out asked way range d o gathers number o1) (told : disk.tells d → disk.tells d1)
+      (reads : disk.tells d → IsUnwritten disk d d1) (count : disk.faults d1 ≡ disk.faults d) where
+    same_here : counts_of disk out d1 o1 ≡ counts_of disk out d o
+    same_here = same_counts disk out d d1 o o1 count so.puts.kept
+
+    -- an entry was not taken
+    pub entry_stopped : (d2 : D) → number < range.to → (disk.tells d1 → disk.tells d2)
+        → (disk.tells d1 → IsUnwritten disk d1 d2) → (cause : Cause)
+        → EntryStops disk out asked way so.read number cause d1 o1 o2
+        → Counted cause (counts_of disk out d1 o1) (counts_of disk out d2 o2)
+        → RunsOn disk out asked way cause d d2 o o2
+    entry_stopped d2 more told2 unwritten cause stops counted = record {
+      may = entry_may disk out asked way so.read number d1 o1 o2 cause stops;
+      counted = subst (λ (c : Counts). Counted cause c (counts_of disk out d2 o2)) same_here counted;
+      told = λ t. told2 (told t);
+      told_by_out = λ t.
+          entry_told disk out asked way so.read number d1 o1 o2 cause stops (so.puts.told t);
+      reads = λ t. unwritten_joined disk d d1 d2 (reads t) (unwritten (told t));
+      got = λ t.
+          entry_got disk out asked way range d o gathers number o1 o2 so more d1 told (λ t'. (reads t').contents)
+          allowed t cause stops;
+      untouched = λ one cuts.
+          entry_untouched disk out asked way so.read number d1 o1 o2 cause stops cuts
+          ∙ so.untouched (omega (arith, so.after, more, one.one (length way.entries) range allowed));
+    }
+
+    -- the last text was put
+    pub last_taken : number ≤ range.to → range.to ≤ number → PutsText out (asked.last way so.read) o1 o2
+        → RunsOn disk out asked way Done d d1 o o2
+    last_taken inside all puts = record {
+      may = tt;
+      counted = same_counts disk out d d1 o o2 count (puts.puts.kept ∙ so.puts.kept);
+      told = told;
+      told_by_out = λ t. puts.puts.told (so.puts.told t);
+      reads = reads;
+      got = λ t. last_put disk out asked way range d o gathers number o1 o2 so inside all allowed t puts;
+      untouched = λ one cuts. absurd cuts;
+    }
+
+    -- or it was not
+    pub last_stopped : number ≤ range.to → range.to ≤ number → (cause : Cause)
+        → TextStops out (asked.last way so.read) cause o1 o2 → (asked.last way so.read ≡ Ok [] → ⊥)
+        → RunsOn disk out asked way cause d d1 o o2
+    last_stopped inside all cause stops some = record {
+      may = last_may disk out asked way so.read o1 o2 cause stops;
+      counted = subst (λ (c : Counts). Counted cause c (counts_of disk out d1 o2)) same_here
+          (text_counted disk out (asked.last way so.read) d1 d1 o1 o2 refl cause stops);
+      told = told;
+      told_by_out = λ t. text_told disk out (asked.last way so.read) o1 o2 cause stops (so.puts.told t);
+      reads = reads;
+      got = λ t. last_got disk out asked way range d o gathers number o1 o2 so inside all allowed t cause stops;
+      untouched = λ one cuts. absurd (some (one.nothing_last way so.read));
+    }

@@ -1,0 +1,121 @@
+-- What a text that was put, or wasn't, says of the counts; and answers that go on.
+use Rattle.std.proofs.Common.{◌≡◌, ℕ, Option, Result, Ok, Err, IfErr, OnOk, List, refl, sym, ap, subst, ◌∙◌, Some, None}
+use Rattle.lr_io.specs.declared.sink.Sink.{Ghosts as SinkOf}
+use Rattle.lr_disk.specs.declared.disk.Disk.{Ghosts as DiskOf}
+use Rattle.lr_shelf_format.specs.Way.{Way, Found, IsFound}
+use Rattle.lr_commands.specs.declared.cause.Party.TheVariants.{Source, Disk, Output}
+use Rattle.lr_commands.specs.declared.cause.Refusal.{Refusal}
+use Rattle.lr_commands.specs.declared.cause.Refusal.TheVariants.{NotAShelf}
+use Rattle.lr_commands.specs.declared.cause.Cause.{Cause}
+use Rattle.lr_commands.specs.declared.cause.Cause.TheVariants.{Done, Usage, Failed, NoMemory, Refused}
+use Rattle.lr_commands.specs.Asked.{Asked, entry_at, fate_of}
+use Rattle.lr_commands.proofs.Answering.{err_is}
+use Rattle.lr_commands.specs.Runs.{Counted, CutsNothing, MayCause, MayRefuse, at_place, at_entry, at_end, counts_of}
+use Rattle.lr_commands.specs.Steps.{TextStops, EntryStops}
+
+pub on_both : {T E A B C : Type 0} (r : Result T E) → (A → B → C) → OnOk r A → OnOk r B → OnOk r C
+on_both (Ok v) f a b = f a b
+on_both (Err e) f a b = tt
+
+pub on_ok : {T E A B : Type 0} (r : Result T E) → (A → B) → OnOk r A → OnOk r B
+on_ok (Ok v) f a = f a
+on_ok (Err e) f a = tt
+
+pub on_err : {T E : Type 0} {P Q : E → Type 0} (r : Result T E) → ((e : E) → P e → Q e) → IfErr r P → IfErr r Q
+on_err (Ok v) f p = tt
+on_err (Err e) f p = f e p
+
+-- a refusal that comes only where A doesn't hold
+pub on_sure : {T E A : Type 0} {P Q : E → Type 0} (r : Result T E) → ((e : E) → P e → (A → ⊥) → Q e) → IfErr r P
+    → (A → IfErr r (λ _. ⊥)) → IfErr r Q
+on_sure (Ok v) f p sure = tt
+on_sure (Err e) f p sure = f e p sure
+
+module _ {D O : Type 0} (disk : DiskOf D) (out : SinkOf O) where
+  pub same_counts : (d d1 : D) (o o1 : O) → disk.faults d1 ≡ disk.faults d → out.faults o1 ≡ out.faults o
+      → counts_of disk out d1 o1 ≡ counts_of disk out d o
+  same_counts d d1 o o1 first second =
+      ap (λ (n : ℕ). record { source = 0; disk = n; output = out.faults o1 }) first
+      ∙ ap (λ (n : ℕ). record { source = 0; disk = disk.faults d; output = n }) second
+
+  -- where a text was not put, nobody failed but `out`
+  module _ (fate : Result (List ℕ) Refusal) (d d' : D) (o o' : O) (same : disk.faults d' ≡ disk.faults d) where
+    pub text_counted : (cause : Cause) → TextStops out fate cause o o'
+        → Counted cause (counts_of disk out d o) (counts_of disk out d' o')
+    text_counted Done stops = absurd stops
+    text_counted Usage stops = absurd stops
+    text_counted (Failed Source) stops = absurd stops
+    text_counted (Failed Disk) stops = absurd stops
+    text_counted (Failed Output) stops = (stops.fails.rose, refl, same)
+    text_counted NoMemory stops = same_counts d d' o o' same (ap out.faults stops)
+    text_counted (Refused refusal) stops = same_counts d d' o o' same (ap out.faults stops.1)
+
+  -- a sink still tells what it holds
+  pub text_told : (fate : Result (List ℕ) Refusal) (o o' : O) (cause : Cause) → TextStops out fate cause o o'
+      → out.tells o → out.tells o'
+  text_told fate o o' (Failed Output) stops t = stops.fails.told t
+  text_told fate o o' NoMemory stops t = subst (λ (x : O). out.tells x) (sym stops) t
+  text_told fate o o' (Refused refusal) stops t = subst (λ (x : O). out.tells x) (sym stops.1) t
+  text_told fate o o' _ stops t = absurd stops
+
+  pub last_may : (asked : Asked) (way : Way) (read : List Found) (o o' : O) (cause : Cause)
+      → TextStops out (asked.last way read) cause o o' → MayCause asked cause
+  last_may asked way read o o' Done stops = absurd stops
+  last_may asked way read o o' Usage stops = absurd stops
+  last_may asked way read o o' (Failed Source) stops = absurd stops
+  last_may asked way read o o' (Failed Disk) stops = absurd stops
+  last_may asked way read o o' (Failed Output) stops = tt
+  last_may asked way read o o' NoMemory stops = tt
+  last_may asked way read o o' (Refused refusal) stops = at_end way read stops.0
+
+  module _ (asked : Asked) (way : Way) (read : List Found) (number : ℕ) (d : D) (o o' : O) where
+    entry_refused : (found : Option Found) (refusal : Refusal) → fate_of asked way read number found ≡ Err refusal
+        → MayRefuse asked refusal
+    entry_refused None refusal fate =
+        at_place (entry_at way number).gate
+        (err_is (fate_of asked way read number None) refusal (NotAShelf (entry_at way number).gate) fate refl)
+    entry_refused (Some found) refusal fate = at_entry read number found fate
+
+    pub entry_may : (cause : Cause) → EntryStops disk out asked way read number cause d o o' → MayCause asked cause
+    entry_may Done stops = absurd stops.stops
+    entry_may Usage stops = absurd stops.stops
+    entry_may (Failed Source) stops = absurd stops.stops
+    entry_may (Failed Disk) stops = tt
+    entry_may (Failed Output) stops = tt
+    entry_may NoMemory stops = tt
+    entry_may (Refused refusal) stops = entry_refused stops.found refusal stops.stops.0
+
+    pub entry_untouched : (cause : Cause) → EntryStops disk out asked way read number cause d o o' → CutsNothing cause
+        → o' ≡ o
+    entry_untouched Done stops cuts = absurd cuts
+    entry_untouched Usage stops cuts = absurd cuts
+    entry_untouched (Failed Source) stops cuts = absurd cuts
+    entry_untouched (Failed Disk) stops cuts = stops
+    entry_untouched (Failed Output) stops cuts = absurd cuts
+    entry_untouched NoMemory stops cuts = stops
+    entry_untouched (Refused refusal) stops cuts = stops.stops.1
+
+    -- a sink still tells what it holds
+    pub entry_told : (cause : Cause) → EntryStops disk out asked way read number cause d o o' → out.tells o
+        → out.tells o'
+    entry_told (Failed Disk) stops t = subst (λ (x : O). out.tells x) (sym stops) t
+    entry_told (Failed Output) stops t = stops.stops.fails.told t
+    entry_told NoMemory stops t = subst (λ (x : O). out.tells x) (sym stops) t
+    entry_told (Refused refusal) stops t = subst (λ (x : O). out.tells x) (sym stops.stops.1) t
+    entry_told Done stops t = absurd stops.stops
+    entry_told Usage stops t = absurd stops.stops
+    entry_told (Failed Source) stops t = absurd stops.stops
+
+    -- what stands there is known, and its text was not put
+    pub stops_found : (found : Option Found)
+        → (disk.tells d → IsFound (disk.contents d) (entry_at way number) found) → (cause : Cause)
+        → TextStops out (fate_of asked way read number found) cause o o'
+        → EntryStops disk out asked way read number cause d o o'
+    stops_found found stands Done stops = absurd stops
+    stops_found found stands Usage stops = absurd stops
+    stops_found found stands (Failed Source) stops = absurd stops
+    stops_found found stands (Failed Disk) stops = absurd stops
+    stops_found found stands (Failed Output) stops =
+        record { found = found; stands = stands; stops = stops }
+    stops_found found stands NoMemory stops = stops
+    stops_found found stands (Refused refusal) stops = record { found = found; stands = stands; stops = stops }

@@ -1,0 +1,37 @@
+use Rattle.lr_commands.specs.declared.cause.Cause.TheVariants.{Done, NoMemory}
+use Rattle.lr_commands.specs.Causes.{cause_of}
+use Rattle.lr_commands.proofs.Loading.{not_started, not_loaded, loaded, over}
+use Rattle.lr_commands.proofs.run.run_entries.Goals as goal
+
+pub returns-in-Err : goal.returns-in-Err
+returns-in-Err g c =
+    let asked = g.C.ReadsEntries.asked c.args.command.now in
+    rw c.from.ensures
+    (over g.D.Disk g.O.Sink asked c.args.disk.now c.args.disk.now c.args.out.now c.args.out.now NoMemory
+    (not_started g.D.Disk g.O.Sink asked g.met.D.Disk.only_now c.args.disk.now c.args.out.now))
+
+pub returns-in-Err-load : goal.returns-in-Err-load
+returns-in-Err-load g c =
+    let asked = g.C.ReadsEntries.asked c.args.command.now in
+    rw c.from-in-Err-load.ensures
+    (over g.D.Disk g.O.Sink asked c.args.disk.now c.load.new.disk c.args.out.now c.args.out.now
+    (cause_of c.in-Err-load.error)
+    (not_loaded g.D.Disk g.O.Sink asked c.args.disk.now c.load.new.disk c.args.out.now c.load.result c.load.ensures
+    c.in-Err-load.error c.in-Err-load.is c.in-Err-load.ensures.refused))
+
+pub returns-in-Ok-take_entries : goal.returns-in-Ok-take_entries
+returns-in-Ok-take_entries g c =
+    let asked = g.C.ReadsEntries.asked c.args.command.now in
+    over g.D.Disk g.O.Sink asked c.args.disk.now c.take_entries.new.disk c.args.out.now c.take_entries.new.out Done
+    (loaded g.D.Disk g.O.Sink asked c.args.disk.now c.load.new.disk c.args.out.now c.load.result c.load.ensures
+    c.in-Ok-load.shelf c.in-Ok-load.is c.take_entries.new.disk c.take_entries.new.out Done
+    c.in-Ok-take_entries.ensures.takes)
+
+pub returns : goal.returns
+returns g c =
+    let asked = g.C.ReadsEntries.asked c.args.command.now in
+    over g.D.Disk g.O.Sink asked c.args.disk.now c.take_entries.new.disk c.args.out.now c.take_entries.new.out
+    c.in-Err-take_entries.cause
+    (loaded g.D.Disk g.O.Sink asked c.args.disk.now c.load.new.disk c.args.out.now c.load.result c.load.ensures
+    c.in-Ok-load.shelf c.in-Ok-load.is c.take_entries.new.disk c.take_entries.new.out c.in-Err-take_entries.cause
+    c.in-Err-take_entries.ensures.stops)

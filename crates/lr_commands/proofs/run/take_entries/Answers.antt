@@ -1,0 +1,118 @@
+use Rattle.std.proofs.Common.{◌≡◌, ◌∙◌, sym, ap, subst, refl, arith, length, Ok, [], OnOk, IfErr}
+use Rattle.std.proofs.lemmas.Result.{err_from_is_err_and}
+use Rattle.lr_disk.proofs.Moments.{unwritten_joined, unwritten_yet}
+use Rattle.lr_shelf.specs.Kept.{Kept, kept_by}
+use Rattle.lr_commands.specs.Steps.{PutsText, TextStops, TakesEntry, EntryStops}
+use Rattle.lr_commands.proofs.Texts.{on_ok, on_sure}
+use Rattle.lr_commands.proofs.Taking.{so_first, so_more, not_allowed, entry_stopped, last_taken, last_stopped}
+use Rattle.lr_commands.proofs.run.take_entries.Goals as goal
+
+pub returns-in_default-clause-stops : goal.returns-in_default-clause-stops
+returns-in_default-clause-stops g c =
+    not_allowed g.D.Disk g.O.Sink (g.C.ReadsEntries.asked c.args.command.now) (kept_by c.args.shelf.now).way
+    c.args.disk.now c.args.out.now g.met.D.Disk.only_now c.len-count.result c.len-count.ensures
+    (sym c.range.ensures.is ∙ c.in_default.is)
+
+pub loop-number-init : goal.loop-number-init
+loop-number-init g c = record {
+  kept = refl;
+  told = λ t. t;
+  reads = λ t. unwritten_yet g.D.Disk g.met.D.Disk.only_now c.args.disk.now t;
+  disk_count = refl;
+  so_far =
+      so_first g.D.Disk g.O.Sink (g.C.ReadsEntries.asked c.args.command.now) (kept_by c.args.shelf.now).way
+      c.in-Some.range c.args.disk.now c.args.out.now
+      (g.C.ReadsEntries.gathers c.args.command.now c.args.gathered) c.requires.fresh;
+}
+
+pub entry-requires-clause-there : goal.entry-requires-clause-there
+entry-requires-clause-there g c =
+    let same : length (kept_by c.loop-number.shelf).way.entries ≡ length (kept_by c.args.shelf.now).way.entries =
+    ap (λ (k : Kept). length k.way.entries) c.loop-number.invariant.kept in
+    omega (arith, same, c.loop-number-test.true, c.in-Some.ensures.inside, c.len-count.ensures)
+
+pub entry-requires-clause-working : goal.entry-requires-clause-working
+entry-requires-clause-working g c = ap (λ (k : Kept). k.failed) c.loop-number.invariant.kept ∙ c.requires.working
+
+pub returns-in_err-entry-clause-stops : goal.returns-in_err-entry-clause-stops
+returns-in_err-entry-clause-stops g c =
+    let inv = c.loop-number.invariant in
+    let p = err_from_is_err_and c.from_residual.result c.from_residual.ensures.1 in
+    let asked = g.C.ReadsEntries.asked c.args.command.now in
+    let way = (kept_by c.args.shelf.now).way in
+    let e = c.in_err-entry.ensures in
+    let allowed = ap asked.range (sym c.len-count.ensures) ∙ sym c.range.ensures.is ∙ c.in-Some.is in
+    let stops =
+    subst
+    (λ (k : Kept). EntryStops g.D.Disk g.O.Sink asked k.way inv.so_far.read c.loop-number.number
+    c.in_err-entry.field-0.0 c.loop-number.disk c.loop-number.out c.entry.new.out) inv.kept
+    (e.stops inv.so_far.read inv.so_far.gathered) in
+    rw (p.1, p.2)
+    (entry_stopped g.D.Disk g.O.Sink asked way c.args.disk.now c.args.out.now c.in-Some.range allowed
+    (g.C.ReadsEntries.gathers c.args.command.now c.loop-number.gathered) c.loop-number.number c.loop-number.disk
+    c.loop-number.out c.entry.new.out inv.so_far inv.told inv.reads inv.disk_count c.entry.new.disk
+    c.loop-number-test.true e.reads.told e.reads.unwritten c.in_err-entry.field-0.0 stops
+    (e.counted inv.so_far.read inv.so_far.gathered))
+
+pub loop-number-preserved : goal.loop-number-preserved
+loop-number-preserved g c =
+    let inv = c.loop-number.invariant in
+    let e = c.in_ok-entry.ensures in
+    let asked = g.C.ReadsEntries.asked c.args.command.now in
+    record {
+      kept = e.reads.kept ∙ inv.kept;
+      told = λ t. e.reads.told (inv.told t);
+      reads = λ t. unwritten_joined g.D.Disk c.args.disk.now c.loop-number.disk c.entry.new.disk (inv.reads t)
+          (e.reads.unwritten (inv.told t));
+      disk_count = e.same ∙ inv.disk_count;
+      so_far =
+          so_more g.D.Disk g.O.Sink asked (kept_by c.args.shelf.now).way c.in-Some.range c.args.disk.now c.args.out.now
+          (g.C.ReadsEntries.gathers c.args.command.now c.loop-number.gathered) c.loop-number.number c.loop-number.out
+          c.entry.new.out inv.so_far c.loop-number-test.true c.loop-number.disk
+          inv.told (λ t. (inv.reads t).contents) (g.C.ReadsEntries.gathers c.args.command.now c.entry.new.gathered)
+          (subst
+          (λ (k : Kept). TakesEntry g.D.Disk g.O.Sink asked k.way inv.so_far.read c.loop-number.number
+          (g.C.ReadsEntries.gathers c.args.command.now c.entry.new.gathered)
+          c.loop-number.disk c.loop-number.out c.entry.new.out) inv.kept
+          (e.takes inv.so_far.read inv.so_far.gathered));
+    }
+
+pub returns-clause-takes : goal.returns-clause-takes
+returns-clause-takes g c =
+    let inv = c.loop-number.invariant in
+    let asked = g.C.ReadsEntries.asked c.args.command.now in
+    let way = (kept_by c.args.shelf.now).way in
+    let allowed = ap asked.range (sym c.len-count.ensures) ∙ sym c.range.ensures.is ∙ c.in-Some.is in
+    let takes =
+    subst
+    (λ (k : Kept). OnOk c.last.result
+    (PutsText g.O.Sink (asked.last k.way inv.so_far.read) c.loop-number.out c.last.new.out)) inv.kept
+    (c.last.ensures.takes inv.so_far.read inv.so_far.gathered) in
+    on_ok c.last.result
+    (last_taken g.D.Disk g.O.Sink asked way c.args.disk.now c.args.out.now c.in-Some.range allowed
+    (g.C.ReadsEntries.gathers c.args.command.now c.loop-number.gathered) c.loop-number.number c.loop-number.disk
+    c.loop-number.out c.last.new.out inv.so_far inv.told inv.reads inv.disk_count
+    (c.loop-number.auto.number-end c.in-Some.ensures.ordered) c.loop-number-test.false)
+    takes
+
+pub returns-clause-stops : goal.returns-clause-stops
+returns-clause-stops g c =
+    let inv = c.loop-number.invariant in
+    let asked = g.C.ReadsEntries.asked c.args.command.now in
+    let way = (kept_by c.args.shelf.now).way in
+    let allowed = ap asked.range (sym c.len-count.ensures) ∙ sym c.range.ensures.is ∙ c.in-Some.is in
+    let stops =
+    subst
+    (λ (k : Kept). IfErr c.last.result
+    (λ cause. TextStops g.O.Sink (asked.last k.way inv.so_far.read) cause c.loop-number.out c.last.new.out)) inv.kept
+    (c.last.ensures.stops inv.so_far.read inv.so_far.gathered) in
+    let sure =
+    subst
+    (λ (k : Kept). asked.last k.way inv.so_far.read ≡ Ok [] → IfErr c.last.result (λ _. ⊥)) inv.kept
+    (c.last.ensures.sure inv.so_far.read inv.so_far.gathered) in
+    on_sure c.last.result
+    (last_stopped g.D.Disk g.O.Sink asked way c.args.disk.now c.args.out.now c.in-Some.range allowed
+    (g.C.ReadsEntries.gathers c.args.command.now c.loop-number.gathered) c.loop-number.number c.loop-number.disk
+    c.loop-number.out c.last.new.out inv.so_far inv.told inv.reads inv.disk_count
+    (c.loop-number.auto.number-end c.in-Some.ensures.ordered) c.loop-number-test.false)
+    stops sure

@@ -1,0 +1,17 @@
+use Rattle.std.proofs.Common.{◌≡◌}
+use Rattle.lr_disk.specs.Reads.{IsUnwritten}
+use Rattle.lr_shelf.specs.Kept.{kept_by}
+use Rattle.lr_commands.proofs.Taking.{SoFar}
+use Rattle.lr_commands.proofs.run.take_entries.Given as goal
+
+abbrev pub invariant-loop-number : goal.invariant-loop-number
+invariant-loop-number g l =
+    record {
+      kept : kept_by l.shelf ≡ kept_by l.fn.shelf;
+      told : g.D.Disk.tells l.fn.disk → g.D.Disk.tells l.disk;
+      reads : g.D.Disk.tells l.fn.disk → IsUnwritten g.D.Disk l.fn.disk l.disk;
+      disk_count : g.D.Disk.faults l.disk ≡ g.D.Disk.faults l.fn.disk;
+      so_far : SoFar g.D.Disk g.O.Sink (g.C.ReadsEntries.asked l.command) (kept_by l.fn.shelf).way
+          (record { from = l.initial.number; to = l.number-end }) l.fn.disk l.fn.out
+          (g.C.ReadsEntries.gathers l.command l.gathered) l.number l.out;
+    }

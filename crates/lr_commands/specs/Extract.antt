@@ -1,0 +1,17 @@
+-- `extract N`: the mission file proper.
+use Rattle.std.specs.Prelude.{ℕ, Ok, Err}
+use Rattle.lr_bits.specs.File.{proper_of}
+use Rattle.lr_commands.specs.declared.cause.Refusal.TheVariants.{Discarded}
+use Rattle.lr_commands.specs.Asked.{Asked}
+use Rattle.lr_commands.specs.Files.{AskedOfFiles, asked_of_files, one_entry, no_text}
+
+abbrev pub asked_of_extract : ℕ → AskedOfFiles
+asked_of_extract number = record {
+  range = one_entry number;
+  becomes = λ read n stored. Ok (proper_of stored.file);
+  gone = λ n. Err Discarded;
+  last = λ way read. no_text;
+}
+
+abbrev pub extract_asked : ℕ → Asked
+extract_asked number = asked_of_files (asked_of_extract number)

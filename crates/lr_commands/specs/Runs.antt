@@ -1,0 +1,132 @@
+-- What a command that reads entries does to `out` and to the disk, for each cause.
+use Rattle.std.specs.Prelude.{◌≡◌, ◌⊎◌, ◌<◌, ◌+◌, ℕ, Option, Some, None, Err, List, ◌++◌, length}
+use Rattle.lr_bits.specs.Faults.{Rose}
+use Rattle.lr_io.specs.declared.sink.Sink.{Ghosts as SinkOf}
+use Rattle.lr_io.specs.Pieces.{PutsPart}
+use Rattle.lr_disk.specs.Reads.{IsUnwritten}
+use Rattle.lr_disk.specs.declared.disk.Disk.{Ghosts as DiskOf}
+use Rattle.lr_commands.specs.declared.cause.Party.TheVariants.{Source, Disk, Output}
+use Rattle.lr_commands.specs.declared.cause.Refusal.{Refusal}
+use Rattle.lr_commands.specs.declared.cause.Refusal.TheVariants.{NotAShelf, NoSuchFile}
+use Rattle.lr_commands.specs.declared.cause.Cause.{Cause}
+use Rattle.lr_commands.specs.declared.cause.Cause.TheVariants.{Done, Failed, NoMemory, Refused}
+use Rattle.lr_shelf_format.specs.Way.{Way, Found}
+use Rattle.lr_commands.specs.Asked.{Asked, Answer, AnswersOn, BegunBy, IsAnswer, IsBegun, PutsOneText}
+use Rattle.lr_commands.specs.Causes.{Counts}
+
+-- what a command may be refused for, over any disk: no shelf or no item at a place, a count by which a number isn't
+-- allowed, or what it says of something that was found or of all that was read
+pub data MayRefuse (asked : Asked) (refusal : Refusal) : Type 0 where
+  at_place : (at : ℕ) → refusal ≡ NotAShelf at → MayRefuse asked refusal
+  by_count : (count : ℕ) → asked.range count ≡ None → refusal ≡ NoSuchFile count → MayRefuse asked refusal
+  at_entry : (read : List Found) (number : ℕ) (found : Found) → asked.becomes read number found ≡ Err refusal
+      → MayRefuse asked refusal
+  at_end : (way : Way) (read : List Found) → asked.last way read ≡ Err refusal → MayRefuse asked refusal
+
+-- the causes that it may have, over any disk
+abbrev pub MayCause : Asked → Cause → Type 0
+MayCause asked Done = Unit {0}
+MayCause asked (Failed Disk) = Unit {0}
+MayCause asked (Failed Output) = Unit {0}
+MayCause asked NoMemory = Unit {0}
+MayCause asked (Refused refusal) = MayRefuse asked refusal
+MayCause asked _ = ⊥
+
+-- the count of the party that a cause names rose, and all other counts stay
+abbrev pub Counted : Cause → Counts → Counts → Type 0
+Counted (Failed Source) before now =
+    Rose before.source now.source × (now.disk ≡ before.disk) × (now.output ≡ before.output)
+Counted (Failed Disk) before now =
+    Rose before.disk now.disk × (now.source ≡ before.source) × (now.output ≡ before.output)
+Counted (Failed Output) before now =
+    Rose before.output now.output × (now.source ≡ before.source) × (now.disk ≡ before.disk)
+Counted cause before now = now ≡ before
+
+-- the cause of a run that puts an answer
+abbrev pub cause_for : Option Refusal → Cause
+cause_for None = Done
+cause_for (Some refusal) = Refused refusal
+
+-- an event that comes before the end of an answer; `out` fails only in a text
+abbrev pub Precedes : Cause → Answer → Type 0
+Precedes (Failed Disk) answer = Unit {0}
+Precedes (Failed Output) answer = 0 < length answer.text
+Precedes NoMemory answer = Unit {0}
+Precedes _ answer = ⊥
+
+-- the causes that cut no text
+abbrev pub CutsNothing : Cause → Type 0
+CutsNothing (Failed Disk) = Unit {0}
+CutsNothing NoMemory = Unit {0}
+CutsNothing (Refused refusal) = Unit {0}
+CutsNothing _ = ⊥
+
+module _ {D O : Type 0} (disk : DiskOf D) (out : SinkOf O) where
+  -- such a command has no source
+  abbrev pub counts_of : D → O → Counts
+  counts_of d o = record { source = 0; disk = disk.faults d; output = out.faults o }
+
+  -- which answers there are, and which texts are begun
+  module _ (IsOne : Answer → Type 0) (IsFirst : (passed left : ℕ) → List ℕ → Type 0) where
+    -- there is an answer that refuses nothing, and its text was put
+    pub record PutsAll (o o' : O) : Type 0 where
+      pub text : List ℕ
+      pub is : IsOne (record { text = text; refusal = None })
+      pub put : out.tells o → out.contents o' ≡ out.contents o ++ text
+
+    -- the texts of the first entries were put, and at least this many entries are left
+    pub record PutsFirst (left : ℕ) (o o' : O) : Type 0 where
+      pub passed : ℕ
+      pub text : List ℕ
+      pub begun : IsFirst passed left text
+      pub put : out.tells o → out.contents o' ≡ out.contents o ++ text
+      pub untouched : passed ≡ 0 → o' ≡ o
+
+    -- they are all of an answer with this refusal
+    pub record PutsRefused (refusal : Refusal) (o o' : O) : Type 0 where
+      pub first : PutsFirst 0 o o'
+      pub is : IsOne (record { text = first.text; refusal = Some refusal })
+
+    -- `out` failed in the text of an entry, or in the last one: those before it were put, and a part of it
+    pub record PutsCut (o o' : O) : Type 0 where
+      pub passed : ℕ
+      pub text : List ℕ
+      pub one : List ℕ
+      pub begun : IsFirst passed 0 text
+      pub next : IsFirst (passed + 1) 0 (text ++ one) ⊎ IsOne (record { text = text ++ one; refusal = None })
+      pub some : 0 < length one
+      pub part : out.tells o → PutsPart one (out.contents o ++ text) (out.contents o')
+
+    -- what `out` got, for each cause
+    abbrev pub Got : Cause → O → O → Type 0
+    Got Done o o' = PutsAll o o'
+    Got (Failed Disk) o o' = PutsFirst 1 o o'
+    Got (Failed Output) o o' = PutsCut o o'
+    Got NoMemory o o' = PutsFirst 0 o o'
+    Got (Refused refusal) o o' = PutsRefused refusal o o'
+    Got _ o o' = ⊥
+
+  pub record Runs (asked : Asked) (IsOne : List ℕ → Answer → Type 0)
+      (IsFirst : List ℕ → (passed left : ℕ) → List ℕ → Type 0)
+      (cause : Cause) (d d' : D) (o o' : O) : Type 0 where
+    pub may : MayCause asked cause
+    pub counted : Counted cause (counts_of d o) (counts_of d' o')
+    -- nothing on the disk changes
+    pub told : disk.tells d → disk.tells d'
+    pub told_by_out : out.tells o → out.tells o'
+    pub reads : disk.tells d → IsUnwritten disk d d'
+    -- `out` got what the bytes answer; a refusal comes only where it is that of the answer, with its values
+    pub got : disk.tells d → Got (IsOne (disk.contents d)) (IsFirst (disk.contents d)) cause o o'
+    -- over any disk, where the only text is that of one entry
+    pub untouched : PutsOneText asked → CutsNothing cause → o' ≡ o
+
+  -- a run over the entries of a shelf of this way
+  abbrev pub RunsOn : Asked → Way → Cause → D → D → O → O → Type 0
+  RunsOn asked way = Runs asked (λ bytes. AnswersOn asked bytes way) (λ bytes. BegunBy asked bytes way)
+
+  -- a whole run
+  pub record RunsOver (asked : Asked) (cause : Cause) (d d' : D) (o o' : O) : Type 0 where
+    pub runs : Runs asked (IsAnswer asked) (IsBegun asked) cause d d' o o'
+    -- what the bytes answer decides, unless an event comes before: done, or refused for this
+    pub ends : (answer : Answer) → disk.tells d → IsAnswer asked (disk.contents d) answer
+        → (cause ≡ cause_for answer.refusal) ⊎ Precedes cause answer

@@ -1,0 +1,62 @@
+-- What the calls of a command do in a run: at one entry, and after the last.
+use Rattle.std.specs.Prelude.{◌≡◌, ◌<◌, ℕ, Option, Some, Result, Ok, Err, List, [], ◌∷◌, ◌++◌, length}
+use Rattle.lr_io.specs.declared.sink.Sink.{Ghosts as SinkOf}
+use Rattle.lr_disk.specs.Reads.{IsUnwritten}
+use Rattle.lr_disk.specs.declared.disk.Disk.{Ghosts as DiskOf}
+use Rattle.lr_shelf_format.specs.Way.{Way, Found, IsFound}
+use Rattle.lr_shelf.specs.Kept.{kept_by}
+use Rattle.lr_shelf.specs.declared.shelf.Shelf.{Shelf}
+use Rattle.lr_commands.specs.declared.cause.Party.TheVariants.{Disk, Output}
+use Rattle.lr_commands.specs.declared.cause.Refusal.{Refusal}
+use Rattle.lr_commands.specs.declared.cause.Cause.{Cause}
+use Rattle.lr_commands.specs.declared.cause.Cause.TheVariants.{Failed, NoMemory, Refused}
+use Rattle.lr_commands.specs.Asked.{Asked, entry_at, fate_of}
+use Rattle.lr_commands.specs.Puts.{Puts, PutFails}
+
+module _ {O : Type 0} (out : SinkOf O) (fate : Result (List ℕ) Refusal) where
+  -- the text was put
+  pub record PutsText (o o' : O) : Type 0 where
+    pub text : List ℕ
+    pub is : fate ≡ Ok text
+    pub puts : Puts out text o o'
+
+  -- a part of the text was put
+  pub record CutsText (o o' : O) : Type 0 where
+    pub text : List ℕ
+    pub is : fate ≡ Ok text
+    pub some : 0 < length text
+    pub fails : PutFails out text o o'
+
+  -- why the text was not put; where memory is refused nothing of it was
+  abbrev pub TextStops : Cause → O → O → Type 0
+  TextStops (Failed Output) o o' = CutsText o o'
+  TextStops NoMemory o o' = o' ≡ o
+  TextStops (Refused refusal) o o' = (fate ≡ Err refusal) × (o' ≡ o)
+  TextStops _ o o' = ⊥
+
+module _ {D O : Type 0} (disk : DiskOf D) (out : SinkOf O) (asked : Asked) (way : Way) (read : List Found)
+    (number : ℕ) where
+  -- the text of the entry was put, and it was gathered
+  pub record TakesEntry (gathers : List Found → Type 0) (d : D) (o o' : O) : Type 0 where
+    pub found : Found
+    pub stands : disk.tells d → IsFound (disk.contents d) (entry_at way number) (Some found)
+    pub puts : PutsText out (asked.becomes read number found) o o'
+    pub gathered : gathers (read ++ found ∷ [])
+
+  -- what stands there is known, and its text was not put
+  pub record FoundStops (cause : Cause) (d : D) (o o' : O) : Type 0 where
+    pub found : Option Found
+    pub stands : disk.tells d → IsFound (disk.contents d) (entry_at way number) found
+    pub stops : TextStops out (fate_of asked way read number found) cause o o'
+
+  -- why an entry was not taken
+  abbrev pub EntryStops : Cause → D → O → O → Type 0
+  EntryStops (Failed Disk) d o o' = o' ≡ o
+  EntryStops NoMemory d o o' = o' ≡ o
+  EntryStops cause d o o' = FoundStops cause d o o'
+
+-- a call that reads the disk alone, and keeps the shelf as it is
+pub record ReadsOnly {D : Type 0} (disk : DiskOf D) (shelf shelf' : Shelf) (d d' : D) : Type 0 where
+  pub kept : kept_by shelf' ≡ kept_by shelf
+  pub told : disk.tells d → disk.tells d'
+  pub unwritten : disk.tells d → IsUnwritten disk d d'

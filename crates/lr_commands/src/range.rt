@@ -1,0 +1,28 @@
+//! Which entries of a shelf a command reads.
+ghost use Rattle.std.specs.Prelude.{◌≡◌, ◌≤◌, IfSome};
+ghost use Rattle.lr_commands.specs.Files.{one_entry};
+
+/// Numbers of entries: from one on, and before another.
+#[derive(Clone, Copy)]
+pub struct Range {
+    pub from: u64,
+    pub to: u64,
+}
+
+impl Range {
+    /// The one entry of this number, if there are enough.
+    pub(crate) fn one(number: u64, count: u64) -> Option<Range>
+        ensures is { result ≡ one_entry number count }
+        ensures ordered { IfSome result (λ range. range.from ≤ range.to) }
+        ensures inside { IfSome result (λ range. range.to ≤ count) }
+    {
+        if number < count {
+            Some(Range {
+                from: number,
+                to: number + 1,
+            })
+        } else {
+            None
+        }
+    }
+}

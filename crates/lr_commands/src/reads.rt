@@ -1,0 +1,75 @@
+//! What a command is that reads the entries of a shelf.
+use crate::cause::Cause;
+use crate::range::Range;
+use lr_bits::NoMemory;
+use lr_disk::Disk;
+use lr_io::Sink;
+use lr_shelf::Shelf;
+use std::alloc::Global;
+
+/// A command that reads the entries of a shelf. What it asks is given by its words alone; what it gathers of the
+/// entries is a value beside it.
+pub trait ReadsEntries {
+    ghost use Rattle.std.specs.Prelude.{◌≡◌, ◌<◌, ◌≤◌, ℕ, false, Ok, List, [], length, IfOk, IfErr, IfSome, OnOk};
+    ghost use Rattle.lr_shelf.specs.Kept.{kept_by};
+    ghost use Rattle.lr_shelf_format.specs.Way.{Found};
+    ghost use Rattle.lr_commands.specs.Asked.{Asked};
+    ghost use Rattle.lr_commands.specs.Runs.{Counted, counts_of};
+    ghost use Rattle.lr_commands.specs.Steps.{PutsText, ReadsOnly, TextStops, TakesEntry, EntryStops};
+
+    type Gathered: Drop;
+
+    /// What it asks.
+    ghost asked: { Self → Asked };
+
+    /// What was gathered of these entries.
+    ghost gathers: { Self → Self.Gathered → List Found → Type 0 };
+
+    /// The entries that it reads of this many, if no number is refused.
+    fn range(&self, count: u64) -> Option<Range>
+        ensures is { result ≡ (asked self.now).range count }
+        ensures ordered { IfSome result (λ range. range.from ≤ range.to) }
+        ensures inside { IfSome result (λ range. range.to ≤ count) };
+
+    /// Takes the memory at opening.
+    fn start(&self, alloc: Global) -> Result<Self::Gathered, NoMemory>
+        ensures { IfOk result (λ gathered. gathers self.now gathered []) };
+
+    /// Reads an entry and puts its text. Memory is taken before the text.
+    fn entry<D: Disk, O: Sink>(
+        &self,
+        alloc: Global,
+        number: u64,
+        gathered: &mut Self::Gathered,
+        shelf: &mut Shelf,
+        disk: &mut D,
+        out: &mut O,
+    ) -> Result<(), Cause>
+        requires there { number < length (kept_by shelf.old).way.entries }
+        requires working { (kept_by shelf.old).failed ≡ false }
+        ensures reads { ReadsOnly D.Disk shelf.old shelf.new disk.old disk.new }
+        ensures same { OnOk result (D.faults disk.new ≡ D.faults disk.old) }
+        ensures counted { (read : List Found) → gathers self.now gathered.old read → IfErr result (λ cause.
+            Counted cause (counts_of D.Disk O.Sink disk.old out.old) (counts_of D.Disk O.Sink disk.new out.new)) }
+        ensures takes { (read : List Found) → gathers self.now gathered.old read → OnOk result
+            (TakesEntry D.Disk O.Sink (asked self.now) (kept_by shelf.old).way read number
+            (gathers self.now gathered.new) disk.old out.old out.new) }
+        ensures stops { (read : List Found) → gathers self.now gathered.old read → IfErr result (λ cause.
+            EntryStops D.Disk O.Sink (asked self.now) (kept_by shelf.old).way read number cause
+            disk.old out.old out.new) };
+
+    /// Puts the last text. Memory is taken before the text, and none where there is no text.
+    fn last<O: Sink>(
+        &self,
+        alloc: Global,
+        gathered: Self::Gathered,
+        shelf: &Shelf,
+        out: &mut O,
+    ) -> Result<(), Cause>
+        ensures takes { (read : List Found) → gathers self.now gathered read
+            → OnOk result (PutsText O.Sink ((asked self.now).last (kept_by shelf.now).way read) out.old out.new) }
+        ensures stops { (read : List Found) → gathers self.now gathered read → IfErr result (λ cause.
+            TextStops O.Sink ((asked self.now).last (kept_by shelf.now).way read) cause out.old out.new) }
+        ensures sure { (read : List Found) → gathers self.now gathered read
+            → (asked self.now).last (kept_by shelf.now).way read ≡ Ok [] → IfErr result (λ _. ⊥) };
+}

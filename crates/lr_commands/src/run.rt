@@ -1,0 +1,62 @@
+//! The one loop over the entries of a shelf.
+ghost use Rattle.std.specs.Prelude.{◌≡◌, false, [], IfErr, OnOk};
+ghost use Rattle.lr_shelf.specs.Kept.{kept_by};
+ghost use Rattle.lr_commands.specs.Runs.{RunsOn, RunsOver};
+
+use crate::cause::{Cause, Refusal};
+use crate::reads::ReadsEntries;
+use lr_disk::Disk;
+use lr_io::Sink;
+use lr_shelf::Shelf;
+use std::alloc::Global;
+
+/// Takes the entries of a shelf that was loaded, and then puts the last text.
+fn take_entries<C: ReadsEntries, D: Disk, O: Sink>(
+    alloc: Global,
+    command: &C,
+    gathered: C::Gathered,
+    shelf: &mut Shelf,
+    disk: &mut D,
+    out: &mut O,
+) -> Result<(), Cause>
+    requires fresh { C.gathers command.now gathered [] }
+    requires working { (kept_by shelf.old).failed ≡ false }
+    ensures takes { OnOk result (RunsOn D.Disk O.Sink (C.asked command.now) (kept_by shelf.old).way Cause.Done
+        disk.old disk.new out.old out.new) }
+    ensures stops { IfErr result (λ cause. RunsOn D.Disk O.Sink (C.asked command.now) (kept_by shelf.old).way cause
+        disk.old disk.new out.old out.new) }
+{
+    let count = shelf.len();
+    let Some(range) = command.range(count) else {
+        return Err(Cause::Refused(Refusal::NoSuchFile { count }));
+    };
+    let mut gathered = gathered;
+    for number in range.from..range.to {
+        command.entry(alloc, number, &mut gathered, shelf, disk, out)?;
+    }
+    command.last(alloc, gathered, shelf, out)
+}
+
+/// Runs a command over the shelf on the disk: takes the memory at opening, loads the shelf, compares the numbers, takes
+/// the entries in order, and puts the last text. The first event decides.
+pub fn run_entries<C: ReadsEntries, D: Disk, O: Sink>(
+    alloc: Global,
+    command: &C,
+    disk: &mut D,
+    out: &mut O,
+) -> Cause
+    ensures { RunsOver D.Disk O.Sink (C.asked command.now) result disk.old disk.new out.old out.new }
+{
+    let gathered = match command.start(alloc) {
+        Ok(gathered) => gathered,
+        Err(error) => return Cause::from(error),
+    };
+    let mut shelf = match Shelf::load(alloc, disk) {
+        Ok(shelf) => shelf,
+        Err(error) => return Cause::from(error),
+    };
+    match take_entries(alloc, command, gathered, &mut shelf, disk, out) {
+        Ok(()) => Cause::Done,
+        Err(cause) => cause,
+    }
+}

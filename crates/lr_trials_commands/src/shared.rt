@@ -1,0 +1,106 @@
+//! Shelves, sinks and runs that the tests share.
+use lr_bits::{Bytes, Lengths, MissionFile, Origin, Placed};
+use lr_commands::Cause;
+use lr_commands::discard::discard;
+use lr_commands::extract::extract;
+use lr_commands::verify::verify;
+use lr_disk::{Disk, MemDisk};
+use lr_io::{MemSink, Sink};
+use lr_shelf::Shelf;
+use lr_shelf_format::old_header_of;
+use std::alloc::Global;
+use std::test::Fail;
+
+/// The room of a test's disk, in bytes.
+const ROOM: usize = 1_000;
+
+/// A shelf of version 1 and capacity 200, as a program of version 1 wrote it: one file of 26 bytes, with the gate at 19
+/// and the closed gate at 61.
+pub(crate) static OLD_SHELF: [u8; 62] = [
+    0x5A, 0x4C, 0x52, 0x53, 0x48, 0x45, 0x4C, 0x46, 1, 0, 0, 0, 0, 0, 0, 0, 0xC8, 0xB9, 0x71, 1, 0,
+    0, 0x64, 0, 0, 0, 1, 0, 0, 0, 0x1A, 0, 0x1A, 0, 7, 0, 0, 0, 0, 0, 0, 0, 0x88, 0, 0, 0x10, 2, 0,
+    0, 0, 0x10, 0, 0, 0, 0, 0, 0, 0, 0, 0x8B, 0xCA, 0,
+];
+
+/// A disk of these bytes, with room and calls enough.
+pub(crate) fn disk(alloc: Global, bytes: &[u8]) -> Result<MemDisk, Fail> {
+    let bytes = bytes.to_vec(alloc)?;
+    if bytes.len() > ROOM {
+        return Err(Fail::from("too many bytes"));
+    }
+    Ok(MemDisk::of(alloc, bytes, ROOM as u64, 1_000)?)
+}
+
+/// The old shelf, with one byte changed.
+pub(crate) fn with_byte(alloc: Global, place: usize, byte: u8) -> Result<MemDisk, Fail> {
+    let mut bytes = OLD_SHELF;
+    if let Some(one) = bytes.get_mut(place) {
+        *one = byte;
+    }
+    disk(alloc, &bytes)
+}
+
+/// The old shelf, of another capacity.
+pub(crate) fn with_capacity(alloc: Global, capacity: u64) -> Result<MemDisk, Fail> {
+    let mut bytes = old_header_of(capacity)[..19].to_vec(alloc)?;
+    for byte in &OLD_SHELF[19..] {
+        bytes.push(*byte)?;
+    }
+    disk(alloc, bytes.as_slice())
+}
+
+/// The old shelf, on which its file was received again in the outcome 0. It ends at 129.
+pub(crate) fn with_two(alloc: Global) -> Result<MemDisk, Fail> {
+    let mut made = disk(alloc, &OLD_SHELF)?;
+    let mut lengths = Lengths::new(alloc);
+    let mut bytes = Bytes::new(alloc);
+    lengths.push(26)?;
+    bytes.extend(&OLD_SHELF[33..59])?;
+    let file = MissionFile::build(0, 100, lengths, bytes).ok_or("no file")?;
+    let origin = Origin {
+        first: 0,
+        last: 0,
+        corrected: 0,
+    };
+    let mut shelf = Shelf::load(alloc, &mut made)?;
+    shelf.append(&mut made, &Placed { file, origin })?;
+    Ok(made)
+}
+
+/// A sink with room enough.
+pub(crate) fn sink(alloc: Global) -> Result<MemSink, Fail> {
+    with_room(alloc, 1_000)
+}
+
+pub(crate) fn with_room(alloc: Global, room: usize) -> Result<MemSink, Fail> {
+    Ok(MemSink::of(alloc, Vec::new(alloc), room)?)
+}
+
+/// Whether a run ended with this status, and put this text.
+pub(crate) fn ended(cause: Cause, out: &MemSink, status: u8, text: &[u8]) -> bool {
+    cause.status() == status && out.as_slice() == text
+}
+
+// ---- runs over any disk and any sink
+
+pub(crate) fn extracts<D: Disk, O: Sink>(
+    alloc: Global,
+    number: u64,
+    disk: &mut D,
+    out: &mut O,
+) -> Cause {
+    extract(alloc, number, disk, out)
+}
+
+pub(crate) fn verifies<D: Disk, O: Sink>(alloc: Global, disk: &mut D, out: &mut O) -> Cause {
+    verify(alloc, disk, out)
+}
+
+pub(crate) fn discards<D: Disk, O: Sink>(
+    alloc: Global,
+    number: u64,
+    disk: &mut D,
+    out: &mut O,
+) -> Cause {
+    discard(alloc, number, disk, out)
+}
