@@ -12,21 +12,10 @@ pub enum UnitForm {
     Frames,
 }
 
-/// What the source gives, or what is made.
+/// What the source gives. Blocks and frames have no line code.
 #[derive(Clone, Copy)]
 pub enum Input {
-    /// Soft symbols, each in a byte that is read as a signed one.
-    Symbols,
+    /// Soft symbols of this line code, each in a byte that is read as a signed one.
+    Symbols(LineCode),
     Units(UnitForm),
-}
-
-/// What a command takes of the source.
-#[derive(Clone, Copy)]
-pub struct Intake {
-    /// The form of the input.
-    pub input: Input,
-    /// The line code of symbols. Blocks and frames have none.
-    pub line: LineCode,
-    /// The most bytes that are taken.
-    pub most: u64,
 }
