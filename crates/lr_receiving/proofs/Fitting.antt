@@ -79,7 +79,8 @@ made_length start wrong n =
 -- ---- the stream's outcomes, and their files
 
 files_made : (start wrong n : ℕ) → ((k : ℕ) → k < n → IsReceivedAs wrong (frame_at start k) (block_at start wrong k))
-    → files_of_bytes (Symbols STANDARD) (made_bytes AsSymbols start wrong n) ≡ placed_of_outcomes (made_outcomes start wrong n)
+    → files_of_bytes (Symbols STANDARD) (made_bytes AsSymbols start wrong n)
+    ≡ placed_of_outcomes (made_outcomes start wrong n)
 unfolding files_of_bytes outcomes_of_bytes
 files_made start wrong n received =
     ap (λ s. placed_of_outcomes (outcomes_of_symbols STANDARD s)) (symbols_made start wrong n)

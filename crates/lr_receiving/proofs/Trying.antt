@@ -314,7 +314,8 @@ module _ {D : Type 0} (disk : DiskOf D) (symbols : List ℕ) (d d1 : D) where
             (λ ended. ReadsAll source disk out (Symbols STANDARD) limit ended shelf shelf' s s' d2 d' o o')
 
         abbrev AnswersSome : Result Ended Cause → Type 0
-        AnswersSome answer = IfErr answer (λ cause. ReadsSome source disk out (Symbols STANDARD) limit cause shelf s s' d2 d' o o')
+        AnswersSome answer = IfErr answer
+            (λ cause. ReadsSome source disk out (Symbols STANDARD) limit cause shelf s s' d2 d' o o')
 
         pub lines : (shelf' : Shelf) (answer : Result Ended Cause) → AnswersAll shelf' answer
             → (Rose (source.faults s) (source.faults s') → ⊥)

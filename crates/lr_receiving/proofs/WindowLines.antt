@@ -78,7 +78,8 @@ line_in line symbols f = window_line f.0 f.1.place f.1.positive (outcome_in line
 abbrev lines_from : LineCode → ℕ → List ℤ → List Frame → List ℕ
 lines_from line n symbols frames = concat (map (line_in line symbols) (enumerate_from n frames))
 
-lines_are : (line : LineCode) (symbols : List ℤ) (frames : List Frame) → lines_of_windows line symbols frames ≡ lines_from line 0 symbols frames
+lines_are : (line : LineCode) (symbols : List ℤ) (frames : List Frame) → lines_of_windows line symbols frames
+    ≡ lines_from line 0 symbols frames
 unfolding lines_of_windows
 lines_are line symbols frames = refl
 
@@ -93,7 +94,8 @@ lines-push line symbols frames frame =
     lines_are line symbols (frames ++ frame ∷ [])
     ∙ ap (λ (l : List (ℕ × Frame)). concat (map (line_in line symbols) l)) (enumerate_from-push 0 frames frame)
     ∙ ap concat (map-append (line_in line symbols) (enumerate_from 0 frames) ((0 + length frames, frame) ∷ []))
-    ∙ concat-append (map (line_in line symbols) (enumerate_from 0 frames)) (line_in line symbols (0 + length frames, frame) ∷ [])
+    ∙ concat-append (map (line_in line symbols) (enumerate_from 0 frames))
+    (line_in line symbols (0 + length frames, frame) ∷ [])
     ∙ ap (λ l. lines_from line 0 symbols frames ++ l) (append-nil (line_in line symbols (0 + length frames, frame)))
     ∙ ap (λ (k : ℕ). lines_from line 0 symbols frames
     ++ window_line k frame.place frame.positive (outcome_in line symbols frame)) (omega arith)
@@ -103,8 +105,11 @@ lines-push line symbols frames frame =
 -- the lines of the first frames are the first ones
 lines_first : (line : LineCode) (symbols : List ℤ) (frames more : List Frame)
     → (rest : List ℕ) × (lines_of_windows line symbols (frames ++ more) ≡ lines_of_windows line symbols frames ++ rest)
-lines_first line symbols frames [] =
-    ([], ap (lines_of_windows line symbols) (append-nil frames) ∙ sym (append-nil (lines_of_windows line symbols frames)))
+lines_first line symbols frames [] = (
+  [],
+  ap (lines_of_windows line symbols) (append-nil frames)
+      ∙ sym (append-nil (lines_of_windows line symbols frames)),
+)
 lines_first line symbols frames (frame ∷ more) =
     let behind : (rest : List ℕ) × (lines_of_windows line symbols ((frames ++ frame ∷ []) ++ more)
     ≡ lines_of_windows line symbols (frames ++ frame ∷ []) ++ rest) =
@@ -117,7 +122,8 @@ lines_first line symbols frames (frame ∷ more) =
     )
 
 -- the lines stay where the outcomes do
-same_from : (line : LineCode) (n : ℕ) (symbols others : List ℤ) (frames : List Frame) → map (outcome_in line symbols) frames
+same_from : (line : LineCode) (n : ℕ) (symbols others : List ℤ) (frames : List Frame)
+    → map (outcome_in line symbols) frames
     ≡ map (outcome_in line others) frames → lines_from line n symbols frames ≡ lines_from line n others frames
 same_from line n symbols others [] is = refl
 same_from line n symbols others (frame ∷ frames) is =
@@ -136,7 +142,7 @@ lines_stay line bytes all frames same = lines_are line (symbols_of all) frames
 
 -- the lines of the windows so far were put, and those that were restored counted
 pub record WindowsPut {S O : Type 0} (source : SourceOf S) (out : SinkOf O) (line : LineCode)
-    (limit place restored : ℕ)    (now : Decoding) (s s' : S) (o o' : O) : Type 0 where
+    (limit place restored : ℕ) (now : Decoding) (s s' : S) (o o' : O) : Type 0 where
   pub bytes : List ℕ
   pub given : List Frame
   pub count : place ≡ length given
@@ -298,7 +304,13 @@ module _ {S O : Type 0} (source : SourceOf S) (out : SinkOf O) (line : LineCode)
             (ends.so_far.ended ends.closed)));
         put = subst (λ (l : List ℕ). Puts out l o p) (sym lines) so.put;
         symbols = symbols ∙ ends.so_far.long;
-        frames = omega (arith, frames, so.count, ap length outcomes_at_end, outcomes_given-counted line so.bytes so.given);
+        frames = omega (
+          arith,
+          frames,
+          so.count,
+          ap length outcomes_at_end,
+          outcomes_given-counted line so.bytes so.given,
+        );
         restored = restored_is ∙ so.counted ∙ ap (λ (l : List Outcome). count_by is_restored l) (sym outcomes_at_end);
         left = left;
       }

@@ -82,7 +82,8 @@ use Rattle.lr_receiving.proofs.WholeFrames.{with_outcome}
 
 -- restored frames are whole
 
-whole_at : (line : LineCode) (window : List ℤ) (outcome : Outcome) → outcome ≡ outcome_of_window line window → HasWholeFrame outcome
+whole_at : (line : LineCode) (window : List ℤ) (outcome : Outcome) → outcome ≡ outcome_of_window line window
+    → HasWholeFrame outcome
 whole_at line window (Lost word) is = tt
 whole_at line window (Restored corrected frame) is = whole_of_window line window frame corrected is
 
@@ -108,8 +109,10 @@ all_whole line symbols =
     (with_frames line symbols (frames_of (tail_of line) symbols) [] no_frames)
 
 -- the files of frames that were given are the first ones of the bytes
-pub files_first : (line : LineCode) (bytes : List ℕ) (given : List Frame) → AreNext (tail_of line) (symbols_of bytes) None given
-    → (rest : List Placed) × (files_of_bytes (Symbols line) bytes ≡ placed_of_outcomes (outcomes_given line bytes given) ++ rest)
+pub files_first : (line : LineCode) (bytes : List ℕ) (given : List Frame)
+    → AreNext (tail_of line) (symbols_of bytes) None given
+    → (rest : List Placed) × (files_of_bytes (Symbols line) bytes
+    ≡ placed_of_outcomes (outcomes_given line bytes given) ++ rest)
 unfolding files_of_bytes outcomes_of_bytes outcomes_given
 files_first line bytes given next =
     let symbols : List ℤ = symbols_of bytes in
@@ -121,7 +124,8 @@ files_first line bytes given next =
     (law.more_files, ap placed_of_outcomes first.1 ∙ law.files)
 
 -- they are the first ones of more bytes too, where their windows are there
-more_files : (line : LineCode) (bytes more : List ℕ) (given : List Frame) → AreNext (tail_of line) (symbols_of bytes) None given
+more_files : (line : LineCode) (bytes more : List ℕ) (given : List Frame)
+    → AreNext (tail_of line) (symbols_of bytes) None given
     → All (λ frame. frame.place + WINDOW_END ≤ length (symbols_of bytes)) given
     → (rest : List Placed) × (files_of_bytes (Symbols line) (bytes ++ more)
     ≡ placed_of_outcomes (outcomes_given line bytes given) ++ rest)
@@ -162,7 +166,8 @@ pub outcomes_all : (line : LineCode) (bytes : List ℕ) (given : List Frame)
 unfolding outcomes_of_bytes outcomes_given
 outcomes_all line bytes given every = all_outcomes line (symbols_of bytes) given every
 
-pub files_all : (line : LineCode) (bytes : List ℕ) (outcomes : List Outcome) → outcomes_of_bytes (Symbols line) bytes ≡ outcomes
+pub files_all : (line : LineCode) (bytes : List ℕ) (outcomes : List Outcome)
+    → outcomes_of_bytes (Symbols line) bytes ≡ outcomes
     → files_of_bytes (Symbols line) bytes ≡ placed_of_outcomes outcomes
 unfolding files_of_bytes
 files_all line bytes outcomes is = ap placed_of_outcomes is
@@ -177,7 +182,8 @@ pub outcomes_given-none : (line : LineCode) (bytes : List ℕ) → outcomes_give
 unfolding outcomes_given
 outcomes_given-none line bytes = refl
 
-pub outcomes_given-counted : (line : LineCode) (bytes : List ℕ) (given : List Frame) → length (outcomes_given line bytes given) ≡ length given
+pub outcomes_given-counted : (line : LineCode) (bytes : List ℕ) (given : List Frame)
+    → length (outcomes_given line bytes given) ≡ length given
 unfolding outcomes_given
 outcomes_given-counted line bytes given = length-map given (outcome_in line (symbols_of bytes))
 
@@ -272,7 +278,8 @@ module _ {S D O : Type 0} (source : SourceOf S) (disk : DiskOf D) (out : SinkOf 
         )
 
     module _ (outcome : Outcome) (is : outcome ≡ outcome_of_window now.lock.line now.window.symbols) where
-      outcomes_now : outcomes_given line gives.all (so.given ++ gives.frame ∷ []) ≡ outcomes_given line so.bytes so.given
+      outcomes_now : outcomes_given line gives.all (so.given ++ gives.frame ∷ [])
+          ≡ outcomes_given line so.bytes so.given
           ++ outcome ∷ []
       outcomes_now =
           outcomes_given-push line gives.all so.given gives.frame
@@ -303,7 +310,8 @@ module _ {S D O : Type 0} (source : SourceOf S) (disk : DiskOf D) (out : SinkOf 
           (gives.so_far.ended finished) in
           let none = nothing_left source now.stop limit gives.all s s' why told few calm in (
             first_files.0,
-            ap (files_of_bytes (Symbols line)) (ap (λ (l : List ℕ). gives.all ++ l) none ∙ append-nil gives.all) ∙ files_there,
+            ap (files_of_bytes (Symbols line)) (ap (λ (l : List ℕ). gives.all ++ l) none ∙ append-nil gives.all)
+                ∙ files_there,
           )
       first_of told few calm false unfinished =
           let longer = more_files line gives.all (source.left s') (so.given ++ gives.frame ∷ [])
@@ -405,7 +413,13 @@ module _ {S D O : Type 0} (source : SourceOf S) (disk : DiskOf D) (out : SinkOf 
       reason = subst (λ (x : Stop). EndsFor source x limit ends.all s s') (sym stops) end_reason;
       count = record {
         symbols = symbols ∙ ends.so_far.long;
-        frames = omega (arith, frames, so.count, ap length outcomes_at_end, outcomes_given-counted line so.bytes so.given);
+        frames = omega (
+          arith,
+          frames,
+          so.count,
+          ap length outcomes_at_end,
+          outcomes_given-counted line so.bytes so.given,
+        );
         counts = counts ∙ so.stands.numbers ∙ ap numbers_of (sym outcomes_at_end);
         left = left;
       };

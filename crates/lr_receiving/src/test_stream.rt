@@ -104,7 +104,8 @@ fn make_units<O: Sink>(
 ) -> Result<(), Cause>
     requires { wrong ≤ 16 }
     ensures put { IfOk result (λ _. Puts O.Sink (made_bytes (Output.Units form) start wrong frames) out.old out.new) }
-    ensures failed { OnErr result (PutFails O.Sink (made_bytes (Output.Units form) start wrong frames) out.old out.new) }
+    ensures failed { OnErr result
+        (PutFails O.Sink (made_bytes (Output.Units form) start wrong frames) out.old out.new) }
     ensures cause { IfErr result (λ cause. cause ≡ Cause.Failed OutputParty) }
 {
     match form {

@@ -84,7 +84,8 @@ fn put_windows<S: Source, O: Sink>(
     out: &mut O,
 ) -> Result<Stop, Cause>
     requires few { most ≤ 2 ^ 48 }
-    ensures all { IfOk result (λ stop. PrintsAll S.Source O.Sink (decode_text (Symbols line)) (decode_last (Symbols line))
+    ensures all { IfOk result (λ stop. PrintsAll S.Source O.Sink (decode_text (Symbols line))
+        (decode_last (Symbols line))
         most stop source.old source.new out.old out.new) }
     ensures stopped { IfErr result
         (λ cause. Prints S.Source O.Sink (decode_text (Symbols line)) (decode_last (Symbols line)) most cause source.old

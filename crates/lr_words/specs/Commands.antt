@@ -23,7 +23,7 @@ use Rattle.lr_shelf_format.specs.declared.header.TheConstants.{LEAST_CAPACITY, M
 use Rattle.lr_shelf_format.specs.Header.{IsCapacity}
 use Rattle.lr_words.specs.Arguments.{place, option, number_app, symbols_app, intake_app, stream_app}
 use Rattle.lr_words.specs.Numbers.{number_given}
-use Rattle.lr_words.specs.Values.{coded_input, any_input, most_of, intake_of}
+use Rattle.lr_words.specs.Values.{coded_input, any_input, output_of, most_of, workers_of, line_of}
 use Rattle.lr_words.specs.Words.{is_taken, value_of}
 use Rattle.lr_words.specs.declared.command.Command.{Command}
 use Rattle.lr_words.specs.declared.command.Command.TheVariants.{
@@ -70,16 +70,18 @@ packets_of words = if is_taken packets_app words
     then option_map (λ n. Packets n) (most_of (value_of packets_app words (codes "symbols")))
     else None
 
--- `decode [--input symbols|blocks] [--workers 1] [--symbols N] [--line nrz-l|nrz-m] [--g2 inverted|plain]`
+-- `decode [--input symbols|blocks] [--workers 1] [--symbols N] [--line nrz-l|nrz-m] [--g2 inverted|plain]`; the last
+-- two are read in each form, and say something of symbols alone
 abbrev pub decode_app : App
 decode_app = intake_app (codes "decode")
 
 abbrev pub decode_of : List Text → Option Command
 decode_of words = if is_taken decode_app words
-    then option_and_then (λ form. option_map (λ i. Decode i) (intake_of form
-    (value_of decode_app words (codes "workers")) (value_of decode_app words (codes "line"))
-    (value_of decode_app words (codes "g2")) (value_of decode_app words (codes "symbols"))))
-    (coded_input (value_of decode_app words (codes "input")))
+    then option_and_then (λ one. option_and_then (λ line. option_and_then (λ input. option_map (λ n. Decode input n)
+    (most_of (value_of decode_app words (codes "symbols"))))
+    (coded_input line (value_of decode_app words (codes "input"))))
+    (line_of (value_of decode_app words (codes "line")) (value_of decode_app words (codes "g2"))))
+    (workers_of (value_of decode_app words (codes "workers")))
     else None
 
 -- `receive` with the same options, and `frames` as a further form
@@ -88,10 +90,11 @@ receive_app = intake_app (codes "receive")
 
 abbrev pub receive_of : List Text → Option Command
 receive_of words = if is_taken receive_app words
-    then option_and_then (λ form. option_map (λ i. Receive i) (intake_of form
-    (value_of receive_app words (codes "workers")) (value_of receive_app words (codes "line"))
-    (value_of receive_app words (codes "g2")) (value_of receive_app words (codes "symbols"))))
-    (any_input (value_of receive_app words (codes "input")))
+    then option_and_then (λ one. option_and_then (λ line. option_and_then (λ input. option_map (λ n. Receive input n)
+    (most_of (value_of receive_app words (codes "symbols"))))
+    (any_input line (value_of receive_app words (codes "input"))))
+    (line_of (value_of receive_app words (codes "line")) (value_of receive_app words (codes "g2"))))
+    (workers_of (value_of receive_app words (codes "workers")))
     else None
 
 -- `extract NUMBER`
@@ -126,7 +129,7 @@ make_app = with_rule (stream_app (codes "make")) (option (codes "output"))
 abbrev pub make_of : List Text → Option Command
 make_of words = if is_taken make_app words
     then option_and_then (λ s. option_and_then (λ f. option_and_then (λ w. option_map (λ form. Make s f w form)
-    (any_input (value_of make_app words (codes "output"))))
+    (output_of (value_of make_app words (codes "output"))))
     (number_given 0 16 (value_of make_app words (codes "wrong"))))
     (number_given 1 65536 (value_of make_app words (codes "frames"))))
     (number_given 0 most_u64 (value_of make_app words (codes "start")))
@@ -177,8 +180,8 @@ abbrev pub IsInRange : Option Command → Type 0
 IsInRange (Some (Init capacity)) = IsCapacity capacity
 IsInRange (Some (Frames most)) = most ≤ 2 ^ 48
 IsInRange (Some (Packets most)) = most ≤ 2 ^ 48
-IsInRange (Some (Decode intake)) = intake.most ≤ 2 ^ 48
-IsInRange (Some (Receive intake)) = intake.most ≤ 2 ^ 48
+IsInRange (Some (Decode input most)) = most ≤ 2 ^ 48
+IsInRange (Some (Receive input most)) = most ≤ 2 ^ 48
 IsInRange (Some (Make start frames wrong form)) = (frames ≤ 65536) × (wrong ≤ 16)
 IsInRange (Some (Trial start frames wrong)) = (frames ≤ 1024) × (wrong ≤ 16)
 IsInRange _ = Unit {0}

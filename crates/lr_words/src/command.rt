@@ -1,5 +1,5 @@
 // A command with what its words say.
-use lr_receiving::{Input, Intake};
+use lr_receiving::{Input, Output};
 
 /// A command with what its words say.
 #[derive(Clone, Copy)]
@@ -16,13 +16,15 @@ pub enum Command {
     Packets {
         most: u64,
     },
-    /// A line for what became of each window or block.
+    /// A line for what became of each window or block; at most `most` bytes are taken.
     Decode {
-        intake: Intake,
+        input: Input,
+        most: u64,
     },
-    /// Puts each mission file onto the shelf.
+    /// Puts each mission file onto the shelf; at most `most` bytes are taken.
     Receive {
-        intake: Intake,
+        input: Input,
+        most: u64,
     },
     /// The bytes of the mission file of this number.
     Extract {
@@ -39,7 +41,7 @@ pub enum Command {
         start: u64,
         frames: u64,
         wrong: u8,
-        form: Input,
+        form: Output,
     },
     /// The main job on `frames` frames of that stream: the symbols are made and received onto a shelf that is made for
     /// them.

@@ -5,7 +5,7 @@ ghost use Rattle.lr_words.specs.Commands.{decode_of, IsInRange};
 use crate::arguments::intake_parser;
 use crate::command::Command;
 use crate::matched::matched;
-use crate::values::{coded_input, intake};
+use crate::values::{coded_input, line_code, most, workers};
 use lr_bits::NoMemory;
 use std::alloc::Global;
 
@@ -16,11 +16,17 @@ pub(crate) fn read_decode(alloc: Global, words: &[String]) -> Result<Option<Comm
     let Some(matches) = matched(intake_parser(alloc, "decode")?, words)? else {
         return Ok(None);
     };
-    let Some(input) = coded_input(&matches, "input") else {
+    let Some(_) = workers(&matches) else {
         return Ok(None);
     };
-    let Some(intake) = intake(&matches, input) else {
+    let Some(line) = line_code(&matches) else {
         return Ok(None);
     };
-    Ok(Some(Command::Decode { intake }))
+    let Some(input) = coded_input(&matches, line) else {
+        return Ok(None);
+    };
+    let Some(most) = most(&matches) else {
+        return Ok(None);
+    };
+    Ok(Some(Command::Decode { input, most }))
 }

@@ -7,7 +7,7 @@ use crate::arguments::{option, stream_parser};
 use crate::command::Command;
 use crate::matched::matched;
 use crate::numbers::number_given;
-use crate::values::{MOST_WRONG, any_input};
+use crate::values::{MOST_WRONG, output_form};
 use clap::Command as Parser;
 use lr_bits::NoMemory;
 use std::alloc::{AllocError, Global};
@@ -37,7 +37,7 @@ pub(crate) fn read_make(alloc: Global, words: &[String]) -> Result<Option<Comman
     let Some(wrong) = number_given(&matches, "wrong", 0, MOST_WRONG) else {
         return Ok(None);
     };
-    let Some(form) = any_input(&matches, "output") else {
+    let Some(form) = output_form(&matches) else {
         return Ok(None);
     };
     Ok(Some(Command::Make {

@@ -5,7 +5,7 @@ ghost use Rattle.lr_words.specs.Commands.{receive_of, IsInRange};
 use crate::arguments::intake_parser;
 use crate::command::Command;
 use crate::matched::matched;
-use crate::values::{any_input, intake};
+use crate::values::{any_input, line_code, most, workers};
 use lr_bits::NoMemory;
 use std::alloc::Global;
 
@@ -16,11 +16,17 @@ pub(crate) fn read_receive(alloc: Global, words: &[String]) -> Result<Option<Com
     let Some(matches) = matched(intake_parser(alloc, "receive")?, words)? else {
         return Ok(None);
     };
-    let Some(input) = any_input(&matches, "input") else {
+    let Some(_) = workers(&matches) else {
         return Ok(None);
     };
-    let Some(intake) = intake(&matches, input) else {
+    let Some(line) = line_code(&matches) else {
         return Ok(None);
     };
-    Ok(Some(Command::Receive { intake }))
+    let Some(input) = any_input(&matches, line) else {
+        return Ok(None);
+    };
+    let Some(most) = most(&matches) else {
+        return Ok(None);
+    };
+    Ok(Some(Command::Receive { input, most }))
 }

@@ -12,17 +12,22 @@ use Rattle.lr_receiving.proofs.WindowLines.{
 use Rattle.lr_receiving.proofs.windows.put_each_window.Goals as goal
 
 pub windows-init : goal.windows-init
-windows-init g c = put_begun g.S.Source g.O.Sink c.args.line c.args.most c.in_ok-decoder.decoder c.in_ok-decoder.ensures.line
-    c.in_ok-decoder.ensures.fresh     c.args.source.now c.args.out.now
+windows-init g c = put_begun g.S.Source g.O.Sink c.args.line c.args.most c.in_ok-decoder.decoder
+    c.in_ok-decoder.ensures.line
+    c.in_ok-decoder.ensures.fresh c.args.source.now c.args.out.now
 
 pub invariant_of-result : goal.invariant_of-result
-invariant_of-result g c = record { fewer = put_few_restored g.S.Source g.O.Sink c.args.line c.args.most c.windows.invariant }
+invariant_of-result g c = record {
+  fewer =
+      put_few_restored g.S.Source g.O.Sink c.args.line c.args.most c.windows.invariant;
+}
 
 pub returns-in-Ended-clause-ended : goal.returns-in-Ended-clause-ended
 returns-in-Ended-clause-ended g c =
     let so = c.windows.invariant in
     let ends = c.in-Ended.ensures.decodes c.args.line so.bytes so.given c.args.source.now so.decodes in
-    windows_end g.S.Source g.O.Sink c.args.line c.args.most so c.in-Ended.stop ends (c.in-Ended.ensures.most ∙ so.limit_is)
+    windows_end g.S.Source g.O.Sink c.args.line c.args.most so c.in-Ended.stop ends (c.in-Ended.ensures.most
+    ∙ so.limit_is)
     _ refl c.taken.ensures refl refl refl
 
 pub returns-in_err-put_window-in-Whole-clause-stopped : goal.returns-in_err-put_window-in-Whole-clause-stopped
@@ -45,7 +50,8 @@ count_restored-restored-requires g c =
     let gives = c.in-Whole.ensures.decodes c.args.line so.bytes so.given c.args.source.now so.decodes in
     let few : c.windows.place < c.args.most =
     put_place_few g.S.Source g.O.Sink c.args.line c.args.most so gives (c.in-Whole.ensures.most ∙ so.limit_is) in
-    let fewer : c.windows.restored ≤ c.windows.place = put_few_restored g.S.Source g.O.Sink c.args.line c.args.most so in
+    let fewer : c.windows.restored ≤ c.windows.place =
+    put_few_restored g.S.Source g.O.Sink c.args.line c.args.most so in
     omega (arith, few, fewer, c.requires.few)
 
 pub windows-preserved : goal.windows-preserved

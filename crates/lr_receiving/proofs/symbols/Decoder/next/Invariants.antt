@@ -9,7 +9,8 @@ invariant-steps g l =
     let source = g.S.Source in
     record {
       decodes : (line : LineCode) (bytes : List ℕ) (given : List Frame) (s : _)
-          → DecodesSoFar source line bytes given l.fn.self s l.fn.source → DecodesOn source line bytes given l.self s l.source;
+          → DecodesSoFar source line bytes given l.fn.self s l.fn.source
+          → DecodesOn source line bytes given l.self s l.source;
       standing : IsStanding l.self.lock;
       most : l.self.most ≡ l.fn.self.most;
       fewer : symbols_left l.self ≤ symbols_left l.fn.self;
