@@ -1,3 +1,5 @@
+use lr_conv::LineCode;
+
 /// The most bytes that a call takes from the source where no word gives another number.
 pub const MOST_BYTES: u64 = 1_099_511_627_776;
 
@@ -16,4 +18,15 @@ pub enum Input {
     /// Soft symbols, each in a byte that is read as a signed one.
     Symbols,
     Units(UnitForm),
+}
+
+/// What a command takes of the source.
+#[derive(Clone, Copy)]
+pub struct Intake {
+    /// The form of the input.
+    pub input: Input,
+    /// The line code of symbols. Blocks and frames have none.
+    pub line: LineCode,
+    /// The most bytes that are taken.
+    pub most: u64,
 }

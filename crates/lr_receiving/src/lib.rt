@@ -24,7 +24,7 @@ mod units;
 mod windows;
 
 pub use frame_lines::frames;
-pub use input::{Input, MOST_BYTES, UnitForm};
+pub use input::{Input, Intake, MOST_BYTES, UnitForm};
 pub use new_shelf::init;
 pub use outcome_lines::decode;
 pub use packet_lines::packets;

@@ -1,0 +1,50 @@
+use lr_receiving::{Input, Intake};
+
+/// A command with what its words say.
+#[derive(Clone, Copy)]
+pub enum Command {
+    /// Makes an empty shelf of this many bytes.
+    Init {
+        capacity: u64,
+    },
+    /// A line for each transfer frame; at most `most` bytes are taken.
+    Frames {
+        most: u64,
+    },
+    /// A line for each packet of the transfer frames; at most `most` bytes are taken.
+    Packets {
+        most: u64,
+    },
+    /// A line for what became of each window or block.
+    Decode {
+        intake: Intake,
+    },
+    /// Puts each mission file onto the shelf.
+    Receive {
+        intake: Intake,
+    },
+    /// The bytes of the mission file of this number.
+    Extract {
+        number: u64,
+    },
+    /// A line for each file's checksum.
+    Verify,
+    /// Closes the entry of this number.
+    Discard {
+        number: u64,
+    },
+    /// `frames` frames of the test stream of this start, with `wrong` wrong bytes in each word, in this form.
+    Make {
+        start: u64,
+        frames: u64,
+        wrong: u8,
+        form: Input,
+    },
+    /// The main job on `frames` frames of that stream: the symbols are made and received onto a shelf that is made for
+    /// them.
+    Trial {
+        start: u64,
+        frames: u64,
+        wrong: u8,
+    },
+}

@@ -1,0 +1,26 @@
+ghost use Rattle.std.specs.Prelude.{◌≡◌, map, IfOk, string_bytes};
+ghost use Rattle.lr_words.specs.Commands.{decode_of, IsInRange};
+
+use crate::arguments::intake_parser;
+use crate::command::Command;
+use crate::matched::matched;
+use crate::values::{coded_input, intake};
+use lr_bits::NoMemory;
+use std::alloc::Global;
+
+/// The command that words of `decode` give, if they give one.
+pub(crate) fn read_decode(alloc: Global, words: &[String]) -> Result<Option<Command>, NoMemory>
+    ensures gives { IfOk result (λ r. r ≡ decode_of (map string_bytes words.now)) }
+    ensures range { IfOk result IsInRange }
+{
+    let Some(matches) = matched(intake_parser(alloc, "decode")?, words)? else {
+        return Ok(None);
+    };
+    let Some(input) = coded_input(&matches, "input") else {
+        return Ok(None);
+    };
+    let Some(intake) = intake(&matches, input) else {
+        return Ok(None);
+    };
+    Ok(Some(Command::Decode { intake }))
+}
