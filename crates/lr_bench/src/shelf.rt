@@ -1,6 +1,6 @@
 //! Small files that are put on a new shelf, and a shelf that is loaded.
 
-use lr_bits::{Bytes, Lengths, MissionFile, NoMemory};
+use lr_bits::{Bytes, Lengths, MissionFile, NoMemory, Origin, Placed};
 use lr_disk::{Disk, FileDisk, MemDisk};
 use lr_shelf::{Shelf, ShelfError};
 use std::alloc::{AllocError, Global};
@@ -46,22 +46,30 @@ impl From<ShelfError> for Trouble {
     }
 }
 
-/// A file of one body of 26 bytes.
-fn small_file(alloc: Global) -> Result<MissionFile, Trouble> {
+/// A file of one body of 26 bytes, from the first frame.
+fn small_file(alloc: Global) -> Result<Placed, Trouble> {
     let mut lengths = Lengths::new(alloc);
     lengths.push(26)?;
     let mut bytes = Bytes::new(alloc);
     bytes.extend(&[0xA5; 26])?;
-    MissionFile::build(0, 100, lengths, bytes).ok_or(Trouble::NoFile)
+    let Some(file) = MissionFile::build(0, 100, lengths, bytes) else {
+        return Err(Trouble::NoFile);
+    };
+    let origin = Origin {
+        first: 0,
+        last: 0,
+        corrected: 0,
+    };
+    Ok(Placed { file, origin })
 }
 
 /// Makes a shelf of `count` files.
 fn filled<D: Disk>(alloc: Global, disk: &mut D, count: u64) -> Result<Shelf, Trouble> {
-    let file = small_file(alloc)?;
+    let placed = small_file(alloc)?;
     Shelf::init(disk, CAPACITY)?;
     let mut shelf = Shelf::load(alloc, disk)?;
     for _ in 0..count {
-        shelf.append(disk, &file)?;
+        shelf.append(disk, &placed)?;
     }
     Ok(shelf)
 }

@@ -6,7 +6,7 @@ use std::test::Fail;
 
 /// The header of the capacity 100, with a closed gate.
 static HEADER_100: [u8; 20] = [
-    0x5A, 0x4C, 0x52, 0x53, 0x48, 0x45, 0x4C, 0x46, 0x01, 0, 0, 0, 0, 0, 0, 0, 0x64, 0xCD, 0x17, 0,
+    0x5A, 0x4C, 0x52, 0x53, 0x48, 0x45, 0x4C, 0x46, 2, 0, 0, 0, 0, 0, 0, 0, 0x64, 0xE0, 0x53, 0,
 ];
 
 // Makes the shelf by this word, and then a second time.
@@ -22,9 +22,9 @@ fn makes(alloc: Global, bytes: &[u8], capacity: &str) -> Result<bool, Fail> {
 
 // Two files are there, and the second gate has this byte.
 fn refuses_two_files(alloc: Global, gate: u8) -> Result<bool, Fail> {
-    let mut shelf = with_byte(alloc, 61, gate)?;
+    let mut shelf = with_byte(alloc, 86, gate)?;
     let before = shelf.as_slice().to_vec(alloc)?;
-    let wanted = refused(11, "station: not empty, length 104\n");
+    let wanted = refused(11, "station: not empty, length 154\n");
     let refuses = gives_alone(alloc, &mut shelf, &["init", "100"], wanted)?;
     Ok(refuses && shelf.as_slice() == before.as_slice())
 }

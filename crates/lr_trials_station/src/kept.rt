@@ -7,16 +7,23 @@ use std::test::Fail;
 
 const BOTH: &str = "file 0 ok\nfile 1 ok\n";
 
-const FIRST_BAD: &str = "file 0 bad stored 8BCA computed ED59\nfile 1 ok\n";
+const FIRST_BAD: &str = "file 0 bad stored 3B39 computed 5DAA\nfile 1 ok\n";
 
-const SECOND_BAD: &str = "file 0 ok\nfile 1 bad stored 4E05 computed 2896\n";
+const SECOND_BAD: &str = "file 0 ok\nfile 1 bad stored DE9E computed B80D\n";
 
 /// An empty shelf of the capacity 1,000.
 static EMPTY: [u8; 20] = [
-    0x5A, 0x4C, 0x52, 0x53, 0x48, 0x45, 0x4C, 0x46, 1, 0, 0, 0, 0, 0, 0, 3, 0xE8, 0xC8, 0x40, 0,
+    0x5A, 0x4C, 0x52, 0x53, 0x48, 0x45, 0x4C, 0x46, 2, 0, 0, 0, 0, 0, 0, 3, 0xE8, 0xE5, 4, 0,
 ];
 
-/// The file behind the transport header: two header records and eight zeros.
+/// The file 8 from the frame 0, with the gates before and after it.
+static ALONE: [u8; 68] = [
+    1, 0x80, 0, 0, 0x64, 0, 0, 0, 1, 0, 0, 0, 0x1A, 0, 0, 0, 0, 0, 0, 0, 0, 0, 0, 0, 0, 0, 0, 0, 0,
+    0, 0, 0, 0, 0, 0, 0, 0, 0, 0x1A, 0, 8, 0, 0, 0, 0, 0, 0, 0, 0x88, 0, 0, 0x10, 2, 0, 0, 0, 0x10,
+    0, 0, 0, 0, 0, 0, 0, 0, 0xFE, 0xF6, 0,
+];
+
+/// The file after the transport header: two header records and eight zeros.
 const PROPER: &str = "\0\0\x10\x02\0\0\0\x10\0\0\0\0\0\0\0\0";
 
 const LINE_7: &str = "shelved 0 vc 0 apid 100 counter 7 bytes 26 packets 1\n";
@@ -43,8 +50,8 @@ fn each_checksum_has_its_line(rt: HostRuntime) -> Result<(), Fail> {
     let alloc = rt.alloc();
     let mut shelf = disk(alloc, &TWO_FILES)?;
     assert!(rt; gives_alone(alloc, &mut shelf, &["verify"], done(BOTH))?);
-    assert!(rt; verifies(alloc, 43, FIRST_BAD)?);
-    assert!(rt; verifies(alloc, 85, SECOND_BAD)?);
+    assert!(rt; verifies(alloc, 68, FIRST_BAD)?);
+    assert!(rt; verifies(alloc, 135, SECOND_BAD)?);
     Ok(())
 }
 
@@ -53,12 +60,12 @@ fn a_sound_file_is_extracted(rt: HostRuntime) -> Result<(), Fail> {
     let alloc = rt.alloc();
     let bad = refused(12, "station: bad checksum\n");
     let missing = refused(7, "station: no such file, count 2\n");
-    assert!(rt; extracts(alloc, 85, "0", done(PROPER))?);
-    assert!(rt; extracts(alloc, 85, "1", bad)?);
-    assert!(rt; extracts(alloc, 43, "0", bad)?);
-    assert!(rt; extracts(alloc, 43, "1", done(PROPER))?);
-    assert!(rt; extracts(alloc, 43, "2", missing)?);
-    assert!(rt; extracts(alloc, 43, "18446744073709551615", missing)?);
+    assert!(rt; extracts(alloc, 135, "0", done(PROPER))?);
+    assert!(rt; extracts(alloc, 135, "1", bad)?);
+    assert!(rt; extracts(alloc, 68, "0", bad)?);
+    assert!(rt; extracts(alloc, 68, "1", done(PROPER))?);
+    assert!(rt; extracts(alloc, 68, "2", missing)?);
+    assert!(rt; extracts(alloc, 68, "18446744073709551615", missing)?);
     Ok(())
 }
 
@@ -72,7 +79,7 @@ fn is_no_shelf(alloc: Global, bytes: &[u8], line: &str) -> Result<bool, Fail> {
     Ok(received && extracted && verified && shelf.as_slice() == bytes)
 }
 
-// The first gate is open, and nothing stands behind it.
+// The first gate is open, and nothing stands after it.
 fn an_open_end_is_no_shelf(alloc: Global) -> Result<bool, Fail> {
     let mut bytes = TWO_FILES;
     bytes[19] = 1;
@@ -103,10 +110,12 @@ fn next_file(alloc: Global) -> Result<Input<'static>, Fail> {
 
 // A stop in the write that opens the second gate left 7F there. The next file stands in the place of the second.
 fn a_stop_leaves_no_file(alloc: Global) -> Result<bool, Fail> {
-    let mut shelf = with_byte(alloc, 61, 0x7F)?;
+    let mut shelf = with_byte(alloc, 86, 0x7F)?;
     let without = gives_alone(alloc, &mut shelf, &["verify"], done("file 0 ok\n"))?;
     let added = gives_on(alloc, &mut shelf, next_file(alloc)?, AMPLE, done(NEXT))?;
-    Ok(without && added && shelf.as_slice() == TWO_FILES.as_slice())
+    let bytes = shelf.as_slice();
+    let first = bytes.len() == TWO_FILES.len() && bytes[..86] == TWO_FILES[..86];
+    Ok(without && added && first && &bytes[86..] == ALONE.as_slice())
 }
 
 #[test]
@@ -115,7 +124,7 @@ fn a_stop_within_a_gate_leaves_its_file_out(rt: HostRuntime) -> Result<(), Fail>
     Ok(())
 }
 
-// The disk allows so many calls, and two files are received onto the empty shelf. What is then on the disk is verified.
+// The disk allows this many calls, and two files are received onto the empty shelf. What is then on the disk is verified.
 fn disk_fails(alloc: Global, calls: u64, out: &str, verified: &str) -> Result<bool, Fail> {
     let mut shelf = disk_of_calls(alloc, &EMPTY, calls)?;
     let input = Input {

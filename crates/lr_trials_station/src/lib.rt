@@ -6,6 +6,8 @@ mod blocks;
 #[cfg(test)]
 mod call;
 #[cfg(test)]
+mod discards;
+#[cfg(test)]
 mod frames;
 #[cfg(test)]
 mod init;

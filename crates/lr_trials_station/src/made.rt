@@ -167,14 +167,14 @@ fn files_are_shelved_however_the_reads_are_cut(rt: HostRuntime) -> Result<(), Fa
 fn all_files_fit_or_the_last_one_does_not(rt: HostRuntime) -> Result<(), Fail> {
     let alloc = rt.alloc();
     let bytes = behind_silence(alloc)?;
-    let mut whole = shelf_of(alloc, "40091", "shelf capacity 40091\n")?;
+    let mut whole = shelf_of(alloc, "41666", "shelf capacity 41666\n")?;
     let input = reading(&["receive"], bytes.as_slice().to_vec(alloc)?, 4_096);
     assert!(rt; ends_on(alloc, &mut whole, input, LINES, done(BEHIND))?);
-    let mut less = shelf_of(alloc, "40090", "shelf capacity 40090\n")?;
+    let mut less = shelf_of(alloc, "41665", "shelf capacity 41665\n")?;
     let wanted = Outcome {
         out: LAST,
         status: 10,
-        line: "station: capacity: needs 40091 of 40090\n",
+        line: "station: capacity: needs 41666 of 41665\n",
     };
     assert!(rt;
         ends_on(

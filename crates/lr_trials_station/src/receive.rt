@@ -155,17 +155,17 @@ fn the_files_stand_on_the_shelf(rt: HostRuntime) -> Result<(), Fail> {
     Ok(())
 }
 
-// One file fits exactly on a shelf of the capacity 62.
+// One file fits exactly on a shelf of the capacity 87.
 fn fits(alloc: Global) -> Result<bool, Fail> {
     let mut shelf = disk(alloc, &[])?;
     let made = gives_alone(
         alloc,
         &mut shelf,
-        &["init", "62"],
-        done("shelf capacity 62\n"),
+        &["init", "87"],
+        done("shelf capacity 87\n"),
     )?;
     let received = gives_on(alloc, &mut shelf, one_file(alloc)?, AMPLE, done(ONE_FILE))?;
-    Ok(made && received && shelf.as_slice().len() == 62)
+    Ok(made && received && shelf.as_slice().len() == 87)
 }
 
 // One byte less is too few. Nothing is printed, and the shelf stays as it is.
@@ -174,11 +174,11 @@ fn fits_not(alloc: Global) -> Result<bool, Fail> {
     let made = gives_alone(
         alloc,
         &mut shelf,
-        &["init", "61"],
-        done("shelf capacity 61\n"),
+        &["init", "86"],
+        done("shelf capacity 86\n"),
     )?;
     let before = shelf.as_slice().to_vec(alloc)?;
-    let wanted = refused(10, "station: capacity: needs 62 of 61\n");
+    let wanted = refused(10, "station: capacity: needs 87 of 86\n");
     let refuses = gives_on(alloc, &mut shelf, one_file(alloc)?, AMPLE, wanted)?;
     Ok(made && refuses && shelf.as_slice() == before.as_slice())
 }

@@ -5,19 +5,20 @@ use lr_disk::MemDisk;
 use std::alloc::Global;
 use std::test::Fail;
 
-/// A shelf of the capacity 1,000 with the files 7 and 8. The gates are at 19, 61 and 103.
-pub static TWO_FILES: [u8; 104] = [
-    0x5A, 0x4C, 0x52, 0x53, 0x48, 0x45, 0x4C, 0x46, 1, 0, 0, 0, 0, 0, 0, 3, 0xE8, 0xC8, 0x40, 1, 0,
-    0, 0x64, 0, 0, 0, 1, 0, 0, 0, 0x1A, 0, 0x1A, 0, 7, 0, 0, 0, 0, 0, 0, 0, 0x88, 0, 0, 0x10, 2, 0,
-    0, 0, 0x10, 0, 0, 0, 0, 0, 0, 0, 0, 0x8B, 0xCA, 1, 0, 0, 0x64, 0, 0, 0, 1, 0, 0, 0, 0x1A, 0,
-    0x1A, 0, 8, 0, 0, 0, 0, 0, 0, 0, 0x88, 0, 0, 0x10, 2, 0, 0, 0, 0x10, 0, 0, 0, 0, 0, 0, 0, 0,
-    0x4E, 5, 0,
+/// A shelf of the capacity 1,000 with the files 7 and 8, from the frames 0 and 1. The gates are at 19, 86 and 153.
+pub static TWO_FILES: [u8; 154] = [
+    0x5A, 0x4C, 0x52, 0x53, 0x48, 0x45, 0x4C, 0x46, 2, 0, 0, 0, 0, 0, 0, 3, 0xE8, 0xE5, 4, 1, 0x80,
+    0, 0, 0x64, 0, 0, 0, 1, 0, 0, 0, 0x1A, 0, 0, 0, 0, 0, 0, 0, 0, 0, 0, 0, 0, 0, 0, 0, 0, 0, 0, 0,
+    0, 0, 0, 0, 0, 0, 0x1A, 0, 7, 0, 0, 0, 0, 0, 0, 0, 0x88, 0, 0, 0x10, 2, 0, 0, 0, 0x10, 0, 0, 0,
+    0, 0, 0, 0, 0, 0x3B, 0x39, 1, 0x80, 0, 0, 0x64, 0, 0, 0, 1, 0, 0, 0, 0x1A, 0, 0, 0, 0, 0, 0, 0,
+    1, 0, 0, 0, 0, 0, 0, 0, 1, 0, 0, 0, 0, 0, 0, 0, 0, 0, 0x1A, 0, 8, 0, 0, 0, 0, 0, 0, 0, 0x88, 0,
+    0, 0x10, 2, 0, 0, 0, 0x10, 0, 0, 0, 0, 0, 0, 0, 0, 0xDE, 0x9E, 0,
 ];
 
 /// The words to receive frames.
 pub const FRAMES: [&str; 3] = ["receive", "--input", "frames"];
 
-/// A disk of these bytes that allows so many calls.
+/// A disk of these bytes that allows this many calls.
 pub fn disk_of_calls(alloc: Global, bytes: &[u8], calls: u64) -> Result<MemDisk, Fail> {
     let bytes = bytes.to_vec(alloc)?;
     if bytes.len() > 10_000 {

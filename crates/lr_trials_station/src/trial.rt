@@ -16,22 +16,22 @@ const LINE: &str =
     "symbols 1048576 frames 64 restored 64 lost 0 packets 452 files 63 left 0 stop end\n";
 
 // 512 frames of channel 0 have 452,608 bytes of packets: 97 files of 4,651, the next one's first packet of 43, and 19
-// of 72 behind it. 256 frames of channel 5 have 226,304: 923 packets of 245. So 6,305 + 20 + 923 packets, and 97 +
+// of 72 after it. 256 frames of channel 5 have 226,304: 923 packets of 245. So 6,305 + 20 + 923 packets, and 97 +
 // 923 files.
 const LONG_LINE: &str =
     "symbols 16777216 frames 1024 restored 1024 lost 0 packets 7248 files 1020 left 0 stop end\n";
 
-// The contents of the shelf with those 63 files: 20 bytes of the empty shelf, and for each file a gate of one byte, a
-// record of 13 bytes, two for each packet, and its own bytes. 57 texts of 237 bytes in one packet are 253 each,
-// 14,421 together; 6 images of 4,131 bytes in 65 packets are 4,275 each, 25,650 together.
-const SHELF: usize = 40_091;
+// The contents of the shelf with those 63 files: 20 bytes of the empty shelf, and for each file a gate of one byte, an
+// item of 38 bytes, two for each packet, and its own bytes. 57 texts of 237 bytes in one packet are 278 each, 15,846
+// together; 6 images of 4,131 bytes in 65 packets are 4,300 each, 25,800 together.
+const SHELF: usize = 41_666;
 
-// The same with 923 texts and 97 images: 20 + 233,519 + 414,675.
-const LONG_SHELF: usize = 648_214;
+// The same with 923 texts and 97 images: 20 + 256,594 + 417,100.
+const LONG_SHELF: usize = 673_714;
 
-const NOT_EMPTY: &str = "station: not empty, length 40091\n";
+const NOT_EMPTY: &str = "station: not empty, length 41666\n";
 
-// The text of the first file, behind the ten bytes of its transport header.
+// The text of the first file, after the ten bytes of its transport header.
 const TEXT: usize = 227;
 
 // An `out` for the lines of all files.
@@ -40,7 +40,7 @@ const LINES: Room = Room {
     fault: NEVER,
 };
 
-// An empty disk with room for so many bytes.
+// An empty disk with room for this many bytes.
 fn empty(alloc: Global, room: u64) -> Result<MemDisk, Fail> {
     Ok(MemDisk::of(alloc, Vec::new(alloc), room, 10_000)?)
 }
@@ -73,7 +73,7 @@ fn received(alloc: Global) -> Result<MemDisk, Fail> {
     }
 }
 
-// Whether a trial of these words on an empty disk prints this line alone, and leaves so many bytes.
+// Whether a trial of these words on an empty disk prints this line alone, and leaves this many bytes.
 fn leaves(alloc: Global, words: &[&str], line: &str, bytes: usize) -> Result<bool, Fail> {
     let mut disk = empty(alloc, 700_000)?;
     let prints = gives_alone(alloc, &mut disk, words, done(line))?;

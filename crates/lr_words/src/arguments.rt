@@ -1,4 +1,4 @@
-// The arguments of commands: those of one kind, and those of the commands that have the same.
+//! The arguments of commands: those of one kind, and those of the commands that have the same.
 ghost use Rattle.std.specs.Prelude.{◌≡◌, IfOk, false};
 ghost use Rattle.clap.specs.Words.{app_of, rule_of};
 ghost use Rattle.lr_words.specs.Arguments.{place, option, number_app, symbols_app, intake_app, stream_app};

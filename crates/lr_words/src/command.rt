@@ -1,4 +1,3 @@
-// A command with what its words say.
 use lr_receiving::{Input, Output};
 
 /// A command with what its words say.

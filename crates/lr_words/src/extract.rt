@@ -1,4 +1,3 @@
-// `extract`.
 ghost use Rattle.std.specs.Prelude.{◌≡◌, map, IfOk, string_bytes};
 ghost use Rattle.lr_words.specs.Commands.{extract_of, IsInRange};
 
@@ -9,6 +8,7 @@ use crate::numbers::number_given;
 use lr_bits::NoMemory;
 use std::alloc::Global;
 
+/// The command that words of `extract` give, if they give one.
 pub(crate) fn read_extract(alloc: Global, words: &[String]) -> Result<Option<Command>, NoMemory>
     ensures gives { IfOk result (λ r. r ≡ extract_of (map string_bytes words.now)) }
     ensures range { IfOk result IsInRange }

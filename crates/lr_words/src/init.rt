@@ -1,4 +1,4 @@
-// `init`.
+//! The words of `init`.
 ghost use Rattle.std.specs.Prelude.{◌≡◌, map, IfOk, string_bytes};
 ghost use Rattle.clap.specs.Words.{app_of};
 ghost use Rattle.lr_words.specs.Commands.{init_app, init_of, IsInRange};
@@ -18,6 +18,7 @@ fn init_parser<'a>(alloc: Global) -> Result<Parser<'a>, AllocError>
     Parser::new(alloc, "init").arg(place(alloc, "capacity"))
 }
 
+/// The command that words of `init` give, if they give one.
 pub(crate) fn read_init(alloc: Global, words: &[String]) -> Result<Option<Command>, NoMemory>
     ensures gives { IfOk result (λ r. r ≡ init_of (map string_bytes words.now)) }
     ensures range { IfOk result IsInRange }

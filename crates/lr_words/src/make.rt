@@ -1,4 +1,4 @@
-// `make`.
+//! The words of `make`.
 ghost use Rattle.std.specs.Prelude.{◌≡◌, map, IfOk, string_bytes};
 ghost use Rattle.clap.specs.Words.{app_of};
 ghost use Rattle.lr_words.specs.Commands.{make_app, make_of, IsInRange};
@@ -21,6 +21,7 @@ fn make_parser<'a>(alloc: Global) -> Result<Parser<'a>, AllocError>
     stream_parser(alloc, "make")?.arg(option(alloc, "output"))
 }
 
+/// The command that words of `make` give, if they give one.
 pub(crate) fn read_make(alloc: Global, words: &[String]) -> Result<Option<Command>, NoMemory>
     ensures gives { IfOk result (λ r. r ≡ make_of (map string_bytes words.now)) }
     ensures range { IfOk result IsInRange }

@@ -1,4 +1,3 @@
-// The one call of `clap`.
 ghost use Rattle.std.specs.Prelude.{◌≡◌, true, map, IfOk, string_bytes};
 ghost use Rattle.clap.specs.Words.{app_of};
 ghost use Rattle.lr_words.specs.Words.{is_covered, IsMatched};

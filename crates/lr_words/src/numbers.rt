@@ -1,4 +1,4 @@
-// Numbers as words give them.
+//! Numbers as words give them.
 ghost use Rattle.std.specs.Prelude.{◌≡◌, ◌≤◌, IfSome};
 ghost use Rattle.clap.specs.Words.{first_value, found_of};
 ghost use Rattle.lr_words.specs.Numbers.{number_of, number_between, number_or, number_given};

@@ -1,4 +1,4 @@
-// The command that the words give.
+//! The command that the words give, and whether it may change the shelf.
 ghost use Rattle.std.specs.Prelude.{◌≡◌, map, IfOk, string_bytes};
 ghost use Rattle.lr_words.specs.Commands.{command_of, is_writing, writes_shelf, IsInRange};
 

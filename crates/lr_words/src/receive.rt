@@ -1,4 +1,3 @@
-// `receive`.
 ghost use Rattle.std.specs.Prelude.{◌≡◌, map, IfOk, string_bytes};
 ghost use Rattle.lr_words.specs.Commands.{receive_of, IsInRange};
 
@@ -9,6 +8,7 @@ use crate::values::{any_input, line_code, most, workers};
 use lr_bits::NoMemory;
 use std::alloc::Global;
 
+/// The command that words of `receive` give, if they give one.
 pub(crate) fn read_receive(alloc: Global, words: &[String]) -> Result<Option<Command>, NoMemory>
     ensures gives { IfOk result (λ r. r ≡ receive_of (map string_bytes words.now)) }
     ensures range { IfOk result IsInRange }

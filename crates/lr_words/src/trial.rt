@@ -1,4 +1,3 @@
-// `trial`.
 ghost use Rattle.std.specs.Prelude.{◌≡◌, map, IfOk, string_bytes};
 ghost use Rattle.lr_words.specs.Commands.{trial_of, IsInRange};
 
@@ -13,6 +12,7 @@ use std::alloc::Global;
 /// The most frames that `trial` takes.
 const MOST_TRIAL_FRAMES: u64 = 1024;
 
+/// The command that words of `trial` give, if they give one.
 pub(crate) fn read_trial(alloc: Global, words: &[String]) -> Result<Option<Command>, NoMemory>
     ensures gives { IfOk result (λ r. r ≡ trial_of (map string_bytes words.now)) }
     ensures range { IfOk result IsInRange }

@@ -1,4 +1,4 @@
-// The values of the options that several commands have.
+//! The values of the options that several commands have.
 ghost use Rattle.std.specs.Prelude.{◌≡◌, ◌≤◌, IfSome, codes};
 ghost use Rattle.clap.specs.Words.{first_value, found_of};
 ghost use Rattle.lr_words.specs.Values.{

@@ -1,4 +1,4 @@
-// `verify`.
+//! The words of `verify`.
 ghost use Rattle.std.specs.Prelude.{◌≡◌, map, IfOk, string_bytes};
 ghost use Rattle.clap.specs.Words.{app_of};
 ghost use Rattle.lr_words.specs.Commands.{verify_app, verify_of, IsInRange};
@@ -15,6 +15,7 @@ fn verify_parser<'a>(alloc: Global) -> Parser<'a>
     Parser::new(alloc, "verify")
 }
 
+/// The command that words of `verify` give, if they give one.
 pub(crate) fn read_verify(alloc: Global, words: &[String]) -> Result<Option<Command>, NoMemory>
     ensures gives { IfOk result (λ r. r ≡ verify_of (map string_bytes words.now)) }
     ensures range { IfOk result IsInRange }
