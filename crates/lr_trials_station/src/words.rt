@@ -1,12 +1,12 @@
 // Which words are read, and as which command.
 use lr_conv::LineCode;
-use lr_receiving::{Input, Intake, UnitForm};
+use lr_receiving::{Input, Output, UnitForm};
 use lr_words::{Command, read_words, writes_shelf};
 use std::alloc::{AllocError, Global};
 use std::test::Fail;
 
 /// Words with a space between them, and the command that they give.
-const READ: [(&str, &str); 34] = [
+const READ: [(&str, &str); 35] = [
     ("init 100", "init 100"),
     ("init -- 100", "init 100"),
     ("init 00000000000000000100", "init 100"),
@@ -32,11 +32,11 @@ const READ: [(&str, &str); 34] = [
     ("decode", "decode symbols nrz-l inverted 1099511627776"),
     (
         "decode --symbols=0 --workers=1 --input=blocks",
-        "decode blocks nrz-l inverted 0",
+        "decode blocks 0",
     ),
     (
         "decode --input=blocks --symbols=0 --workers=1",
-        "decode blocks nrz-l inverted 0",
+        "decode blocks 0",
     ),
     (
         "decode --line nrz-m --symbols 9",
@@ -46,10 +46,14 @@ const READ: [(&str, &str); 34] = [
         "decode --g2=plain --symbols 9",
         "decode symbols nrz-l plain 9",
     ),
+    (
+        "decode --g2 plain --line nrz-m --symbols 9",
+        "decode symbols nrz-m plain 9",
+    ),
     ("receive", "receive symbols nrz-l inverted 1099511627776"),
     (
         "receive --input frames --line nrz-m --g2 plain --symbols 1",
-        "receive frames nrz-m plain 1",
+        "receive frames 1",
     ),
     (
         "receive --g2 inverted --line nrz-l --workers 1 --symbols 1",
@@ -200,11 +204,17 @@ const WRONG_VALUES: [&str; 44] = [
     "trial 0 1025 0",
 ];
 
-fn form_name(form: Input) -> &'static str {
+fn unit_name(form: UnitForm) -> &'static str {
     match form {
-        Input::Symbols => "symbols",
-        Input::Units(UnitForm::Blocks) => "blocks",
-        Input::Units(UnitForm::Frames) => "frames",
+        UnitForm::Blocks => "blocks",
+        UnitForm::Frames => "frames",
+    }
+}
+
+fn output_name(form: Output) -> &'static str {
+    match form {
+        Output::Symbols => "symbols",
+        Output::Units(form) => unit_name(form),
     }
 }
 
@@ -216,11 +226,18 @@ fn g2_name(line: LineCode) -> &'static str {
     if line.inverted { "inverted" } else { "plain" }
 }
 
-fn intake_text(alloc: Global, name: &str, intake: Intake) -> Result<String, AllocError> {
-    let form = form_name(intake.input);
-    let line = line_name(intake.line);
-    let g2 = g2_name(intake.line);
-    format!(in alloc; "{name} {form} {line} {g2} {}", intake.most)
+fn input_text(alloc: Global, name: &str, input: Input, most: u64) -> Result<String, AllocError> {
+    match input {
+        Input::Symbols(line) => {
+            let code = line_name(line);
+            let g2 = g2_name(line);
+            format!(in alloc; "{name} symbols {code} {g2} {most}")
+        }
+        Input::Units(form) => {
+            let units = unit_name(form);
+            format!(in alloc; "{name} {units} {most}")
+        }
+    }
 }
 
 /// The command with all its values.
@@ -229,8 +246,8 @@ fn text_of(alloc: Global, command: Command) -> Result<String, AllocError> {
         Command::Init { capacity } => format!(in alloc; "init {capacity}"),
         Command::Frames { most } => format!(in alloc; "frames {most}"),
         Command::Packets { most } => format!(in alloc; "packets {most}"),
-        Command::Decode { intake } => intake_text(alloc, "decode", intake),
-        Command::Receive { intake } => intake_text(alloc, "receive", intake),
+        Command::Decode { input, most } => input_text(alloc, "decode", input, most),
+        Command::Receive { input, most } => input_text(alloc, "receive", input, most),
         Command::Extract { number } => format!(in alloc; "extract {number}"),
         Command::Verify => String::from_str(alloc, "verify"),
         Command::Discard { number } => format!(in alloc; "discard {number}"),
@@ -239,7 +256,7 @@ fn text_of(alloc: Global, command: Command) -> Result<String, AllocError> {
             frames,
             wrong,
             form,
-        } => format!(in alloc; "make {start} {frames} {wrong} {}", form_name(form)),
+        } => format!(in alloc; "make {start} {frames} {wrong} {}", output_name(form)),
         Command::Trial {
             start,
             frames,
