@@ -3,7 +3,7 @@ use Rattle.std.proofs.Common.{◌≡◌, true, refl}
 use Rattle.clap.proofs.OnLiterals.{clap_on_literals}
 use Rattle.clap.specs.Words.{Text}
 use Rattle.lr_words.specs.Arguments.{number_app, symbols_app, intake_app, stream_app}
-use Rattle.lr_words.specs.Commands.{init_app, verify_app, make_app}
+use Rattle.lr_words.specs.Commands.{init_app, verify_app, make_app, trial_app}
 use Rattle.lr_words.specs.Words.{is_covered}
 
 pub number_covered : (name : Text) → is_covered (number_app name) ≡ true
@@ -18,10 +18,6 @@ pub intake_covered : (name : Text) → is_covered (intake_app name) ≡ true
 unfolding is_covered intake_app clap_on_literals
 intake_covered name = refl
 
-pub stream_covered : (name : Text) → is_covered (stream_app name) ≡ true
-unfolding is_covered stream_app clap_on_literals
-stream_covered name = refl
-
 pub init_covered : is_covered init_app ≡ true
 unfolding is_covered init_app clap_on_literals
 init_covered = refl
@@ -33,3 +29,7 @@ verify_covered = refl
 pub make_covered : is_covered make_app ≡ true
 unfolding is_covered make_app stream_app clap_on_literals
 make_covered = refl
+
+pub trial_covered : is_covered trial_app ≡ true
+unfolding is_covered trial_app stream_app clap_on_literals
+trial_covered = refl

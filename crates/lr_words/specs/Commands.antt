@@ -135,13 +135,14 @@ make_of words = if is_taken make_app words
     (number_given 0 most_u64 (value_of make_app words (codes "start")))
     else None
 
--- `trial START FRAMES WRONG`
-abbrev pub trial_app : App
-trial_app = stream_app (codes "trial")
+-- `trial START FRAMES WRONG [--workers 1]`
+unfoldable pub trial_app : App
+trial_app = with_rule (stream_app (codes "trial")) (option (codes "workers"))
 
 abbrev pub trial_of : List Text → Option Command
 trial_of words = if is_taken trial_app words
-    then option_and_then (λ s. option_and_then (λ f. option_map (λ w. Trial s f w)
+    then option_and_then (λ s. option_and_then (λ f. option_and_then (λ w. option_map (λ k. Trial s f w)
+    (workers_of (value_of trial_app words (codes "workers"))))
     (number_given 0 16 (value_of trial_app words (codes "wrong"))))
     (number_given 1 1024 (value_of trial_app words (codes "frames"))))
     (number_given 0 most_u64 (value_of trial_app words (codes "start")))
