@@ -6,7 +6,7 @@ use std::alloc::{AllocError, Global};
 use std::test::Fail;
 
 /// Words with a space between them, and the command that they give.
-const READ: [(&str, &str); 35] = [
+const READ: [(&str, &str); 36] = [
     ("init 100", "init 100"),
     ("init -- 100", "init 100"),
     ("init 00000000000000000100", "init 100"),
@@ -69,10 +69,11 @@ const READ: [(&str, &str); 35] = [
     ),
     ("trial 0 1 0", "trial 0 1 0"),
     ("trial 9 1024 16", "trial 9 1024 16"),
+    ("trial 9 --workers 1 1024 16", "trial 9 1024 16"),
 ];
 
 /// Words of which the arguments don't fit the command.
-const WRONG_ARGUMENTS: [&str; 28] = [
+const WRONG_ARGUMENTS: [&str; 29] = [
     "",
     " ",
     "init",
@@ -100,6 +101,7 @@ const WRONG_ARGUMENTS: [&str; 28] = [
     "make 1 2 3 --input blocks",
     "trial 1 2",
     "trial 1 2 3 --output symbols",
+    "trial 1 2 3 --workers 2",
     "decode blocks",
 ];
 
