@@ -3,7 +3,7 @@
 
 use lr_disk::{Disk, FileDisk, MemDisk};
 use lr_io::{ReadSource, WriteSink};
-use lr_station::{Cause, station, tell};
+use lr_station::{Cause, station, tell, writes_shelf};
 use std::fs::{File, OpenOptions};
 use std::process::ExitCode;
 use std::{env, fs, io};
@@ -16,7 +16,7 @@ const ROOM: u64 = 4_194_304;
 
 const CALLS: u64 = 65_536;
 
-/// The status where the path can't be opened. Nothing is printed then.
+/// The status where the path can't be opened, or another process holds the shelf. Nothing is printed then.
 const UNOPENED: u8 = 1;
 
 /// The path of the shelf and the words after it.
@@ -39,11 +39,32 @@ fn fill_streams(rt: &HostRuntime) -> [io::Result<File>; 3] {
     [fs::open(rt, "/"), fs::open(rt, "/"), fs::open(rt, "/")]
 }
 
-/// The file of the shelf, which is made where it is missing.
+/// The folder of a path, as the system reads it.
+fn folder_of(path: &str) -> &str {
+    match path.rfind('/') {
+        Some(0) => "/",
+        Some(end) => &path[..end],
+        None => ".",
+    }
+}
+
+/// Makes sure that a file which was made in this folder is still there after a stop.
+fn keep_folder(rt: &HostRuntime, folder: &str) -> io::Result<()> {
+    fs::open(rt, folder)?.sync_all()
+}
+
+/// The file of the shelf. Where it is missing it is made, and its folder is synced.
 fn open_shelf(rt: &HostRuntime, path: &str) -> io::Result<File> {
     let mut options = OpenOptions::new();
-    options.read(true).write(true).create(true);
-    options.open(rt, path)
+    options.read(true).write(true);
+    match options.open(rt, path) {
+        Err(error) if error.kind() == io::ErrorKind::NotFound => {
+            let file = options.create(true).open(rt, path)?;
+            keep_folder(rt, folder_of(path))?;
+            Ok(file)
+        }
+        other => other,
+    }
 }
 
 /// Puts the line of a cause that comes before the station is called, and answers its status.
@@ -66,6 +87,19 @@ fn run_in_memory(rt: &HostRuntime, words: &[String]) -> u8 {
     }
 }
 
+/// Runs a command on the file at this path. One that writes holds the file's advisory lock until it ends, and isn't run
+/// where another process holds it.
+fn run_on_file(rt: &HostRuntime, path: &str, words: &[String]) -> u8 {
+    let _streams = fill_streams(rt);
+    let Ok(file) = open_shelf(rt, path) else {
+        return UNOPENED;
+    };
+    if writes_shelf(words) && file.try_lock().is_err() {
+        return UNOPENED;
+    }
+    run_on(rt, words, &mut FileDisk::of(file))
+}
+
 fn run(rt: &HostRuntime) -> u8 {
     let all = match all_words(rt) {
         Ok(all) => all,
@@ -77,11 +111,7 @@ fn run(rt: &HostRuntime) -> u8 {
     if path.as_str() == NO_FILE {
         return run_in_memory(rt, words);
     }
-    let _streams = fill_streams(rt);
-    match open_shelf(rt, path.as_str()) {
-        Ok(file) => run_on(rt, words, &mut FileDisk::of(file)),
-        Err(_) => UNOPENED,
-    }
+    run_on_file(rt, path.as_str(), words)
 }
 
 fn main(rt: HostRuntime) -> ExitCode {

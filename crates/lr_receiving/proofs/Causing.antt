@@ -1,15 +1,11 @@
 -- Causes and counts.
-use Rattle.std.proofs.Common.{◌≡◌, inl, inr, ℕ, refl, subst, arith}
+use Rattle.std.proofs.Common.{◌≡◌, inl, inr, ℕ, subst, arith}
 use Rattle.lr_bits.specs.Faults.{Rose}
-use Rattle.lr_shelf.specs.declared.error.ShelfError.{ShelfError}
-use Rattle.lr_shelf.specs.declared.error.ShelfError.TheVariants.{Disk as Disk', Failed as Failed'}
-use Rattle.lr_catalog.specs.declared.stop.Stop.{Stop}
-use Rattle.lr_catalog.specs.declared.stop.Stop.TheVariants.{End, Limit, Fault}
 use Rattle.lr_commands.specs.declared.cause.Cause.{Cause}
 use Rattle.lr_commands.specs.declared.cause.Cause.TheVariants.{Failed}
 use Rattle.lr_commands.specs.declared.cause.Party.TheVariants.{Source, Disk, Output}
-use Rattle.lr_commands.specs.Causes.{cause_of, IsCaused}
-use Rattle.lr_receiving.specs.Causes.{cause_at, counts}
+use Rattle.lr_commands.specs.Causes.{IsCaused}
+use Rattle.lr_receiving.specs.Causes.{counts}
 
 -- counts that stayed before
 pub caused_later : (cause : Cause) (s s' d0 d1 d2 o0 o1 o2 : ℕ) → d1 ≡ d0 → o1 ≡ o0

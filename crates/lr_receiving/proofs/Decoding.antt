@@ -30,7 +30,6 @@ use Rattle.lr_lock.specs.Frames.{AreFrames}
 use Rattle.lr_lock.specs.Standing.{LockState, StandsFor}
 use Rattle.lr_lock.specs.Steps.{GivesWindow, WantsMore, HasEnded}
 use Rattle.lr_lock.specs.Symbols.{symbols_of}
-use Rattle.lr_conv.specs.declared.line.TheConstants.{STANDARD}
 use Rattle.lr_conv.specs.Marker.{tail_of}
 use Rattle.lr_conv.specs.declared.line.LineCode.{LineCode}
 use Rattle.lr_lock.specs.Windows.{WindowView, window_view}
@@ -64,25 +63,25 @@ finished_stands stands = record {
 }
 
 -- outcomes of frames whose symbols were all fed stay
-pub outcomes_given-stay : (lock : LockState) (bytes piece : List ℕ) (given : List Frame)
-    → StandsFor lock (symbols_of bytes) given → lock.finished ≡ false → outcomes_given (bytes ++ piece) given
-    ≡ outcomes_given bytes given
+pub outcomes_given-stay : (line : LineCode) (lock : LockState) (bytes piece : List ℕ) (given : List Frame)
+    → StandsFor lock (symbols_of bytes) given → lock.finished ≡ false → outcomes_given line (bytes ++ piece) given
+    ≡ outcomes_given line bytes given
 unfolding outcomes_given
-outcomes_given-stay lock bytes piece given stands unfinished =
-    ap (λ (l : List ℤ). map (outcome_in STANDARD l) given) (symbols_of-append bytes piece)
-    ∙ outcomes_stay STANDARD (symbols_of bytes) (symbols_of piece) given (stands.sure unfinished)
+outcomes_given-stay line lock bytes piece given stands unfinished =
+    ap (λ (l : List ℤ). map (outcome_in line l) given) (symbols_of-append bytes piece)
+    ∙ outcomes_stay line (symbols_of bytes) (symbols_of piece) given (stands.sure unfinished)
 
-module _ {S : Type 0} (source : SourceOf S) where
+module _ {S : Type 0} (source : SourceOf S) (line : LineCode) where
   -- a piece is fed
   pub piece_fed : {bytes : List ℕ} {given : List Frame} {before now : Decoding} {s t s' : S}
-      → DecodesSoFar source bytes given before s t → before.lock.finished ≡ false
-      → FeedsPiece source before now t s' → DecodesOn source bytes given now s s'
+      → DecodesSoFar source line bytes given before s t → before.lock.finished ≡ false
+      → FeedsPiece source before now t s' → DecodesOn source line bytes given now s s'
   piece_fed {bytes} {given} {before} {now} {s} {t} {s'} so unfinished fed = record {
     all = bytes ++ fed.piece;
     so_far = record {
       stands = subst (λ (l : List ℤ). StandsFor now.lock l given) (sym (symbols_of-append bytes fed.piece))
           (fed.stands (symbols_of bytes) given so.stands);
-      line = ap (λ (l : LockState). l.line) fed.lock_is ∙ so.line;
+      line_is = ap (λ (l : LockState). l.line) fed.lock_is ∙ so.line_is;
       long = omega (arith, fed.taken, so.long, length-append bytes fed.piece);
       few = fed.few;
       passed = omega (
@@ -99,7 +98,7 @@ module _ {S : Type 0} (source : SourceOf S) where
       going_on = λ e. fed.kept ∙ so.going_on unfinished;
       ended = λ e. absurd (open_still e);
     };
-    same = outcomes_given-stay before.lock bytes fed.piece given so.stands unfinished;
+    same = outcomes_given-stay line before.lock bytes fed.piece given so.stands unfinished;
   }
     where
       open_still : now.lock.finished ≡ true → ⊥
@@ -107,7 +106,7 @@ module _ {S : Type 0} (source : SourceOf S) where
           ∙ unfinished in cc
 
   reason : (stop : Stop) (bytes : List ℕ) (given : List Frame) (before : Decoding) (s t s' : S)
-      → DecodesSoFar source bytes given before s t → before.lock.finished ≡ false
+      → DecodesSoFar source line bytes given before s t → before.lock.finished ≡ false
       → FeedsNoneFor source stop before t s' → EndsFor source stop before.most bytes s s'
   reason End bytes given before s t s' so unfinished why =
       (omega (arith, why.0, so.long), (λ told. why.1 (so.told told)), why.2 ∙ so.going_on unfinished)
@@ -118,15 +117,15 @@ module _ {S : Type 0} (source : SourceOf S) where
 
   -- the lock is finished
   pub none_fed : (stop : Stop) {bytes : List ℕ} {given : List Frame} {before now : Decoding} {s t s' : S}
-      → DecodesSoFar source bytes given before s t → before.lock.finished ≡ false
+      → DecodesSoFar source line bytes given before s t → before.lock.finished ≡ false
       → FeedsNone source stop before now t s'
-      → DecodesOn source bytes given (record now { lock = record now.lock { finished = true }; stop = stop }) s s'
+      → DecodesOn source line bytes given (record now { lock = record now.lock { finished = true }; stop = stop }) s s'
   none_fed stop {bytes} {given} {before} {now} {s} {t} {s'} so unfinished fed = record {
     all = bytes;
     so_far = record {
       stands = finished_stands (subst (λ (n : Decoding). StandsFor n.lock (symbols_of bytes) given)
           (sym fed.same) so.stands);
-      line = ap (λ (n : Decoding). n.lock.line) fed.same ∙ so.line;
+      line_is = ap (λ (n : Decoding). n.lock.line) fed.same ∙ so.line_is;
       long = ap (λ (n : Decoding). n.taken) fed.same ∙ so.long;
       few = omega (arith, so.few, ap (λ (n : Decoding). n.taken) fed.same, ap (λ (n : Decoding). n.most) fed.same);
       passed = omega (
@@ -146,13 +145,13 @@ module _ {S : Type 0} (source : SourceOf S) where
 
   -- the lock steps
   pub stepped : {bytes : List ℕ} {given given' : List Frame} {now : Decoding} {s t : S} (later : LockState)
-      (seen : WindowView) → DecodesSoFar source bytes given now s t
+      (seen : WindowView) → DecodesSoFar source line bytes given now s t
       → StandsFor later (symbols_of bytes) given' → later.line ≡ now.lock.line → later.finished ≡ now.lock.finished
       → 16384 * length given' + length later.kept ≤ 16384 * length given + length now.lock.kept
-      → DecodesSoFar source bytes given' (record now { lock = later; window = seen }) s t
-  stepped later seen so stands line finished passed = record {
+      → DecodesSoFar source line bytes given' (record now { lock = later; window = seen }) s t
+  stepped later seen so stands line_stays finished passed = record {
     stands = stands;
-    line = line ∙ so.line;
+    line_is = line_stays ∙ so.line_is;
     long = so.long;
     few = so.few;
     passed = omega (arith, passed, so.passed);
@@ -163,44 +162,44 @@ module _ {S : Type 0} (source : SourceOf S) where
   }
 
   module _ {bytes : List ℕ} {given : List Frame} {now : Decoding} {s t : S}
-      (on : DecodesOn source bytes given now s t) (later : LockState) (seen : WindowView)
-      (line : later.line ≡ now.lock.line) (finished : later.finished ≡ now.lock.finished) where
+      (on : DecodesOn source line bytes given now s t) (later : LockState) (seen : WindowView)
+      (line_stays : later.line ≡ now.lock.line) (finished : later.finished ≡ now.lock.finished) where
     pub window_given : GivesWindow now.lock later seen (symbols_of on.all) given → length later.kept + 16384
         ≤ length now.lock.kept
-        → GivesFrame source bytes given (record now { lock = later; window = seen }) s t
+        → GivesFrame source line bytes given (record now { lock = later; window = seen }) s t
     window_given gives shorter = record {
       all = on.all;
       frame = gives.frame;
-      so_far = stepped later seen on.so_far gives.stands line finished
+      so_far = stepped later seen on.so_far gives.stands line_stays finished
           (omega (arith, shorter, length-append given (gives.frame ∷ [])));
-      window_is = gives.window ∙ ap (λ (l : LineCode). window_view l (symbols_of on.all) gives.frame) on.so_far.line;
+      window_is = gives.window ∙ ap (λ (l : LineCode). window_view l (symbols_of on.all) gives.frame) on.so_far.line_is;
       same = on.same;
     }
 
     pub more_wanted : WantsMore now.lock later (symbols_of on.all) given → length later.kept ≤ length now.lock.kept
-        → DecodesOn source bytes given (record now { lock = later; window = seen }) s t
+        → DecodesOn source line bytes given (record now { lock = later; window = seen }) s t
     more_wanted wants passes = record {
       all = on.all;
-      so_far = stepped later seen on.so_far wants.stands line finished (omega (arith, passes));
+      so_far = stepped later seen on.so_far wants.stands line_stays finished (omega (arith, passes));
       same = on.same;
     }
 
     pub all_given : HasEnded now.lock later (symbols_of on.all) given → length later.kept ≤ length now.lock.kept
-        → EndsFrames source now.stop bytes given (record now { lock = later; window = seen }) s t
+        → EndsFrames source line now.stop bytes given (record now { lock = later; window = seen }) s t
     all_given ended passes = record {
       all = on.all;
-      so_far = stepped later seen on.so_far ended.stands line finished (omega (arith, passes));
+      so_far = stepped later seen on.so_far ended.stands line_stays finished (omega (arith, passes));
       closed = finished ∙ ended.closed;
       stop_is = refl;
-      every = subst (λ (l : LineCode). AreFrames (tail_of l) (symbols_of on.all) given) on.so_far.line ended.all;
+      every = subst (λ (l : LineCode). AreFrames (tail_of l) (symbols_of on.all) given) on.so_far.line_is ended.all;
       same = on.same;
     }
 
   pub joined : {bytes all : List ℕ} {given : List Frame} {now : Decoding} {s t : S}
-      → DecodesOn source all given now s t → outcomes_given all given ≡ outcomes_given bytes given
-      → DecodesOn source bytes given now s t
+      → DecodesOn source line all given now s t → outcomes_given line all given ≡ outcomes_given line bytes given
+      → DecodesOn source line bytes given now s t
   joined on same = record { all = on.all; so_far = on.so_far; same = on.same ∙ same }
 
   pub begun : {bytes : List ℕ} {given : List Frame} {now : Decoding} {s t : S}
-      → DecodesSoFar source bytes given now s t → DecodesOn source bytes given now s t
+      → DecodesSoFar source line bytes given now s t → DecodesOn source line bytes given now s t
   begun {bytes} so = record { all = bytes; so_far = so; same = refl }

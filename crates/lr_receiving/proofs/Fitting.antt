@@ -44,6 +44,7 @@ use Rattle.lr_shelf_format.specs.Items.{extent_of, head_of_item}
 use Rattle.lr_shelf_format.specs.Reading.{end_of}
 use Rattle.lr_shelf.specs.Append.{item_for}
 use Rattle.lr_receiving.specs.declared.input.Input.TheVariants.{Symbols}
+use Rattle.lr_receiving.specs.declared.output.Output.TheVariants.{Symbols as AsSymbols}
 use Rattle.lr_receiving.specs.Inputs.{outcomes_of_bytes, files_of_bytes}
 use Rattle.lr_receiving.specs.Made.{bytes_of_symbols, made_bytes}
 use Rattle.lr_receiving.specs.Shelving.{with_files}
@@ -62,14 +63,14 @@ levels_back (bit ∷ bits) =
     ∙ ap (λ s. level bit ∷ s) (levels_back bits)
 
 -- the symbols of the made bytes are the stream's
-symbols_made : (start wrong n : ℕ) → symbols_of (made_bytes Symbols start wrong n) ≡ symbol_stream start wrong n
+symbols_made : (start wrong n : ℕ) → symbols_of (made_bytes AsSymbols start wrong n) ≡ symbol_stream start wrong n
 unfolding made_bytes
 symbols_made start wrong n =
     let one = symbols_are_one_code start wrong n in
     ap (λ s. symbols_of (bytes_of_symbols s)) one
     ∙ levels_back (code STANDARD (replicate 6 false) (sent_bits start wrong n)) ∙ sym one
 
-pub made_length : (start wrong n : ℕ) → length (made_bytes Symbols start wrong n) ≡ 16384 * n
+pub made_length : (start wrong n : ℕ) → length (made_bytes AsSymbols start wrong n) ≡ 16384 * n
 unfolding made_bytes
 made_length start wrong n =
     length-map (symbol_stream start wrong n) (cast_unsigned w8) ∙ ap length (symbols_are_one_code start wrong n)
@@ -78,7 +79,8 @@ made_length start wrong n =
 -- ---- the stream's outcomes, and their files
 
 files_made : (start wrong n : ℕ) → ((k : ℕ) → k < n → IsReceivedAs wrong (frame_at start k) (block_at start wrong k))
-    → files_of_bytes Symbols (made_bytes Symbols start wrong n) ≡ placed_of_outcomes (made_outcomes start wrong n)
+    → files_of_bytes (Symbols STANDARD) (made_bytes AsSymbols start wrong n)
+    ≡ placed_of_outcomes (made_outcomes start wrong n)
 unfolding files_of_bytes outcomes_of_bytes
 files_made start wrong n received =
     ap (λ s. placed_of_outcomes (outcomes_of_symbols STANDARD s)) (symbols_made start wrong n)
@@ -109,7 +111,7 @@ sent_files_fit start wrong n few =
 
 pub made_files_fit : (start wrong n : ℕ) → n ≤ 1024
     → ((k : ℕ) → k < n → IsReceivedAs wrong (frame_at start k) (block_at start wrong k))
-    → end_of (with_files [] (files_of_bytes Symbols (made_bytes Symbols start wrong n))) ≤ trial_capacity
+    → end_of (with_files [] (files_of_bytes (Symbols STANDARD) (made_bytes AsSymbols start wrong n))) ≤ trial_capacity
 made_files_fit start wrong n few received =
     let fit = sent_files_fit start wrong n few in
     omega (arith, fit, ap (λ files. end_of (with_files [] files)) (files_made start wrong n received))

@@ -48,6 +48,7 @@ use Rattle.lr_commands.specs.declared.cause.Cause.TheVariants.{Failed, NoMemory,
 use Rattle.lr_commands.specs.declared.cause.Party.TheVariants.{Disk, Output}
 use Rattle.lr_commands.specs.declared.cause.Refusal.TheVariants.{NotAShelf, Capacity}
 use Rattle.lr_commands.specs.Causes.{cause_of}
+use Rattle.lr_conv.specs.declared.line.LineCode.{LineCode}
 use Rattle.lr_receiving.specs.declared.input.Input.{Input}
 use Rattle.lr_receiving.specs.declared.input.Input.TheVariants.{Symbols, Units}
 use Rattle.lr_receiving.specs.Causes.{cause_at}
@@ -113,12 +114,12 @@ module _ {D : Type 0} (disk : DiskOf D) (d : D) where
 
 -- ---- no bytes have no files
 
-no_symbols : outcomes_of_bytes Symbols [] ≡ []
+no_symbols : (line : LineCode) → outcomes_of_bytes (Symbols line) [] ≡ []
 unfolding outcomes_of_bytes Rattle.lr_frame.specs.Outcomes.outcomes_of_symbols frames_of
-no_symbols = refl
+no_symbols line = refl
 
 pub no_bytes : (input : Input) → files_of_bytes input [] ≡ []
-no_bytes Symbols = files_all [] [] no_symbols ∙ no_files
+no_bytes (Symbols line) = files_all line [] [] (no_symbols line) ∙ no_files
 no_bytes (Units form) =
     let n = unit_bytes form in
     let more : 0 < n = positive form n refl in

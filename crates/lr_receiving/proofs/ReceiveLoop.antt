@@ -252,7 +252,7 @@ module _ {S D O : Type 0} (source : SourceOf S) (disk : DiskOf D) (out : SinkOf 
             subst (λ (l : List Placed). Stops disk out capacity before cause l d0 d2 o0 o2) files_there
             (stops (outcomes_of_units form so.units) capacity before d0 o0 so.stands
             (so.shelved capacity before d0 o0 so_far));
-        first = λ symbols told few calm. cc (symbols);
+        first = λ line symbols told few calm. cc (symbols);
       }
 
       -- they were

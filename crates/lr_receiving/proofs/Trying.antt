@@ -61,6 +61,7 @@ use Rattle.lr_commands.specs.declared.cause.Cause.TheVariants.{Done, Failed, NoM
 use Rattle.lr_commands.specs.declared.cause.Party.TheVariants.{Disk, Output}
 use Rattle.lr_commands.specs.declared.cause.Refusal.TheVariants.{NotAShelf, Capacity, NotEmpty}
 use Rattle.lr_receiving.specs.declared.ended.Ended.{Ended}
+use Rattle.lr_conv.specs.declared.line.TheConstants.{STANDARD}
 use Rattle.lr_receiving.specs.declared.input.Input.TheVariants.{Symbols}
 use Rattle.lr_commands.specs.Causes.{cause_of, IsCaused}
 use Rattle.lr_receiving.specs.Causes.{IsEarlier, counts}
@@ -88,7 +89,7 @@ stops_trial _ s s' d d' may caused = absurd may
 
 -- a front of the files of a part
 part_of : (symbols part later : List ℕ) → symbols ≡ part ++ later → (bytes : List ℕ)
-    → StandsForFront trial_capacity [] (files_of_bytes Symbols part) 0 bytes → StandsForPart symbols bytes
+    → StandsForFront trial_capacity [] (files_of_bytes (Symbols STANDARD) part) 0 bytes → StandsForPart symbols bytes
 part_of symbols part later split bytes stands = record { part = part; later = later; split = split; stands = stands }
 
 -- an empty shelf
@@ -96,7 +97,7 @@ none_of : (symbols bytes : List ℕ) → StandsFor bytes trial_capacity [] → S
 none_of symbols bytes stands = part_of symbols [] symbols refl bytes (record {
   first = [];
   rest = [];
-  split = no_bytes Symbols;
+  split = no_bytes (Symbols STANDARD);
   enough = omega arith;
   stands = stands;
 })
@@ -209,17 +210,17 @@ module _ {D : Type 0} (disk : DiskOf D) (symbols : List ℕ) (d d1 : D) where
         split_of bytes read = sym gives ∙ read.moved given
 
         module _ (part : List ℕ) (split : symbols ≡ part ++ source.left s') where
-          fronts : LeavesFronts disk trial_capacity [] (files_of_bytes Symbols part) d1 d'
+          fronts : LeavesFronts disk trial_capacity [] (files_of_bytes (Symbols STANDARD) part) d1 d'
               → LeavesOnly disk.moment disk.left_since d1 d' (StandsForPart symbols)
           fronts = weaker disk.moment disk.left_since d1 d' _ _ (part_of symbols part (source.left s') split)
 
-          front_of : (done rest : List Placed) → files_of_bytes Symbols part ≡ done ++ rest → (c : List ℕ)
+          front_of : (done rest : List Placed) → files_of_bytes (Symbols STANDARD) part ≡ done ++ rest → (c : List ℕ)
               → StandsFor c trial_capacity (with_files [] done) → StandsForPart symbols c
           front_of done rest is c stands =
               part_of symbols part (source.left s') split c
               (record { first = done; rest = rest; split = is; enough = omega arith; stands = stands })
 
-          holds_front : (done rest : List Placed) → files_of_bytes Symbols part ≡ done ++ rest
+          holds_front : (done rest : List Placed) → files_of_bytes (Symbols STANDARD) part ≡ done ++ rest
               → IsDurable disk trial_capacity (with_files [] done) d' → HoldsPart disk symbols d'
           holds_front done rest is durable = record {
             contents = front_of done rest is (disk.contents d') durable.stands;
@@ -230,13 +231,13 @@ module _ {D : Type 0} (disk : DiskOf D) (symbols : List ℕ) (d d1 : D) where
 
         -- shelving stopped
         module _ (calm : Rose (source.faults s) (source.faults s') → ⊥)
-            (fit : end_of (with_files [] (files_of_bytes Symbols symbols)) ≤ trial_capacity) (cause : Cause)
-            (some : ReadsSome source disk out Symbols limit cause shelf s s' d2 d' o o') where
+            (fit : end_of (with_files [] (files_of_bytes (Symbols STANDARD) symbols)) ≤ trial_capacity) (cause : Cause)
+            (some : ReadsSome source disk out (Symbols STANDARD) limit cause shelf s s' d2 d' o o') where
           split : symbols ≡ some.bytes ++ source.left s'
           split = split_of some.bytes some.read
 
           abbrev files : List Placed
-          files = files_of_bytes Symbols some.bytes
+          files = files_of_bytes (Symbols STANDARD) some.bytes
 
           -- the files that were read are the first ones of all, and these fit
           all_fit : (done rest : List Placed) (next : Placed) → some.files ≡ done ++ next ∷ rest → (needed : ℕ)
@@ -244,11 +245,11 @@ module _ {D : Type 0} (disk : DiskOf D) (symbols : List ℕ) (d d1 : D) where
           all_fit done rest next is needed needs over =
               let few_read : length some.bytes < limit =
               omega (arith, few, ap length split, length-append some.bytes (source.left s')) in
-              let first = some.first refl given few_read calm in
-              let all : files_of_bytes Symbols symbols ≡ (done ++ next ∷ []) ++ (rest ++ first.0) =
-              ap (files_of_bytes Symbols) split ∙ first.1 ∙ ap (λ (l : List Placed). l ++ first.0) is
+              let first = some.first STANDARD refl given few_read calm in
+              let all : files_of_bytes (Symbols STANDARD) symbols ≡ (done ++ next ∷ []) ++ (rest ++ first.0) =
+              ap (files_of_bytes (Symbols STANDARD)) split ∙ first.1 ∙ ap (λ (l : List Placed). l ++ first.0) is
               ∙ append_assoc done (next ∷ rest) first.0 ∙ sym (append_assoc done (next ∷ []) (rest ++ first.0)) in
-              let whole : with_files [] (files_of_bytes Symbols symbols)
+              let whole : with_files [] (files_of_bytes (Symbols STANDARD) symbols)
               ≡ with_files [] (done ++ next ∷ []) ++ map item_for (rest ++ first.0) =
               ap (with_files []) all ∙ with_files-append [] (done ++ next ∷ []) (rest ++ first.0) in
               let le = subst (λ (l : List Item). end_of (with_files [] (done ++ next ∷ [])) ≤ end_of l) (sym whole)
@@ -275,7 +276,7 @@ module _ {D : Type 0} (disk : DiskOf D) (symbols : List ℕ) (d d1 : D) where
 
         -- all of them are shelved
         module _ (ended : Ended) (shelf' : Shelf)
-            (all : ReadsAll source disk out Symbols limit ended shelf shelf' s s' d2 d' o o')
+            (all : ReadsAll source disk out (Symbols STANDARD) limit ended shelf shelf' s s' d2 d' o o')
             (calm : Rose (source.faults s) (source.faults s') → ⊥) where
           split_all : symbols ≡ all.bytes ++ source.left s'
           split_all = split_of all.bytes all.read
@@ -291,17 +292,17 @@ module _ {D : Type 0} (disk : DiskOf D) (symbols : List ℕ) (d d1 : D) where
           ended_so : (ended.stop ≡ End) × (all.bytes ≡ symbols)
           ended_so = at_end ended.stop all.reason
 
-          pub line : ended_line ended ≡ receive_last Symbols symbols End
-          line = last_line Symbols all.bytes ended all.count
-              ∙ ap (λ stop. receive_last Symbols all.bytes stop) ended_so.0
-              ∙ ap (λ bytes. receive_last Symbols bytes End) ended_so.1
+          pub line : ended_line ended ≡ receive_last (Symbols STANDARD) symbols End
+          line = last_line (Symbols STANDARD) all.bytes ended all.count
+              ∙ ap (λ stop. receive_last (Symbols STANDARD) all.bytes stop) ended_so.0
+              ∙ ap (λ bytes. receive_last (Symbols STANDARD) bytes End) ended_so.1
 
           pub finished : disk.faults d' ≡ disk.faults d2 → disk.faults d2 ≡ disk.faults d1
               → LeavesDisk disk symbols Done d d'
           finished count count2 =
               after Done d' (
                 λ told. subst (λ (l : List ℕ). IsDurable disk trial_capacity
-                    (with_files [] (files_of_bytes Symbols l)) d') ended_so.1
+                    (with_files [] (files_of_bytes (Symbols STANDARD) l)) d') ended_so.1
                     (all.shelved trial_capacity [] d1 o (begun told)).settled.on_disk,
                 count ∙ count2 ∙ same_count,
               )
@@ -310,14 +311,15 @@ module _ {D : Type 0} (disk : DiskOf D) (symbols : List ℕ) (d d1 : D) where
         -- ---- for either answer
         abbrev AnswersAll : Shelf → Result Ended Cause → Type 0
         AnswersAll shelf' answer = IfOk answer
-            (λ ended. ReadsAll source disk out Symbols limit ended shelf shelf' s s' d2 d' o o')
+            (λ ended. ReadsAll source disk out (Symbols STANDARD) limit ended shelf shelf' s s' d2 d' o o')
 
         abbrev AnswersSome : Result Ended Cause → Type 0
-        AnswersSome answer = IfErr answer (λ cause. ReadsSome source disk out Symbols limit cause shelf s s' d2 d' o o')
+        AnswersSome answer = IfErr answer
+            (λ cause. ReadsSome source disk out (Symbols STANDARD) limit cause shelf s s' d2 d' o o')
 
         pub lines : (shelf' : Shelf) (answer : Result Ended Cause) → AnswersAll shelf' answer
             → (Rose (source.faults s) (source.faults s') → ⊥)
-            → IfOk answer (λ ended. ended_line ended ≡ receive_last Symbols symbols End)
+            → IfOk answer (λ ended. ended_line ended ≡ receive_last (Symbols STANDARD) symbols End)
         lines shelf' (Ok ended) all calm = line ended shelf' all calm
         lines shelf' (Err cause) all calm = tt
 
@@ -331,7 +333,7 @@ module _ {D : Type 0} (disk : DiskOf D) (symbols : List ℕ) (d d1 : D) where
 
         pub some_done : (answer : Result Ended Cause) → AnswersSome answer
             → (Rose (source.faults s) (source.faults s') → ⊥)
-            → end_of (with_files [] (files_of_bytes Symbols symbols)) ≤ trial_capacity
+            → end_of (with_files [] (files_of_bytes (Symbols STANDARD) symbols)) ≤ trial_capacity
             → IfErr answer MayStop → (f f' g g' : ℕ)
             → ((kept_by shelf).failed ≡ false
             → IfErr answer (λ cause. IsCaused cause (counts f g 0) (counts f' g' 0)))
@@ -351,7 +353,7 @@ module _ {D O : Type 0} (disk : DiskOf D) (out : SinkOf O) (symbols : List ℕ) 
   all_held : disk.tells d → HoldsPart disk symbols d'
   all_held told =
       let durable = done.ends.0 told in
-      let files = files_of_bytes Symbols symbols in
+      let files = files_of_bytes (Symbols STANDARD) symbols in
       let whole : (c : List ℕ) → StandsFor c trial_capacity (with_files [] files) → StandsForPart symbols c =
       λ c stands. part_of symbols symbols [] (sym (append-nil symbols)) c
       (record {
@@ -376,7 +378,7 @@ module _ {D O : Type 0} (disk : DiskOf D) (out : SinkOf O) (symbols : List ℕ) 
         done.any_moment;
   }
 
-  module _ (ended : Ended) (line : ended_line ended ≡ receive_last Symbols symbols End) where
+  module _ (ended : Ended) (line : ended_line ended ≡ receive_last (Symbols STANDARD) symbols End) where
     pub last_stops : (cause : Cause) → LastStops out ended cause o o' → TrialRun disk out symbols cause d d' o o'
     last_stops (Failed Output) stops = record {
       on_disk = left_by (Failed Output) done.ends.0;

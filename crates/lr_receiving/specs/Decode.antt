@@ -8,7 +8,7 @@ use Rattle.lr_catalog.specs.declared.summary.Summary.TheVariants.{Decode}
 use Rattle.lr_catalog.specs.Outcomes.{block_line, window_line}
 use Rattle.lr_catalog.specs.Summaries.{summary_line}
 use Rattle.lr_conv.specs.Marker.{tail_of}
-use Rattle.lr_conv.specs.declared.line.TheConstants.{STANDARD}
+use Rattle.lr_conv.specs.declared.line.LineCode.{LineCode}
 use Rattle.lr_lock.specs.FramesOf.{frames_of}
 use Rattle.lr_lock.specs.declared.frame.Frame.{Frame}
 use Rattle.lr_lock.specs.Symbols.{symbols_of}
@@ -24,14 +24,15 @@ unfoldable pub lines_of_units : UnitForm → List (List ℕ) → List ℕ
 lines_of_units form units = concat (map (λ u. block_line u.0 (outcome_of_unit form u.1)) (enumerate_from 0 units))
 
 -- the lines of the windows of these frames of some symbols, each numbered by its place among the frames
-unfoldable pub lines_of_windows : List ℤ → List Frame → List ℕ
-lines_of_windows symbols frames =
-    concat (map (λ f. window_line f.0 f.1.place f.1.positive (outcome_in STANDARD symbols f.1))
+unfoldable pub lines_of_windows : LineCode → List ℤ → List Frame → List ℕ
+lines_of_windows line symbols frames =
+    concat (map (λ f. window_line f.0 f.1.place f.1.positive (outcome_in line symbols f.1))
     (enumerate_from 0 frames))
 
 -- a line for the window of each frame of the symbols, or for each whole block
 abbrev pub decode_text : Input → List ℕ → List ℕ
-decode_text Symbols bytes = lines_of_windows (symbols_of bytes) (frames_of (tail_of STANDARD) (symbols_of bytes))
+decode_text (Symbols line) bytes =
+    lines_of_windows line (symbols_of bytes) (frames_of (tail_of line) (symbols_of bytes))
 decode_text (Units form) bytes = lines_of_units form (units_of (unit_bytes form) bytes)
 
 -- how many bytes were taken, how many outcomes there are, of each kind, and how many bytes are left

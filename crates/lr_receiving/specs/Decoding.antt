@@ -23,7 +23,7 @@ use Rattle.std.specs.Prelude.{
 }
 use Rattle.lr_bits.specs.declared.outcome.Outcome.{Outcome}
 use Rattle.lr_bits.specs.Faults.{Rose}
-use Rattle.lr_conv.specs.declared.line.TheConstants.{STANDARD}
+use Rattle.lr_conv.specs.declared.line.LineCode.{LineCode}
 use Rattle.lr_conv.specs.Marker.{tail_of}
 use Rattle.lr_io.specs.declared.source.Source.{Ghosts as SourceOf}
 use Rattle.lr_lock.specs.declared.frame.Frame.{Frame}
@@ -61,14 +61,13 @@ symbols_left now = now.most - now.taken + length now.lock.kept
 -- nothing was taken
 pub record IsFresh (most : ℕ) (now : Decoding) : Type 0 where
   pub stands : StandsFor now.lock [] []
-  pub line : now.lock.line ≡ STANDARD
   pub unfinished : now.lock.finished ≡ false
   pub taken : now.taken ≡ 0
   pub most_is : now.most ≡ most
 
 -- the outcomes of frames of these bytes
-unfoldable pub outcomes_given : List ℕ → List Frame → List Outcome
-outcomes_given bytes given = map (outcome_in STANDARD (symbols_of bytes)) given
+unfoldable pub outcomes_given : LineCode → List ℕ → List Frame → List Outcome
+outcomes_given line bytes given = map (outcome_in line (symbols_of bytes)) given
 
 module _ {S : Type 0} (source : SourceOf S) where
   -- a piece of the source was fed
@@ -104,10 +103,12 @@ module _ {S : Type 0} (source : SourceOf S) where
   Takes None before now s s' = FeedsPiece before now s s'
   Takes (Some stop) before now s s' = FeedsNone stop before now s s'
 
+-- symbols of this line code
+module _ {S : Type 0} (source : SourceOf S) (line : LineCode) where
   -- these bytes were taken, and these frames given of them
   pub record DecodesSoFar (bytes : List ℕ) (given : List Frame) (now : Decoding) (s s' : S) : Type 0 where
     pub stands : StandsFor now.lock (symbols_of bytes) given
-    pub line : now.lock.line ≡ STANDARD
+    pub line_is : now.lock.line ≡ line
     pub long : now.taken ≡ length bytes
     pub few : now.taken ≤ now.most
     pub passed : 16384 * length given + length now.lock.kept ≤ now.taken
@@ -120,15 +121,15 @@ module _ {S : Type 0} (source : SourceOf S) where
   pub record DecodesOn (bytes : List ℕ) (given : List Frame) (now : Decoding) (s s' : S) : Type 0 where
     pub all : List ℕ
     pub so_far : DecodesSoFar all given now s s'
-    pub same : outcomes_given all given ≡ outcomes_given bytes given
+    pub same : outcomes_given line all given ≡ outcomes_given line bytes given
 
   -- the next frame was given
   pub record GivesFrame (bytes : List ℕ) (given : List Frame) (now : Decoding) (s s' : S) : Type 0 where
     pub all : List ℕ
     pub frame : Frame
     pub so_far : DecodesSoFar all (given ++ frame ∷ []) now s s'
-    pub window_is : now.window ≡ window_view STANDARD (symbols_of all) frame
-    pub same : outcomes_given all given ≡ outcomes_given bytes given
+    pub window_is : now.window ≡ window_view line (symbols_of all) frame
+    pub same : outcomes_given line all given ≡ outcomes_given line bytes given
 
   -- there is none: all frames were given
   pub record EndsFrames (stop : Stop) (bytes : List ℕ) (given : List Frame) (now : Decoding) (s s' : S) : Type 0 where
@@ -136,8 +137,8 @@ module _ {S : Type 0} (source : SourceOf S) where
     pub so_far : DecodesSoFar all given now s s'
     pub closed : now.lock.finished ≡ true
     pub stop_is : now.stop ≡ stop
-    pub every : AreFrames (tail_of STANDARD) (symbols_of all) given
-    pub same : outcomes_given all given ≡ outcomes_given bytes given
+    pub every : AreFrames (tail_of line) (symbols_of all) given
+    pub same : outcomes_given line all given ≡ outcomes_given line bytes given
 
   abbrev pub Decodes : Next → List ℕ → List Frame → Decoding → S → S → Type 0
   Decodes Whole bytes given now s s' = GivesFrame bytes given now s s'

@@ -5,7 +5,6 @@ use Rattle.lr_bits.specs.declared.outcome.Outcome.TheVariants.{Restored}
 use Rattle.lr_bits.specs.declared.placed.Placed.{Placed}
 use Rattle.lr_bits.specs.declared.sizes.TheConstants.{BLOCK_BYTES, FRAME_BYTES}
 use Rattle.lr_lock.specs.Symbols.{symbols_of}
-use Rattle.lr_conv.specs.declared.line.TheConstants.{STANDARD}
 use Rattle.lr_frame.specs.Outcomes.{outcomes_of_symbols}
 use Rattle.lr_block.specs.Outcomes.{outcome_of_block}
 use Rattle.lr_layers.specs.Origins.{placed_of_outcomes}
@@ -33,10 +32,10 @@ outcome_of_unit Frames frame = as_restored frame
 unfoldable pub outcomes_of_units : UnitForm → List (List ℕ) → List Outcome
 outcomes_of_units form units = map (outcome_of_unit form) units
 
--- The outcomes of the bytes read: those of the windows of all frames of the symbols, or those of each whole block or
--- frame.
+-- The outcomes of the bytes read: those of the windows of all frames of the symbols, under their line code, or those
+-- of each whole block or frame.
 unfoldable pub outcomes_of_bytes : Input → List ℕ → List Outcome
-outcomes_of_bytes Symbols bytes = outcomes_of_symbols STANDARD (symbols_of bytes)
+outcomes_of_bytes (Symbols line) bytes = outcomes_of_symbols line (symbols_of bytes)
 outcomes_of_bytes (Units form) bytes = outcomes_of_units form (units_of (unit_bytes form) bytes)
 
 -- the files of the bytes read: the mission files of these outcomes, with their origins
@@ -45,5 +44,5 @@ files_of_bytes input bytes = placed_of_outcomes (outcomes_of_bytes input bytes)
 
 -- how many bytes are left that are no whole block or frame; of symbols none are
 abbrev pub left_of : Input → List ℕ → ℕ
-left_of Symbols bytes = 0
+left_of (Symbols line) bytes = 0
 left_of (Units form) bytes = length bytes % unit_bytes form

@@ -7,8 +7,8 @@ use Rattle.lr_make.specs.Stream.{frame_stream, block_stream, symbol_stream}
 use Rattle.lr_commands.specs.declared.cause.Cause.{Cause}
 use Rattle.lr_commands.specs.declared.cause.Cause.TheVariants.{Done, Failed}
 use Rattle.lr_commands.specs.declared.cause.Party.TheVariants.{Output}
-use Rattle.lr_receiving.specs.declared.input.Input.{Input}
-use Rattle.lr_receiving.specs.declared.input.Input.TheVariants.{Symbols, Units}
+use Rattle.lr_receiving.specs.declared.output.Output.{Output as Form}
+use Rattle.lr_receiving.specs.declared.output.Output.TheVariants.{Symbols, Units}
 use Rattle.lr_receiving.specs.declared.input.UnitForm.TheVariants.{Blocks, Frames}
 
 -- each symbol in one byte
@@ -16,7 +16,7 @@ abbrev pub bytes_of_symbols : List ℤ → List ℕ
 bytes_of_symbols symbols = map (cast_unsigned w8) symbols
 
 -- the first frames of the test stream of this start, in each form; frames have no wrong bytes
-unfoldable pub made_bytes : Input → ℕ → ℕ → ℕ → List ℕ
+unfoldable pub made_bytes : Form → ℕ → ℕ → ℕ → List ℕ
 made_bytes Symbols start wrong frames = bytes_of_symbols (symbol_stream start wrong frames)
 made_bytes (Units Blocks) start wrong frames = block_stream start wrong frames
 made_bytes (Units Frames) start wrong frames = frame_stream start frames

@@ -8,7 +8,7 @@ use Rattle.lr_receiving.specs.Decoding.{IsFresh}
 
 -- the form of the input that it reads
 abbrev pub input_of : Reader → Input
-input_of (Symbols decoder) = Symbols'
+input_of (Symbols decoder) = Symbols' decoder.lock.line
 input_of (Units form) = Units' form
 
 -- it has taken nothing, and takes at most this many bytes

@@ -6,6 +6,7 @@ use Rattle.lr_shelf_format.specs.Items.{Item}
 use Rattle.lr_io.specs.declared.source.Source.{Ghosts as SourceOf}
 use Rattle.lr_io.specs.declared.sink.Sink.{Ghosts as SinkOf}
 use Rattle.lr_disk.specs.declared.disk.Disk.{Ghosts as DiskOf}
+use Rattle.lr_conv.specs.declared.line.LineCode.{LineCode}
 use Rattle.lr_layers.specs.Layers.{numbers_of}
 use Rattle.lr_layers.specs.Standing.{numbers}
 use Rattle.lr_shelf.specs.Kept.{kept_by}
@@ -81,7 +82,7 @@ module _ {S D O : Type 0} (source : SourceOf S) (disk : DiskOf D) (out : SinkOf 
         → ShelvesSoFar disk out capacity before [] shelf d0 d o0 o
         → Stops disk out capacity before cause files d0 d' o0 o'
     -- of symbols they are the first ones of all that the source gives, where it had not failed nor reached the limit
-    pub first : input ≡ Symbols → source.tells s → length bytes < limit
+    pub first : (line : LineCode) → input ≡ Symbols line → source.tells s → length bytes < limit
         → (Rose (source.faults s) (source.faults s') → ⊥)
         → (rest : List Placed) × (files_of_bytes input (bytes ++ source.left s') ≡ files ++ rest)
 

@@ -2,6 +2,7 @@
 use Rattle.std.specs.Prelude.{◌≡◌, ◌⊎◌, ◌++◌, ℕ, List, [], length}
 use Rattle.lr_io.specs.declared.sink.Sink.{Ghosts as SinkOf}
 use Rattle.lr_io.specs.Pieces.{PutsPart}
+use Rattle.lr_conv.specs.declared.line.TheConstants.{STANDARD}
 use Rattle.lr_disk.specs.declared.disk.Disk.{Ghosts as DiskOf}
 use Rattle.lr_disk.specs.Disk.{Only, LeavesOnly}
 use Rattle.lr_disk.specs.Reads.{IsUnwritten}
@@ -27,7 +28,7 @@ pub record StandsForPart (symbols bytes : List ℕ) : Type 0 where
   pub part : List ℕ
   pub later : List ℕ
   pub split : symbols ≡ part ++ later
-  pub stands : StandsForFront trial_capacity [] (files_of_bytes Symbols part) 0 bytes
+  pub stands : StandsForFront trial_capacity [] (files_of_bytes (Symbols STANDARD) part) 0 bytes
 
 module _ {D : Type 0} (disk : DiskOf D) (symbols : List ℕ) where
   -- the contents are such a shelf, and so is each crash image
@@ -39,11 +40,11 @@ module _ {D : Type 0} (disk : DiskOf D) (symbols : List ℕ) where
   -- shelf, and all files fit.
   abbrev pub DiskEnds : Cause → D → D → Type 0
   DiskEnds Done d d' =
-      (disk.tells d → IsDurable disk trial_capacity (with_files [] (files_of_bytes Symbols symbols)) d')
+      (disk.tells d → IsDurable disk trial_capacity (with_files [] (files_of_bytes (Symbols STANDARD) symbols)) d')
       × (disk.faults d' ≡ disk.faults d)
   DiskEnds (Failed Disk) d d' = Unit {0}
   DiskEnds (Failed Output) d d' =
-      disk.tells d → IsDurable disk trial_capacity (with_files [] (files_of_bytes Symbols symbols)) d'
+      disk.tells d → IsDurable disk trial_capacity (with_files [] (files_of_bytes (Symbols STANDARD) symbols)) d'
   DiskEnds NoMemory d d' = disk.tells d → (d' ≡ d) ⊎ HoldsPart d'
   DiskEnds (Refused (NotAShelf at)) d d' = disk.tells d → ⊥
   DiskEnds (Refused (Capacity needed most)) d d' = disk.tells d → ⊥
@@ -66,9 +67,9 @@ module _ {D : Type 0} (disk : DiskOf D) (symbols : List ℕ) where
 module _ {D O : Type 0} (disk : DiskOf D) (out : SinkOf O) (symbols : List ℕ) where
   -- what `out` got: the last line of `receive` alone, where the work is done
   abbrev pub OutEnds : Cause → O → O → Type 0
-  OutEnds Done o o' = Got out (receive_last Symbols symbols End) o o' × (out.faults o' ≡ out.faults o)
+  OutEnds Done o o' = Got out (receive_last (Symbols STANDARD) symbols End) o o' × (out.faults o' ≡ out.faults o)
   OutEnds (Failed Output) o o' =
-      out.tells o → PutsPart (receive_last Symbols symbols End) (out.contents o) (out.contents o')
+      out.tells o → PutsPart (receive_last (Symbols STANDARD) symbols End) (out.contents o) (out.contents o')
   OutEnds _ o o' = o' ≡ o
 
   pub record TrialRun (cause : Cause) (d d' : D) (o o' : O) : Type 0 where

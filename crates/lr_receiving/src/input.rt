@@ -1,3 +1,5 @@
+use lr_conv::LineCode;
+
 /// The most bytes that a call takes from the source where no word gives another number.
 pub const MOST_BYTES: u64 = 1_099_511_627_776;
 
@@ -10,10 +12,10 @@ pub enum UnitForm {
     Frames,
 }
 
-/// What the source gives, or what is made.
+/// What the source gives. Blocks and frames have no line code.
 #[derive(Clone, Copy)]
 pub enum Input {
-    /// Soft symbols, each in a byte that is read as a signed one.
-    Symbols,
+    /// Soft symbols of this line code, each in a byte that is read as a signed one.
+    Symbols(LineCode),
     Units(UnitForm),
 }

@@ -174,7 +174,7 @@ pub fn decode<S: Source, O: Sink>(
         out.old out.new }
 {
     match input {
-        Input::Symbols => decode_symbols(alloc, most, source, out),
+        Input::Symbols(line) => decode_symbols(alloc, line, most, source, out),
         Input::Units(UnitForm::Blocks) => {
             decode_units::<BLOCK_BYTES, S, O>(alloc, UnitForm::Blocks, most, source, out)
         }

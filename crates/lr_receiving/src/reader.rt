@@ -23,8 +23,8 @@ impl Reader {
         ensures ready { IfOk result (IsReadyFor most) }
     {
         match input {
-            Input::Symbols => {
-                let decoder = Decoder::new(alloc, most)?;
+            Input::Symbols(line) => {
+                let decoder = Decoder::new(alloc, line, most)?;
                 Ok(Reader::Symbols(decoder))
             }
             Input::Units(form) => Ok(Reader::Units(form)),

@@ -126,9 +126,11 @@ fn receive_symbols<S: Source, D: Disk, O: Sink>(
         → IfErr result (λ cause. IsCaused cause
         (counts (S.faults source.old) (D.faults disk.old) (O.faults out.old))
         (counts (S.faults source.new) (D.faults disk.new) (O.faults out.new))) }
-    ensures all { IfOk result (λ ended. ReadsAll S.Source D.Disk O.Sink Input.Symbols decoder.old.most ended
+    ensures all { IfOk result (λ ended. ReadsAll S.Source D.Disk O.Sink (Input.Symbols decoder.old.lock.line)
+        decoder.old.most ended
         shelf.old shelf.new source.old source.new disk.old disk.new out.old out.new) }
-    ensures some { IfErr result (λ cause. ReadsSome S.Source D.Disk O.Sink Input.Symbols decoder.old.most cause
+    ensures some { IfErr result (λ cause. ReadsSome S.Source D.Disk O.Sink (Input.Symbols decoder.old.lock.line)
+        decoder.old.most cause
         shelf.old source.old source.new disk.old disk.new out.old out.new) }
 {
     let mut layers = Layers::new(alloc);

@@ -5,7 +5,7 @@ ghost use Rattle.lr_bits.specs.Faults.{HasCause};
 use crate::units::Next;
 use lr_bits::{Failed, NoMemory, Outcome};
 use lr_catalog::Stop;
-use lr_conv::STANDARD;
+use lr_conv::LineCode;
 use lr_frame::FrameWork;
 use lr_io::Source;
 use lr_lock::{Lock, Step, Window};
@@ -60,7 +60,6 @@ pub(crate) struct Decoder {
 
 impl Model for Decoder {
     ghost use Rattle.std.specs.Prelude.{◌≡◌, ◌≤◌, ◌+◌, ◌^◌, length};
-    ghost use Rattle.lr_conv.specs.declared.line.TheConstants.{STANDARD};
     ghost use Rattle.lr_receiving.specs.Decoding.{Decoding};
 
     ghost Value = { Decoding };
@@ -68,7 +67,7 @@ impl Model for Decoder {
     ghost view = { λ d. record { lock = d.lock; window = d.window; taken = d.taken; most = d.most; stop = d.stop } };
 
     ghost invariant = { λ d. (length d.buffer.items ≡ 65536) × (d.taken ≤ d.most) × (d.most ≤ 2 ^ 61)
-        × (d.lock.place + length d.lock.kept ≤ d.taken) × (d.lock.line ≡ STANDARD) × (d.window.line ≡ STANDARD) };
+        × (d.lock.place + length d.lock.kept ≤ d.taken) × (d.window.line ≡ d.lock.line) };
 }
 
 impl Decoder {
@@ -88,13 +87,14 @@ impl Decoder {
     ghost use Rattle.lr_receiving.specs.Shelved.{HasWholeFrame};
     ghost use Rattle.lr_receiving.specs.declared.units.Next.TheVariants.{Whole};
 
-    /// All memory that symbols take. At most `most` bytes will be taken.
-    pub(crate) fn new(alloc: Global, most: u64) -> Result<Self, NoMemory>
+    /// All memory that symbols of this line code take. At most `most` bytes will be taken.
+    pub(crate) fn new(alloc: Global, line: LineCode, most: u64) -> Result<Self, NoMemory>
         requires { most ≤ 2 ^ 61 }
-        ensures { IfOk result (IsFresh most) }
+        ensures fresh { IfOk result (IsFresh most) }
+        ensures line { IfOk result (λ decoder. decoder.lock.line ≡ line) }
     {
-        let lock = Lock::new(alloc, STANDARD)?;
-        let window = Window::new(alloc, STANDARD)?;
+        let lock = Lock::new(alloc, line)?;
+        let window = Window::new(alloc, line)?;
         let work = FrameWork::new(alloc)?;
         let buffer = vec![in alloc; 0; ROOM]?;
         Ok(Decoder {
@@ -130,7 +130,7 @@ impl Decoder {
 
     /// What becomes of the frame of the window.
     pub(crate) fn outcome(&mut self) -> Outcome
-        ensures value { result ≡ outcome_of_window STANDARD self.old.window.symbols }
+        ensures value { result ≡ outcome_of_window self.old.lock.line self.old.window.symbols }
         ensures whole { HasWholeFrame result }
         ensures stays { self.new ≡ self.old }
     {
@@ -171,9 +171,9 @@ impl Decoder {
     fn more<S: Source>(&mut self, source: &mut S)
         requires unfinished { self.old.lock.finished ≡ false }
         requires room { length self.old.lock.kept < 65536 }
-        ensures decodes { (bytes : List ℕ) (given : List Frame) (s : _)
-            → DecodesSoFar S.Source bytes given self.old s source.old
-            → DecodesOn S.Source bytes given self.new s source.new }
+        ensures decodes { (line : LineCode) (bytes : List ℕ) (given : List Frame) (s : _)
+            → DecodesSoFar S.Source line bytes given self.old s source.old
+            → DecodesOn S.Source line bytes given self.new s source.new }
         ensures standing { IsStanding self.old.lock → IsStanding self.new.lock }
         ensures most { self.new.most ≡ self.old.most }
         ensures goes_on { steps_left self.new < steps_left self.old }
@@ -187,9 +187,9 @@ impl Decoder {
     /// Takes bytes until the window of the next frame is shown, or there is none.
     pub(crate) fn next<S: Source>(&mut self, source: &mut S) -> Next
         requires { IsStanding self.old.lock }
-        ensures decodes { (bytes : List ℕ) (given : List Frame) (s : _)
-            → DecodesSoFar S.Source bytes given self.old s source.old
-            → Decodes S.Source result bytes given self.new s source.new }
+        ensures decodes { (line : LineCode) (bytes : List ℕ) (given : List Frame) (s : _)
+            → DecodesSoFar S.Source line bytes given self.old s source.old
+            → Decodes S.Source line result bytes given self.new s source.new }
         ensures standing { IsStanding self.new.lock }
         ensures most { self.new.most ≡ self.old.most }
         ensures fewer { result ≡ Whole → symbols_left self.new < symbols_left self.old }

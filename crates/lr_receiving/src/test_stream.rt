@@ -2,13 +2,14 @@
 ghost use Rattle.std.specs.Prelude.{◌≡◌, ◌≤◌, ◌<◌, IfOk, IfErr, OnOk, OnErr, map};
 ghost use Rattle.std.specs.Int.{cast_unsigned, w8};
 ghost use Rattle.lr_make.specs.Stream.{frame_stream, block_stream, symbol_stream};
-ghost use Rattle.lr_commands.specs.declared.cause.Party.TheVariants.{Output};
+ghost use Rattle.lr_commands.specs.declared.cause.Party.TheVariants.{Output as OutputParty};
 ghost use Rattle.lr_commands.specs.Causes.{IsCaused};
 ghost use Rattle.lr_receiving.specs.Causes.{counts};
 ghost use Rattle.lr_receiving.specs.Made.{bytes_of_symbols, made_bytes, MakeEnds};
 ghost use Rattle.lr_commands.specs.Puts.{Puts, PutFails};
 
-use crate::input::{Input, UnitForm};
+use crate::input::UnitForm;
+use crate::output::Output;
 use crate::put::put_text;
 use lr_bits::{BLOCK_BYTES, FRAME_BYTES, FRAME_SYMBOLS};
 use lr_commands::Cause;
@@ -27,7 +28,7 @@ pub(crate) fn put_bytes(symbols: &[i8; FRAME_SYMBOLS], bytes: &mut [u8; FRAME_SY
 fn make_frames<O: Sink>(start: u64, frames: u64, out: &mut O) -> Result<(), Cause>
     ensures put { IfOk result (λ _. Puts O.Sink (frame_stream start frames) out.old out.new) }
     ensures failed { OnErr result (PutFails O.Sink (frame_stream start frames) out.old out.new) }
-    ensures cause { IfErr result (λ cause. cause ≡ Cause.Failed Output) }
+    ensures cause { IfErr result (λ cause. cause ≡ Cause.Failed OutputParty) }
 {
     let Ok(mut maker) = Maker::new(start, 0) else {
         return Err(Cause::NoMemory);
@@ -46,7 +47,7 @@ fn make_blocks<O: Sink>(start: u64, frames: u64, wrong: u8, out: &mut O) -> Resu
     requires { wrong ≤ 16 }
     ensures put { IfOk result (λ _. Puts O.Sink (block_stream start wrong frames) out.old out.new) }
     ensures failed { OnErr result (PutFails O.Sink (block_stream start wrong frames) out.old out.new) }
-    ensures cause { IfErr result (λ cause. cause ≡ Cause.Failed Output) }
+    ensures cause { IfErr result (λ cause. cause ≡ Cause.Failed OutputParty) }
 {
     let Ok(mut maker) = Maker::new(start, wrong) else {
         return Err(Cause::NoMemory);
@@ -66,7 +67,7 @@ fn make_symbols<O: Sink>(start: u64, frames: u64, wrong: u8, out: &mut O) -> Res
     ensures put { IfOk result (λ _. Puts O.Sink (bytes_of_symbols (symbol_stream start wrong frames)) out.old out.new) }
     ensures failed { OnErr result
         (PutFails O.Sink (bytes_of_symbols (symbol_stream start wrong frames)) out.old out.new) }
-    ensures cause { IfErr result (λ cause. cause ≡ Cause.Failed Output) }
+    ensures cause { IfErr result (λ cause. cause ≡ Cause.Failed OutputParty) }
 {
     let Ok(mut maker) = Maker::new(start, wrong) else {
         return Err(Cause::NoMemory);
@@ -102,9 +103,10 @@ fn make_units<O: Sink>(
     out: &mut O,
 ) -> Result<(), Cause>
     requires { wrong ≤ 16 }
-    ensures put { IfOk result (λ _. Puts O.Sink (made_bytes (Input.Units form) start wrong frames) out.old out.new) }
-    ensures failed { OnErr result (PutFails O.Sink (made_bytes (Input.Units form) start wrong frames) out.old out.new) }
-    ensures cause { IfErr result (λ cause. cause ≡ Cause.Failed Output) }
+    ensures put { IfOk result (λ _. Puts O.Sink (made_bytes (Output.Units form) start wrong frames) out.old out.new) }
+    ensures failed { OnErr result
+        (PutFails O.Sink (made_bytes (Output.Units form) start wrong frames) out.old out.new) }
+    ensures cause { IfErr result (λ cause. cause ≡ Cause.Failed OutputParty) }
 {
     match form {
         UnitForm::Blocks => make_blocks(start, frames, wrong, out),
@@ -114,13 +116,13 @@ fn make_units<O: Sink>(
 
 /// Writes this many frames of the test stream of this start in this form, with `wrong` wrong bytes in each word of a
 /// block or of its symbols. It takes no memory.
-pub fn make<O: Sink>(start: u64, frames: u64, wrong: u8, form: Input, out: &mut O) -> Cause
+pub fn make<O: Sink>(start: u64, frames: u64, wrong: u8, form: Output, out: &mut O) -> Cause
     requires { wrong ≤ 16 }
     ensures cause { IsCaused result (counts 0 0 (O.faults out.old)) (counts 0 0 (O.faults out.new)) }
     ensures ends { MakeEnds O.Sink (made_bytes form start wrong frames) result out.old out.new }
 {
     match form {
-        Input::Symbols => ended(make_symbols(start, frames, wrong, out)),
-        Input::Units(form) => ended(make_units(start, frames, wrong, form, out)),
+        Output::Symbols => ended(make_symbols(start, frames, wrong, out)),
+        Output::Units(form) => ended(make_units(start, frames, wrong, form, out)),
     }
 }

@@ -1,6 +1,7 @@
 //! `trial`: the main job on the test stream, without any input.
 ghost use Rattle.std.specs.Prelude.{◌≡◌, ◌≤◌, ◌<◌, ◌++◌, [], ℕ, List, length, IfOk, IfErr, OnOk};
 ghost use Rattle.lr_catalog.specs.declared.stop.Stop.TheVariants.{End};
+ghost use Rattle.lr_conv.specs.declared.line.TheConstants.{STANDARD as standard};
 ghost use Rattle.lr_shelf_format.specs.Reading.{end_of};
 ghost use Rattle.lr_make.specs.Blocks.{block_at};
 ghost use Rattle.lr_make.specs.Frames.{frame_at};
@@ -19,11 +20,13 @@ ghost use Rattle.lr_receiving.specs.declared.input.TheConstants.{MOST_BYTES as m
 
 use crate::ended::Ended;
 use crate::input::{Input, MOST_BYTES};
+use crate::output::Output;
 use crate::reader::Reader;
 use crate::reception::{put_last, receive_all};
 use crate::test_stream::put_bytes;
 use lr_bits::{FRAME_SYMBOLS, NoMemory};
 use lr_commands::Cause;
+use lr_conv::STANDARD;
 use lr_disk::Disk;
 use lr_io::{Sink, SureSink, SureSource};
 use lr_make::Maker;
@@ -37,7 +40,7 @@ const CAPACITY: u64 = 1_048_576;
 fn stream(alloc: Global, start: u64, frames: u64, wrong: u8) -> Result<Vec<u8>, NoMemory>
     requires few { frames ≤ 1024 }
     requires wrong { wrong ≤ 16 }
-    ensures bytes { IfOk result (λ bytes. bytes.items ≡ made_bytes Input.Symbols start wrong frames) }
+    ensures bytes { IfOk result (λ bytes. bytes.items ≡ made_bytes Output.Symbols start wrong frames) }
     ensures received { (k : ℕ) → k < frames
         → IfOk result (λ _. IsReceivedAs wrong (frame_at start k) (block_at start wrong k)) }
 {
@@ -63,14 +66,14 @@ fn shelve_stream<D: Disk>(
     disk: &mut D,
 ) -> Result<Ended, Cause>
     requires ready { IsReadyFor most_bytes reader.old }
-    requires input { input_of reader.old ≡ Input.Symbols }
+    requires input { input_of reader.old ≡ Input.Symbols standard }
     requires few { length symbols.items < most_bytes }
-    requires fit { end_of (with_files [] (files_of_bytes Input.Symbols symbols.items)) ≤ trial_capacity }
+    requires fit { end_of (with_files [] (files_of_bytes (Input.Symbols standard) symbols.items)) ≤ trial_capacity }
     ensures cause { IfErr result (λ cause. IsCaused cause (counts 0 (D.faults disk.old) 0)
         (counts 0 (D.faults disk.new) 0)) }
     ensures told { D.tells disk.old → D.tells disk.new }
     ensures kind { IfErr result StopsTrial }
-    ensures line { IfOk result (λ ended. ended_line ended ≡ receive_last Input.Symbols symbols.items End) }
+    ensures line { IfOk result (λ ended. ended_line ended ≡ receive_last (Input.Symbols standard) symbols.items End) }
     ensures done { OnOk result (LeavesDisk D.Disk symbols.items Cause.Done disk.old disk.new) }
     ensures stopped { IfErr result (λ cause. LeavesDisk D.Disk symbols.items cause disk.old disk.new) }
 {
@@ -106,14 +109,14 @@ pub fn trial<D: Disk, O: Sink>(
         (counts 0 (D.faults disk.new) (O.faults out.new)) }
     ensures told_by_disk { D.tells disk.old → D.tells disk.new }
     ensures told_by_out { O.tells out.old → O.tells out.new }
-    ensures run { TrialRun D.Disk O.Sink (made_bytes Input.Symbols start wrong frames) result disk.old disk.new
+    ensures run { TrialRun D.Disk O.Sink (made_bytes Output.Symbols start wrong frames) result disk.old disk.new
         out.old out.new }
 {
     let symbols = match stream(alloc, start, frames, wrong) {
         Ok(symbols) => symbols,
         Err(NoMemory) => return Cause::NoMemory,
     };
-    let mut reader = match Reader::new(alloc, Input::Symbols, MOST_BYTES) {
+    let mut reader = match Reader::new(alloc, Input::Symbols(STANDARD), MOST_BYTES) {
         Ok(reader) => reader,
         Err(NoMemory) => return Cause::NoMemory,
     };

@@ -16,6 +16,7 @@ use crate::units::Next;
 use lr_bits::{Bytes, Outcome};
 use lr_catalog::{Stop, window_line};
 use lr_commands::Cause;
+use lr_conv::LineCode;
 use lr_io::{Sink, Source};
 use std::alloc::Global;
 
@@ -38,18 +39,19 @@ fn put_window<O: Sink>(
 
 fn put_each_window<S: Source, O: Sink>(
     alloc: Global,
+    line: LineCode,
     most: u64,
     source: &mut S,
     out: &mut O,
 ) -> Result<Decoded, Cause>
     requires few { most ≤ 2 ^ 48 }
-    ensures ended { IfOk result (λ ended. EndsWindows S.Source O.Sink most ended source.old source.new out.old
+    ensures ended { IfOk result (λ ended. EndsWindows S.Source O.Sink line most ended source.old source.new out.old
         out.new) }
     ensures stopped { IfErr result
-        (λ cause. Prints S.Source O.Sink (decode_text Symbols) (decode_last Symbols) most cause source.old
+        (λ cause. Prints S.Source O.Sink (decode_text (Symbols line)) (decode_last (Symbols line)) most cause source.old
         source.new out.old out.new) }
 {
-    let mut decoder = Decoder::new(alloc, most)?;
+    let mut decoder = Decoder::new(alloc, line, most)?;
     let mut place = 0u64;
     let mut restored = 0u64;
     'windows: loop {
@@ -76,35 +78,38 @@ fn put_each_window<S: Source, O: Sink>(
 
 fn put_windows<S: Source, O: Sink>(
     alloc: Global,
+    line: LineCode,
     most: u64,
     source: &mut S,
     out: &mut O,
 ) -> Result<Stop, Cause>
     requires few { most ≤ 2 ^ 48 }
-    ensures all { IfOk result (λ stop. PrintsAll S.Source O.Sink (decode_text Symbols) (decode_last Symbols)
+    ensures all { IfOk result (λ stop. PrintsAll S.Source O.Sink (decode_text (Symbols line))
+        (decode_last (Symbols line))
         most stop source.old source.new out.old out.new) }
     ensures stopped { IfErr result
-        (λ cause. Prints S.Source O.Sink (decode_text Symbols) (decode_last Symbols) most cause source.old
+        (λ cause. Prints S.Source O.Sink (decode_text (Symbols line)) (decode_last (Symbols line)) most cause source.old
         source.new out.old out.new) }
 {
-    let ended = put_each_window(alloc, most, source, out)?;
+    let ended = put_each_window(alloc, line, most, source, out)?;
     put_last(alloc, &ended, out)?;
     Ok(ended.stop)
 }
 
-/// A line for what became of each window of the symbols of the source, and a last line. At most `most`
-/// bytes are taken.
+/// A line for what became of each window of the symbols of the source, under their line code, and a last line. At most
+/// `most` bytes are taken.
 pub(crate) fn decode_symbols<S: Source, O: Sink>(
     alloc: Global,
+    line: LineCode,
     most: u64,
     source: &mut S,
     out: &mut O,
 ) -> Cause
     requires few { most ≤ 2 ^ 48 }
-    ensures { Prints S.Source O.Sink (decode_text Symbols) (decode_last Symbols) most result source.old
+    ensures { Prints S.Source O.Sink (decode_text (Symbols line)) (decode_last (Symbols line)) most result source.old
         source.new out.old out.new }
 {
-    match put_windows(alloc, most, source, out) {
+    match put_windows(alloc, line, most, source, out) {
         Ok(stop) => cause_at(stop),
         Err(cause) => cause,
     }

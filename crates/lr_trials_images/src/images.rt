@@ -34,7 +34,8 @@ fn file_of(alloc: Global, bodies: &[&[u8]]) -> Result<MissionFile, Fail> {
     let mut lengths = Lengths::new(alloc);
     let mut bytes = Bytes::new(alloc);
     for body in bodies {
-        lengths.push(body.len() as u16)?;
+        let length = u16::try_from(body.len()).ok().ok_or("a body is too long")?;
+        lengths.push(length)?;
         bytes.extend(body)?;
     }
     Ok(MissionFile::build(0, 100, lengths, bytes).ok_or("no file")?)

@@ -26,7 +26,8 @@ fn row(alloc: Global, bits: u8, values: &[u16]) -> Result<Option<Image>, NoMemor
     for value in values {
         pixels.push(*value)?;
     }
-    Ok(Image::build(bits, values.len() as u32, 1, pixels))
+    let columns = u32::try_from(values.len()).unwrap_or(0);
+    Ok(Image::build(bits, columns, 1, pixels))
 }
 
 fn is_same(found: AssembleFault, wanted: AssembleFault) -> bool {

@@ -31,3 +31,5 @@ mod streams;
 mod symbols;
 #[cfg(test)]
 mod trial;
+#[cfg(test)]
+mod words;

@@ -1,8 +1,9 @@
 // `decode` and `receive` of symbols.
 use crate::call::{AMPLE, Input, NEVER, Outcome, done, ends_on, gives, gives_on};
 use crate::shelves::empty_shelf;
+use lr_conv::LineCode;
 use lr_disk::MemDisk;
-use lr_trials_lock::streams::{bytes_of, leave_hits, sent, silence, turn};
+use lr_trials_lock::streams::{bytes_of, coded_frames, leave_hits, sent, silence, turn};
 use std::alloc::Global;
 use std::test::Fail;
 
@@ -33,6 +34,8 @@ const ALL: &str = "symbols 131072 frames 8 restored 8 lost 0 left 0 stop end\n";
 const ONE_GONE: &str = "symbols 131072 frames 7 restored 7 lost 0 left 0 stop end\n";
 
 const CUT_SHORT: &str = "symbols 131071 frames 7 restored 7 lost 0 left 0 stop end\n";
+
+const TWO: &str = "symbols 32768 frames 2 restored 2 lost 0 left 0 stop end\n";
 
 const NOTHING: &str = "symbols 0 frames 0 restored 0 lost 0 packets 0 files 0 left 0 stop end\n";
 
@@ -107,6 +110,33 @@ fn last_lines_are_those_of_any_reads(rt: HostRuntime) -> Result<(), Fail> {
     assert!(rt; decodes(alloc, &symbols, ALL)?);
     silence(&mut symbols, 4 * FRAME, FRAME);
     assert!(rt; decodes(alloc, &symbols, ONE_GONE)?);
+    Ok(())
+}
+
+// Whether `decode` with these options restores two frames of this line code.
+fn decodes_line(alloc: Global, words: &[&str], line: LineCode) -> Result<bool, Fail> {
+    let mut disk = MemDisk::of(alloc, Vec::new(alloc), 0, 0)?;
+    let input = Input {
+        words,
+        bytes: bytes_of(alloc, &coded_frames(alloc, line, 2)?)?,
+        reads: 4_096,
+        fault: NEVER,
+    };
+    ends_on(alloc, &mut disk, input, AMPLE, done(TWO))
+}
+
+#[test]
+fn each_line_code_is_decoded(rt: HostRuntime) -> Result<(), Fail> {
+    let alloc = rt.alloc();
+    for marks in [false, true] {
+        for inverted in [false, true] {
+            let name = if marks { "nrz-m" } else { "nrz-l" };
+            let g2 = if inverted { "inverted" } else { "plain" };
+            let line = LineCode { marks, inverted };
+            let words = ["decode", "--line", name, "--g2", g2];
+            assert!(rt; decodes_line(alloc, &words, line)?);
+        }
+    }
     Ok(())
 }
 

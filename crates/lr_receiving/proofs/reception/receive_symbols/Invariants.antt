@@ -3,7 +3,8 @@ use Rattle.lr_receiving.proofs.WindowLoop.{WindowsSoFar}
 use Rattle.lr_receiving.proofs.reception.receive_symbols.Given as goal
 
 abbrev pub invariant-windows : goal.invariant-windows
-invariant-windows g l = WindowsSoFar g.S.Source g.D.Disk g.O.Sink l.fn.decoder.most l.place l.decoder l.layers
+invariant-windows g l = WindowsSoFar g.S.Source g.D.Disk g.O.Sink l.fn.decoder.lock.line l.fn.decoder.most
+    l.place l.decoder l.layers
     l.fn.shelf l.shelf l.fn.source l.source l.fn.disk l.disk l.fn.out l.out
 
 abbrev pub decreases-windows : goal.decreases-windows

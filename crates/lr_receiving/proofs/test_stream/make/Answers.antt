@@ -1,7 +1,7 @@
 use Rattle.std.proofs.Common.{sym, subst}
 use Rattle.lr_make.specs.Stream.{symbol_stream}
-use Rattle.lr_receiving.specs.declared.input.Input.{Input}
-use Rattle.lr_receiving.specs.declared.input.Input.TheVariants.{Units}
+use Rattle.lr_receiving.specs.declared.output.Output.{Output}
+use Rattle.lr_receiving.specs.declared.output.Output.TheVariants.{Units}
 use Rattle.lr_receiving.specs.Made.{bytes_of_symbols, made_bytes, MakeEnds}
 use Rattle.lr_receiving.proofs.Making.{make_ends}
 use Rattle.lr_receiving.proofs.test_stream.make.Goals as goal
@@ -11,7 +11,7 @@ unfolding made_bytes
 returns-in-Symbols-clause-ends g c =
     let e = c.make_symbols.ensures in
     let text = bytes_of_symbols (symbol_stream c.args.start c.args.wrong c.args.frames) in
-    subst (λ (f : Input). MakeEnds g.O.Sink (made_bytes f c.args.start c.args.wrong c.args.frames)
+    subst (λ (f : Output). MakeEnds g.O.Sink (made_bytes f c.args.start c.args.wrong c.args.frames)
     c.ended.result c.args.out.now c.make_symbols.new.out) (sym c.in-Symbols.is)
     (make_ends g.O.Sink text c.args.out.now c.make_symbols.new.out c.make_symbols.result c.ended.result e.put
     e.failed e.cause c.ended.ensures.done c.ended.ensures.stopped)
@@ -20,7 +20,7 @@ pub returns-in-Units-clause-ends : goal.returns-in-Units-clause-ends
 returns-in-Units-clause-ends g c =
     let e = c.make_units.ensures in
     let text = made_bytes (Units c.in-Units.form) c.args.start c.args.wrong c.args.frames in
-    subst (λ (f : Input). MakeEnds g.O.Sink (made_bytes f c.args.start c.args.wrong c.args.frames)
+    subst (λ (f : Output). MakeEnds g.O.Sink (made_bytes f c.args.start c.args.wrong c.args.frames)
     c.ended-in-Units.result c.args.out.now c.make_units.new.out) (sym c.in-Units.is)
     (make_ends g.O.Sink text c.args.out.now c.make_units.new.out c.make_units.result c.ended-in-Units.result
     e.put e.failed e.cause c.ended-in-Units.ensures.done c.ended-in-Units.ensures.stopped)

@@ -1,5 +1,6 @@
 use Rattle.std.proofs.Common.{◌≤◌, ap, sym, subst, arith, List, [], ℕ, length}
 use Rattle.lr_shelf_format.specs.Reading.{end_of}
+use Rattle.lr_conv.specs.declared.line.TheConstants.{STANDARD}
 use Rattle.lr_receiving.specs.declared.input.Input.TheVariants.{Symbols}
 use Rattle.lr_receiving.specs.Inputs.{files_of_bytes}
 use Rattle.lr_receiving.specs.Shelving.{with_files}
@@ -14,7 +15,7 @@ shelve_stream-requires-clause-few g c =
 
 pub shelve_stream-requires-clause-fit : goal.shelve_stream-requires-clause-fit
 shelve_stream-requires-clause-fit g c =
-    subst (λ (l : List ℕ). end_of (with_files [] (files_of_bytes Symbols l)) ≤ trial_capacity)
+    subst (λ (l : List ℕ). end_of (with_files [] (files_of_bytes (Symbols STANDARD) l)) ≤ trial_capacity)
     (sym c.in-Ok.ensures.bytes)
     (made_files_fit c.args.start c.args.wrong c.args.frames c.requires.few c.in-Ok.ensures.received)
 

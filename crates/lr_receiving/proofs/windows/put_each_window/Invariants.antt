@@ -3,7 +3,8 @@ use Rattle.lr_receiving.proofs.WindowLines.{WindowsPut}
 use Rattle.lr_receiving.proofs.windows.put_each_window.Given as goal
 
 abbrev pub invariant-windows : goal.invariant-windows
-invariant-windows g l = WindowsPut g.S.Source g.O.Sink l.most l.place l.restored l.decoder l.fn.source l.source
+invariant-windows g l = WindowsPut g.S.Source g.O.Sink l.fn.line l.most l.place l.restored l.decoder l.fn.source
+    l.source
     l.fn.out l.out
 
 abbrev pub decreases-windows : goal.decreases-windows

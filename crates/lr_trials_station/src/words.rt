@@ -1,0 +1,350 @@
+// Which words are read, and as which command.
+use lr_conv::LineCode;
+use lr_receiving::{Input, Output, UnitForm};
+use lr_words::{Command, read_words, writes_shelf};
+use std::alloc::{AllocError, Global};
+use std::test::Fail;
+
+/// Words with a space between them, and the command that they give.
+const READ: [(&str, &str); 36] = [
+    ("init 100", "init 100"),
+    ("init -- 100", "init 100"),
+    ("init 00000000000000000100", "init 100"),
+    ("init 20", "init 20"),
+    ("init 1099511627776", "init 1099511627776"),
+    ("extract -- 0", "extract 0"),
+    ("extract 0 --", "extract 0"),
+    (
+        "extract 18446744073709551615",
+        "extract 18446744073709551615",
+    ),
+    ("discard 7", "discard 7"),
+    ("verify", "verify"),
+    ("verify --", "verify"),
+    ("frames", "frames 1099511627776"),
+    ("frames --", "frames 1099511627776"),
+    ("frames --symbols 5 --", "frames 5"),
+    ("frames --symbols=5", "frames 5"),
+    ("frames --symbols 5", "frames 5"),
+    ("frames --symbols 1099511627776", "frames 1099511627776"),
+    ("packets", "packets 1099511627776"),
+    ("packets --symbols 0", "packets 0"),
+    ("decode", "decode symbols nrz-l inverted 1099511627776"),
+    (
+        "decode --symbols=0 --workers=1 --input=blocks",
+        "decode blocks 0",
+    ),
+    (
+        "decode --input=blocks --symbols=0 --workers=1",
+        "decode blocks 0",
+    ),
+    (
+        "decode --line nrz-m --symbols 9",
+        "decode symbols nrz-m inverted 9",
+    ),
+    (
+        "decode --g2=plain --symbols 9",
+        "decode symbols nrz-l plain 9",
+    ),
+    (
+        "decode --g2 plain --line nrz-m --symbols 9",
+        "decode symbols nrz-m plain 9",
+    ),
+    ("receive", "receive symbols nrz-l inverted 1099511627776"),
+    (
+        "receive --input frames --line nrz-m --g2 plain --symbols 1",
+        "receive frames 1",
+    ),
+    (
+        "receive --g2 inverted --line nrz-l --workers 1 --symbols 1",
+        "receive symbols nrz-l inverted 1",
+    ),
+    ("make 1 2 3", "make 1 2 3 symbols"),
+    ("make --output blocks 1 2 3", "make 1 2 3 blocks"),
+    ("make 1 --output=blocks 2 -- 3", "make 1 2 3 blocks"),
+    ("make 1 2 3 --output frames", "make 1 2 3 frames"),
+    (
+        "make 18446744073709551615 65536 16",
+        "make 18446744073709551615 65536 16 symbols",
+    ),
+    ("trial 0 1 0", "trial 0 1 0"),
+    ("trial 9 1024 16", "trial 9 1024 16"),
+    ("trial 9 --workers 1 1024 16", "trial 9 1024 16"),
+];
+
+/// Words of which the arguments don't fit the command.
+const WRONG_ARGUMENTS: [&str; 29] = [
+    "",
+    " ",
+    "init",
+    "init 100 100",
+    "init --capacity 100",
+    "init -100",
+    "extract",
+    "extract ",
+    "extract --",
+    "extract -0",
+    "extract -- -- 0",
+    "extract 0 --symbols 5",
+    "discard",
+    "verify 0",
+    "verify ",
+    "verify -- x",
+    "frames 5",
+    "frames ",
+    "frames -- --symbols 5",
+    "frames --line nrz-l",
+    "frames --input symbols",
+    "packets --workers 1",
+    "make 1 2",
+    "make 1 2 3 4",
+    "make 1 2 3 --input blocks",
+    "trial 1 2",
+    "trial 1 2 3 --output symbols",
+    "trial 1 2 3 --workers 2",
+    "decode blocks",
+];
+
+/// Words of which an option is named or used in a wrong way.
+const WRONG_OPTIONS: [&str; 23] = [
+    "frames --symbols",
+    "frames --symbols --symbols",
+    "frames --symbols --help",
+    "frames --symbols -- 5",
+    "frames --symbols -5",
+    "frames --symbols 5 --symbols 5",
+    "frames --symbols 5 --symbols=5",
+    "frames --symbol 5",
+    "frames --sym=5",
+    "frames --Symbols 5",
+    "frames -s 5",
+    "frames -symbols 5",
+    "frames --=5",
+    "frames ---symbols 5",
+    "frames --version",
+    "frames -V",
+    "decode --input --workers 1",
+    "decode --input blocks --input blocks",
+    "decode --line nrz-l --line nrz-m",
+    "receive --g2 plain --g2 plain",
+    "receive --workers 1 --workers 1",
+    "make --output 1 2 3",
+    "make 1 2 3 --output",
+];
+
+/// Words that ask for help, or name no command.
+const NO_COMMAND: [&str; 22] = [
+    "--help",
+    "-h",
+    "help",
+    "help frames",
+    "frames help",
+    "frames --help",
+    "frames -h",
+    "frames -hh",
+    "frames -h5",
+    "frames --help=5",
+    "frames --hel",
+    "frames --symbols 5 --help",
+    "frames --symbol 5 --help",
+    "init -- --help",
+    "init --help",
+    "--version",
+    "--",
+    "-",
+    "Frames",
+    "frame",
+    "frames5",
+    " frames",
+];
+
+/// Words of which a value is none.
+const WRONG_VALUES: [&str; 44] = [
+    "init 19",
+    "init 1099511627777",
+    "init +100",
+    "init 1e2",
+    "init 0x10",
+    "init 10_0",
+    "init 000000000000000000100",
+    "extract +1",
+    "extract -",
+    "extract -- -0",
+    "extract 18446744073709551616",
+    "extract 000000000000000000000",
+    "discard one",
+    "frames --symbols=",
+    "frames --symbols =5",
+    "frames --symbols=-5",
+    "frames --symbols 1099511627777",
+    "packets --symbols five",
+    "decode --input -",
+    "decode --input=",
+    "decode --input frames",
+    "decode --input Symbols",
+    "decode --input sym",
+    "decode --workers 0",
+    "decode --workers 1,2",
+    "decode --workers 1 2",
+    "decode --workers 65",
+    "decode --line nrz",
+    "decode --line plain",
+    "decode --g2 nrz-m",
+    "decode --g2=",
+    "receive --workers 0",
+    "receive --workers 2",
+    "receive --workers 64",
+    "receive --input windows",
+    "receive --line NRZ-L",
+    "receive --g2 Inverted",
+    "make 0 0 0",
+    "make 0 65537 0",
+    "make 0 1 17",
+    "make 18446744073709551616 1 0",
+    "make 1 2 3 --output lines",
+    "trial 0 0 0",
+    "trial 0 1025 0",
+];
+
+fn unit_name(form: UnitForm) -> &'static str {
+    match form {
+        UnitForm::Blocks => "blocks",
+        UnitForm::Frames => "frames",
+    }
+}
+
+fn output_name(form: Output) -> &'static str {
+    match form {
+        Output::Symbols => "symbols",
+        Output::Units(form) => unit_name(form),
+    }
+}
+
+fn line_name(line: LineCode) -> &'static str {
+    if line.marks { "nrz-m" } else { "nrz-l" }
+}
+
+fn g2_name(line: LineCode) -> &'static str {
+    if line.inverted { "inverted" } else { "plain" }
+}
+
+fn input_text(alloc: Global, name: &str, input: Input, most: u64) -> Result<String, AllocError> {
+    match input {
+        Input::Symbols(line) => {
+            let code = line_name(line);
+            let g2 = g2_name(line);
+            format!(in alloc; "{name} symbols {code} {g2} {most}")
+        }
+        Input::Units(form) => {
+            let units = unit_name(form);
+            format!(in alloc; "{name} {units} {most}")
+        }
+    }
+}
+
+/// The command with all its values.
+fn text_of(alloc: Global, command: Command) -> Result<String, AllocError> {
+    match command {
+        Command::Init { capacity } => format!(in alloc; "init {capacity}"),
+        Command::Frames { most } => format!(in alloc; "frames {most}"),
+        Command::Packets { most } => format!(in alloc; "packets {most}"),
+        Command::Decode { input, most } => input_text(alloc, "decode", input, most),
+        Command::Receive { input, most } => input_text(alloc, "receive", input, most),
+        Command::Extract { number } => format!(in alloc; "extract {number}"),
+        Command::Verify => String::from_str(alloc, "verify"),
+        Command::Discard { number } => format!(in alloc; "discard {number}"),
+        Command::Make {
+            start,
+            frames,
+            wrong,
+            form,
+        } => format!(in alloc; "make {start} {frames} {wrong} {}", output_name(form)),
+        Command::Trial {
+            start,
+            frames,
+            wrong,
+        } => format!(in alloc; "trial {start} {frames} {wrong}"),
+    }
+}
+
+fn words_of(alloc: Global, line: &str) -> Result<Vec<String>, AllocError> {
+    let mut words = Vec::new(alloc);
+    for word in line.split(' ') {
+        words.push(String::from_str(alloc, word)?)?;
+    }
+    Ok(words)
+}
+
+/// A number with a space in it.
+fn spaced_number(alloc: Global) -> Result<Vec<String>, AllocError> {
+    let mut words = words_of(alloc, "init")?;
+    words.push(String::from_str(alloc, "1 00")?)?;
+    Ok(words)
+}
+
+fn gives(alloc: Global, line: &str, wanted: &str) -> Result<bool, Fail> {
+    let words = words_of(alloc, line)?;
+    match read_words(alloc, &words)? {
+        Some(command) => Ok(text_of(alloc, command)?.as_str() == wanted),
+        None => Ok(false),
+    }
+}
+
+fn is_refused(alloc: Global, words: &[String]) -> Result<bool, Fail> {
+    Ok(read_words(alloc, words)?.is_none())
+}
+
+/// The first line that isn't read as is wanted.
+fn first_misread(alloc: Global) -> Result<&'static str, Fail> {
+    for (line, wanted) in READ {
+        if !gives(alloc, line, wanted)? {
+            return Ok(line);
+        }
+    }
+    Ok("none")
+}
+
+/// The first line that gives a command.
+fn first_taken(alloc: Global, lines: &[&'static str]) -> Result<&'static str, Fail> {
+    for line in lines {
+        if !is_refused(alloc, &words_of(alloc, line)?)? {
+            return Ok(line);
+        }
+    }
+    Ok("none")
+}
+
+fn may_write(alloc: Global, line: &str) -> Result<bool, Fail> {
+    Ok(writes_shelf(&words_of(alloc, line)?))
+}
+
+#[test]
+fn words_are_read_in_any_order_that_says_the_same(rt: HostRuntime) -> Result<(), Fail> {
+    assert_eq!(rt; first_misread(rt.alloc())?, "none");
+    Ok(())
+}
+
+#[test]
+fn words_that_give_no_command_are_refused(rt: HostRuntime) -> Result<(), Fail> {
+    let alloc = rt.alloc();
+    assert_eq!(rt; first_taken(alloc, &WRONG_ARGUMENTS)?, "none");
+    assert_eq!(rt; first_taken(alloc, &WRONG_OPTIONS)?, "none");
+    assert_eq!(rt; first_taken(alloc, &NO_COMMAND)?, "none");
+    assert_eq!(rt; first_taken(alloc, &WRONG_VALUES)?, "none");
+    assert!(rt; is_refused(alloc, &Vec::new(alloc))?);
+    assert!(rt; is_refused(alloc, &spaced_number(alloc)?)?);
+    Ok(())
+}
+
+#[test]
+fn the_first_word_says_whether_the_shelf_may_change(rt: HostRuntime) -> Result<(), Fail> {
+    let alloc = rt.alloc();
+    for line in ["init 20", "receive", "trial", "discard x"] {
+        assert!(rt; may_write(alloc, line)?);
+    }
+    for line in ["", "frames", "extract 0", "make init", "Init", "init5"] {
+        assert!(rt; !may_write(alloc, line)?);
+    }
+    assert!(rt; !writes_shelf(&Vec::new(alloc)));
+    Ok(())
+}

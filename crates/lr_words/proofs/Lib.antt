@@ -1,0 +1,4 @@
+pub mod Covered
+pub mod Digits
+pub mod Dispatch
+pub mod Taken

@@ -1,0 +1,5 @@
+pub mod Arguments
+pub mod Commands
+pub mod Numbers
+pub mod Values
+pub mod Words

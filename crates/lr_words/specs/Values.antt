@@ -1,0 +1,79 @@
+-- The values of the options that several commands have, and what stands where an option isn't given.
+use Rattle.std.specs.Prelude.{
+  ℕ,
+  Bool,
+  true,
+  false,
+  Option,
+  Some,
+  None,
+  codes,
+  if◌then◌else◌,
+  option_map,
+  option_and_then,
+}
+use Rattle.std.specs.Str.{bytes_eq}
+use Rattle.clap.specs.Words.{Text}
+use Rattle.lr_conv.specs.declared.line.LineCode.{LineCode}
+use Rattle.lr_receiving.specs.declared.input.Input.{Input}
+use Rattle.lr_receiving.specs.declared.input.Input.TheVariants.{Symbols, Units}
+use Rattle.lr_receiving.specs.declared.input.UnitForm.TheVariants.{Blocks, Frames}
+use Rattle.lr_receiving.specs.declared.input.TheConstants.{MOST_BYTES}
+use Rattle.lr_receiving.specs.declared.output.Output.{Output}
+use Rattle.lr_receiving.specs.declared.output.Output.TheVariants.{Symbols as AsSymbols, Units as AsUnits}
+use Rattle.lr_words.specs.Numbers.{number_or}
+
+-- `--input` of `decode`; of symbols the line code is told by other options
+abbrev pub coded_input : LineCode → Option Text → Option Input
+coded_input line None = Some (Symbols line)
+coded_input line (Some text) =
+    if bytes_eq text (codes "symbols") then Some (Symbols line)
+    else if bytes_eq text (codes "blocks") then Some (Units Blocks)
+    else None
+
+-- `--input` of `receive`
+abbrev pub any_input : LineCode → Option Text → Option Input
+any_input line None = Some (Symbols line)
+any_input line (Some text) =
+    if bytes_eq text (codes "symbols") then Some (Symbols line)
+    else if bytes_eq text (codes "blocks") then Some (Units Blocks)
+    else if bytes_eq text (codes "frames") then Some (Units Frames)
+    else None
+
+-- `--output` of `make`
+abbrev pub output_of : Option Text → Option Output
+output_of None = Some AsSymbols
+output_of (Some text) =
+    if bytes_eq text (codes "symbols") then Some AsSymbols
+    else if bytes_eq text (codes "blocks") then Some (AsUnits Blocks)
+    else if bytes_eq text (codes "frames") then Some (AsUnits Frames)
+    else None
+
+-- `--line`: whether a 1 is a change of level
+abbrev pub marks_of : Option Text → Option Bool
+marks_of None = Some false
+marks_of (Some text) =
+    if bytes_eq text (codes "nrz-l") then Some false
+    else if bytes_eq text (codes "nrz-m") then Some true
+    else None
+
+-- `--g2`: whether the second symbol of each pair is complemented
+abbrev pub inverted_of : Option Text → Option Bool
+inverted_of None = Some true
+inverted_of (Some text) =
+    if bytes_eq text (codes "inverted") then Some true
+    else if bytes_eq text (codes "plain") then Some false
+    else None
+
+-- the line code of `--line` and `--g2`
+abbrev pub line_of : Option Text → Option Text → Option LineCode
+line_of line g2 = option_and_then (λ marks. option_map (λ inverted. record { marks = marks; inverted = inverted })
+    (inverted_of g2)) (marks_of line)
+
+-- `--symbols`: the most bytes that are taken
+abbrev pub most_of : Option Text → Option ℕ
+most_of = number_or 0 MOST_BYTES MOST_BYTES
+
+-- `--workers`: one, since there aren't more yet
+abbrev pub workers_of : Option Text → Option ℕ
+workers_of = number_or 1 1 1

@@ -1,0 +1,52 @@
+use lr_receiving::{Input, Output};
+
+/// A command with what its words say.
+#[derive(Clone, Copy)]
+pub enum Command {
+    /// Makes an empty shelf of this many bytes.
+    Init {
+        capacity: u64,
+    },
+    /// A line for each transfer frame; at most `most` bytes are taken.
+    Frames {
+        most: u64,
+    },
+    /// A line for each packet of the transfer frames; at most `most` bytes are taken.
+    Packets {
+        most: u64,
+    },
+    /// A line for what became of each window or block; at most `most` bytes are taken.
+    Decode {
+        input: Input,
+        most: u64,
+    },
+    /// Puts each mission file onto the shelf; at most `most` bytes are taken.
+    Receive {
+        input: Input,
+        most: u64,
+    },
+    /// The bytes of the mission file of this number.
+    Extract {
+        number: u64,
+    },
+    /// A line for each file's checksum.
+    Verify,
+    /// Closes the entry of this number.
+    Discard {
+        number: u64,
+    },
+    /// `frames` frames of the test stream of this start, with `wrong` wrong bytes in each word, in this form.
+    Make {
+        start: u64,
+        frames: u64,
+        wrong: u8,
+        form: Output,
+    },
+    /// The main job on `frames` frames of that stream: the symbols are made and received onto a shelf that is made for
+    /// them.
+    Trial {
+        start: u64,
+        frames: u64,
+        wrong: u8,
+    },
+}

@@ -1,0 +1,32 @@
+ghost use Rattle.std.specs.Prelude.{◌≡◌, map, IfOk, string_bytes};
+ghost use Rattle.lr_words.specs.Commands.{decode_of, IsInRange};
+
+use crate::arguments::intake_parser;
+use crate::command::Command;
+use crate::matched::matched;
+use crate::values::{coded_input, line_code, most, workers};
+use lr_bits::NoMemory;
+use std::alloc::Global;
+
+/// The command that words of `decode` give, if they give one.
+pub(crate) fn read_decode(alloc: Global, words: &[String]) -> Result<Option<Command>, NoMemory>
+    ensures gives { IfOk result (λ r. r ≡ decode_of (map string_bytes words.now)) }
+    ensures range { IfOk result IsInRange }
+{
+    let Some(matches) = matched(intake_parser(alloc, "decode")?, words)? else {
+        return Ok(None);
+    };
+    let Some(_) = workers(&matches) else {
+        return Ok(None);
+    };
+    let Some(line) = line_code(&matches) else {
+        return Ok(None);
+    };
+    let Some(input) = coded_input(&matches, line) else {
+        return Ok(None);
+    };
+    let Some(most) = most(&matches) else {
+        return Ok(None);
+    };
+    Ok(Some(Command::Decode { input, most }))
+}

@@ -1,0 +1,23 @@
+ghost use Rattle.std.specs.Prelude.{◌≡◌, map, IfOk, string_bytes};
+ghost use Rattle.lr_words.specs.Commands.{frames_of, IsInRange};
+
+use crate::arguments::symbols_parser;
+use crate::command::Command;
+use crate::matched::matched;
+use crate::values::most;
+use lr_bits::NoMemory;
+use std::alloc::Global;
+
+/// The command that words of `frames` give, if they give one.
+pub(crate) fn read_frames(alloc: Global, words: &[String]) -> Result<Option<Command>, NoMemory>
+    ensures gives { IfOk result (λ r. r ≡ frames_of (map string_bytes words.now)) }
+    ensures range { IfOk result IsInRange }
+{
+    let Some(matches) = matched(symbols_parser(alloc, "frames")?, words)? else {
+        return Ok(None);
+    };
+    let Some(most) = most(&matches) else {
+        return Ok(None);
+    };
+    Ok(Some(Command::Frames { most }))
+}

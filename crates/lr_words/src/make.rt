@@ -1,0 +1,50 @@
+//! The words of `make`.
+ghost use Rattle.std.specs.Prelude.{◌≡◌, map, IfOk, string_bytes};
+ghost use Rattle.clap.specs.Words.{app_of};
+ghost use Rattle.lr_words.specs.Commands.{make_app, make_of, IsInRange};
+
+use crate::arguments::{option, stream_parser};
+use crate::command::Command;
+use crate::matched::matched;
+use crate::numbers::number_given;
+use crate::values::{MOST_WRONG, output_form};
+use clap::Command as Parser;
+use lr_bits::NoMemory;
+use std::alloc::{AllocError, Global};
+
+/// The most frames that `make` writes.
+const MOST_FRAMES: u64 = 65_536;
+
+fn make_parser<'a>(alloc: Global) -> Result<Parser<'a>, AllocError>
+    ensures { IfOk result (λ c. app_of c ≡ make_app) }
+{
+    stream_parser(alloc, "make")?.arg(option(alloc, "output"))
+}
+
+/// The command that words of `make` give, if they give one.
+pub(crate) fn read_make(alloc: Global, words: &[String]) -> Result<Option<Command>, NoMemory>
+    ensures gives { IfOk result (λ r. r ≡ make_of (map string_bytes words.now)) }
+    ensures range { IfOk result IsInRange }
+{
+    let Some(matches) = matched(make_parser(alloc)?, words)? else {
+        return Ok(None);
+    };
+    let Some(start) = number_given(&matches, "start", 0, u64::MAX) else {
+        return Ok(None);
+    };
+    let Some(frames) = number_given(&matches, "frames", 1, MOST_FRAMES) else {
+        return Ok(None);
+    };
+    let Some(wrong) = number_given(&matches, "wrong", 0, MOST_WRONG) else {
+        return Ok(None);
+    };
+    let Some(form) = output_form(&matches) else {
+        return Ok(None);
+    };
+    Ok(Some(Command::Make {
+        start,
+        frames,
+        wrong: wrong as u8,
+        form,
+    }))
+}

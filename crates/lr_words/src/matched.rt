@@ -1,0 +1,24 @@
+ghost use Rattle.std.specs.Prelude.{◌≡◌, true, map, IfOk, string_bytes};
+ghost use Rattle.clap.specs.Words.{app_of};
+ghost use Rattle.lr_words.specs.Words.{is_covered, IsMatched};
+
+use clap::error::ErrorKind;
+use clap::{ArgMatches, Command as Parser};
+use lr_bits::NoMemory;
+
+/// The matches of the words, of which the first is the command's name, or none where the command refuses them.
+pub(crate) fn matched<'a>(
+    command: Parser<'a>,
+    words: &'a [String],
+) -> Result<Option<ArgMatches<'a>>, NoMemory>
+    requires { is_covered (app_of command) ≡ true }
+    ensures { IfOk result (IsMatched (app_of command.entry) (map string_bytes words.entry.now)) }
+{
+    match command.try_get_matches_from(words) {
+        Ok(matches) => Ok(Some(matches)),
+        Err(error) => match error.kind() {
+            ErrorKind::OutOfMemory => Err(NoMemory),
+            _ => Ok(None),
+        },
+    }
+}

@@ -1,0 +1,133 @@
+//! The values of the options that several commands have.
+ghost use Rattle.std.specs.Prelude.{◌≡◌, ◌≤◌, IfSome, codes};
+ghost use Rattle.clap.specs.Words.{first_value, found_of};
+ghost use Rattle.lr_words.specs.Values.{
+  coded_input,
+  any_input,
+  output_of,
+  marks_of,
+  inverted_of,
+  line_of,
+  most_of,
+  workers_of,
+};
+
+use crate::numbers::number_or;
+use clap::ArgMatches;
+use lr_conv::LineCode;
+use lr_receiving::{Input, MOST_BYTES, Output, UnitForm};
+
+/// The value of `--workers`. More than one aren't there yet.
+const WORKERS: u64 = 1;
+
+/// The most wrong bytes in each word of a test stream.
+pub(crate) const MOST_WRONG: u64 = 16;
+
+/// What `decode` reads, where symbols are of this line code.
+pub(crate) fn coded_input(matches: &ArgMatches, line: LineCode) -> Option<Input>
+    ensures { result ≡ coded_input line (first_value (found_of matches.now) (codes "input")) }
+{
+    let Some(text) = matches.get_str("input") else {
+        return Some(Input::Symbols(line));
+    };
+    if text == "symbols" {
+        Some(Input::Symbols(line))
+    } else if text == "blocks" {
+        Some(Input::Units(UnitForm::Blocks))
+    } else {
+        None
+    }
+}
+
+/// What `receive` reads, where symbols are of this line code.
+pub(crate) fn any_input(matches: &ArgMatches, line: LineCode) -> Option<Input>
+    ensures { result ≡ any_input line (first_value (found_of matches.now) (codes "input")) }
+{
+    let Some(text) = matches.get_str("input") else {
+        return Some(Input::Symbols(line));
+    };
+    if text == "symbols" {
+        Some(Input::Symbols(line))
+    } else if text == "blocks" {
+        Some(Input::Units(UnitForm::Blocks))
+    } else if text == "frames" {
+        Some(Input::Units(UnitForm::Frames))
+    } else {
+        None
+    }
+}
+
+/// The form of what `make` writes.
+pub(crate) fn output_form(matches: &ArgMatches) -> Option<Output>
+    ensures { result ≡ output_of (first_value (found_of matches.now) (codes "output")) }
+{
+    let Some(text) = matches.get_str("output") else {
+        return Some(Output::Symbols);
+    };
+    if text == "symbols" {
+        Some(Output::Symbols)
+    } else if text == "blocks" {
+        Some(Output::Units(UnitForm::Blocks))
+    } else if text == "frames" {
+        Some(Output::Units(UnitForm::Frames))
+    } else {
+        None
+    }
+}
+
+/// Whether a 1 is a change of level, by the name of the line code.
+fn marks(matches: &ArgMatches) -> Option<bool>
+    ensures { result ≡ marks_of (first_value (found_of matches.now) (codes "line")) }
+{
+    let Some(text) = matches.get_str("line") else {
+        return Some(false);
+    };
+    if text == "nrz-l" {
+        Some(false)
+    } else if text == "nrz-m" {
+        Some(true)
+    } else {
+        None
+    }
+}
+
+/// Whether the second symbol of each pair is complemented.
+fn inverted(matches: &ArgMatches) -> Option<bool>
+    ensures { result ≡ inverted_of (first_value (found_of matches.now) (codes "g2")) }
+{
+    let Some(text) = matches.get_str("g2") else {
+        return Some(true);
+    };
+    if text == "inverted" {
+        Some(true)
+    } else if text == "plain" {
+        Some(false)
+    } else {
+        None
+    }
+}
+
+/// The line code of symbols.
+pub(crate) fn line_code(matches: &ArgMatches) -> Option<LineCode>
+    ensures { result ≡ line_of (first_value (found_of matches.now) (codes "line"))
+        (first_value (found_of matches.now) (codes "g2")) }
+{
+    let marks = marks(matches)?;
+    let inverted = inverted(matches)?;
+    Some(LineCode { marks, inverted })
+}
+
+/// The most bytes that are taken.
+pub(crate) fn most(matches: &ArgMatches) -> Option<u64>
+    ensures gives { result ≡ most_of (first_value (found_of matches.now) (codes "symbols")) }
+    ensures high { IfSome result (λ n. n ≤ 1099511627776) }
+{
+    number_or(matches, "symbols", 0, MOST_BYTES, MOST_BYTES)
+}
+
+/// How many workers decode.
+pub(crate) fn workers(matches: &ArgMatches) -> Option<u64>
+    ensures { result ≡ workers_of (first_value (found_of matches.now) (codes "workers")) }
+{
+    number_or(matches, "workers", WORKERS, WORKERS, WORKERS)
+}
