@@ -117,6 +117,20 @@ pub fn ends_on(
     )
 }
 
+/// What this call prints, over this disk. The work must be done.
+pub fn printed_on(
+    alloc: Global,
+    disk: &mut MemDisk,
+    input: Input<'_>,
+    room: Room,
+) -> Result<Vec<u8>, Fail> {
+    let called = call(alloc, disk, input, room)?;
+    if called.status != 0 {
+        return Err(Fail::from("the call wasn't done"));
+    }
+    Ok(called.out.as_slice().to_vec(alloc)?)
+}
+
 /// What these words print, with nothing to read and over this disk. The work must be done.
 pub fn written_on(
     alloc: Global,
@@ -134,11 +148,7 @@ pub fn written_on(
         bytes,
         fault: NEVER,
     };
-    let called = call(alloc, disk, input, room)?;
-    if called.status != 0 {
-        return Err(Fail::from("the call wasn't done"));
-    }
-    Ok(called.out.as_slice().to_vec(alloc)?)
+    printed_on(alloc, disk, input, room)
 }
 
 /// The same, over a disk of which no call succeeds.

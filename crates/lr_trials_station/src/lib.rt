@@ -14,11 +14,15 @@ mod init;
 #[cfg(test)]
 mod kept;
 #[cfg(test)]
+mod limits;
+#[cfg(test)]
 mod made;
 #[cfg(test)]
 mod packets;
 #[cfg(test)]
 mod receive;
+#[cfg(test)]
+mod recording;
 #[cfg(test)]
 mod shelves;
 #[cfg(test)]

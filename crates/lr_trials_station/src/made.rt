@@ -36,7 +36,7 @@ const EIGHT: &str =
 const SEVEN: &str =
     "symbols 131072 frames 7 restored 7 lost 0 packets 42 files 7 left 0 stop end\n";
 
-const BEHIND: &str =
+const AFTER: &str =
     "symbols 1049276 frames 64 restored 64 lost 0 packets 452 files 63 left 0 stop end\n";
 
 const DAMAGED: &str =
@@ -48,7 +48,7 @@ const FAILED: &str =
 const LAST: &str = "shelved 61 vc 5 apid 200 counter 55 bytes 237 packets 1\n";
 
 // An `out` for the lines of all files.
-const LINES: Room = Room {
+pub(crate) const LINES: Room = Room {
     bytes: 10_000,
     fault: NEVER,
 };
@@ -63,11 +63,11 @@ fn shelf_of(alloc: Global, capacity: &str, line: &str) -> Result<MemDisk, Fail> 
     }
 }
 
-fn shelf(alloc: Global) -> Result<MemDisk, Fail> {
+pub(crate) fn shelf(alloc: Global) -> Result<MemDisk, Fail> {
     shelf_of(alloc, "65536", "shelf capacity 65536\n")
 }
 
-fn reading<'a>(words: &'a [&'a str], bytes: Vec<u8>, reads: usize) -> Input<'a> {
+pub(crate) fn reading<'a>(words: &'a [&'a str], bytes: Vec<u8>, reads: usize) -> Input<'a> {
     Input {
         words,
         bytes,
@@ -143,7 +143,7 @@ fn missed_markers_lose_nothing(rt: HostRuntime) -> Result<(), Fail> {
 }
 
 // 700 symbols of 0, and then 64 frames.
-fn behind_silence(alloc: Global) -> Result<Vec<u8>, Fail> {
+pub(crate) fn after_silence(alloc: Global) -> Result<Vec<u8>, Fail> {
     let mut bytes = vec![in alloc; 0; 700]?;
     bytes.extend_from_slice(&written(alloc, &["make", "1", "64", "0"], ALL)?)?;
     Ok(bytes)
@@ -152,11 +152,11 @@ fn behind_silence(alloc: Global) -> Result<Vec<u8>, Fail> {
 #[test]
 fn files_are_shelved_however_the_reads_are_cut(rt: HostRuntime) -> Result<(), Fail> {
     let alloc = rt.alloc();
-    let bytes = behind_silence(alloc)?;
+    let bytes = after_silence(alloc)?;
     for reads in [1, 4_096, 65_536] {
         let mut disk = shelf(alloc)?;
         let input = reading(&["receive"], bytes.as_slice().to_vec(alloc)?, reads);
-        assert!(rt; ends_on(alloc, &mut disk, input, LINES, done(BEHIND))?);
+        assert!(rt; ends_on(alloc, &mut disk, input, LINES, done(AFTER))?);
     }
     let damaged = written(alloc, &["make", "1", "64", "16"], ALL)?;
     assert!(rt; receives(alloc, damaged, DAMAGED)?);
@@ -166,10 +166,10 @@ fn files_are_shelved_however_the_reads_are_cut(rt: HostRuntime) -> Result<(), Fa
 #[test]
 fn all_files_fit_or_the_last_one_does_not(rt: HostRuntime) -> Result<(), Fail> {
     let alloc = rt.alloc();
-    let bytes = behind_silence(alloc)?;
+    let bytes = after_silence(alloc)?;
     let mut whole = shelf_of(alloc, "41666", "shelf capacity 41666\n")?;
     let input = reading(&["receive"], bytes.as_slice().to_vec(alloc)?, 4_096);
-    assert!(rt; ends_on(alloc, &mut whole, input, LINES, done(BEHIND))?);
+    assert!(rt; ends_on(alloc, &mut whole, input, LINES, done(AFTER))?);
     let mut less = shelf_of(alloc, "41665", "shelf capacity 41665\n")?;
     let wanted = Outcome {
         out: LAST,
@@ -191,7 +191,7 @@ fn all_files_fit_or_the_last_one_does_not(rt: HostRuntime) -> Result<(), Fail> {
 }
 
 #[test]
-fn a_source_fails_behind_eight_frames(rt: HostRuntime) -> Result<(), Fail> {
+fn a_source_fails_after_eight_frames(rt: HostRuntime) -> Result<(), Fail> {
     let alloc = rt.alloc();
     let mut disk = shelf(alloc)?;
     let input = Input {
