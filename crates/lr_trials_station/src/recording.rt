@@ -88,7 +88,7 @@ fn output_and_disk_are_the_same_in_any_reads(rt: HostRuntime) -> Result<(), Fail
     let alloc = rt.alloc();
     let bytes = after_silence(alloc)?;
     let (text, disk) = received(alloc, &bytes, 4_096)?;
-    assert!(rt; text.len() > FIRST.len() && &text[..FIRST.len()] == FIRST.as_bytes());
+    assert!(rt; text.as_slice().starts_with(FIRST.as_bytes()));
     for reads in [1, 65_536] {
         let (other, other_disk) = received(alloc, &bytes, reads)?;
         assert!(rt; other.as_slice() == text.as_slice());
