@@ -35,6 +35,12 @@ const ONE_GONE: &str = "symbols 131072 frames 7 restored 7 lost 0 left 0 stop en
 
 const CUT_SHORT: &str = "symbols 131071 frames 7 restored 7 lost 0 left 0 stop end\n";
 
+const ONE_WINDOW: &str = "window 0 at 0 polarity + restored 0 0 0 0\n\
+symbols 16384 frames 1 restored 1 lost 0 left 0 stop end\n";
+
+const ONE_NEGATED: &str = "window 0 at 0 polarity - restored 0 0 0 0\n\
+symbols 16384 frames 1 restored 1 lost 0 left 0 stop end\n";
+
 const TWO: &str = "symbols 32768 frames 2 restored 2 lost 0 left 0 stop end\n";
 
 const NOTHING: &str = "symbols 0 frames 0 restored 0 lost 0 packets 0 files 0 left 0 stop end\n";
@@ -114,7 +120,7 @@ fn last_lines_are_those_of_any_reads(rt: HostRuntime) -> Result<(), Fail> {
 }
 
 // Whether `decode` with these options restores two frames of this line code.
-fn decodes_line(alloc: Global, words: &[&str], line: LineCode) -> Result<bool, Fail> {
+fn decodes_two(alloc: Global, words: &[&str], line: LineCode) -> Result<bool, Fail> {
     let mut disk = MemDisk::of(alloc, Vec::new(alloc), 0, 0)?;
     let input = Input {
         words,
@@ -123,6 +129,25 @@ fn decodes_line(alloc: Global, words: &[&str], line: LineCode) -> Result<bool, F
         fault: NEVER,
     };
     ends_on(alloc, &mut disk, input, AMPLE, done(TWO))
+}
+
+// Whether `decode` with these options prints this of one frame's symbols.
+fn decodes_one(alloc: Global, words: &[&str], bytes: Vec<u8>, out: &str) -> Result<bool, Fail> {
+    let input = Input {
+        words,
+        bytes,
+        reads: 4_096,
+        fault: NEVER,
+    };
+    gives(alloc, input, AMPLE, done(out))
+}
+
+// Whether `decode` with these options restores frames of this line code, in both polarities.
+fn decodes_line(alloc: Global, words: &[&str], line: LineCode) -> Result<bool, Fail> {
+    let symbols = coded_frames(alloc, line, 1)?;
+    let plain = decodes_one(alloc, words, bytes_of(alloc, &symbols)?, ONE_WINDOW)?;
+    let negated = decodes_one(alloc, words, turned(alloc, &symbols)?, ONE_NEGATED)?;
+    Ok(plain && negated && decodes_two(alloc, words, line)?)
 }
 
 #[test]
