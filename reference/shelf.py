@@ -71,6 +71,10 @@ if __name__ == "__main__":
     show("add item of the second file, outcomes 0 to 0, none changed", add(second, (0, 0, 0)))
     show("discards of 0 and 1", discard(0) + discard(1))
     show("shelf of version 1, capacity 200, with the file that differs", shelf(1, 200, [old(differs)]))
+    next_one = (0, 100, [b"\x00\x08" + differs[2][0][2:]])
+    both = [add(differs, (0, 0, 0)), add(next_one, (1, 1, 0))]
+    show("shelf of version 2, capacity 65,536, with the file that differs, and with the next one", shelf(2, 65536, both))
+    show("header of version 2, capacity 1,048,576", header(2, 1048576))
     changed = bytearray(old(first))
     changed[20] = 0x47
     print("checksum of the first file's old item with 47 in place 20: %04x" % crc(bytes(changed[:-2])))

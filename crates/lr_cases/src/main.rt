@@ -1,16 +1,18 @@
-//! Draws histories of frames for `Channels`, lists of good packets for `Files` and strings for `decode_lines`, and
-//! prints for each kind how many there were, with a checksum of what came of them. `reference/packets.py`,
-//! `reference/files.py` and `reference/lines.py` draw the same ones, and compute the same lines from the definitions
-//! alone.
+//! Draws histories of frames for `Channels`, lists of good packets for `Files`, strings for `decode_lines` and headers
+//! for `Records`, and prints for each kind how many there were, with a checksum of what came of them.
+//! `reference/packets.py`, `reference/files.py`, `reference/lines.py` and `reference/headers.py` draw the same ones,
+//! and compute the same lines from the definitions alone.
 #![tactic(auto)]
 
 mod draw;
 mod files;
+mod headers;
 mod lines;
 mod packets;
 mod sender;
 
 use files::{LISTS, add_lists};
+use headers::{HEADERS, add_headers};
 use lines::{STRINGS, add_strings};
 use packets::{HISTORIES, add_histories};
 use std::io;
@@ -63,8 +65,30 @@ fn print_lines(rt: &HostRuntime) -> io::Result<()> {
     }
 }
 
+fn print_headers(rt: &HostRuntime) -> io::Result<()> {
+    match add_headers(rt.alloc()) {
+        Ok(tally) => {
+            let headers::Tally {
+                ended,
+                not_primary,
+                short,
+                overrun,
+                length,
+                records,
+                checksum,
+            } = tally;
+            println!(rt;
+                "headers {HEADERS} ended {ended} not-primary {not_primary} short {short} \
+overrun {overrun} length {length} records {records} checksum {checksum}"
+            )
+        }
+        Err(_) => println!(rt; "no memory"),
+    }
+}
+
 fn main(rt: HostRuntime) -> io::Result<()> {
     print_packets(&rt)?;
     print_files(&rt)?;
-    print_lines(&rt)
+    print_lines(&rt)?;
+    print_headers(&rt)
 }

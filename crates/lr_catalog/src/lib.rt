@@ -5,18 +5,23 @@
 #![tactic(auto)]
 
 mod discards;
+mod entries;
 mod files;
 mod frames;
 mod hex;
 mod outcomes;
 mod packets;
+mod records;
 mod stop;
 mod summary;
+mod texts;
 
 pub use discards::{discard_line, gone_line};
+pub use entries::{file_line, shelf_line};
 pub use files::{check_line, shelved_line};
 pub use frames::frame_line;
 pub use outcomes::{block_line, window_line};
 pub use packets::packet_line;
+pub use records::{header_lines, record_line};
 pub use stop::Stop;
 pub use summary::{Summary, summary_line};

@@ -30,17 +30,22 @@ use Rattle.std.proofs.Common.{
   append-nil,
   append_assoc,
 }
-use Rattle.lr_shelf_format.specs.Way.{Way, Found, IsFound}
-use Rattle.lr_shelf_format.proofs.WayLemmas.{found_once, has_one_way}
+use Rattle.lr_shelf_format.specs.Way.{Way}
+use Rattle.lr_shelf_format.proofs.WayLemmas.{has_one_way}
 use Rattle.lr_commands.specs.declared.cause.Refusal.{Refusal}
 use Rattle.lr_commands.specs.declared.cause.Refusal.TheVariants.{NotAShelf}
+use Rattle.lr_commands.specs.declared.note.Note.{Note}
 use Rattle.lr_commands.specs.declared.range.Range.{Range}
 use Rattle.lr_commands.specs.Asked.{
   Asked,
   Answer,
+  IsSeen,
+  Seen,
+  done_answer,
+  refused_answer,
   entry_at,
   fate_of,
-  ended,
+  answer_of,
   then_rest,
   AnswersFrom,
   AnswersIn,
@@ -50,6 +55,7 @@ use Rattle.lr_commands.specs.Asked.{
   IsBegun,
   without_last,
 }
+use Rattle.lr_commands.proofs.Seeing.{seen_once}
 
 -- a text was given or refused, not both
 pub ok_is : {A B : Type 0} (r : Result A B) (a a' : A) → r ≡ Ok a → r ≡ Ok a' → a ≡ a'
@@ -71,35 +77,36 @@ some_or_none o a is is' = cc (is, is')
 
 module _ (asked : Asked) (bytes : List ℕ) (way : Way) where
   -- what becomes of what stands there
-  pub fates : (read : List Found) (number : ℕ) (one other : Option Found) → IsFound bytes (entry_at way number) one
-      → IsFound bytes (entry_at way number) other
+  pub fates : (read : List Seen) (number : ℕ) (one other : Option Seen)
+      → IsSeen asked.looks bytes (entry_at way number) one
+      → IsSeen asked.looks bytes (entry_at way number) other
       → fate_of asked way read number one ≡ fate_of asked way read number other
   fates read number one other is is' =
-      ap (fate_of asked way read number) (found_once bytes (entry_at way number) one other is is')
+      ap (fate_of asked way read number) (seen_once asked.looks bytes (entry_at way number) one other is is')
 
-  pub from_is : (left number : ℕ) (read : List Found) (one other : Answer)
+  pub from_is : (left number : ℕ) (read : List Seen) (one other : Answer)
       → AnswersFrom asked bytes way left number read one → AnswersFrom asked bytes way left number read other
       → one ≡ other
   from_is zero number read one other is is' = is ∙ sym is'
   from_is (suc left) number read one other (inl a) (inl b) =
-      let same = some_is a.found b.found
-      (found_once bytes (entry_at way number) (Some a.found) (Some b.found) a.stands b.stands) in
-      let text = ok_is (asked.becomes read number b.found) a.text b.text
+      let same = some_is a.seen b.seen
+      (seen_once asked.looks bytes (entry_at way number) (Some a.seen) (Some b.seen) a.stands b.stands) in
+      let text = ok_is (asked.becomes read number b.seen) a.text b.text
       (ap (asked.becomes read number) (sym same) ∙ a.fate) b.fate in
-      let rest = from_is left (number + 1) (read ++ b.found ∷ []) a.rest b.rest
-      (subst (λ (f : Found). AnswersFrom asked bytes way left (number + 1) (read ++ f ∷ []) a.rest) same a.after)
+      let rest = from_is left (number + 1) (read ++ b.seen ∷ []) a.rest b.rest
+      (subst (λ (f : Seen). AnswersFrom asked bytes way left (number + 1) (read ++ f ∷ []) a.rest) same a.after)
       b.after in
       a.is ∙ ap (λ (t : List ℕ). then_rest t a.rest) text ∙ ap (then_rest b.text) rest ∙ sym b.is
   from_is (suc left) number read one other (inl a) (inr b) =
-      absurd (ok_or_err (fate_of asked way read number b.found) a.text b.refusal
-      (fates read number b.found (Some a.found) b.stands a.stands ∙ a.fate) b.fate)
+      absurd (ok_or_err (fate_of asked way read number b.seen) a.text b.refusal
+      (fates read number b.seen (Some a.seen) b.stands a.stands ∙ a.fate) b.fate)
   from_is (suc left) number read one other (inr a) (inl b) =
-      absurd (ok_or_err (fate_of asked way read number a.found) b.text a.refusal
-      (fates read number a.found (Some b.found) a.stands b.stands ∙ b.fate) a.fate)
+      absurd (ok_or_err (fate_of asked way read number a.seen) b.text a.refusal
+      (fates read number a.seen (Some b.seen) a.stands b.stands ∙ b.fate) a.fate)
   from_is (suc left) number read one other (inr a) (inr b) =
-      let refusal = err_is (fate_of asked way read number b.found) a.refusal b.refusal
-      (fates read number b.found a.found b.stands a.stands ∙ a.fate) b.fate in
-      a.is ∙ ap (λ (r : Refusal). ended (Err r)) refusal ∙ sym b.is
+      let refusal = err_is (fate_of asked way read number b.seen) a.refusal b.refusal
+      (fates read number b.seen a.seen b.stands a.stands ∙ a.fate) b.fate in
+      a.is ∙ ap (λ (r : Refusal). refused_answer [] r) refusal ∙ sym b.is
 
   in_is : (range : Option Range) (one other : Answer) → AnswersIn asked bytes way range one
       → AnswersIn asked bytes way range other → one ≡ other
@@ -110,7 +117,7 @@ module _ (asked : Asked) (bytes : List ℕ) (way : Way) where
 pub answer_is : (asked : Asked) (bytes : List ℕ) (one other : Answer) → IsAnswer asked bytes one
     → IsAnswer asked bytes other → one ≡ other
 answer_is asked bytes one other (inl a) (inl b) =
-    a.2 ∙ ap (λ (n : ℕ). ended (Err (NotAShelf n))) ((has_one_way bytes).place a.0 b.0 a.1 b.1) ∙ sym b.2
+    a.2 ∙ ap (λ (n : ℕ). refused_answer [] (NotAShelf n)) ((has_one_way bytes).place a.0 b.0 a.1 b.1) ∙ sym b.2
 answer_is asked bytes one other (inl a) (inr b) = absurd ((has_one_way bytes).none b.0 a.0 b.1 a.1)
 answer_is asked bytes one other (inr a) (inl b) = absurd ((has_one_way bytes).none a.0 b.0 a.1 b.1)
 answer_is asked bytes one other (inr a) (inr b) =
@@ -124,20 +131,20 @@ abbrev pub StartsWith : List ℕ → List ℕ → Type 0
 StartsWith text whole = (rest : List ℕ) × (whole ≡ text ++ rest)
 
 module _ (asked : Asked) (bytes : List ℕ) (way : Way) where
-  front_from : (passed left number : ℕ) (read : List Found) (begun answer : Answer) → passed ≤ left
+  front_from : (passed left number : ℕ) (read : List Seen) (begun answer : Answer) → passed ≤ left
       → begun.refusal ≡ None → AnswersFrom (without_last asked) bytes way passed number read begun
       → AnswersFrom asked bytes way left number read answer → StartsWith begun.text answer.text
   front_from zero left number read begun answer few none is is' =
       (answer.text, ap (λ (a : Answer). a.text ++ answer.text) (sym is))
   front_from (suc passed) zero number read begun answer few none is is' = absurd (omega (arith, few))
   front_from (suc passed) (suc left) number read begun answer few none (inl a) (inl b) =
-      let same = some_is a.found b.found
-      (found_once bytes (entry_at way number) (Some a.found) (Some b.found) a.stands b.stands) in
-      let text = ok_is (asked.becomes read number b.found) a.text b.text
+      let same = some_is a.seen b.seen
+      (seen_once asked.looks bytes (entry_at way number) (Some a.seen) (Some b.seen) a.stands b.stands) in
+      let text = ok_is (asked.becomes read number b.seen) a.text b.text
       (ap (asked.becomes read number) (sym same) ∙ a.fate) b.fate in
-      let more = front_from passed left (number + 1) (read ++ b.found ∷ []) a.rest b.rest (omega (arith, few))
+      let more = front_from passed left (number + 1) (read ++ b.seen ∷ []) a.rest b.rest (omega (arith, few))
       (ap (λ (x : Answer). x.refusal) (sym a.is) ∙ none)
-      (subst (λ (f : Found). AnswersFrom (without_last asked) bytes way passed (number + 1) (read ++ f ∷ []) a.rest)
+      (subst (λ (f : Seen). AnswersFrom (without_last asked) bytes way passed (number + 1) (read ++ f ∷ []) a.rest)
       same a.after) b.after in (
         more.0,
         ap (λ (x : Answer). x.text) b.is ∙ ap (λ (l : List ℕ). b.text ++ l) more.1
@@ -146,8 +153,8 @@ module _ (asked : Asked) (bytes : List ℕ) (way : Way) where
             ∙ ap (λ (x : Answer). x.text ++ more.0) (sym a.is),
       )
   front_from (suc passed) (suc left) number read begun answer few none (inl a) (inr b) =
-      absurd (ok_or_err (fate_of asked way read number b.found) a.text b.refusal
-      (fates asked bytes way read number b.found (Some a.found) b.stands a.stands ∙ a.fate) b.fate)
+      absurd (ok_or_err (fate_of asked way read number b.seen) a.text b.refusal
+      (fates asked bytes way read number b.seen (Some a.seen) b.stands a.stands ∙ a.fate) b.fate)
   front_from (suc passed) (suc left) number read begun answer few none (inr a) is' =
       absurd (some_or_none begun.refusal a.refusal (ap (λ (x : Answer). x.refusal) a.is) none)
 
@@ -155,7 +162,7 @@ module _ (asked : Asked) (bytes : List ℕ) (way : Way) where
       → AnswersOn asked bytes way answer → StartsWith text answer.text
   front_on passed left text answer begun is =
       front_from passed (begun.range.to - begun.range.from) begun.range.from []
-      (record { text = text; refusal = None }) answer (omega (arith, begun.inside)) refl begun.texts
+      (done_answer text None) answer (omega (arith, begun.inside)) refl begun.texts
       (subst (λ (r : Option Range). AnswersIn asked bytes way r answer) begun.allowed is)
 
 -- what is begun is a front of the answer
@@ -176,32 +183,37 @@ begun_front asked bytes passed left text answer (inr begun) (inr some) =
 module _ (asked : Asked) (bytes : List ℕ) (way : Way) (from : ℕ) where
   -- The entries before this number were read, and their texts are this text: wherever the range ends after them, and
   -- whatever comes last.
-  pub record Reaches (number : ℕ) (read : List Found) (text : List ℕ) : Type 0 where
-    pub on : (last : Way → List Found → Result (List ℕ) Refusal) (to : ℕ) → number ≤ to → (rest : Answer)
-        → AnswersFrom (record asked { last = last }) bytes way (to - number) number read rest
-        → AnswersFrom (record asked { last = last }) bytes way (to - from) from [] (then_rest text rest)
+  pub record Reaches (number : ℕ) (read : List Seen) (text : List ℕ) : Type 0 where
+    pub on : (last : Way → List Seen → Result (List ℕ) Refusal) (tells : List Seen → Option Note) (to : ℕ)
+        → number ≤ to → (rest : Answer)
+        → AnswersFrom (record asked { last = last; tells = tells }) bytes way (to - number) number read rest
+        → AnswersFrom (record asked { last = last; tells = tells }) bytes way (to - from) from []
+        (then_rest text rest)
 
   pub reaches_first : Reaches from [] []
-  reaches_first = record { on = λ last to inside rest is. is }
+  reaches_first = record { on = λ last tells to inside rest is. is }
 
-  module _ (number : ℕ) (read : List Found) (text : List ℕ) (reaches : Reaches number read text) where
+  module _ (number : ℕ) (read : List Seen) (text : List ℕ) (reaches : Reaches number read text) where
     together : (one : List ℕ) (rest : Answer)
         → then_rest text (then_rest one rest) ≡ then_rest (text ++ one) rest
     together one rest =
-        ap (λ (t : List ℕ). record { text = t; refusal = rest.refusal }) (sym (append_assoc text one rest.text))
+        ap (λ (t : List ℕ). record { text = t; refusal = rest.refusal; note = rest.note })
+        (sym (append_assoc text one rest.text))
 
     -- one entry more
-    pub reaches_more : (found : Found) → IsFound bytes (entry_at way number) (Some found) → (one : List ℕ)
-        → asked.becomes read number found ≡ Ok one → Reaches (number + 1) (read ++ found ∷ []) (text ++ one)
-    reaches_more found stands one fate = record {
-      on = λ last to inside rest is.
+    pub reaches_more : (seen : Seen) → IsSeen asked.looks bytes (entry_at way number) (Some seen) → (one : List ℕ)
+        → asked.becomes read number seen ≡ Ok one → Reaches (number + 1) (read ++ seen ∷ []) (text ++ one)
+    reaches_more seen stands one fate = record {
+      on = λ last tells to inside rest is.
           let left : to - number ≡ suc (to - (number + 1)) = omega (arith, inside) in
-          subst (AnswersFrom (record asked { last = last }) bytes way (to - from) from []) (together one rest)
-          (reaches.on last to (omega (arith, inside)) (then_rest one rest)
-          (subst (λ n. AnswersFrom (record asked { last = last }) bytes way n number read (then_rest one rest))
+          subst (AnswersFrom (record asked { last = last; tells = tells }) bytes way (to - from) from [])
+          (together one rest)
+          (reaches.on last tells to (omega (arith, inside)) (then_rest one rest)
+          (subst
+          (λ n. AnswersFrom (record asked { last = last; tells = tells }) bytes way n number read (then_rest one rest))
           (sym left)
           (inl (record {
-            found = found;
+            seen = seen;
             text = one;
             rest = rest;
             stands = stands;
@@ -212,34 +224,35 @@ module _ (asked : Asked) (bytes : List ℕ) (way : Way) (from : ℕ) where
     }
 
     -- the run is refused here
-    pub refused_here : (to : ℕ) → number < to → (found : Option Found) (refusal : Refusal)
-        → IsFound bytes (entry_at way number) found → fate_of asked way read number found ≡ Err refusal
-        → AnswersFrom asked bytes way (to - from) from [] (record { text = text; refusal = Some refusal })
-    refused_here to more found refusal stands fate =
+    pub refused_here : (to : ℕ) → number < to → (seen : Option Seen) (refusal : Refusal)
+        → IsSeen asked.looks bytes (entry_at way number) seen → fate_of asked way read number seen ≡ Err refusal
+        → AnswersFrom asked bytes way (to - from) from [] (refused_answer text refusal)
+    refused_here to more seen refusal stands fate =
         let left : to - number ≡ suc (to - (number + 1)) = omega (arith, more) in
         subst
         (λ (t : List ℕ). AnswersFrom asked bytes way (to - from) from []
-        (record { text = t; refusal = Some refusal })) (append-nil text)
-        (reaches.on asked.last to (omega (arith, more)) (ended (Err refusal))
-        (subst (λ n. AnswersFrom asked bytes way n number read (ended (Err refusal))) (sym left)
-        (inr (record { found = found; refusal = refusal; stands = stands; fate = fate; is = refl }))))
+        (refused_answer t refusal)) (append-nil text)
+        (reaches.on asked.last asked.tells to (omega (arith, more)) (refused_answer [] refusal)
+        (subst (λ n. AnswersFrom asked bytes way n number read (refused_answer [] refusal)) (sym left)
+        (inr (record { seen = seen; refusal = refusal; stands = stands; fate = fate; is = refl }))))
 
     -- the texts before this number
     pub begun_before : AnswersFrom (without_last asked) bytes way (number - from) from []
-        (record { text = text; refusal = None })
+        (done_answer text None)
     begun_before =
         let none : number - number ≡ 0 = omega arith in
         subst
         (λ (t : List ℕ). AnswersFrom (without_last asked) bytes way (number - from) from []
-        (record { text = t; refusal = None })) (append-nil text)
-        (reaches.on (λ w r. Ok []) number (omega arith) (ended (Ok []))
-        (subst (λ n. AnswersFrom (without_last asked) bytes way n number read (ended (Ok []))) (sym none) refl))
+        (done_answer t None)) (append-nil text)
+        (reaches.on (λ w r. Ok []) (λ r. None) number (omega arith) (done_answer [] None)
+        (subst (λ n. AnswersFrom (without_last asked) bytes way n number read (done_answer [] None)) (sym none) refl))
 
     -- all were read
     pub ends_here : (to : ℕ) → number ≤ to → to ≤ number → (last : Result (List ℕ) Refusal)
         → asked.last way read ≡ last
-        → AnswersFrom asked bytes way (to - from) from [] (then_rest text (ended last))
+        → AnswersFrom asked bytes way (to - from) from [] (then_rest text (answer_of last (asked.tells read)))
     ends_here to inside all last is =
         let none : to - number ≡ 0 = omega (arith, all) in
-        reaches.on asked.last to (omega (arith, inside)) (ended last)
-        (subst (λ n. AnswersFrom asked bytes way n number read (ended last)) (sym none) (ap ended (sym is)))
+        reaches.on asked.last asked.tells to (omega (arith, inside)) (answer_of last (asked.tells read))
+        (subst (λ n. AnswersFrom asked bytes way n number read (answer_of last (asked.tells read))) (sym none)
+        (ap (λ (l : Result (List ℕ) Refusal). answer_of l (asked.tells read)) (sym is)))

@@ -66,9 +66,10 @@ use Rattle.lr_commands.specs.declared.cause.Refusal.TheVariants.{
   NotEmpty,
   BadChecksum,
   Discarded,
+  CannotExport,
 }
 use Rattle.lr_commands.specs.declared.cause.Cause.{Cause}
-use Rattle.lr_commands.specs.declared.cause.Cause.TheVariants.{Done, Usage, Failed, NoMemory, Refused}
+use Rattle.lr_commands.specs.declared.cause.Cause.TheVariants.{Done, DoneWith, Usage, Failed, NoMemory, Refused}
 use Rattle.lr_commands.specs.Asked.{entry_at}
 use Rattle.lr_commands.specs.Causes.{Counts, cause_of}
 use Rattle.lr_commands.specs.Discard.{
@@ -109,21 +110,25 @@ module _ (number : ℕ) (way : Way) where
   one_refusal (NotAShelf at) other is is' = absurd is
   one_refusal (NotEmpty size) other is is' = absurd is
   one_refusal BadChecksum other is is' = absurd is
+  one_refusal (CannotExport fault) other is is' = absurd is
   one_refusal (NoSuchFile count) (NotAShelf at) is is' = absurd is'
   one_refusal (NoSuchFile count) (NotEmpty size) is is' = absurd is'
   one_refusal (NoSuchFile count) BadChecksum is is' = absurd is'
+  one_refusal (NoSuchFile count) (CannotExport fault) is is' = absurd is'
   one_refusal (NoSuchFile count) (NoSuchFile count') is is' = ap NoSuchFile (is.1 ∙ sym is'.1)
   one_refusal (NoSuchFile count) Discarded is is' = absurd (omega (arith, is.0, is'.0))
   one_refusal (NoSuchFile count) (Capacity needed most) is is' = absurd (omega (arith, is.0, is'.0.there))
   one_refusal Discarded (NotAShelf at) is is' = absurd is'
   one_refusal Discarded (NotEmpty size) is is' = absurd is'
   one_refusal Discarded BadChecksum is is' = absurd is'
+  one_refusal Discarded (CannotExport fault) is is' = absurd is'
   one_refusal Discarded (NoSuchFile count') is is' = absurd (omega (arith, is.0, is'.0))
   one_refusal Discarded Discarded is is' = refl
   one_refusal Discarded (Capacity needed most) is is' = cc (is.1, is'.0.stays)
   one_refusal (Capacity needed most) (NotAShelf at) is is' = absurd is'
   one_refusal (Capacity needed most) (NotEmpty size) is is' = absurd is'
   one_refusal (Capacity needed most) BadChecksum is is' = absurd is'
+  one_refusal (Capacity needed most) (CannotExport fault) is is' = absurd is'
   one_refusal (Capacity needed most) (NoSuchFile count') is is' = absurd (omega (arith, is.0.there, is'.0))
   one_refusal (Capacity needed most) Discarded is is' = cc (is.0.stays, is'.1)
   one_refusal (Capacity needed most) (Capacity needed' most') is is' =
@@ -134,6 +139,7 @@ module _ (number : ℕ) (way : Way) where
   not_free (NotAShelf at) is free = absurd is
   not_free (NotEmpty size) is free = absurd is
   not_free BadChecksum is free = absurd is
+  not_free (CannotExport fault) is free = absurd is
   not_free (NoSuchFile count) is free = absurd (omega (arith, is.0, free.may_go.there))
   not_free Discarded is free = cc (is.1, free.may_go.stays)
   not_free (Capacity needed most) is free = absurd (omega (arith, is.1, free.fits))
@@ -150,6 +156,7 @@ on_way number bytes way is (Capacity needed most) refused =
     ((has_one_way bytes).way refused.0 way refused.1 is) refused.2
 on_way number bytes way is (NotEmpty size) refused = absurd refused.2
 on_way number bytes way is BadChecksum refused = absurd refused.2
+on_way number bytes way is (CannotExport fault) refused = absurd refused.2
 on_way number bytes way is Discarded refused =
     subst (λ (w : Way). IsRefusedOn number w Discarded) ((has_one_way bytes).way refused.0 way refused.1 is) refused.2
 
@@ -161,6 +168,7 @@ of_way number bytes way is (NoSuchFile count) refused = (way, is, refused)
 of_way number bytes way is (Capacity needed most) refused = (way, is, refused)
 of_way number bytes way is (NotEmpty size) refused = absurd refused
 of_way number bytes way is BadChecksum refused = absurd refused
+of_way number bytes way is (CannotExport fault) refused = absurd refused
 of_way number bytes way is Discarded refused = (way, is, refused)
 
 -- bytes without a shelf have no other refusal
@@ -173,6 +181,7 @@ on_none number bytes at none (Capacity needed most) refused =
     absurd ((has_one_way bytes).none refused.0 at refused.1 none)
 on_none number bytes at none (NotEmpty size) refused = absurd refused.2
 on_none number bytes at none BadChecksum refused = absurd refused.2
+on_none number bytes at none (CannotExport fault) refused = absurd refused.2
 on_none number bytes at none Discarded refused = absurd ((has_one_way bytes).none refused.0 at refused.1 none)
 
 -- ---- nothing was written
@@ -180,6 +189,7 @@ on_none number bytes at none Discarded refused = absurd ((has_one_way bytes).non
 module _ {D O : Type 0} (disk : DiskOf D) (out : SinkOf O) (number : ℕ) where
   silent_got : (o : O) (cause : Cause) → CutsNothing cause → GotLine out number cause o o
   silent_got o Done cuts = absurd cuts
+  silent_got o (DoneWith note) cuts = absurd cuts
   silent_got o Usage cuts = absurd cuts
   silent_got o (Failed Source) cuts = absurd cuts
   silent_got o (Failed Disk) cuts = refl
@@ -189,6 +199,7 @@ module _ {D O : Type 0} (disk : DiskOf D) (out : SinkOf O) (number : ℕ) where
 
   not_discarded : (cause : Cause) → CutsNothing cause → IsDiscarded cause → ⊥
   not_discarded Done cuts is = absurd cuts
+  not_discarded (DoneWith note) cuts is = absurd cuts
   not_discarded Usage cuts is = absurd cuts
   not_discarded (Failed Source) cuts is = absurd cuts
   not_discarded (Failed Disk) cuts is = is
@@ -199,6 +210,7 @@ module _ {D O : Type 0} (disk : DiskOf D) (out : SinkOf O) (number : ℕ) where
   kept_way : (way : Way) (d : D) (cause : Cause) → CutsNothing cause → IsWay (disk.contents d) way
       → LeavesWay disk number way cause d
   kept_way way d Done cuts is = absurd cuts
+  kept_way way d (DoneWith note) cuts is = absurd cuts
   kept_way way d Usage cuts is = absurd cuts
   kept_way way d (Failed Source) cuts is = absurd cuts
   kept_way way d (Failed Disk) cuts is = inl is
@@ -209,6 +221,7 @@ module _ {D O : Type 0} (disk : DiskOf D) (out : SinkOf O) (number : ℕ) where
   kept_items : (capacity : ℕ) (items : List Item) (d : D) (cause : Cause) → CutsNothing cause
       → IsDurable disk capacity items d → Leaves disk number capacity items cause d
   kept_items capacity items d Done cuts is = absurd cuts
+  kept_items capacity items d (DoneWith note) cuts is = absurd cuts
   kept_items capacity items d Usage cuts is = absurd cuts
   kept_items capacity items d (Failed Source) cuts is = absurd cuts
   kept_items capacity items d (Failed Disk) cuts is = record {

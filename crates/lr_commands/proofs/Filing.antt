@@ -2,6 +2,9 @@
 use Rattle.std.proofs.Common.{
   ◌≡◌,
   ◌<◌,
+  ◌≤◌,
+  ◌+◌,
+  ◌^◌,
   ℕ,
   true,
   false,
@@ -21,7 +24,7 @@ use Rattle.std.proofs.Common.{
 }
 use Rattle.lr_io.specs.declared.sink.Sink.{Ghosts as SinkOf}
 use Rattle.lr_disk.specs.declared.disk.Disk.{Ghosts as DiskOf}
-use Rattle.lr_shelf_format.specs.Way.{Found, Sound, Bad, Gone}
+use Rattle.lr_shelf_format.specs.Way.{Sound, Gone}
 use Rattle.lr_shelf_format.specs.declared.stored.Stored.{Stored}
 use Rattle.lr_shelf.specs.Asked.{entry_of}
 use Rattle.lr_shelf.specs.Calls.{IsCounted}
@@ -41,25 +44,48 @@ use Rattle.lr_shelf.specs.declared.error.ShelfError.TheVariants.{
 }
 use Rattle.lr_commands.specs.declared.cause.Refusal.TheVariants.{NotAShelf, BadChecksum}
 use Rattle.lr_commands.specs.declared.cause.Cause.{Cause}
-use Rattle.lr_commands.specs.Asked.{Asked}
+use Rattle.lr_commands.specs.declared.opened.Opened.{Opened}
+use Rattle.lr_commands.specs.Asked.{Asked, IsLooked, Seen, Whole, Wrong, Absent}
 use Rattle.lr_commands.specs.Causes.{cause_of}
 use Rattle.lr_commands.specs.Files.{AskedOfFiles, asked_of_files, files_of}
 use Rattle.lr_commands.specs.Runs.{Counted, counts_of}
 use Rattle.lr_commands.specs.Steps.{PutsText, TextStops, TakesEntry, EntryStops}
-use Rattle.lr_commands.proofs.Texts.{same_counts, stops_found}
+use Rattle.lr_commands.proofs.Texts.{same_counts, stops_seen}
 
-pub files_of-sound : (read : List Found) (stored : Stored)
-    → files_of (read ++ Sound stored ∷ []) ≡ files_of read ++ stored ∷ []
-files_of-sound [] stored = refl
-files_of-sound (Sound first ∷ read) stored = ap (λ (l : List Stored). first ∷ l) (files_of-sound read stored)
-files_of-sound (Bad s c ∷ read) stored = files_of-sound read stored
-files_of-sound (Gone ∷ read) stored = files_of-sound read stored
+pub files_of-whole : (read : List Seen) (opened : Opened)
+    → files_of (read ++ Whole opened ∷ []) ≡ files_of read ++ opened ∷ []
+files_of-whole [] opened = refl
+files_of-whole (Whole first ∷ read) opened = ap (λ (l : List Opened). first ∷ l) (files_of-whole read opened)
+files_of-whole (Wrong s c ∷ read) opened = files_of-whole read opened
+files_of-whole (Absent ∷ read) opened = files_of-whole read opened
 
-pub files_of-gone : (read : List Found) → files_of (read ++ Gone ∷ []) ≡ files_of read
-files_of-gone [] = refl
-files_of-gone (Sound first ∷ read) = ap (λ (l : List Stored). first ∷ l) (files_of-gone read)
-files_of-gone (Bad s c ∷ read) = files_of-gone read
-files_of-gone (Gone ∷ read) = files_of-gone read
+pub files_of-absent : (read : List Seen) → files_of (read ++ Absent ∷ []) ≡ files_of read
+files_of-absent [] = refl
+files_of-absent (Whole first ∷ read) = ap (λ (l : List Opened). first ∷ l) (files_of-absent read)
+files_of-absent (Wrong s c ∷ read) = files_of-absent read
+files_of-absent (Absent ∷ read) = files_of-absent read
+
+-- there are at most as many files as entries
+pub length-files_of : (read : List Seen) → length (files_of read) ≤ length read
+length-files_of [] = omega arith
+length-files_of (Whole first ∷ read) = omega (arith, length-files_of read)
+length-files_of (Wrong s c ∷ read) = omega (arith, length-files_of read)
+length-files_of (Absent ∷ read) = omega (arith, length-files_of read)
+
+pub fewer : (read : List Seen) → length read + 1 < 2 ^ 64 → length (files_of read) + 1 < 2 ^ 64
+fewer read few = omega (arith, few, length-files_of read)
+
+-- an opened file stands where the file does
+pub opened_stands : {D : Type 0} (disk : DiskOf D) (kept : Kept) (number : ℕ) (d : D) (asked : AskedOfFiles)
+    (stored : Stored) (opened : Opened) → opened.stored ≡ stored
+    → IsLooked (asked.looks stored) stored.file opened.image
+    → Finds disk (entry_of kept number) d (Some (Sound stored))
+    → Finds disk (entry_of kept number) d (Some (Sound opened.stored))
+    × IsLooked (asked.looks opened.stored) opened.stored.file opened.image
+opened_stands disk kept number d asked stored opened same looked finds = (
+  subst (λ (s : Stored). Finds disk (entry_of kept number) d (Some (Sound s))) (sym same) finds,
+  subst (λ (s : Stored). IsLooked (asked.looks s) s.file opened.image) (sym same) looked,
+)
 
 module _ {D O : Type 0} (disk : DiskOf D) (out : SinkOf O) where
   -- a call on a shelf that works was refused, and `out` was left alone
@@ -84,14 +110,14 @@ module _ {D O : Type 0} (disk : DiskOf D) (out : SinkOf O) (kept : Kept) (number
     failed_or_not failed = cc (works, failed)
 
   -- what is refused at an entry by every command, or else by what was found there
-  pub get_stops : (asked : Asked) (read : List Found) (o : O) (error : ShelfError)
+  pub get_stops : (asked : Asked) (read : List Seen) (o : O) (error : ShelfError)
       → ((stored computed : ℕ) → error ≡ Crc' stored computed
-      → asked.becomes read number (Bad stored computed) ≡ Err BadChecksum)
+      → asked.becomes read number (Wrong stored computed) ≡ Err BadChecksum)
       → (error ≡ Discarded' → ⊥) → IsGetRefusal disk kept number d error
       → EntryStops disk out asked kept.way read number (cause_of error) d o o
   get_stops asked read o Disk' bad stays refusal = refl
   get_stops asked read o (NotAShelf' at) bad stays refusal = record {
-    found = None;
+    seen = None;
     stands = refusal.1.1;
     stops = (ap (λ (n : ℕ). Err (NotAShelf n)) (sym refusal.1.0), refl);
   }
@@ -100,7 +126,7 @@ module _ {D O : Type 0} (disk : DiskOf D) (out : SinkOf O) (kept : Kept) (number
   get_stops asked read o (NoSuchFile' count) bad stays refusal =
       absurd (omega (arith, there, refusal.1, refusal.2))
   get_stops asked read o (Crc' stored computed) bad stays refusal = record {
-    found = Some (Bad stored computed);
+    seen = Some (Wrong stored computed);
     stands = refusal.1.1;
     stops = (bad stored computed refl, refl);
   }
@@ -112,35 +138,37 @@ module _ {D O : Type 0} (disk : DiskOf D) (out : SinkOf O) (kept : Kept) (number
   pub found_gone : IsGetRefusal disk kept number d Discarded' → Finds disk (entry_of kept number) d (Some Gone)
   found_gone refusal t = refusal.2
 
-  module _ (asked : AskedOfFiles) (read : List Found) (o o' : O) where
-    module _ (stored : Stored) (finds : Finds disk (entry_of kept number) d (Some (Sound stored))) where
-      pub takes_file : (gathers : List Stored → Type 0)
-          → PutsText out (asked.becomes (files_of read) number stored) o o'
-          → gathers (files_of read ++ stored ∷ [])
+  module _ (asked : AskedOfFiles) (read : List Seen) (o o' : O) where
+    module _ (opened : Opened) (finds : Finds disk (entry_of kept number) d (Some (Sound opened.stored)))
+        (looked : IsLooked (asked.looks opened.stored) opened.stored.file opened.image) where
+      pub takes_file : (gathers : List Opened → Type 0)
+          → PutsText out (asked.becomes (files_of read) number opened) o o'
+          → gathers (files_of read ++ opened ∷ [])
           → TakesEntry disk out (asked_of_files asked) kept.way read number (λ read'. gathers (files_of read')) d o o'
       takes_file gathers puts gathered = record {
-        found = Sound stored;
-        stands = finds;
+        seen = Whole opened;
+        stands = λ t. (finds t, looked);
         puts = puts;
-        gathered = subst gathers (sym (files_of-sound read stored)) gathered;
+        gathered = subst gathers (sym (files_of-whole read opened)) gathered;
       }
 
-      pub stops_file : (cause : Cause) → TextStops out (asked.becomes (files_of read) number stored) cause o o'
+      pub stops_file : (cause : Cause) → TextStops out (asked.becomes (files_of read) number opened) cause o o'
           → EntryStops disk out (asked_of_files asked) kept.way read number cause d o o'
-      stops_file = stops_found disk out (asked_of_files asked) kept.way read number d o o' (Some (Sound stored)) finds
+      stops_file = stops_seen disk out (asked_of_files asked) kept.way read number d o o' (Some (Whole opened))
+          (λ t. (finds t, looked))
 
     module _ (gone : IsGetRefusal disk kept number d Discarded') where
-      pub takes_gone : (gathers : List Stored → Type 0) → PutsText out (asked.gone number) o o'
+      pub takes_gone : (gathers : List Opened → Type 0) → PutsText out (asked.gone number) o o'
           → gathers (files_of read)
           → TakesEntry disk out (asked_of_files asked) kept.way read number (λ read'. gathers (files_of read')) d o o'
       takes_gone gathers puts gathered = record {
-        found = Gone;
+        seen = Absent;
         stands = found_gone gone;
         puts = puts;
-        gathered = subst gathers (sym (files_of-gone read)) gathered;
+        gathered = subst gathers (sym (files_of-absent read)) gathered;
       }
 
       pub stops_gone : (cause : Cause) → TextStops out (asked.gone number) cause o o'
           → EntryStops disk out (asked_of_files asked) kept.way read number cause d o o'
       stops_gone =
-          stops_found disk out (asked_of_files asked) kept.way read number d o o' (Some Gone) (found_gone gone)
+          stops_seen disk out (asked_of_files asked) kept.way read number d o o' (Some Absent) (found_gone gone)

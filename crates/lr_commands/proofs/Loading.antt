@@ -7,6 +7,7 @@ use Rattle.std.proofs.Common.{
   inl,
   inr,
   ℕ,
+  Option,
   Some,
   None,
   Result,
@@ -49,8 +50,18 @@ use Rattle.lr_shelf.specs.declared.error.ShelfError.TheVariants.{
 }
 use Rattle.lr_commands.specs.declared.cause.Party.TheVariants.{Source, Disk, Output}
 use Rattle.lr_commands.specs.declared.cause.Cause.{Cause}
-use Rattle.lr_commands.specs.declared.cause.Cause.TheVariants.{Done, Usage, Failed, NoMemory, Refused}
-use Rattle.lr_commands.specs.Asked.{Asked, Answer, AnswersOn, BegunBy, IsAnswer, IsBegun}
+use Rattle.lr_commands.specs.declared.cause.Cause.TheVariants.{Done, DoneWith, Usage, Failed, NoMemory, Refused}
+use Rattle.lr_commands.specs.declared.note.Note.{Note}
+use Rattle.lr_commands.specs.Asked.{
+  Asked,
+  Answer,
+  AnswersOn,
+  BegunBy,
+  IsAnswer,
+  IsBegun,
+  done_answer,
+  refused_answer,
+}
 use Rattle.lr_commands.specs.Causes.{Counts, cause_of}
 use Rattle.lr_commands.specs.Runs.{
   Counted,
@@ -76,28 +87,32 @@ module _ {D O : Type 0} (disk : DiskOf D) (out : SinkOf O) (asked : Asked) where
   -- what the bytes answer comes, unless an event came before it
   ends : (bytes : List ℕ) (o o' : O) (cause : Cause)
       → Got disk out (IsAnswer asked bytes) (IsBegun asked bytes) cause o o' → (answer : Answer)
-      → IsAnswer asked bytes answer → (cause ≡ cause_for answer.refusal) ⊎ Precedes cause answer
+      → IsAnswer asked bytes answer → (cause ≡ cause_for answer.refusal answer.note) ⊎ Precedes cause answer
   ends bytes o o' Done got answer is =
-      inl (ap (λ (a : Answer). cause_for a.refusal)
-      (answer_is asked bytes (record { text = got.text; refusal = None }) answer got.is is))
+      inl (ap (λ (a : Answer). cause_for a.refusal a.note)
+      (answer_is asked bytes (done_answer got.text None) answer got.is is))
+  ends bytes o o' (DoneWith note) got answer is =
+      inl (ap (λ (a : Answer). cause_for a.refusal a.note)
+      (answer_is asked bytes (done_answer got.text (Some note)) answer got.is is))
   ends bytes o o' Usage got answer is = absurd got
   ends bytes o o' (Failed Source) got answer is = absurd got
   ends bytes o o' (Failed Disk) got answer is = inr tt
   ends bytes o o' (Failed Output) got answer is = inr (cut got.next) where
     cut : IsBegun asked bytes (got.passed + 1) 0 (got.text ++ got.one)
-        ⊎ IsAnswer asked bytes (record { text = got.text ++ got.one; refusal = None }) → 0 < length answer.text
+        ⊎ ((note : Option Note) × IsAnswer asked bytes (done_answer (got.text ++ got.one) note))
+        → 0 < length answer.text
     cut (inl begun) =
         let front = begun_front asked bytes (got.passed + 1) 0 (got.text ++ got.one) answer begun is in
         some_after got.text got.one front.0 answer.text front.1 got.some
     cut (inr whole) =
         some_after got.text got.one [] answer.text
         (ap (λ (a : Answer). a.text)
-        (answer_is asked bytes answer (record { text = got.text ++ got.one; refusal = None }) is whole)
+        (answer_is asked bytes answer (done_answer (got.text ++ got.one) whole.0) is whole.1)
         ∙ sym (append-nil (got.text ++ got.one))) got.some
   ends bytes o o' NoMemory got answer is = inr tt
   ends bytes o o' (Refused refusal) got answer is =
-      inl (ap (λ (a : Answer). cause_for a.refusal)
-      (answer_is asked bytes (record { text = got.first.text; refusal = Some refusal }) answer got.is is))
+      inl (ap (λ (a : Answer). cause_for a.refusal a.note)
+      (answer_is asked bytes (refused_answer got.first.text refusal) answer got.is is))
 
   pub over : (d d' : D) (o o' : O) (cause : Cause)
       → Runs disk out asked (IsAnswer asked) (IsBegun asked) cause d d' o o'
@@ -229,10 +244,11 @@ module _ {D O : Type 0} (disk : DiskOf D) (out : SinkOf O) (asked : Asked) where
 
         next_all : (passed : ℕ) (text : List ℕ)
             → BegunBy asked bytes way passed 0 text
-            ⊎ AnswersOn asked bytes way (record { text = text; refusal = None })
-            → IsBegun asked bytes passed 0 text ⊎ IsAnswer asked bytes (record { text = text; refusal = None })
+            ⊎ ((note : Option Note) × AnswersOn asked bytes way (done_answer text note))
+            → IsBegun asked bytes passed 0 text
+            ⊎ ((note : Option Note) × IsAnswer asked bytes (done_answer text note))
         next_all passed text (inl begun) = inl (first passed 0 text begun)
-        next_all passed text (inr one) = inr (onto (record { text = text; refusal = None }) one)
+        next_all passed text (inr one) = inr (one.0, onto (done_answer text one.0) one.1)
 
         got_all : (cause : Cause) (o' : O)
             → Got disk out (AnswersOn asked bytes way) (BegunBy asked bytes way) cause o o'
@@ -240,7 +256,12 @@ module _ {D O : Type 0} (disk : DiskOf D) (out : SinkOf O) (asked : Asked) where
         unfolding first_all
         got_all Done o' got = record {
           text = got.text;
-          is = onto (record { text = got.text; refusal = None }) got.is;
+          is = onto (done_answer got.text None) got.is;
+          put = got.put;
+        }
+        got_all (DoneWith note) o' got = record {
+          text = got.text;
+          is = onto (done_answer got.text (Some note)) got.is;
           put = got.put;
         }
         got_all Usage o' got = absurd got
@@ -258,7 +279,7 @@ module _ {D O : Type 0} (disk : DiskOf D) (out : SinkOf O) (asked : Asked) where
         got_all NoMemory o' got = first_all 0 o' got
         got_all (Refused refusal) o' got = record {
           first = first_all 0 o' got.first;
-          is = onto (record { text = got.first.text; refusal = Some refusal }) got.is;
+          is = onto (refused_answer got.first.text refusal) got.is;
         }
 
       -- a shelf was loaded, and its entries were run over

@@ -17,6 +17,7 @@ use Rattle.std.proofs.Common.{
   Option,
   Some,
   None,
+  Result,
   Ok,
   Err,
   List,
@@ -31,36 +32,59 @@ use Rattle.std.proofs.Common.{
   sym,
   subst,
 }
-use Rattle.std.specs.Prelude.{if◌then◌else◌}
+use Rattle.std.specs.Prelude.{if◌then◌else◌, ltb}
 use Rattle.std.proofs.lemmas.Bool.{cases_lt, lt-ltb, le-ltb}
 use Rattle.std.proofs.lemmas.List.{append-nil}
 use Rattle.lr_bits.specs.File.{proper_of}
-use Rattle.lr_shelf_format.specs.Way.{Way, IsWay, Found, Sound, Bad, Gone, HasSoundRecord, IsFound}
+use Rattle.lr_image.specs.Pgm.{pgm_text}
+use Rattle.lr_image.specs.Picture.{Picture}
+use Rattle.lr_image.specs.Reading.{HasOutcome}
+use Rattle.lr_image.specs.declared.fault.ImageFault.{ImageFault}
+use Rattle.lr_shelf_format.specs.Way.{Way, IsWay, Sound, Bad, HasSoundRecord, IsFound}
 use Rattle.lr_shelf_format.specs.declared.stored.Stored.{Stored}
-use Rattle.lr_shelf_format.proofs.WayLemmas.{found_once, has_one_way}
+use Rattle.lr_shelf_format.proofs.WayLemmas.{has_one_way}
 use Rattle.lr_commands.specs.declared.cause.Refusal.{Refusal}
-use Rattle.lr_commands.specs.declared.cause.Refusal.TheVariants.{NotAShelf, NoSuchFile, BadChecksum, Discarded}
+use Rattle.lr_commands.specs.declared.cause.Refusal.TheVariants.{
+  NotAShelf,
+  NoSuchFile,
+  BadChecksum,
+  Discarded,
+  CannotExport,
+}
+use Rattle.lr_commands.specs.declared.fault.ExportFault.{ExportFault}
 use Rattle.lr_commands.specs.declared.range.Range.{Range}
 use Rattle.lr_commands.specs.Asked.{
   Asked,
   Answer,
   entry_at,
-  ended,
+  answer_of,
   fate_of,
   AnswersFrom,
   AnswersIn,
   AnswersOn,
   IsAnswer,
   IsRefusedFor,
+  IsSeen,
   PutsOneText,
+  Seen,
+  Whole,
+  Wrong,
+  Absent,
+  done_answer,
+  plain,
+  refused_answer,
 }
+use Rattle.lr_commands.specs.Export.{export_asked}
 use Rattle.lr_commands.specs.Extract.{extract_asked}
-use Rattle.lr_commands.specs.Laws.{HasReasons, ExtractHasReasons, SaysWhy, VerifyHasReasons}
+use Rattle.lr_commands.specs.Faults.{image_fault}
+use Rattle.lr_commands.specs.Files.{one_entry, refused_for}
+use Rattle.lr_commands.specs.Laws.{HasReasons, ExtractHasReasons, HasExportReasons, ExportHasReasons, SaysWhy}
+use Rattle.lr_commands.specs.Laws.{VerifyHasReasons}
+use Rattle.lr_commands.specs.Show.{show_asked}
 use Rattle.lr_commands.specs.Verify.{none_bad, verdict, verify_asked}
 use Rattle.lr_commands.proofs.Answering.{err_is, some_is, some_or_none}
-use Rattle.lr_commands.proofs.Verifying.{none_bad-bad, none_bad-gone, none_bad-sound}
-
--- ---- `extract`
+use Rattle.lr_commands.proofs.Verifying.{none_bad-absent, none_bad-whole, none_bad-wrong}
+use Rattle.lr_commands.proofs.Seeing.{seen_once}
 
 abbrev chosen : ℕ → Bool → Option Range
 chosen number b = if b then Some (record { from = number; to = number + 1 }) else None
@@ -71,95 +95,115 @@ range_of number true range is = ends (some_is (record { from = number; to = numb
   ends same = subst (λ (r : Range). r.to ≤ r.from + 1) same (omega arith)
 range_of number false range is = cc (is)
 
+-- ---- commands of one entry
+
+module _ (asked : Asked) (number : ℕ) (ranges : (count : ℕ) → asked.range count ≡ one_entry number count)
+    (bytes : List ℕ) (way : Way) (is : IsWay bytes way) where
+  in_range : (b : Bool) → ltb number (length way.entries) ≡ b → (answer : Answer)
+      → AnswersIn asked bytes way (chosen number b) answer → IsAnswer asked bytes answer
+  in_range b same answer from =
+      inr (
+        way,
+        is,
+        subst (λ (r : Option Range). AnswersIn asked bytes way r answer)
+            (ap (chosen number) (sym same) ∙ sym (ranges (length way.entries))) from,
+      )
+
+  -- there is no such entry
+  none_there : length way.entries ≤ number → IsRefusedFor asked bytes (NoSuchFile (length way.entries))
+  none_there beyond = (
+    refused_answer [] (NoSuchFile (length way.entries)),
+    in_range false (le-ltb number (length way.entries) beyond) (refused_answer [] (NoSuchFile (length way.entries)))
+        refl,
+    refl,
+  )
+
+  module _ (there : number < length way.entries) where
+    -- what the one entry answers is what the bytes do
+    one_entry_is : (answer : Answer) → AnswersFrom asked bytes way 1 number [] answer → IsAnswer asked bytes answer
+    one_entry_is answer from =
+        let one : number + 1 - number ≡ 1 = omega arith in
+        in_range true (lt-ltb number (length way.entries) there) answer
+        (subst (λ n. AnswersFrom asked bytes way n number [] answer) (sym one) from)
+
+    from_one : (answer : Answer) → IsAnswer asked bytes answer → AnswersFrom asked bytes way 1 number [] answer
+    from_one answer (inl none) = absurd ((has_one_way bytes).none way none.0 is none.1)
+    from_one answer (inr some) =
+        let one : number + 1 - number ≡ 1 = omega arith in
+        subst (λ n. AnswersFrom asked bytes way n number [] answer) one
+        (subst (λ (r : Option Range). AnswersIn asked bytes way r answer)
+        (ranges (length way.entries) ∙ ap (chosen number) (lt-ltb number (length way.entries) there))
+        (subst (λ (w : Way). AnswersOn asked bytes w answer)
+        ((has_one_way bytes).way some.0 way some.1 is) some.2))
+
+    stopped : (seen : Option Seen) (refusal : Refusal) → IsSeen asked.looks bytes (entry_at way number) seen
+        → fate_of asked way [] number seen ≡ Err refusal → IsRefusedFor asked bytes refusal
+    stopped seen refusal stands fate = (
+      refused_answer [] refusal,
+      one_entry_is (refused_answer [] refusal)
+          (inr (record { seen = seen; refusal = refusal; stands = stands; fate = fate; is = refl })),
+      refl,
+    )
+
+    -- its text is the only one
+    put_one : ((read : List Seen) → answer_of (asked.last way read) (asked.tells read) ≡ done_answer [] None)
+        → (seen : Seen) → IsSeen asked.looks bytes (entry_at way number) (Some seen) → (text : List ℕ)
+        → asked.becomes [] number seen ≡ Ok text → IsAnswer asked bytes (done_answer text None)
+    put_one nothing seen stands text fate =
+        one_entry_is (done_answer text None)
+        (inl (record {
+          seen = seen;
+          text = text;
+          rest = done_answer [] None;
+          stands = stands;
+          fate = fate;
+          after = sym (nothing ([] ++ seen ∷ []));
+          is = ap (λ (l : List ℕ). done_answer l None) (sym (append-nil text));
+        }))
+
+-- ---- `extract`
+
 module _ (number : ℕ) (bytes : List ℕ) (way : Way) (is : IsWay bytes way) where
   asked : Asked
   asked = extract_asked number
 
   module _ (there : number < length way.entries) where
-    -- what the one entry answers is what the bytes do
-    one_entry_is : (answer : Answer) → AnswersFrom (extract_asked number) bytes way 1 number [] answer
-        → IsAnswer (extract_asked number) bytes answer
-    one_entry_is answer from =
-        let one : number + 1 - number ≡ 1 = omega arith in
-        inr (
-          way,
-          is,
-          subst (λ (b : Bool). AnswersIn (extract_asked number) bytes way (chosen number b) answer)
-              (sym (lt-ltb number (length way.entries) there))
-              (subst (λ n. AnswersFrom (extract_asked number) bytes way n number [] answer) (sym one) from),
-        )
-
-    from_one : (answer : Answer) → IsAnswer (extract_asked number) bytes answer
-        → AnswersFrom (extract_asked number) bytes way 1 number [] answer
-    from_one answer (inl none) = absurd ((has_one_way bytes).none way none.0 is none.1)
-    from_one answer (inr some) =
-        let one : number + 1 - number ≡ 1 = omega arith in
-        subst (λ n. AnswersFrom (extract_asked number) bytes way n number [] answer) one
-        (subst (λ (b : Bool). AnswersIn (extract_asked number) bytes way (chosen number b) answer)
-        (lt-ltb number (length way.entries) there)
-        (subst (λ (w : Way). AnswersOn (extract_asked number) bytes w answer)
-        ((has_one_way bytes).way some.0 way some.1 is) some.2))
-
-    stopped : (found : Option Found) (refusal : Refusal) → IsFound bytes (entry_at way number) found
-        → fate_of (extract_asked number) way [] number found ≡ Err refusal
-        → IsRefusedFor (extract_asked number) bytes refusal
-    stopped found refusal stands fate = (
-      ended (Err refusal),
-      one_entry_is (ended (Err refusal))
-          (inr (record { found = found; refusal = refusal; stands = stands; fate = fate; is = refl })),
-      refl,
-    )
-
-    put : (stored : Stored) → IsFound bytes (entry_at way number) (Some (Sound stored))
-        → IsAnswer (extract_asked number) bytes (record { text = proper_of stored.file; refusal = None })
-    put stored stands =
-        one_entry_is (record { text = proper_of stored.file; refusal = None })
-        (inl (record {
-          found = Sound stored;
-          text = proper_of stored.file;
-          rest = ended (Ok []);
-          stands = stands;
-          fate = refl;
-          after = refl;
-          is = ap (λ (l : List ℕ). record { text = l; refusal = None }) (sym (append-nil (proper_of stored.file)));
-        }))
-
     -- what a record with the right checksum is found to be
     not_refused : (entry_at way number).gone ≡ false → HasSoundRecord bytes (entry_at way number)
-        → (found : Option Found) → IsFound bytes (entry_at way number) found → (refusal : Refusal)
-        → fate_of (extract_asked number) way [] number found ≡ Err refusal → ⊥
+        → (seen : Option Seen) → IsSeen (λ stored. false) bytes (entry_at way number) seen → (refusal : Refusal)
+        → fate_of (extract_asked number) way [] number seen ≡ Err refusal → ⊥
     not_refused stays sound None stands refusal fate = stands.1 sound.has
-    not_refused stays sound (Some (Sound stored)) stands refusal fate = cc (fate)
-    not_refused stays sound (Some (Bad s c)) stands refusal fate =
+    not_refused stays sound (Some (Whole opened)) stands refusal fate = cc (fate)
+    not_refused stays sound (Some (Wrong s c)) stands refusal fate =
         stands.4 (stands.2 ∙ sound.right ∙ sym stands.3)
-    not_refused stays sound (Some Gone) stands refusal fate = cc (stays, stands)
+    not_refused stays sound (Some Absent) stands refusal fate = cc (stays, stands)
 
     right_from : (entry_at way number).gone ≡ false → HasSoundRecord bytes (entry_at way number) → (answer : Answer)
         → AnswersFrom (extract_asked number) bytes way 1 number [] answer → answer.refusal ≡ None
     right_from stays sound answer (inl a) =
         ap (λ (x : Answer). x.refusal) a.is ∙ ap (λ (x : Answer). x.refusal) a.after
     right_from stays sound answer (inr b) =
-        absurd (not_refused stays sound b.found b.stands b.refusal b.fate)
+        absurd (not_refused stays sound b.seen b.stands b.refusal b.fate)
+
+  abbrev one : (count : ℕ) → (extract_asked number).range count ≡ one_entry number count
+  one count = refl
 
   reasons : HasReasons number bytes way
   reasons = record {
-    no_file = λ beyond. (
-      ended (Err (NoSuchFile (length way.entries))),
-      inr (
-        way,
-        is,
-        subst
-            (λ (b : Bool). AnswersIn (extract_asked number) bytes way (chosen number b)
-            (ended (Err (NoSuchFile (length way.entries)))))
-            (sym (le-ltb number (length way.entries) beyond)) refl,
-      ),
-      refl,
-    );
-    gone = λ there gone. stopped there (Some Gone) Discarded gone refl;
-    no_record = λ there none. stopped there None (NotAShelf (entry_at way number).gate) none refl;
-    bad = λ there stored computed found. stopped there (Some (Bad stored computed)) BadChecksum found refl;
-    sound = λ there stored stands. put there stored stands;
-    right = λ there stays sound answer one. right_from there stays sound answer (from_one there answer one);
+    no_file = none_there (extract_asked number) number one bytes way is;
+    gone = λ there gone.
+        stopped (extract_asked number) number one bytes way is there (Some Absent) Discarded gone refl;
+    no_record = λ there none.
+        stopped (extract_asked number) number one bytes way is there None (NotAShelf (entry_at way number).gate) none
+        refl;
+    bad = λ there stored computed found.
+        stopped (extract_asked number) number one bytes way is there (Some (Wrong stored computed)) BadChecksum found
+        refl;
+    sound = λ there stored stands.
+        put_one (extract_asked number) number one bytes way is there (λ read. refl) (plain stored) (stands, tt)
+        (proper_of stored.file) refl;
+    right = λ there stays sound answer from.
+        right_from there stays sound answer (from_one (extract_asked number) number one bytes way is there answer from);
   }
 
 pub has_reasons : ExtractHasReasons
@@ -171,68 +215,121 @@ puts_one_text number = record {
   nothing_last = λ way read. refl;
 }
 
+pub export_puts_one_text : (number : ℕ) → PutsOneText (export_asked number)
+export_puts_one_text number = record {
+  one = λ count range allowed. range_of number _ range allowed;
+  nothing_last = λ way read. refl;
+}
+
+pub show_puts_one_text : (number : ℕ) → PutsOneText (show_asked number)
+show_puts_one_text number = record {
+  one = λ count range allowed. range_of number _ range allowed;
+  nothing_last = λ way read. refl;
+}
+
+-- ---- `export`
+
+module _ (number : ℕ) (bytes : List ℕ) (way : Way) (is : IsWay bytes way) where
+  abbrev once : (count : ℕ) → (export_asked number).range count ≡ one_entry number count
+  once count = refl
+
+  abbrev with_outcome : Stored → Result Picture ImageFault → Seen
+  with_outcome stored outcome = Whole (record { stored = stored; image = Some outcome })
+
+  module _ (there : number < length way.entries) (stored : Stored)
+      (stands : IsFound bytes (entry_at way number) (Some (Sound stored))) where
+    faulty : (fault : ImageFault) → HasOutcome stored.file (Err fault) → (word : ExportFault)
+        → image_fault fault ≡ Some word → IsRefusedFor (export_asked number) bytes (CannotExport word)
+    faulty fault has word named =
+        stopped (export_asked number) number once bytes way is there (Some (with_outcome stored (Err fault)))
+        (CannotExport word) (stands, has) (ap refused_for named)
+
+    pictured : (picture : Picture) → HasOutcome stored.file (Ok picture)
+        → IsAnswer (export_asked number) bytes (done_answer (pgm_text picture) None)
+    pictured picture has =
+        put_one (export_asked number) number once bytes way is there (λ read. refl) (with_outcome stored (Ok picture))
+        (stands, has) (pgm_text picture) refl
+
+  export_reasons : HasExportReasons number bytes way
+  export_reasons = record {
+    no_file = none_there (export_asked number) number once bytes way is;
+    gone = λ there gone.
+        stopped (export_asked number) number once bytes way is there (Some Absent) Discarded gone refl;
+    no_record = λ there none.
+        stopped (export_asked number) number once bytes way is there None (NotAShelf (entry_at way number).gate) none
+        refl;
+    bad = λ there stored computed found.
+        stopped (export_asked number) number once bytes way is there (Some (Wrong stored computed)) BadChecksum found
+        refl;
+    fault = faulty;
+    image = pictured;
+  }
+
+pub has_export_reasons : ExportHasReasons
+has_export_reasons number bytes way is = export_reasons number bytes way is
+
 -- ---- `verify`
 
-spoilt : (read : List Found) (found : Found) → none_bad read ≡ false → none_bad (read ++ found ∷ []) ≡ false
-spoilt read (Sound stored) bad = none_bad-sound read stored ∙ bad
-spoilt read (Bad stored computed) bad = none_bad-bad read stored computed
-spoilt read Gone bad = none_bad-gone read ∙ bad
+spoilt : (read : List Seen) (seen : Seen) → none_bad read ≡ false → none_bad (read ++ seen ∷ []) ≡ false
+spoilt read (Whole opened) bad = none_bad-whole read opened ∙ bad
+spoilt read (Wrong stored computed) bad = none_bad-wrong read stored computed
+spoilt read Absent bad = none_bad-absent read ∙ bad
 
 module _ (bytes : List ℕ) (way : Way) where
-  abbrev From : (left number : ℕ) → List Found → Answer → Type 0
+  abbrev From : (left number : ℕ) → List Seen → Answer → Type 0
   From left number read answer = AnswersFrom verify_asked bytes way left number read answer
 
   -- it is refused at an entry only where that has no record
-  at_none : (read : List Found) (number : ℕ) (found : Option Found) (refusal : Refusal)
-      → fate_of verify_asked way read number found ≡ Err refusal
-      → (found ≡ None) × (NotAShelf (entry_at way number).gate ≡ refusal)
+  at_none : (read : List Seen) (number : ℕ) (seen : Option Seen) (refusal : Refusal)
+      → fate_of verify_asked way read number seen ≡ Err refusal
+      → (seen ≡ None) × (NotAShelf (entry_at way number).gate ≡ refusal)
   at_none read number None refusal fate = (
     refl,
     err_is (fate_of verify_asked way read number None) (NotAShelf (entry_at way number).gate) refusal
         refl fate,
   )
-  at_none read number (Some found) refusal fate = cc (fate)
+  at_none read number (Some seen) refusal fate = cc (fate)
 
-  none_from : (left number : ℕ) (read : List Found) (answer : Answer) → From left number read answer → (which : ℕ)
+  none_from : (left number : ℕ) (read : List Seen) (answer : Answer) → From left number read answer → (which : ℕ)
       → number ≤ which → which < number + left → IsFound bytes (entry_at way which) None
       → (at : ℕ) × (answer.refusal ≡ Some (NotAShelf at))
   none_from zero number read answer is which above below none = absurd (omega (arith, above, below))
   none_from (suc left) number read answer (inl a) which above below none = elim (cases_lt number which) [
     | inl later ↦
-        let rest = none_from left (number + 1) (read ++ a.found ∷ []) a.rest a.after which (omega (arith, later))
+        let rest = none_from left (number + 1) (read ++ a.seen ∷ []) a.rest a.after which (omega (arith, later))
         (omega (arith, below)) none in
         (rest.0, ap (λ (x : Answer). x.refusal) a.is ∙ rest.1)
     | inr here ↦
         let same : which ≡ number = omega (arith, above, here) in
-        absurd (some_or_none (Some a.found) a.found refl
-        (found_once bytes (entry_at way number) (Some a.found) None a.stands
+        absurd (some_or_none (Some a.seen) a.seen refl
+        (seen_once (λ stored. false) bytes (entry_at way number) (Some a.seen) None a.stands
         (subst (λ n. IsFound bytes (entry_at way n) None) same none)))
   ]
   none_from (suc left) number read answer (inr b) which above below none =
-      let stop = at_none read number b.found b.refusal b.fate in
+      let stop = at_none read number b.seen b.refusal b.fate in
       ((entry_at way number).gate, ap (λ (x : Answer). x.refusal) b.is ∙ ap Some (sym stop.1))
 
   module _ (stand : (each : ℕ) → each < length way.entries → IsFound bytes (entry_at way each) None → ⊥) where
-    no_stop : (number : ℕ) → number < length way.entries → (read : List Found) (found : Option Found)
-        (refusal : Refusal) → IsFound bytes (entry_at way number) found
-        → fate_of verify_asked way read number found ≡ Err refusal → ⊥
-    no_stop number there read found refusal stands fate =
-        let stop = at_none read number found refusal fate in
-        stand number there (subst (IsFound bytes (entry_at way number)) stop.0 stands)
+    no_stop : (number : ℕ) → number < length way.entries → (read : List Seen) (seen : Option Seen)
+        (refusal : Refusal) → IsSeen (λ stored. false) bytes (entry_at way number) seen
+        → fate_of verify_asked way read number seen ≡ Err refusal → ⊥
+    no_stop number there read seen refusal stands fate =
+        let stop = at_none read number seen refusal fate in
+        stand number there (subst (IsSeen (λ stored. false) bytes (entry_at way number)) stop.0 stands)
 
     -- a wrong checksum was read
-    spoilt_from : (left number : ℕ) (read : List Found) (answer : Answer) → number + left ≤ length way.entries
+    spoilt_from : (left number : ℕ) (read : List Seen) (answer : Answer) → number + left ≤ length way.entries
         → none_bad read ≡ false → From left number read answer → answer.refusal ≡ Some BadChecksum
     spoilt_from zero number read answer few bad is =
-        ap (λ (x : Answer). x.refusal) is ∙ ap (λ (b : Bool). (ended (verdict b)).refusal) bad
+        ap (λ (x : Answer). x.refusal) is ∙ ap (λ (b : Bool). (answer_of (verdict b) None).refusal) bad
     spoilt_from (suc left) number read answer few bad (inl a) =
         ap (λ (x : Answer). x.refusal) a.is
-        ∙ spoilt_from left (number + 1) (read ++ a.found ∷ []) a.rest (omega (arith, few)) (spoilt read a.found bad)
+        ∙ spoilt_from left (number + 1) (read ++ a.seen ∷ []) a.rest (omega (arith, few)) (spoilt read a.seen bad)
         a.after
     spoilt_from (suc left) number read answer few bad (inr b) =
-        absurd (no_stop number (omega (arith, few)) read b.found b.refusal b.stands b.fate)
+        absurd (no_stop number (omega (arith, few)) read b.seen b.refusal b.stands b.fate)
 
-    bad_from : (left number : ℕ) (read : List Found) (answer : Answer) → number + left ≤ length way.entries
+    bad_from : (left number : ℕ) (read : List Seen) (answer : Answer) → number + left ≤ length way.entries
         → From left number read answer → (which : ℕ) → number ≤ which → which < number + left
         → (stored computed : ℕ) → IsFound bytes (entry_at way which) (Some (Bad stored computed))
         → answer.refusal ≡ Some BadChecksum
@@ -242,20 +339,21 @@ module _ (bytes : List ℕ) (way : Way) where
         elim (cases_lt number which) [
           | inl later ↦
               ap (λ (x : Answer). x.refusal) a.is
-              ∙ bad_from left (number + 1) (read ++ a.found ∷ []) a.rest (omega (arith, few)) a.after which
+              ∙ bad_from left (number + 1) (read ++ a.seen ∷ []) a.rest (omega (arith, few)) a.after which
               (omega (arith, later)) (omega (arith, below)) stored computed bad
           | inr here ↦
               let same : which ≡ number = omega (arith, above, here) in
-              let found : a.found ≡ Bad stored computed =
-              some_is a.found (Bad stored computed)
-              (found_once bytes (entry_at way number) (Some a.found) (Some (Bad stored computed)) a.stands
+              let found : a.seen ≡ Wrong stored computed =
+              some_is a.seen (Wrong stored computed)
+              (seen_once (λ stored. false) bytes (entry_at way number) (Some a.seen) (Some (Wrong stored computed))
+              a.stands
               (subst (λ n. IsFound bytes (entry_at way n) (Some (Bad stored computed))) same bad)) in
               ap (λ (x : Answer). x.refusal) a.is
-              ∙ spoilt_from left (number + 1) (read ++ a.found ∷ []) a.rest (omega (arith, few))
-              (ap (λ (f : Found). none_bad (read ++ f ∷ [])) found ∙ none_bad-bad read stored computed) a.after
+              ∙ spoilt_from left (number + 1) (read ++ a.seen ∷ []) a.rest (omega (arith, few))
+              (ap (λ (f : Seen). none_bad (read ++ f ∷ [])) found ∙ none_bad-wrong read stored computed) a.after
         ]
     bad_from (suc left) number read answer few (inr b) which above below stored computed bad =
-        absurd (no_stop number (omega (arith, few)) read b.found b.refusal b.stands b.fate)
+        absurd (no_stop number (omega (arith, few)) read b.seen b.refusal b.stands b.fate)
 
   module _ (right : (each : ℕ) → each < length way.entries
       → ((entry_at way each).gone ≡ true) ⊎ HasSoundRecord bytes (entry_at way each)) where
@@ -269,24 +367,24 @@ module _ (bytes : List ℕ) (way : Way) where
     no_bad each (inl gone) stored computed bad = cc (gone, bad.0)
     no_bad each (inr sound) stored computed bad = bad.4 (bad.2 ∙ sound.right ∙ sym bad.3)
 
-    stays_right : (each : ℕ) → each < length way.entries → (read : List Found) (found : Found)
-        → IsFound bytes (entry_at way each) (Some found) → none_bad read ≡ true
-        → none_bad (read ++ found ∷ []) ≡ true
-    stays_right each there read (Sound stored) stands good = none_bad-sound read stored ∙ good
-    stays_right each there read (Bad stored computed) stands good =
+    stays_right : (each : ℕ) → each < length way.entries → (read : List Seen) (seen : Seen)
+        → IsSeen (λ stored. false) bytes (entry_at way each) (Some seen) → none_bad read ≡ true
+        → none_bad (read ++ seen ∷ []) ≡ true
+    stays_right each there read (Whole opened) stands good = none_bad-whole read opened ∙ good
+    stays_right each there read (Wrong stored computed) stands good =
         absurd (no_bad each (right each there) stored computed stands)
-    stays_right each there read Gone stands good = none_bad-gone read ∙ good
+    stays_right each there read Absent stands good = none_bad-absent read ∙ good
 
-    sound_from : (left number : ℕ) (read : List Found) (answer : Answer) → number + left ≤ length way.entries
+    sound_from : (left number : ℕ) (read : List Seen) (answer : Answer) → number + left ≤ length way.entries
         → none_bad read ≡ true → From left number read answer → answer.refusal ≡ None
     sound_from zero number read answer few good is =
-        ap (λ (x : Answer). x.refusal) is ∙ ap (λ (b : Bool). (ended (verdict b)).refusal) good
+        ap (λ (x : Answer). x.refusal) is ∙ ap (λ (b : Bool). (answer_of (verdict b) None).refusal) good
     sound_from (suc left) number read answer few good (inl a) =
         ap (λ (x : Answer). x.refusal) a.is
-        ∙ sound_from left (number + 1) (read ++ a.found ∷ []) a.rest (omega (arith, few))
-        (stays_right number (omega (arith, few)) read a.found a.stands good) a.after
+        ∙ sound_from left (number + 1) (read ++ a.seen ∷ []) a.rest (omega (arith, few))
+        (stays_right number (omega (arith, few)) read a.seen a.stands good) a.after
     sound_from (suc left) number read answer few good (inr b) =
-        absurd (no_stop (λ each there. no_none each (right each there)) number (omega (arith, few)) read b.found
+        absurd (no_stop (λ each there. no_none each (right each there)) number (omega (arith, few)) read b.seen
         b.refusal b.stands b.fate)
 
   on_all : (answer : Answer) → IsWay bytes way → IsAnswer verify_asked bytes answer

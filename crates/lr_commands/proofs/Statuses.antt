@@ -9,9 +9,10 @@ use Rattle.lr_commands.specs.declared.cause.Refusal.TheVariants.{
   NotEmpty,
   BadChecksum,
   Discarded,
+  CannotExport,
 }
 use Rattle.lr_commands.specs.declared.cause.Cause.{Cause}
-use Rattle.lr_commands.specs.declared.cause.Cause.TheVariants.{Done, Usage, Failed, NoMemory, Refused}
+use Rattle.lr_commands.specs.declared.cause.Cause.TheVariants.{Done, DoneWith, Usage, Failed, NoMemory, Refused}
 use Rattle.lr_commands.specs.Causes.{status_of}
 use Rattle.lr_commands.specs.Laws.{
   Kind,
@@ -25,6 +26,7 @@ use Rattle.lr_commands.specs.Laws.{
   IsNotEmpty,
   IsBadChecksum,
   IsDiscarded,
+  IsNoExport,
   kind_of,
   HasOneKind,
 }
@@ -35,11 +37,12 @@ kind_at n =
     if n == 0 then IsDone else if n == 2 then IsUsage else if n == 3 then HasFailed Source else if n == 4 then
     HasFailed Disk
     else if n == 5 then HasFailed Output else if n == 6 then IsNotAShelf else if n == 7 then IsNoSuchFile
-    else if n == 9 then IsNoMemory else if n == 10 then IsCapacity else if n == 11 then IsNotEmpty else if n ==
-    12 then IsBadChecksum else IsDiscarded
+    else if n == 8 then IsNoExport else if n == 9 then IsNoMemory else if n == 10 then IsCapacity
+    else if n == 11 then IsNotEmpty else if n == 12 then IsBadChecksum else IsDiscarded
 
 kind_is : (cause : Cause) → kind_at (status_of cause) ≡ kind_of cause
 kind_is Done = refl
+kind_is (DoneWith note) = refl
 kind_is Usage = refl
 kind_is (Failed Source) = refl
 kind_is (Failed Disk) = refl
@@ -51,6 +54,7 @@ kind_is (Refused (Capacity needed capacity)) = refl
 kind_is (Refused (NotEmpty size)) = refl
 kind_is (Refused BadChecksum) = refl
 kind_is (Refused Discarded) = refl
+kind_is (Refused (CannotExport fault)) = refl
 
 pub one_kind : HasOneKind
 one_kind one other same = sym (kind_is one) ∙ ap kind_at same ∙ kind_is other

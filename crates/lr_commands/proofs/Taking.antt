@@ -27,32 +27,38 @@ use Rattle.std.proofs.Common.{
   subst,
   append-nil,
   append_assoc,
+  length-append,
 }
 use Rattle.lr_io.specs.declared.sink.Sink.{Ghosts as SinkOf}
 use Rattle.lr_io.specs.Pieces.{PutsPart}
 use Rattle.lr_disk.specs.Reads.{IsUnwritten}
 use Rattle.lr_disk.specs.declared.disk.Disk.{Ghosts as DiskOf}
 use Rattle.lr_disk.proofs.Moments.{unwritten_joined, unwritten_yet}
-use Rattle.lr_shelf_format.specs.Way.{Way, Found, IsFound}
+use Rattle.lr_shelf_format.specs.Way.{Way}
 use Rattle.lr_commands.specs.declared.cause.Party.TheVariants.{Source, Disk, Output}
 use Rattle.lr_commands.specs.declared.cause.Refusal.{Refusal}
 use Rattle.lr_commands.specs.declared.cause.Refusal.TheVariants.{NoSuchFile}
 use Rattle.lr_commands.specs.declared.cause.Cause.{Cause}
-use Rattle.lr_commands.specs.declared.cause.Cause.TheVariants.{Done, Usage, Failed, NoMemory, Refused}
+use Rattle.lr_commands.specs.declared.cause.Cause.TheVariants.{Done, DoneWith, Usage, Failed, NoMemory, Refused}
+use Rattle.lr_commands.specs.declared.note.Note.{Note}
 use Rattle.lr_commands.specs.declared.range.Range.{Range}
 use Rattle.lr_commands.specs.Asked.{
   Asked,
   Answer,
+  IsSeen,
+  Seen,
+  done_answer,
+  refused_answer,
   entry_at,
   fate_of,
-  ended,
+  answer_of,
   then_rest,
   AnswersFrom,
   AnswersIn,
   AnswersOn,
   BegunBy,
 }
-use Rattle.lr_commands.specs.Causes.{Counts}
+use Rattle.lr_commands.specs.Causes.{Counts, done_with}
 use Rattle.lr_commands.specs.Puts.{Puts}
 use Rattle.lr_commands.specs.Runs.{Counted, PutsAll, PutsFirst, PutsRefused, PutsCut, Got, RunsOn, by_count, counts_of}
 use Rattle.lr_commands.specs.Steps.{PutsText, CutsText, TextStops, TakesEntry, EntryStops}
@@ -77,27 +83,29 @@ use Rattle.lr_commands.proofs.Texts.{
 module _ {D O : Type 0} (disk : DiskOf D) (out : SinkOf O) (asked : Asked) (way : Way) (range : Range) (d : D)
     (o : O) where
   -- the entries before this number were read, and their texts put
-  pub record SoFar (gathers : List Found → Type 0) (number : ℕ) (o1 : O) : Type 0 where
-    pub read : List Found
+  pub record SoFar (gathers : List Seen → Type 0) (number : ℕ) (o1 : O) : Type 0 where
+    pub read : List Seen
     pub text : List ℕ
     pub gathered : gathers read
+    pub few : length read ≤ number
     pub after : range.from ≤ number
     pub puts : Puts out text o o1
     pub untouched : number ≡ range.from → o1 ≡ o
     pub reaches : disk.tells d → Reaches asked (disk.contents d) way range.from number read text
 
-  pub so_first : (gathers : List Found → Type 0) → gathers [] → SoFar gathers range.from o
+  pub so_first : (gathers : List Seen → Type 0) → gathers [] → SoFar gathers range.from o
   so_first gathers fresh = record {
     read = [];
     text = [];
     gathered = fresh;
+    few = omega arith;
     after = omega arith;
     puts = record { told = λ t. t; put = λ t. sym (append-nil (out.contents o)); kept = refl };
     untouched = λ same. refl;
     reaches = λ t. reaches_first asked (disk.contents d) way range.from;
   }
 
-  module _ (gathers : List Found → Type 0) (number : ℕ) (o1 o2 : O) (so : SoFar gathers number o1) where
+  module _ (gathers : List Seen → Type 0) (number : ℕ) (o1 o2 : O) (so : SoFar gathers number o1) where
     module _ (t : disk.tells d) (allowed : asked.range (length way.entries) ≡ Some range) where
       abbrev IsOne : Answer → Type 0
       IsOne = AnswersOn asked (disk.contents d) way
@@ -130,30 +138,31 @@ module _ {D O : Type 0} (disk : DiskOf D) (out : SinkOf O) (asked : Asked) (way 
 
       pub refused_put : (refusal : Refusal) → number ≤ range.to → o2 ≡ o1
           → AnswersFrom asked (disk.contents d) way (range.to - range.from) range.from []
-          (record { text = so.text; refusal = Some refusal })
+          (refused_answer so.text refusal)
           → PutsRefused disk out IsOne IsFirst refusal o o2
       unfolding first_put
       refused_put refusal inside still is = record {
         first = first_put 0 (omega (arith, inside)) still;
-        is = onto (record { text = so.text; refusal = Some refusal }) is;
+        is = onto (refused_answer so.text refusal) is;
       }
 
     -- one entry more, or the one at which it ends
     module _ (more : number < range.to) (d1 : D) (told : disk.tells d → disk.tells d1)
         (same : disk.tells d → disk.contents d1 ≡ disk.contents d) where
-      at_start : (found : Option Found)
-          → (disk.tells d1 → IsFound (disk.contents d1) (entry_at way number) found) → disk.tells d
-          → IsFound (disk.contents d) (entry_at way number) found
-      at_start found stands t =
-          subst (λ (b : List ℕ). IsFound b (entry_at way number) found) (same t) (stands (told t))
+      at_start : (seen : Option Seen)
+          → (disk.tells d1 → IsSeen asked.looks (disk.contents d1) (entry_at way number) seen) → disk.tells d
+          → IsSeen asked.looks (disk.contents d) (entry_at way number) seen
+      at_start seen stands t =
+          subst (λ (b : List ℕ). IsSeen asked.looks b (entry_at way number) seen) (same t) (stands (told t))
 
-      pub so_more : (gathers' : List Found → Type 0)
+      pub so_more : (gathers' : List Seen → Type 0)
           → TakesEntry disk out asked way so.read number gathers' d1 o1 o2
           → SoFar gathers' (number + 1) o2
       so_more gathers' takes = record {
-        read = so.read ++ takes.found ∷ [];
+        read = so.read ++ takes.seen ∷ [];
         text = so.text ++ takes.puts.text;
         gathered = takes.gathered;
+        few = omega (arith, so.few, length-append so.read (takes.seen ∷ []));
         after = omega (arith, so.after);
         puts = record {
           told = λ t. takes.puts.puts.told (so.puts.told t);
@@ -164,20 +173,20 @@ module _ {D O : Type 0} (disk : DiskOf D) (out : SinkOf O) (asked : Asked) (way 
         };
         untouched = λ none. absurd (omega (arith, so.after, none));
         reaches = λ t.
-            reaches_more asked (disk.contents d) way range.from number so.read so.text (so.reaches t) takes.found
-            (at_start (Some takes.found) takes.stands t) takes.puts.text takes.puts.is;
+            reaches_more asked (disk.contents d) way range.from number so.read so.text (so.reaches t) takes.seen
+            (at_start (Some takes.seen) takes.stands t) takes.puts.text takes.puts.is;
       }
 
       module _ (allowed : asked.range (length way.entries) ≡ Some range) (t : disk.tells d) where
         -- `out` failed in the text of the entry
-        cut_here : (found : Option Found)
-            → (disk.tells d1 → IsFound (disk.contents d1) (entry_at way number) found)
-            → CutsText out (fate_of asked way so.read number found) o1 o2
+        cut_here : (seen : Option Seen)
+            → (disk.tells d1 → IsSeen asked.looks (disk.contents d1) (entry_at way number) seen)
+            → CutsText out (fate_of asked way so.read number seen) o1 o2
             → PutsCut disk out (IsOne t allowed) (IsFirst t allowed) o o2
         cut_here None stands cuts = absurd (no_text cuts.is) where
           no_text : {e : Refusal} → ◌≡◌ {A = Result (List ℕ) Refusal} (Err e) (Ok cuts.text) → ⊥
           no_text same = cc (same)
-        cut_here (Some found) stands cuts = record {
+        cut_here (Some seen) stands cuts = record {
           passed = number - range.from;
           text = so.text;
           one = cuts.text;
@@ -189,12 +198,12 @@ module _ {D O : Type 0} (disk : DiskOf D) (out : SinkOf O) (asked : Asked) (way 
             texts =
                 let passed : number + 1 - range.from ≡ number - range.from + 1 = omega (arith, so.after) in
                 subst
-                (λ n. AnswersFrom (record asked { last = λ w r. Ok [] }) (disk.contents d) way n range.from []
-                (record { text = so.text ++ cuts.text; refusal = None })) passed
-                (begun_before asked (disk.contents d) way range.from (number + 1) (so.read ++ found ∷ [])
+                (λ n. AnswersFrom (record asked { last = λ w r. Ok []; tells = λ r. None }) (disk.contents d) way n
+                range.from [] (done_answer (so.text ++ cuts.text) None)) passed
+                (begun_before asked (disk.contents d) way range.from (number + 1) (so.read ++ seen ∷ [])
                 (so.text ++ cuts.text)
-                (reaches_more asked (disk.contents d) way range.from number so.read so.text (so.reaches t) found
-                (at_start (Some found) stands t) cuts.text cuts.is));
+                (reaches_more asked (disk.contents d) way range.from number so.read so.text (so.reaches t) seen
+                (at_start (Some seen) stands t) cuts.text cuts.is));
           }));
           some = cuts.some;
           part = λ told_out.
@@ -205,31 +214,33 @@ module _ {D O : Type 0} (disk : DiskOf D) (out : SinkOf O) (asked : Asked) (way 
         pub entry_got : (cause : Cause) → EntryStops disk out asked way so.read number cause d1 o1 o2
             → Got disk out (IsOne t allowed) (IsFirst t allowed) cause o o2
         entry_got Done stops = absurd stops.stops
+        entry_got (DoneWith note) stops = absurd stops.stops
         entry_got Usage stops = absurd stops.stops
         entry_got (Failed Source) stops = absurd stops.stops
         entry_got (Failed Disk) stops = first_put t allowed 1 (omega (arith, more)) stops
-        entry_got (Failed Output) stops = cut_here stops.found stops.stands stops.stops
+        entry_got (Failed Output) stops = cut_here stops.seen stops.stands stops.stops
         entry_got NoMemory stops = first_put t allowed 0 (omega (arith, more)) stops
         entry_got (Refused refusal) stops =
             refused_put t allowed refusal (omega (arith, more)) stops.stops.1
             (refused_here asked (disk.contents d) way range.from number so.read so.text (so.reaches t) range.to more
-            stops.found refusal (at_start stops.found stops.stands t) stops.stops.0)
+            stops.seen refusal (at_start stops.seen stops.stands t) stops.stops.0)
 
     -- after the last entry
     module _ (inside : number ≤ range.to) (all : range.to ≤ number)
         (allowed : asked.range (length way.entries) ≡ Some range) (t : disk.tells d) where
       last_from : (last : Result (List ℕ) Refusal) → asked.last way so.read ≡ last
           → AnswersFrom asked (disk.contents d) way (range.to - range.from) range.from []
-          (then_rest so.text (ended last))
+          (then_rest so.text (answer_of last (asked.tells so.read)))
       last_from last is =
           ends_here asked (disk.contents d) way range.from number so.read so.text (so.reaches t) range.to inside all
           last is
 
       pub last_put : PutsText out (asked.last way so.read) o1 o2
-          → PutsAll disk out (IsOne t allowed) (IsFirst t allowed) o o2
+          → PutsAll disk out (IsOne t allowed) (IsFirst t allowed) (asked.tells so.read) o o2
       last_put puts = record {
         text = so.text ++ puts.text;
-        is = onto t allowed (then_rest so.text (ended (Ok puts.text))) (last_from (Ok puts.text) puts.is);
+        is = onto t allowed (then_rest so.text (answer_of (Ok puts.text) (asked.tells so.read)))
+            (last_from (Ok puts.text) puts.is);
         put = λ told_out.
             puts.puts.put (so.puts.told told_out) ∙ ap (λ (l : List ℕ). l ++ puts.text) (so.puts.put told_out)
             ∙ append_assoc (out.contents o) so.text puts.text;
@@ -238,6 +249,7 @@ module _ {D O : Type 0} (disk : DiskOf D) (out : SinkOf O) (asked : Asked) (way 
       pub last_got : (cause : Cause) → TextStops out (asked.last way so.read) cause o1 o2
           → Got disk out (IsOne t allowed) (IsFirst t allowed) cause o o2
       last_got Done stops = absurd stops
+      last_got (DoneWith note) stops = absurd stops
       last_got Usage stops = absurd stops
       last_got (Failed Source) stops = absurd stops
       last_got (Failed Disk) stops = absurd stops
@@ -246,7 +258,12 @@ module _ {D O : Type 0} (disk : DiskOf D) (out : SinkOf O) (asked : Asked) (way 
         text = so.text;
         one = stops.text;
         begun = begun_so t allowed 0 (omega (arith, inside));
-        next = inr (onto t allowed (then_rest so.text (ended (Ok stops.text))) (last_from (Ok stops.text) stops.is));
+        next =
+            inr (
+              asked.tells so.read,
+              onto t allowed (then_rest so.text (answer_of (Ok stops.text) (asked.tells so.read)))
+                  (last_from (Ok stops.text) stops.is),
+            );
         some = stops.some;
         part = λ told_out.
             subst (λ (l : List ℕ). PutsPart stops.text l (out.contents o2)) (so.puts.put told_out)
@@ -257,7 +274,7 @@ module _ {D O : Type 0} (disk : DiskOf D) (out : SinkOf O) (asked : Asked) (way 
           refused_put t allowed refusal inside stops.1
           (subst
           (λ (l : List ℕ). AnswersFrom asked (disk.contents d) way (range.to - range.from) range.from []
-          (record { text = l; refusal = Some refusal })) (append-nil so.text) (last_from (Err refusal) stops.0))
+          (refused_answer l refusal)) (append-nil so.text) (last_from (Err refusal) stops.0))
 
 -- ---- the ways out
 
@@ -284,15 +301,15 @@ module _ {D O : Type 0} (disk : DiskOf D) (out : SinkOf O) (asked : Asked) (way 
       is =
           subst
           (λ (r : Option Range). AnswersIn asked (disk.contents d) way r
-          (record { text = []; refusal = Some (NoSuchFile count) }))
+          (refused_answer [] (NoSuchFile count)))
           (sym (ap asked.range (sym count_is) ∙ none))
-          (ap (λ (n : ℕ). record { text = []; refusal = Some (NoSuchFile n) }) count_is);
+          (ap (λ (n : ℕ). refused_answer [] (NoSuchFile n)) count_is);
     };
     untouched = λ one cuts. refl;
   }
 
   module _ (range : Range) (allowed : asked.range (length way.entries) ≡ Some range)
-      (gathers : List Found → Type 0) (number : ℕ) (d1 : D) (o1 o2 : O)
+      (gathers : List Seen → Type 0) (number : ℕ) (d1 : D) (o1 o2 : O)
       (so : SoFar disk out asked way range d o gathers number o1) (told : disk.tells d → disk.tells d1)
       (reads : disk.tells d → IsUnwritten disk d d1) (count : disk.faults d1 ≡ disk.faults d) where
     same_here : counts_of disk out d1 o1 ≡ counts_of disk out d o
@@ -319,18 +336,40 @@ module _ {D O : Type 0} (disk : DiskOf D) (out : SinkOf O) (asked : Asked) (way 
           ∙ so.untouched (omega (arith, so.after, more, one.one (length way.entries) range allowed));
     }
 
-    -- the last text was put
-    pub last_taken : number ≤ range.to → range.to ≤ number → PutsText out (asked.last way so.read) o1 o2
-        → RunsOn disk out asked way Done d d1 o o2
-    last_taken inside all puts = record {
-      may = tt;
-      counted = same_counts disk out d d1 o o2 count (puts.puts.kept ∙ so.puts.kept);
-      told = told;
-      told_by_out = λ t. puts.puts.told (so.puts.told t);
-      reads = reads;
-      got = λ t. last_put disk out asked way range d o gathers number o1 o2 so inside all allowed t puts;
-      untouched = λ one cuts. absurd cuts;
-    }
+    -- the last text was put, and this is told beside it
+    module _ (inside : number ≤ range.to) (all : range.to ≤ number)
+        (puts : PutsText out (asked.last way so.read) o1 o2) where
+      counts_stay : counts_of disk out d1 o2 ≡ counts_of disk out d o
+      counts_stay = same_counts disk out d d1 o o2 count (puts.puts.kept ∙ so.puts.kept)
+
+      put_so : (t : disk.tells d) → (noted : Option Note) → noted ≡ asked.tells so.read
+          → PutsAll disk out (AnswersOn asked (disk.contents d) way) (BegunBy asked (disk.contents d) way) noted o o2
+      put_so t noted is =
+          subst
+          (λ (n : Option Note). PutsAll disk out (AnswersOn asked (disk.contents d) way)
+          (BegunBy asked (disk.contents d) way) n o o2) (sym is)
+          (last_put disk out asked way range d o gathers number o1 o2 so inside all allowed t puts)
+
+      pub last_taken : (note : Option Note) → note ≡ asked.tells so.read
+          → RunsOn disk out asked way (done_with note) d d1 o o2
+      last_taken None is = record {
+        may = tt;
+        counted = counts_stay;
+        told = told;
+        told_by_out = λ t. puts.puts.told (so.puts.told t);
+        reads = reads;
+        got = λ t. put_so t None is;
+        untouched = λ one cuts. absurd cuts;
+      }
+      last_taken (Some note) is = record {
+        may = (so.read, sym is);
+        counted = counts_stay;
+        told = told;
+        told_by_out = λ t. puts.puts.told (so.puts.told t);
+        reads = reads;
+        got = λ t. put_so t (Some note) is;
+        untouched = λ one cuts. absurd cuts;
+      }
 
     -- or it was not
     pub last_stopped : number ≤ range.to → range.to ≤ number → (cause : Cause)

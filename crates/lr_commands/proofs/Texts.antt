@@ -1,14 +1,15 @@
 -- What a text that was put, or wasn't, says of the counts; and answers that go on.
-use Rattle.std.proofs.Common.{◌≡◌, ℕ, Option, Result, Ok, Err, IfErr, OnOk, List, refl, sym, ap, subst, ◌∙◌, Some, None}
+use Rattle.std.proofs.Common.{◌≡◌, ℕ, Option, Some, None, Result, Ok, Err, IfErr, IfOk, OnErr, OnOk, List, refl, sym}
+use Rattle.std.proofs.Common.{ap, subst, ◌∙◌}
 use Rattle.lr_io.specs.declared.sink.Sink.{Ghosts as SinkOf}
 use Rattle.lr_disk.specs.declared.disk.Disk.{Ghosts as DiskOf}
-use Rattle.lr_shelf_format.specs.Way.{Way, Found, IsFound}
+use Rattle.lr_shelf_format.specs.Way.{Way}
 use Rattle.lr_commands.specs.declared.cause.Party.TheVariants.{Source, Disk, Output}
 use Rattle.lr_commands.specs.declared.cause.Refusal.{Refusal}
 use Rattle.lr_commands.specs.declared.cause.Refusal.TheVariants.{NotAShelf}
 use Rattle.lr_commands.specs.declared.cause.Cause.{Cause}
-use Rattle.lr_commands.specs.declared.cause.Cause.TheVariants.{Done, Usage, Failed, NoMemory, Refused}
-use Rattle.lr_commands.specs.Asked.{Asked, entry_at, fate_of}
+use Rattle.lr_commands.specs.declared.cause.Cause.TheVariants.{Done, DoneWith, Usage, Failed, NoMemory, Refused}
+use Rattle.lr_commands.specs.Asked.{Asked, IsSeen, Seen, entry_at, fate_of}
 use Rattle.lr_commands.proofs.Answering.{err_is}
 use Rattle.lr_commands.specs.Runs.{Counted, CutsNothing, MayCause, MayRefuse, at_place, at_entry, at_end, counts_of}
 use Rattle.lr_commands.specs.Steps.{TextStops, EntryStops}
@@ -20,6 +21,20 @@ on_both (Err e) f a b = tt
 pub on_ok : {T E A B : Type 0} (r : Result T E) → (A → B) → OnOk r A → OnOk r B
 on_ok (Ok v) f a = f a
 on_ok (Err e) f a = tt
+
+-- where both hold at Ok, of its value
+pub on_noted : {T E A : Type 0} {P Q : T → Type 0} (r : Result T E) → (A → (v : T) → P v → Q v) → OnOk r A → IfOk r P
+    → IfOk r Q
+on_noted (Ok v) f a p = f a v p
+on_noted (Err e) f a p = tt
+
+pub on_failed : {T E A B : Type 0} (r : Result T E) → (A → B) → OnErr r A → OnErr r B
+on_failed (Ok v) f a = tt
+on_failed (Err e) f a = f a
+
+pub always_failed : {T E A : Type 0} (r : Result T E) → A → OnErr r A
+always_failed (Ok v) a = tt
+always_failed (Err e) a = a
 
 pub on_err : {T E : Type 0} {P Q : E → Type 0} (r : Result T E) → ((e : E) → P e → Q e) → IfErr r P → IfErr r Q
 on_err (Ok v) f p = tt
@@ -43,6 +58,7 @@ module _ {D O : Type 0} (disk : DiskOf D) (out : SinkOf O) where
     pub text_counted : (cause : Cause) → TextStops out fate cause o o'
         → Counted cause (counts_of disk out d o) (counts_of disk out d' o')
     text_counted Done stops = absurd stops
+    text_counted (DoneWith note) stops = absurd stops
     text_counted Usage stops = absurd stops
     text_counted (Failed Source) stops = absurd stops
     text_counted (Failed Disk) stops = absurd stops
@@ -58,9 +74,10 @@ module _ {D O : Type 0} (disk : DiskOf D) (out : SinkOf O) where
   text_told fate o o' (Refused refusal) stops t = subst (λ (x : O). out.tells x) (sym stops.1) t
   text_told fate o o' _ stops t = absurd stops
 
-  pub last_may : (asked : Asked) (way : Way) (read : List Found) (o o' : O) (cause : Cause)
+  pub last_may : (asked : Asked) (way : Way) (read : List Seen) (o o' : O) (cause : Cause)
       → TextStops out (asked.last way read) cause o o' → MayCause asked cause
   last_may asked way read o o' Done stops = absurd stops
+  last_may asked way read o o' (DoneWith note) stops = absurd stops
   last_may asked way read o o' Usage stops = absurd stops
   last_may asked way read o o' (Failed Source) stops = absurd stops
   last_may asked way read o o' (Failed Disk) stops = absurd stops
@@ -68,26 +85,28 @@ module _ {D O : Type 0} (disk : DiskOf D) (out : SinkOf O) where
   last_may asked way read o o' NoMemory stops = tt
   last_may asked way read o o' (Refused refusal) stops = at_end way read stops.0
 
-  module _ (asked : Asked) (way : Way) (read : List Found) (number : ℕ) (d : D) (o o' : O) where
-    entry_refused : (found : Option Found) (refusal : Refusal) → fate_of asked way read number found ≡ Err refusal
+  module _ (asked : Asked) (way : Way) (read : List Seen) (number : ℕ) (d : D) (o o' : O) where
+    entry_refused : (seen : Option Seen) (refusal : Refusal) → fate_of asked way read number seen ≡ Err refusal
         → MayRefuse asked refusal
     entry_refused None refusal fate =
         at_place (entry_at way number).gate
         (err_is (fate_of asked way read number None) refusal (NotAShelf (entry_at way number).gate) fate refl)
-    entry_refused (Some found) refusal fate = at_entry read number found fate
+    entry_refused (Some seen) refusal fate = at_entry read number seen fate
 
     pub entry_may : (cause : Cause) → EntryStops disk out asked way read number cause d o o' → MayCause asked cause
     entry_may Done stops = absurd stops.stops
+    entry_may (DoneWith note) stops = absurd stops.stops
     entry_may Usage stops = absurd stops.stops
     entry_may (Failed Source) stops = absurd stops.stops
     entry_may (Failed Disk) stops = tt
     entry_may (Failed Output) stops = tt
     entry_may NoMemory stops = tt
-    entry_may (Refused refusal) stops = entry_refused stops.found refusal stops.stops.0
+    entry_may (Refused refusal) stops = entry_refused stops.seen refusal stops.stops.0
 
     pub entry_untouched : (cause : Cause) → EntryStops disk out asked way read number cause d o o' → CutsNothing cause
         → o' ≡ o
     entry_untouched Done stops cuts = absurd cuts
+    entry_untouched (DoneWith note) stops cuts = absurd cuts
     entry_untouched Usage stops cuts = absurd cuts
     entry_untouched (Failed Source) stops cuts = absurd cuts
     entry_untouched (Failed Disk) stops cuts = stops
@@ -103,19 +122,21 @@ module _ {D O : Type 0} (disk : DiskOf D) (out : SinkOf O) where
     entry_told NoMemory stops t = subst (λ (x : O). out.tells x) (sym stops) t
     entry_told (Refused refusal) stops t = subst (λ (x : O). out.tells x) (sym stops.stops.1) t
     entry_told Done stops t = absurd stops.stops
+    entry_told (DoneWith note) stops t = absurd stops.stops
     entry_told Usage stops t = absurd stops.stops
     entry_told (Failed Source) stops t = absurd stops.stops
 
     -- what stands there is known, and its text was not put
-    pub stops_found : (found : Option Found)
-        → (disk.tells d → IsFound (disk.contents d) (entry_at way number) found) → (cause : Cause)
-        → TextStops out (fate_of asked way read number found) cause o o'
+    pub stops_seen : (seen : Option Seen)
+        → (disk.tells d → IsSeen asked.looks (disk.contents d) (entry_at way number) seen) → (cause : Cause)
+        → TextStops out (fate_of asked way read number seen) cause o o'
         → EntryStops disk out asked way read number cause d o o'
-    stops_found found stands Done stops = absurd stops
-    stops_found found stands Usage stops = absurd stops
-    stops_found found stands (Failed Source) stops = absurd stops
-    stops_found found stands (Failed Disk) stops = absurd stops
-    stops_found found stands (Failed Output) stops =
-        record { found = found; stands = stands; stops = stops }
-    stops_found found stands NoMemory stops = stops
-    stops_found found stands (Refused refusal) stops = record { found = found; stands = stands; stops = stops }
+    stops_seen seen stands Done stops = absurd stops
+    stops_seen seen stands (DoneWith note) stops = absurd stops
+    stops_seen seen stands Usage stops = absurd stops
+    stops_seen seen stands (Failed Source) stops = absurd stops
+    stops_seen seen stands (Failed Disk) stops = absurd stops
+    stops_seen seen stands (Failed Output) stops =
+        record { seen = seen; stands = stands; stops = stops }
+    stops_seen seen stands NoMemory stops = stops
+    stops_seen seen stands (Refused refusal) stops = record { seen = seen; stands = stands; stops = stops }

@@ -1,73 +1,121 @@
 -- What a command asks of the entries of a shelf, and what bytes answer it, entry by entry, in the order of the call.
-use Rattle.std.specs.Prelude.{◌≡◌, ◌⊎◌, ◌≤◌, ◌+◌, ◌-◌, ℕ, zero, suc, Option, Some, None, Result, Ok, Err}
-use Rattle.std.specs.Prelude.{List, [], ◌∷◌, ◌++◌, length}
-use Rattle.lr_shelf_format.specs.Way.{Way, IsWay, IsNoShelfAt, Found, IsFound, entry_in}
+use Rattle.std.specs.Prelude.{◌≡◌, ◌⊎◌, ◌≤◌, ◌+◌, ◌-◌, ℕ, zero, suc, Bool, true, false, Option, Some, None}
+use Rattle.std.specs.Prelude.{Result, Ok, Err, List, [], ◌∷◌, ◌++◌, length}
+use Rattle.lr_bits.specs.File.{File}
+use Rattle.lr_image.specs.Picture.{Picture}
+use Rattle.lr_image.specs.Reading.{HasOutcome}
+use Rattle.lr_image.specs.declared.fault.ImageFault.{ImageFault}
+use Rattle.lr_shelf_format.specs.Way.{Way, IsWay, IsNoShelfAt, Sound, Bad, Gone, IsFound, entry_in}
 use Rattle.lr_shelf_format.specs.declared.entry.Entry.{Entry}
+use Rattle.lr_shelf_format.specs.declared.stored.Stored.{Stored}
 use Rattle.lr_commands.specs.declared.cause.Refusal.{Refusal}
 use Rattle.lr_commands.specs.declared.cause.Refusal.TheVariants.{NotAShelf, NoSuchFile}
+use Rattle.lr_commands.specs.declared.note.Note.{Note}
+use Rattle.lr_commands.specs.declared.opened.Opened.{Opened}
 use Rattle.lr_commands.specs.declared.range.Range.{Range}
+
+-- ---- what a command sees of an entry
+
+-- a file, with its image or the first fault for which it has none, if the command looks at that; a stored checksum and
+-- the computed one, where they differ; or that the entry is gone
+pub data Seen : Type 0 where
+  Whole : (opened : Opened) → Seen
+  Wrong : (stored computed : ℕ) → Seen
+  Absent : Seen
+
+-- a file at whose image the command doesn't look
+abbrev pub plain : Stored → Seen
+plain stored = Whole (record { stored = stored; image = None })
+
+-- the image of a file is there where the command looks at it, and nowhere else
+abbrev pub IsLooked : Bool → File → Option (Result Picture ImageFault) → Type 0
+IsLooked true file (Some outcome) = HasOutcome file outcome
+IsLooked false file None = Unit {0}
+IsLooked _ file _ = ⊥
+
+-- what is seen at this entry, by a command that looks at the images of these files; None where no item stands
+abbrev pub IsSeen : (Stored → Bool) → List ℕ → Entry → Option Seen → Type 0
+IsSeen looks bytes entry None = IsFound bytes entry None
+IsSeen looks bytes entry (Some (Whole opened)) =
+    IsFound bytes entry (Some (Sound opened.stored))
+    × IsLooked (looks opened.stored) opened.stored.file opened.image
+IsSeen looks bytes entry (Some (Wrong stored computed)) = IsFound bytes entry (Some (Bad stored computed))
+IsSeen looks bytes entry (Some Absent) = IsFound bytes entry (Some Gone)
+
+-- ---- what it asks
 
 -- Plain data, which the words of a command give by themselves.
 pub record Asked : Type 0 where
   -- which entries, of this many; None where a number isn't allowed
   pub range : ℕ → Option Range
-  -- the text of an entry after those that were read, or what the run is refused for there
-  pub becomes : List Found → ℕ → Found → Result (List ℕ) Refusal
+  -- the files at whose images it looks
+  pub looks : Stored → Bool
+  -- the text of an entry after those that were seen, or what the run is refused for there
+  pub becomes : List Seen → ℕ → Seen → Result (List ℕ) Refusal
   -- the last text, or what the run is refused for after the last entry
-  pub last : Way → List Found → Result (List ℕ) Refusal
+  pub last : Way → List Seen → Result (List ℕ) Refusal
+  -- what is told beside the last text
+  pub tells : List Seen → Option Note
 
 -- the entry of this number
 abbrev pub entry_at : Way → ℕ → Entry
 entry_at way number = entry_in way.entries number
 
--- what becomes of what was found there; every run is refused at an entry that has no item
-abbrev pub fate_of : Asked → Way → List Found → ℕ → Option Found → Result (List ℕ) Refusal
+-- what becomes of what is seen there; every run is refused at an entry that has no item
+abbrev pub fate_of : Asked → Way → List Seen → ℕ → Option Seen → Result (List ℕ) Refusal
 fate_of asked way read number None = Err (NotAShelf (entry_at way number).gate)
-fate_of asked way read number (Some found) = asked.becomes read number found
+fate_of asked way read number (Some seen) = asked.becomes read number seen
 
 -- ---- answers
 
--- what a run puts where nothing fails, and what it is refused for then, if anything
+-- what a run puts where nothing fails, what it is refused for then, if anything, and what it tells where it isn't
 pub record Answer : Type 0 where
   pub text : List ℕ
   pub refusal : Option Refusal
+  pub note : Option Note
 
-abbrev pub ended : Result (List ℕ) Refusal → Answer
-ended (Ok text) = record { text = text; refusal = None }
-ended (Err refusal) = record { text = []; refusal = Some refusal }
+abbrev pub done_answer : List ℕ → Option Note → Answer
+done_answer text told = record { text = text; refusal = None; note = told }
+
+abbrev pub refused_answer : List ℕ → Refusal → Answer
+refused_answer text refusal = record { text = text; refusal = Some refusal; note = None }
+
+abbrev pub answer_of : Result (List ℕ) Refusal → Option Note → Answer
+answer_of (Ok text) told = done_answer text told
+answer_of (Err refusal) told = refused_answer [] refusal
 
 -- this text, and then the rest
 abbrev pub then_rest : List ℕ → Answer → Answer
-then_rest text rest = record { text = text ++ rest.text; refusal = rest.refusal }
+then_rest text rest = record { text = text ++ rest.text; refusal = rest.refusal; note = rest.note }
 
 module _ (asked : Asked) (bytes : List ℕ) (way : Way) where
   -- an entry at which the run isn't refused, and what comes after it
-  pub record GoesOn (read : List Found) (number : ℕ) (After : Found → Answer → Type 0) (answer : Answer) : Type 0 where
-    pub found : Found
+  pub record GoesOn (read : List Seen) (number : ℕ) (After : Seen → Answer → Type 0) (answer : Answer) : Type 0 where
+    pub seen : Seen
     pub text : List ℕ
     pub rest : Answer
-    pub stands : IsFound bytes (entry_at way number) (Some found)
-    pub fate : asked.becomes read number found ≡ Ok text
-    pub after : After found rest
+    pub stands : IsSeen asked.looks bytes (entry_at way number) (Some seen)
+    pub fate : asked.becomes read number seen ≡ Ok text
+    pub after : After seen rest
     pub is : answer ≡ then_rest text rest
 
   -- an entry at which the run is refused
-  pub record StopsAt (read : List Found) (number : ℕ) (answer : Answer) : Type 0 where
-    pub found : Option Found
+  pub record StopsAt (read : List Seen) (number : ℕ) (answer : Answer) : Type 0 where
+    pub seen : Option Seen
     pub refusal : Refusal
-    pub stands : IsFound bytes (entry_at way number) found
-    pub fate : fate_of asked way read number found ≡ Err refusal
-    pub is : answer ≡ ended (Err refusal)
+    pub stands : IsSeen asked.looks bytes (entry_at way number) seen
+    pub fate : fate_of asked way read number seen ≡ Err refusal
+    pub is : answer ≡ refused_answer [] refusal
 
-  -- the answer of this many entries, from this number on, after those that were read
-  abbrev pub AnswersFrom : (left number : ℕ) → List Found → Answer → Type 0
-  AnswersFrom zero number read answer = answer ≡ ended (asked.last way read)
+  -- the answer of this many entries, from this number on, after those that were seen
+  abbrev pub AnswersFrom : (left number : ℕ) → List Seen → Answer → Type 0
+  AnswersFrom zero number read answer = answer ≡ answer_of (asked.last way read) (asked.tells read)
   AnswersFrom (suc left) number read answer =
-      GoesOn read number (λ found rest. AnswersFrom left (number + 1) (read ++ found ∷ []) rest) answer
+      GoesOn read number (λ seen rest. AnswersFrom left (number + 1) (read ++ seen ∷ []) rest) answer
       ⊎ StopsAt read number answer
 
   abbrev pub AnswersIn : Option Range → Answer → Type 0
-  AnswersIn None answer = answer ≡ ended (Err (NoSuchFile (length way.entries)))
+  AnswersIn None answer = answer ≡ refused_answer [] (NoSuchFile (length way.entries))
   AnswersIn (Some range) answer = AnswersFrom (range.to - range.from) range.from [] answer
 
   -- what the entries of this way answer
@@ -77,7 +125,7 @@ module _ (asked : Asked) (bytes : List ℕ) (way : Way) where
 -- no shelf stands there, or one whose entries answer
 abbrev pub IsAnswer : Asked → List ℕ → Answer → Type 0
 IsAnswer asked bytes answer =
-    ((at : ℕ) × IsNoShelfAt bytes at × (answer ≡ ended (Err (NotAShelf at))))
+    ((at : ℕ) × IsNoShelfAt bytes at × (answer ≡ refused_answer [] (NotAShelf at)))
     ⊎ ((way : Way) × IsWay bytes way × AnswersOn asked bytes way answer)
 
 -- what the command is refused for over these bytes
@@ -88,15 +136,14 @@ IsRefusedFor asked bytes refusal = (answer : Answer) × IsAnswer asked bytes ans
 
 -- the same entries, and nothing after them
 abbrev pub without_last : Asked → Asked
-without_last asked = record asked { last = λ way read. Ok [] }
+without_last asked = record asked { last = λ way read. Ok []; tells = λ read. None }
 
 -- the texts of the first entries of the range, this many, after which at least this many are left
 pub record BegunOn (asked : Asked) (bytes : List ℕ) (way : Way) (passed left : ℕ) (text : List ℕ) : Type 0 where
   pub range : Range
   pub allowed : asked.range (length way.entries) ≡ Some range
   pub inside : range.from + passed + left ≤ range.to
-  pub texts :
-      AnswersFrom (without_last asked) bytes way passed range.from [] (record { text = text; refusal = None })
+  pub texts : AnswersFrom (without_last asked) bytes way passed range.from [] (done_answer text None)
 
 -- nothing yet
 abbrev pub IsNothing : ℕ → List ℕ → Type 0
@@ -116,4 +163,4 @@ IsBegun asked bytes passed left text =
 -- at most one entry is read, and no text comes after it
 pub record PutsOneText (asked : Asked) : Type 0 where
   pub one : (count : ℕ) (range : Range) → asked.range count ≡ Some range → range.to ≤ range.from + 1
-  pub nothing_last : (way : Way) (read : List Found) → asked.last way read ≡ Ok []
+  pub nothing_last : (way : Way) (read : List Seen) → asked.last way read ≡ Ok []

@@ -1,5 +1,5 @@
 -- Why a call ended, the status of each cause, and the line that it puts on `err`.
-use Rattle.std.specs.Prelude.{ℕ, List, [], ◌++◌, codes, decimal}
+use Rattle.std.specs.Prelude.{ℕ, List, [], ◌++◌, Option, Some, None, codes, decimal}
 use Rattle.lr_bits.specs.Faults.{Rose}
 use Rattle.lr_shelf.specs.declared.error.ShelfError.{ShelfError}
 use Rattle.lr_shelf.specs.declared.error.ShelfError.TheVariants.{
@@ -22,12 +22,18 @@ use Rattle.lr_commands.specs.declared.cause.Refusal.TheVariants.{
   NotEmpty,
   BadChecksum,
   Discarded,
+  CannotExport,
 }
 use Rattle.lr_commands.specs.declared.cause.Cause.{Cause}
-use Rattle.lr_commands.specs.declared.cause.Cause.TheVariants.{Done, Usage, Failed, NoMemory, Refused}
+use Rattle.lr_commands.specs.declared.cause.Cause.TheVariants.{Done, DoneWith, Usage, Failed, NoMemory, Refused}
+use Rattle.lr_commands.specs.declared.fault.ExportFault.{ExportFault}
+use Rattle.lr_commands.specs.declared.note.Note.{Note}
+use Rattle.lr_commands.specs.declared.note.Note.TheVariants.{Assembled}
+use Rattle.lr_commands.specs.Faults.{word_of}
 
 abbrev pub status_of : Cause → ℕ
 status_of Done = 0
+status_of (DoneWith note) = 0
 status_of Usage = 2
 status_of (Failed Source) = 3
 status_of (Failed Disk) = 4
@@ -35,13 +41,19 @@ status_of (Failed Output) = 5
 status_of NoMemory = 9
 status_of (Refused (NotAShelf at)) = 6
 status_of (Refused (NoSuchFile count)) = 7
+status_of (Refused (CannotExport fault)) = 8
 status_of (Refused (Capacity needed capacity)) = 10
 status_of (Refused (NotEmpty size)) = 11
 status_of (Refused BadChecksum) = 12
 status_of (Refused Discarded) = 13
 
+abbrev pub note_line : Note → List ℕ
+note_line (Assembled added skipped uncovered) = codes "assembled " ++ decimal added ++ codes " skipped "
+    ++ decimal skipped ++ codes " uncovered " ++ decimal uncovered ++ codes "\n"
+
 abbrev pub line_of : Cause → List ℕ
 line_of Done = []
+line_of (DoneWith note) = note_line note
 line_of Usage = codes "station: usage: SHELF COMMAND [WORDS]\n"
 line_of (Failed Source) = codes "station: source failed\n"
 line_of (Failed Disk) = codes "station: disk failed\n"
@@ -54,6 +66,7 @@ line_of (Refused (Capacity needed capacity)) = codes "station: capacity: needs "
 line_of (Refused (NotEmpty size)) = codes "station: not empty, length " ++ decimal size ++ codes "\n"
 line_of (Refused BadChecksum) = codes "station: bad checksum\n"
 line_of (Refused Discarded) = codes "station: discarded\n"
+line_of (Refused (CannotExport fault)) = codes "station: cannot export: " ++ word_of fault ++ codes "\n"
 
 -- the cause of what a call on a shelf answers; a shelf that failed before answers as a disk that fails
 abbrev pub cause_of : ShelfError → Cause
@@ -66,6 +79,16 @@ cause_of (NoSuchFile' count) = Refused (NoSuchFile count)
 cause_of (Crc' stored computed) = Refused BadChecksum
 cause_of NoMemory' = NoMemory
 cause_of Discarded' = Refused Discarded
+
+-- done, with what is told of it, if anything
+abbrev pub done_with : Option Note → Cause
+done_with None = Done
+done_with (Some note) = DoneWith note
+
+-- no PGM can be put for this fault; without one memory was refused
+abbrev pub cause_of_fault : Option ExportFault → Cause
+cause_of_fault None = NoMemory
+cause_of_fault (Some fault) = Refused (CannotExport fault)
 
 -- how often each party has failed
 pub record Counts : Type 0 where

@@ -1,41 +1,49 @@
 -- What a command asks that reads whole files: one with a wrong checksum is refused, and one that is gone has its own
 -- text or refusal.
-use Rattle.std.specs.Prelude.{ℕ, ◌+◌, Option, Some, None, Result, Ok, Err, List, [], ◌∷◌, if◌then◌else◌, ltb}
-use Rattle.lr_shelf_format.specs.Way.{Way, Found, Sound, Bad, Gone}
+use Rattle.std.specs.Prelude.{ℕ, ◌+◌, ◌&&◌, Bool, false, Option, Some, None, Result, Ok, Err, List, [], ◌∷◌, ltb}
+use Rattle.std.specs.Prelude.{if◌then◌else◌, nat_le}
+use Rattle.lr_shelf_format.specs.Way.{Way}
 use Rattle.lr_shelf_format.specs.declared.stored.Stored.{Stored}
 use Rattle.lr_commands.specs.declared.cause.Refusal.{Refusal}
-use Rattle.lr_commands.specs.declared.cause.Refusal.TheVariants.{BadChecksum}
+use Rattle.lr_commands.specs.declared.cause.Refusal.TheVariants.{BadChecksum, CannotExport}
+use Rattle.lr_commands.specs.declared.fault.ExportFault.{ExportFault}
+use Rattle.lr_commands.specs.declared.note.Note.{Note}
+use Rattle.lr_commands.specs.declared.opened.Opened.{Opened}
 use Rattle.lr_commands.specs.declared.range.Range.{Range}
-use Rattle.lr_commands.specs.Asked.{Asked}
+use Rattle.lr_commands.specs.Asked.{Asked, Seen, Whole, Wrong, Absent}
 
 pub record AskedOfFiles : Type 0 where
   pub range : ℕ → Option Range
+  pub looks : Stored → Bool
   -- of a file after those that were read
-  pub becomes : List Stored → ℕ → Stored → Result (List ℕ) Refusal
+  pub becomes : List Opened → ℕ → Opened → Result (List ℕ) Refusal
   -- of an entry that is gone
   pub gone : ℕ → Result (List ℕ) Refusal
-  pub last : Way → List Stored → Result (List ℕ) Refusal
+  pub last : Way → List Opened → Result (List ℕ) Refusal
+  pub tells : List Opened → Option Note
 
--- the files among what was found
-abbrev pub files_of : List Found → List Stored
+-- the files among what was seen
+abbrev pub files_of : List Seen → List Opened
 files_of [] = []
-files_of (Sound stored ∷ read) = stored ∷ files_of read
-files_of (Bad stored computed ∷ read) = files_of read
-files_of (Gone ∷ read) = files_of read
+files_of (Whole opened ∷ read) = opened ∷ files_of read
+files_of (Wrong stored computed ∷ read) = files_of read
+files_of (Absent ∷ read) = files_of read
 
-abbrev pub becomes_by : AskedOfFiles → List Found → ℕ → Found → Result (List ℕ) Refusal
-becomes_by asked read number (Sound stored) = asked.becomes (files_of read) number stored
-becomes_by asked read number (Bad stored computed) = Err BadChecksum
-becomes_by asked read number Gone = asked.gone number
+abbrev pub becomes_by : AskedOfFiles → List Seen → ℕ → Seen → Result (List ℕ) Refusal
+becomes_by asked read number (Whole opened) = asked.becomes (files_of read) number opened
+becomes_by asked read number (Wrong stored computed) = Err BadChecksum
+becomes_by asked read number Absent = asked.gone number
 
 abbrev pub asked_of_files : AskedOfFiles → Asked
 asked_of_files asked = record {
   range = asked.range;
+  looks = asked.looks;
   becomes = becomes_by asked;
   last = λ way read. asked.last way (files_of read);
+  tells = λ read. asked.tells (files_of read);
 }
 
--- ---- ranges and texts
+-- ---- what many commands ask
 
 abbrev pub all_entries : ℕ → Option Range
 all_entries count = Some (record { from = 0; to = count })
@@ -47,3 +55,21 @@ one_entry number count = if ltb number count then Some (record { from = number; 
 -- no text, and nothing to refuse
 abbrev pub no_text : Result (List ℕ) Refusal
 no_text = Ok []
+
+-- no PGM can be put for this fault, if it is one
+abbrev pub refused_for : Option ExportFault → Result (List ℕ) Refusal
+refused_for (Some fault) = Err (CannotExport fault)
+refused_for None = no_text
+
+-- those from one number up to another, which is at most the number of entries
+abbrev pub entries_between : (from to : ℕ) → ℕ → Option Range
+entries_between from to count =
+    if nat_le from to && nat_le to count then Some (record { from = from; to = to }) else None
+
+-- a command that looks at no image
+abbrev pub no_image : Stored → Bool
+no_image stored = false
+
+-- and one that tells nothing
+abbrev pub no_note : List Opened → Option Note
+no_note read = None

@@ -1,10 +1,17 @@
 -- What is true of all causes, and of all bytes.
-use Rattle.std.specs.Prelude.{◌≡◌, ◌⊎◌, ◌<◌, ◌≤◌, ◌++◌, ℕ, true, false, Some, None, List, length}
+use Rattle.std.specs.Prelude.{◌≡◌, ◌⊎◌, ◌<◌, ◌≤◌, ◌++◌, ℕ, true, false, Some, None, Ok, Err, List, length}
 use Rattle.lr_bits.specs.File.{proper_of}
+use Rattle.lr_image.specs.Pgm.{pgm_text}
+use Rattle.lr_image.specs.Picture.{Picture}
+use Rattle.lr_image.specs.Reading.{HasOutcome}
+use Rattle.lr_image.specs.declared.fault.ImageFault.{ImageFault}
 use Rattle.lr_shelf_format.specs.Way.{Way, IsWay, Bad, HasSoundRecord, IsFound, Sound}
 use Rattle.lr_shelf_format.specs.declared.stored.Stored.{Stored}
-use Rattle.lr_commands.specs.Asked.{Asked, Answer, entry_at, IsAnswer, IsBegun, IsRefusedFor, PutsOneText}
+use Rattle.lr_commands.specs.Asked.{Asked, Answer, entry_at, IsAnswer, IsBegun, IsRefusedFor, PutsOneText, done_answer}
+use Rattle.lr_commands.specs.Export.{export_asked}
 use Rattle.lr_commands.specs.Extract.{extract_asked}
+use Rattle.lr_commands.specs.Faults.{image_fault}
+use Rattle.lr_commands.specs.Show.{show_asked}
 use Rattle.lr_commands.specs.Verify.{verify_asked}
 use Rattle.lr_commands.specs.declared.cause.Party.{Party}
 use Rattle.lr_commands.specs.declared.cause.Refusal.TheVariants.{
@@ -14,9 +21,11 @@ use Rattle.lr_commands.specs.declared.cause.Refusal.TheVariants.{
   NotEmpty,
   BadChecksum,
   Discarded,
+  CannotExport,
 }
 use Rattle.lr_commands.specs.declared.cause.Cause.{Cause}
-use Rattle.lr_commands.specs.declared.cause.Cause.TheVariants.{Done, Usage, Failed, NoMemory, Refused}
+use Rattle.lr_commands.specs.declared.cause.Cause.TheVariants.{Done, DoneWith, Usage, Failed, NoMemory, Refused}
+use Rattle.lr_commands.specs.declared.fault.ExportFault.{ExportFault}
 use Rattle.lr_commands.specs.Causes.{status_of}
 
 -- a cause without the values that its line tells
@@ -31,9 +40,11 @@ pub data Kind : Type 0 where
   IsNotEmpty : Kind
   IsBadChecksum : Kind
   IsDiscarded : Kind
+  IsNoExport : Kind
 
 abbrev pub kind_of : Cause → Kind
 kind_of Done = IsDone
+kind_of (DoneWith note) = IsDone
 kind_of Usage = IsUsage
 kind_of (Failed party) = HasFailed party
 kind_of NoMemory = IsNoMemory
@@ -43,6 +54,7 @@ kind_of (Refused (Capacity needed capacity)) = IsCapacity
 kind_of (Refused (NotEmpty size)) = IsNotEmpty
 kind_of (Refused BadChecksum) = IsBadChecksum
 kind_of (Refused Discarded) = IsDiscarded
+kind_of (Refused (CannotExport fault)) = IsNoExport
 
 -- equal statuses mean equal kinds
 abbrev pub HasOneKind : Type 0
@@ -79,7 +91,7 @@ pub record HasReasons (number : ℕ) (bytes : List ℕ) (way : Way) : Type 0 whe
       → IsRefusedFor (extract_asked number) bytes BadChecksum
   pub sound : number < length way.entries → (stored : Stored)
       → IsFound bytes (entry_at way number) (Some (Sound stored))
-      → IsAnswer (extract_asked number) bytes (record { text = proper_of stored.file; refusal = None })
+      → IsAnswer (extract_asked number) bytes (done_answer (proper_of stored.file) None)
   -- whether or not such a record holds a file, nothing is refused for it
   pub right : number < length way.entries → (entry_at way number).gone ≡ false
       → HasSoundRecord bytes (entry_at way number) → (answer : Answer) → IsAnswer (extract_asked number) bytes answer
@@ -88,9 +100,41 @@ pub record HasReasons (number : ℕ) (bytes : List ℕ) (way : Way) : Type 0 whe
 abbrev pub ExtractHasReasons : Type 0
 ExtractHasReasons = (number : ℕ) (bytes : List ℕ) (way : Way) → IsWay bytes way → HasReasons number bytes way
 
+-- Each reason that `export` has for a refusal, in its order: no such number, gone, no record there, a wrong checksum,
+-- the first fault of a file without an image; and what it puts where the file has one.
+pub record HasExportReasons (number : ℕ) (bytes : List ℕ) (way : Way) : Type 0 where
+  pub no_file : length way.entries ≤ number
+      → IsRefusedFor (export_asked number) bytes (NoSuchFile (length way.entries))
+  pub gone : number < length way.entries → (entry_at way number).gone ≡ true
+      → IsRefusedFor (export_asked number) bytes Discarded
+  pub no_record : number < length way.entries → IsFound bytes (entry_at way number) None
+      → IsRefusedFor (export_asked number) bytes (NotAShelf (entry_at way number).gate)
+  pub bad : number < length way.entries → (stored computed : ℕ)
+      → IsFound bytes (entry_at way number) (Some (Bad stored computed))
+      → IsRefusedFor (export_asked number) bytes BadChecksum
+  pub fault : number < length way.entries → (stored : Stored)
+      → IsFound bytes (entry_at way number) (Some (Sound stored)) → (first : ImageFault)
+      → HasOutcome stored.file (Err first) → (word : ExportFault) → image_fault first ≡ Some word
+      → IsRefusedFor (export_asked number) bytes (CannotExport word)
+  pub image : number < length way.entries → (stored : Stored)
+      → IsFound bytes (entry_at way number) (Some (Sound stored)) → (picture : Picture)
+      → HasOutcome stored.file (Ok picture)
+      → IsAnswer (export_asked number) bytes (done_answer (pgm_text picture) None)
+
+abbrev pub ExportHasReasons : Type 0
+ExportHasReasons = (number : ℕ) (bytes : List ℕ) (way : Way) → IsWay bytes way → HasExportReasons number bytes way
+
 -- its only text is that of one entry
+abbrev pub ExportPutsOneText : Type 0
+ExportPutsOneText = (number : ℕ) → PutsOneText (export_asked number)
+
+-- so is that of `extract`
 abbrev pub ExtractPutsOneText : Type 0
 ExtractPutsOneText = (number : ℕ) → PutsOneText (extract_asked number)
+
+-- so is that of `show`
+abbrev pub ShowPutsOneText : Type 0
+ShowPutsOneText = (number : ℕ) → PutsOneText (show_asked number)
 
 -- Each reason that `verify` has for a refusal, and that it has no other.
 pub record SaysWhy (bytes : List ℕ) (way : Way) (answer : Answer) : Type 0 where

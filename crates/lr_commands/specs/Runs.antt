@@ -9,23 +9,36 @@ use Rattle.lr_commands.specs.declared.cause.Party.TheVariants.{Source, Disk, Out
 use Rattle.lr_commands.specs.declared.cause.Refusal.{Refusal}
 use Rattle.lr_commands.specs.declared.cause.Refusal.TheVariants.{NotAShelf, NoSuchFile}
 use Rattle.lr_commands.specs.declared.cause.Cause.{Cause}
-use Rattle.lr_commands.specs.declared.cause.Cause.TheVariants.{Done, Failed, NoMemory, Refused}
-use Rattle.lr_shelf_format.specs.Way.{Way, Found}
-use Rattle.lr_commands.specs.Asked.{Asked, Answer, AnswersOn, BegunBy, IsAnswer, IsBegun, PutsOneText}
-use Rattle.lr_commands.specs.Causes.{Counts}
+use Rattle.lr_commands.specs.declared.cause.Cause.TheVariants.{Done, DoneWith, Failed, NoMemory, Refused}
+use Rattle.lr_commands.specs.declared.note.Note.{Note}
+use Rattle.lr_shelf_format.specs.Way.{Way}
+use Rattle.lr_commands.specs.Asked.{
+  Asked,
+  Answer,
+  AnswersOn,
+  BegunBy,
+  IsAnswer,
+  IsBegun,
+  PutsOneText,
+  Seen,
+  done_answer,
+  refused_answer,
+}
+use Rattle.lr_commands.specs.Causes.{Counts, done_with}
 
 -- what a command may be refused for, over any disk: no shelf or no item at a place, a count by which a number isn't
--- allowed, or what it says of something that was found or of all that was read
+-- allowed, or what it says of something that was seen or of all that was
 pub data MayRefuse (asked : Asked) (refusal : Refusal) : Type 0 where
   at_place : (at : ℕ) → refusal ≡ NotAShelf at → MayRefuse asked refusal
   by_count : (count : ℕ) → asked.range count ≡ None → refusal ≡ NoSuchFile count → MayRefuse asked refusal
-  at_entry : (read : List Found) (number : ℕ) (found : Found) → asked.becomes read number found ≡ Err refusal
+  at_entry : (read : List Seen) (number : ℕ) (seen : Seen) → asked.becomes read number seen ≡ Err refusal
       → MayRefuse asked refusal
-  at_end : (way : Way) (read : List Found) → asked.last way read ≡ Err refusal → MayRefuse asked refusal
+  at_end : (way : Way) (read : List Seen) → asked.last way read ≡ Err refusal → MayRefuse asked refusal
 
 -- the causes that it may have, over any disk
 abbrev pub MayCause : Asked → Cause → Type 0
 MayCause asked Done = Unit {0}
+MayCause asked (DoneWith note) = (read : List Seen) × (asked.tells read ≡ Some note)
 MayCause asked (Failed Disk) = Unit {0}
 MayCause asked (Failed Output) = Unit {0}
 MayCause asked NoMemory = Unit {0}
@@ -43,9 +56,9 @@ Counted (Failed Output) before now =
 Counted cause before now = now ≡ before
 
 -- the cause of a run that puts an answer
-abbrev pub cause_for : Option Refusal → Cause
-cause_for None = Done
-cause_for (Some refusal) = Refused refusal
+abbrev pub cause_for : Option Refusal → Option Note → Cause
+cause_for None told = done_with told
+cause_for (Some refusal) told = Refused refusal
 
 -- an event that comes before the end of an answer; `out` fails only in a text
 abbrev pub Precedes : Cause → Answer → Type 0
@@ -68,10 +81,10 @@ module _ {D O : Type 0} (disk : DiskOf D) (out : SinkOf O) where
 
   -- which answers there are, and which texts are begun
   module _ (IsOne : Answer → Type 0) (IsFirst : (passed left : ℕ) → List ℕ → Type 0) where
-    -- there is an answer that refuses nothing, and its text was put
-    pub record PutsAll (o o' : O) : Type 0 where
+    -- there is an answer that refuses nothing and tells this, and its text was put
+    pub record PutsAll (note : Option Note) (o o' : O) : Type 0 where
       pub text : List ℕ
-      pub is : IsOne (record { text = text; refusal = None })
+      pub is : IsOne (done_answer text note)
       pub put : out.tells o → out.contents o' ≡ out.contents o ++ text
 
     -- the texts of the first entries were put, and at least this many entries are left
@@ -85,7 +98,7 @@ module _ {D O : Type 0} (disk : DiskOf D) (out : SinkOf O) where
     -- they are all of an answer with this refusal
     pub record PutsRefused (refusal : Refusal) (o o' : O) : Type 0 where
       pub first : PutsFirst 0 o o'
-      pub is : IsOne (record { text = first.text; refusal = Some refusal })
+      pub is : IsOne (refused_answer first.text refusal)
 
     -- `out` failed in the text of an entry, or in the last one: those before it were put, and a part of it
     pub record PutsCut (o o' : O) : Type 0 where
@@ -93,13 +106,14 @@ module _ {D O : Type 0} (disk : DiskOf D) (out : SinkOf O) where
       pub text : List ℕ
       pub one : List ℕ
       pub begun : IsFirst passed 0 text
-      pub next : IsFirst (passed + 1) 0 (text ++ one) ⊎ IsOne (record { text = text ++ one; refusal = None })
+      pub next : IsFirst (passed + 1) 0 (text ++ one) ⊎ ((note : Option Note) × IsOne (done_answer (text ++ one) note))
       pub some : 0 < length one
       pub part : out.tells o → PutsPart one (out.contents o ++ text) (out.contents o')
 
     -- what `out` got, for each cause
     abbrev pub Got : Cause → O → O → Type 0
-    Got Done o o' = PutsAll o o'
+    Got Done o o' = PutsAll None o o'
+    Got (DoneWith note) o o' = PutsAll (Some note) o o'
     Got (Failed Disk) o o' = PutsFirst 1 o o'
     Got (Failed Output) o o' = PutsCut o o'
     Got NoMemory o o' = PutsFirst 0 o o'
@@ -129,4 +143,4 @@ module _ {D O : Type 0} (disk : DiskOf D) (out : SinkOf O) where
     pub runs : Runs asked (IsAnswer asked) (IsBegun asked) cause d d' o o'
     -- what the bytes answer decides, unless an event comes before: done, or refused for this
     pub ends : (answer : Answer) → disk.tells d → IsAnswer asked (disk.contents d) answer
-        → (cause ≡ cause_for answer.refusal) ⊎ Precedes cause answer
+        → (cause ≡ cause_for answer.refusal answer.note) ⊎ Precedes cause answer

@@ -3,14 +3,14 @@ use Rattle.std.specs.Prelude.{◌≡◌, ◌<◌, ℕ, Option, Some, Result, Ok,
 use Rattle.lr_io.specs.declared.sink.Sink.{Ghosts as SinkOf}
 use Rattle.lr_disk.specs.Reads.{IsUnwritten}
 use Rattle.lr_disk.specs.declared.disk.Disk.{Ghosts as DiskOf}
-use Rattle.lr_shelf_format.specs.Way.{Way, Found, IsFound}
+use Rattle.lr_shelf_format.specs.Way.{Way}
 use Rattle.lr_shelf.specs.Kept.{kept_by}
 use Rattle.lr_shelf.specs.declared.shelf.Shelf.{Shelf}
 use Rattle.lr_commands.specs.declared.cause.Party.TheVariants.{Disk, Output}
 use Rattle.lr_commands.specs.declared.cause.Refusal.{Refusal}
 use Rattle.lr_commands.specs.declared.cause.Cause.{Cause}
 use Rattle.lr_commands.specs.declared.cause.Cause.TheVariants.{Failed, NoMemory, Refused}
-use Rattle.lr_commands.specs.Asked.{Asked, entry_at, fate_of}
+use Rattle.lr_commands.specs.Asked.{Asked, IsSeen, Seen, entry_at, fate_of}
 use Rattle.lr_commands.specs.Puts.{Puts, PutFails}
 
 module _ {O : Type 0} (out : SinkOf O) (fate : Result (List ℕ) Refusal) where
@@ -34,26 +34,26 @@ module _ {O : Type 0} (out : SinkOf O) (fate : Result (List ℕ) Refusal) where
   TextStops (Refused refusal) o o' = (fate ≡ Err refusal) × (o' ≡ o)
   TextStops _ o o' = ⊥
 
-module _ {D O : Type 0} (disk : DiskOf D) (out : SinkOf O) (asked : Asked) (way : Way) (read : List Found)
+module _ {D O : Type 0} (disk : DiskOf D) (out : SinkOf O) (asked : Asked) (way : Way) (read : List Seen)
     (number : ℕ) where
   -- the text of the entry was put, and it was gathered
-  pub record TakesEntry (gathers : List Found → Type 0) (d : D) (o o' : O) : Type 0 where
-    pub found : Found
-    pub stands : disk.tells d → IsFound (disk.contents d) (entry_at way number) (Some found)
-    pub puts : PutsText out (asked.becomes read number found) o o'
-    pub gathered : gathers (read ++ found ∷ [])
+  pub record TakesEntry (gathers : List Seen → Type 0) (d : D) (o o' : O) : Type 0 where
+    pub seen : Seen
+    pub stands : disk.tells d → IsSeen asked.looks (disk.contents d) (entry_at way number) (Some seen)
+    pub puts : PutsText out (asked.becomes read number seen) o o'
+    pub gathered : gathers (read ++ seen ∷ [])
 
   -- what stands there is known, and its text was not put
-  pub record FoundStops (cause : Cause) (d : D) (o o' : O) : Type 0 where
-    pub found : Option Found
-    pub stands : disk.tells d → IsFound (disk.contents d) (entry_at way number) found
-    pub stops : TextStops out (fate_of asked way read number found) cause o o'
+  pub record SeenStops (cause : Cause) (d : D) (o o' : O) : Type 0 where
+    pub seen : Option Seen
+    pub stands : disk.tells d → IsSeen asked.looks (disk.contents d) (entry_at way number) seen
+    pub stops : TextStops out (fate_of asked way read number seen) cause o o'
 
   -- why an entry was not taken
   abbrev pub EntryStops : Cause → D → O → O → Type 0
   EntryStops (Failed Disk) d o o' = o' ≡ o
   EntryStops NoMemory d o o' = o' ≡ o
-  EntryStops cause d o o' = FoundStops cause d o o'
+  EntryStops cause d o o' = SeenStops cause d o o'
 
 -- a call that reads the disk alone, and keeps the shelf as it is
 pub record ReadsOnly {D : Type 0} (disk : DiskOf D) (shelf shelf' : Shelf) (d d' : D) : Type 0 where

@@ -1,5 +1,9 @@
 //! Why a call ends, and the status that it answers.
+use crate::fault::ExportFault;
+use crate::note::Note;
 use lr_bits::NoMemory;
+use lr_image::ImageFault;
+use lr_segment::AssembleFault;
 use lr_shelf::ShelfError;
 
 /// Who failed, and counted it.
@@ -25,12 +29,16 @@ pub enum Refusal {
     BadChecksum,
     /// The file of the number that was asked for is discarded.
     Discarded,
+    /// What was found gives no PGM.
+    CannotExport(ExportFault),
 }
 
 /// Why a call ended.
 #[derive(Clone, Copy)]
 pub enum Cause {
     Done,
+    /// Done, and this is told of it.
+    DoneWith(Note),
     /// The words give no command.
     Usage,
     Failed(Party),
@@ -40,14 +48,14 @@ pub enum Cause {
 
 impl Cause {
     ghost use Rattle.std.specs.Prelude.{◌≡◌};
-    ghost use Rattle.lr_commands.specs.Causes.{status_of};
+    ghost use Rattle.lr_commands.specs.Causes.{done_with, cause_of_fault, status_of};
 
     /// The status that the call answers.
     pub fn status(self) -> u8
         ensures { result ≡ status_of self }
     {
         match self {
-            Cause::Done => 0,
+            Cause::Done | Cause::DoneWith(_) => 0,
             Cause::Usage => 2,
             Cause::Failed(Party::Source) => 3,
             Cause::Failed(Party::Disk) => 4,
@@ -55,10 +63,31 @@ impl Cause {
             Cause::NoMemory => 9,
             Cause::Refused(Refusal::NotAShelf { .. }) => 6,
             Cause::Refused(Refusal::NoSuchFile { .. }) => 7,
+            Cause::Refused(Refusal::CannotExport(_)) => 8,
             Cause::Refused(Refusal::Capacity { .. }) => 10,
             Cause::Refused(Refusal::NotEmpty { .. }) => 11,
             Cause::Refused(Refusal::BadChecksum) => 12,
             Cause::Refused(Refusal::Discarded) => 13,
+        }
+    }
+
+    /// Done, with what is told of it, if anything.
+    pub(crate) fn done(note: Option<Note>) -> Self
+        ensures { result ≡ done_with note }
+    {
+        match note {
+            Some(note) => Cause::DoneWith(note),
+            None => Cause::Done,
+        }
+    }
+
+    /// No PGM can be put for this fault; without one memory was refused.
+    fn of_fault(fault: Option<ExportFault>) -> Self
+        ensures { result ≡ cause_of_fault fault }
+    {
+        match fault {
+            Some(fault) => Cause::Refused(Refusal::CannotExport(fault)),
+            None => Cause::NoMemory,
         }
     }
 }
@@ -93,5 +122,29 @@ impl From<ShelfError> for Cause {
             ShelfError::NoMemory => Cause::NoMemory,
             ShelfError::Discarded => Cause::Refused(Refusal::Discarded),
         }
+    }
+}
+
+impl From<ImageFault> for Cause {
+    ghost use Rattle.std.specs.Prelude.{◌≡◌};
+    ghost use Rattle.lr_commands.specs.Causes.{cause_of_fault};
+    ghost use Rattle.lr_commands.specs.Faults.{image_fault};
+
+    ghost from_gives = { λ fault cause. cause ≡ cause_of_fault (image_fault fault) };
+
+    fn from(fault: ImageFault) -> Self {
+        Cause::of_fault(ExportFault::of_image(fault))
+    }
+}
+
+impl From<AssembleFault> for Cause {
+    ghost use Rattle.std.specs.Prelude.{◌≡◌};
+    ghost use Rattle.lr_commands.specs.Causes.{cause_of_fault};
+    ghost use Rattle.lr_commands.specs.Faults.{assembly_fault};
+
+    ghost from_gives = { λ fault cause. cause ≡ cause_of_fault (assembly_fault fault) };
+
+    fn from(fault: AssembleFault) -> Self {
+        Cause::of_fault(ExportFault::of_assembly(fault))
     }
 }

@@ -4,6 +4,8 @@ ghost use Rattle.lr_commands.specs.Runs.{RunsOver};
 
 use crate::cause::{Cause, Refusal};
 use crate::files::{Files, ReadsFiles};
+use crate::note::Note;
+use crate::opened::Opened;
 use crate::put::put_text;
 use crate::range::Range;
 use crate::run::run_entries;
@@ -35,23 +37,27 @@ impl ReadsFiles for ExtractOne {
         Ok(())
     }
 
+    fn looks(&self, _: Global, _: &Stored) -> Result<bool, NoMemory> {
+        Ok(false)
+    }
+
     fn file<O: Sink>(
         &self,
         _: Global,
         _: u64,
-        stored: &Stored,
+        opened: &Opened,
         _: &mut (),
         out: &mut O,
     ) -> Result<(), Cause> {
-        put_text(stored.file.proper(), out)
+        put_text(opened.stored.file.proper(), out)
     }
 
     fn gone<O: Sink>(&self, _: Global, _: u64, _: &mut O) -> Result<(), Cause> {
         Err(Cause::Refused(Refusal::Discarded))
     }
 
-    fn last<O: Sink>(&self, _: Global, _: (), _: &Shelf, _: &mut O) -> Result<(), Cause> {
-        Ok(())
+    fn last<O: Sink>(&self, _: Global, _: (), _: &Shelf, _: &mut O) -> Result<Option<Note>, Cause> {
+        Ok(None)
     }
 }
 

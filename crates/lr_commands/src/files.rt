@@ -1,18 +1,26 @@
 //! Commands that read whole files.
+ghost use Rattle.std.specs.Prelude.{◌≡◌, IfOk};
+ghost use Rattle.lr_image.specs.Reading.{HasOutcome};
+ghost use Rattle.lr_commands.specs.Asked.{IsLooked};
+
 use crate::cause::Cause;
+use crate::note::Note;
+use crate::opened::Opened;
 use crate::range::Range;
 use crate::reads::ReadsEntries;
-use lr_bits::NoMemory;
+use lr_bits::{MissionFile, NoMemory};
 use lr_disk::Disk;
+use lr_image::{Image, ImageFault, image_of};
 use lr_io::Sink;
 use lr_shelf::{Shelf, ShelfError, Stored};
 use std::alloc::Global;
 
-/// A command that reads whole files, and is refused at one whose checksum is wrong.
+/// A command that reads whole files and looks at the images of some, and is refused at one whose checksum is wrong.
 pub trait ReadsFiles {
-    ghost use Rattle.std.specs.Prelude.{◌≡◌, ◌≤◌, ℕ, Ok, List, [], ◌∷◌, ◌++◌, IfOk, IfErr, IfSome, OnOk};
-    ghost use Rattle.lr_shelf_format.specs.declared.stored.Stored.{Stored};
+    ghost use Rattle.std.specs.Prelude.{◌≡◌, ◌+◌, ◌<◌, ◌≤◌, ◌^◌, ℕ, Ok, List, [], ◌∷◌, ◌++◌, length};
+    ghost use Rattle.std.specs.Prelude.{IfOk, IfErr, IfSome, OnOk};
     ghost use Rattle.lr_shelf.specs.Kept.{kept_by};
+    ghost use Rattle.lr_commands.specs.declared.opened.Opened.{Opened};
     ghost use Rattle.lr_commands.specs.Files.{AskedOfFiles};
     ghost use Rattle.lr_commands.specs.Steps.{PutsText, TextStops};
 
@@ -22,7 +30,7 @@ pub trait ReadsFiles {
     ghost asked: { Self → AskedOfFiles };
 
     /// What was gathered of these files.
-    ghost gathers: { Self → Self.Gathered → List Stored → Type 0 };
+    ghost gathers: { Self → Self.Gathered → List Opened → Type 0 };
 
     /// The entries that it reads of this many, if no number is refused.
     fn range(&self, count: u64) -> Option<Range>
@@ -34,21 +42,25 @@ pub trait ReadsFiles {
     fn start(&self, alloc: Global) -> Result<Self::Gathered, NoMemory>
         ensures { IfOk result (λ gathered. gathers self.now gathered []) };
 
+    /// Whether it looks at the image of this file.
+    fn looks(&self, alloc: Global, stored: &Stored) -> Result<bool, NoMemory>
+        ensures { IfOk result (λ looks. looks ≡ (asked self.now).looks stored.now) };
+
     /// Puts the text of a file. Memory is taken before the text.
     fn file<O: Sink>(
         &self,
         alloc: Global,
         number: u64,
-        stored: &Stored,
+        opened: &Opened,
         gathered: &mut Self::Gathered,
         out: &mut O,
     ) -> Result<(), Cause>
-        ensures puts { (read : List Stored) → gathers self.now gathered.old read
-            → OnOk result (PutsText O.Sink ((asked self.now).becomes read number stored.now) out.old out.new) }
-        ensures gathered { (read : List Stored) → gathers self.now gathered.old read
-            → OnOk result (gathers self.now gathered.new (read ++ stored.now ∷ [])) }
-        ensures stops { (read : List Stored) → gathers self.now gathered.old read → IfErr result (λ cause.
-            TextStops O.Sink ((asked self.now).becomes read number stored.now) cause out.old out.new) };
+        ensures puts { (read : List Opened) → gathers self.now gathered.old read
+            → OnOk result (PutsText O.Sink ((asked self.now).becomes read number opened.now) out.old out.new) }
+        ensures gathered { (read : List Opened) → length read + 1 < 2 ^ 64 → gathers self.now gathered.old read
+            → OnOk result (gathers self.now gathered.new (read ++ opened.now ∷ [])) }
+        ensures stops { (read : List Opened) → gathers self.now gathered.old read → IfErr result (λ cause.
+            TextStops O.Sink ((asked self.now).becomes read number opened.now) cause out.old out.new) };
 
     /// Puts the text of an entry that is gone. Memory is taken before the text.
     fn gone<O: Sink>(&self, alloc: Global, number: u64, out: &mut O) -> Result<(), Cause>
@@ -56,20 +68,55 @@ pub trait ReadsFiles {
         ensures stops { IfErr result (λ cause.
             TextStops O.Sink ((asked self.now).gone number) cause out.old out.new) };
 
-    /// Puts the last text. Memory is taken before the text, and none where there is no text.
+    /// Puts the last text, and answers what is told beside it. Memory is taken before the text, and none where there
+    /// is no text.
     fn last<O: Sink>(
         &self,
         alloc: Global,
         gathered: Self::Gathered,
         shelf: &Shelf,
         out: &mut O,
-    ) -> Result<(), Cause>
-        ensures puts { (read : List Stored) → gathers self.now gathered read
+    ) -> Result<Option<Note>, Cause>
+        ensures puts { (read : List Opened) → gathers self.now gathered read
             → OnOk result (PutsText O.Sink ((asked self.now).last (kept_by shelf.now).way read) out.old out.new) }
-        ensures stops { (read : List Stored) → gathers self.now gathered read → IfErr result (λ cause.
+        ensures tells { (read : List Opened) → gathers self.now gathered read
+            → IfOk result (λ note. note ≡ (asked self.now).tells read) }
+        ensures stops { (read : List Opened) → gathers self.now gathered read → IfErr result (λ cause.
             TextStops O.Sink ((asked self.now).last (kept_by shelf.now).way read) cause out.old out.new) }
-        ensures sure { (read : List Stored) → gathers self.now gathered read
+        ensures sure { (read : List Opened) → gathers self.now gathered read
             → (asked self.now).last (kept_by shelf.now).way read ≡ Ok [] → IfErr result (λ _. ⊥) };
+}
+
+/// The image of a file, or the first fault for which it has none.
+fn outcome_of(alloc: Global, file: &MissionFile) -> Result<Result<Image, ImageFault>, NoMemory>
+    ensures { IfOk result (HasOutcome file.now) }
+{
+    match image_of(alloc, file) {
+        Ok(image) => Ok(Ok(image)),
+        Err(fault) => match fault {
+            ImageFault::NoMemory => Err(NoMemory),
+            first => Ok(Err(first)),
+        },
+    }
+}
+
+/// A file, with its image or its first fault if the command looks at that.
+fn open<C: ReadsFiles>(alloc: Global, command: &C, stored: Stored) -> Result<Opened, NoMemory>
+    ensures same { IfOk result (λ opened. opened.stored ≡ stored) }
+    ensures looked { IfOk result (λ opened.
+        IsLooked ((C.asked command.now).looks stored) stored.file opened.image) }
+{
+    if !command.looks(alloc, &stored)? {
+        return Ok(Opened {
+            stored,
+            image: None,
+        });
+    }
+    let outcome = outcome_of(alloc, &stored.file)?;
+    Ok(Opened {
+        stored,
+        image: Some(outcome),
+    })
 }
 
 /// Reads each entry as a file, and refuses one with a wrong checksum.
@@ -103,7 +150,10 @@ impl<C: ReadsFiles> ReadsEntries for Files<C> {
         out: &mut O,
     ) -> Result<(), Cause> {
         match shelf.get(disk, number) {
-            Ok(stored) => self.0.file(alloc, number, &stored, gathered, out),
+            Ok(stored) => match open(alloc, &self.0, stored) {
+                Ok(opened) => self.0.file(alloc, number, &opened, gathered, out),
+                Err(NoMemory) => Err(Cause::NoMemory),
+            },
             Err(error) => match error {
                 ShelfError::Discarded => self.0.gone(alloc, number, out),
                 refused => Err(Cause::from(refused)),
@@ -117,7 +167,7 @@ impl<C: ReadsFiles> ReadsEntries for Files<C> {
         gathered: C::Gathered,
         shelf: &Shelf,
         out: &mut O,
-    ) -> Result<(), Cause> {
+    ) -> Result<Option<Note>, Cause> {
         self.0.last(alloc, gathered, shelf, out)
     }
 }

@@ -1,8 +1,11 @@
 //! What is true of all causes, and of all bytes.
 ghost use Rattle.lr_commands.specs.Laws.{
   BegunComesFirst,
+  ExportHasReasons,
+  ExportPutsOneText,
   ExtractHasReasons,
   ExtractPutsOneText,
+  ShowPutsOneText,
   HasOneAnswer,
   HasOneKind,
   VerifyHasReasons,
@@ -31,6 +34,21 @@ pub fn extract_has_reasons()
 /// `extract` puts the text of one entry, and nothing else.
 pub fn extract_puts_one_text()
     ensures { ExtractPutsOneText }
+{}
+
+/// What `export` is refused for, reason by reason, and what it puts.
+pub fn export_has_reasons()
+    ensures { ExportHasReasons }
+{}
+
+/// `export` puts the text of one entry, and nothing else.
+pub fn export_puts_one_text()
+    ensures { ExportPutsOneText }
+{}
+
+/// `show` puts the text of one entry, and nothing else.
+pub fn show_puts_one_text()
+    ensures { ShowPutsOneText }
 {}
 
 /// What `verify` is refused for, reason by reason.

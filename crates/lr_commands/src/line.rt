@@ -3,11 +3,13 @@ ghost use Rattle.std.specs.Prelude.{◌≡◌, ◌≤◌, ◌+◌, ◌++◌, ◌
 ghost use Rattle.lr_commands.specs.Causes.{line_of};
 
 use crate::cause::{Cause, Party, Refusal};
+use crate::fault::ExportFault;
+use crate::note::Note;
 use itoa::Buffer;
 use std::marker::Model;
 
 /// How many bytes a line has, at most.
-const LINE_BYTES: usize = 128;
+const LINE_BYTES: usize = 160;
 
 /// A line, or the front of one, in an array.
 #[derive(Drop)]
@@ -23,7 +25,7 @@ impl Model for Line {
 
     ghost view = { λ l. take l.filled l.bytes };
 
-    ghost invariant = { λ l. l.filled ≤ 128 };
+    ghost invariant = { λ l. l.filled ≤ 160 };
 }
 
 impl Line {
@@ -44,7 +46,7 @@ impl Line {
     }
 
     fn push(&mut self, piece: &[u8])
-        requires { length self.old + length piece.now ≤ 128 }
+        requires { length self.old + length piece.now ≤ 160 }
         ensures { self.new ≡ self.old ++ piece.now }
     {
         let filled = self.filled;
@@ -54,7 +56,7 @@ impl Line {
     }
 
     fn number(&mut self, n: u64)
-        requires { length self.old + 40 ≤ 128 }
+        requires { length self.old + 40 ≤ 160 }
         ensures added { self.new ≡ self.old ++ decimal n }
         ensures short { length self.new ≤ length self.old + 40 }
     {
@@ -88,6 +90,37 @@ fn capacity_line(needed: u64, capacity: u64) -> Line
     line
 }
 
+/// The line of a file that gives no PGM.
+fn export_line(fault: ExportFault) -> Line
+    ensures { result ≡ line_of (Cause.Refused (Refusal.CannotExport fault)) }
+{
+    let mut line = Line::new();
+    line.push(b"station: cannot export: ");
+    line.push(fault.word().as_bytes());
+    line.push(b"\n");
+    line
+}
+
+/// The line of work that is done.
+fn note_line(note: Note) -> Line
+    ensures { result ≡ line_of (Cause.DoneWith note) }
+{
+    let Note::Assembled {
+        added,
+        skipped,
+        uncovered,
+    } = note;
+    let mut line = Line::new();
+    line.push(b"assembled ");
+    line.number(added);
+    line.push(b" skipped ");
+    line.number(skipped);
+    line.push(b" uncovered ");
+    line.number(uncovered);
+    line.push(b"\n");
+    line
+}
+
 fn fixed_line(text: &[u8]) -> Line
     requires { length text.now ≤ 40 }
     ensures { result ≡ text.now }
@@ -107,6 +140,7 @@ fn refusal_line(refusal: Refusal) -> Line
         Refusal::NotEmpty { length } => line_with(b"station: not empty, length ", length),
         Refusal::BadChecksum => fixed_line(b"station: bad checksum\n"),
         Refusal::Discarded => fixed_line(b"station: discarded\n"),
+        Refusal::CannotExport(fault) => export_line(fault),
     }
 }
 
@@ -116,6 +150,7 @@ pub fn line_for(cause: Cause) -> Line
 {
     match cause {
         Cause::Done => Line::new(),
+        Cause::DoneWith(note) => note_line(note),
         Cause::Usage => fixed_line(b"station: usage: SHELF COMMAND [WORDS]\n"),
         Cause::Failed(Party::Source) => fixed_line(b"station: source failed\n"),
         Cause::Failed(Party::Disk) => fixed_line(b"station: disk failed\n"),

@@ -1,6 +1,6 @@
 //! Which entries of a shelf a command reads.
 ghost use Rattle.std.specs.Prelude.{◌≡◌, ◌≤◌, IfSome};
-ghost use Rattle.lr_commands.specs.Files.{one_entry};
+ghost use Rattle.lr_commands.specs.Files.{entries_between, one_entry};
 
 /// Numbers of entries: from one on, and before another.
 #[derive(Clone, Copy)]
@@ -21,6 +21,19 @@ impl Range {
                 from: number,
                 to: number + 1,
             })
+        } else {
+            None
+        }
+    }
+
+    /// The entries from one number up to another, if the first isn't greater and there are enough.
+    pub(crate) fn between(from: u64, to: u64, count: u64) -> Option<Range>
+        ensures is { result ≡ entries_between from to count }
+        ensures ordered { IfSome result (λ range. range.from ≤ range.to) }
+        ensures inside { IfSome result (λ range. range.to ≤ count) }
+    {
+        if from <= to && to <= count {
+            Some(Range { from, to })
         } else {
             None
         }

@@ -1,5 +1,6 @@
 //! What a command is that reads the entries of a shelf.
 use crate::cause::Cause;
+use crate::note::Note;
 use crate::range::Range;
 use lr_bits::NoMemory;
 use lr_disk::Disk;
@@ -10,10 +11,10 @@ use std::alloc::Global;
 /// A command that reads the entries of a shelf. What it asks is given by its words alone; what it gathers of the
 /// entries is a value beside it.
 pub trait ReadsEntries {
-    ghost use Rattle.std.specs.Prelude.{◌≡◌, ◌<◌, ◌≤◌, ℕ, false, Ok, List, [], length, IfOk, IfErr, IfSome, OnOk};
+    ghost use Rattle.std.specs.Prelude.{◌≡◌, ◌+◌, ◌<◌, ◌≤◌, ◌^◌, ℕ, false, Ok, List, [], length};
+    ghost use Rattle.std.specs.Prelude.{IfOk, IfErr, IfSome, OnOk};
     ghost use Rattle.lr_shelf.specs.Kept.{kept_by};
-    ghost use Rattle.lr_shelf_format.specs.Way.{Found};
-    ghost use Rattle.lr_commands.specs.Asked.{Asked};
+    ghost use Rattle.lr_commands.specs.Asked.{Asked, Seen};
     ghost use Rattle.lr_commands.specs.Runs.{Counted, counts_of};
     ghost use Rattle.lr_commands.specs.Steps.{PutsText, ReadsOnly, TextStops, TakesEntry, EntryStops};
 
@@ -22,8 +23,8 @@ pub trait ReadsEntries {
     /// What it asks.
     ghost asked: { Self → Asked };
 
-    /// What was gathered of these entries.
-    ghost gathers: { Self → Self.Gathered → List Found → Type 0 };
+    /// What was gathered of the entries that were seen, these.
+    ghost gathers: { Self → Self.Gathered → List Seen → Type 0 };
 
     /// The entries that it reads of this many, if no number is refused.
     fn range(&self, count: u64) -> Option<Range>
@@ -49,27 +50,30 @@ pub trait ReadsEntries {
         requires working { (kept_by shelf.old).failed ≡ false }
         ensures reads { ReadsOnly D.Disk shelf.old shelf.new disk.old disk.new }
         ensures same { OnOk result (D.faults disk.new ≡ D.faults disk.old) }
-        ensures counted { (read : List Found) → gathers self.now gathered.old read → IfErr result (λ cause.
+        ensures counted { (read : List Seen) → gathers self.now gathered.old read → IfErr result (λ cause.
             Counted cause (counts_of D.Disk O.Sink disk.old out.old) (counts_of D.Disk O.Sink disk.new out.new)) }
-        ensures takes { (read : List Found) → gathers self.now gathered.old read → OnOk result
+        ensures takes { (read : List Seen) → length read + 1 < 2 ^ 64 → gathers self.now gathered.old read → OnOk result
             (TakesEntry D.Disk O.Sink (asked self.now) (kept_by shelf.old).way read number
             (gathers self.now gathered.new) disk.old out.old out.new) }
-        ensures stops { (read : List Found) → gathers self.now gathered.old read → IfErr result (λ cause.
+        ensures stops { (read : List Seen) → gathers self.now gathered.old read → IfErr result (λ cause.
             EntryStops D.Disk O.Sink (asked self.now) (kept_by shelf.old).way read number cause
             disk.old out.old out.new) };
 
-    /// Puts the last text. Memory is taken before the text, and none where there is no text.
+    /// Puts the last text, and answers what is told beside it. Memory is taken before the text, and none where there
+    /// is no text.
     fn last<O: Sink>(
         &self,
         alloc: Global,
         gathered: Self::Gathered,
         shelf: &Shelf,
         out: &mut O,
-    ) -> Result<(), Cause>
-        ensures takes { (read : List Found) → gathers self.now gathered read
+    ) -> Result<Option<Note>, Cause>
+        ensures takes { (read : List Seen) → gathers self.now gathered read
             → OnOk result (PutsText O.Sink ((asked self.now).last (kept_by shelf.now).way read) out.old out.new) }
-        ensures stops { (read : List Found) → gathers self.now gathered read → IfErr result (λ cause.
+        ensures tells { (read : List Seen) → gathers self.now gathered read
+            → IfOk result (λ note. note ≡ (asked self.now).tells read) }
+        ensures stops { (read : List Seen) → gathers self.now gathered read → IfErr result (λ cause.
             TextStops O.Sink ((asked self.now).last (kept_by shelf.now).way read) cause out.old out.new) }
-        ensures sure { (read : List Found) → gathers self.now gathered read
+        ensures sure { (read : List Seen) → gathers self.now gathered read
             → (asked self.now).last (kept_by shelf.now).way read ≡ Ok [] → IfErr result (λ _. ⊥) };
 }

@@ -1,16 +1,18 @@
 //! The one loop over the entries of a shelf.
-ghost use Rattle.std.specs.Prelude.{◌≡◌, false, [], IfErr, OnOk};
+ghost use Rattle.std.specs.Prelude.{◌≡◌, false, [], IfErr, IfOk};
 ghost use Rattle.lr_shelf.specs.Kept.{kept_by};
+ghost use Rattle.lr_commands.specs.Causes.{done_with};
 ghost use Rattle.lr_commands.specs.Runs.{RunsOn, RunsOver};
 
 use crate::cause::{Cause, Refusal};
+use crate::note::Note;
 use crate::reads::ReadsEntries;
 use lr_disk::Disk;
 use lr_io::Sink;
 use lr_shelf::Shelf;
 use std::alloc::Global;
 
-/// Takes the entries of a shelf that was loaded, and then puts the last text.
+/// Takes the entries of a shelf that was loaded, and then puts the last text. It answers what is told beside it.
 fn take_entries<C: ReadsEntries, D: Disk, O: Sink>(
     alloc: Global,
     command: &C,
@@ -18,11 +20,11 @@ fn take_entries<C: ReadsEntries, D: Disk, O: Sink>(
     shelf: &mut Shelf,
     disk: &mut D,
     out: &mut O,
-) -> Result<(), Cause>
+) -> Result<Option<Note>, Cause>
     requires fresh { C.gathers command.now gathered [] }
     requires working { (kept_by shelf.old).failed ≡ false }
-    ensures takes { OnOk result (RunsOn D.Disk O.Sink (C.asked command.now) (kept_by shelf.old).way Cause.Done
-        disk.old disk.new out.old out.new) }
+    ensures takes { IfOk result (λ note. RunsOn D.Disk O.Sink (C.asked command.now) (kept_by shelf.old).way
+        (done_with note) disk.old disk.new out.old out.new) }
     ensures stops { IfErr result (λ cause. RunsOn D.Disk O.Sink (C.asked command.now) (kept_by shelf.old).way cause
         disk.old disk.new out.old out.new) }
 {
@@ -56,7 +58,7 @@ pub fn run_entries<C: ReadsEntries, D: Disk, O: Sink>(
         Err(error) => return Cause::from(error),
     };
     match take_entries(alloc, command, gathered, &mut shelf, disk, out) {
-        Ok(()) => Cause::Done,
+        Ok(note) => Cause::done(note),
         Err(cause) => cause,
     }
 }

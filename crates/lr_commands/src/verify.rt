@@ -1,18 +1,18 @@
 //! `verify`: a line for each entry.
 ghost use Rattle.std.specs.Prelude.{◌≡◌, Ok, OnOk, IfErr};
-ghost use Rattle.lr_catalog.specs.Discards.{gone_line};
 ghost use Rattle.lr_catalog.specs.Files.{check_line};
 ghost use Rattle.lr_commands.specs.Runs.{RunsOver};
 ghost use Rattle.lr_commands.specs.Steps.{PutsText, TextStops};
 ghost use Rattle.lr_commands.specs.Verify.{verify_asked};
 
 use crate::cause::{Cause, Refusal};
-use crate::put::put_text;
+use crate::note::Note;
+use crate::put::{put_gone, put_text};
 use crate::range::Range;
 use crate::reads::ReadsEntries;
 use crate::run::run_entries;
 use lr_bits::{Bytes, NoMemory};
-use lr_catalog::{check_line, gone_line};
+use lr_catalog::check_line;
 use lr_disk::Disk;
 use lr_io::Sink;
 use lr_shelf::{Shelf, ShelfError};
@@ -30,16 +30,6 @@ fn put_check<O: Sink>(
 {
     let mut line = Bytes::new(alloc);
     check_line(alloc, number, bad, &mut line)?;
-    put_text(line.as_slice(), out)
-}
-
-/// Puts the line of an entry that is gone.
-fn put_gone<O: Sink>(alloc: Global, number: u64, out: &mut O) -> Result<(), Cause>
-    ensures put { OnOk result (PutsText O.Sink (Ok (gone_line number)) out.old out.new) }
-    ensures stopped { IfErr result (λ cause. TextStops O.Sink (Ok (gone_line number)) cause out.old out.new) }
-{
-    let mut line = Bytes::new(alloc);
-    gone_line(alloc, number, &mut line)?;
     put_text(line.as_slice(), out)
 }
 
@@ -87,9 +77,15 @@ impl ReadsEntries for VerifyAll {
         }
     }
 
-    fn last<O: Sink>(&self, _: Global, sound: bool, _: &Shelf, _: &mut O) -> Result<(), Cause> {
+    fn last<O: Sink>(
+        &self,
+        _: Global,
+        sound: bool,
+        _: &Shelf,
+        _: &mut O,
+    ) -> Result<Option<Note>, Cause> {
         if sound {
-            Ok(())
+            Ok(None)
         } else {
             Err(Cause::Refused(Refusal::BadChecksum))
         }

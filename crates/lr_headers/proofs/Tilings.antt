@@ -1,16 +1,53 @@
 -- Records one after another.
-use Rattle.std.proofs.Common.{◌≡◌, ◌+◌, ◌≤◌, ◌<◌, inl, inr, ℕ, zero, suc, Bool, true, false, not, ◌&&◌, eqb, List, []}
-use Rattle.std.proofs.Common.{◌∷◌, ◌++◌, Option, Some, None, cond, length, All, refl, sym, ap, ◌∙◌, subst, arith}
-use Rattle.std.proofs.lemmas.Bool.{ltb-false, eqb-true}
-use Rattle.std.specs.List.{find}
-use Rattle.lr_headers.specs.Fields.{is_kind, is_sized}
+use Rattle.std.proofs.Common.{
+  ◌≡◌,
+  ◌+◌,
+  ◌≤◌,
+  ◌<◌,
+  inl,
+  inr,
+  ℕ,
+  zero,
+  suc,
+  Bool,
+  true,
+  false,
+  not,
+  ◌&&◌,
+  eqb,
+  eq-eqb,
+  List,
+  [],
+}
+use Rattle.std.proofs.Common.{
+  ◌∷◌,
+  ◌++◌,
+  Option,
+  Some,
+  None,
+  cond,
+  length,
+  get_or,
+  All,
+  refl,
+  sym,
+  ap,
+  ◌∙◌,
+  subst,
+  arith,
+}
+use Rattle.std.proofs.lemmas.Bool.{ltb-false, eqb-true, false_from_ne_true}
+use Rattle.std.specs.List.{find, slice_get}
+use Rattle.lr_headers.specs.Fields.{content_in, content_of, contents_of, data_bits, file_type, is_kind, is_sized}
+use Rattle.lr_headers.specs.declared.contents.Content.{Content}
+use Rattle.lr_headers.specs.declared.contents.Content.TheVariants.{Primary}
 use Rattle.lr_headers.specs.Laws.{HeadersAreOne, HeadersHaveNoFault, HeaderFaultsAreOne}
 use Rattle.lr_headers.specs.Tiling.{Header, IsRecord, IsPrimary, IsTiling, IsFront, IsTiled, fault_at}
 use Rattle.lr_headers.specs.Tiling.{has_wrong_length, header_bytes, kind_at, length_at}
 use Rattle.lr_headers.specs.declared.entry.Entry.{Entry}
 use Rattle.lr_headers.specs.declared.fault.HeaderFault.{HeaderFault}
 
-no_fault : (b : Bool) (f : HeaderFault) (rest : Option HeaderFault) → cond b (Some f) rest ≡ None
+pub no_fault : (b : Bool) (f : HeaderFault) (rest : Option HeaderFault) → cond b (Some f) rest ≡ None
     → (b ≡ false) × (rest ≡ None)
 no_fault true f rest e = absurd (differ f e)
   where
@@ -81,6 +118,56 @@ front_inside bytes (e ∷ es) to least h (suc k) d inside = tiling_inside bytes 
 
 pub tiled_inside : (header : Header) → IsTiled header → All (IsInside header.bytes) header.entries
 tiled_inside header tiled = front_inside header.bytes header.entries (length header.bytes) tiled.least tiled.front
+
+got : (es : List Entry) (k : ℕ) (d e : Entry) → slice_get es k ≡ Some e → get_or es k d ≡ e
+got [] k d e h = absurd (cc)
+got (x ∷ es) zero d e h = cc
+got (x ∷ es) (suc k) d e h = got es k d e h
+
+-- the record that was taken from a place of the records, and stands there
+pub taken : (header : Header) → IsTiled header → (place : ℕ) (e : Entry) → place < length header.entries
+    → e ≡ get_or header.entries place e → IsInside header.bytes e
+taken header tiled place e inside is =
+    subst (λ (x : Entry). IsInside header.bytes x) (sym is) (tiled_inside header tiled place e inside)
+
+taken_is : (header : Header) (place : ℕ) (e other : Entry) → e ≡ get_or header.entries place e
+    → slice_get header.entries place ≡ Some other → e ≡ other
+taken_is header place e other is there = is ∙ got header.entries place e other there
+
+module _ (own header : Header) (same : own ≡ header) (place : ℕ) (e : Entry) (is : e ≡ get_or own.entries place e) where
+  pub contents_taken : (other : Entry) → slice_get header.entries place ≡ Some other
+      → contents_of own.bytes e ≡ contents_of header.bytes other
+  contents_taken other =
+      subst (λ (h : Header). slice_get h.entries place ≡ Some other
+      → contents_of own.bytes e ≡ contents_of h.bytes other) same
+      (λ there. ap (λ (x : Entry). contents_of own.bytes x) (taken_is own place e other is there))
+
+  first_by : (b : Bool) (there : Content) → b ≡ true
+      → Primary (file_type header) (length header.bytes) (data_bits header)
+      ≡ cond b (Primary (file_type header) (length header.bytes) (data_bits header)) there
+  first_by b there h = rw h refl
+
+  later_by : (b : Bool) (there here : Content) → b ≡ false → here ≡ cond b there here
+  later_by b there here h = rw h refl
+
+  pub first_taken : e.at ≡ 0 → (other : Entry) → slice_get header.entries place ≡ Some other
+      → Primary (file_type header) (length header.bytes) (data_bits header) ≡ content_of header other
+  unfolding content_of
+  first_taken at_start other there =
+      let one = taken_is header place e other (subst (λ (h : Header). e ≡ get_or h.entries place e) same is) there in
+      first_by (eqb other.at 0) _ (eq-eqb other.at 0 (sym (ap (λ (x : Entry). x.at) one) ∙ at_start))
+
+  pub later_taken : (e.at ≡ 0 → ⊥) → (other : Entry) → slice_get header.entries place ≡ Some other
+      → content_in e (contents_of own.bytes e) ≡ content_of header other
+  unfolding content_of
+  later_taken not_zero other there =
+      let one = taken_is header place e other (subst (λ (h : Header). e ≡ get_or h.entries place e) same is) there in
+      let contents = contents_taken other there in
+      let both : content_in e (contents_of own.bytes e) ≡ content_in other (contents_of header.bytes other) =
+      ap (λ (x : Entry). content_in x (contents_of own.bytes e)) one
+      ∙ ap (λ (bytes : List ℕ). content_in other bytes) contents in
+      both ∙ later_by (eqb other.at 0) _ (content_in other (contents_of header.bytes other))
+      (false_from_ne_true (eqb other.at 0) (λ h. not_zero (ap (λ (x : Entry). x.at) one ∙ eqb-true other.at 0 h)))
 
 -- ---- searches
 

@@ -1,8 +1,21 @@
 -- What the records of a header say. An accessor takes the first record of its kind.
-use Rattle.std.specs.Prelude.{◌+◌, ◌-◌, ◌==◌, ◌&&◌, not, ℕ, Bool, List, take, drop, Option, slice_index}
+use Rattle.std.specs.Prelude.{◌+◌, ◌-◌, ◌==◌, ◌&&◌, ◌||◌, not, ℕ, Bool, List, take, drop, length, Option, slice_index}
+use Rattle.std.specs.Prelude.{if◌then◌else◌}
 use Rattle.std.specs.Int.{cast_signed, w32}
 use Rattle.std.specs.List.{find, list_any}
 use Rattle.std.specs.Option.{option_map}
+use Rattle.lr_headers.specs.declared.contents.Content.{Content}
+use Rattle.lr_headers.specs.declared.contents.Content.TheVariants.{
+  Primary,
+  Structure as StructureOf,
+  Navigation as NavigationOf,
+  Text,
+  Stamp as StampOf,
+  Key,
+  Segment as SegmentOf,
+  Lossless as LosslessOf,
+  Other,
+}
 use Rattle.lr_headers.specs.declared.entry.Entry.{Entry}
 use Rattle.lr_headers.specs.declared.fields.Structure.{Structure}
 use Rattle.lr_headers.specs.declared.fields.Navigation.{Navigation}
@@ -100,3 +113,21 @@ is_key bytes e = (e.kind == 7) && list_any (λ byte. not (byte == 0)) (contents_
 
 abbrev pub is_encrypted : Header → Bool
 is_encrypted header = list_any (is_key header.bytes) header.entries
+
+-- what the contents of a record say that isn't the first one
+abbrev pub content_in : Entry → List ℕ → Content
+content_in e contents =
+    if e.kind == 1 then StructureOf (structure_in contents)
+    else (if e.kind == 2 then NavigationOf (navigation_in contents)
+    else (if (e.kind == 3) || (e.kind == 4) || (e.kind == 6) then Text
+    else (if e.kind == 5 then StampOf (stamp_in contents)
+    else (if e.kind == 7 then Key
+    else (if is_sized 128 17 e then SegmentOf (segment_in contents)
+    else (if is_sized 131 7 e then LosslessOf (lossless_in contents)
+    else Other))))))
+
+-- what a record of a header says
+unfoldable pub content_of : Header → Entry → Content
+content_of header e =
+    if e.at == 0 then Primary (file_type header) (length header.bytes) (data_bits header)
+    else content_in e (contents_of header.bytes e)

@@ -1,6 +1,9 @@
 -- What is said of all headers.
-use Rattle.std.specs.Prelude.{◌≡◌, ℕ, List}
+use Rattle.std.specs.Prelude.{◌≡◌, ℕ, List, MatchResult}
 use Rattle.lr_headers.specs.declared.fault.HeaderFault.{HeaderFault}
+use Rattle.lr_headers.specs.declared.fields.Stamp.{Stamp}
+use Rattle.lr_headers.specs.Reading.{header_of}
+use Rattle.lr_headers.specs.Stamps.{IsStampText, stamp_text}
 use Rattle.lr_headers.specs.Tiling.{Header, HasHeaderFault, IsHeaderOf}
 
 -- a file proper has at most one header
@@ -17,3 +20,11 @@ HeadersHaveNoFault = (proper : List ℕ) (header : Header) (fault : HeaderFault)
 abbrev pub HeaderFaultsAreOne : Type 0
 HeaderFaultsAreOne = (proper : List ℕ) (fault other : HeaderFault) → HasHeaderFault proper fault
     → HasHeaderFault proper other → fault ≡ other
+
+-- each file proper has a header or a first fault, and `header_of` gives it
+abbrev pub HeadersAreRead : Type 0
+HeadersAreRead = (proper : List ℕ) → MatchResult (header_of proper) (IsHeaderOf proper) (HasHeaderFault proper)
+
+-- a stamp has one text
+abbrev pub StampTextsAreOne : Type 0
+StampTextsAreOne = (stamp : Stamp) (text : List ℕ) → IsStampText stamp text → text ≡ stamp_text stamp

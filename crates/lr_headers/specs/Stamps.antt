@@ -1,8 +1,10 @@
 -- How time stamps are written.
-use Rattle.std.specs.Prelude.{◌≡◌, ◌+◌, ◌/◌, ◌%◌, ◌==◌, ◌&&◌, nat_lt, Bool, true, false, ℕ, List, [], ◌∷◌, codes}
-use Rattle.std.specs.Prelude.{decimal, pos, ◌-ℤ◌}
+use Rattle.std.specs.Prelude.{◌≡◌, ◌+◌, ◌/◌, ◌%◌, ◌==◌, ◌&&◌, nat_lt, Bool, true, false, ℕ, zero, suc, List, [], ◌∷◌}
+use Rattle.std.specs.Prelude.{codes, decimal, pos, ◌-ℤ◌, if◌then◌else◌}
 use Rattle.std.specs.List.{concat}
 use Rattle.jiff.specs.Words.{epoch_day, date_text}
+use Rattle.jiff_core.specs.Calendar.{days_in_month}
+use Rattle.jiff_fmt.specs.Text.{year_text}
 use Rattle.jiff.specs.Types.{Date}
 use Rattle.lr_headers.specs.declared.fields.Stamp.{Stamp}
 
@@ -43,3 +45,35 @@ IsTextIf false stamp text = text ≡ other_text stamp
 
 abbrev pub IsStampText : Stamp → List ℕ → Type 0
 IsStampText stamp text = IsTextIf (is_date stamp) stamp text
+
+-- ---- the same as a function
+
+-- a day of the calendar
+pub record Day : Type 0 where
+  pub year : ℕ
+  pub month : ℕ
+  pub day : ℕ
+
+-- the day after
+abbrev pub next_day : Day → Day
+next_day d =
+    if nat_lt d.day (days_in_month (pos d.year) d.month)
+    then record { year = d.year; month = d.month; day = d.day + 1 }
+    else (if nat_lt d.month 12 then record { year = d.year; month = d.month + 1; day = 1 }
+    else record { year = d.year + 1; month = 1; day = 1 })
+
+-- the day that comes this many days after 1 January 1958
+unfoldable pub day_after : ℕ → Day
+day_after zero = record { year = 1958; month = 1; day = 1 }
+day_after (suc days) = next_day (day_after days)
+
+-- `YYYY-MM-DD`
+abbrev pub day_text : Day → List ℕ
+day_text d = concat (
+    year_text (pos d.year) ∷ codes "-" ∷ two_digits d.month ∷ codes "-" ∷ two_digits d.day ∷ [])
+
+unfoldable pub stamp_text : Stamp → List ℕ
+stamp_text stamp =
+    if is_date stamp
+    then concat (day_text (day_after stamp.days) ∷ codes "T" ∷ clock_text stamp.milliseconds ∷ codes "Z" ∷ [])
+    else other_text stamp

@@ -3,14 +3,19 @@
 ghost use Rattle.std.specs.Prelude.{ℕ, not, take, ◌==◌, ◌≡◌, ◌+◌, ◌≤◌, ◌<◌, length, None, Some, IfOk, IfErr, IfSome};
 ghost use Rattle.std.specs.List.{find, list_any, slice_get};
 ghost use Rattle.std.specs.Option.{option_copied, option_map};
-ghost use Rattle.lr_headers.specs.Fields.{contents_of, data_bits, file_type, first_contents, first_sized};
+ghost use Rattle.lr_headers.specs.Fields.{content_of, contents_of, data_bits, file_type, first_contents, first_sized};
 ghost use Rattle.lr_headers.specs.Fields.{is_encrypted, is_key, is_sized, lossless_of, navigation_of, segment_of};
 ghost use Rattle.lr_headers.specs.Fields.{stamp_of, structure_of};
 ghost use Rattle.lr_headers.specs.Tiling.{HasFaultOrMemory, IsHeaderOf, IsRecord, IsTiled, fault_at, first_fault};
 ghost use Rattle.lr_headers.specs.Tiling.{has_wrong_length, header_length};
 
-use crate::numbers::{i32_at, u16_at, u32_at, u64_at};
-use crate::{Entry, HeaderFault, Lossless, Navigation, Segment, Stamp, Structure};
+use crate::contents::{content_in, lossless_in, navigation_in, segment_in, stamp_in, structure_in};
+use crate::kinds::{
+    KEY, LOSSLESS, LOSSLESS_BYTES, NAVIGATION, NAVIGATION_BYTES, SEGMENT, SEGMENT_BYTES, STAMP,
+    STAMP_BYTES, STRUCTURE, STRUCTURE_BYTES,
+};
+use crate::numbers::{u16_at, u32_at, u64_at};
+use crate::{Content, Entry, HeaderFault, Lossless, Navigation, Segment, Stamp, Structure};
 use std::alloc::Global;
 use std::marker::Model;
 
@@ -23,34 +28,6 @@ const PRIMARY: Entry = Entry {
     at: 0,
     length: PRIMARY_BYTES,
 };
-
-/// The kind of image structure records, and how many bytes each has.
-const STRUCTURE: u8 = 1;
-
-const STRUCTURE_BYTES: u16 = 9;
-
-/// The kind of image navigation records, and how many bytes each has.
-const NAVIGATION: u8 = 2;
-
-const NAVIGATION_BYTES: u16 = 51;
-
-/// The kind of time stamp records, and how many bytes each has.
-const STAMP: u8 = 5;
-
-const STAMP_BYTES: u16 = 10;
-
-/// The kind of key records.
-const KEY: u8 = 7;
-
-/// The kind of segment records, and how many bytes those have that are read.
-const SEGMENT: u8 = 128;
-
-const SEGMENT_BYTES: u16 = 17;
-
-/// The kind of lossless records, and how many bytes those have that are read.
-const LOSSLESS: u8 = 131;
-
-const LOSSLESS_BYTES: u16 = 7;
 
 /// The bytes of a record's kind and length.
 const HEAD: usize = 3;
@@ -110,6 +87,31 @@ impl<'a> Records<'a> {
         self.entries[place]
     }
 
+    /// The contents of the record at this place, which come after its kind and length. The first place is 0.
+    pub fn contents_at(&self, place: usize) -> &[u8]
+        requires { place < length self.now.entries }
+        ensures { (e : Entry) → slice_get self.now.entries place ≡ Some e
+            → result.now ≡ contents_of self.now.bytes e }
+    {
+        contents_of(self.header, self.entries[place])
+    }
+
+    /// What the record at this place says, the first of which is 0.
+    pub fn content(&self, place: usize) -> Content
+        requires { place < length self.now.entries }
+        ensures { (e : Entry) → slice_get self.now.entries place ≡ Some e → result ≡ content_of self.now e }
+    {
+        let entry = self.entries[place];
+        if entry.at == 0 {
+            return Content::Primary {
+                file_type: self.file_type(),
+                header_length: self.header_length(),
+                data_bits: self.data_bits(),
+            };
+        }
+        content_in(entry, contents_of(self.header, entry))
+    }
+
     /// How many bytes the header has.
     pub fn header_length(&self) -> u64
         ensures { result ≡ length self.now.bytes }
@@ -134,36 +136,21 @@ impl<'a> Records<'a> {
         ensures { result ≡ structure_of self.now }
     {
         let contents = self.contents_of_kind(STRUCTURE, STRUCTURE_BYTES)?;
-        Some(Structure {
-            bits: contents[0],
-            columns: u16_at(contents, 1),
-            lines: u16_at(contents, 3),
-            compression: contents[5],
-        })
+        Some(structure_in(contents))
     }
 
     pub fn navigation(&self) -> Option<Navigation>
         ensures { result ≡ navigation_of self.now }
     {
         let contents = self.contents_of_kind(NAVIGATION, NAVIGATION_BYTES)?;
-        Some(Navigation {
-            name: name_in(contents),
-            column_factor: i32_at(contents, 32),
-            line_factor: i32_at(contents, 36),
-            column_offset: i32_at(contents, 40),
-            line_offset: i32_at(contents, 44),
-        })
+        Some(navigation_in(contents))
     }
 
     pub fn stamp(&self) -> Option<Stamp>
         ensures { result ≡ stamp_of self.now }
     {
         let contents = self.contents_of_kind(STAMP, STAMP_BYTES)?;
-        Some(Stamp {
-            form: contents[0],
-            days: u16_at(contents, 1),
-            milliseconds: u32_at(contents, 3),
-        })
+        Some(stamp_in(contents))
     }
 
     /// The first record of kind 128 that has 17 bytes.
@@ -171,15 +158,7 @@ impl<'a> Records<'a> {
         ensures { result ≡ segment_of self.now }
     {
         let contents = self.contents(SEGMENT, SEGMENT_BYTES)?;
-        Some(Segment {
-            image: u16_at(contents, 0),
-            number: u16_at(contents, 2),
-            start_column: u16_at(contents, 4),
-            start_line: u16_at(contents, 6),
-            segments: u16_at(contents, 8),
-            columns: u16_at(contents, 10),
-            lines: u16_at(contents, 12),
-        })
+        Some(segment_in(contents))
     }
 
     /// The first record of kind 131 that has 7 bytes.
@@ -187,11 +166,7 @@ impl<'a> Records<'a> {
         ensures { result ≡ lossless_of self.now }
     {
         let contents = self.contents(LOSSLESS, LOSSLESS_BYTES)?;
-        Some(Lossless {
-            flags: u16_at(contents, 0),
-            block: contents[2],
-            lines: contents[3],
-        })
+        Some(lossless_in(contents))
     }
 
     /// Whether some key record has a content byte that isn't 0.
@@ -232,16 +207,6 @@ fn contents_of(bytes: &[u8], entry: Entry) -> &[u8]
 {
     let start = entry.at as usize;
     &bytes[start + HEAD..start + usize::from(entry.length)]
-}
-
-/// The name in the contents of a navigation record.
-fn name_in(contents: &[u8]) -> [u8; 32]
-    requires { 32 ≤ length contents.now }
-    ensures { result ≡ take 32 contents.now }
-{
-    let mut name = [0; 32];
-    name.copy_from_slice(&contents[..32]);
-    name
 }
 
 /// The first record of this kind and size.

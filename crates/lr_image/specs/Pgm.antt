@@ -1,7 +1,7 @@
 -- Images as PGM: a head in text, and then the lines.
-use Rattle.std.specs.Prelude.{ℕ, ◌-◌, ◌*◌, ◌/◌, ◌%◌, ◌^◌, nat_le, if◌then◌else◌, List, [], ◌∷◌, codes, decimal, take}
-use Rattle.std.specs.Prelude.{drop}
-use Rattle.std.specs.List.{concat, flat_map}
+use Rattle.std.specs.Prelude.{ℕ, ◌-◌, ◌*◌, ◌/◌, ◌%◌, ◌^◌, ◌++◌, nat_le, if◌then◌else◌, List, [], ◌∷◌, codes}
+use Rattle.std.specs.Prelude.{decimal, drop, map, take}
+use Rattle.std.specs.List.{concat, flat_map, range_with_len}
 use Rattle.lr_image.specs.Picture.{Picture}
 
 -- `P5`, the columns and the lines, and the greatest value of a pixel, each followed by a line feed
@@ -20,3 +20,11 @@ line_pixels picture line = take picture.columns (drop (line * picture.columns) p
 
 abbrev pub line_bytes : Picture → ℕ → List ℕ
 line_bytes picture line = flat_map (pixel_bytes picture.bits) (line_pixels picture line)
+
+-- all lines, one after another
+abbrev pub rows_bytes : Picture → List ℕ
+rows_bytes picture = concat (map (line_bytes picture) (range_with_len 0 picture.lines))
+
+-- the whole text
+unfoldable pub pgm_text : Picture → List ℕ
+pgm_text picture = head_text picture ++ rows_bytes picture

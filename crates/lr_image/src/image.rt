@@ -73,6 +73,7 @@ impl Image {
         ensures value { result.now ≡ self.now.pixels }
         ensures picture { IsPicture self.now }
     {
+        // So the proof sees that the value is a picture.
         let _ = &self.bits;
         self.pixels.as_slice()
     }

@@ -20,6 +20,6 @@ mod shape;
 pub use fault::ImageFault;
 pub use image::Image;
 pub use laws::outcomes_are_one;
-pub use pgm::{pgm_head, pgm_line};
+pub use pgm::{pgm_head, pgm_line, write_pixels};
 pub use reading::image_of;
 pub use shape::{MOST_PIXELS, Shape};

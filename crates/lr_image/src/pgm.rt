@@ -1,6 +1,7 @@
 //! Images as PGM.
 
-ghost use Rattle.std.specs.Prelude.{◌≡◌, ◌<◌, ◌^◌, ◌%◌, ◌++◌, map, All, IfOk, OnErr, OnOk, string_bytes};
+ghost use Rattle.std.specs.Prelude.{◌≡◌, ◌<◌, ◌≤◌, ◌^◌, ◌*◌, ◌%◌, ◌++◌, length, map, take, All, IfOk, OnErr, OnOk};
+ghost use Rattle.std.specs.Prelude.{string_bytes};
 ghost use Rattle.std.specs.List.{flat_map};
 ghost use Rattle.lr_image.specs.Pgm.{head_text, line_bytes, pixel_bytes};
 
@@ -71,4 +72,42 @@ fn wide_bytes(alloc: Global, row: &[u16]) -> Result<Vec<u8>, AllocError>
         bytes.extend_from_slice(&pixel.to_be_bytes())?;
     }
     Ok(bytes)
+}
+
+/// Writes the bytes of pixels, as they stand in a PGM, over the first bytes of `into`, and answers how many these are.
+pub fn write_pixels(pixels: &[u16], bits: u8, into: &mut [u8]) -> usize
+    requires small { All (λ pixel. pixel < 2 ^ bits) pixels.now }
+    requires room { 2 * length pixels.now ≤ length into.old }
+    ensures within { result ≤ length into.old }
+    ensures written { take result into.new ≡ flat_map (pixel_bytes bits) pixels.now }
+{
+    if bits <= BYTE_BITS {
+        write_low_bytes(pixels, into);
+        pixels.len()
+    } else {
+        write_wide_bytes(pixels, into);
+        2 * pixels.len()
+    }
+}
+
+/// Writes the least significant byte of each pixel.
+fn write_low_bytes(pixels: &[u16], into: &mut [u8])
+    requires { length pixels.now ≤ length into.old }
+    ensures { take (length pixels.now) into.new ≡ map (λ pixel. pixel % 256) pixels.now }
+{
+    for place in 0..pixels.len() {
+        into[place] = (pixels[place] % 256) as u8;
+    }
+}
+
+/// Writes both bytes of each pixel.
+fn write_wide_bytes(pixels: &[u16], into: &mut [u8])
+    requires { 2 * length pixels.now ≤ length into.old }
+    ensures { take (2 * length pixels.now) into.new ≡ flat_map (pixel_bytes 16) pixels.now }
+{
+    for place in 0..pixels.len() {
+        let pixel = pixels[place];
+        into[2 * place] = (pixel / 256) as u8;
+        into[2 * place + 1] = (pixel % 256) as u8;
+    }
 }

@@ -68,6 +68,16 @@ fn symbol_of_byte(byte: u8) -> i8
     byte.cast_signed()
 }
 
+/// Writes the bytes, read as signed ones, over as many symbols.
+fn write_bytes(symbols: &mut [i8], piece: &[u8])
+    requires { length symbols.old ≡ length piece.now }
+    ensures { symbols.new ≡ symbols_of piece.now }
+{
+    for i in 0..piece.len() {
+        symbols[i] = symbol_of_byte(piece[i]);
+    }
+}
+
 /// Puts the bytes, read as signed ones, after the symbols. There is room for them.
 fn put_bytes(symbols: &mut Vec<i8>, piece: &[u8])
     requires room { length symbols.old.items + length piece.now ≤ LOCK_SYMBOLS }
@@ -75,11 +85,11 @@ fn put_bytes(symbols: &mut Vec<i8>, piece: &[u8])
     ensures items { symbols.new.items ≡ symbols.old.items ++ symbols_of piece.now }
     ensures capacity { LOCK_SYMBOLS ≤ vec_capacity symbols.new }
 {
-    for byte in piece {
-        if symbols.push(symbol_of_byte(*byte)).is_err() {
-            unreachable!();
-        }
+    let before = symbols.len();
+    if symbols.resize(before + piece.len(), 0).is_err() {
+        unreachable!();
     }
+    write_bytes(&mut symbols[before..], piece);
 }
 
 impl Lock {

@@ -27,7 +27,7 @@ use Rattle.lr_vc.specs.Runs.{AreFrames}
 use Rattle.lr_vc.specs.Packets.{packets_at, packets_of}
 use Rattle.lr_receiving.specs.Packets.{frames_read, packets_read, lines_from, lines_of_packets}
 use Rattle.lr_receiving.specs.Added.{packets_added, lines_added}
-use Rattle.lr_receiving.proofs.PacketsText.{packets_read-good, packets_read-bad, lines_from-append}
+use Rattle.lr_receiving.proofs.PacketsText.{packets_read-good, packets_read-bad, lines_from-none, lines_from-append}
 
 -- whatever is known to stand after the packets is what was added
 pub added_is : (frames : List (List ℕ)) (frame : List ℕ) (more : List Packet)
@@ -65,8 +65,8 @@ packets_read-push frames frame all whole = cases (frame_of frame) refl where
       same ∙ ap (λ l. packets_read frames ++ l) (sym (added_is frames frame [] same))
 
 pub lines_of_packets-none : lines_of_packets [] ≡ []
-unfolding lines_of_packets packets_read frames_read lines_from packets_of
-lines_of_packets-none = refl
+unfolding lines_of_packets packets_read frames_read packets_of
+lines_of_packets-none = lines_from-none 0
 
 pub lines_of_packets-push : (frames : List (List ℕ)) (frame : List ℕ) → AreFrames (frames_read frames)
     → length frame ≡ 892 → lines_of_packets (frames ++ frame ∷ []) ≡ lines_of_packets frames ++ lines_added frames frame

@@ -1,6 +1,8 @@
 -- Causes and counts.
-use Rattle.std.proofs.Common.{◌≡◌, inl, inr, ℕ, subst, arith}
+use Rattle.std.proofs.Common.{◌≡◌, inl, inr, ℕ, subst, sym, arith}
 use Rattle.lr_bits.specs.Faults.{Rose}
+use Rattle.lr_io.specs.declared.sink.Sink.{Ghosts as SinkOf}
+use Rattle.lr_disk.specs.declared.disk.Disk.{Ghosts as DiskOf}
 use Rattle.lr_commands.specs.declared.cause.Cause.{Cause}
 use Rattle.lr_commands.specs.declared.cause.Cause.TheVariants.{Failed}
 use Rattle.lr_commands.specs.declared.cause.Party.TheVariants.{Source, Disk, Output}
@@ -25,3 +27,12 @@ caused_beside (Failed Source) s s' d d' o o' c = absurd (none_rose c)
 caused_beside (Failed Disk) s s' d d' o o' c = c
 caused_beside (Failed Output) s s' d d' o o' c = c
 caused_beside _ s s' d d' o o' c = c
+
+-- the same disk and the same sink
+pub caused_same : {D O : Type 0} (disk : DiskOf D) (out : SinkOf O) (cause : Cause) (s s' d o : ℕ) (d1 d2 : D)
+    (o1 o2 : O) → IsCaused cause (counts s d o) (counts s' (disk.faults d1) (out.faults o1)) → d2 ≡ d1 → o2 ≡ o1
+    → IsCaused cause (counts s d o) (counts s' (disk.faults d2) (out.faults o2))
+caused_same {D} {O} disk out cause s s' d o d1 d2 o1 o2 caused same_disk same_out =
+    subst (λ (x : O). IsCaused cause (counts s d o) (counts s' (disk.faults d2) (out.faults x))) (sym same_out)
+    (subst (λ (x : D). IsCaused cause (counts s d o) (counts s' (disk.faults x) (out.faults o1))) (sym same_disk)
+    caused)

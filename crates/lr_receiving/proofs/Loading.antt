@@ -49,11 +49,12 @@ use Rattle.lr_commands.specs.declared.cause.Party.TheVariants.{Disk, Output}
 use Rattle.lr_commands.specs.declared.cause.Refusal.TheVariants.{NotAShelf, Capacity}
 use Rattle.lr_commands.specs.Causes.{cause_of}
 use Rattle.lr_conv.specs.declared.line.LineCode.{LineCode}
-use Rattle.lr_receiving.specs.declared.input.Input.{Input}
-use Rattle.lr_receiving.specs.declared.input.Input.TheVariants.{Symbols, Units}
+use Rattle.lr_reading.specs.declared.input.Input.{Input}
+use Rattle.lr_reading.specs.declared.input.Input.TheVariants.{Symbols, Units}
 use Rattle.lr_receiving.specs.Causes.{cause_at}
-use Rattle.lr_receiving.specs.Inputs.{unit_bytes, outcomes_of_bytes, files_of_bytes}
-use Rattle.lr_receiving.specs.Reading.{IsRead}
+use Rattle.lr_reading.specs.Inputs.{unit_bytes, outcomes_of_bytes}
+use Rattle.lr_receiving.specs.Inputs.{files_of_bytes}
+use Rattle.lr_reading.specs.Reading.{IsRead}
 use Rattle.lr_receiving.specs.Shelving.{next_number, shelved_lines, LeavesFronts}
 use Rattle.lr_receiving.specs.Shelved.{MayStop}
 use Rattle.lr_receiving.specs.Receive.{
@@ -69,11 +70,9 @@ use Rattle.lr_receiving.specs.Reception.{EndsRun}
 use Rattle.lr_receiving.proofs.Growing.{some, none_in}
 use Rattle.lr_receiving.proofs.Headline.{receives}
 use Rattle.lr_receiving.proofs.ReceiveEnding.{front_none, loaded}
-use Rattle.lr_receiving.proofs.ReceiveLoop.{no_files, positive, outcomes_are, files_are, outcomes_of_units-none}
 use Rattle.lr_receiving.proofs.ShelvedLines.{shelved_lines-none}
 use Rattle.lr_receiving.proofs.Shelving.{rose_of, same_of}
-use Rattle.lr_receiving.proofs.UnitsOf.{units_are}
-use Rattle.lr_receiving.proofs.WindowLoop.{files_all}
+use Rattle.lr_receiving.proofs.Taking.{no_bytes}
 
 -- ---- the causes of what `load` refuses
 
@@ -113,18 +112,6 @@ module _ {D : Type 0} (disk : DiskOf D) (d : D) where
   load_work _ refusal done = absurd refusal
 
 -- ---- no bytes have no files
-
-no_symbols : (line : LineCode) → outcomes_of_bytes (Symbols line) [] ≡ []
-unfolding outcomes_of_bytes Rattle.lr_frame.specs.Outcomes.outcomes_of_symbols frames_of
-no_symbols line = refl
-
-pub no_bytes : (input : Input) → files_of_bytes input [] ≡ []
-no_bytes (Symbols line) = files_all line [] [] (no_symbols line) ∙ no_files
-no_bytes (Units form) =
-    let n = unit_bytes form in
-    let more : 0 < n = positive form n refl in
-    let none = units_are n more [] [] (All-nil (λ (u : List ℕ). length u ≡ n)) more in
-    files_are form [] [] (outcomes_are form [] [] none ∙ outcomes_of_units-none form) ∙ no_files
 
 -- a full shelf has read some
 full_reads : {S : Type 0} (source : SourceOf S) (input : Input) (limit : ℕ) (bytes : List ℕ) (s s' : S)

@@ -42,7 +42,7 @@ use Rattle.lr_receiving.specs.Causes.{counts}
 use Rattle.lr_commands.specs.Causes.{IsCaused}
 use Rattle.lr_receiving.specs.Made.{bytes_of_symbols, MakeEnds}
 use Rattle.lr_commands.specs.Puts.{Puts, PutFails}
-use Rattle.lr_receiving.proofs.Putting.{put_behind}
+use Rattle.lr_receiving.proofs.Lines.{put_behind}
 
 pub symbols_more : (start wrong n : ℕ) → bytes_of_symbols (symbol_stream start wrong (n + 1))
     ≡ bytes_of_symbols (symbol_stream start wrong n) ++ bytes_of_symbols (symbols_at start wrong n)

@@ -7,7 +7,6 @@ use Rattle.std.proofs.Common.{
   ◌/◌,
   ◌%◌,
   ◌<◌,
-  lit<,
   List,
   [],
   ◌∷◌,
@@ -15,11 +14,10 @@ use Rattle.std.proofs.Common.{
   length,
   ap,
   ◌∙◌,
+  sym,
   arith,
   length-append,
 }
-use Rattle.std.specs.Prelude.{All}
-use Rattle.std.specs.List.{concat}
 use Rattle.lr_bits.specs.Packet.{Packet}
 use Rattle.lr_vc.specs.Standing.{Kept, StandsFor}
 use Rattle.lr_packet.specs.Verdict.{good_packets}
@@ -27,15 +25,21 @@ use Rattle.lr_packet.proofs.VerdictLemmas.{good_packets-append}
 use Rattle.lr_catalog.specs.declared.stop.Stop.{Stop}
 use Rattle.lr_catalog.specs.declared.summary.Summary.TheVariants.{Packets}
 use Rattle.lr_catalog.specs.Summaries.{summary_line}
-use Rattle.lr_receiving.specs.declared.counted.Counted.{Counted}
+use Rattle.lr_io.specs.declared.source.Source.{Ghosts as SourceOf}
+use Rattle.lr_reading.specs.Reading.{units_of}
+use Rattle.lr_reading.specs.Runs.{ReadsInput}
+use Rattle.lr_reading.specs.declared.input.Input.TheVariants.{Units}
+use Rattle.lr_reading.specs.declared.input.UnitForm.TheVariants.{Frames}
+use Rattle.lr_reading.specs.declared.totals.Totals.{Totals}
+use Rattle.lr_receiving.specs.declared.packet_count.PacketCount.{PacketCount}
 use Rattle.lr_receiving.specs.Packets.{frames_read, packets_read, lines_from, packets_count, packets_last}
 use Rattle.lr_receiving.specs.Added.{packets_added, lines_added}
 use Rattle.lr_receiving.specs.PacketsRead.{IsAfter, IsCounted}
 use Rattle.lr_receiving.proofs.Adding.{packets_read-push}
-use Rattle.lr_receiving.proofs.UnitsOf.{long, units_are}
+use Rattle.lr_receiving.proofs.FramesGoOn.{frames_counted}
 
 -- what was composed is what is added
-pub lines_are : (channels : Kept) (counted : Counted) (frames : List (List ℕ)) (frame : List ℕ)
+pub lines_are : (channels : Kept) (counted : PacketCount) (frames : List (List ℕ)) (frame : List ℕ)
     → IsAfter channels counted frames
     → (cleared items listed : List Packet) → cleared ≡ [] → items ≡ cleared ++ packets_added frames frame
     → listed ≡ items
@@ -50,7 +54,7 @@ lines_are channels counted frames frame after cleared items listed none read sam
     ∙ ap (λ k. lines_from k (packets_added frames frame)) after.all.packets
 
 -- the packets that were counted are those that are added
-pub counted_on : (channels now : Kept) (counted then : Counted) (frames : List (List ℕ)) (frame : List ℕ)
+pub counted_on : (channels now : Kept) (counted then : PacketCount) (frames : List (List ℕ)) (frame : List ℕ)
     → IsAfter channels counted frames → length frame ≡ 892
     → StandsFor now (frames_read (frames ++ frame ∷ []))
     → (cleared items listed : List Packet) → cleared ≡ [] → items ≡ cleared ++ packets_added frames frame
@@ -87,7 +91,7 @@ counted_on channels now counted then frames frame after whole stands cleared ite
     }
 
 -- the last line of the packets that were counted
-pub counted_line : (counted : Counted) (frames : List (List ℕ)) (count rest : ℕ) (stop : Stop)
+pub counted_line : (counted : PacketCount) (frames : List (List ℕ)) (count rest : ℕ) (stop : Stop)
     → IsCounted counted frames → summary_line (Packets count counted.packets counted.good rest) stop
     ≡ packets_count frames count rest stop
 unfolding packets_count
@@ -96,15 +100,10 @@ counted_line counted frames count rest stop all =
     ∙ ap (λ k. summary_line (Packets count (length (packets_read frames)) k rest) stop) all.good
 
 -- it says how many frames and packets there are, and how long the rest is
-pub packets_last-units : (units : List (List ℕ)) (held : List ℕ) (count rest : ℕ) (stop : Stop)
-    → All (λ unit. length unit ≡ 892) units → length held < 892 → count ≡ length units → length held ≡ rest
-    → packets_last (concat units ++ held) stop ≡ packets_count units count rest stop
-packets_last-units units held count rest stop whole short counted is =
-    let bytes = concat units ++ held in
-    let all : length bytes ≡ 892 * length units + length held = long 892 (lit< tt) units held whole short in
-    let quotient : length bytes / 892 ≡ count = omega (arith, all, short, counted) in
-    let remainder : length bytes % 892 ≡ rest = omega (arith, all, short, is) in
-    ap (λ u. packets_count u (length bytes / 892) (length bytes % 892) stop)
-    (units_are 892 (lit< tt) units held whole short)
-    ∙ ap (λ k. packets_count units k (length bytes % 892) stop) quotient
-    ∙ ap (λ k. packets_count units count k stop) remainder
+pub packets_last_is : {S : Type 0} (source : SourceOf S) (limit : ℕ) (totals : Totals) (bytes : List ℕ) (s s' : S)
+    → ReadsInput source (Units Frames) limit totals bytes s s'
+    → packets_last bytes totals.stop ≡ packets_count (units_of 892 bytes) totals.frames totals.left totals.stop
+packets_last_is source limit totals bytes s s' ends =
+    ap (λ k. packets_count (units_of 892 bytes) k (length bytes % 892) totals.stop)
+    (sym (ends.frames ∙ frames_counted bytes))
+    ∙ ap (λ k. packets_count (units_of 892 bytes) totals.frames k totals.stop) (sym ends.left)

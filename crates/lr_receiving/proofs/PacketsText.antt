@@ -8,20 +8,16 @@ use Rattle.std.proofs.Common.{
   ◌∷◌,
   ◌++◌,
   length,
-  map,
   ap,
   ◌∙◌,
   sym,
   refl,
-  arith,
   append-nil,
   Ok,
   Err,
 }
-use Rattle.std.specs.List.{concat, enumerate_from, filter_map}
+use Rattle.std.specs.List.{filter_map}
 use Rattle.std.specs.Result.{result_ok}
-use Rattle.std.proofs.lemmas.List.{map-append}
-use Rattle.std.proofs.lemmas.List.Folds.{concat-append}
 use Rattle.std.proofs.lemmas.List.Elements.{filter_map-append}
 use Rattle.lr_bits.specs.Packet.{Packet}
 use Rattle.lr_vc.specs.Frame.{Fields, frame_of}
@@ -29,37 +25,23 @@ use Rattle.lr_vc.specs.Runs.{AreFrames}
 use Rattle.lr_vc.specs.Packets.{packets_of, packets_at}
 use Rattle.lr_vc.proofs.History.{packets_of-more}
 use Rattle.lr_catalog.specs.Packets.{packet_line}
+use Rattle.lr_reading.proofs.Numbered.{numbered_lines-none, numbered_lines-append, numbered_lines-push}
 use Rattle.lr_receiving.specs.Packets.{frames_read, packets_read, lines_from}
-
-pub enumerate_from-append : {X : Type 0} (n : ℕ) (xs ys : List X) → enumerate_from n (xs ++ ys)
-    ≡ enumerate_from n xs ++ enumerate_from (n + length xs) ys
-enumerate_from-append {X} n [] ys = ap (λ k. enumerate_from k ys) (omega arith)
-enumerate_from-append {X} n (x ∷ xs) ys =
-    ap (λ l. (n, x) ∷ l) (enumerate_from-append (n + 1) xs ys
-    ∙ ap (λ k. enumerate_from (n + 1) xs ++ enumerate_from k ys) (omega arith))
 
 pub lines_from-none : (number : ℕ) → lines_from number [] ≡ []
 unfolding lines_from
-lines_from-none number = refl
+lines_from-none number = numbered_lines-none packet_line number
 
 pub lines_from-append : (number : ℕ) (xs ys : List Packet) → lines_from number (xs ++ ys) ≡ lines_from number xs
     ++ lines_from (number + length xs) ys
 unfolding lines_from
-lines_from-append number xs ys =
-    let line : ℕ × Packet → List ℕ = λ p. packet_line p.0 p.1 in
-    ap (λ l. concat (map line l)) (enumerate_from-append number xs ys)
-    ∙ ap concat (map-append line (enumerate_from number xs) (enumerate_from (number + length xs) ys))
-    ∙ concat-append (map line (enumerate_from number xs)) (map line (enumerate_from (number + length xs) ys))
-
-one_line : (number : ℕ) (packet : Packet) → lines_from number (packet ∷ []) ≡ packet_line number packet
-unfolding lines_from
-one_line number packet = append-nil (packet_line number packet)
+lines_from-append number xs ys = numbered_lines-append packet_line number xs ys
 
 pub lines_from-push : (number : ℕ) (packets : List Packet) (packet : Packet)
     → lines_from number (packets ++ packet ∷ []) ≡ lines_from number packets
     ++ packet_line (number + length packets) packet
-lines_from-push number packets packet = lines_from-append number packets (packet ∷ [])
-    ∙ ap (λ l. lines_from number packets ++ l) (one_line (number + length packets) packet)
+unfolding lines_from
+lines_from-push number packets packet = numbered_lines-push packet_line number packets packet
 
 -- a frame of version 1 joins the frames read, and another one doesn't
 pub frames_read-good : (frames : List (List ℕ)) (frame : List ℕ) (fields : Fields) → frame_of frame ≡ Ok fields

@@ -34,7 +34,8 @@ use Rattle.lr_layers.proofs.GoingOn.{go_on}
 use Rattle.lr_commands.specs.declared.cause.Cause.{Cause}
 use Rattle.lr_commands.specs.declared.cause.Cause.TheVariants.{NoMemory}
 use Rattle.lr_receiving.specs.Shelving.{Stops}
-use Rattle.lr_receiving.specs.Shelved.{HasWholeFrame, ShelvesSoFar, Midway, Grows, GrowsNoMore, GainsNoMore}
+use Rattle.lr_reading.specs.Arrivals.{HasWholeFrame}
+use Rattle.lr_receiving.specs.Shelved.{ShelvesSoFar, Midway, Grows, GrowsNoMore, GainsNoMore}
 use Rattle.lr_receiving.proofs.WholeFrames.{with_outcome}
 use Rattle.lr_receiving.proofs.Growing.{grows_on, stops_after, stops_before, stops_for_memory}
 use Rattle.lr_receiving.proofs.Shelving.{out_of_memory}

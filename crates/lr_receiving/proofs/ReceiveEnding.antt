@@ -36,17 +36,19 @@ use Rattle.lr_commands.specs.declared.cause.Cause.{Cause}
 use Rattle.lr_commands.specs.declared.cause.Cause.TheVariants.{Failed, NoMemory, Refused}
 use Rattle.lr_commands.specs.declared.cause.Party.TheVariants.{Source, Disk, Output}
 use Rattle.lr_commands.specs.declared.cause.Refusal.TheVariants.{Capacity}
-use Rattle.lr_receiving.specs.declared.ended.Ended.{Ended}
-use Rattle.lr_receiving.specs.declared.input.Input.{Input}
+use Rattle.lr_receiving.specs.declared.sums.Sums.{Sums}
+use Rattle.lr_reading.specs.Runs.{ReadsInput}
+use Rattle.lr_reading.proofs.Coming.{outcomes_counted}
+use Rattle.lr_reading.specs.declared.input.Input.{Input}
 use Rattle.lr_receiving.specs.Causes.{IsEarlier, cause_at}
-use Rattle.lr_receiving.specs.Inputs.{outcomes_of_bytes, files_of_bytes}
+use Rattle.lr_reading.specs.Inputs.{outcomes_of_bytes}
+use Rattle.lr_receiving.specs.Inputs.{files_of_bytes}
 use Rattle.lr_commands.specs.Puts.{PutFails}
 use Rattle.lr_receiving.specs.Shelving.{next_number, shelved_lines, StandsForFront, StopsBy}
 use Rattle.lr_receiving.specs.Shelved.{MayStop, ShelvesSoFar, Grows, GrowsNoMore}
 use Rattle.lr_receiving.specs.Receive.{counts_line, receive_count, receive_last, IsWorkDone, Finishes, Ends}
 use Rattle.lr_receiving.specs.Reception.{
-  IsCountOf,
-  ended_line,
+  sums_line,
   PutsLast,
   LastStops,
   ReadsAll,
@@ -56,17 +58,21 @@ use Rattle.lr_receiving.specs.Reception.{
 }
 use Rattle.lr_receiving.proofs.ShelvedLines.{shelved_lines-none}
 
--- the last line tells what was counted
-pub last_line : (input : Input) (bytes : List ℕ) (ended : Ended) → IsCountOf input bytes ended
-    → ended_line ended ≡ receive_last input bytes ended.stop
+-- the last line tells what was read and counted
+pub last_line : {S : Type 0} (source : SourceOf S) (input : Input) (limit : ℕ) (bytes : List ℕ) (s s' : S) (sums : Sums)
+    → ReadsInput source input limit sums.totals bytes s s'
+    → numbers sums.counts ≡ numbers_of (outcomes_of_bytes input bytes)
+    → sums_line sums ≡ receive_last input bytes sums.totals.stop
 unfolding receive_last receive_count
-last_line input bytes ended is =
-    ap (λ k. counts_line k ended.frames (numbers ended.counts) ended.left ended.stop) is.symbols
-    ∙ ap (λ k. counts_line (length bytes) k (numbers ended.counts) ended.left ended.stop) is.frames
-    ∙ ap (λ (n : Numbers). counts_line (length bytes) (length (outcomes_of_bytes input bytes)) n ended.left
-    ended.stop) is.counts
+last_line source input limit bytes s s' sums ends counted =
+    let totals = sums.totals in
+    ap (λ k. counts_line k totals.frames (numbers sums.counts) totals.left totals.stop) ends.symbols
+    ∙ ap (λ k. counts_line (length bytes) k (numbers sums.counts) totals.left totals.stop)
+    (ends.frames ∙ sym (outcomes_counted input bytes))
+    ∙ ap (λ (n : Numbers). counts_line (length bytes) (length (outcomes_of_bytes input bytes)) n totals.left
+    totals.stop) counted
     ∙ ap (λ k. counts_line (length bytes) (length (outcomes_of_bytes input bytes))
-    (numbers_of (outcomes_of_bytes input bytes)) k ended.stop) is.left
+    (numbers_of (outcomes_of_bytes input bytes)) k totals.stop) ends.left
 
 module _ {D O : Type 0} (disk : DiskOf D) (out : SinkOf O) (capacity : ℕ) (before : List Item) (d d1 : D) (o : O) where
   pub front_none : (bytes : List ℕ) → StandsFor bytes capacity before → StandsForFront capacity before [] 0 bytes
@@ -167,23 +173,23 @@ module _ {S D O : Type 0} (source : SourceOf S) (disk : DiskOf D) (out : SinkOf 
       over = over_some cause may some.grown;
     }
 
-    module _ (ended : Ended) (shelf1 : Shelf)
-        (all : ReadsAll source disk out input limit ended shelf shelf1 s s' d d1 o o1) (o2 : O) where
-      line_is : ended_line ended ≡ receive_last input all.bytes ended.stop
-      line_is = last_line input all.bytes ended all.count
+    module _ (sums : Sums) (shelf1 : Shelf)
+        (all : ReadsAll source disk out input limit sums shelf shelf1 s s' d d1 o o1) (o2 : O) where
+      line_is : sums_line sums ≡ receive_last input all.bytes sums.totals.stop
+      line_is = last_line source input limit all.bytes s s' sums all.ends all.counts
 
       -- a part of the last line was put
-      summary_cut : PutFails out (ended_line ended) o1 o2
+      summary_cut : PutFails out (sums_line sums) o1 o2
           → EndsRun source disk out input limit (Failed Output) shelf s s' d d1 o o2
       summary_cut fails = record {
         bytes = all.bytes;
-        read = all.read;
+        read = all.ends.read;
         ends = λ capacity before d0 o0 begun.
             let so_far = all.shelved capacity before d0 o0 begun in (
               so_far.any_moment,
               inr (record {
-                stop = ended.stop;
-                reason = all.reason;
+                stop = sums.totals.stop;
+                reason = all.ends.reason;
                 durable = so_far.settled.on_disk;
                 part = λ t.
                     let cut = fails.part (so_far.put.told t) in
@@ -206,7 +212,7 @@ module _ {S D O : Type 0} (source : SourceOf S) (disk : DiskOf D) (out : SinkOf 
       no_summary : o2 ≡ o1 → EndsRun source disk out input limit NoMemory shelf s s' d d1 o o2
       no_summary same = record {
         bytes = all.bytes;
-        read = all.read;
+        read = all.ends.read;
         ends = λ capacity before d0 o0 begun.
             let so_far = all.shelved capacity before d0 o0 begun in (
               so_far.any_moment,
@@ -222,32 +228,32 @@ module _ {S D O : Type 0} (source : SourceOf S) (disk : DiskOf D) (out : SinkOf 
       }
 
       -- the last line wasn't put
-      pub last_stopped : (cause : Cause) → LastStops out ended cause o1 o2
+      pub last_stopped : (cause : Cause) → LastStops out sums cause o1 o2
           → EndsRun source disk out input limit cause shelf s s' d d1 o o2
       last_stopped (Failed Output) stops = summary_cut stops
       last_stopped NoMemory stops = no_summary stops
       last_stopped _ stops = absurd stops
 
       -- it was put
-      pub all_put : PutsLast out ended o1 o2
-          → EndsRun source disk out input limit (cause_at ended.stop) shelf s s' d d1 o o2
+      pub all_put : PutsLast out sums o1 o2
+          → EndsRun source disk out input limit (cause_at sums.totals.stop) shelf s s' d d1 o o2
       all_put put = record {
         bytes = all.bytes;
-        read = all.read;
+        read = all.ends.read;
         ends = λ capacity before d0 o0 begun.
             let so_far = all.shelved capacity before d0 o0 begun in
             let files = files_of_bytes input all.bytes in (
               so_far.any_moment,
-              ends_at capacity before all.bytes s s' d0 d1 o0 o2 ended.stop (record {
-                reason = all.reason;
+              ends_at capacity before all.bytes s s' d0 d1 o0 o2 sums.totals.stop (record {
+                reason = all.ends.reason;
                 durable = so_far.settled.on_disk;
                 got = λ t.
-                    put.put (so_far.put.told t) ∙ ap (λ (l : List ℕ). l ++ ended_line ended) (so_far.put.put t)
-                    ∙ append_assoc (out.contents o0) (shelved_lines (next_number before) files) (ended_line ended)
+                    put.put (so_far.put.told t) ∙ ap (λ (l : List ℕ). l ++ sums_line sums) (so_far.put.put t)
+                    ∙ append_assoc (out.contents o0) (shelved_lines (next_number before) files) (sums_line sums)
                     ∙ ap (λ (l : List ℕ). out.contents o0 ++ (shelved_lines (next_number before) files ++ l)) line_is;
                 disk_count = so_far.disk_count;
                 out_count = put.kept ∙ so_far.put.kept;
               }),
             );
-        over = over_done all.grown o2 ended.stop;
+        over = over_done all.grown o2 sums.totals.stop;
       }

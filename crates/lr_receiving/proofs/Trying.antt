@@ -60,21 +60,21 @@ use Rattle.lr_commands.specs.declared.cause.Cause.{Cause}
 use Rattle.lr_commands.specs.declared.cause.Cause.TheVariants.{Done, Failed, NoMemory, Refused}
 use Rattle.lr_commands.specs.declared.cause.Party.TheVariants.{Disk, Output}
 use Rattle.lr_commands.specs.declared.cause.Refusal.TheVariants.{NotAShelf, Capacity, NotEmpty}
-use Rattle.lr_receiving.specs.declared.ended.Ended.{Ended}
+use Rattle.lr_receiving.specs.declared.sums.Sums.{Sums}
 use Rattle.lr_conv.specs.declared.line.TheConstants.{STANDARD}
-use Rattle.lr_receiving.specs.declared.input.Input.TheVariants.{Symbols}
+use Rattle.lr_reading.specs.declared.input.Input.TheVariants.{Symbols}
 use Rattle.lr_commands.specs.Causes.{cause_of, IsCaused}
 use Rattle.lr_receiving.specs.Causes.{IsEarlier, counts}
 use Rattle.lr_receiving.specs.Inputs.{files_of_bytes}
-use Rattle.lr_receiving.specs.Reading.{IsRead, EndsFor}
+use Rattle.lr_reading.specs.Reading.{IsRead, EndsFor}
 use Rattle.lr_receiving.specs.Receive.{receive_last}
-use Rattle.lr_receiving.specs.Reception.{ended_line, LastStops, ReadsAll, ReadsSome}
+use Rattle.lr_receiving.specs.Reception.{sums_line, LastStops, ReadsAll, ReadsSome}
 use Rattle.lr_receiving.specs.Shelving.{with_files, StandsForFront, LeavesFronts, StopsBy}
 use Rattle.lr_receiving.specs.Shelved.{MayStop, StopsTrial, ShelvesSoFar}
 use Rattle.lr_receiving.specs.Trial.{trial_capacity, StandsForPart, HoldsPart, DiskEnds, LeavesDisk, TrialRun}
 use Rattle.lr_receiving.proofs.Causing.{none_rose}
 use Rattle.lr_receiving.proofs.Headline.{end_of-append}
-use Rattle.lr_receiving.proofs.Loading.{no_bytes}
+use Rattle.lr_receiving.proofs.Taking.{no_bytes}
 use Rattle.lr_receiving.proofs.ReceiveEnding.{last_line, loaded}
 use Rattle.lr_receiving.proofs.Shelving.{with_files-append, same_of}
 
@@ -275,11 +275,11 @@ module _ {D : Type 0} (disk : DiskOf D) (symbols : List ℕ) (d d1 : D) where
               (λ told. fronts some.bytes split (some.stops trial_capacity [] d1 o (begun told)).any_moment)
 
         -- all of them are shelved
-        module _ (ended : Ended) (shelf' : Shelf)
-            (all : ReadsAll source disk out (Symbols STANDARD) limit ended shelf shelf' s s' d2 d' o o')
+        module _ (sums : Sums) (shelf' : Shelf)
+            (all : ReadsAll source disk out (Symbols STANDARD) limit sums shelf shelf' s s' d2 d' o o')
             (calm : Rose (source.faults s) (source.faults s') → ⊥) where
           split_all : symbols ≡ all.bytes ++ source.left s'
-          split_all = split_of all.bytes all.read
+          split_all = split_of all.bytes all.ends.read
 
           no_longer : length all.bytes ≤ length symbols
           no_longer = omega (arith, ap length split_all, length-append all.bytes (source.left s'))
@@ -289,11 +289,11 @@ module _ {D : Type 0} (disk : DiskOf D) (symbols : List ℕ) (d d1 : D) where
           at_end Limit why = absurd (omega (arith, why.0, no_longer, few))
           at_end Fault why = absurd (calm why.1)
 
-          ended_so : (ended.stop ≡ End) × (all.bytes ≡ symbols)
-          ended_so = at_end ended.stop all.reason
+          ended_so : (sums.totals.stop ≡ End) × (all.bytes ≡ symbols)
+          ended_so = at_end sums.totals.stop all.ends.reason
 
-          pub line : ended_line ended ≡ receive_last (Symbols STANDARD) symbols End
-          line = last_line (Symbols STANDARD) all.bytes ended all.count
+          pub line : sums_line sums ≡ receive_last (Symbols STANDARD) symbols End
+          line = last_line source (Symbols STANDARD) limit all.bytes s s' sums all.ends all.counts
               ∙ ap (λ stop. receive_last (Symbols STANDARD) all.bytes stop) ended_so.0
               ∙ ap (λ bytes. receive_last (Symbols STANDARD) bytes End) ended_so.1
 
@@ -309,36 +309,36 @@ module _ {D : Type 0} (disk : DiskOf D) (symbols : List ℕ) (d d1 : D) where
               (λ told. fronts all.bytes split_all (all.shelved trial_capacity [] d1 o (begun told)).any_moment)
 
         -- ---- for either answer
-        abbrev AnswersAll : Shelf → Result Ended Cause → Type 0
+        abbrev AnswersAll : Shelf → Result Sums Cause → Type 0
         AnswersAll shelf' answer = IfOk answer
-            (λ ended. ReadsAll source disk out (Symbols STANDARD) limit ended shelf shelf' s s' d2 d' o o')
+            (λ sums. ReadsAll source disk out (Symbols STANDARD) limit sums shelf shelf' s s' d2 d' o o')
 
-        abbrev AnswersSome : Result Ended Cause → Type 0
+        abbrev AnswersSome : Result Sums Cause → Type 0
         AnswersSome answer = IfErr answer
             (λ cause. ReadsSome source disk out (Symbols STANDARD) limit cause shelf s s' d2 d' o o')
 
-        pub lines : (shelf' : Shelf) (answer : Result Ended Cause) → AnswersAll shelf' answer
+        pub lines : (shelf' : Shelf) (answer : Result Sums Cause) → AnswersAll shelf' answer
             → (Rose (source.faults s) (source.faults s') → ⊥)
-            → IfOk answer (λ ended. ended_line ended ≡ receive_last (Symbols STANDARD) symbols End)
-        lines shelf' (Ok ended) all calm = line ended shelf' all calm
+            → IfOk answer (λ sums. sums_line sums ≡ receive_last (Symbols STANDARD) symbols End)
+        lines shelf' (Ok sums) all calm = line sums shelf' all calm
         lines shelf' (Err cause) all calm = tt
 
-        pub all_done : (shelf' : Shelf) (answer : Result Ended Cause) → AnswersAll shelf' answer
+        pub all_done : (shelf' : Shelf) (answer : Result Sums Cause) → AnswersAll shelf' answer
             → (Rose (source.faults s) (source.faults s') → ⊥)
             → OnOk answer ((disk.faults d' ≡ disk.faults d2) × (out.faults o' ≡ out.faults o))
             → OnOk answer (LeavesDisk disk symbols Done d d')
-        all_done shelf' (Ok ended) all calm same =
-            finished ended shelf' all calm same.0 (same_of disk d1 d2 result2 shelf is2 loads.calls.counted)
+        all_done shelf' (Ok sums) all calm same =
+            finished sums shelf' all calm same.0 (same_of disk d1 d2 result2 shelf is2 loads.calls.counted)
         all_done shelf' (Err cause) all calm same = tt
 
-        pub some_done : (answer : Result Ended Cause) → AnswersSome answer
+        pub some_done : (answer : Result Sums Cause) → AnswersSome answer
             → (Rose (source.faults s) (source.faults s') → ⊥)
             → end_of (with_files [] (files_of_bytes (Symbols STANDARD) symbols)) ≤ trial_capacity
             → IfErr answer MayStop → (f f' g g' : ℕ)
             → ((kept_by shelf).failed ≡ false
             → IfErr answer (λ cause. IsCaused cause (counts f g 0) (counts f' g' 0)))
             → IfErr answer (λ cause. LeavesDisk disk symbols cause d d')
-        some_done (Ok ended) some calm fit may f f' g g' caused = tt
+        some_done (Ok sums) some calm fit may f f' g g' caused = tt
         some_done (Err cause) some calm fit may f f' g g' caused =
             let working = subst (λ (r : Result Shelf ShelfError). IfOk r (λ x. (kept_by x).failed ≡ false)) is2
             loads.working in
@@ -378,8 +378,8 @@ module _ {D O : Type 0} (disk : DiskOf D) (out : SinkOf O) (symbols : List ℕ) 
         done.any_moment;
   }
 
-  module _ (ended : Ended) (line : ended_line ended ≡ receive_last (Symbols STANDARD) symbols End) where
-    pub last_stops : (cause : Cause) → LastStops out ended cause o o' → TrialRun disk out symbols cause d d' o o'
+  module _ (sums : Sums) (line : sums_line sums ≡ receive_last (Symbols STANDARD) symbols End) where
+    pub last_stops : (cause : Cause) → LastStops out sums cause o o' → TrialRun disk out symbols cause d d' o o'
     last_stops (Failed Output) stops = record {
       on_disk = left_by (Failed Output) done.ends.0;
       on_out = λ told. subst (λ (l : List ℕ). PutsPart l (out.contents o) (out.contents o')) line (stops.part told);

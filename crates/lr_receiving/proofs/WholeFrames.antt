@@ -8,7 +8,7 @@ use Rattle.lr_vc.specs.Frame.{Fields, frame_of}
 use Rattle.lr_vc.specs.Runs.{AreFrames}
 use Rattle.lr_layers.specs.Layers.{frames_of_outcomes}
 use Rattle.lr_layers.proofs.Pushing.{frames_same, frames_more}
-use Rattle.lr_receiving.specs.Shelved.{HasWholeFrame}
+use Rattle.lr_reading.specs.Arrivals.{HasWholeFrame}
 use Rattle.lr_receiving.proofs.Adding.{zone_is}
 
 -- one outcome more, whose frame has 892 bytes if it has one

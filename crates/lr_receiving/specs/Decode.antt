@@ -1,6 +1,5 @@
 -- What `decode` prints of the bytes read.
-use Rattle.std.specs.Prelude.{ℕ, ℤ, not, List, length, map, count_by}
-use Rattle.std.specs.List.{concat, enumerate_from}
+use Rattle.std.specs.Prelude.{ℕ, ℤ, not, List, length, count_by}
 use Rattle.lr_bits.specs.declared.outcome.Outcome.{Outcome}
 use Rattle.lr_layers.specs.Layers.{is_restored}
 use Rattle.lr_catalog.specs.declared.stop.Stop.{Stop}
@@ -13,21 +12,22 @@ use Rattle.lr_lock.specs.FramesOf.{frames_of}
 use Rattle.lr_lock.specs.declared.frame.Frame.{Frame}
 use Rattle.lr_lock.specs.Symbols.{symbols_of}
 use Rattle.lr_frame.specs.Outcomes.{outcome_in}
-use Rattle.lr_receiving.specs.declared.input.UnitForm.{UnitForm}
-use Rattle.lr_receiving.specs.declared.input.Input.{Input}
-use Rattle.lr_receiving.specs.declared.input.Input.TheVariants.{Symbols, Units}
-use Rattle.lr_receiving.specs.Inputs.{unit_bytes, outcome_of_unit, outcomes_of_bytes, left_of}
-use Rattle.lr_receiving.specs.Reading.{units_of}
+use Rattle.lr_reading.specs.declared.input.UnitForm.{UnitForm}
+use Rattle.lr_reading.specs.declared.input.Input.{Input}
+use Rattle.lr_reading.specs.declared.input.Input.TheVariants.{Symbols, Units}
+use Rattle.lr_reading.specs.Inputs.{unit_bytes, outcome_of_unit, outcomes_of_bytes, left_of}
+use Rattle.lr_reading.specs.Lines.{numbered_lines}
+use Rattle.lr_reading.specs.Reading.{units_of}
 
 -- the lines of these blocks, each numbered by its place
 unfoldable pub lines_of_units : UnitForm → List (List ℕ) → List ℕ
-lines_of_units form units = concat (map (λ u. block_line u.0 (outcome_of_unit form u.1)) (enumerate_from 0 units))
+lines_of_units form units = numbered_lines (λ place unit. block_line place (outcome_of_unit form unit)) 0 units
 
 -- the lines of the windows of these frames of some symbols, each numbered by its place among the frames
 unfoldable pub lines_of_windows : LineCode → List ℤ → List Frame → List ℕ
 lines_of_windows line symbols frames =
-    concat (map (λ f. window_line f.0 f.1.place f.1.positive (outcome_in line symbols f.1))
-    (enumerate_from 0 frames))
+    numbered_lines (λ place (frame : Frame).
+    window_line place frame.place frame.positive (outcome_in line symbols frame)) 0 frames
 
 -- a line for the window of each frame of the symbols, or for each whole block
 abbrev pub decode_text : Input → List ℕ → List ℕ

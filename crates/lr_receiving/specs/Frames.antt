@@ -1,17 +1,17 @@
 -- What `frames` prints of the bytes read.
-use Rattle.std.specs.Prelude.{ℕ, ◌/◌, ◌%◌, List, length, map}
-use Rattle.std.specs.List.{concat, enumerate_from}
+use Rattle.std.specs.Prelude.{ℕ, ◌/◌, ◌%◌, List, length}
 use Rattle.lr_bits.specs.declared.sizes.TheConstants.{FRAME_BYTES}
 use Rattle.lr_vc.specs.Frame.{frame_of}
 use Rattle.lr_catalog.specs.declared.stop.Stop.{Stop}
 use Rattle.lr_catalog.specs.declared.summary.Summary.TheVariants.{Frames}
 use Rattle.lr_catalog.specs.Frames.{frame_line}
 use Rattle.lr_catalog.specs.Summaries.{summary_line}
-use Rattle.lr_receiving.specs.Reading.{units_of}
+use Rattle.lr_reading.specs.Lines.{numbered_lines}
+use Rattle.lr_reading.specs.Reading.{units_of}
 
 -- the lines of these frames, each numbered by its place
 unfoldable pub lines_of_frames : List (List ℕ) → List ℕ
-lines_of_frames frames = concat (map (λ f. frame_line f.0 (frame_of f.1)) (enumerate_from 0 frames))
+lines_of_frames frames = numbered_lines (λ place frame. frame_line place (frame_of frame)) 0 frames
 
 -- a line for each whole frame
 abbrev pub frames_text : List ℕ → List ℕ

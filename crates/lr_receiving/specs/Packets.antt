@@ -1,6 +1,6 @@
 -- What `packets` prints of the bytes read.
-use Rattle.std.specs.Prelude.{ℕ, ◌/◌, ◌%◌, List, length, map}
-use Rattle.std.specs.List.{concat, enumerate_from, filter_map}
+use Rattle.std.specs.Prelude.{ℕ, ◌/◌, ◌%◌, List, length}
+use Rattle.std.specs.List.{filter_map}
 use Rattle.std.specs.Result.{result_ok}
 use Rattle.lr_bits.specs.declared.sizes.TheConstants.{FRAME_BYTES}
 use Rattle.lr_bits.specs.Packet.{Packet}
@@ -11,7 +11,8 @@ use Rattle.lr_catalog.specs.declared.stop.Stop.{Stop}
 use Rattle.lr_catalog.specs.declared.summary.Summary.TheVariants.{Packets}
 use Rattle.lr_catalog.specs.Packets.{packet_line}
 use Rattle.lr_catalog.specs.Summaries.{summary_line}
-use Rattle.lr_receiving.specs.Reading.{units_of}
+use Rattle.lr_reading.specs.Lines.{numbered_lines}
+use Rattle.lr_reading.specs.Reading.{units_of}
 
 -- the fields of the frames of version 1
 unfoldable pub frames_read : List (List ℕ) → List Fields
@@ -23,7 +24,7 @@ packets_read frames = packets_of (frames_read frames)
 
 -- the lines of packets, numbered from a number on
 unfoldable pub lines_from : ℕ → List Packet → List ℕ
-lines_from number packets = concat (map (λ p. packet_line p.0 p.1) (enumerate_from number packets))
+lines_from number packets = numbered_lines packet_line number packets
 
 -- the lines of the packets of these frames
 unfoldable pub lines_of_packets : List (List ℕ) → List ℕ

@@ -10,7 +10,7 @@ use Rattle.lr_commands.specs.declared.cause.Cause.{Cause}
 use Rattle.lr_commands.specs.declared.cause.Cause.TheVariants.{Done, Failed, NoMemory}
 use Rattle.lr_commands.specs.declared.cause.Party.TheVariants.{Source, Output}
 use Rattle.lr_commands.specs.Puts.{PutsFront}
-use Rattle.lr_receiving.specs.Reading.{IsRead, EndsFor}
+use Rattle.lr_reading.specs.Reading.{IsRead, EndsFor}
 
 -- The command's lines of the bytes read, its last line of them, and the most bytes that it takes.
 module _ {S O : Type 0} (source : SourceOf S) (out : SinkOf O) (lines : List ℕ → List ℕ) (last : List ℕ → Stop

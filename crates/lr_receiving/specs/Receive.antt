@@ -20,11 +20,12 @@ use Rattle.lr_commands.specs.declared.cause.Cause.{Cause}
 use Rattle.lr_commands.specs.declared.cause.Cause.TheVariants.{Done, Failed, NoMemory, Refused}
 use Rattle.lr_commands.specs.declared.cause.Party.TheVariants.{Source, Disk, Output}
 use Rattle.lr_commands.specs.declared.cause.Refusal.TheVariants.{NotAShelf, Capacity}
-use Rattle.lr_receiving.specs.declared.input.Input.{Input}
+use Rattle.lr_reading.specs.declared.input.Input.{Input}
 use Rattle.lr_receiving.specs.Causes.{IsEarlier}
-use Rattle.lr_receiving.specs.Inputs.{outcomes_of_bytes, files_of_bytes, left_of}
+use Rattle.lr_reading.specs.Inputs.{outcomes_of_bytes, left_of}
+use Rattle.lr_receiving.specs.Inputs.{files_of_bytes}
 use Rattle.lr_receiving.specs.Onto.{IsFull, HadRoom}
-use Rattle.lr_receiving.specs.Reading.{IsRead, EndsFor}
+use Rattle.lr_reading.specs.Reading.{IsRead, EndsFor}
 use Rattle.lr_receiving.specs.Shelving.{
   with_files,
   next_number,

@@ -15,36 +15,32 @@ use Rattle.lr_commands.specs.declared.cause.Cause.{Cause}
 use Rattle.lr_commands.specs.declared.cause.Cause.TheVariants.{Failed, Refused}
 use Rattle.lr_commands.specs.declared.cause.Party.TheVariants.{Disk}
 use Rattle.lr_commands.specs.declared.cause.Refusal.TheVariants.{Capacity}
-use Rattle.lr_receiving.specs.declared.ended.Ended.{Ended}
-use Rattle.lr_receiving.specs.declared.input.Input.{Input}
-use Rattle.lr_receiving.specs.declared.input.Input.TheVariants.{Symbols}
-use Rattle.lr_receiving.specs.Inputs.{outcomes_of_bytes, files_of_bytes, left_of}
+use Rattle.lr_receiving.specs.declared.sums.Sums.{Sums}
+use Rattle.lr_reading.specs.declared.input.Input.{Input}
+use Rattle.lr_reading.specs.declared.input.Input.TheVariants.{Symbols}
+use Rattle.lr_reading.specs.Inputs.{outcomes_of_bytes}
+use Rattle.lr_reading.specs.Runs.{ReadsInput}
+use Rattle.lr_receiving.specs.Inputs.{files_of_bytes}
 use Rattle.lr_receiving.specs.Causes.{IsEarlier}
 use Rattle.lr_receiving.specs.Onto.{HasRoom, IsFullWith}
-use Rattle.lr_receiving.specs.Reading.{IsRead, EndsFor}
+use Rattle.lr_reading.specs.Reading.{IsRead}
 use Rattle.lr_commands.specs.Puts.{Puts}
 use Rattle.lr_receiving.specs.Progress.{PutStops}
 use Rattle.lr_receiving.specs.Receive.{counts_line, IsWorkDone, Ends}
 use Rattle.lr_receiving.specs.Shelving.{LeavesFronts, Stops}
 use Rattle.lr_receiving.specs.Shelved.{ShelvesSoFar, Grows, GrowsNoMore}
 
--- what the last line tells of these bytes
-pub record IsCountOf (input : Input) (bytes : List ℕ) (ended : Ended) : Type 0 where
-  pub symbols : ended.symbols ≡ length bytes
-  pub frames : ended.frames ≡ length (outcomes_of_bytes input bytes)
-  pub counts : numbers ended.counts ≡ numbers_of (outcomes_of_bytes input bytes)
-  pub left : ended.left ≡ left_of input bytes
+-- the last line of what was read and counted
+abbrev pub sums_line : Sums → List ℕ
+sums_line sums = counts_line sums.totals.symbols sums.totals.frames (numbers sums.counts) sums.totals.left
+    sums.totals.stop
 
--- the last line of what was counted
-abbrev pub ended_line : Ended → List ℕ
-ended_line ended = counts_line ended.symbols ended.frames (numbers ended.counts) ended.left ended.stop
-
-module _ {O : Type 0} (out : SinkOf O) (ended : Ended) where
+module _ {O : Type 0} (out : SinkOf O) (sums : Sums) where
   abbrev pub PutsLast : O → O → Type 0
-  PutsLast o o' = Puts out (ended_line ended) o o'
+  PutsLast o o' = Puts out (sums_line sums) o o'
 
   abbrev pub LastStops : Cause → O → O → Type 0
-  LastStops cause o o' = PutStops out (ended_line ended) cause o o'
+  LastStops cause o o' = PutStops out (sums_line sums) cause o o'
 
 -- over every disk: how a run ends onto the shelf that was loaded
 pub record EndsOver {D O : Type 0} (cause : Cause) (files : List Placed) (shelf : Shelf) (d d' : D) (o o' : O)
@@ -58,11 +54,10 @@ pub record EndsOver {D O : Type 0} (cause : Cause) (files : List Placed) (shelf 
 
 module _ {S D O : Type 0} (source : SourceOf S) (disk : DiskOf D) (out : SinkOf O) (input : Input) (limit : ℕ) where
   -- the input ended, and all its files are shelved, whatever shelf they came onto
-  pub record ReadsAll (ended : Ended) (shelf shelf' : Shelf) (s s' : S) (d d' : D) (o o' : O) : Type 0 where
+  pub record ReadsAll (sums : Sums) (shelf shelf' : Shelf) (s s' : S) (d d' : D) (o o' : O) : Type 0 where
     pub bytes : List ℕ
-    pub read : IsRead source limit bytes s s'
-    pub reason : EndsFor source ended.stop limit bytes s s'
-    pub count : IsCountOf input bytes ended
+    pub ends : ReadsInput source input limit sums.totals bytes s s'
+    pub counts : numbers sums.counts ≡ numbers_of (outcomes_of_bytes input bytes)
     pub shelved : (capacity : ℕ) (before : List Item) (d0 : D) (o0 : O)
         → ShelvesSoFar disk out capacity before [] shelf d0 d o0 o
         → ShelvesSoFar disk out capacity before (files_of_bytes input bytes) shelf' d0 d' o0 o'

@@ -1,9 +1,7 @@
 -- How far shelving files has come. No clause of a public call cites this.
-use Rattle.std.specs.Prelude.{◌≡◌, ℕ, List, [], ◌∷◌, ◌++◌, length}
+use Rattle.std.specs.Prelude.{◌≡◌, ℕ, List, [], ◌∷◌, ◌++◌}
 use Rattle.lr_bits.specs.declared.outcome.Outcome.{Outcome}
-use Rattle.lr_bits.specs.declared.outcome.Outcome.TheVariants.{Restored, Lost}
 use Rattle.lr_bits.specs.declared.placed.Placed.{Placed}
-use Rattle.lr_bits.specs.declared.sizes.TheConstants.{FRAME_BYTES}
 use Rattle.lr_io.specs.declared.sink.Sink.{Ghosts as SinkOf}
 use Rattle.lr_disk.specs.declared.disk.Disk.{Ghosts as DiskOf}
 use Rattle.lr_layers.specs.Origins.{placed_of_outcomes}
@@ -18,11 +16,6 @@ use Rattle.lr_commands.specs.declared.cause.Refusal.TheVariants.{NotAShelf, Capa
 use Rattle.lr_commands.specs.Puts.{Puts}
 use Rattle.lr_receiving.specs.Onto.{end_with, HasRoom, IsFullWith}
 use Rattle.lr_receiving.specs.Shelving.{with_files, next_number, shelved_lines, LeavesFronts}
-
--- a block was restored to a whole frame, if it was
-abbrev pub HasWholeFrame : Outcome → Type 0
-HasWholeFrame (Restored corrected frame) = length frame ≡ FRAME_BYTES
-HasWholeFrame (Lost word) = Unit {0}
 
 -- the causes for which shelving may stop, over any disk
 abbrev pub MayStop : Cause → Type 0

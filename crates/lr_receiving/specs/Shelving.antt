@@ -1,7 +1,7 @@
 -- What shelving files does to the disk and to `out`: how far it has come, and how it stops. `before` are the items that
 -- the shelf had, `files` is what is to be shelved, in order, and `done` what is shelved and acknowledged by its line.
 use Rattle.std.specs.Prelude.{◌≡◌, ◌⊎◌, ◌<◌, ◌≤◌, ◌+◌, ℕ, List, [], ◌∷◌, ◌++◌, length, map}
-use Rattle.std.specs.List.{concat, enumerate_from}
+use Rattle.lr_reading.specs.Lines.{numbered_lines}
 use Rattle.lr_bits.specs.Faults.{Rose}
 use Rattle.lr_bits.specs.declared.placed.Placed.{Placed}
 use Rattle.lr_io.specs.declared.sink.Sink.{Ghosts as SinkOf}
@@ -28,7 +28,7 @@ next_number items = length (entries_of items)
 
 -- the lines of files, the first of which has that number on the shelf
 unfoldable pub shelved_lines : ℕ → List Placed → List ℕ
-shelved_lines number files = concat (map (λ f. shelved_line f.0 f.1.file) (enumerate_from number files))
+shelved_lines number files = numbered_lines (λ place (placed : Placed). shelved_line place placed.file) number files
 
 -- the bytes stand for what the shelf had and a front of these files, of n of them at least
 pub record StandsForFront (capacity : ℕ) (before : List Item) (files : List Placed) (n : ℕ) (bytes : List ℕ)

@@ -1,92 +1,109 @@
 //! `frames`: a line for each transfer frame.
-ghost use Rattle.std.specs.Prelude.{◌≡◌, List, ℕ, IfOk, IfErr, length};
-ghost use Rattle.lr_vc.specs.Frame.{frame_of};
-ghost use Rattle.lr_catalog.specs.Frames.{frame_line};
+ghost use Rattle.std.specs.Prelude.{◌≡◌, ◌<◌, ◌^◌, List, ℕ, IfOk, IfErr};
 ghost use Rattle.lr_catalog.specs.Summaries.{summary_line};
-ghost use Rattle.lr_receiving.specs.Frames.{lines_of_frames, frames_text, frames_last};
+ghost use Rattle.lr_reading.specs.Runs.{ReadsInput};
+ghost use Rattle.lr_reading.specs.declared.input.Input.TheVariants.{Units};
+ghost use Rattle.lr_reading.specs.declared.input.UnitForm.TheVariants.{Frames};
+ghost use Rattle.lr_receiving.specs.Frames.{frames_text, frames_last};
+ghost use Rattle.lr_receiving.specs.FrameLines.{frame_text};
 ghost use Rattle.lr_receiving.specs.Printing.{Prints, PrintsAll};
 ghost use Rattle.lr_commands.specs.Puts.{Puts};
-ghost use Rattle.lr_receiving.specs.Progress.{EndsUnits, PutStops};
+ghost use Rattle.lr_receiving.specs.Progress.{PutStops};
 
-use crate::ended::cause_at;
 use crate::put::put_text;
-use crate::units::{Next, Units};
-use lr_bits::{Bytes, FRAME_BYTES};
+use crate::sums::cause_at;
+use lr_bits::{Bytes, Outcome};
 use lr_catalog::{Stop, Summary, frame_line, summary_line};
 use lr_commands::Cause;
 use lr_io::{Sink, Source};
+use lr_reading::{Arrival, Consumer, Input, Reader, Totals, UnitForm};
 use lr_vc::TransferFrame;
 use std::alloc::Global;
 
-/// How the reading of units ended: how many there were, how many bytes are no whole one, and why.
-#[derive(Clone, Copy)]
-struct Ended {
-    units: u64,
-    left: u64,
-    stop: Stop,
+/// Puts a line for each frame, of which it took this many.
+#[derive(Drop)]
+pub(crate) struct FrameLines<'a, O> {
+    pub alloc: Global,
+    pub frames: u64,
+    pub out: &'a mut O,
 }
 
+impl<'a, O: Sink> Consumer for FrameLines<'a, O> {
+    ghost use Rattle.lr_receiving.specs.FramesTaken.{FramesTook, FramesStopped};
+    ghost use Rattle.std.specs.Prelude.{◌^◌, ◌-◌};
+
+    type Cause = Cause;
+
+    ghost most = { 2 ^ 64 - 1 };
+
+    ghost took = { λ c arrivals now. FramesTook O.Sink c arrivals now };
+
+    ghost stopped = { λ c arrivals cause now. FramesStopped O.Sink c arrivals cause now };
+
+    fn take(&mut self, arrival: &Arrival) -> Result<(), Cause> {
+        put_frame(self.alloc, self.frames, &arrival.outcome, self.out)?;
+        self.frames += 1;
+        Ok(())
+    }
+}
+
+/// Puts the line of a frame. A block that was lost has none.
 fn put_frame<O: Sink>(
     alloc: Global,
     place: u64,
-    frame: &[u8; FRAME_BYTES],
+    outcome: &Outcome,
     out: &mut O,
 ) -> Result<(), Cause>
-    ensures put { IfOk result (λ _. Puts O.Sink (frame_line place (frame_of frame.now)) out.old out.new) }
+    ensures put { IfOk result (λ _. Puts O.Sink (frame_text place outcome.now) out.old out.new) }
     ensures stopped { IfErr result
-        (λ cause. PutStops O.Sink (frame_line place (frame_of frame.now)) cause out.old out.new) }
+        (λ cause. PutStops O.Sink (frame_text place outcome.now) cause out.old out.new) }
 {
-    let mut line = Bytes::new(alloc);
-    frame_line(alloc, place, &TransferFrame::read(frame), &mut line)?;
-    put_text(line.as_slice(), out)
+    match outcome {
+        Outcome::Restored(_, frame) => {
+            let mut line = Bytes::new(alloc);
+            frame_line(alloc, place, &TransferFrame::read(frame), &mut line)?;
+            put_text(line.as_slice(), out)
+        }
+        Outcome::Lost(_) => Ok(()),
+    }
 }
 
 fn put_each_frame<S: Source, O: Sink>(
     alloc: Global,
-    most: u64,
+    reader: Reader,
     source: &mut S,
     out: &mut O,
-) -> Result<Ended, Cause>
-    ensures ended { IfOk result (λ ended. (frames : List (List ℕ))
-        × EndsUnits S.Source 892 most frames ended.left ended.stop source.old source.new
-        × (ended.units ≡ length frames) × Puts O.Sink (lines_of_frames frames) out.old out.new) }
-    ensures stopped { IfErr result
-        (λ cause. Prints S.Source O.Sink frames_text frames_last most cause source.old source.new out.old out.new) }
+) -> Result<Totals, Cause>
+    requires input { reader.input ≡ Units Frames }
+    requires few { reader.most < 2 ^ 64 }
+    ensures all { IfOk result (λ totals. (bytes : List ℕ)
+        × ReadsInput S.Source (Units Frames) reader.most totals bytes source.old source.new
+        × Puts O.Sink (frames_text bytes) out.old out.new) }
+    ensures stopped { IfErr result (λ cause.
+        Prints S.Source O.Sink frames_text frames_last reader.most cause source.old source.new out.old out.new) }
 {
-    let mut units = Units::<FRAME_BYTES>::new(most);
-    let mut place = 0u64;
-    'frames: loop {
-        match units.next(source) {
-            Next::Ended(stop) => {
-                let left = units.len() as u64;
-                return Ok(Ended {
-                    units: place,
-                    left,
-                    stop,
-                });
-            }
-            Next::Whole => {
-                put_frame(alloc, place, units.unit(), out)?;
-                units.clear();
-                place += 1;
-            }
-        }
-    }
+    let mut lines = FrameLines {
+        alloc,
+        frames: 0,
+        out,
+    };
+    let totals = reader.read(source, &mut lines)?;
+    Ok(totals)
 }
 
-fn put_last<O: Sink>(alloc: Global, ended: &Ended, out: &mut O) -> Result<(), Cause>
+fn put_last<O: Sink>(alloc: Global, totals: &Totals, out: &mut O) -> Result<(), Cause>
     ensures put { IfOk result (λ _. Puts O.Sink
-        (summary_line (Summary.Frames ended.now.units ended.now.left) ended.now.stop) out.old out.new) }
+        (summary_line (Summary.Frames totals.now.frames totals.now.left) totals.now.stop) out.old out.new) }
     ensures stopped { IfErr result
-        (λ cause. PutStops O.Sink (summary_line (Summary.Frames ended.now.units ended.now.left) ended.now.stop)
+        (λ cause. PutStops O.Sink (summary_line (Summary.Frames totals.now.frames totals.now.left) totals.now.stop)
         cause out.old out.new) }
 {
     let mut line = Bytes::new(alloc);
     let summary = Summary::Frames {
-        frames: ended.units,
-        left: ended.left,
+        frames: totals.frames,
+        left: totals.left,
     };
-    summary_line(alloc, &summary, ended.stop, &mut line)?;
+    summary_line(alloc, &summary, totals.stop, &mut line)?;
     put_text(line.as_slice(), out)
 }
 
@@ -101,9 +118,10 @@ fn put_frames<S: Source, O: Sink>(
     ensures stopped { IfErr result
         (λ cause. Prints S.Source O.Sink frames_text frames_last most cause source.old source.new out.old out.new) }
 {
-    let ended = put_each_frame(alloc, most, source, out)?;
-    put_last(alloc, &ended, out)?;
-    Ok(ended.stop)
+    let reader = Reader::new(alloc, Input::Units(UnitForm::Frames), most)?;
+    let totals = put_each_frame(alloc, reader, source, out)?;
+    put_last(alloc, &totals, out)?;
+    Ok(totals.stop)
 }
 
 /// A line for each frame of the source, and a last line. At most `most` bytes are taken.

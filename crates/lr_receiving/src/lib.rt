@@ -2,30 +2,27 @@
 //!
 //! `frames`, `packets` and `decode` print lines of the bytes that they read, and their contract is `Prints`. `receive`
 //! puts the mission files of its input onto the shelf, each acknowledged by its line; its contract is `ReceiveRun`.
+//! Each of them is a `Consumer` of what comes of the input (`lr_reading`).
 //! `init` makes an empty shelf (`InitRun`), `make` writes the test stream (`MakeEnds`), and `trial` receives that
 //! stream onto a shelf that it makes (`TrialRun`). Each says for every cause what became of source, disk and `out`.
 #![tactic(auto)]
 
-mod counted;
-mod ended;
 mod frame_lines;
-mod input;
 mod new_shelf;
 mod outcome_lines;
 mod output;
+mod packet_count;
 mod packet_lines;
 mod put;
-mod reader;
 mod reception;
 mod shelve;
-mod symbols;
+mod shelver;
+mod sums;
 mod test_stream;
 mod trial_run;
-mod units;
-mod windows;
 
 pub use frame_lines::frames;
-pub use input::{Input, MOST_BYTES, UnitForm};
+pub use lr_reading::{Input, MOST_BYTES, UnitForm};
 pub use new_shelf::init;
 pub use outcome_lines::decode;
 pub use output::Output;

@@ -1,4 +1,4 @@
-use crate::input::UnitForm;
+use lr_reading::UnitForm;
 
 /// The form in which the test stream is written.
 #[derive(Clone, Copy)]

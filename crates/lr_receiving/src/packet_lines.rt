@@ -20,12 +20,15 @@ ghost use Rattle.std.specs.Prelude.{
 ghost use Rattle.lr_bits.specs.Packet.{Packet};
 ghost use Rattle.lr_vc.specs.Standing.{StandsFor};
 ghost use Rattle.lr_packet.specs.Verdict.{good_of, good_packets};
+ghost use Rattle.lr_reading.specs.Reading.{units_of};
+ghost use Rattle.lr_reading.specs.Runs.{ReadsInput};
+ghost use Rattle.lr_reading.specs.declared.input.Input.TheVariants.{Units};
+ghost use Rattle.lr_reading.specs.declared.input.UnitForm.TheVariants.{Frames};
 ghost use Rattle.lr_receiving.specs.Added.{packets_added, lines_added};
 ghost use Rattle.lr_receiving.specs.Packets.{
   frames_read,
   packets_read,
   lines_from,
-  lines_of_packets,
   packets_count,
   packets_text,
   packets_last,
@@ -33,27 +36,58 @@ ghost use Rattle.lr_receiving.specs.Packets.{
 ghost use Rattle.lr_receiving.specs.PacketsRead.{IsAfter, IsCounted};
 ghost use Rattle.lr_receiving.specs.Printing.{Prints, PrintsAll};
 ghost use Rattle.lr_commands.specs.Puts.{Puts};
-ghost use Rattle.lr_receiving.specs.Progress.{EndsUnits, PutStops};
+ghost use Rattle.lr_receiving.specs.Progress.{PutStops};
 
-use crate::counted::Counted;
-use crate::ended::cause_at;
+use crate::packet_count::PacketCount;
 use crate::put::put_text;
-use crate::units::{Next, Units};
-use lr_bits::{Bytes, FRAME_BYTES, NoMemory, RawPacket};
+use crate::sums::cause_at;
+use lr_bits::{Bytes, FRAME_BYTES, NoMemory, Outcome, RawPacket};
 use lr_catalog::{Stop, Summary, packet_line, summary_line};
 use lr_commands::Cause;
 use lr_io::{Sink, Source};
 use lr_packet::check;
+use lr_reading::{Arrival, Consumer, Input, Reader, Totals, UnitForm};
 use lr_vc::{Channels, TransferFrame};
 use std::alloc::Global;
 
-/// How the reading ended: how many frames and packets there were, how many bytes are no whole frame, and why.
-#[derive(Clone, Copy)]
-struct Ended {
-    frames: u64,
-    counted: Counted,
-    left: u64,
-    stop: Stop,
+/// Puts the lines of the packets of each frame, and counts them.
+#[derive(Drop)]
+pub(crate) struct PacketLines<'a, O> {
+    pub alloc: Global,
+    pub channels: &'a mut Channels,
+    /// The packets that end in the frame that is taken.
+    pub packets: &'a mut Vec<RawPacket>,
+    pub counted: PacketCount,
+    pub out: &'a mut O,
+}
+
+impl<'a, O: Sink> Consumer for PacketLines<'a, O> {
+    ghost use Rattle.std.specs.Prelude.{◌^◌, ◌-◌};
+    ghost use Rattle.lr_receiving.specs.PacketsTaken.{PacketsTook, PacketsStopped};
+
+    type Cause = Cause;
+
+    ghost most = { 2 ^ 64 - 1 };
+
+    ghost took = { λ c arrivals now. PacketsTook O.Sink c arrivals now };
+
+    ghost stopped = { λ c arrivals cause now. PacketsStopped O.Sink c arrivals cause now };
+
+    /// A block that was lost has no packets.
+    fn take(&mut self, arrival: &Arrival) -> Result<(), Cause> {
+        let Outcome::Restored(_, frame) = &arrival.outcome else {
+            return Ok(());
+        };
+        put_frame(
+            self.alloc,
+            frame,
+            self.channels,
+            self.packets,
+            &mut self.counted,
+            self.out,
+        )?;
+        Ok(())
+    }
 }
 
 fn is_good(raw: &RawPacket) -> bool
@@ -116,7 +150,7 @@ fn put_frame<O: Sink>(
     frame: &[u8; FRAME_BYTES],
     channels: &mut Channels,
     packets: &mut Vec<RawPacket>,
-    counted: &mut Counted,
+    counted: &mut PacketCount,
     out: &mut O,
 ) -> Result<(), Cause>
     requires room { counted.old.packets + 885 < 2 ^ 64 }
@@ -133,71 +167,65 @@ fn put_frame<O: Sink>(
     let mut lines = Bytes::new(alloc);
     compose(alloc, counted.packets, packets, &mut lines)?;
     put_text(lines.as_slice(), out)?;
-    *counted = Counted {
+    *counted = PacketCount {
         packets: counted.packets + packets.len() as u64,
         good: counted.good + count_good(packets),
     };
     Ok(())
 }
 
+/// Puts all lines, and answers how many packets there are.
 fn put_each_packet<S: Source, O: Sink>(
     alloc: Global,
-    most: u64,
+    reader: Reader,
     source: &mut S,
     out: &mut O,
-) -> Result<Ended, Cause>
-    ensures ended { IfOk result (λ ended. (frames : List (List ℕ))
-        × EndsUnits S.Source 892 most frames ended.left ended.stop source.old source.new
-        × (ended.frames ≡ length frames) × IsCounted ended.counted frames
-        × Puts O.Sink (lines_of_packets frames) out.old out.new) }
-    ensures stopped { IfErr result
-        (λ cause. Prints S.Source O.Sink packets_text packets_last most cause source.old source.new out.old out.new) }
+) -> Result<(Totals, PacketCount), Cause>
+    requires input { reader.input ≡ Units Frames }
+    requires few { reader.most < 2 ^ 64 }
+    ensures all { IfOk result (λ sums. (bytes : List ℕ)
+        × ReadsInput S.Source (Units Frames) reader.most sums.0 bytes source.old source.new
+        × IsCounted sums.1 (units_of 892 bytes) × Puts O.Sink (packets_text bytes) out.old out.new) }
+    ensures stopped { IfErr result (λ cause.
+        Prints S.Source O.Sink packets_text packets_last reader.most cause source.old source.new out.old out.new) }
 {
-    let mut units = Units::<FRAME_BYTES>::new(most);
     let mut channels = Channels::new(alloc);
     let mut packets = Vec::new(alloc);
-    let mut counted = Counted {
-        packets: 0,
-        good: 0,
+    let mut lines = PacketLines {
+        alloc,
+        channels: &mut channels,
+        packets: &mut packets,
+        counted: PacketCount {
+            packets: 0,
+            good: 0,
+        },
+        out,
     };
-    let mut place = 0u64;
-    'frames: loop {
-        match units.next(source) {
-            Next::Ended(stop) => {
-                let left = units.len() as u64;
-                return Ok(Ended {
-                    frames: place,
-                    counted,
-                    left,
-                    stop,
-                });
-            }
-            Next::Whole => {
-                let frame = units.unit();
-                put_frame(alloc, frame, &mut channels, &mut packets, &mut counted, out)?;
-                units.clear();
-                place += 1;
-            }
-        }
-    }
+    let totals = reader.read(source, &mut lines)?;
+    Ok((totals, lines.counted))
 }
 
-fn put_last<O: Sink>(alloc: Global, ended: &Ended, out: &mut O) -> Result<(), Cause>
-    ensures put { (frames : List (List ℕ)) → IsCounted ended.now.counted frames
-        → IfOk result (λ _. Puts O.Sink (packets_count frames ended.now.frames ended.now.left ended.now.stop)
+fn put_last<O: Sink>(
+    alloc: Global,
+    totals: &Totals,
+    counted: PacketCount,
+    out: &mut O,
+) -> Result<(), Cause>
+    ensures put { (frames : List (List ℕ)) → IsCounted counted frames
+        → IfOk result (λ _. Puts O.Sink (packets_count frames totals.now.frames totals.now.left totals.now.stop)
         out.old out.new) }
-    ensures stopped { (frames : List (List ℕ)) → IsCounted ended.now.counted frames
+    ensures stopped { (frames : List (List ℕ)) → IsCounted counted frames
         → IfErr result (λ cause. PutStops O.Sink
-        (packets_count frames ended.now.frames ended.now.left ended.now.stop) cause out.old out.new) }
+        (packets_count frames totals.now.frames totals.now.left totals.now.stop) cause out.old out.new) }
 {
     let mut line = Bytes::new(alloc);
     let summary = Summary::Packets {
-        frames: ended.frames,
-        packets: ended.counted.packets,
-        good: ended.counted.good,
-        left: ended.left,
+        frames: totals.frames,
+        packets: counted.packets,
+        good: counted.good,
+        left: totals.left,
     };
-    summary_line(alloc, &summary, ended.stop, &mut line)?;
+    summary_line(alloc, &summary, totals.stop, &mut line)?;
     put_text(line.as_slice(), out)
 }
 
@@ -212,9 +240,10 @@ fn put_packets<S: Source, O: Sink>(
     ensures stopped { IfErr result
         (λ cause. Prints S.Source O.Sink packets_text packets_last most cause source.old source.new out.old out.new) }
 {
-    let ended = put_each_packet(alloc, most, source, out)?;
-    put_last(alloc, &ended, out)?;
-    Ok(ended.stop)
+    let reader = Reader::new(alloc, Input::Units(UnitForm::Frames), most)?;
+    let (totals, counted) = put_each_packet(alloc, reader, source, out)?;
+    put_last(alloc, &totals, counted, out)?;
+    Ok(totals.stop)
 }
 
 /// A line for each packet of the frames of the source, and a last line. At most `most` bytes are

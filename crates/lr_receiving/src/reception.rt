@@ -3,173 +3,35 @@ ghost use Rattle.std.specs.Prelude.{◌≡◌, ◌≤◌, ◌^◌, false, IfOk, 
 ghost use Rattle.lr_shelf.specs.Kept.{kept_by};
 ghost use Rattle.lr_commands.specs.Causes.{IsCaused};
 ghost use Rattle.lr_receiving.specs.Causes.{cause_at, counts};
-ghost use Rattle.lr_receiving.specs.Inputs.{unit_bytes, outcome_of_unit};
 ghost use Rattle.lr_receiving.specs.Receive.{ReceiveRun};
 ghost use Rattle.lr_receiving.specs.Reception.{ReadsAll, ReadsSome, EndsRun, PutsLast, LastStops};
-ghost use Rattle.lr_receiving.specs.Decoding.{IsFresh};
-ghost use Rattle.lr_receiving.specs.Readers.{input_of, IsReadyFor};
-ghost use Rattle.lr_receiving.specs.Shelved.{HasWholeFrame, MayStop};
+ghost use Rattle.lr_receiving.specs.Shelved.{MayStop};
 
-use crate::ended::{Ended, cause_at};
-use crate::input::{Input, UnitForm};
 use crate::put::put_text;
-use crate::reader::Reader;
-use crate::shelve::shelve_outcome;
-use crate::symbols::Decoder;
-use crate::units::{Next, Units};
-use lr_bits::{BLOCK_BYTES, Bytes, Corrected, FRAME_BYTES, NoMemory, Outcome};
-use lr_block::outcome_of;
+use crate::shelver::Shelver;
+use crate::sums::{Sums, cause_at};
+use lr_bits::{Bytes, NoMemory};
 use lr_catalog::{Stop, Summary, summary_line};
 use lr_commands::Cause;
 use lr_disk::Disk;
 use lr_io::{Sink, Source};
 use lr_layers::Layers;
-use lr_rs::RsScratch;
+use lr_reading::{Input, Reader};
 use lr_shelf::Shelf;
 use std::alloc::Global;
-
-/// What becomes of a block or a frame.
-pub(crate) fn unit_outcome<const N: usize>(
-    form: UnitForm,
-    unit: &[u8; N],
-    scratch: &mut RsScratch,
-) -> Outcome
-    requires { N ≡ unit_bytes form }
-    ensures value { result ≡ outcome_of_unit form unit.now }
-    ensures whole { HasWholeFrame result }
-{
-    match form {
-        UnitForm::Blocks => {
-            let mut block = [0; BLOCK_BYTES];
-            block.copy_from_slice(&unit[..]);
-            outcome_of(&block, scratch)
-        }
-        UnitForm::Frames => {
-            let mut frame = [0; FRAME_BYTES];
-            frame.copy_from_slice(&unit[..]);
-            Outcome::Restored(Corrected([0; 4]), frame)
-        }
-    }
-}
-
-/// Shelves all files of blocks or of frames.
-fn receive_units<const N: usize, S: Source, D: Disk, O: Sink>(
-    alloc: Global,
-    form: UnitForm,
-    most: u64,
-    shelf: &mut Shelf,
-    source: &mut S,
-    disk: &mut D,
-    out: &mut O,
-) -> Result<Ended, Cause>
-    requires size { N ≡ unit_bytes form }
-    requires few { most ≤ 2 ^ 48 }
-    ensures counts { OnOk result ((D.faults disk.new ≡ D.faults disk.old) × (O.faults out.new ≡ O.faults out.old)) }
-    ensures reason { IfOk result (λ ended. IsCaused (cause_at ended.stop) (counts (S.faults source.old) 0 0)
-        (counts (S.faults source.new) 0 0)) }
-    ensures told_by_disk { D.tells disk.old → D.tells disk.new }
-    ensures told_by_out { O.tells out.old → O.tells out.new }
-    ensures kind { IfErr result MayStop }
-    ensures cause { (kept_by shelf.old).failed ≡ false
-        → IfErr result (λ cause. IsCaused cause
-        (counts (S.faults source.old) (D.faults disk.old) (O.faults out.old))
-        (counts (S.faults source.new) (D.faults disk.new) (O.faults out.new))) }
-    ensures all { IfOk result (λ ended. ReadsAll S.Source D.Disk O.Sink (Input.Units form) most ended shelf.old
-        shelf.new source.old source.new disk.old disk.new out.old out.new) }
-    ensures some { IfErr result (λ cause. ReadsSome S.Source D.Disk O.Sink (Input.Units form) most cause
-        shelf.old source.old source.new disk.old disk.new out.old out.new) }
-{
-    let mut units = Units::<N>::new(most);
-    let mut scratch = RsScratch::new();
-    let mut layers = Layers::new(alloc);
-    let mut files = Vec::new(alloc);
-    let mut place = 0u64;
-    'units: loop {
-        match units.next(source) {
-            Next::Ended(stop) => {
-                return Ok(Ended {
-                    symbols: units.taken(),
-                    frames: place,
-                    counts: layers.counts(),
-                    left: units.len() as u64,
-                    stop,
-                });
-            }
-            Next::Whole => {
-                let outcome = unit_outcome(form, units.unit(), &mut scratch);
-                shelve_outcome(alloc, &outcome, &mut layers, &mut files, shelf, disk, out)?;
-                units.clear();
-                place += 1;
-            }
-        }
-    }
-}
-
-/// Shelves all files of symbols.
-fn receive_symbols<S: Source, D: Disk, O: Sink>(
-    alloc: Global,
-    decoder: &mut Decoder,
-    shelf: &mut Shelf,
-    source: &mut S,
-    disk: &mut D,
-    out: &mut O,
-) -> Result<Ended, Cause>
-    requires fresh { IsFresh decoder.old.most decoder.old }
-    requires few { decoder.old.most ≤ 2 ^ 48 }
-    ensures counts { OnOk result ((D.faults disk.new ≡ D.faults disk.old) × (O.faults out.new ≡ O.faults out.old)) }
-    ensures reason { IfOk result (λ ended. IsCaused (cause_at ended.stop) (counts (S.faults source.old) 0 0)
-        (counts (S.faults source.new) 0 0)) }
-    ensures told_by_disk { D.tells disk.old → D.tells disk.new }
-    ensures told_by_out { O.tells out.old → O.tells out.new }
-    ensures kind { IfErr result MayStop }
-    ensures cause { (kept_by shelf.old).failed ≡ false
-        → IfErr result (λ cause. IsCaused cause
-        (counts (S.faults source.old) (D.faults disk.old) (O.faults out.old))
-        (counts (S.faults source.new) (D.faults disk.new) (O.faults out.new))) }
-    ensures all { IfOk result (λ ended. ReadsAll S.Source D.Disk O.Sink (Input.Symbols decoder.old.lock.line)
-        decoder.old.most ended
-        shelf.old shelf.new source.old source.new disk.old disk.new out.old out.new) }
-    ensures some { IfErr result (λ cause. ReadsSome S.Source D.Disk O.Sink (Input.Symbols decoder.old.lock.line)
-        decoder.old.most cause
-        shelf.old source.old source.new disk.old disk.new out.old out.new) }
-{
-    let mut layers = Layers::new(alloc);
-    let mut files = Vec::new(alloc);
-    let mut place = 0u64;
-    'windows: loop {
-        match decoder.next(source) {
-            Next::Ended(stop) => {
-                return Ok(Ended {
-                    symbols: decoder.taken(),
-                    frames: place,
-                    counts: layers.counts(),
-                    left: 0,
-                    stop,
-                });
-            }
-            Next::Whole => {
-                let outcome = decoder.outcome();
-                shelve_outcome(alloc, &outcome, &mut layers, &mut files, shelf, disk, out)?;
-                place += 1;
-            }
-        }
-    }
-}
 
 /// Shelves all files of the input.
 pub(crate) fn receive_all<S: Source, D: Disk, O: Sink>(
     alloc: Global,
-    reader: &mut Reader,
-    most: u64,
+    reader: Reader,
     shelf: &mut Shelf,
     source: &mut S,
     disk: &mut D,
     out: &mut O,
-) -> Result<Ended, Cause>
-    requires ready { IsReadyFor most reader.old }
-    requires few { most ≤ 2 ^ 48 }
+) -> Result<Sums, Cause>
+    requires few { reader.most ≤ 2 ^ 48 }
     ensures counts { OnOk result ((D.faults disk.new ≡ D.faults disk.old) × (O.faults out.new ≡ O.faults out.old)) }
-    ensures reason { IfOk result (λ ended. IsCaused (cause_at ended.stop) (counts (S.faults source.old) 0 0)
+    ensures reason { IfOk result (λ sums. IsCaused (cause_at sums.totals.stop) (counts (S.faults source.old) 0 0)
         (counts (S.faults source.new) 0 0)) }
     ensures told_by_disk { D.tells disk.old → D.tells disk.new }
     ensures told_by_out { O.tells out.old → O.tells out.new }
@@ -178,66 +40,59 @@ pub(crate) fn receive_all<S: Source, D: Disk, O: Sink>(
         → IfErr result (λ cause. IsCaused cause
         (counts (S.faults source.old) (D.faults disk.old) (O.faults out.old))
         (counts (S.faults source.new) (D.faults disk.new) (O.faults out.new))) }
-    ensures all { IfOk result (λ ended. ReadsAll S.Source D.Disk O.Sink (input_of reader.old) most ended
+    ensures all { IfOk result (λ sums. ReadsAll S.Source D.Disk O.Sink reader.input reader.most sums
         shelf.old shelf.new source.old source.new disk.old disk.new out.old out.new) }
-    ensures some { IfErr result (λ cause. ReadsSome S.Source D.Disk O.Sink (input_of reader.old) most cause
+    ensures some { IfErr result (λ cause. ReadsSome S.Source D.Disk O.Sink reader.input reader.most cause
         shelf.old source.old source.new disk.old disk.new out.old out.new) }
 {
-    match reader {
-        Reader::Symbols(decoder) => receive_symbols(alloc, decoder, shelf, source, disk, out),
-        Reader::Units(UnitForm::Blocks) => receive_units::<BLOCK_BYTES, S, D, O>(
-            alloc,
-            UnitForm::Blocks,
-            most,
-            shelf,
-            source,
-            disk,
-            out,
-        ),
-        Reader::Units(UnitForm::Frames) => receive_units::<FRAME_BYTES, S, D, O>(
-            alloc,
-            UnitForm::Frames,
-            most,
-            shelf,
-            source,
-            disk,
-            out,
-        ),
-    }
+    let mut layers = Layers::new(alloc);
+    let mut files = Vec::new(alloc);
+    let mut shelver = Shelver {
+        alloc,
+        counts: layers.counts(),
+        layers: &mut layers,
+        files: &mut files,
+        shelf,
+        disk,
+        out,
+    };
+    let totals = reader.read(source, &mut shelver)?;
+    Ok(Sums {
+        totals,
+        counts: shelver.counts,
+    })
 }
 
 /// Puts the last line.
-pub(crate) fn put_last<O: Sink>(alloc: Global, ended: &Ended, out: &mut O) -> Result<(), Cause>
+pub(crate) fn put_last<O: Sink>(alloc: Global, sums: &Sums, out: &mut O) -> Result<(), Cause>
     ensures told { O.tells out.old → O.tells out.new }
-    ensures put { IfOk result (λ _. PutsLast O.Sink ended.now out.old out.new) }
-    ensures stopped { IfErr result (λ cause. LastStops O.Sink ended.now cause out.old out.new) }
+    ensures put { IfOk result (λ _. PutsLast O.Sink sums.now out.old out.new) }
+    ensures stopped { IfErr result (λ cause. LastStops O.Sink sums.now cause out.old out.new) }
 {
     let mut line = Bytes::new(alloc);
     let summary = Summary::Receive {
-        symbols: ended.symbols,
-        frames: ended.frames,
-        restored: ended.counts.restored,
-        lost: ended.counts.lost,
-        packets: ended.counts.packets,
-        files: ended.counts.files,
-        left: ended.left,
+        symbols: sums.totals.symbols,
+        frames: sums.totals.frames,
+        restored: sums.counts.restored,
+        lost: sums.counts.lost,
+        packets: sums.counts.packets,
+        files: sums.counts.files,
+        left: sums.totals.left,
     };
-    summary_line(alloc, &summary, ended.stop, &mut line)?;
+    summary_line(alloc, &summary, sums.totals.stop, &mut line)?;
     put_text(line.as_slice(), out)
 }
 
 /// Shelves all files of the input onto a shelf that is loaded, and puts the last line.
 fn receive_onto<S: Source, D: Disk, O: Sink>(
     alloc: Global,
-    reader: &mut Reader,
-    most: u64,
+    reader: Reader,
     shelf: &mut Shelf,
     source: &mut S,
     disk: &mut D,
     out: &mut O,
 ) -> Result<Stop, Cause>
-    requires ready { IsReadyFor most reader.old }
-    requires few { most ≤ 2 ^ 48 }
+    requires few { reader.most ≤ 2 ^ 48 }
     ensures reason { IfOk result (λ stop. IsCaused (cause_at stop) (counts (S.faults source.old) 0 0)
         (counts (S.faults source.new) 0 0)) }
     ensures told_by_disk { D.tells disk.old → D.tells disk.new }
@@ -247,15 +102,15 @@ fn receive_onto<S: Source, D: Disk, O: Sink>(
         → IfErr result (λ cause. IsCaused cause
         (counts (S.faults source.old) (D.faults disk.old) (O.faults out.old))
         (counts (S.faults source.new) (D.faults disk.new) (O.faults out.new))) }
-    ensures done { IfOk result (λ stop. EndsRun S.Source D.Disk O.Sink (input_of reader.old) most
+    ensures done { IfOk result (λ stop. EndsRun S.Source D.Disk O.Sink reader.input reader.most
         (cause_at stop) shelf.old source.old source.new disk.old disk.new out.old out.new) }
     ensures stopped { IfErr result
-        (λ cause. EndsRun S.Source D.Disk O.Sink (input_of reader.old) most cause shelf.old source.old
+        (λ cause. EndsRun S.Source D.Disk O.Sink reader.input reader.most cause shelf.old source.old
         source.new disk.old disk.new out.old out.new) }
 {
-    let ended = receive_all(alloc, reader, most, shelf, source, disk, out)?;
-    put_last(alloc, &ended, out)?;
-    Ok(ended.stop)
+    let sums = receive_all(alloc, reader, shelf, source, disk, out)?;
+    put_last(alloc, &sums, out)?;
+    Ok(sums.totals.stop)
 }
 
 /// Takes at most `most` bytes, and puts their mission files onto the shelf that the disk holds. What reading takes of
@@ -276,7 +131,7 @@ pub fn receive<S: Source, D: Disk, O: Sink>(
     ensures run { ReceiveRun S.Source D.Disk O.Sink input most result source.old source.new disk.old disk.new
         out.old out.new }
 {
-    let mut reader = match Reader::new(alloc, input, most) {
+    let reader = match Reader::new(alloc, input, most) {
         Ok(reader) => reader,
         Err(NoMemory) => return Cause::NoMemory,
     };
@@ -284,7 +139,7 @@ pub fn receive<S: Source, D: Disk, O: Sink>(
         Ok(shelf) => shelf,
         Err(error) => return Cause::from(error),
     };
-    match receive_onto(alloc, &mut reader, most, &mut shelf, source, disk, out) {
+    match receive_onto(alloc, reader, &mut shelf, source, disk, out) {
         Ok(stop) => cause_at(stop),
         Err(cause) => cause,
     }

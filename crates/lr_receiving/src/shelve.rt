@@ -9,8 +9,8 @@ ghost use Rattle.lr_shelf.specs.Kept.{kept_by};
 ghost use Rattle.lr_commands.specs.Causes.{IsCaused};
 ghost use Rattle.lr_receiving.specs.Causes.{counts};
 ghost use Rattle.lr_receiving.specs.Shelving.{Stops};
+ghost use Rattle.lr_reading.specs.Arrivals.{HasWholeFrame};
 ghost use Rattle.lr_receiving.specs.Shelved.{
-  HasWholeFrame,
   MayStop,
   ShelvesSoFar,
   Grows,

@@ -8,13 +8,13 @@ ghost use Rattle.lr_receiving.specs.Causes.{counts};
 ghost use Rattle.lr_receiving.specs.Made.{bytes_of_symbols, made_bytes, MakeEnds};
 ghost use Rattle.lr_commands.specs.Puts.{Puts, PutFails};
 
-use crate::input::UnitForm;
 use crate::output::Output;
 use crate::put::put_text;
 use lr_bits::{BLOCK_BYTES, FRAME_BYTES, FRAME_SYMBOLS};
 use lr_commands::Cause;
 use lr_io::Sink;
 use lr_make::Maker;
+use lr_reading::UnitForm;
 
 /// Each symbol in a byte.
 pub(crate) fn put_bytes(symbols: &[i8; FRAME_SYMBOLS], bytes: &mut [u8; FRAME_SYMBOLS])
@@ -36,6 +36,7 @@ fn make_frames<O: Sink>(start: u64, frames: u64, out: &mut O) -> Result<(), Caus
     let mut frame = [0; FRAME_BYTES];
     let mut made = 0;
     'frames: while made < frames {
+        // The maker never refuses.
         let _ = maker.next_frame(&mut frame);
         put_text(&frame, out)?;
         made += 1;
@@ -55,6 +56,7 @@ fn make_blocks<O: Sink>(start: u64, frames: u64, wrong: u8, out: &mut O) -> Resu
     let mut block = [0; BLOCK_BYTES];
     let mut made = 0;
     'frames: while made < frames {
+        // The maker never refuses.
         let _ = maker.next_block(&mut block);
         put_text(&block, out)?;
         made += 1;
@@ -76,6 +78,7 @@ fn make_symbols<O: Sink>(start: u64, frames: u64, wrong: u8, out: &mut O) -> Res
     let mut bytes = [0; FRAME_SYMBOLS];
     let mut made = 0;
     'frames: while made < frames {
+        // The maker never refuses.
         let _ = maker.next_symbols(&mut symbols);
         put_bytes(&symbols, &mut bytes);
         put_text(&bytes, out)?;
@@ -84,7 +87,7 @@ fn make_symbols<O: Sink>(start: u64, frames: u64, wrong: u8, out: &mut O) -> Res
     Ok(())
 }
 
-fn ended(put: Result<(), Cause>) -> Cause
+fn cause_of(put: Result<(), Cause>) -> Cause
     ensures done { OnOk put (result ≡ Cause.Done) }
     ensures stopped { IfErr put (λ cause. result ≡ cause) }
 {
@@ -122,7 +125,7 @@ pub fn make<O: Sink>(start: u64, frames: u64, wrong: u8, form: Output, out: &mut
     ensures ends { MakeEnds O.Sink (made_bytes form start wrong frames) result out.old out.new }
 {
     match form {
-        Output::Symbols => ended(make_symbols(start, frames, wrong, out)),
-        Output::Units(form) => ended(make_units(start, frames, wrong, form, out)),
+        Output::Symbols => cause_of(make_symbols(start, frames, wrong, out)),
+        Output::Units(form) => cause_of(make_units(start, frames, wrong, form, out)),
     }
 }

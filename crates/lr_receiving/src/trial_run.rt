@@ -10,19 +10,17 @@ ghost use Rattle.lr_commands.specs.Causes.{IsCaused};
 ghost use Rattle.lr_receiving.specs.Causes.{counts};
 ghost use Rattle.lr_receiving.specs.Inputs.{files_of_bytes};
 ghost use Rattle.lr_receiving.specs.Made.{made_bytes};
-ghost use Rattle.lr_receiving.specs.Readers.{input_of, IsReadyFor};
 ghost use Rattle.lr_receiving.specs.Receive.{receive_last};
-ghost use Rattle.lr_receiving.specs.Reception.{ended_line};
+ghost use Rattle.lr_receiving.specs.Reception.{sums_line};
 ghost use Rattle.lr_receiving.specs.Shelved.{StopsTrial};
 ghost use Rattle.lr_receiving.specs.Shelving.{with_files};
 ghost use Rattle.lr_receiving.specs.Trial.{trial_capacity, LeavesDisk, TrialRun};
-ghost use Rattle.lr_receiving.specs.declared.input.TheConstants.{MOST_BYTES as most_bytes};
+ghost use Rattle.lr_reading.specs.declared.input.Input.TheVariants.{Symbols};
+ghost use Rattle.lr_reading.specs.declared.input.TheConstants.{MOST_BYTES as most_bytes};
 
-use crate::ended::Ended;
-use crate::input::{Input, MOST_BYTES};
 use crate::output::Output;
-use crate::reader::Reader;
 use crate::reception::{put_last, receive_all};
+use crate::sums::Sums;
 use crate::test_stream::put_bytes;
 use lr_bits::{FRAME_SYMBOLS, NoMemory};
 use lr_commands::Cause;
@@ -30,6 +28,7 @@ use lr_conv::STANDARD;
 use lr_disk::Disk;
 use lr_io::{Sink, SureSink, SureSource};
 use lr_make::Maker;
+use lr_reading::{Input, MOST_BYTES, Reader};
 use lr_shelf::Shelf;
 use std::alloc::Global;
 
@@ -61,19 +60,18 @@ fn stream(alloc: Global, start: u64, frames: u64, wrong: u8) -> Result<Vec<u8>, 
 /// Makes an empty shelf on the disk, and puts the files of these symbols onto it.
 fn shelve_stream<D: Disk>(
     alloc: Global,
-    reader: &mut Reader,
+    reader: Reader,
     symbols: Vec<u8>,
     disk: &mut D,
-) -> Result<Ended, Cause>
-    requires ready { IsReadyFor most_bytes reader.old }
-    requires input { input_of reader.old ≡ Input.Symbols standard }
+) -> Result<Sums, Cause>
+    requires input { reader ≡ record { input = Symbols standard; most = most_bytes } }
     requires few { length symbols.items < most_bytes }
-    requires fit { end_of (with_files [] (files_of_bytes (Input.Symbols standard) symbols.items)) ≤ trial_capacity }
+    requires fit { end_of (with_files [] (files_of_bytes (Symbols standard) symbols.items)) ≤ trial_capacity }
     ensures cause { IfErr result (λ cause. IsCaused cause (counts 0 (D.faults disk.old) 0)
         (counts 0 (D.faults disk.new) 0)) }
     ensures told { D.tells disk.old → D.tells disk.new }
     ensures kind { IfErr result StopsTrial }
-    ensures line { IfOk result (λ ended. ended_line ended ≡ receive_last (Input.Symbols standard) symbols.items End) }
+    ensures line { IfOk result (λ sums. sums_line sums ≡ receive_last (Symbols standard) symbols.items End) }
     ensures done { OnOk result (LeavesDisk D.Disk symbols.items Cause.Done disk.old disk.new) }
     ensures stopped { IfErr result (λ cause. LeavesDisk D.Disk symbols.items cause disk.old disk.new) }
 {
@@ -81,15 +79,7 @@ fn shelve_stream<D: Disk>(
     let mut shelf = Shelf::load(alloc, disk)?;
     let mut source = SureSource::of(symbols);
     let mut lines = SureSink::new();
-    receive_all(
-        alloc,
-        reader,
-        MOST_BYTES,
-        &mut shelf,
-        &mut source,
-        disk,
-        &mut lines,
-    )
+    receive_all(alloc, reader, &mut shelf, &mut source, disk, &mut lines)
 }
 
 /// Makes the symbols of this many frames of the test stream, an empty shelf on the disk, and puts the mission files
@@ -116,15 +106,15 @@ pub fn trial<D: Disk, O: Sink>(
         Ok(symbols) => symbols,
         Err(NoMemory) => return Cause::NoMemory,
     };
-    let mut reader = match Reader::new(alloc, Input::Symbols(STANDARD), MOST_BYTES) {
+    let reader = match Reader::new(alloc, Input::Symbols(STANDARD), MOST_BYTES) {
         Ok(reader) => reader,
         Err(NoMemory) => return Cause::NoMemory,
     };
-    let ended = match shelve_stream(alloc, &mut reader, symbols, disk) {
-        Ok(ended) => ended,
+    let sums = match shelve_stream(alloc, reader, symbols, disk) {
+        Ok(sums) => sums,
         Err(cause) => return cause,
     };
-    match put_last(alloc, &ended, out) {
+    match put_last(alloc, &sums, out) {
         Ok(()) => Cause::Done,
         Err(cause) => cause,
     }

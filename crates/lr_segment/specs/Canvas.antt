@@ -88,13 +88,16 @@ new_fault s =
     if (s.columns == 0) || (s.lines == 0) then Some Empty
     else (if nat_lt 268435456 (s.columns * s.lines) then Some (TooLarge (s.columns * s.lines)) else None)
 
--- why a segment isn't added
-abbrev pub add_fault : Canvas → Member → Option AssembleFault
-add_fault c m =
-    if not (c.bits == m.picture.bits) then Some (Depths c.bits m.picture.bits)
-    else (if nat_lt c.columns (m.segment.start_column + m.picture.columns) || nat_lt c.lines
+-- why a member isn't added to a whole image of this depth and this size
+abbrev pub place_fault : (bits columns lines : ℕ) → Member → Option AssembleFault
+place_fault bits columns lines m =
+    if not (bits == m.picture.bits) then Some (Depths bits m.picture.bits)
+    else (if nat_lt columns (m.segment.start_column + m.picture.columns) || nat_lt lines
     (m.segment.start_line + m.picture.lines)
     then Some Outside else None)
+
+abbrev pub add_fault : Canvas → Member → Option AssembleFault
+add_fault c m = place_fault c.bits c.columns c.lines m
 
 -- the member was added: whatever members the canvas stood for, it stands for them and this one
 pub record Adds (old : Canvas) (m : Member) (new : Canvas) : Type 0 where
@@ -110,3 +113,20 @@ pub record IsAssembled (c : Canvas) (members : List Member) (picture : Picture) 
   pub lines : picture.lines ≡ c.lines
   pub pixels : picture.pixels ≡ pixels_of c.columns c.lines members
   pub uncovered : count ≡ uncovered_count c.columns c.lines members
+
+-- ---- members, of which the first gives the size and the depth
+
+-- why a member isn't put together with those before it
+abbrev pub member_fault : List Member → Member → Option AssembleFault
+member_fault [] m =
+    option_or (new_fault m.segment) (place_fault m.picture.bits m.segment.columns m.segment.lines m)
+member_fault (first ∷ members) m = place_fault first.picture.bits first.segment.columns first.segment.lines m
+
+-- the whole image of the first and these members, the first among them
+abbrev pub whole_picture : Member → List Member → Picture
+whole_picture first members = record {
+  bits = first.picture.bits;
+  columns = first.segment.columns;
+  lines = first.segment.lines;
+  pixels = pixels_of first.segment.columns first.segment.lines members;
+}

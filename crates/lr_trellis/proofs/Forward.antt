@@ -102,3 +102,13 @@ pub costs_fit : (line : LineCode) (w : List ℤ) (steps : ℕ) (words costs : Li
     IsDecided line w steps words costs → (s : ℕ) → s < 64 → slice_index costs s + 508 < 4294967296
 costs_fit line w steps words costs few d s l =
     omega (arith, d.least s l, best_bound line w steps d.most steps s (omega arith))
+
+-- what is decided has the bound too
+pub from_decided : (line : LineCode) (w : List ℤ) (i : ℕ) (words costs : List ℕ) → IsDecided line w i words costs →
+    Forward line w i costs words
+from_decided line w i words costs d = record {
+  costs = d.least;
+  bound = λ s l. omega (arith, d.least s l, best_bound line w i d.most i s (omega arith));
+  decided = d.decided;
+  most = d.most;
+}

@@ -95,19 +95,43 @@ pub fn start_costs(line: LineCode) -> [u32; 64]
     costs
 }
 
-/// Keeps the words of decisions of the first `steps` steps, and answers the least costs after them.
+/// Takes step `i`: keeps its word of decisions, and leaves the least costs after it in `new`.
+#[inline(always)]
+fn take_step(
+    line: LineCode,
+    window: &[i8],
+    i: usize,
+    words: &mut [u64],
+    old: &[u32; 64],
+    new: &mut [u32; 64],
+)
+    requires step { i < MOST_STEPS }
+    requires words { i < length words.old }
+    requires window { 2 * i + 2 ≤ length window.now }
+    requires decided { IsDecided line window.now i words.old old.now }
+    ensures { IsDecided line window.now (i + 1) words.new new.new }
+{
+    let costs = pair_costs(line, window[2 * i], window[2 * i + 1]);
+    words[i] = step(&costs, old, new);
+}
+
+/// Keeps the words of decisions of the first `steps` steps, and answers the least costs after them. Each turn takes two
+/// steps, there and back between two arrays of costs, so that no costs are copied.
 pub(crate) fn forward(line: LineCode, window: &[i8], steps: usize, words: &mut [u64]) -> [u32; 64]
     requires steps { steps ≤ MOST_STEPS }
     requires words { steps ≤ length words.old }
     requires window { 2 * steps ≤ length window.now }
     ensures { IsDecided line window.now steps words.new result }
 {
-    let mut old = start_costs(line);
-    for i in 0..steps {
-        let costs = pair_costs(line, window[2 * i], window[2 * i + 1]);
-        let mut new = [0u32; 64];
-        words[i] = step(&costs, &old, &mut new);
-        old = new;
+    let mut even = start_costs(line);
+    let mut odd = [0u32; 64];
+    for turn in 0..steps / 2 {
+        take_step(line, window, 2 * turn, words, &even, &mut odd);
+        take_step(line, window, 2 * turn + 1, words, &odd, &mut even);
     }
-    old
+    if steps % 2 == 0 {
+        return even;
+    }
+    take_step(line, window, steps - 1, words, &even, &mut odd);
+    odd
 }

@@ -38,7 +38,7 @@ fn discard_puts(
 }
 
 /// The shelf of two files, the first of which is discarded.
-fn without_first(alloc: Global) -> Result<MemDisk, Fail> {
+pub(crate) fn without_first(alloc: Global) -> Result<MemDisk, Fail> {
     let mut made = with_two(alloc)?;
     let mut out = sink(alloc)?;
     let cause = discards(alloc, 0, &mut made, &mut out);

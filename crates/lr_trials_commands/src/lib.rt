@@ -4,6 +4,12 @@
 #[cfg(test)]
 mod entries;
 #[cfg(test)]
+mod headers;
+#[cfg(test)]
+mod listed;
+#[cfg(test)]
+mod pictures;
+#[cfg(test)]
 mod shared;
 #[cfg(test)]
 mod stops;

@@ -3,6 +3,8 @@ use lr_bits::{Bytes, Lengths, MissionFile, Origin, Placed};
 use lr_commands::Cause;
 use lr_commands::discard::discard;
 use lr_commands::extract::extract;
+use lr_commands::list::list;
+use lr_commands::show::show;
 use lr_commands::verify::verify;
 use lr_disk::{Disk, MemDisk};
 use lr_io::{MemSink, Sink};
@@ -94,6 +96,19 @@ pub(crate) fn extracts<D: Disk, O: Sink>(
 
 pub(crate) fn verifies<D: Disk, O: Sink>(alloc: Global, disk: &mut D, out: &mut O) -> Cause {
     verify(alloc, disk, out)
+}
+
+pub(crate) fn lists<D: Disk, O: Sink>(alloc: Global, disk: &mut D, out: &mut O) -> Cause {
+    list(alloc, disk, out)
+}
+
+pub(crate) fn shows<D: Disk, O: Sink>(
+    alloc: Global,
+    number: u64,
+    disk: &mut D,
+    out: &mut O,
+) -> Cause {
+    show(alloc, number, disk, out)
 }
 
 pub(crate) fn discards<D: Disk, O: Sink>(

@@ -27,8 +27,9 @@ fn discards_into(alloc: Global, room: usize, status: u8, put: &[u8]) -> Result<b
     Ok(ended(cause, &out, status, put) && is_discarded(alloc, &mut made)?)
 }
 
-/// Discards file 0 where one call of the disk fails, counted from the run's first: status 4, and nothing is put. Whether
-/// the file is gone then. The load makes the calls 0 to 4; the item is written by call 5, and its gate is synced by 8.
+/// Discards file 0 where one call of the disk fails, counted from the run's first: status 4, and nothing is put.
+/// Whether the file is gone then. The load makes the calls 0 to 4; the item is written by call 5, and its gate is
+/// synced by 8.
 fn stopped_at(alloc: Global, after: u64) -> Result<bool, Fail> {
     let mut made = with_two(alloc)?;
     let mut out = sink(alloc)?;

@@ -10,11 +10,15 @@ mod discards;
 #[cfg(test)]
 mod frames;
 #[cfg(test)]
+mod images;
+#[cfg(test)]
 mod init;
 #[cfg(test)]
 mod kept;
 #[cfg(test)]
 mod limits;
+#[cfg(test)]
+mod listed;
 #[cfg(test)]
 mod made;
 #[cfg(test)]

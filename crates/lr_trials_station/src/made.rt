@@ -163,6 +163,32 @@ fn files_are_shelved_however_the_reads_are_cut(rt: HostRuntime) -> Result<(), Fa
     Ok(())
 }
 
+// The file with the image of 64 lines, and its header.
+const IMAGE: &str = "file 7 vc 0 apid 100 counter 0 bytes 4131 packets 65 \
+    declared 32968 real 32968 same type 0 frames 0 9 corrected 0\n\
+    record 0 length 16 primary type 0 header 25 bits 32768\n\
+    record 1 length 9 image bits 8 columns 64 lines 64 compression 0\n";
+
+// The last lines of the list.
+const LAST_LISTED: &str = "file 62 vc 5 apid 200 counter 56 bytes 237 packets 1 \
+    declared 1816 real 1816 same type 2 frames 62 62 corrected 0\n\
+    files 63 used 41666 capacity 65536\n";
+
+#[test]
+fn shelved_files_are_listed_and_shown(rt: HostRuntime) -> Result<(), Fail> {
+    let alloc = rt.alloc();
+    let mut disk = shelf(alloc)?;
+    let bytes = after_silence(alloc)?;
+    let input = reading(&["receive"], bytes, 65_536);
+    assert!(rt; ends_on(alloc, &mut disk, input, LINES, done(AFTER))?);
+    let listing = reading(&["list"], Vec::new(alloc), 1);
+    assert!(rt; ends_on(alloc, &mut disk, listing, LINES, done(LAST_LISTED))?);
+    assert!(rt; gives_alone(alloc, &mut disk, &["show", "7"], done(IMAGE))?);
+    let none = refused(7, "station: no such file, count 63\n");
+    assert!(rt; gives_alone(alloc, &mut disk, &["show", "63"], none)?);
+    Ok(())
+}
+
 #[test]
 fn all_files_fit_or_the_last_one_does_not(rt: HostRuntime) -> Result<(), Fail> {
     let alloc = rt.alloc();

@@ -6,7 +6,7 @@ use std::alloc::{AllocError, Global};
 use std::test::Fail;
 
 /// Words with a space between them, and the command that they give.
-const READ: [(&str, &str); 36] = [
+const READ: [(&str, &str); 43] = [
     ("init 100", "init 100"),
     ("init -- 100", "init 100"),
     ("init 00000000000000000100", "init 100"),
@@ -19,6 +19,16 @@ const READ: [(&str, &str); 36] = [
         "extract 18446744073709551615",
     ),
     ("discard 7", "discard 7"),
+    ("list", "list"),
+    ("list --", "list"),
+    ("show 7", "show 7"),
+    ("export -- 07", "export 7"),
+    ("assemble 0 2 -- 100 1", "assemble 0 2 100 1"),
+    (
+        "assemble 18446744073709551615 00 2046 65535",
+        "assemble 18446744073709551615 0 2046 65535",
+    ),
+    ("show -- 00", "show 0"),
     ("verify", "verify"),
     ("verify --", "verify"),
     ("frames", "frames 1099511627776"),
@@ -73,7 +83,7 @@ const READ: [(&str, &str); 36] = [
 ];
 
 /// Words of which the arguments don't fit the command.
-const WRONG_ARGUMENTS: [&str; 29] = [
+const WRONG_ARGUMENTS: [&str; 37] = [
     "",
     " ",
     "init",
@@ -87,6 +97,14 @@ const WRONG_ARGUMENTS: [&str; 29] = [
     "extract -- -- 0",
     "extract 0 --symbols 5",
     "discard",
+    "list 0",
+    "list -- x",
+    "show",
+    "show 0 0",
+    "export",
+    "export 0 0",
+    "assemble 0 2 100",
+    "assemble 0 2 100 1 1",
     "verify 0",
     "verify ",
     "verify -- x",
@@ -159,7 +177,7 @@ const NO_COMMAND: [&str; 22] = [
 ];
 
 /// Words of which a value is none.
-const WRONG_VALUES: [&str; 44] = [
+const WRONG_VALUES: [&str; 49] = [
     "init 19",
     "init 1099511627777",
     "init +100",
@@ -168,6 +186,11 @@ const WRONG_VALUES: [&str; 44] = [
     "init 10_0",
     "init 000000000000000000100",
     "extract +1",
+    "show +1",
+    "export +1",
+    "assemble 0 2 2047 1",
+    "assemble 0 2 100 65536",
+    "show 18446744073709551616",
     "extract -",
     "extract -- -0",
     "extract 18446744073709551616",
@@ -251,7 +274,16 @@ fn text_of(alloc: Global, command: Command) -> Result<String, AllocError> {
         Command::Decode { input, most } => input_text(alloc, "decode", input, most),
         Command::Receive { input, most } => input_text(alloc, "receive", input, most),
         Command::Extract { number } => format!(in alloc; "extract {number}"),
+        Command::List => String::from_str(alloc, "list"),
+        Command::Show { number } => format!(in alloc; "show {number}"),
         Command::Verify => String::from_str(alloc, "verify"),
+        Command::Export { number } => format!(in alloc; "export {number}"),
+        Command::Assemble {
+            from,
+            to,
+            apid,
+            image,
+        } => format!(in alloc; "assemble {from} {to} {apid} {image}"),
         Command::Discard { number } => format!(in alloc; "discard {number}"),
         Command::Make {
             start,
@@ -342,7 +374,16 @@ fn the_first_word_says_whether_the_shelf_may_change(rt: HostRuntime) -> Result<(
     for line in ["init 20", "receive", "trial", "discard x"] {
         assert!(rt; may_write(alloc, line)?);
     }
-    for line in ["", "frames", "extract 0", "make init", "Init", "init5"] {
+    for line in [
+        "",
+        "frames",
+        "extract 0",
+        "export 0",
+        "assemble",
+        "make init",
+        "Init",
+        "init5",
+    ] {
         assert!(rt; !may_write(alloc, line)?);
     }
     assert!(rt; !writes_shelf(&Vec::new(alloc)));

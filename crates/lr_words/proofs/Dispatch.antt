@@ -31,7 +31,11 @@ use Rattle.lr_words.specs.Commands.{
   decode_of,
   receive_of,
   extract_of,
+  list_of,
+  show_of,
   verify_of,
+  export_of,
+  assemble_of,
   discard_of,
   make_of,
   trial_of,
@@ -47,12 +51,16 @@ pub other_name : (name : Text) (words : List Text)
     → (name ≡ codes "decode" → ⊥)
     → (name ≡ codes "receive" → ⊥)
     → (name ≡ codes "extract" → ⊥)
+    → (name ≡ codes "list" → ⊥)
+    → (name ≡ codes "show" → ⊥)
     → (name ≡ codes "verify" → ⊥)
+    → (name ≡ codes "export" → ⊥)
+    → (name ≡ codes "assemble" → ⊥)
     → (name ≡ codes "discard" → ⊥)
     → (name ≡ codes "make" → ⊥)
     → (name ≡ codes "trial" → ⊥)
     → None ≡ named name words
-other_name name words h0 h1 h2 h3 h4 h5 h6 h7 h8 h9 =
+other_name name words h0 h1 h2 h3 h4 h5 h6 h7 h8 h9 h10 h11 h12 h13 =
     rw (
       differs _ _ h0,
       differs _ _ h1,
@@ -64,6 +72,10 @@ other_name name words h0 h1 h2 h3 h4 h5 h6 h7 h8 h9 =
       differs _ _ h7,
       differs _ _ h8,
       differs _ _ h9,
+      differs _ _ h10,
+      differs _ _ h11,
+      differs _ _ h12,
+      differs _ _ h13,
     ) refl
 
 first_named : (words : List (String Global)) (name : String Global) → Some name ≡ slice_get words 0
@@ -99,8 +111,20 @@ at_receive name words e = rw e refl
 pub at_extract : (name : Text) (words : List Text) → name ≡ codes "extract" → extract_of words ≡ named name words
 at_extract name words e = rw e refl
 
+pub at_list : (name : Text) (words : List Text) → name ≡ codes "list" → list_of words ≡ named name words
+at_list name words e = rw e refl
+
+pub at_show : (name : Text) (words : List Text) → name ≡ codes "show" → show_of words ≡ named name words
+at_show name words e = rw e refl
+
 pub at_verify : (name : Text) (words : List Text) → name ≡ codes "verify" → verify_of words ≡ named name words
 at_verify name words e = rw e refl
+
+pub at_export : (name : Text) (words : List Text) → name ≡ codes "export" → export_of words ≡ named name words
+at_export name words e = rw e refl
+
+pub at_assemble : (name : Text) (words : List Text) → name ≡ codes "assemble" → assemble_of words ≡ named name words
+at_assemble name words e = rw e refl
 
 pub at_discard : (name : Text) (words : List Text) → name ≡ codes "discard" → discard_of words ≡ named name words
 at_discard name words e = rw e refl

@@ -33,7 +33,11 @@ use Rattle.lr_words.specs.declared.command.Command.TheVariants.{
   Decode,
   Receive,
   Extract,
+  List as ListAll,
+  Show,
   Verify,
+  Export,
+  Assemble,
   Discard,
   Make,
   Trial,
@@ -106,12 +110,51 @@ extract_of words = if is_taken extract_app words
     then option_map (λ n. Extract n) (number_given 0 most_u64 (value_of extract_app words (codes "number")))
     else None
 
+-- `list`
+unfoldable pub list_app : App
+list_app = new_app (codes "list")
+
+abbrev pub list_of : List Text → Option Command
+list_of words = if is_taken list_app words then Some ListAll else None
+
+-- `show NUMBER`
+abbrev pub show_app : App
+show_app = number_app (codes "show")
+
+abbrev pub show_of : List Text → Option Command
+show_of words = if is_taken show_app words
+    then option_map (λ n. Show n) (number_given 0 most_u64 (value_of show_app words (codes "number")))
+    else None
+
 -- `verify`
 unfoldable pub verify_app : App
 verify_app = new_app (codes "verify")
 
 abbrev pub verify_of : List Text → Option Command
 verify_of words = if is_taken verify_app words then Some Verify else None
+
+-- `export NUMBER`
+abbrev pub export_app : App
+export_app = number_app (codes "export")
+
+abbrev pub export_of : List Text → Option Command
+export_of words = if is_taken export_app words
+    then option_map (λ n. Export n) (number_given 0 most_u64 (value_of export_app words (codes "number")))
+    else None
+
+-- `assemble FROM TO APID IMAGE`
+unfoldable pub assemble_app : App
+assemble_app = with_rule (with_rule (with_rule (with_rule (new_app (codes "assemble")) (place (codes "from")))
+    (place (codes "to"))) (place (codes "apid"))) (place (codes "image"))
+
+abbrev pub assemble_of : List Text → Option Command
+assemble_of words = if is_taken assemble_app words
+    then option_and_then (λ f. option_and_then (λ t. option_and_then (λ a. option_map (λ i. Assemble f t a i)
+    (number_given 0 65535 (value_of assemble_app words (codes "image"))))
+    (number_given 0 2046 (value_of assemble_app words (codes "apid"))))
+    (number_given 0 most_u64 (value_of assemble_app words (codes "to"))))
+    (number_given 0 most_u64 (value_of assemble_app words (codes "from")))
+    else None
 
 -- `discard NUMBER`
 abbrev pub discard_app : App
@@ -157,7 +200,11 @@ named name words =
     else if bytes_eq name (codes "decode") then decode_of words
     else if bytes_eq name (codes "receive") then receive_of words
     else if bytes_eq name (codes "extract") then extract_of words
+    else if bytes_eq name (codes "list") then list_of words
+    else if bytes_eq name (codes "show") then show_of words
     else if bytes_eq name (codes "verify") then verify_of words
+    else if bytes_eq name (codes "export") then export_of words
+    else if bytes_eq name (codes "assemble") then assemble_of words
     else if bytes_eq name (codes "discard") then discard_of words
     else if bytes_eq name (codes "make") then make_of words
     else if bytes_eq name (codes "trial") then trial_of words
@@ -183,6 +230,7 @@ IsInRange (Some (Frames most)) = most ≤ 2 ^ 48
 IsInRange (Some (Packets most)) = most ≤ 2 ^ 48
 IsInRange (Some (Decode input most)) = most ≤ 2 ^ 48
 IsInRange (Some (Receive input most)) = most ≤ 2 ^ 48
+IsInRange (Some (Assemble from to apid image)) = (apid ≤ 2046) × (image ≤ 65535)
 IsInRange (Some (Make start frames wrong form)) = (frames ≤ 65536) × (wrong ≤ 16)
 IsInRange (Some (Trial start frames wrong)) = (frames ≤ 1024) × (wrong ≤ 16)
 IsInRange _ = Unit {0}

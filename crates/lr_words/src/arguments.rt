@@ -22,7 +22,7 @@ pub(crate) fn option<'a>(alloc: Global, id: &'a str) -> Arg<'a>
     Arg::new(alloc, id).long(id)
 }
 
-/// The number of an entry, as `extract` and `discard` have it.
+/// The number of an entry, as `extract`, `show`, `export` and `discard` have it.
 pub(crate) fn number_parser<'a>(alloc: Global, name: &'a str) -> Result<Parser<'a>, AllocError>
     ensures { IfOk result (λ c. app_of c ≡ number_app name.now) }
 {

@@ -29,8 +29,26 @@ pub enum Command {
     Extract {
         number: u64,
     },
+    /// A line for each entry, and one for the shelf.
+    List,
+    /// The line of the file of this number, and a line for each record of its header.
+    Show {
+        number: u64,
+    },
     /// A line for each file's checksum.
     Verify,
+    /// The image of the file of this number, as PGM.
+    Export {
+        number: u64,
+    },
+    /// The segments of the image of this identifier among the files of this application, put together: those of the
+    /// entries from one number up to another.
+    Assemble {
+        from: u64,
+        to: u64,
+        apid: u16,
+        image: u16,
+    },
     /// Closes the entry of this number.
     Discard {
         number: u64,

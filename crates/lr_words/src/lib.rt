@@ -7,18 +7,22 @@
 #![tactic(auto)]
 
 mod arguments;
+mod assemble;
 mod command;
 mod decode;
 mod discard;
+mod export;
 mod extract;
 mod frames;
 mod init;
+mod list;
 mod make;
 mod matched;
 mod numbers;
 mod packets;
 mod read;
 mod receive;
+mod show;
 mod trial;
 mod values;
 mod verify;

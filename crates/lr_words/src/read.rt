@@ -2,15 +2,19 @@
 ghost use Rattle.std.specs.Prelude.{◌≡◌, map, IfOk, string_bytes};
 ghost use Rattle.lr_words.specs.Commands.{command_of, is_writing, writes_shelf, IsInRange};
 
+use crate::assemble::read_assemble;
 use crate::command::Command;
 use crate::decode::read_decode;
 use crate::discard::read_discard;
+use crate::export::read_export;
 use crate::extract::read_extract;
 use crate::frames::read_frames;
 use crate::init::read_init;
+use crate::list::read_list;
 use crate::make::read_make;
 use crate::packets::read_packets;
 use crate::receive::read_receive;
+use crate::show::read_show;
 use crate::trial::read_trial;
 use crate::verify::read_verify;
 use lr_bits::NoMemory;
@@ -33,7 +37,11 @@ pub fn read_words(alloc: Global, words: &[String]) -> Result<Option<Command>, No
         "decode" => read_decode(alloc, words),
         "receive" => read_receive(alloc, words),
         "extract" => read_extract(alloc, words),
+        "list" => read_list(alloc, words),
+        "show" => read_show(alloc, words),
         "verify" => read_verify(alloc, words),
+        "export" => read_export(alloc, words),
+        "assemble" => read_assemble(alloc, words),
         "discard" => read_discard(alloc, words),
         "make" => read_make(alloc, words),
         "trial" => read_trial(alloc, words),

@@ -1,5 +1,5 @@
-use Rattle.lr_commands.specs.declared.cause.Cause.TheVariants.{Done, NoMemory}
-use Rattle.lr_commands.specs.Causes.{cause_of}
+use Rattle.lr_commands.specs.declared.cause.Cause.TheVariants.{NoMemory}
+use Rattle.lr_commands.specs.Causes.{cause_of, done_with}
 use Rattle.lr_commands.proofs.Loading.{not_started, not_loaded, loaded, over}
 use Rattle.lr_commands.proofs.run.run_entries.Goals as goal
 
@@ -22,10 +22,13 @@ returns-in-Err-load g c =
 pub returns-in-Ok-take_entries : goal.returns-in-Ok-take_entries
 returns-in-Ok-take_entries g c =
     let asked = g.C.ReadsEntries.asked c.args.command.now in
-    over g.D.Disk g.O.Sink asked c.args.disk.now c.take_entries.new.disk c.args.out.now c.take_entries.new.out Done
+    let note = c.in-Ok-take_entries.note in
+    rw c.done.ensures
+    (over g.D.Disk g.O.Sink asked c.args.disk.now c.take_entries.new.disk c.args.out.now c.take_entries.new.out
+    (done_with note)
     (loaded g.D.Disk g.O.Sink asked c.args.disk.now c.load.new.disk c.args.out.now c.load.result c.load.ensures
-    c.in-Ok-load.shelf c.in-Ok-load.is c.take_entries.new.disk c.take_entries.new.out Done
-    c.in-Ok-take_entries.ensures.takes)
+    c.in-Ok-load.shelf c.in-Ok-load.is c.take_entries.new.disk c.take_entries.new.out (done_with note)
+    c.in-Ok-take_entries.ensures.takes))
 
 pub returns : goal.returns
 returns g c =

@@ -1,9 +1,9 @@
-use Rattle.std.proofs.Common.{◌≡◌, ◌∙◌, sym, ap, subst, refl, arith, length, Ok, [], OnOk, IfErr}
+use Rattle.std.proofs.Common.{◌≡◌, ◌∙◌, ◌+◌, ◌<◌, ◌^◌, sym, ap, subst, refl, arith, length, Ok, [], OnOk, IfErr}
 use Rattle.std.proofs.lemmas.Result.{err_from_is_err_and}
 use Rattle.lr_disk.proofs.Moments.{unwritten_joined, unwritten_yet}
 use Rattle.lr_shelf.specs.Kept.{Kept, kept_by}
 use Rattle.lr_commands.specs.Steps.{PutsText, TextStops, TakesEntry, EntryStops}
-use Rattle.lr_commands.proofs.Texts.{on_ok, on_sure}
+use Rattle.lr_commands.proofs.Texts.{on_noted, on_sure}
 use Rattle.lr_commands.proofs.Taking.{so_first, so_more, not_allowed, entry_stopped, last_taken, last_stopped}
 use Rattle.lr_commands.proofs.run.take_entries.Goals as goal
 
@@ -59,6 +59,7 @@ loop-number-preserved g c =
     let inv = c.loop-number.invariant in
     let e = c.in_ok-entry.ensures in
     let asked = g.C.ReadsEntries.asked c.args.command.now in
+    let few : length inv.so_far.read + 1 < 2 ^ 64 = omega (arith, inv.so_far.few, c.loop-number-test.true) in
     record {
       kept = e.reads.kept ∙ inv.kept;
       told = λ t. e.reads.told (inv.told t);
@@ -74,7 +75,7 @@ loop-number-preserved g c =
           (λ (k : Kept). TakesEntry g.D.Disk g.O.Sink asked k.way inv.so_far.read c.loop-number.number
           (g.C.ReadsEntries.gathers c.args.command.now c.entry.new.gathered)
           c.loop-number.disk c.loop-number.out c.entry.new.out) inv.kept
-          (e.takes inv.so_far.read inv.so_far.gathered));
+          (e.takes inv.so_far.read few inv.so_far.gathered));
     }
 
 pub returns-clause-takes : goal.returns-clause-takes
@@ -88,12 +89,12 @@ returns-clause-takes g c =
     (λ (k : Kept). OnOk c.last.result
     (PutsText g.O.Sink (asked.last k.way inv.so_far.read) c.loop-number.out c.last.new.out)) inv.kept
     (c.last.ensures.takes inv.so_far.read inv.so_far.gathered) in
-    on_ok c.last.result
-    (last_taken g.D.Disk g.O.Sink asked way c.args.disk.now c.args.out.now c.in-Some.range allowed
+    on_noted c.last.result
+    (λ puts. last_taken g.D.Disk g.O.Sink asked way c.args.disk.now c.args.out.now c.in-Some.range allowed
     (g.C.ReadsEntries.gathers c.args.command.now c.loop-number.gathered) c.loop-number.number c.loop-number.disk
     c.loop-number.out c.last.new.out inv.so_far inv.told inv.reads inv.disk_count
-    (c.loop-number.auto.number-end c.in-Some.ensures.ordered) c.loop-number-test.false)
-    takes
+    (c.loop-number.auto.number-end c.in-Some.ensures.ordered) c.loop-number-test.false puts)
+    takes (c.last.ensures.tells inv.so_far.read inv.so_far.gathered)
 
 pub returns-clause-stops : goal.returns-clause-stops
 returns-clause-stops g c =

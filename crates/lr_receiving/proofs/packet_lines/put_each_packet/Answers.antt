@@ -1,42 +1,26 @@
-use Rattle.std.proofs.Common.{refl, rules, arith, ◌+◌, ◌<◌}
+use Rattle.std.proofs.Common.{rules, refl}
 use Rattle.std.proofs.lemmas.Result.{err_from_is_err_and}
-use Rattle.lr_receiving.proofs.PacketsLoop.{begun_packets, room, place_fits, packets_stopped, packets_more}
+use Rattle.lr_receiving.proofs.PacketsGoOn.{packets_begun, all_packets, some_packets}
 use Rattle.lr_receiving.proofs.packet_lines.put_each_packet.Goals as goal
 
-pub frames-init : goal.frames-init
-frames-init g c = begun_packets g.S.Source g.O.Sink c.args.most c.new-channels.result c.new-channels.ensures _
-    refl refl c.new-units.result c.new-units.ensures c.args.source.now c.args.out.now
+pub read-requires-clause-ready : goal.read-requires-clause-ready
+read-requires-clause-ready g c = (_, packets_begun g.O.Sink _ c.new-channels.ensures refl refl)
 
-pub put_frame-requires : goal.put_frame-requires
-put_frame-requires g c =
-    let why = c.in-Whole.ensures.reason in
-    record {
-      room = room g.S.Source g.O.Sink c.args.most c.frames.invariant c.in-Whole.ensures.gathered why.0
-          why.1 c.unit-frame.result.now c.unit-frame.ensures (search rules);
-    }
-
-pub returns-in_err-put_frame-in-Whole-clause-stopped : goal.returns-in_err-put_frame-in-Whole-clause-stopped
-returns-in_err-put_frame-in-Whole-clause-stopped g c =
-    let so = c.frames.invariant in
-    let why = c.in-Whole.ensures.reason in
+pub returns-in_err-totals-clause-stopped : goal.returns-in_err-totals-clause-stopped
+returns-in_err-totals-clause-stopped g c =
     let p = err_from_is_err_and c.from_residual.result c.from_residual.ensures.1 in
-    rw (p.1, p.2) (packets_stopped g.S.Source g.O.Sink c.args.most so c.in-Whole.ensures.gathered why.0 why.1
-    c.unit-frame.result.now c.unit-frame.ensures c.put_frame.new.out c.in_err-put_frame-in-Whole.field-0.0
-    (c.in_err-put_frame-in-Whole.ensures.stopped so.units so.after))
+    let t = some_packets g.O.Sink g.S.Source c.args.reader.most
+    (packets_begun g.O.Sink _ c.new-channels.ensures refl refl) _
+    (rw c.requires.input at c.in_err-totals.ensures.some) in
+    let same = t.0 in
+    let stops = t.1 in
+    rw (p.1, p.2) (search rules)
 
-pub overflow_add-place : goal.overflow_add-place
-overflow_add-place g c =
-    let why = c.in-Whole.ensures.reason in
-    let few : c.frames.place + 1 < 18446744073709551616 =
-    place_fits g.S.Source g.O.Sink c.args.most c.frames.invariant c.in-Whole.ensures.gathered why.0 why.1
-    c.unit-frame.result.now c.unit-frame.ensures (search rules) in
-    omega (arith, few)
-
-pub frames-preserved : goal.frames-preserved
-frames-preserved g c =
-    let so = c.frames.invariant in
-    let why = c.in-Whole.ensures.reason in
-    packets_more g.S.Source g.O.Sink c.args.most so c.in-Whole.ensures.gathered why.0 why.1
-    c.unit-frame.result.now c.unit-frame.ensures c.clear.new.self c.clear.ensures c.put_frame.new.out
-    (c.in_ok-put_frame-in-Whole.ensures.put so.units so.after) c.put_frame.new.channels c.put_frame.new.counted
-    (c.in_ok-put_frame-in-Whole.ensures.stands so.units so.after) c.in_ok-put_frame-in-Whole.ensures.few
+pub returns-clause-all : goal.returns-clause-all
+returns-clause-all g c =
+    let t = all_packets g.O.Sink g.S.Source c.args.reader.most
+    (packets_begun g.O.Sink _ c.new-channels.ensures refl refl)
+    (rw c.requires.input at c.in_ok-totals.ensures.all) in
+    let same = t.0 in
+    let all = t.1 in
+    search rules

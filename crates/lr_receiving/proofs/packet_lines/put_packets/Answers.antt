@@ -1,28 +1,28 @@
-use Rattle.std.proofs.Common.{lit<}
 use Rattle.std.proofs.lemmas.Result.{err_from_is_err_and}
-use Rattle.lr_receiving.specs.Packets.{lines_of_packets, packets_count, packets_last}
-use Rattle.lr_receiving.proofs.PacketsCounted.{packets_last-units}
-use Rattle.lr_receiving.proofs.Printed.{all_put, last_stopped}
+use Rattle.lr_receiving.specs.Packets.{packets_text, packets_last}
+use Rattle.lr_receiving.proofs.Lines.{none_read, all_put, last_stopped}
+use Rattle.lr_receiving.proofs.PacketsCounted.{packets_last_is}
 use Rattle.lr_receiving.proofs.packet_lines.put_packets.Goals as goal
+
+pub returns-in_err-reader-clause-stopped : goal.returns-in_err-reader-clause-stopped
+returns-in_err-reader-clause-stopped g c =
+    let p = err_from_is_err_and c.from_residual.result c.from_residual.ensures.1 in
+    rw (p.1, p.2)
+    (none_read g.S.Source g.O.Sink packets_text packets_last c.args.most c.args.source.now c.args.out.now)
 
 pub returns-in_err-put_last-clause-stopped : goal.returns-in_err-put_last-clause-stopped
 returns-in_err-put_last-clause-stopped g c =
-    let ended = c.in_ok-ended.ended in
-    let all = c.in_ok-ended.ensures.ended in
-    let end = all.1 in
-    let last = packets_last-units all.0 end.held ended.frames ended.left ended.stop end.whole end.short all.2
-    end.long in
     let p = err_from_is_err_and c.from_residual-in_err-put_last.result c.from_residual-in_err-put_last.ensures.1 in
-    rw (p.1, p.2) (last_stopped g.S.Source g.O.Sink 892 c.args.most (lit< tt) lines_of_packets packets_last end
-    (packets_count all.0 ended.frames ended.left ended.stop) c.args.out.now c.put_each_packet.new.out
-    c.put_last.new.out last all.4 c.in_err-put_last.field-0.0 (c.in_err-put_last.ensures.stopped all.0 all.3))
+    let all = rw c.in_ok-reader.ensures at c.in_ok-totals.ensures.all in
+    rw (p.1, p.2)
+    (last_stopped g.S.Source g.O.Sink packets_text packets_last c.args.most all.0 all.1.read
+    c.in_ok-totals.totals.stop all.1.reason all.3 _
+    (packets_last_is g.S.Source c.args.most c.in_ok-totals.totals all.0 _ _ all.1) c.put_last.new.out _
+    (c.in_err-put_last.ensures.stopped _ all.2))
 
 pub returns-clause-all : goal.returns-clause-all
 returns-clause-all g c =
-    let ended = c.in_ok-ended.ended in
-    let all = c.in_ok-ended.ensures.ended in
-    let end = all.1 in
-    let last = packets_last-units all.0 end.held ended.frames ended.left ended.stop end.whole end.short all.2
-    end.long in
-    all_put g.S.Source g.O.Sink 892 c.args.most (lit< tt) lines_of_packets packets_last end last all.4
-    (c.in_ok-put_last.ensures.put all.0 all.3)
+    let all = rw c.in_ok-reader.ensures at c.in_ok-totals.ensures.all in
+    all_put g.S.Source g.O.Sink packets_text packets_last c.args.most all.0 all.1.read c.in_ok-totals.totals.stop
+    all.1.reason all.3 _ (packets_last_is g.S.Source c.args.most c.in_ok-totals.totals all.0 _ _ all.1)
+    (c.in_ok-put_last.ensures.put _ all.2)

@@ -2,7 +2,7 @@ use Rattle.std.proofs.Common.{Result, IfErr, subst}
 use Rattle.lr_shelf.specs.Load.{IsLoadRefusal}
 use Rattle.lr_shelf.specs.declared.shelf.Shelf.{Shelf}
 use Rattle.lr_shelf.specs.declared.error.ShelfError.{ShelfError}
-use Rattle.lr_receiving.specs.declared.input.Input.{Input}
+use Rattle.lr_reading.specs.Readers.{ReaderView}
 use Rattle.lr_receiving.specs.Causes.{cause_at}
 use Rattle.lr_receiving.specs.Reception.{EndsRun}
 use Rattle.lr_receiving.proofs.Loading.{not_made, not_loaded, loaded_run, done_cause, done_kind, stop_cause, stop_kind}
@@ -23,10 +23,10 @@ returns-in-Err-load-clause-run g c =
 
 pub returns-in-Ok-receive_onto-clause-run : goal.returns-in-Ok-receive_onto-clause-run
 returns-in-Ok-receive_onto-clause-run g c =
-    let run = subst (λ (i : Input). EndsRun g.S.Source g.D.Disk g.O.Sink i c.args.most
+    let run = subst (λ (r : ReaderView). EndsRun g.S.Source g.D.Disk g.O.Sink r.input r.most
     (cause_at c.in-Ok-receive_onto.stop) c.in-Ok-load.shelf c.args.source.now c.receive_onto.new.source
     c.load.new.disk c.receive_onto.new.disk c.args.out.now c.receive_onto.new.out)
-    c.in-Ok.ensures.input c.in-Ok-receive_onto.ensures.done in
+    c.in-Ok.ensures c.in-Ok-receive_onto.ensures.done in
     rw c.cause_at.ensures
     (loaded_run g.S.Source g.D.Disk g.O.Sink c.args.input c.args.most c.args.source.now c.args.disk.now
     c.load.new.disk c.args.out.now c.load.result c.load.ensures c.in-Ok-load.shelf c.in-Ok-load.is
@@ -35,10 +35,10 @@ returns-in-Ok-receive_onto-clause-run g c =
 
 pub returns-clause-run : goal.returns-clause-run
 returns-clause-run g c =
-    let run = subst (λ (i : Input). EndsRun g.S.Source g.D.Disk g.O.Sink i c.args.most
+    let run = subst (λ (r : ReaderView). EndsRun g.S.Source g.D.Disk g.O.Sink r.input r.most
     c.in-Err-receive_onto.cause c.in-Ok-load.shelf c.args.source.now c.receive_onto.new.source
     c.load.new.disk c.receive_onto.new.disk c.args.out.now c.receive_onto.new.out)
-    c.in-Ok.ensures.input c.in-Err-receive_onto.ensures.stopped in
+    c.in-Ok.ensures c.in-Err-receive_onto.ensures.stopped in
     loaded_run g.S.Source g.D.Disk g.O.Sink c.args.input c.args.most c.args.source.now c.args.disk.now
     c.load.new.disk c.args.out.now c.load.result c.load.ensures c.in-Ok-load.shelf c.in-Ok-load.is
     c.receive_onto.new.source c.receive_onto.new.disk c.receive_onto.new.out _ run

@@ -1,31 +1,30 @@
 use Rattle.std.proofs.lemmas.Result.{err_from_is_err_and}
-use Rattle.lr_receiving.specs.Readers.{input_of}
 use Rattle.lr_receiving.proofs.ReceiveEnding.{ended_some, last_stopped, all_put}
 use Rattle.lr_receiving.proofs.reception.receive_onto.Goals as goal
 
-pub returns-in_err-ended-clause-stopped : goal.returns-in_err-ended-clause-stopped
-returns-in_err-ended-clause-stopped g c =
+pub returns-in_err-sums-clause-stopped : goal.returns-in_err-sums-clause-stopped
+returns-in_err-sums-clause-stopped g c =
     let p = err_from_is_err_and c.from_residual.result c.from_residual.ensures.1 in
     rw (p.1, p.2)
-    (ended_some g.S.Source g.D.Disk g.O.Sink (input_of c.args.reader.now) c.args.most c.args.shelf.now
+    (ended_some g.S.Source g.D.Disk g.O.Sink c.args.reader.input c.args.reader.most c.args.shelf.now
     c.args.source.now c.receive_all.new.source c.args.disk.now c.receive_all.new.disk c.args.out.now
     c.receive_all.new.out _
-    c.in_err-ended.ensures.kind c.in_err-ended.ensures.some)
+    c.in_err-sums.ensures.kind c.in_err-sums.ensures.some)
 
 pub returns-in_err-put_last-clause-stopped : goal.returns-in_err-put_last-clause-stopped
 returns-in_err-put_last-clause-stopped g c =
     let p = err_from_is_err_and c.from_residual-in_err-put_last.result c.from_residual-in_err-put_last.ensures.1 in
     rw (p.1, p.2)
-    (last_stopped g.S.Source g.D.Disk g.O.Sink (input_of c.args.reader.now) c.args.most c.args.shelf.now
+    (last_stopped g.S.Source g.D.Disk g.O.Sink c.args.reader.input c.args.reader.most c.args.shelf.now
     c.args.source.now c.receive_all.new.source c.args.disk.now c.receive_all.new.disk c.args.out.now
     c.receive_all.new.out
-    c.in_ok-ended.ended c.receive_all.new.shelf c.in_ok-ended.ensures.all c.put_last.new.out _
+    c.in_ok-sums.sums c.receive_all.new.shelf c.in_ok-sums.ensures.all c.put_last.new.out _
     c.in_err-put_last.ensures.stopped)
 
 pub returns-clause-done : goal.returns-clause-done
 returns-clause-done g c =
-    all_put g.S.Source g.D.Disk g.O.Sink (input_of c.args.reader.now) c.args.most c.args.shelf.now
+    all_put g.S.Source g.D.Disk g.O.Sink c.args.reader.input c.args.reader.most c.args.shelf.now
     c.args.source.now c.receive_all.new.source c.args.disk.now c.receive_all.new.disk c.args.out.now
     c.receive_all.new.out
-    c.in_ok-ended.ended c.receive_all.new.shelf c.in_ok-ended.ensures.all c.put_last.new.out
+    c.in_ok-sums.sums c.receive_all.new.shelf c.in_ok-sums.ensures.all c.put_last.new.out
     c.in_ok-put_last.ensures.put

@@ -12,15 +12,15 @@ returns-in-Symbols-clause-ends g c =
     let e = c.make_symbols.ensures in
     let text = bytes_of_symbols (symbol_stream c.args.start c.args.wrong c.args.frames) in
     subst (λ (f : Output). MakeEnds g.O.Sink (made_bytes f c.args.start c.args.wrong c.args.frames)
-    c.ended.result c.args.out.now c.make_symbols.new.out) (sym c.in-Symbols.is)
-    (make_ends g.O.Sink text c.args.out.now c.make_symbols.new.out c.make_symbols.result c.ended.result e.put
-    e.failed e.cause c.ended.ensures.done c.ended.ensures.stopped)
+    c.cause_of.result c.args.out.now c.make_symbols.new.out) (sym c.in-Symbols.is)
+    (make_ends g.O.Sink text c.args.out.now c.make_symbols.new.out c.make_symbols.result c.cause_of.result e.put
+    e.failed e.cause c.cause_of.ensures.done c.cause_of.ensures.stopped)
 
 pub returns-in-Units-clause-ends : goal.returns-in-Units-clause-ends
 returns-in-Units-clause-ends g c =
     let e = c.make_units.ensures in
     let text = made_bytes (Units c.in-Units.form) c.args.start c.args.wrong c.args.frames in
     subst (λ (f : Output). MakeEnds g.O.Sink (made_bytes f c.args.start c.args.wrong c.args.frames)
-    c.ended-in-Units.result c.args.out.now c.make_units.new.out) (sym c.in-Units.is)
-    (make_ends g.O.Sink text c.args.out.now c.make_units.new.out c.make_units.result c.ended-in-Units.result
-    e.put e.failed e.cause c.ended-in-Units.ensures.done c.ended-in-Units.ensures.stopped)
+    c.cause_of-in-Units.result c.args.out.now c.make_units.new.out) (sym c.in-Units.is)
+    (make_ends g.O.Sink text c.args.out.now c.make_units.new.out c.make_units.result c.cause_of-in-Units.result
+    e.put e.failed e.cause c.cause_of-in-Units.ensures.done c.cause_of-in-Units.ensures.stopped)

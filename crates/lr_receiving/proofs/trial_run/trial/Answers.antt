@@ -1,7 +1,7 @@
 use Rattle.std.proofs.Common.{◌≤◌, ap, sym, subst, arith, List, [], ℕ, length}
 use Rattle.lr_shelf_format.specs.Reading.{end_of}
 use Rattle.lr_conv.specs.declared.line.TheConstants.{STANDARD}
-use Rattle.lr_receiving.specs.declared.input.Input.TheVariants.{Symbols}
+use Rattle.lr_reading.specs.declared.input.Input.TheVariants.{Symbols}
 use Rattle.lr_receiving.specs.Inputs.{files_of_bytes}
 use Rattle.lr_receiving.specs.Shelving.{with_files}
 use Rattle.lr_receiving.specs.Trial.{trial_capacity}
@@ -19,10 +19,10 @@ shelve_stream-requires-clause-fit g c =
     (sym c.in-Ok.ensures.bytes)
     (made_files_fit c.args.start c.args.wrong c.args.frames c.requires.few c.in-Ok.ensures.received)
 
-pub returns-clause-run : goal.returns-clause-run
-returns-clause-run g c =
+pub returns-in-Err-put_last-clause-run : goal.returns-in-Err-put_last-clause-run
+returns-in-Err-put_last-clause-run g c =
     rw (sym c.in-Ok.ensures.bytes)
     (last_stops g.D.Disk g.O.Sink c.in-Ok.symbols.items c.args.disk.now c.shelve_stream.new.disk c.args.out.now
     c.put_last.new.out c.in-Ok-shelve_stream.ensures.done
-    c.in-Ok-shelve_stream.ended c.in-Ok-shelve_stream.ensures.line c.in-Err-put_last.cause
+    c.in-Ok-shelve_stream.sums c.in-Ok-shelve_stream.ensures.line c.in-Err-put_last.cause
     c.in-Err-put_last.ensures.stopped)

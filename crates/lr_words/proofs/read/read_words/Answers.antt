@@ -10,7 +10,11 @@ use Rattle.lr_words.proofs.Dispatch.{
   at_decode,
   at_receive,
   at_extract,
+  at_list,
+  at_show,
   at_verify,
+  at_export,
+  at_assemble,
   at_discard,
   at_make,
   at_trial,
@@ -59,11 +63,37 @@ returns-in-extract-clause-gives c =
     IfOk-weaker c.read_extract.result _ _ (λ r e. e ∙ at_extract _ _ c.in-extract.is ∙ first)
     c.read_extract.ensures.gives
 
+pub returns-in-list-clause-gives : goal.returns-in-list-clause-gives
+returns-in-list-clause-gives c =
+    let first = is_first c.args.words.now c.in-Some.name.now c.as_str.result.now c.as_str.ensures.value
+    c.in-Some.ensures.value in
+    IfOk-weaker c.read_list.result _ _ (λ r e. e ∙ at_list _ _ c.in-list.is ∙ first) c.read_list.ensures.gives
+
+pub returns-in-show-clause-gives : goal.returns-in-show-clause-gives
+returns-in-show-clause-gives c =
+    let first = is_first c.args.words.now c.in-Some.name.now c.as_str.result.now c.as_str.ensures.value
+    c.in-Some.ensures.value in
+    IfOk-weaker c.read_show.result _ _ (λ r e. e ∙ at_show _ _ c.in-show.is ∙ first) c.read_show.ensures.gives
+
 pub returns-in-verify-clause-gives : goal.returns-in-verify-clause-gives
 returns-in-verify-clause-gives c =
     let first = is_first c.args.words.now c.in-Some.name.now c.as_str.result.now c.as_str.ensures.value
     c.in-Some.ensures.value in
     IfOk-weaker c.read_verify.result _ _ (λ r e. e ∙ at_verify _ _ c.in-verify.is ∙ first) c.read_verify.ensures.gives
+
+pub returns-in-export-clause-gives : goal.returns-in-export-clause-gives
+returns-in-export-clause-gives c =
+    let first = is_first c.args.words.now c.in-Some.name.now c.as_str.result.now c.as_str.ensures.value
+    c.in-Some.ensures.value in
+    IfOk-weaker c.read_export.result _ _ (λ r e. e ∙ at_export _ _ c.in-export.is ∙ first)
+    c.read_export.ensures.gives
+
+pub returns-in-assemble-clause-gives : goal.returns-in-assemble-clause-gives
+returns-in-assemble-clause-gives c =
+    let first = is_first c.args.words.now c.in-Some.name.now c.as_str.result.now c.as_str.ensures.value
+    c.in-Some.ensures.value in
+    IfOk-weaker c.read_assemble.result _ _ (λ r e. e ∙ at_assemble _ _ c.in-assemble.is ∙ first)
+    c.read_assemble.ensures.gives
 
 pub returns-in-discard-clause-gives : goal.returns-in-discard-clause-gives
 returns-in-discard-clause-gives c =
@@ -88,5 +118,6 @@ pub returns-in_default-as_str-clause-gives : goal.returns-in_default-as_str-clau
 returns-in_default-as_str-clause-gives c =
     let not = c.in_default-as_str in
     other_name c.as_str.result.now _ not.not-init not.not-frames not.not-packets not.not-decode not.not-receive
-    not.not-extract not.not-verify not.not-discard not.not-make not.not-trial
+    not.not-extract not.not-list not.not-show not.not-verify not.not-export not.not-assemble not.not-discard
+    not.not-make not.not-trial
     ∙ is_first c.args.words.now c.in-Some.name.now c.as_str.result.now c.as_str.ensures.value c.in-Some.ensures.value

@@ -7,6 +7,8 @@ use Rattle.lr_commands.proofs.Filing.{
   shelf_counted,
   not_failed,
   get_stops,
+  fewer,
+  opened_stands,
   takes_file,
   stops_file,
   takes_gone,
@@ -15,24 +17,29 @@ use Rattle.lr_commands.proofs.Filing.{
 use Rattle.lr_commands.proofs.Texts.{on_both, on_ok, on_err}
 use Rattle.lr_commands.proofs.files.FilesReadsEntries.entry.Goals as goal
 
-pub returns-in-Ok-clause-takes : goal.returns-in-Ok-clause-takes
-returns-in-Ok-clause-takes g c = λ read gathered.
+pub returns-in-Ok-open-clause-takes : goal.returns-in-Ok-open-clause-takes
+returns-in-Ok-open-clause-takes g c = λ read few gathered.
+    let asked = g.C.ReadsFiles.asked c.args.self.now.0 in
+    let stands = opened_stands g.D.Disk (kept_by c.args.shelf.now) c.args.number c.args.disk.now asked
+    c.in-Ok.stored c.in-Ok-open.opened c.in-Ok-open.ensures.same c.in-Ok-open.ensures.looked c.in-Ok.ensures.stored in
     on_both c.file.result
     (takes_file g.D.Disk g.O.Sink (kept_by c.args.shelf.now) c.args.number c.args.disk.now c.requires.working
-    c.requires.there (g.C.ReadsFiles.asked c.args.self.now.0) read c.args.out.now c.file.new.out c.in-Ok.stored
-    c.in-Ok.ensures.stored (g.C.ReadsFiles.gathers c.args.self.now.0 c.file.new.gathered))
-    (c.file.ensures.puts _ gathered) (c.file.ensures.gathered _ gathered)
+    c.requires.there asked read c.args.out.now c.file.new.out c.in-Ok-open.opened stands.0 stands.1
+    (g.C.ReadsFiles.gathers c.args.self.now.0 c.file.new.gathered))
+    (c.file.ensures.puts _ gathered) (c.file.ensures.gathered _ (fewer read few) gathered)
 
-pub returns-in-Ok-clause-stops : goal.returns-in-Ok-clause-stops
-returns-in-Ok-clause-stops g c = λ read gathered.
+pub returns-in-Ok-open-clause-stops : goal.returns-in-Ok-open-clause-stops
+returns-in-Ok-open-clause-stops g c = λ read gathered.
+    let asked = g.C.ReadsFiles.asked c.args.self.now.0 in
+    let stands = opened_stands g.D.Disk (kept_by c.args.shelf.now) c.args.number c.args.disk.now asked
+    c.in-Ok.stored c.in-Ok-open.opened c.in-Ok-open.ensures.same c.in-Ok-open.ensures.looked c.in-Ok.ensures.stored in
     on_err c.file.result
     (stops_file g.D.Disk g.O.Sink (kept_by c.args.shelf.now) c.args.number c.args.disk.now c.requires.working
-    c.requires.there (g.C.ReadsFiles.asked c.args.self.now.0) read c.args.out.now c.file.new.out c.in-Ok.stored
-    c.in-Ok.ensures.stored)
+    c.requires.there asked read c.args.out.now c.file.new.out c.in-Ok-open.opened stands.0 stands.1)
     (c.file.ensures.stops _ gathered)
 
 pub returns-in-Discarded-clause-takes : goal.returns-in-Discarded-clause-takes
-returns-in-Discarded-clause-takes g c = λ read gathered.
+returns-in-Discarded-clause-takes g c = λ read few gathered.
     let gone =
     subst (IsGetRefusal g.D.Disk (kept_by c.args.shelf.now) c.args.number c.args.disk.now) c.in-Discarded.is
     c.in-Err.ensures.refused in

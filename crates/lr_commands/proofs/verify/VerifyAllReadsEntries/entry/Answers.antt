@@ -16,7 +16,7 @@ use Rattle.lr_commands.proofs.Verifying.{
 use Rattle.lr_commands.proofs.verify.VerifyAllReadsEntries.entry.Goals as goal
 
 pub returns-in-Ok-clause-takes : goal.returns-in-Ok-clause-takes
-returns-in-Ok-clause-takes g c = λ read is.
+returns-in-Ok-clause-takes g c = λ read few is.
     on_ok c.put_check.result
     (takes_right g.D.Disk g.O.Sink (kept_by c.args.shelf.now) read c.args.number c.args.disk.now c.args.out.now
     c.put_check.new.out c.in-Ok.ensures.file c.args.sound.now is)
@@ -30,7 +30,7 @@ returns-in-Ok-clause-stops g c = λ read is.
     c.put_check.ensures.stopped
 
 pub returns-in-Crc-clause-takes : goal.returns-in-Crc-clause-takes
-returns-in-Crc-clause-takes g c = λ read is.
+returns-in-Crc-clause-takes g c = λ read few is.
     let wrong = subst (IsCheckRefusal g.D.Disk (kept_by c.args.shelf.now) c.args.number c.args.disk.now) c.in-Crc.is
     c.in-Err.ensures.refused in
     on_ok c.put_check-in-Crc.result
@@ -48,7 +48,7 @@ returns-in-Crc-clause-stops g c = λ read is.
     c.put_check-in-Crc.ensures.stopped
 
 pub returns-in-Discarded-clause-takes : goal.returns-in-Discarded-clause-takes
-returns-in-Discarded-clause-takes g c = λ read is.
+returns-in-Discarded-clause-takes g c = λ read few is.
     let gone = subst (IsCheckRefusal g.D.Disk (kept_by c.args.shelf.now) c.args.number c.args.disk.now)
     c.in-Discarded.is c.in-Err.ensures.refused in
     on_ok c.put_gone.result

@@ -1,0 +1,25 @@
+-- The first fault of a header.
+use Rattle.std.proofs.Common.{◌≡◌, List, ℕ}
+use Rattle.lr_headers.specs.declared.fault.HeaderFault.{HeaderFault}
+use Rattle.lr_headers.specs.declared.fault.HeaderFault.TheVariants.{
+  Ended,
+  NotPrimary,
+  ShortRecord,
+  Overrun,
+  WrongLength,
+  NoMemory,
+}
+use Rattle.std.proofs.Common.{Err, refl}
+use Rattle.lr_headers.specs.Reading.{header_of}
+use Rattle.lr_headers.specs.Tiling.{HasFaultOrMemory}
+use Rattle.lr_headers.proofs.Readings.{fault_is}
+
+-- a fault that isn't want of memory is that of the header
+pub is_fault : (proper : List ℕ) (fault : HeaderFault) → HasFaultOrMemory proper fault → (fault ≡ NoMemory → ⊥)
+    → header_of proper ≡ Err fault
+is_fault proper (Ended at) has not = fault_is proper (Ended at) has
+is_fault proper NotPrimary has not = fault_is proper NotPrimary has
+is_fault proper (ShortRecord at) has not = fault_is proper (ShortRecord at) has
+is_fault proper (Overrun at) has not = fault_is proper (Overrun at) has
+is_fault proper (WrongLength kind size) has not = fault_is proper (WrongLength kind size) has
+is_fault proper NoMemory has not = absurd (not refl)

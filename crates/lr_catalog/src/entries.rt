@@ -1,0 +1,159 @@
+//! The lines of `list`: one for each file of a shelf, and the last one.
+
+ghost use Rattle.std.specs.Prelude.{◌≡◌, ◌++◌, ◌==◌, IfOk, OnOk, OnErr, string_bytes};
+ghost use Rattle.lr_bits.specs.File.{declared_bits_of, real_bits_of};
+ghost use Rattle.lr_headers.specs.Reading.{header_of};
+ghost use Rattle.lr_catalog.specs.Entries.{
+  key_words,
+  size_words,
+  same_word,
+  bits_words,
+  type_word,
+  origin_words,
+  file_words,
+  file_line,
+  shelf_line,
+};
+
+use lr_bits::{Bytes, MissionFile, NoMemory, Origin};
+use lr_headers::{HeaderFault, Records};
+use std::alloc::{AllocError, Global};
+
+fn key_words(alloc: Global, number: u64, file: &MissionFile) -> Result<String, AllocError>
+    ensures { IfOk result (λ words. string_bytes words ≡ key_words number file.now) }
+{
+    let vc = file.vc();
+    let apid = file.apid();
+    let counter = file.counter();
+    format!(in alloc; "file {number} vc {vc} apid {apid} counter {counter}")
+}
+
+fn size_words(alloc: Global, file: &MissionFile) -> Result<String, AllocError>
+    ensures { IfOk result (λ words. string_bytes words ≡ size_words file.now) }
+{
+    let bytes = file.bytes().len();
+    let packets = file.packets();
+    format!(in alloc; " bytes {bytes} packets {packets}")
+}
+
+fn same_word(same: bool) -> &'static str
+    ensures { result.now ≡ same_word same }
+{
+    if same { "same" } else { "differs" }
+}
+
+#[tactic(auto, unfolding(crate::specs::Entries::bits_words))]
+fn bits_words(alloc: Global, declared: u64, real: u64) -> Result<String, AllocError>
+    ensures { IfOk result (λ words. string_bytes words ≡ bits_words declared real) }
+{
+    let same = same_word(declared == real);
+    format!(in alloc; " declared {declared} real {real} {same}")
+}
+
+/// The file type that the header tells, or that there is a fault in it.
+fn type_word(alloc: Global, proper: &[u8]) -> Result<String, NoMemory>
+    ensures { IfOk result (λ word. string_bytes word ≡ type_word (header_of proper.now)) }
+{
+    match Records::read(alloc, proper) {
+        Ok(records) => {
+            let kind = records.file_type();
+            Ok(format!(in alloc; "{kind}")?)
+        }
+        Err(fault) => match fault {
+            HeaderFault::NoMemory => Err(NoMemory),
+            _ => Ok(String::from_str(alloc, "fault")?),
+        },
+    }
+}
+
+#[tactic(auto, unfolding(crate::specs::Entries::origin_words))]
+fn origin_words(alloc: Global, origin: Option<Origin>) -> Result<String, AllocError>
+    ensures { IfOk result (λ words. string_bytes words ≡ origin_words origin) }
+{
+    match origin {
+        Some(
+            Origin {
+                first,
+                last,
+                corrected,
+            },
+        ) => format!(in alloc; " frames {first} {last} corrected {corrected}"),
+        None => String::from_str(alloc, " frames none"),
+    }
+}
+
+#[tactic(auto, unfolding(crate::specs::Entries::file_words))]
+fn file_words(
+    alloc: Global,
+    key: &str,
+    size: &str,
+    bits: &str,
+    kind: &str,
+    origin: &str,
+) -> Result<String, AllocError>
+    ensures { IfOk result (λ line. string_bytes line ≡ file_words key.now size.now bits.now kind.now origin.now) }
+{
+    format!(in alloc; "{key}{size}{bits} type {kind}{origin}\n")
+}
+
+fn file_text(
+    alloc: Global,
+    number: u64,
+    file: &MissionFile,
+    origin: Option<Origin>,
+) -> Result<String, NoMemory>
+    ensures { IfOk result (λ line. string_bytes line ≡ file_line number file.now origin) }
+{
+    let key = key_words(alloc, number, file)?;
+    let size = size_words(alloc, file)?;
+    let bits = bits_words(alloc, file.declared_bits(), file.real_bits())?;
+    let kind = type_word(alloc, file.proper())?;
+    let origin = origin_words(alloc, origin)?;
+    Ok(file_words(
+        alloc,
+        key.as_str(),
+        size.as_str(),
+        bits.as_str(),
+        kind.as_str(),
+        origin.as_str(),
+    )?)
+}
+
+/// Appends the line of a file of a shelf, or nothing: what its packets and its headers say of it, and where it came
+/// from, if that is known. Numbers count from 0.
+pub fn file_line(
+    alloc: Global,
+    number: u64,
+    file: &MissionFile,
+    origin: Option<Origin>,
+    out: &mut Bytes,
+) -> Result<(), NoMemory>
+    ensures ok { OnOk result (out.new ≡ out.old ++ file_line number file.now origin) }
+    ensures err { OnErr result (out.new ≡ out.old) }
+{
+    let line = file_text(alloc, number, file, origin)?;
+    out.extend(line.as_bytes())
+}
+
+#[tactic(auto, unfolding(crate::specs::Entries::shelf_line))]
+fn shelf_text(alloc: Global, count: u64, used: u64, capacity: u64) -> Result<String, AllocError>
+    ensures { IfOk result (λ line. string_bytes line ≡ shelf_line count used capacity) }
+{
+    format!(in alloc; "files {count} used {used} capacity {capacity}\n")
+}
+
+/// Appends the line of a shelf, or nothing: how many entries it has, the bytes up to its end, and the most that it may
+/// have.
+pub fn shelf_line(
+    alloc: Global,
+    count: u64,
+    used: u64,
+    capacity: u64,
+    out: &mut Bytes,
+) -> Result<(), NoMemory>
+    ensures ok { OnOk result (out.new ≡ out.old ++ shelf_line count used capacity) }
+    ensures err { OnErr result (out.new ≡ out.old) }
+{
+    let line = shelf_text(alloc, count, used, capacity)?;
+    out.extend(line.as_bytes())
+}

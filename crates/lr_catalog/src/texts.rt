@@ -1,0 +1,57 @@
+//! Bytes of any value in print.
+
+ghost use Rattle.std.specs.Prelude.{◌≡◌, ◌<◌, ◌++◌, OnOk};
+ghost use Rattle.lr_catalog.specs.Texts.{escaped, escaped_byte, hex_digit, is_blank, is_plain, trimmed};
+
+use lr_bits::{Bytes, NoMemory};
+
+/// Appends the text, in which each byte that isn't printed as itself is a backslash, `x` and two digits.
+pub(crate) fn put_escaped(text: &[u8], out: &mut Bytes) -> Result<(), NoMemory>
+    ensures { OnOk result (out.new ≡ out.old ++ escaped text.now) }
+{
+    for byte in text {
+        put_byte(*byte, out)?;
+    }
+    Ok(())
+}
+
+/// The text without the zeros and spaces at its end.
+pub(crate) fn trimmed(text: &[u8]) -> &[u8]
+    ensures { result.now ≡ trimmed text.now }
+{
+    let mut end = text.len();
+    while end > 0 && is_blank(text[end - 1]) {
+        end -= 1;
+    }
+    &text[..end]
+}
+
+fn put_byte(byte: u8, out: &mut Bytes) -> Result<(), NoMemory>
+    ensures { OnOk result (out.new ≡ out.old ++ escaped_byte byte) }
+{
+    if is_plain(byte) {
+        out.extend(&[byte])
+    } else {
+        out.extend(&[b'\\', b'x', hex_digit(byte / 16), hex_digit(byte % 16)])
+    }
+}
+
+fn is_plain(byte: u8) -> bool
+    ensures { result ≡ is_plain byte }
+{
+    b' ' <= byte && byte <= b'~' && byte != b'\\'
+}
+
+fn is_blank(byte: u8) -> bool
+    ensures { result ≡ is_blank byte }
+{
+    byte == 0 || byte == b' '
+}
+
+/// The digit of a number below 16.
+fn hex_digit(n: u8) -> u8
+    requires { n < 16 }
+    ensures { result ≡ hex_digit n }
+{
+    if n < 10 { b'0' + n } else { b'A' - 10 + n }
+}

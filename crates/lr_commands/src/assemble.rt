@@ -1,0 +1,248 @@
+//! `assemble`: the segments of an image, put together.
+ghost use Rattle.std.specs.Prelude.{◌≡◌, ◌+◌, ◌<◌, ◌^◌, ◌∷◌, ◌++◌, ℕ, [], length, List, Ok, Some, IfErr, IfOk, OnOk};
+ghost use Rattle.lr_segment.specs.Canvas.{Member, member};
+ghost use Rattle.lr_commands.specs.Assemble.{assemble_asked, if_of, is_without, join_fate, member_with, segment_in};
+ghost use Rattle.lr_commands.specs.Gathered.{Gathers, IsCanvasOf, IsStop, with_member, with_skipped};
+ghost use Rattle.lr_commands.specs.Runs.{RunsOver};
+
+use crate::cause::{Cause, Refusal};
+use crate::fault::ExportFault;
+use crate::files::{Files, ReadsFiles};
+use crate::gathering::Gathering;
+use crate::note::Note;
+use crate::opened::Opened;
+use crate::pgm::put_pgm;
+use crate::range::Range;
+use crate::run::run_entries;
+use lr_bits::{MissionFile, NoMemory};
+use lr_disk::Disk;
+use lr_headers::{HeaderFault, Records, Segment};
+use lr_image::Image;
+use lr_io::Sink;
+use lr_segment::Assembly;
+use lr_shelf::{Shelf, Stored};
+use std::alloc::Global;
+
+/// The segment record of a file of this application, if it names this image.
+fn segment_in(
+    alloc: Global,
+    apid: u16,
+    image: u16,
+    file: &MissionFile,
+) -> Result<Option<Segment>, NoMemory>
+    ensures { IfOk result (λ segment. segment ≡ segment_in apid image file.now) }
+{
+    if file.apid() != apid {
+        return Ok(None);
+    }
+    let records = match Records::read(alloc, file.proper()) {
+        Ok(records) => records,
+        Err(fault) => match fault {
+            HeaderFault::NoMemory => return Err(NoMemory),
+            _ => return Ok(None),
+        },
+    };
+    Ok(segment_of_image(image, records.segment()))
+}
+
+/// The record, if it names this image.
+fn segment_of_image(image: u16, segment: Option<Segment>) -> Option<Segment>
+    ensures { result ≡ if_of image segment }
+{
+    match segment {
+        Some(segment) if segment.image == image => Some(segment),
+        _ => None,
+    }
+}
+
+/// The assembly of one segment, of its size and depth.
+fn first_assembly(alloc: Global, image: &Image, segment: &Segment) -> Result<Assembly, Cause>
+    ensures added { IfOk result (λ canvas. IsCanvasOf (member image.now segment.now ∷ []) (Some canvas)) }
+    ensures fits { IfOk result (λ canvas. join_fate [] (Some (member image.now segment.now)) ≡ Ok []) }
+    ensures stops { IfErr result (IsStop (join_fate [] (Some (member image.now segment.now)))) }
+{
+    let mut assembly = match Assembly::new(alloc, segment, image.bits()) {
+        Ok(assembly) => assembly,
+        Err(fault) => return Err(Cause::from(fault)),
+    };
+    match assembly.add(image, segment) {
+        Ok(()) => Ok(assembly),
+        Err(fault) => Err(Cause::from(fault)),
+    }
+}
+
+/// The assembly with one segment more, which is the first where there is no assembly yet.
+fn assembly_with(
+    alloc: Global,
+    assembly: Option<Assembly>,
+    image: &Image,
+    segment: &Segment,
+) -> Result<Assembly, Cause>
+    ensures added { (members : List Member) → IsCanvasOf members assembly
+        → IfOk result (λ canvas. IsCanvasOf (members ++ member image.now segment.now ∷ []) (Some canvas)) }
+    ensures fits { (members : List Member) → IsCanvasOf members assembly
+        → IfOk result (λ canvas. join_fate members (Some (member image.now segment.now)) ≡ Ok []) }
+    ensures stops { (members : List Member) → IsCanvasOf members assembly
+        → IfErr result (IsStop (join_fate members (Some (member image.now segment.now)))) }
+{
+    let Some(mut assembly) = assembly else {
+        return first_assembly(alloc, image, segment);
+    };
+    match assembly.add(image, segment) {
+        Ok(()) => Ok(assembly),
+        Err(fault) => Err(Cause::from(fault)),
+    }
+}
+
+/// Adds a segment with its image.
+fn add_segment(
+    alloc: Global,
+    image: &Image,
+    segment: &Segment,
+    gathering: &mut Gathering,
+) -> Result<(), Cause>
+    ensures added { (members : List Member) (skipped : ℕ) → length members + 1 < 2 ^ 64
+        → Gathers members skipped gathering.old
+        → OnOk result (Gathers (members ++ member image.now segment.now ∷ []) skipped gathering.new) }
+    ensures fits { (members : List Member) (skipped : ℕ) → Gathers members skipped gathering.old
+        → OnOk result (join_fate members (Some (member image.now segment.now)) ≡ Ok []) }
+    ensures stops { (members : List Member) (skipped : ℕ) → Gathers members skipped gathering.old
+        → IfErr result (IsStop (join_fate members (Some (member image.now segment.now)))) }
+{
+    match assembly_with(alloc, gathering.assembly.take(), image, segment) {
+        Ok(assembly) => {
+            gathering.assembly = Some(assembly);
+            gathering.added = gathering.added.saturating_add(1);
+            Ok(())
+        }
+        Err(cause) => Err(cause),
+    }
+}
+
+/// Adds a segment that has an image, and counts one that has none as skipped. Other files change nothing.
+fn take_file(
+    alloc: Global,
+    segment: Option<Segment>,
+    opened: &Opened,
+    gathering: &mut Gathering,
+) -> Result<(), Cause>
+    ensures gathered { (members : List Member) (skipped : ℕ) → length members + 1 < 2 ^ 64 → skipped + 1 < 2 ^ 64
+        → Gathers members skipped gathering.old
+        → OnOk result (Gathers (with_member members (member_with segment opened.now.image))
+        (with_skipped skipped (is_without segment opened.now.image)) gathering.new) }
+    ensures fits { (members : List Member) (skipped : ℕ) → Gathers members skipped gathering.old
+        → OnOk result (join_fate members (member_with segment opened.now.image) ≡ Ok []) }
+    ensures stops { (members : List Member) (skipped : ℕ) → Gathers members skipped gathering.old
+        → IfErr result (IsStop (join_fate members (member_with segment opened.now.image))) }
+{
+    let Some(segment) = segment else {
+        return Ok(());
+    };
+    match &opened.image {
+        Some(Ok(image)) => add_segment(alloc, image, &segment, gathering),
+        Some(Err(_)) => {
+            gathering.skipped = gathering.skipped.saturating_add(1);
+            Ok(())
+        }
+        None => Ok(()),
+    }
+}
+
+/// The segments of this image among the files of this application: of the entries from one number up to another.
+#[derive(Drop)]
+struct AssembleRange {
+    from: u64,
+    to: u64,
+    apid: u16,
+    image: u16,
+}
+
+impl ReadsFiles for AssembleRange {
+    ghost use Rattle.lr_commands.specs.Assemble.{asked_of_assemble, members_of, skipped_of};
+    ghost use Rattle.lr_commands.specs.Gathered.{Gathers};
+
+    type Gathered = Gathering;
+
+    ghost asked = { λ s. asked_of_assemble s.from s.to s.apid s.image };
+
+    ghost gathers = { λ s gathered read. Gathers (members_of s.apid s.image read) (skipped_of s.apid s.image read)
+        gathered };
+
+    fn range(&self, count: u64) -> Option<Range> {
+        Range::between(self.from, self.to, count)
+    }
+
+    fn start(&self, _: Global) -> Result<Gathering, NoMemory> {
+        Ok(Gathering::new())
+    }
+
+    fn looks(&self, alloc: Global, stored: &Stored) -> Result<bool, NoMemory> {
+        let segment = segment_in(alloc, self.apid, self.image, &stored.file)?;
+        Ok(segment.is_some())
+    }
+
+    fn file<O: Sink>(
+        &self,
+        alloc: Global,
+        _: u64,
+        opened: &Opened,
+        gathering: &mut Gathering,
+        _: &mut O,
+    ) -> Result<(), Cause> {
+        let segment = segment_in(alloc, self.apid, self.image, &opened.stored.file)?;
+        take_file(alloc, segment, opened, gathering)
+    }
+
+    fn gone<O: Sink>(&self, _: Global, _: u64, _: &mut O) -> Result<(), Cause> {
+        Ok(())
+    }
+
+    fn last<O: Sink>(
+        &self,
+        alloc: Global,
+        gathering: Gathering,
+        _: &Shelf,
+        out: &mut O,
+    ) -> Result<Option<Note>, Cause> {
+        let Gathering {
+            assembly,
+            added,
+            skipped,
+        } = gathering;
+        let Some(assembly) = assembly else {
+            return Err(Cause::Refused(Refusal::CannotExport(ExportFault::NoSegment)));
+        };
+        let (image, uncovered) = assembly.finish();
+        match put_pgm(alloc, &image, out) {
+            Ok(()) => Ok(Some(Note::Assembled {
+                added,
+                skipped,
+                uncovered,
+            })),
+            Err(cause) => Err(cause),
+        }
+    }
+}
+
+/// Puts together the segments of the image of this identifier among the files of this application, of the entries from
+/// one number up to another, and puts the whole image as PGM. Where that is done it tells how many segments there were,
+/// how many were skipped, and how many pixels none of them covers.
+pub fn assemble<D: Disk, O: Sink>(
+    alloc: Global,
+    from: u64,
+    to: u64,
+    apid: u16,
+    image: u16,
+    disk: &mut D,
+    out: &mut O,
+) -> Cause
+    ensures { RunsOver D.Disk O.Sink (assemble_asked from to apid image) result disk.old disk.new out.old out.new }
+{
+    let command = AssembleRange {
+        from,
+        to,
+        apid,
+        image,
+    };
+    run_entries(alloc, &Files(command), disk, out)
+}

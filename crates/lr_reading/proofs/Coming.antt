@@ -1,0 +1,179 @@
+-- What comes of the input, piece by piece.
+use Rattle.std.proofs.Common.{
+  ◌≡◌,
+  ℕ,
+  ℤ,
+  ◌+◌,
+  ◌≤◌,
+  List,
+  [],
+  ◌∷◌,
+  ◌++◌,
+  length,
+  map,
+  ap,
+  ◌∙◌,
+  sym,
+  refl,
+  None,
+  append_assoc,
+  All,
+}
+use Rattle.std.proofs.lemmas.List.{length-map, map-append}
+use Rattle.lr_bits.specs.declared.outcome.Outcome.{Outcome}
+use Rattle.lr_conv.proofs.Tails.{tail_size}
+use Rattle.lr_conv.specs.Marker.{tail_of}
+use Rattle.lr_conv.specs.declared.line.LineCode.{LineCode}
+use Rattle.lr_lock.specs.Frames.{AreNext, AreFrames}
+use Rattle.lr_lock.specs.FramesOf.{frames_of}
+use Rattle.lr_lock.specs.Symbols.{symbols_of}
+use Rattle.lr_lock.specs.declared.frame.Frame.{Frame}
+use Rattle.lr_lock.specs.declared.sizes.TheConstants.{WINDOW_END}
+use Rattle.lr_lock.proofs.Bytes.{symbols_of-append}
+use Rattle.lr_lock.proofs.Existing.{frames_of-are, frames_once, given_are_front, front_stays}
+use Rattle.lr_frame.specs.Outcomes.{outcome_in, outcomes_of_symbols}
+use Rattle.lr_frame.proofs.Given.{outcomes_stay}
+use Rattle.lr_reading.specs.Arrivals.{
+  arrival_in,
+  arrival_of,
+  arrivals_of_units,
+  arrivals_of,
+  outcomes_of_arrivals,
+}
+use Rattle.lr_reading.specs.Feeding.{arrivals_given}
+use Rattle.lr_reading.specs.Inputs.{unit_bytes, outcome_of_unit, outcomes_of_units, outcomes_of_bytes}
+use Rattle.lr_reading.specs.Reading.{units_of}
+use Rattle.lr_reading.specs.declared.arrival.Arrival.{Arrival}
+use Rattle.lr_reading.specs.declared.input.Input.{Input}
+use Rattle.lr_reading.specs.declared.input.Input.TheVariants.{Symbols, Units}
+use Rattle.lr_reading.specs.declared.input.UnitForm.{UnitForm}
+use Rattle.lr_reading.specs.declared.input.UnitForm.TheVariants.{Blocks, Frames}
+use Rattle.lr_reading.proofs.Feeding.{same_arrivals}
+
+-- ---- their outcomes
+
+outcomes_of_frames : (line : LineCode) (symbols : List ℤ) (frames : List Frame)
+    → map (outcome_in line symbols) frames ≡ outcomes_of_arrivals (map (arrival_in line symbols) frames)
+outcomes_of_frames line symbols [] = refl
+outcomes_of_frames line symbols (frame ∷ frames) =
+    ap (λ (l : List Outcome). outcome_in line symbols frame ∷ l) (outcomes_of_frames line symbols frames)
+
+pub outcomes_of_units_are : (form : UnitForm) (units : List (List ℕ))
+    → outcomes_of_units form units ≡ outcomes_of_arrivals (arrivals_of_units form units)
+unfolding outcomes_of_units arrivals_of_units
+outcomes_of_units_are form [] = refl
+outcomes_of_units_are form (unit ∷ units) =
+    ap (λ (l : List Outcome). outcome_of_unit form unit ∷ l) (outcomes_of_units_are form units)
+
+pub outcomes_are : (input : Input) (bytes : List ℕ)
+    → outcomes_of_bytes input bytes ≡ outcomes_of_arrivals (arrivals_of input bytes)
+unfolding outcomes_of_bytes arrivals_of outcomes_of_symbols
+outcomes_are (Symbols line) bytes =
+    outcomes_of_frames line (symbols_of bytes) (frames_of (tail_of line) (symbols_of bytes))
+outcomes_are (Units form) bytes = outcomes_of_units_are form (units_of (unit_bytes form) bytes)
+
+-- ---- units
+
+pub arrivals_of_units-none : (form : UnitForm) → arrivals_of_units form [] ≡ []
+unfolding arrivals_of_units
+arrivals_of_units-none form = refl
+
+pub arrivals_of_units-push : (form : UnitForm) (units : List (List ℕ)) (unit : List ℕ)
+    → arrivals_of_units form (units ++ unit ∷ [])
+    ≡ arrivals_of_units form units ++ arrival_of (outcome_of_unit form unit) ∷ []
+unfolding arrivals_of_units
+arrivals_of_units-push form units unit = map-append (λ u. arrival_of (outcome_of_unit form u)) units (unit ∷ [])
+
+pub arrivals_of_units-counted : (form : UnitForm) (units : List (List ℕ))
+    → length (arrivals_of_units form units) ≡ length units
+unfolding arrivals_of_units
+arrivals_of_units-counted form units = length-map units (λ u. arrival_of (outcome_of_unit form u))
+
+-- what comes of bytes is what comes of their units
+pub units_come : (form : UnitForm) (bytes : List ℕ) (units : List (List ℕ)) → units_of (unit_bytes form) bytes ≡ units
+    → arrivals_of (Units form) bytes ≡ arrivals_of_units form units
+unfolding arrivals_of
+units_come form bytes units is = ap (arrivals_of_units form) is
+
+-- ---- windows
+
+pub arrivals_given-none : (line : LineCode) (bytes : List ℕ) → arrivals_given line bytes [] ≡ []
+unfolding arrivals_given
+arrivals_given-none line bytes = refl
+
+pub arrivals_given-push : (line : LineCode) (bytes : List ℕ) (given : List Frame) (frame : Frame)
+    → arrivals_given line bytes (given ++ frame ∷ [])
+    ≡ arrivals_given line bytes given ++ arrival_in line (symbols_of bytes) frame ∷ []
+unfolding arrivals_given
+arrivals_given-push line bytes given frame = map-append (arrival_in line (symbols_of bytes)) given (frame ∷ [])
+
+pub arrivals_given-counted : (line : LineCode) (bytes : List ℕ) (given : List Frame)
+    → length (arrivals_given line bytes given) ≡ length given
+unfolding arrivals_given
+arrivals_given-counted line bytes given = length-map given (arrival_in line (symbols_of bytes))
+
+-- what comes of frames that were given is the first of what comes of the bytes
+pub arrivals_first : (line : LineCode) (bytes : List ℕ) (given : List Frame)
+    → AreNext (tail_of line) (symbols_of bytes) None given
+    → (rest : List Arrival) × (arrivals_of (Symbols line) bytes ≡ arrivals_given line bytes given ++ rest)
+unfolding arrivals_of arrivals_given
+arrivals_first line bytes given next =
+    let symbols : List ℤ = symbols_of bytes in
+    let front : (rest : List Frame) × (frames_of (tail_of line) symbols ≡ given ++ rest) =
+    given_are_front (tail_of line) symbols given (tail_size line) next in (
+      map (arrival_in line symbols) front.0,
+      ap (map (arrival_in line symbols)) front.1 ∙ map-append (arrival_in line symbols) given front.0,
+    )
+
+-- it is the first of what comes of more bytes too, where the windows are there
+pub arrivals_go_on : (line : LineCode) (bytes more : List ℕ) (given : List Frame)
+    → AreNext (tail_of line) (symbols_of bytes) None given
+    → All (λ frame. frame.place + WINDOW_END ≤ length (symbols_of bytes)) given
+    → (rest : List Arrival) × (arrivals_of (Symbols line) (bytes ++ more) ≡ arrivals_given line bytes given ++ rest)
+unfolding arrivals_of arrivals_given
+arrivals_go_on line bytes more given next sure =
+    let tail = tail_of line in
+    let some : List ℤ = symbols_of bytes in
+    let all : List ℤ = some ++ symbols_of more in
+    let front : (rest : List Frame) × (frames_of tail some ≡ given ++ rest) =
+    given_are_front tail some given (tail_size line) next in
+    let longer : (rest : List Frame) × (frames_of tail all ≡ frames_of tail some ++ rest) =
+    front_stays tail some (symbols_of more) (tail_size line) in
+    let others : List Arrival = map (arrival_in line all) (front.0 ++ longer.0) in (
+      others,
+      ap (λ (s : List ℤ). map (arrival_in line s) (frames_of tail s)) (symbols_of-append bytes more)
+          ∙ ap (map (arrival_in line all))
+          (longer.1 ∙ ap (λ (fs : List Frame). fs ++ longer.0) front.1 ∙ append_assoc given front.0 longer.0)
+          ∙ map-append (arrival_in line all) given (front.0 ++ longer.0)
+          ∙ ap (λ (l : List Arrival). l ++ others)
+          (same_arrivals line all some given (outcomes_stay line some (symbols_of more) given sure)),
+    )
+
+-- it is all that comes of the bytes, where all frames were given
+pub arrivals_all : (line : LineCode) (bytes : List ℕ) (given : List Frame)
+    → AreFrames (tail_of line) (symbols_of bytes) given
+    → arrivals_of (Symbols line) bytes ≡ arrivals_given line bytes given
+unfolding arrivals_of arrivals_given
+arrivals_all line bytes given every =
+    ap (map (arrival_in line (symbols_of bytes)))
+    (frames_once (tail_of line) (symbols_of bytes) _ given (tail_size line)
+    (frames_of-are (tail_of line) (symbols_of bytes)) every)
+
+-- ---- whatever the form is
+
+-- there is an outcome for each arrival
+pub outcomes_counted : (input : Input) (bytes : List ℕ)
+    → length (outcomes_of_bytes input bytes) ≡ length (arrivals_of input bytes)
+outcomes_counted input bytes = ap (λ (l : List Outcome). length l) (outcomes_are input bytes)
+    ∙ length-map (arrivals_of input bytes) (λ (arrival : Arrival). arrival.outcome)
+
+-- nothing comes of no bytes
+no_units : (form : UnitForm) → units_of (unit_bytes form) [] ≡ []
+unfolding units_of
+no_units Blocks = refl
+no_units Frames = refl
+
+pub no_arrivals : (input : Input) → arrivals_of input [] ≡ []
+unfolding arrivals_of frames_of
+no_arrivals (Symbols line) = refl
+no_arrivals (Units form) = ap (arrivals_of_units form) (no_units form) ∙ arrivals_of_units-none form

@@ -1,0 +1,227 @@
+-- Symbols are taken to windows.
+use Rattle.std.proofs.Common.{
+  ◌≡◌,
+  ◌≤◌,
+  ◌+◌,
+  ◌*◌,
+  ℕ,
+  ℤ,
+  true,
+  false,
+  List,
+  [],
+  ◌∷◌,
+  ◌++◌,
+  length,
+  map,
+  refl,
+  sym,
+  ap,
+  ◌∙◌,
+  subst,
+  arith,
+  length-append,
+  append_assoc,
+  Some,
+}
+use Rattle.lr_bits.specs.Faults.{Rose}
+use Rattle.lr_bits.specs.declared.outcome.Outcome.{Outcome}
+use Rattle.lr_io.specs.declared.source.Source.{Ghosts as SourceOf}
+use Rattle.lr_lock.specs.declared.frame.Frame.{Frame}
+use Rattle.lr_lock.specs.Frames.{AreFrames}
+use Rattle.lr_lock.specs.Standing.{LockState, StandsFor}
+use Rattle.lr_lock.specs.Steps.{GivesWindow, WantsMore, HasEnded}
+use Rattle.lr_lock.specs.Symbols.{symbols_of}
+use Rattle.lr_conv.specs.Marker.{tail_of}
+use Rattle.lr_conv.specs.declared.line.LineCode.{LineCode}
+use Rattle.lr_lock.specs.Windows.{WindowView, window_view}
+use Rattle.lr_lock.proofs.Bytes.{symbols_of-append, length-symbols_of}
+use Rattle.lr_frame.specs.Outcomes.{outcome_in}
+use Rattle.lr_frame.proofs.Given.{outcomes_stay}
+use Rattle.lr_reading.specs.declared.arrival.Arrival.{Arrival}
+use Rattle.lr_reading.specs.Arrivals.{arrival_in}
+use Rattle.lr_catalog.specs.declared.stop.Stop.{Stop}
+use Rattle.lr_catalog.specs.declared.stop.Stop.TheVariants.{End, Limit, Fault}
+use Rattle.lr_reading.specs.Reading.{EndsFor}
+use Rattle.lr_reading.specs.Feeding.{
+  FeedState,
+  arrivals_given,
+  FeedsPiece,
+  FeedsNone,
+  FeedsNoneFor,
+  FedSoFar,
+  FeedsOn,
+  GivesFrame,
+  EndsFrames,
+}
+
+-- a lock that is finished stands for what it stood for
+pub finished_stands : {lock : LockState} {fed : List ℤ} {given : List Frame} → StandsFor lock fed given
+    → StandsFor (record lock { finished = true }) fed given
+finished_stands stands = record {
+  within = stands.within;
+  rest = stands.rest;
+  frames = stands.frames;
+  stands = stands.stands;
+  sure = λ e. absurd cc;
+}
+
+abbrev pub with_outcome : Frame → Outcome → Arrival
+with_outcome frame outcome = record {
+  position = Some (record { place = frame.place; positive = frame.positive });
+  outcome = outcome;
+}
+
+-- what comes of frames is the same where their outcomes are
+pub same_arrivals : (line : LineCode) (symbols others : List ℤ) (frames : List Frame)
+    → map (outcome_in line symbols) frames ≡ map (outcome_in line others) frames
+    → map (arrival_in line symbols) frames ≡ map (arrival_in line others) frames
+same_arrivals line symbols others [] is = refl
+same_arrivals line symbols others (frame ∷ frames) is =
+    let first : outcome_in line symbols frame ≡ outcome_in line others frame = cc (is) in
+    let rest : map (outcome_in line symbols) frames ≡ map (outcome_in line others) frames = cc (is) in
+    ap (λ (o : Outcome). with_outcome frame o ∷ map (arrival_in line symbols) frames) first
+    ∙ ap (λ (l : List Arrival). arrival_in line others frame ∷ l) (same_arrivals line symbols others frames rest)
+
+-- what comes of frames whose symbols were all fed stays
+pub arrivals_given-stay : (line : LineCode) (lock : LockState) (bytes piece : List ℕ) (given : List Frame)
+    → StandsFor lock (symbols_of bytes) given → lock.finished ≡ false → arrivals_given line (bytes ++ piece) given
+    ≡ arrivals_given line bytes given
+unfolding arrivals_given
+arrivals_given-stay line lock bytes piece given stands unfinished =
+    ap (λ (l : List ℤ). map (arrival_in line l) given) (symbols_of-append bytes piece)
+    ∙ same_arrivals line (symbols_of bytes ++ symbols_of piece) (symbols_of bytes) given
+    (outcomes_stay line (symbols_of bytes) (symbols_of piece) given (stands.sure unfinished))
+
+module _ {S : Type 0} (source : SourceOf S) (line : LineCode) where
+  -- a piece is fed
+  pub piece_fed : {bytes : List ℕ} {given : List Frame} {before now : FeedState} {s t s' : S}
+      → FedSoFar source line bytes given before s t → before.lock.finished ≡ false
+      → FeedsPiece source before now t s' → FeedsOn source line bytes given now s s'
+  piece_fed {bytes} {given} {before} {now} {s} {t} {s'} so unfinished fed = record {
+    all = bytes ++ fed.piece;
+    so_far = record {
+      stands = subst (λ (l : List ℤ). StandsFor now.lock l given) (sym (symbols_of-append bytes fed.piece))
+          (fed.stands (symbols_of bytes) given so.stands);
+      line_is = ap (λ (l : LockState). l.line) fed.lock_is ∙ so.line_is;
+      long = omega (arith, fed.taken, so.long, length-append bytes fed.piece);
+      few = fed.few;
+      passed = omega (
+        arith,
+        so.passed,
+        fed.taken,
+        ap (λ (l : LockState). length l.kept) fed.lock_is,
+        length-append before.lock.kept (symbols_of fed.piece),
+        length-symbols_of fed.piece,
+      );
+      told = λ told. fed.told (so.told told);
+      moved = λ told. so.moved told ∙ ap (λ (l : List ℕ). bytes ++ l) (fed.moved (so.told told))
+          ∙ sym (append_assoc bytes fed.piece (source.left s'));
+      going_on = λ e. fed.kept ∙ so.going_on unfinished;
+      ended = λ e. absurd (open_still e);
+    };
+    same = arrivals_given-stay line before.lock bytes fed.piece given so.stands unfinished;
+  }
+    where
+      open_still : now.lock.finished ≡ true → ⊥
+      open_still e = let is : now.lock.finished ≡ false = ap (λ (l : LockState). l.finished) fed.lock_is
+          ∙ unfinished in cc
+
+  reason : (stop : Stop) (bytes : List ℕ) (given : List Frame) (before : FeedState) (s t s' : S)
+      → FedSoFar source line bytes given before s t → before.lock.finished ≡ false
+      → FeedsNoneFor source stop before t s' → EndsFor source stop before.most bytes s s'
+  reason End bytes given before s t s' so unfinished why =
+      (omega (arith, why.0, so.long), (λ told. why.1 (so.told told)), why.2 ∙ so.going_on unfinished)
+  reason Limit bytes given before s t s' so unfinished why =
+      (omega (arith, why.0, so.long), why.1 ∙ so.going_on unfinished)
+  reason Fault bytes given before s t s' so unfinished why =
+      (omega (arith, why.0, so.long), subst (λ k. Rose k (source.faults s')) (so.going_on unfinished) why.1)
+
+  -- the lock is finished
+  pub none_fed : (stop : Stop) {bytes : List ℕ} {given : List Frame} {before now : FeedState} {s t s' : S}
+      → FedSoFar source line bytes given before s t → before.lock.finished ≡ false
+      → FeedsNone source stop before now t s'
+      → FeedsOn source line bytes given (record now { lock = record now.lock { finished = true }; stop = stop }) s s'
+  none_fed stop {bytes} {given} {before} {now} {s} {t} {s'} so unfinished fed = record {
+    all = bytes;
+    so_far = record {
+      stands = finished_stands (subst (λ (n : FeedState). StandsFor n.lock (symbols_of bytes) given)
+          (sym fed.same) so.stands);
+      line_is = ap (λ (n : FeedState). n.lock.line) fed.same ∙ so.line_is;
+      long = ap (λ (n : FeedState). n.taken) fed.same ∙ so.long;
+      few = omega (arith, so.few, ap (λ (n : FeedState). n.taken) fed.same, ap (λ (n : FeedState). n.most) fed.same);
+      passed = omega (
+        arith,
+        so.passed,
+        ap (λ (n : FeedState). n.taken) fed.same,
+        ap (λ (n : FeedState). length n.lock.kept) fed.same,
+      );
+      told = λ told. fed.told (so.told told);
+      moved = λ told. so.moved told ∙ ap (λ (l : List ℕ). bytes ++ l) (sym (fed.moved (so.told told)));
+      going_on = λ e. absurd cc;
+      ended = λ e. subst (λ (n : FeedState). EndsFor source stop n.most bytes s s') (sym fed.same)
+          (reason stop bytes given before s t s' so unfinished fed.why);
+    };
+    same = refl;
+  }
+
+  -- the lock steps
+  pub stepped : {bytes : List ℕ} {given given' : List Frame} {now : FeedState} {s t : S} (later : LockState)
+      → FedSoFar source line bytes given now s t
+      → StandsFor later (symbols_of bytes) given' → later.line ≡ now.lock.line → later.finished ≡ now.lock.finished
+      → 16384 * length given' + length later.kept ≤ 16384 * length given + length now.lock.kept
+      → FedSoFar source line bytes given' (record now { lock = later }) s t
+  stepped later so stands line_stays finished passed = record {
+    stands = stands;
+    line_is = line_stays ∙ so.line_is;
+    long = so.long;
+    few = so.few;
+    passed = omega (arith, passed, so.passed);
+    told = so.told;
+    moved = so.moved;
+    going_on = λ e. so.going_on (sym finished ∙ e);
+    ended = λ e. so.ended (sym finished ∙ e);
+  }
+
+  module _ {bytes : List ℕ} {given : List Frame} {now : FeedState} {s t : S}
+      (on : FeedsOn source line bytes given now s t) (later : LockState) (seen : WindowView)
+      (line_stays : later.line ≡ now.lock.line) (finished : later.finished ≡ now.lock.finished) where
+    pub window_given : GivesWindow now.lock later seen (symbols_of on.all) given → length later.kept + 16384
+        ≤ length now.lock.kept
+        → GivesFrame source line bytes given (record now { lock = later }) seen s t
+    window_given gives shorter = record {
+      all = on.all;
+      frame = gives.frame;
+      so_far = stepped later on.so_far gives.stands line_stays finished
+          (omega (arith, shorter, length-append given (gives.frame ∷ [])));
+      window_is = gives.window ∙ ap (λ (l : LineCode). window_view l (symbols_of on.all) gives.frame) on.so_far.line_is;
+      same = on.same;
+    }
+
+    pub more_wanted : WantsMore now.lock later (symbols_of on.all) given → length later.kept ≤ length now.lock.kept
+        → FeedsOn source line bytes given (record now { lock = later }) s t
+    more_wanted wants passes = record {
+      all = on.all;
+      so_far = stepped later on.so_far wants.stands line_stays finished (omega (arith, passes));
+      same = on.same;
+    }
+
+    pub all_given : HasEnded now.lock later (symbols_of on.all) given → length later.kept ≤ length now.lock.kept
+        → EndsFrames source line now.stop bytes given (record now { lock = later }) s t
+    all_given ended passes = record {
+      all = on.all;
+      so_far = stepped later on.so_far ended.stands line_stays finished (omega (arith, passes));
+      closed = finished ∙ ended.closed;
+      stop_is = refl;
+      every = subst (λ (l : LineCode). AreFrames (tail_of l) (symbols_of on.all) given) on.so_far.line_is ended.all;
+      same = on.same;
+    }
+
+  pub joined : {bytes all : List ℕ} {given : List Frame} {now : FeedState} {s t : S}
+      → FeedsOn source line all given now s t → arrivals_given line all given ≡ arrivals_given line bytes given
+      → FeedsOn source line bytes given now s t
+  joined on same = record { all = on.all; so_far = on.so_far; same = on.same ∙ same }
+
+  pub begun : {bytes : List ℕ} {given : List Frame} {now : FeedState} {s t : S}
+      → FedSoFar source line bytes given now s t → FeedsOn source line bytes given now s t
+  begun {bytes} so = record { all = bytes; so_far = so; same = refl }

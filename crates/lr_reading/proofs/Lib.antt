@@ -1,0 +1,9 @@
+pub mod Coming
+pub mod Feeding
+pub mod Gathering
+pub mod Numbered
+pub mod UnitLoop
+pub mod UnitsOf
+pub mod UnitsRead
+pub mod Whole
+pub mod WindowLoop

@@ -1,0 +1,207 @@
+-- A consumer is led through what comes of units.
+use Rattle.std.proofs.Common.{
+  ◌≡◌,
+  ℕ,
+  ◌+◌,
+  ◌*◌,
+  ◌%◌,
+  ◌<◌,
+  ◌≤◌,
+  List,
+  [],
+  ◌∷◌,
+  ◌++◌,
+  length,
+  ap,
+  ◌∙◌,
+  sym,
+  refl,
+  subst,
+  arith,
+  append-nil,
+  length-append,
+}
+use Rattle.std.specs.List.{concat}
+use Rattle.std.proofs.lemmas.List.Elements.{All-push}
+use Rattle.lr_bits.specs.declared.outcome.Outcome.{Outcome}
+use Rattle.lr_io.specs.declared.source.Source.{Ghosts as SourceOf}
+use Rattle.lr_catalog.specs.declared.stop.Stop.{Stop}
+use Rattle.lr_reading.specs.Arrivals.{arrival_of, arrivals_of_units, arrivals_of}
+use Rattle.lr_reading.specs.Gathering.{UnitState, Gathers, GathersFor, ReadsUnits, EndsUnits}
+use Rattle.lr_reading.specs.Inputs.{unit_bytes, outcome_of_unit}
+use Rattle.lr_reading.specs.Reading.{EndsFor, units_of}
+use Rattle.lr_reading.specs.Runs.{TakesAll, TakesSome}
+use Rattle.lr_reading.specs.declared.arrival.Arrival.{Arrival}
+use Rattle.lr_reading.specs.declared.input.Input.TheVariants.{Units}
+use Rattle.lr_reading.specs.declared.input.UnitForm.{UnitForm}
+use Rattle.lr_reading.specs.declared.input.UnitForm.TheVariants.{Blocks, Frames}
+use Rattle.lr_reading.specs.declared.next.Next.TheVariants.{Ended}
+use Rattle.lr_reading.specs.declared.totals.Totals.{Totals}
+use Rattle.lr_reading.proofs.Coming.{
+  arrivals_of_units-none,
+  arrivals_of_units-push,
+  arrivals_of_units-counted,
+  units_come,
+}
+use Rattle.lr_reading.proofs.UnitsOf.{units_are, length-concat, long}
+use Rattle.lr_reading.proofs.UnitsRead.{begun, gathered_more, cleared, ended, concat-push}
+
+pub positive : (form : UnitForm) (n : ℕ) → n ≡ unit_bytes form → 0 < n
+positive Blocks n is = omega (arith, is)
+positive Frames n is = omega (arith, is)
+
+-- a unit has 892 bytes at least
+least : (form : UnitForm) (n count most : ℕ) → n ≡ unit_bytes form → n * count + n ≤ most → 892 * (count + 1) ≤ most
+least Blocks n count most is fits = omega (arith, is, ap (λ k. k * count) is, fits)
+least Frames n count most is fits = omega (arith, is, ap (λ k. k * count) is, fits)
+
+-- what is left after whole units
+rest_of : (form : UnitForm) (n count rest total : ℕ) → n ≡ unit_bytes form → total ≡ n * count + rest
+    → rest < n → rest ≡ total % unit_bytes form
+rest_of Blocks n count rest total is all short = omega (arith, is, all, ap (λ k. k * count) is, short)
+rest_of Frames n count rest total is all short = omega (arith, is, all, ap (λ k. k * count) is, short)
+
+-- this many units were read, and what comes of them was taken
+pub record UnitsTaken {S C : Type 0} (source : SourceOf S) (took : C → List Arrival → C → Type 0) (form : UnitForm)
+    (n limit frames : ℕ) (now : UnitState) (s s' : S) (before after : C) : Type 0 where
+  pub units : List (List ℕ)
+  pub count : frames ≡ length units
+  pub empty : now.held ≡ []
+  pub reads : ReadsUnits source n limit units now s s'
+  pub taken : (c : C) → took c [] before → took c (arrivals_of_units form units) after
+
+module _ {S C : Type 0} (source : SourceOf S) (took : C → List Arrival → C → Type 0) (form : UnitForm) (n limit : ℕ)
+    (size : n ≡ unit_bytes form) where
+  -- nothing is read
+  pub units_begun : (now : UnitState) → now ≡ record { held = []; taken = 0; most = limit } → (s : S) (before : C)
+      → UnitsTaken source took form n limit 0 now s s before before
+  units_begun now fresh s before = record {
+    units = [];
+    count = refl;
+    empty = ap (λ (u : UnitState). u.held) fresh;
+    reads = subst (λ (u : UnitState). ReadsUnits source n limit [] u s s) (sym fresh) (begun source n limit s);
+    taken = λ c none. subst (λ (l : List Arrival). took c l before) (sym (arrivals_of_units-none form)) none;
+  }
+
+  module _ {frames : ℕ} {now next : UnitState} {s t s' : S} {before after : C}
+      (so : UnitsTaken source took form n limit frames now s t before after)
+      (more : Gathers source now next t s') (whole : length next.held ≡ n) (kept : source.faults s'
+      ≡ source.faults t) where
+    reads_now : ReadsUnits source n limit so.units next s s'
+    reads_now = gathered_more source n limit so.reads more kept
+
+    fits : n * length so.units + n ≤ limit
+    fits = omega (
+      arith,
+      reads_now.few,
+      reads_now.taken,
+      length-append (concat so.units) next.held,
+      length-concat n so.units reads_now.whole,
+      whole,
+    )
+
+    -- the numbers fit
+    pub frames_fit : 892 * (frames + 1) ≤ limit
+    frames_fit = omega (arith, least form n (length so.units) limit size fits, so.count)
+
+    -- one arrival more may be taken
+    pub may_take : (most : ℕ) → limit ≤ most → (c : C) → took c [] before → (c' : C) × (arrivals : List Arrival)
+        × took c' arrivals after × (892 * (length arrivals + 1) ≤ most)
+    may_take most few c none = (
+      c,
+      arrivals_of_units form so.units,
+      so.taken c none,
+      omega (arith, few, frames_fit, so.count, arrivals_of_units-counted form so.units),
+    )
+
+    units_there : units_of (unit_bytes form) (concat so.units ++ next.held) ≡ so.units ++ next.held ∷ []
+    units_there =
+        ap (λ k. units_of k (concat so.units ++ next.held)) (sym size)
+        ∙ ap (units_of n) (sym (concat-push so.units next.held))
+        ∙ units_are n (positive form n size) (so.units ++ next.held ∷ []) []
+        (All-push (λ (u : List ℕ). length u ≡ n) so.units next.held reads_now.whole whole) (positive form n size)
+
+    module _ (arrival : Arrival) (is : arrival ≡ arrival_of (outcome_of_unit form next.held)) where
+      one_more : arrivals_of_units form (so.units ++ next.held ∷ []) ≡ arrivals_of_units form so.units ++ arrival ∷ []
+      one_more = arrivals_of_units-push form so.units next.held
+          ∙ ap (λ (a : Arrival). arrivals_of_units form so.units ++ a ∷ []) (sym is)
+
+      -- the consumer stopped at it
+      pub units_stopped : {Cause : Type 0} (stopped : C → List Arrival → Cause → C → Type 0) (cause : Cause) (now' : C)
+          → ((c : C) (arrivals : List Arrival) → took c arrivals after
+          → stopped c (arrivals ++ arrival ∷ []) cause now')
+          → TakesSome source took (Units form) limit stopped cause s s' before now'
+      units_stopped {Cause} stopped cause now' stops = record {
+        bytes = concat so.units ++ next.held;
+        read = record {
+          told = reads_now.told;
+          moved = reads_now.moved;
+          few = omega (arith, reads_now.few, reads_now.taken);
+        };
+        passed = arrivals_of_units form so.units ++ arrival ∷ [];
+        rest = [];
+        split = units_come form (concat so.units ++ next.held) (so.units ++ next.held ∷ []) units_there
+            ∙ one_more ∙ sym (append-nil (arrivals_of_units form so.units ++ arrival ∷ []));
+        stops = λ c none. stops c (arrivals_of_units form so.units) (so.taken c none);
+        first = λ line symbols told few calm. cc (symbols);
+      }
+
+      -- it took it
+      pub units_more : (empty : UnitState) → empty ≡ record { held = []; taken = next.taken; most = next.most }
+          → (now' : C)
+          → ((c : C) (arrivals : List Arrival) → took c arrivals after → took c (arrivals ++ arrival ∷ []) now')
+          → UnitsTaken source took form n limit (frames + 1) empty s s' before now'
+      units_more empty is_empty now' takes = record {
+        units = so.units ++ next.held ∷ [];
+        count = omega (arith, so.count, length-append so.units (next.held ∷ []));
+        empty = ap (λ (u : UnitState). u.held) is_empty;
+        reads = subst (λ (u : UnitState). ReadsUnits source n limit (so.units ++ next.held ∷ []) u s s')
+            (sym is_empty) (cleared source n limit reads_now whole);
+        taken = λ c none.
+            subst (λ (l : List Arrival). took c l now') (sym one_more)
+            (takes c (arrivals_of_units form so.units) (so.taken c none));
+      }
+
+  module _ {frames : ℕ} {now next : UnitState} {s t s' : S} {before after : C}
+      (so : UnitsTaken source took form n limit frames now s t before after)
+      (stop : Stop) (more : Gathers source now next t s') (why : GathersFor source n (Ended stop) next t s') where
+    end : EndsUnits source n limit so.units (length next.held) stop s s'
+    end = ended source n limit stop so.reads more why
+
+    come : arrivals_of (Units form) (concat so.units ++ end.held) ≡ arrivals_of_units form so.units
+    come =
+        units_come form (concat so.units ++ end.held) so.units
+        (ap (λ k. units_of k (concat so.units ++ end.held)) (sym size)
+        ∙ units_are n (positive form n size) so.units end.held end.whole end.short)
+
+    all_bytes : length (concat so.units ++ end.held) ≡ n * length so.units + length end.held
+    all_bytes = long n (positive form n size) so.units end.held end.whole end.short
+
+    taken_is : next.taken ≡ n * length so.units + length next.held
+    taken_is =
+        omega (
+          arith,
+          more.taken,
+          so.reads.taken,
+          ap length more.held,
+          length-append now.held more.piece,
+          ap length so.empty,
+          length-append (concat so.units) now.held,
+          length-concat n so.units so.reads.whole,
+        )
+
+    -- the units ended
+    pub units_ended : (totals : Totals) → totals.stop ≡ stop → totals.symbols ≡ next.taken → totals.frames ≡ frames
+        → totals.left ≡ length next.held → TakesAll source took (Units form) limit totals s s' before after
+    units_ended totals stops symbols frames_is left = record {
+      bytes = concat so.units ++ end.held;
+      ends = record {
+        read = end.read;
+        reason = subst (λ (x : Stop). EndsFor source x limit (concat so.units ++ end.held) s s') (sym stops) end.reason;
+        symbols = omega (arith, symbols, taken_is, all_bytes, end.long);
+        frames = omega (arith, frames_is, so.count, ap length come, arrivals_of_units-counted form so.units);
+        left = rest_of form n (length so.units) totals.left (length (concat so.units ++ end.held)) size
+            (omega (arith, left, all_bytes, end.long)) (omega (arith, left, end.long, end.short));
+      };
+      taken = λ c none. subst (λ (l : List Arrival). took c l after) (sym come) (so.taken c none);
+    }

@@ -1,0 +1,14 @@
+use Rattle.std.proofs.Common.{rules, ◌≤◌, ◌+◌, ◌-◌, length}
+use Rattle.lr_reading.proofs.Gathering.{piece_taken}
+use Rattle.lr_reading.proofs.units.UnitFeed.take.Goals as goal
+
+pub returns-clause-gathered : goal.returns-clause-gathered
+returns-clause-gathered g c =
+    let inside = c.self.inside in
+    let room = inside.filled + c.if-left-room.most - inside.filled in
+    let filled : inside.filled ≤ length inside.buffer = search rules in
+    let enough : c.in_ok-count.count ≤ length c.take.new.into = search rules in
+    let few : inside.taken + c.in_ok-count.count ≤ inside.most = search rules in
+    piece_taken g.S.Source c.args.source.now c.take.new.self c.args.self.now inside.buffer c.take.new.into
+    inside.filled room c.in_ok-count.count inside.taken inside.most filled enough few
+    c.in_ok-count.ensures.told c.in_ok-count.ensures.moved c.self.view_is

@@ -1,0 +1,144 @@
+-- How the lock is fed with the symbols of the input. No clause of a public call cites this.
+use Rattle.std.specs.Prelude.{
+  ◌≡◌,
+  ◌<◌,
+  ◌≤◌,
+  ◌+◌,
+  ◌-◌,
+  ◌*◌,
+  ℕ,
+  ℤ,
+  true,
+  false,
+  Option,
+  Some,
+  None,
+  List,
+  [],
+  ◌∷◌,
+  ◌++◌,
+  length,
+  map,
+  cond,
+}
+use Rattle.lr_bits.specs.Faults.{Rose}
+use Rattle.lr_conv.specs.declared.line.LineCode.{LineCode}
+use Rattle.lr_conv.specs.Marker.{tail_of}
+use Rattle.lr_io.specs.declared.source.Source.{Ghosts as SourceOf}
+use Rattle.lr_lock.specs.declared.frame.Frame.{Frame}
+use Rattle.lr_lock.specs.Frames.{AreFrames}
+use Rattle.lr_lock.specs.Standing.{LockState, StandsFor}
+use Rattle.lr_lock.specs.Symbols.{symbols_of}
+use Rattle.lr_lock.specs.Windows.{WindowView, window_view}
+use Rattle.lr_catalog.specs.declared.stop.Stop.{Stop}
+use Rattle.lr_catalog.specs.declared.stop.Stop.TheVariants.{End, Limit, Fault}
+use Rattle.lr_reading.specs.declared.next.Next.{Next}
+use Rattle.lr_reading.specs.declared.next.Next.TheVariants.{Whole, Ended}
+use Rattle.lr_reading.specs.Arrivals.{arrival_in}
+use Rattle.lr_reading.specs.Reading.{EndsFor}
+use Rattle.lr_reading.specs.declared.arrival.Arrival.{Arrival}
+
+-- the lock, how many bytes were taken and the most that may be, and why no more are taken
+pub record FeedState : Type 0 where
+  pub lock : LockState
+  pub taken : ℕ
+  pub most : ℕ
+  pub stop : Stop
+
+-- the lock stands for some symbols and frames
+abbrev pub IsStanding : LockState → Type 0
+IsStanding lock = (fed : List ℤ) × (given : List Frame) × StandsFor lock fed given
+
+-- what decreases with each feeding
+abbrev pub steps_left : FeedState → ℕ
+steps_left now = now.most - now.taken + cond now.lock.finished 0 1
+
+-- the symbols that are to be fed or stand in the lock
+abbrev pub symbols_left : FeedState → ℕ
+symbols_left now = now.most - now.taken + length now.lock.kept
+
+-- nothing was taken
+pub record IsFresh (most : ℕ) (now : FeedState) : Type 0 where
+  pub stands : StandsFor now.lock [] []
+  pub unfinished : now.lock.finished ≡ false
+  pub taken : now.taken ≡ 0
+  pub most_is : now.most ≡ most
+
+-- what comes of these frames of the bytes
+unfoldable pub arrivals_given : LineCode → List ℕ → List Frame → List Arrival
+arrivals_given line bytes given = map (arrival_in line (symbols_of bytes)) given
+
+module _ {S : Type 0} (source : SourceOf S) where
+  -- a piece of the source was fed
+  pub record FeedsPiece (before now : FeedState) (s s' : S) : Type 0 where
+    pub piece : List ℕ
+    pub some : 0 < length piece
+    pub lock_is : now.lock ≡ record before.lock { kept = before.lock.kept ++ symbols_of piece }
+    pub stands : (fed : List ℤ) (given : List Frame) → StandsFor before.lock fed given
+        → StandsFor now.lock (fed ++ symbols_of piece) given
+    pub taken : now.taken ≡ before.taken + length piece
+    pub most_stays : now.most ≡ before.most
+    pub few : now.taken ≤ now.most
+    pub told : source.tells s → source.tells s'
+    pub moved : source.tells s → source.left s ≡ piece ++ source.left s'
+    pub kept : source.faults s' ≡ source.faults s
+
+  -- why nothing was fed
+  abbrev pub FeedsNoneFor : Stop → FeedState → S → S → Type 0
+  FeedsNoneFor End before s s' = (before.taken < before.most) × (source.tells s → source.left s' ≡ [])
+      × (source.faults s' ≡ source.faults s)
+  FeedsNoneFor Limit before s s' = (before.taken ≡ before.most) × (source.faults s' ≡ source.faults s)
+  FeedsNoneFor Fault before s s' = (before.taken < before.most) × Rose (source.faults s) (source.faults s')
+
+  -- nothing was fed
+  pub record FeedsNone (stop : Stop) (before now : FeedState) (s s' : S) : Type 0 where
+    pub same : now ≡ before
+    pub told : source.tells s → source.tells s'
+    pub moved : source.tells s → source.left s' ≡ source.left s
+    pub why : FeedsNoneFor stop before s s'
+
+  abbrev pub Takes : Option Stop → FeedState → FeedState → S → S → Type 0
+  Takes None before now s s' = FeedsPiece before now s s'
+  Takes (Some stop) before now s s' = FeedsNone stop before now s s'
+
+-- symbols of this line code
+module _ {S : Type 0} (source : SourceOf S) (line : LineCode) where
+  -- these bytes were taken, and these frames given of them
+  pub record FedSoFar (bytes : List ℕ) (given : List Frame) (now : FeedState) (s s' : S) : Type 0 where
+    pub stands : StandsFor now.lock (symbols_of bytes) given
+    pub line_is : now.lock.line ≡ line
+    pub long : now.taken ≡ length bytes
+    pub few : now.taken ≤ now.most
+    pub passed : 16384 * length given + length now.lock.kept ≤ now.taken
+    pub told : source.tells s → source.tells s'
+    pub moved : source.tells s → source.left s ≡ bytes ++ source.left s'
+    pub going_on : now.lock.finished ≡ false → source.faults s' ≡ source.faults s
+    pub ended : now.lock.finished ≡ true → EndsFor source now.stop now.most bytes s s'
+
+  -- more bytes were taken; what comes of the frames given stays
+  pub record FeedsOn (bytes : List ℕ) (given : List Frame) (now : FeedState) (s s' : S) : Type 0 where
+    pub all : List ℕ
+    pub so_far : FedSoFar all given now s s'
+    pub same : arrivals_given line all given ≡ arrivals_given line bytes given
+
+  -- the next frame was given
+  pub record GivesFrame (bytes : List ℕ) (given : List Frame) (now : FeedState) (window : WindowView) (s s' : S)
+      : Type 0 where
+    pub all : List ℕ
+    pub frame : Frame
+    pub so_far : FedSoFar all (given ++ frame ∷ []) now s s'
+    pub window_is : window ≡ window_view line (symbols_of all) frame
+    pub same : arrivals_given line all given ≡ arrivals_given line bytes given
+
+  -- there is none: all frames were given
+  pub record EndsFrames (stop : Stop) (bytes : List ℕ) (given : List Frame) (now : FeedState) (s s' : S) : Type 0 where
+    pub all : List ℕ
+    pub so_far : FedSoFar all given now s s'
+    pub closed : now.lock.finished ≡ true
+    pub stop_is : now.stop ≡ stop
+    pub every : AreFrames (tail_of line) (symbols_of all) given
+    pub same : arrivals_given line all given ≡ arrivals_given line bytes given
+
+  abbrev pub Feeds : Next → List ℕ → List Frame → FeedState → WindowView → S → S → Type 0
+  Feeds Whole bytes given now window s s' = GivesFrame bytes given now window s s'
+  Feeds (Ended stop) bytes given now window s s' = EndsFrames stop bytes given now s s'

@@ -1,0 +1,9 @@
+pub mod Arrivals
+pub mod Feeding
+pub mod Gathering
+pub mod Inputs
+pub mod Lines
+pub mod Readers
+pub mod Reading
+pub mod Runs
+pub mod Ways

@@ -1,0 +1,28 @@
+//! From the input to what comes of it: one road for all commands that read.
+//!
+//! What comes of the input is a list of arrivals (`Arrivals` in specs/): of symbols the outcome of the window of each
+//! frame, of blocks and frames that of each whole unit. A `Reader` takes all memory that reading needs when it is made.
+//! It leads a `Consumer` through the arrivals, however the reads of the source are cut, and takes no byte more than it
+//! was allowed. A consumer knows nothing of how they come; `TakesAll` and `TakesSome` (`Runs`) say how far it was led.
+#![tactic(auto)]
+
+mod arrival;
+mod consumer;
+mod input;
+mod laws;
+mod next;
+mod outcome;
+mod reader;
+mod symbols;
+mod totals;
+mod unit_loop;
+mod units;
+mod way;
+mod window_loop;
+
+pub use arrival::{Arrival, Position};
+pub use consumer::Consumer;
+pub use input::{Input, MOST_BYTES, UnitForm};
+pub use laws::{arrivals_are_whole, outcomes_are_of_arrivals};
+pub use reader::Reader;
+pub use totals::Totals;

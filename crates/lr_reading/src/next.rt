@@ -1,0 +1,10 @@
+use lr_catalog::Stop;
+
+/// What came of looking for the next window or unit.
+#[derive(Clone, Copy)]
+pub(crate) enum Next {
+    /// It is whole.
+    Whole,
+    /// No more bytes are taken.
+    Ended(Stop),
+}

@@ -1,0 +1,178 @@
+//! The symbols of the input are taken to the windows of its frames, however its reads are cut.
+ghost use Rattle.std.specs.Prelude.{◌≡◌, ◌↔◌, ◌<◌, ◌≤◌, ◌++◌, [], length, take, IfOk, OnErr};
+ghost use Rattle.lr_bits.specs.Faults.{HasCause};
+
+use crate::next::Next;
+use lr_bits::{Failed, NoMemory};
+use lr_catalog::Stop;
+use lr_conv::LineCode;
+use lr_io::Source;
+use lr_lock::{Lock, Step, Window};
+use std::alloc::Global;
+use std::marker::Model;
+
+/// The most bytes that are taken at a time, for which the lock has room.
+const ROOM: usize = 65_536;
+
+/// How many bytes are taken at a time.
+fn size_within(left: u64, room: usize) -> usize
+    requires left { 0 < left }
+    requires room { 0 < room }
+    ensures some { 0 < result }
+    ensures left { result ≤ left }
+    ensures room { result ≤ room }
+{
+    if left < room as u64 {
+        left as usize
+    } else {
+        room
+    }
+}
+
+/// Moves at most `size` bytes of the source to the front of `into`.
+fn take_within<S: Source>(source: &mut S, into: &mut [u8], size: usize) -> Result<usize, Failed>
+    requires some { 0 < size }
+    requires room { size ≤ length into.old }
+    ensures cause { HasCause (S.faults source.old) (S.faults source.new) result }
+    ensures within { IfOk result (λ n. n ≤ size) }
+    ensures told { S.tells source.old → S.tells source.new }
+    ensures moved { S.tells source.old → IfOk result (λ n. S.left source.old ≡ take n into.new ++ S.left source.new) }
+    ensures ended { S.tells source.old → IfOk result (λ n. (n ≡ 0) ↔ (S.left source.old ≡ [])) }
+    ensures failed { S.tells source.old → OnErr result (S.left source.new ≡ S.left source.old) }
+    ensures stays { length into.new ≡ length into.old }
+{
+    source.take(&mut into[..size])
+}
+
+/// The lock, and a buffer for what is taken.
+#[derive(Drop)]
+pub(crate) struct SymbolFeed {
+    lock: Lock,
+    buffer: Vec<u8>,
+    taken: u64,
+    most: u64,
+    /// Why no more is taken, once the lock is finished.
+    stop: Stop,
+}
+
+impl Model for SymbolFeed {
+    ghost use Rattle.std.specs.Prelude.{◌≡◌, ◌≤◌, ◌+◌, ◌^◌, length};
+    ghost use Rattle.lr_reading.specs.Feeding.{FeedState};
+
+    ghost Value = { FeedState };
+
+    ghost view = { λ f. record { lock = f.lock; taken = f.taken; most = f.most; stop = f.stop } };
+
+    ghost invariant = { λ f. (length f.buffer.items ≡ 65536) × (f.taken ≤ f.most) × (f.most ≤ 2 ^ 61)
+        × (f.lock.place + length f.lock.kept ≤ f.taken) };
+}
+
+impl SymbolFeed {
+    ghost use Rattle.std.specs.Prelude.{◌≡◌, ◌<◌, ◌≤◌, ◌+◌, ◌-◌, ◌^◌, List, ℕ, false, true, IfOk, length, cond};
+    ghost use Rattle.lr_lock.specs.declared.frame.Frame.{Frame};
+    ghost use Rattle.lr_reading.specs.Feeding.{
+      IsFresh,
+      IsStanding,
+      steps_left,
+      symbols_left,
+      Takes,
+      FedSoFar,
+      FeedsOn,
+      Feeds,
+    };
+    ghost use Rattle.lr_reading.specs.declared.next.Next.TheVariants.{Whole};
+
+    /// The memory that feeding symbols of this line code takes. At most `most` bytes will be taken.
+    pub(crate) fn new(alloc: Global, line: LineCode, most: u64) -> Result<Self, NoMemory>
+        requires { most ≤ 2 ^ 61 }
+        ensures fresh { IfOk result (IsFresh most) }
+        ensures line { IfOk result (λ feed. feed.lock.line ≡ line) }
+    {
+        let lock = Lock::new(alloc, line)?;
+        let buffer = vec![in alloc; 0; ROOM]?;
+        Ok(SymbolFeed {
+            lock,
+            buffer,
+            taken: 0,
+            most,
+            stop: Stop::End,
+        })
+    }
+
+    /// How many bytes were taken.
+    pub(crate) fn taken(&self) -> u64
+        ensures { result ≡ self.now.taken }
+    {
+        self.taken
+    }
+
+    /// Feeds the lock what the source gives, as much as there is room for. Answers why there is nothing to feed, if so.
+    fn take<S: Source>(&mut self, source: &mut S) -> Option<Stop>
+        requires unfinished { self.old.lock.finished ≡ false }
+        requires room { length self.old.lock.kept < 65536 }
+        ensures takes { Takes S.Source result self.old self.new source.old source.new }
+    {
+        let left = self.most - self.taken;
+        if left == 0 {
+            return Some(Stop::Limit);
+        }
+        let size = size_within(left, self.lock.room());
+        match take_within(source, &mut self.buffer, size) {
+            Err(Failed) => Some(Stop::Fault),
+            Ok(0) => Some(Stop::End),
+            Ok(count) => {
+                self.lock.feed_bytes(&self.buffer[..count]);
+                self.taken += count as u64;
+                None
+            }
+        }
+    }
+
+    /// No more bytes are taken.
+    fn finish(&mut self, stop: Stop)
+        ensures { self.new ≡ record self.old { lock = record self.old.lock { finished = true }; stop = stop } }
+    {
+        self.lock.finish();
+        self.stop = stop;
+    }
+
+    /// Feeds the lock once more, or finishes it.
+    fn more<S: Source>(&mut self, source: &mut S)
+        requires unfinished { self.old.lock.finished ≡ false }
+        requires room { length self.old.lock.kept < 65536 }
+        ensures feeds { (line : LineCode) (bytes : List ℕ) (given : List Frame) (s : _)
+            → FedSoFar S.Source line bytes given self.old s source.old
+            → FeedsOn S.Source line bytes given self.new s source.new }
+        ensures standing { IsStanding self.old.lock → IsStanding self.new.lock }
+        ensures most { self.new.most ≡ self.old.most }
+        ensures line { self.new.lock.line ≡ self.old.lock.line }
+        ensures goes_on { steps_left self.new < steps_left self.old }
+        ensures fewer { symbols_left self.new ≤ symbols_left self.old }
+    {
+        if let Some(stop) = self.take(source) {
+            self.finish(stop);
+        }
+    }
+
+    /// Takes bytes until the next frame is shown in the window, or there is none.
+    pub(crate) fn next<S: Source>(&mut self, source: &mut S, window: &mut Window) -> Next
+        requires standing { IsStanding self.old.lock }
+        requires line { window.old.line ≡ self.old.lock.line }
+        ensures feeds { (line : LineCode) (bytes : List ℕ) (given : List Frame) (s : _)
+            → FedSoFar S.Source line bytes given self.old s source.old
+            → Feeds S.Source line result bytes given self.new window.new s source.new }
+        ensures standing { IsStanding self.new.lock }
+        ensures most { self.new.most ≡ self.old.most }
+        ensures line { self.new.lock.line ≡ self.old.lock.line }
+        ensures window_line { window.new.line ≡ window.old.line }
+        ensures fewer { result ≡ Whole → symbols_left self.new < symbols_left self.old }
+    {
+        'steps: loop {
+            match self.lock.next_window(window) {
+                Step::Window => return Next::Whole,
+                Step::End => return Next::Ended(self.stop),
+                Step::More => self.more(source),
+            }
+        }
+    }
+}

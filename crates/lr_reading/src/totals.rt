@@ -1,0 +1,11 @@
+use lr_catalog::Stop;
+
+/// What was read: how many bytes were taken, how many windows or units came of them, how many bytes are left that are
+/// no whole unit, and why no more were taken.
+#[derive(Clone, Copy)]
+pub struct Totals {
+    pub symbols: u64,
+    pub frames: u64,
+    pub left: u64,
+    pub stop: Stop,
+}

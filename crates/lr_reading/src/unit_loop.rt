@@ -1,0 +1,57 @@
+//! Units into a consumer.
+ghost use Rattle.std.specs.Prelude.{◌≡◌, ◌≤◌, [], IfOk, IfErr};
+ghost use Rattle.lr_reading.specs.Inputs.{unit_bytes};
+ghost use Rattle.lr_reading.specs.Runs.{TakesAll, TakesSome};
+ghost use Rattle.lr_reading.specs.declared.input.Input.TheVariants.{Units};
+
+use crate::arrival::Arrival;
+use crate::consumer::Consumer;
+use crate::input::UnitForm;
+use crate::next::Next;
+use crate::outcome::unit_outcome;
+use crate::totals::Totals;
+use crate::units::UnitFeed;
+use lr_io::Source;
+use lr_rs::RsScratch;
+
+/// Leads the consumer through what becomes of each unit of N bytes.
+pub(crate) fn read_units<const N: usize, S: Source, C: Consumer>(
+    form: UnitForm,
+    most: u64,
+    source: &mut S,
+    consumer: &mut C,
+) -> Result<Totals, C::Cause>
+    requires size { N ≡ unit_bytes form }
+    requires few { most ≤ C.most }
+    requires ready { (c : C) × C.took c [] consumer.old }
+    ensures all { IfOk result (λ totals. TakesAll S.Source C.took (Units form) most totals
+        source.old source.new consumer.old consumer.new) }
+    ensures some { IfErr result (λ cause. TakesSome S.Source C.took (Units form) most C.stopped cause
+        source.old source.new consumer.old consumer.new) }
+{
+    let mut units = UnitFeed::<N>::new(most);
+    let mut scratch = RsScratch::new();
+    let mut frames = 0u64;
+    'units: loop {
+        match units.next(source) {
+            Next::Ended(stop) => {
+                return Ok(Totals {
+                    symbols: units.taken(),
+                    frames,
+                    left: units.len() as u64,
+                    stop,
+                });
+            }
+            Next::Whole => {
+                let outcome = unit_outcome(form, units.unit(), &mut scratch);
+                let arrival = Arrival {
+                    position: None,
+                    outcome,
+                };
+                consumer.take(&arrival)?;
+                units.clear();
+                frames += 1;
+            }
+        }
+    }
+}

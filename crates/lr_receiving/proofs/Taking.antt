@@ -1,0 +1,290 @@
+-- `receive` goes on by one outcome, and what it does with all that comes of its input.
+use Rattle.std.proofs.Common.{
+  ◌≡◌,
+  ℕ,
+  ◌+◌,
+  ◌*◌,
+  ◌<◌,
+  ◌≤◌,
+  ◌^◌,
+  false,
+  List,
+  [],
+  ◌∷◌,
+  ◌++◌,
+  length,
+  map,
+  ap,
+  ◌∙◌,
+  sym,
+  refl,
+  subst,
+  arith,
+  append_assoc,
+  append-nil,
+}
+use Rattle.std.specs.Prelude.{All}
+use Rattle.std.proofs.lemmas.List.{length-map, map-append}
+use Rattle.std.proofs.lemmas.List.Elements.{All-nil, All-head, All-tail}
+use Rattle.lr_bits.specs.declared.outcome.Outcome.{Outcome}
+use Rattle.lr_bits.specs.declared.placed.Placed.{Placed}
+use Rattle.lr_io.specs.declared.source.Source.{Ghosts as SourceOf}
+use Rattle.lr_io.specs.declared.sink.Sink.{Ghosts as SinkOf}
+use Rattle.lr_disk.specs.declared.disk.Disk.{Ghosts as DiskOf}
+use Rattle.lr_vc.specs.Frame.{Fields}
+use Rattle.lr_vc.specs.Runs.{AreFrames}
+use Rattle.lr_layers.specs.Layers.{Numbers, frames_of_outcomes, numbers_of}
+use Rattle.lr_layers.specs.Origins.{placed_of_outcomes, placed_packets}
+use Rattle.lr_layers.specs.Standing.{StandsFor, numbers}
+use Rattle.lr_layers.proofs.GoingOn.{go_on}
+use Rattle.lr_shelf_format.specs.Items.{Item}
+use Rattle.lr_shelf.specs.Kept.{kept_by}
+use Rattle.lr_catalog.specs.declared.stop.Stop.{Stop}
+use Rattle.lr_catalog.specs.declared.stop.Stop.TheVariants.{End, Limit, Fault}
+use Rattle.lr_commands.specs.Causes.{IsCaused}
+use Rattle.lr_commands.specs.declared.cause.Cause.{Cause}
+use Rattle.lr_reading.specs.Arrivals.{HasWholeFrame, arrivals_of, outcomes_of_arrivals}
+use Rattle.lr_reading.specs.Inputs.{outcomes_of_bytes}
+use Rattle.lr_reading.specs.Reading.{EndsFor}
+use Rattle.lr_reading.specs.Runs.{ReadsInput, TakesAll, TakesSome}
+use Rattle.lr_reading.specs.declared.arrival.Arrival.{Arrival}
+use Rattle.lr_reading.specs.declared.input.Input.{Input}
+use Rattle.lr_reading.specs.declared.totals.Totals.{Totals}
+use Rattle.lr_reading.proofs.Coming.{outcomes_are, no_arrivals}
+use Rattle.lr_reading.proofs.Whole.{all_whole}
+use Rattle.lr_receiving.specs.declared.shelver.Shelver.{Shelver}
+use Rattle.lr_receiving.specs.declared.sums.Sums.{Sums}
+use Rattle.lr_receiving.specs.Causes.{cause_at, counts}
+use Rattle.lr_receiving.specs.Inputs.{files_of_bytes}
+use Rattle.lr_receiving.specs.Reception.{ReadsAll, ReadsSome}
+use Rattle.lr_receiving.specs.Shelved.{MayStop, ShelvesSoFar, Grows, GrowsNoMore, Gains, GainsNoMore}
+use Rattle.lr_receiving.specs.ShelverTaken.{IsOnSame, ShelverTook, ShelverStopped}
+use Rattle.lr_receiving.specs.Shelving.{Stops}
+use Rattle.lr_receiving.proofs.DecodeText.{both_kinds}
+use Rattle.lr_receiving.proofs.Causing.{caused_later}
+use Rattle.lr_receiving.proofs.Growing.{grows_none, grows_on, stops_after, stops_before}
+use Rattle.lr_receiving.proofs.Shelving.{stops_more}
+use Rattle.lr_receiving.proofs.WholeFrames.{with_outcome}
+
+-- no outcomes have no files
+pub no_files : placed_of_outcomes [] ≡ []
+unfolding placed_of_outcomes placed_packets
+no_files = refl
+
+-- no bytes have none
+pub no_bytes : (input : Input) → files_of_bytes input [] ≡ []
+unfolding files_of_bytes
+no_bytes input = ap placed_of_outcomes (outcomes_are input [] ∙ ap outcomes_of_arrivals (no_arrivals input)) ∙ no_files
+
+-- one outcome more
+outcomes-push : (arrivals : List Arrival) (arrival : Arrival) → outcomes_of_arrivals (arrivals ++ arrival ∷ [])
+    ≡ outcomes_of_arrivals arrivals ++ arrival.outcome ∷ []
+outcomes-push arrivals arrival = map-append (λ (a : Arrival). a.outcome) arrivals (arrival ∷ [])
+
+-- ---- the files of the first arrivals come first
+
+frames_whole : (arrivals : List Arrival) (outcomes : List Outcome) → AreFrames (frames_of_outcomes outcomes)
+    → All (λ (arrival : Arrival). HasWholeFrame arrival.outcome) arrivals
+    → AreFrames (frames_of_outcomes (outcomes ++ outcomes_of_arrivals arrivals))
+frames_whole [] outcomes all whole =
+    subst (λ (l : List Outcome). AreFrames (frames_of_outcomes l)) (sym (append-nil outcomes)) all
+frames_whole (arrival ∷ arrivals) outcomes all whole =
+    let IsWhole : Arrival → Type 0 = λ a. HasWholeFrame a.outcome in
+    subst (λ (l : List Outcome). AreFrames (frames_of_outcomes l))
+    (append_assoc outcomes (arrival.outcome ∷ []) (outcomes_of_arrivals arrivals))
+    (frames_whole arrivals (outcomes ++ arrival.outcome ∷ [])
+    (with_outcome outcomes arrival.outcome all (All-head IsWhole arrival arrivals whole))
+    (All-tail IsWhole arrival arrivals whole))
+
+no_frames : AreFrames (frames_of_outcomes [])
+unfolding frames_of_outcomes
+no_frames = All-nil (λ (f : Fields). length f.zone ≡ 884)
+
+files_first : (input : Input) (bytes : List ℕ) (passed rest : List Arrival) → arrivals_of input bytes ≡ passed ++ rest
+    → (more : List Placed)
+    × (files_of_bytes input bytes ≡ placed_of_outcomes (outcomes_of_arrivals passed) ++ more)
+unfolding files_of_bytes
+files_first input bytes passed rest split =
+    let both : outcomes_of_bytes input bytes ≡ outcomes_of_arrivals passed ++ outcomes_of_arrivals rest =
+    outcomes_are input bytes ∙ ap outcomes_of_arrivals split
+    ∙ map-append (λ (a : Arrival). a.outcome) passed rest in
+    let whole : AreFrames (frames_of_outcomes (outcomes_of_arrivals passed ++ outcomes_of_arrivals rest)) =
+    subst (λ (l : List Outcome). AreFrames (frames_of_outcomes l))
+    (ap outcomes_of_arrivals split ∙ map-append (λ (a : Arrival). a.outcome) passed rest)
+    (frames_whole (arrivals_of input bytes) [] no_frames (all_whole input bytes)) in
+    let law = go_on (outcomes_of_arrivals passed) (outcomes_of_arrivals rest) whole in
+    (law.more_files, ap placed_of_outcomes both ∙ law.files)
+
+files_all : (input : Input) (bytes : List ℕ)
+    → files_of_bytes input bytes ≡ placed_of_outcomes (outcomes_of_arrivals (arrivals_of input bytes))
+unfolding files_of_bytes
+files_all input bytes = ap placed_of_outcomes (outcomes_are input bytes)
+
+-- ---- one outcome more
+
+module _ {D O : Type 0} (disk : DiskOf D) (out : SinkOf O) where
+  -- it begins
+  pub shelver_begun : (shelver : Shelver D O) → StandsFor shelver.layers.now []
+      → numbers shelver.counts ≡ shelver.layers.now.numbers → ShelverTook disk out shelver [] shelver
+  shelver_begun shelver stands counted = record {
+    on_same = record { same_layers = refl; same_shelf = refl; same_disk = refl; same_out = refl };
+    stands = stands;
+    counted = counted;
+    told_by_disk = λ t. t;
+    told_by_out = λ t. t;
+    working = λ works. works;
+    disk_count = refl;
+    out_count = refl;
+    shelved = λ capacity items d o so_far.
+        subst (λ (l : List Placed). ShelvesSoFar disk out capacity items l shelver.shelf.now d shelver.disk.now o
+        shelver.out.now) (sym no_files) so_far;
+    grown = subst (λ (l : List Placed). Grows l shelver.shelf.now shelver.shelf.now shelver.disk.now shelver.disk.now
+        shelver.out.now shelver.out.now) (sym no_files)
+        (grows_none shelver.shelf.now shelver.disk.now shelver.out.now);
+  }
+
+  module _ {before now : Shelver D O} {arrivals : List Arrival} (took : ShelverTook disk out before arrivals now) where
+    -- the layers may take one more
+    pub few : 892 * (length arrivals + 1) ≤ 2 ^ 48
+        → now.layers.now.numbers.restored + now.layers.now.numbers.lost < 2 ^ 48
+    few fits =
+        omega (
+          arith,
+          fits,
+          both_kinds (outcomes_of_arrivals arrivals),
+          length-map arrivals (λ (a : Arrival). a.outcome),
+          ap (λ (n : Numbers). n.restored + n.lost) took.stands.numbers,
+        )
+
+    module _ (arrival : Arrival) (now' : Shelver D O) (same : IsOnSame now now') where
+      both : IsOnSame before now'
+      both = record {
+        same_layers = same.same_layers ∙ took.on_same.same_layers;
+        same_shelf = same.same_shelf ∙ took.on_same.same_shelf;
+        same_disk = same.same_disk ∙ took.on_same.same_disk;
+        same_out = same.same_out ∙ took.on_same.same_out;
+      }
+
+      abbrev files_now : List Placed
+      files_now = placed_of_outcomes (outcomes_of_arrivals arrivals ++ arrival.outcome ∷ [])
+
+      is : placed_of_outcomes (outcomes_of_arrivals arrivals ++ arrival.outcome ∷ [])
+          ≡ placed_of_outcomes (outcomes_of_arrivals (arrivals ++ arrival ∷ []))
+      is = ap placed_of_outcomes (sym (outcomes-push arrivals arrival))
+
+      -- its files were shelved
+      pub shelver_more : StandsFor now'.layers.now (outcomes_of_arrivals arrivals ++ arrival.outcome ∷ [])
+          → numbers now'.counts ≡ now'.layers.now.numbers
+          → ((kept_by now.shelf.now).failed ≡ false → (kept_by now'.shelf.now).failed ≡ false)
+          → (disk.tells now.disk.now → disk.tells now'.disk.now) → (out.tells now.out.now → out.tells now'.out.now)
+          → disk.faults now'.disk.now ≡ disk.faults now.disk.now → out.faults now'.out.now ≡ out.faults now.out.now
+          → ((capacity : ℕ) (items : List Item) (d : D) (o : O)
+          → ShelvesSoFar disk out capacity items (placed_of_outcomes (outcomes_of_arrivals arrivals)) now.shelf.now
+          d now.disk.now o now.out.now
+          → ShelvesSoFar disk out capacity items files_now now'.shelf.now d now'.disk.now o now'.out.now)
+          → Gains (outcomes_of_arrivals arrivals) arrival.outcome now.shelf.now now'.shelf.now now.disk.now
+          now'.disk.now now.out.now now'.out.now
+          → ShelverTook disk out before (arrivals ++ arrival ∷ []) now'
+      shelver_more stands counted works tell_disk tell_out disk_count out_count shelved gains = record {
+        on_same = both;
+        stands = subst (λ (l : List Outcome). StandsFor now'.layers.now l) (sym (outcomes-push arrivals arrival))
+            stands;
+        counted = counted;
+        told_by_disk = λ t. tell_disk (took.told_by_disk t);
+        told_by_out = λ t. tell_out (took.told_by_out t);
+        working = λ worked. works (took.working worked);
+        disk_count = disk_count ∙ took.disk_count;
+        out_count = out_count ∙ took.out_count;
+        shelved = λ capacity items d o so_far.
+            subst (λ (l : List Placed). ShelvesSoFar disk out capacity items l now'.shelf.now d now'.disk.now o
+            now'.out.now) is (shelved capacity items d o (took.shelved capacity items d o so_far));
+        grown = subst (λ (l : List Placed). Grows l before.shelf.now now'.shelf.now before.disk.now now'.disk.now
+            before.out.now now'.out.now) (sym gains.files ∙ is) (grows_on took.grown gains.grown);
+      }
+
+      -- they were not
+      pub shelver_stopped : (cause : Cause) → MayStop cause
+          → (disk.tells now.disk.now → disk.tells now'.disk.now) → (out.tells now.out.now → out.tells now'.out.now)
+          → ((kept_by now.shelf.now).failed ≡ false → IsCaused cause
+          (counts 0 (disk.faults now.disk.now) (out.faults now.out.now))
+          (counts 0 (disk.faults now'.disk.now) (out.faults now'.out.now)))
+          → ((capacity : ℕ) (items : List Item) (d : D) (o : O)
+          → ShelvesSoFar disk out capacity items (placed_of_outcomes (outcomes_of_arrivals arrivals)) now.shelf.now
+          d now.disk.now o now.out.now
+          → Stops disk out capacity items cause files_now d now'.disk.now o now'.out.now)
+          → GainsNoMore cause (outcomes_of_arrivals arrivals) arrival.outcome now.shelf.now now.disk.now
+          now'.disk.now now.out.now now'.out.now
+          → ShelverStopped disk out before (arrivals ++ arrival ∷ []) cause now'
+      shelver_stopped cause may tell_disk tell_out caused stops gains = record {
+        on_same = both;
+        kind = may;
+        told_by_disk = λ t. tell_disk (took.told_by_disk t);
+        told_by_out = λ t. tell_out (took.told_by_out t);
+        caused = λ works. caused_later cause 0 0 (disk.faults before.disk.now) (disk.faults now.disk.now)
+            (disk.faults now'.disk.now) (out.faults before.out.now) (out.faults now.out.now)
+            (out.faults now'.out.now) took.disk_count took.out_count (caused (took.working works));
+        stops = λ capacity items d o so_far.
+            subst (λ (l : List Placed). Stops disk out capacity items cause l d now'.disk.now o now'.out.now) is
+            (stops capacity items d o (took.shelved capacity items d o so_far));
+        grown = subst (λ (l : List Placed). GrowsNoMore cause l before.shelf.now before.disk.now now'.disk.now
+            before.out.now now'.out.now) (sym gains.files ∙ is) (stops_after took.grown gains.grown);
+      }
+
+-- ---- the whole input
+
+-- why no more was taken is a cause
+pub caused_end : {S : Type 0} (source : SourceOf S) (stop : Stop) (limit : ℕ) (bytes : List ℕ) (s s' : S)
+    → EndsFor source stop limit bytes s s'
+    → IsCaused (cause_at stop) (counts (source.faults s) 0 0) (counts (source.faults s') 0 0)
+caused_end source End limit bytes s s' why = tt
+caused_end source Limit limit bytes s s' why = tt
+caused_end source Fault limit bytes s s' why = why.1
+
+module _ {S D O : Type 0} (source : SourceOf S) (disk : DiskOf D) (out : SinkOf O) (input : Input) (limit : ℕ)
+    {s s' : S} {before now : Shelver D O} (begun : ShelverTook disk out before [] before) where
+  -- all files were shelved
+  pub received_all : (sums : Sums)
+      → TakesAll source (ShelverTook disk out) input limit sums.totals s s' before now
+      → sums.counts ≡ now.counts
+      → ReadsAll source disk out input limit sums before.shelf.now now.shelf.now s s' before.disk.now now.disk.now
+      before.out.now now.out.now
+  received_all sums all same =
+      let took = all.taken before begun in
+      let is = sym (files_all input all.bytes) in
+      record {
+        bytes = all.bytes;
+        ends = all.ends;
+        counts = ap numbers same ∙ took.counted ∙ took.stands.numbers
+            ∙ ap (λ (l : List Outcome). numbers_of l) (sym (outcomes_are input all.bytes));
+        shelved = λ capacity items d o so_far.
+            subst (λ (l : List Placed). ShelvesSoFar disk out capacity items l now.shelf.now d now.disk.now o
+            now.out.now) is (took.shelved capacity items d o so_far);
+        grown = subst (λ (l : List Placed). Grows l before.shelf.now now.shelf.now before.disk.now now.disk.now
+            before.out.now now.out.now) is took.grown;
+      }
+
+  -- they were not
+  pub received_some : (cause : Cause)
+      → TakesSome source (ShelverTook disk out) input limit (ShelverStopped disk out) cause s s' before now
+      → ReadsSome source disk out input limit cause before.shelf.now s s' before.disk.now now.disk.now
+      before.out.now now.out.now
+  received_some cause some =
+      let stopped = some.stops before begun in
+      let first = files_first input some.bytes some.passed some.rest some.split in
+      let passed = placed_of_outcomes (outcomes_of_arrivals some.passed) in
+      record {
+        bytes = some.bytes;
+        read = some.read;
+        stops = λ capacity items d o so_far.
+            subst (λ (l : List Placed). Stops disk out capacity items cause l d now.disk.now o now.out.now)
+            (sym first.1)
+            (stops_more disk out capacity items d now.disk.now o now.out.now passed first.0 cause
+            (stopped.stops capacity items d o so_far));
+        grown = subst (λ (l : List Placed). GrowsNoMore cause l before.shelf.now before.disk.now now.disk.now
+            before.out.now now.out.now) (sym first.1) (stops_before first.0 stopped.grown);
+        files = passed;
+        early = stopped.stops;
+        first = λ line symbols told few calm.
+            let later = some.first line symbols told few calm in
+            files_first input (some.bytes ++ source.left s') some.passed later.0 later.1;
+      }

@@ -1,0 +1,154 @@
+//! The lines of a header: each kind of record, and each fault.
+use lr_bits::Bytes;
+use lr_catalog::header_lines;
+use std::alloc::Global;
+use std::test::Fail;
+
+/// A navigation record, whose name has a zero inside, and zeros and spaces after it.
+const NAVIGATION: [u8; 51] = [
+    2, 0, 0x33, 0x67, 0x65, 0x6F, 0x73, 0, 0x28, 0x2D, 0x37, 0x35, 0x2E, 0x32, 0x29, 0x20, 0, 0x20,
+    0, 0, 0, 0, 0, 0, 0, 0, 0, 0, 0, 0, 0, 0, 0, 0, 0, 1, 0x38, 0x4A, 0x63, 0xFE, 0xC7, 0xB5, 0x9D,
+    0, 0, 0x15, 0x7C, 0xFF, 0xFF, 0xFF, 0xFF,
+];
+
+/// Whether these are the lines of the header of this file.
+fn has_lines(alloc: Global, proper: &[u8], wanted: &str) -> Result<bool, Fail> {
+    let mut text = Bytes::new(alloc);
+    header_lines(alloc, proper, &mut text)?;
+    Ok(text.as_slice() == wanted.as_bytes())
+}
+
+/// A primary record of type 2 and 1,600 bits, and these records.
+fn proper(alloc: Global, records: &[u8]) -> Result<Vec<u8>, Fail> {
+    let size = (16 + records.len() % 200) as u8;
+    let mut bytes = [0, 0, 16, 2, 0, 0, 0, size, 0, 0, 0, 0, 0, 0, 6, 0x40].to_vec(alloc)?;
+    bytes.extend_from_slice(records)?;
+    Ok(bytes)
+}
+
+/// Whether the lines of a header with this record after the first one are these.
+fn has_line(alloc: Global, record: &[u8], wanted: &str) -> Result<bool, Fail> {
+    let size = 16 + record.len() % 200;
+    let mut lines = format!(in alloc;
+        "record 0 length 16 primary type 2 header {size} bits 1600\n"
+    )?;
+    lines.push_str(wanted)?;
+    has_lines(alloc, &proper(alloc, record)?, lines.as_str())
+}
+
+#[test]
+fn images_have_their_lines(rt: HostRuntime) -> Result<(), Fail> {
+    let alloc = rt.alloc();
+    let structure = [1, 0, 9, 8, 0, 64, 1, 0, 2];
+    let segment = [128, 0, 17, 0, 1, 0, 2, 0, 3, 0, 4, 0, 5, 0, 6, 1, 0];
+    let lossless = [131, 0, 7, 0, 49, 16, 1];
+    assert!(rt;
+        has_line(
+            alloc,
+            &structure,
+            "record 1 length 9 image bits 8 columns 64 lines 256 compression 2\n"
+        )?
+    );
+    assert!(rt;
+        has_line(
+            alloc,
+            &NAVIGATION,
+            "record 2 length 51 navigation geos\\x00(-75.2) 20466275 -20466275 5500 -1\n"
+        )?
+    );
+    assert!(rt;
+        has_line(
+            alloc,
+            &segment,
+            "record 128 length 17 segment 1 2 3 4 5 6 256\n"
+        )?
+    );
+    assert!(rt;
+        has_line(
+            alloc,
+            &lossless,
+            "record 131 length 7 lossless flags 49 block 16 lines 1\n"
+        )?
+    );
+    Ok(())
+}
+
+#[test]
+fn a_name_of_zeros_leaves_its_space(rt: HostRuntime) -> Result<(), Fail> {
+    let mut blank = [0; 51];
+    blank[0] = 2;
+    blank[2] = 51;
+    assert!(rt;
+        has_line(
+            rt.alloc(),
+            &blank,
+            "record 2 length 51 navigation  0 0 0 0\n"
+        )?
+    );
+    Ok(())
+}
+
+#[test]
+fn texts_are_escaped(rt: HostRuntime) -> Result<(), Fail> {
+    let alloc = rt.alloc();
+    let text = [4, 0, 10, b'A', b'\\', 0, b' ', b'~', 0x7F, 0xE9];
+    assert!(rt;
+        has_line(
+            alloc,
+            &text,
+            "record 4 length 10 text A\\x5C\\x00 ~\\x7F\\xE9\n"
+        )?
+    );
+    assert!(rt; has_line(alloc, &[3, 0, 4, b'#'], "record 3 length 4 text #\n")?);
+    assert!(rt; has_line(alloc, &[6, 0, 3], "record 6 length 3 text \n")?);
+    Ok(())
+}
+
+#[test]
+fn stamps_and_other_records_have_their_lines(rt: HostRuntime) -> Result<(), Fail> {
+    let alloc = rt.alloc();
+    let late = [5, 0, 10, 0x40, 0x11, 0x1F, 0x05, 0x26, 0x5B, 0xFF];
+    let other_form = [5, 0, 10, 0x41, 0, 7, 0, 0, 0, 9];
+    assert!(rt;
+        has_line(
+            alloc,
+            &late,
+            "record 5 length 10 stamp 1970-01-01T23:59:59.999Z\n"
+        )?
+    );
+    assert!(rt;
+        has_line(
+            alloc,
+            &other_form,
+            "record 5 length 10 stamp form 65 days 7 milliseconds 9\n"
+        )?
+    );
+    assert!(rt; has_line(alloc, &[7, 0, 4, 0], "record 7 length 4 key\n")?);
+    assert!(rt; has_line(alloc, &[0, 0, 3], "record 0 length 3 other\n")?);
+    assert!(rt; has_line(alloc, &[128, 0, 3], "record 128 length 3 other\n")?);
+    assert!(rt; has_line(alloc, &[131, 0, 4, 1], "record 131 length 4 other\n")?);
+    assert!(rt; has_line(alloc, &[200, 0, 3], "record 200 length 3 other\n")?);
+    Ok(())
+}
+
+/// Whether a header with these bytes after the first record has this line alone.
+fn has_fault(alloc: Global, records: &[u8], wanted: &str) -> Result<bool, Fail> {
+    has_lines(alloc, &proper(alloc, records)?, wanted)
+}
+
+#[test]
+fn a_fault_has_one_line(rt: HostRuntime) -> Result<(), Fail> {
+    let alloc = rt.alloc();
+    assert!(rt; has_lines(alloc, &[0; 15], "header fault ended 15\n")?);
+    assert!(rt; has_lines(alloc, &[0; 16], "header fault not-primary\n")?);
+    assert!(rt; has_fault(alloc, &[9, 0, 3, 4, 0, 2], "header fault short 19\n")?);
+    assert!(rt; has_fault(alloc, &[9, 0, 3, 4, 0, 9], "header fault overrun 19\n")?);
+    assert!(rt;
+        has_fault(
+            alloc,
+            &[5, 0, 11, 0, 0, 0, 0, 0, 0, 0, 0],
+            "header fault length 5 11\n"
+        )?
+    );
+    Ok(())
+}

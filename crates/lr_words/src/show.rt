@@ -1,0 +1,23 @@
+ghost use Rattle.std.specs.Prelude.{◌≡◌, map, IfOk, string_bytes};
+ghost use Rattle.lr_words.specs.Commands.{show_of, IsInRange};
+
+use crate::arguments::number_parser;
+use crate::command::Command;
+use crate::matched::matched;
+use crate::numbers::number_given;
+use lr_bits::NoMemory;
+use std::alloc::Global;
+
+/// The command that words of `show` give, if they give one.
+pub(crate) fn read_show(alloc: Global, words: &[String]) -> Result<Option<Command>, NoMemory>
+    ensures gives { IfOk result (λ r. r ≡ show_of (map string_bytes words.now)) }
+    ensures range { IfOk result IsInRange }
+{
+    let Some(matches) = matched(number_parser(alloc, "show")?, words)? else {
+        return Ok(None);
+    };
+    let Some(number) = number_given(&matches, "number", 0, u64::MAX) else {
+        return Ok(None);
+    };
+    Ok(Some(Command::Show { number }))
+}
