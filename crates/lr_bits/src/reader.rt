@@ -99,7 +99,7 @@ impl<'a> BitReader<'a> {
         ensures ok { IfOk result (λ n. self.old ≡ zeros_and_one n ++ self.new) }
         ensures err { OnErr result (All (λ bit. bit ≡ 0) self.old × (self.new ≡ self.old)) }
     {
-        let mut ahead = self.copied();
+        let mut ahead = self.duplicate();
         let mut passed = 0;
         loop {
             let zeros = ahead.zeros_ahead();
@@ -140,7 +140,7 @@ impl<'a> BitReader<'a> {
 
     /// The same bits again. A loop that keeps its reader in a local of its own is faster than one through a `&mut`.
     #[inline(always)]
-    pub fn copied(&self) -> BitReader<'a>
+    pub fn duplicate(&self) -> BitReader<'a>
         ensures same { result ≡ self.now }
         ensures few { length self.now < 2 ^ 64 }
     {

@@ -2,18 +2,18 @@
 use Rattle.std.proofs.Common.{◌≡◌, ◌<◌, ◌≤◌, ◌+◌, ◌-◌, ℕ, true, false, List, [], ◌∷◌, ◌++◌, length, get_or, take, refl}
 use Rattle.std.proofs.Common.{◌∙◌, ap, sym, arith}
 use Rattle.std.proofs.lemmas.List.{take_more}
-use Rattle.lr_catalog.specs.Texts.{is_blank, trimmed, trimmed_with}
+use Rattle.lr_catalog.specs.Texts.{is_blank, trimmed_text, trimmed_text_with}
 
-blank_end : (text : List ℕ) (byte : ℕ) → is_blank byte ≡ true → trimmed (text ++ byte ∷ []) ≡ trimmed text
+blank_end : (text : List ℕ) (byte : ℕ) → is_blank byte ≡ true → trimmed_text (text ++ byte ∷ []) ≡ trimmed_text text
 blank_end [] byte h = rw h refl
-blank_end (x ∷ text) byte h = ap (trimmed_with x) (blank_end text byte h)
+blank_end (x ∷ text) byte h = ap (trimmed_text_with x) (blank_end text byte h)
 
-plain_end : (text : List ℕ) (byte : ℕ) → is_blank byte ≡ false → trimmed (text ++ byte ∷ []) ≡ text ++ byte ∷ []
+plain_end : (text : List ℕ) (byte : ℕ) → is_blank byte ≡ false → trimmed_text (text ++ byte ∷ []) ≡ text ++ byte ∷ []
 plain_end [] byte h = rw h refl
-plain_end (x ∷ text) byte h = ap (trimmed_with x) (plain_end text byte h) ∙ before x text byte
+plain_end (x ∷ text) byte h = ap (trimmed_text_with x) (plain_end text byte h) ∙ before x text byte
   where
     before : (first : ℕ) (rest : List ℕ) (last : ℕ)
-        → trimmed_with first (rest ++ last ∷ []) ≡ first ∷ (rest ++ last ∷ [])
+        → trimmed_text_with first (rest ++ last ∷ []) ≡ first ∷ (rest ++ last ∷ [])
     before first [] last = refl
     before first (next ∷ rest) last = refl
 
@@ -25,12 +25,12 @@ last_of text end some within =
     ap (λ (n : ℕ). take n text) whole ∙ take_more text (end - 1) 0 before
 
 pub blank_ends : (text : List ℕ) (end : ℕ) → 0 < end → end ≤ length text → is_blank (get_or text (end - 1) 0) ≡ true
-    → trimmed (take end text) ≡ trimmed (take (end - 1) text)
+    → trimmed_text (take end text) ≡ trimmed_text (take (end - 1) text)
 blank_ends text end some within blank =
-    ap trimmed (last_of text end some within) ∙ blank_end (take (end - 1) text) (get_or text (end - 1) 0) blank
+    ap trimmed_text (last_of text end some within) ∙ blank_end (take (end - 1) text) (get_or text (end - 1) 0) blank
 
 pub plain_ends : (text : List ℕ) (end : ℕ) → 0 < end → end ≤ length text
-    → is_blank (get_or text (end - 1) 0) ≡ false → trimmed (take end text) ≡ take end text
+    → is_blank (get_or text (end - 1) 0) ≡ false → trimmed_text (take end text) ≡ take end text
 plain_ends text end some within plain =
-    ap trimmed (last_of text end some within) ∙ plain_end (take (end - 1) text) (get_or text (end - 1) 0) plain
+    ap trimmed_text (last_of text end some within) ∙ plain_end (take (end - 1) text) (get_or text (end - 1) 0) plain
     ∙ sym (last_of text end some within)

@@ -26,7 +26,7 @@ use Rattle.lr_headers.specs.Fields.{content_of, contents_of}
 use Rattle.lr_headers.specs.Reading.{header_of}
 use Rattle.lr_headers.specs.Stamps.{stamp_text}
 use Rattle.lr_headers.specs.Tiling.{Header}
-use Rattle.lr_catalog.specs.Texts.{escaped, trimmed}
+use Rattle.lr_catalog.specs.Texts.{escaped_text, trimmed_text}
 
 -- the file type, the bytes of the header, and the declared bits of the data field
 unfoldable pub primary_words : ℕ → ℕ → ℕ → List ℕ
@@ -47,7 +47,7 @@ projection_words navigation = concat (
 -- the name of the projection, and these
 abbrev pub navigation_words : Navigation → List ℕ
 navigation_words navigation =
-    codes " navigation " ++ escaped (trimmed navigation.name) ++ projection_words navigation
+    codes " navigation " ++ escaped_text (trimmed_text navigation.name) ++ projection_words navigation
 
 unfoldable pub segment_words : Segment → List ℕ
 segment_words segment = concat (
@@ -65,7 +65,7 @@ abbrev pub content_words : Content → List ℕ → List ℕ
 content_words (Primary kind size bits) contents = primary_words kind size bits
 content_words (StructureOf structure) contents = structure_words structure
 content_words (NavigationOf navigation) contents = navigation_words navigation
-content_words Text contents = codes " text " ++ escaped contents
+content_words Text contents = codes " text " ++ escaped_text contents
 content_words (StampOf stamp) contents = codes " stamp " ++ stamp_text stamp
 content_words Key contents = codes " key"
 content_words (SegmentOf segment) contents = segment_words segment

@@ -17,19 +17,19 @@ escaped_byte byte =
     if is_plain byte then byte ∷ []
     else 92 ∷ 120 ∷ hex_digit (byte / 16) ∷ hex_digit (byte % 16) ∷ []
 
-abbrev pub escaped : List ℕ → List ℕ
-escaped text = flat_map escaped_byte text
+abbrev pub escaped_text : List ℕ → List ℕ
+escaped_text text = flat_map escaped_byte text
 
 -- zeros and spaces, which fill a name up
 abbrev pub is_blank : ℕ → Bool
 is_blank byte = (byte == 0) || (byte == 32)
 
 -- a byte before what is left of those after it
-abbrev pub trimmed_with : ℕ → List ℕ → List ℕ
-trimmed_with byte [] = if is_blank byte then [] else byte ∷ []
-trimmed_with byte (next ∷ rest) = byte ∷ next ∷ rest
+abbrev pub trimmed_text_with : ℕ → List ℕ → List ℕ
+trimmed_text_with byte [] = if is_blank byte then [] else byte ∷ []
+trimmed_text_with byte (next ∷ rest) = byte ∷ next ∷ rest
 
 -- without the zeros and spaces at its end
-abbrev pub trimmed : List ℕ → List ℕ
-trimmed [] = []
-trimmed (byte ∷ rest) = trimmed_with byte (trimmed rest)
+abbrev pub trimmed_text : List ℕ → List ℕ
+trimmed_text [] = []
+trimmed_text (byte ∷ rest) = trimmed_text_with byte (trimmed_text rest)

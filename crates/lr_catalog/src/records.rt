@@ -20,7 +20,7 @@ ghost use Rattle.lr_catalog.specs.Records.{
   header_lines,
 };
 
-use crate::texts::{put_escaped, trimmed};
+use crate::texts::{put_escaped, trim_end};
 use lr_bits::{Bytes, NoMemory};
 use lr_headers::{
     Content, Entry, HeaderFault, Lossless, Navigation, Records, Segment, Structure, stamp_text,
@@ -68,7 +68,7 @@ fn put_navigation(alloc: Global, navigation: &Navigation, out: &mut Bytes) -> Re
     ensures { OnOk result (out.new ≡ out.old ++ navigation_words navigation.now) }
 {
     out.extend(b" navigation ")?;
-    put_escaped(trimmed(&navigation.name), out)?;
+    put_escaped(trim_end(&navigation.name), out)?;
     let words = projection_words(alloc, navigation)?;
     out.extend(words.as_bytes())
 }

@@ -1,13 +1,13 @@
 //! Bytes of any value in print.
 
 ghost use Rattle.std.specs.Prelude.{◌≡◌, ◌<◌, ◌++◌, OnOk};
-ghost use Rattle.lr_catalog.specs.Texts.{escaped, escaped_byte, hex_digit, is_blank, is_plain, trimmed};
+ghost use Rattle.lr_catalog.specs.Texts.{escaped_text, escaped_byte, hex_digit, is_blank, is_plain, trimmed_text};
 
 use lr_bits::{Bytes, NoMemory};
 
 /// Appends the text, in which each byte that isn't printed as itself is a backslash, `x` and two digits.
 pub(crate) fn put_escaped(text: &[u8], out: &mut Bytes) -> Result<(), NoMemory>
-    ensures { OnOk result (out.new ≡ out.old ++ escaped text.now) }
+    ensures { OnOk result (out.new ≡ out.old ++ escaped_text text.now) }
 {
     for byte in text {
         put_byte(*byte, out)?;
@@ -16,8 +16,8 @@ pub(crate) fn put_escaped(text: &[u8], out: &mut Bytes) -> Result<(), NoMemory>
 }
 
 /// The text without the zeros and spaces at its end.
-pub(crate) fn trimmed(text: &[u8]) -> &[u8]
-    ensures { result.now ≡ trimmed text.now }
+pub(crate) fn trim_end(text: &[u8]) -> &[u8]
+    ensures { result.now ≡ trimmed_text text.now }
 {
     let mut end = text.len();
     while end > 0 && is_blank(text[end - 1]) {

@@ -193,7 +193,7 @@ impl ReadsFiles for AssembleRange {
         take_file(alloc, segment, opened, gathering)
     }
 
-    fn gone<O: Sink>(&self, _: Global, _: u64, _: &mut O) -> Result<(), Cause> {
+    fn gone_entry<O: Sink>(&self, _: Global, _: u64, _: &mut O) -> Result<(), Cause> {
         Ok(())
     }
 

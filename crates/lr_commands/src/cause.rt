@@ -72,7 +72,7 @@ impl Cause {
     }
 
     /// Done, with what is told of it, if anything.
-    pub(crate) fn done(note: Option<Note>) -> Self
+    pub(crate) fn done_with(note: Option<Note>) -> Self
         ensures { result ≡ done_with note }
     {
         match note {

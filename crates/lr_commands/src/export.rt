@@ -56,7 +56,7 @@ impl ReadsFiles for ExportOne {
         }
     }
 
-    fn gone<O: Sink>(&self, _: Global, _: u64, _: &mut O) -> Result<(), Cause> {
+    fn gone_entry<O: Sink>(&self, _: Global, _: u64, _: &mut O) -> Result<(), Cause> {
         Err(Cause::Refused(Refusal::Discarded))
     }
 

@@ -52,7 +52,7 @@ impl ReadsFiles for ExtractOne {
         put_text(opened.stored.file.proper(), out)
     }
 
-    fn gone<O: Sink>(&self, _: Global, _: u64, _: &mut O) -> Result<(), Cause> {
+    fn gone_entry<O: Sink>(&self, _: Global, _: u64, _: &mut O) -> Result<(), Cause> {
         Err(Cause::Refused(Refusal::Discarded))
     }
 

@@ -63,7 +63,7 @@ pub trait ReadsFiles {
             TextStops O.Sink ((asked self.now).becomes read number opened.now) cause out.old out.new) };
 
     /// Puts the text of an entry that is gone. Memory is taken before the text.
-    fn gone<O: Sink>(&self, alloc: Global, number: u64, out: &mut O) -> Result<(), Cause>
+    fn gone_entry<O: Sink>(&self, alloc: Global, number: u64, out: &mut O) -> Result<(), Cause>
         ensures puts { OnOk result (PutsText O.Sink ((asked self.now).gone number) out.old out.new) }
         ensures stops { IfErr result (λ cause.
             TextStops O.Sink ((asked self.now).gone number) cause out.old out.new) };
@@ -155,7 +155,7 @@ impl<C: ReadsFiles> ReadsEntries for Files<C> {
                 Err(NoMemory) => Err(Cause::NoMemory),
             },
             Err(error) => match error {
-                ShelfError::Discarded => self.0.gone(alloc, number, out),
+                ShelfError::Discarded => self.0.gone_entry(alloc, number, out),
                 refused => Err(Cause::from(refused)),
             },
         }

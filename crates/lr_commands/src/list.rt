@@ -83,7 +83,7 @@ impl ReadsFiles for ListAll {
         put_file(alloc, number, &opened.stored, out)
     }
 
-    fn gone<O: Sink>(&self, alloc: Global, number: u64, out: &mut O) -> Result<(), Cause> {
+    fn gone_entry<O: Sink>(&self, alloc: Global, number: u64, out: &mut O) -> Result<(), Cause> {
         put_gone(alloc, number, out)
     }
 

@@ -58,7 +58,7 @@ pub fn run_entries<C: ReadsEntries, D: Disk, O: Sink>(
         Err(error) => return Cause::from(error),
     };
     match take_entries(alloc, command, gathered, &mut shelf, disk, out) {
-        Ok(note) => Cause::done(note),
+        Ok(note) => Cause::done_with(note),
         Err(cause) => cause,
     }
 }

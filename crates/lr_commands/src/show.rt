@@ -65,7 +65,7 @@ impl ReadsFiles for ShowOne {
         put_text(text.as_slice(), out)
     }
 
-    fn gone<O: Sink>(&self, _: Global, _: u64, _: &mut O) -> Result<(), Cause> {
+    fn gone_entry<O: Sink>(&self, _: Global, _: u64, _: &mut O) -> Result<(), Cause> {
         Err(Cause::Refused(Refusal::Discarded))
     }
 

@@ -54,7 +54,7 @@ use Rattle.lr_disk.specs.Mem.{
   IsImageOf,
   step_contents,
 }
-use Rattle.lr_disk.specs.Stop.{filled, filled_between, inside, left_of_kind}
+use Rattle.lr_disk.specs.Stop.{with_filler, filled_between, inside, left_of_kind}
 use Rattle.lr_disk.specs.declared.past.Call.{Call}
 use Rattle.lr_disk.specs.declared.past.Call.TheVariants.{Kept, Wrote, Shortened, Synced}
 use Rattle.lr_disk.proofs.Steps.{after_more}
@@ -89,24 +89,24 @@ torn_filled from to bytes low order =
 -- the contents and the bytes with the filler are crash images, of one length
 record IsStoppable (s : State) : Type 0 where
   contents : IsImage s s.contents
-  filler : IsImage s (filled s.durable s.pending)
-  size : length (filled s.durable s.pending) ≡ length s.contents
+  filler : IsImage s (with_filler s.durable s.pending)
+  size : length (with_filler s.durable s.pending) ≡ length s.contents
 
 stoppable_after : (log : List ℕ) (call : Call) (s : State) → IsStoppable s → IsStoppable (after log call s)
 stoppable_after log Kept s is = is
 stoppable_after log (Wrote at from count) s is =
     let piece = take count (drop from log) in
-    let low : min at (length s.contents) ≤ length (filled s.durable s.pending) = omega (arith, is.size) in
+    let low : min at (length s.contents) ≤ length (with_filler s.durable s.pending) = omega (arith, is.size) in
     let order : min at (length s.contents) ≤ at + length piece = omega arith in
     record {
       contents = step_contents log (Wrote at from count) s is.contents;
-      filler = (filled s.durable s.pending, is.filler, torn_filled _ _ _ low order);
+      filler = (with_filler s.durable s.pending, is.filler, torn_filled _ _ _ low order);
       size = length-filled_between _ _ _ low order ∙ omega (arith, is.size, (over_written at piece s.contents).size);
     }
 stoppable_after log (Shortened n) s is = record {
   contents = step_contents log (Shortened n) s is.contents;
-  filler = (filled s.durable s.pending, is.filler, record { kept = n; enough = omega arith; front = refl });
-  size = omega (arith, length-take n (filled s.durable s.pending), length-take n s.contents, is.size);
+  filler = (with_filler s.durable s.pending, is.filler, record { kept = n; enough = omega arith; front = refl });
+  size = omega (arith, length-take n (with_filler s.durable s.pending), length-take n s.contents, is.size);
 }
 stoppable_after log Synced s is = record { contents = refl; filler = refl; size = refl }
 
@@ -141,12 +141,12 @@ durable_is_image durable (cut n ∷ pending) = (
 kind_is_image : (kind : ℕ) (s : State) → IsStoppable s → IsImage s (left_of_kind kind s)
 kind_is_image kind s is = chosen (kind == 0) (kind == 1)
   where
-    last : (one : Bool) → IsImage s (if one then s.contents else filled s.durable s.pending)
+    last : (one : Bool) → IsImage s (if one then s.contents else with_filler s.durable s.pending)
     last true = is.contents
     last false = is.filler
 
     chosen : (none one : Bool)
-        → IsImage s (if none then s.durable else if one then s.contents else filled s.durable s.pending)
+        → IsImage s (if none then s.durable else if one then s.contents else with_filler s.durable s.pending)
     chosen true one = durable_is_image s.durable s.pending
     chosen false one = last one
 

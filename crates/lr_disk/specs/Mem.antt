@@ -32,13 +32,13 @@ abbrev pub at_start : List ℕ → State
 at_start bytes = record { durable = bytes; pending = []; contents = bytes }
 
 -- the bytes, with zeros up to that length
-abbrev pub padded : ℕ → List ℕ → List ℕ
-padded n bytes = bytes ++ replicate (n - length bytes) 0
+abbrev pub with_zeros : ℕ → List ℕ → List ℕ
+with_zeros n bytes = bytes ++ replicate (n - length bytes) 0
 
 -- these bytes at that place; a gap is filled with zeros
 abbrev pub written_over : ℕ → List ℕ → List ℕ → List ℕ
-written_over at bytes old = take at (padded (at + length bytes) old) ++ bytes
-    ++ drop (at + length bytes) (padded (at + length bytes) old)
+written_over at bytes old = take at (with_zeros (at + length bytes) old) ++ bytes
+    ++ drop (at + length bytes) (with_zeros (at + length bytes) old)
 
 abbrev pub over : ℕ → List ℕ → State → State
 over at bytes s = record {
@@ -99,7 +99,7 @@ pub over_written : (at : ℕ) (bytes old : List ℕ) → Written at bytes old (w
 over_written at bytes old =
     let n = at + length bytes in
     let zeros : List ℕ = replicate (n - length old) 0 in
-    let p : List ℕ = padded n old in
+    let p : List ℕ = with_zeros n old in
     let long : length p ≡ max (length old) n =
     omega (arith, length-append old zeros, length-replicate {A = ℕ} (n - length old) 0) in
     let front : length (take at p) ≡ at = omega (arith, length-take at p) in
@@ -119,10 +119,10 @@ over_written at bytes old =
       size = omega (arith, length-append (take at p ++ bytes) (drop n p), length-drop n p);
     }
   where
-    beyond : (n : ℕ) (old : List ℕ) → drop n (padded n old) ≡ drop n old
+    beyond : (n : ℕ) (old : List ℕ) → drop n (with_zeros n old) ≡ drop n old
     beyond n old = elim (cases_lt (length old) n) [
       | inl long ↦
-          drop_all n (padded n old)
+          drop_all n (with_zeros n old)
           (omega (
             arith,
             length-append old (replicate (n - length old) 0),

@@ -19,14 +19,14 @@ abbrev pub filled_between : ℕ → ℕ → List ℕ → List ℕ
 filled_between from to bytes = take from bytes ++ (replicate (to - from) 0x7F ++ drop to bytes)
 
 -- the durable bytes, with 7F in each pending range and cut where a cut is pending
-abbrev pub filled : List ℕ → List Pending → List ℕ
-filled durable [] = durable
-filled durable (torn from to ∷ pending) = filled_between from to (filled durable pending)
-filled durable (cut n ∷ pending) = take n (filled durable pending)
+abbrev pub with_filler : List ℕ → List Pending → List ℕ
+with_filler durable [] = durable
+with_filler durable (torn from to ∷ pending) = filled_between from to (with_filler durable pending)
+with_filler durable (cut n ∷ pending) = take n (with_filler durable pending)
 
 -- nothing of what is pending, all of it, or 7F wherever any byte may stand
 abbrev pub left_of_kind : ℕ → State → List ℕ
-left_of_kind kind s = if kind == 0 then s.durable else if kind == 1 then s.contents else filled s.durable s.pending
+left_of_kind kind s = if kind == 0 then s.durable else if kind == 1 then s.contents else with_filler s.durable s.pending
 
 -- the state after the first calls of a disk
 abbrev pub state_after : Past → ℕ → State

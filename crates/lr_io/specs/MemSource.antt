@@ -4,8 +4,8 @@ use Rattle.std.specs.Prelude.{ℕ, List, ◌++◌, drop}
 use Rattle.lr_io.specs.declared.source.MemSource.{MemSource}
 
 -- how many bytes it has moved
-abbrev pub moved : MemSource → ℕ
-moved s = s.at
+abbrev pub bytes_moved : MemSource → ℕ
+bytes_moved s = s.at
 
 -- the bytes that are left
 abbrev pub left_of : MemSource → List ℕ

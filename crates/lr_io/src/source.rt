@@ -85,11 +85,11 @@ pub struct MemSource {
 
 impl MemSource {
     ghost use Rattle.std.specs.Prelude.{◌≡◌};
-    ghost use Rattle.lr_io.specs.MemSource.{moved, left_of, cut_places, failing_places, faults_of};
+    ghost use Rattle.lr_io.specs.MemSource.{bytes_moved, left_of, cut_places, failing_places, faults_of};
 
     /// These bytes, in pieces that end at the cuts, with one failed call at each place of `failing`.
     pub fn of(bytes: Vec<u8>, cuts: Vec<u64>, failing: Vec<u64>) -> Self
-        ensures moved { moved result ≡ 0 }
+        ensures moved { bytes_moved result ≡ 0 }
         ensures left { left_of result ≡ bytes.items }
         ensures cuts { cut_places result ≡ cuts.items }
         ensures failing { failing_places result ≡ failing.items }
@@ -129,7 +129,7 @@ impl Source for MemSource {
     };
     ghost use Rattle.lr_bits.specs.Faults.{HasCause};
     ghost use Rattle.lr_io.specs.Places.{MovesMost};
-    ghost use Rattle.lr_io.specs.MemSource.{moved, left_of, cut_places, faults_of, failing_places, stopping_places};
+    ghost use Rattle.lr_io.specs.MemSource.{bytes_moved, left_of, cut_places, faults_of, failing_places, stopping_places};
 
     ghost faults = { λ s. s.faults };
 
@@ -147,13 +147,13 @@ impl Source for MemSource {
         ensures ended { IfOk result (λ n. (n ≡ 0) ↔ (left_of self.old ≡ [])) }
         ensures failed { OnErr result (left_of self.new ≡ left_of self.old) }
 
-        ensures exact { IsErr result ↔ Contains (failing_places self.old) (moved self.old) }
+        ensures exact { IsErr result ↔ Contains (failing_places self.old) (bytes_moved self.old) }
         ensures spent { failing_places self.new ≡ (if is_err result
-            then filter (λ p. not (p == moved self.old)) (failing_places self.old) else failing_places self.old) }
-        ensures count { IfOk result (λ n. moved self.new ≡ moved self.old + n) }
-        ensures stays { OnErr result (moved self.new ≡ moved self.old) }
+            then filter (λ p. not (p == bytes_moved self.old)) (failing_places self.old) else failing_places self.old) }
+        ensures count { IfOk result (λ n. bytes_moved self.new ≡ bytes_moved self.old + n) }
+        ensures stays { OnErr result (bytes_moved self.new ≡ bytes_moved self.old) }
         ensures same_cuts { cut_places self.new ≡ cut_places self.old }
-        ensures most { IfOk result (MovesMost (stopping_places self.old) (moved self.old)
+        ensures most { IfOk result (MovesMost (stopping_places self.old) (bytes_moved self.old)
             (min (length into.new) (length (left_of self.old)))) }
         ensures untouched { OnErr result (into.new ≡ into.old) }
     {

@@ -100,7 +100,7 @@ impl SymbolFeed {
     }
 
     /// How many bytes were taken.
-    pub(crate) fn taken(&self) -> u64
+    pub(crate) fn bytes_taken(&self) -> u64
         ensures { result ≡ self.now.taken }
     {
         self.taken

@@ -36,7 +36,7 @@ pub(crate) fn read_units<const N: usize, S: Source, C: Consumer>(
         match units.next(source) {
             Next::Ended(stop) => {
                 return Ok(Totals {
-                    symbols: units.taken(),
+                    symbols: units.bytes_taken(),
                     frames,
                     left: units.len() as u64,
                     stop,

@@ -51,7 +51,7 @@ impl<const N: usize> UnitFeed<N> {
     }
 
     /// How many bytes were taken in all.
-    pub(crate) fn taken(&self) -> u64
+    pub(crate) fn bytes_taken(&self) -> u64
         ensures { result ≡ self.now.taken }
     {
         self.taken

@@ -48,7 +48,7 @@ pub(crate) fn read_windows<S: Source, C: Consumer>(
         match feed.next(source, &mut window) {
             Next::Ended(stop) => {
                 return Ok(Totals {
-                    symbols: feed.taken(),
+                    symbols: feed.bytes_taken(),
                     frames,
                     left: 0,
                     stop,

@@ -11,7 +11,7 @@ use Rattle.lr_rice.specs.declared.choice.BlockOption.{BlockOption}
 use Rattle.lr_rice.specs.declared.choice.BlockOption.TheVariants.{ZeroBlock, SecondExtension, Split, Uncoded}
 use Rattle.lr_rice.specs.CodedLines.{AreValues, IsOption, Zeros, Pairs, Halves, Numbers, body_string, greatest}
 use Rattle.lr_rice.specs.CodedLines.{pairs_string, places, run_of, values_of}
-use Rattle.lr_rice.specs.Samples.{IsRun, IsSingle, ReadsBlock, WritesPart, overwritten, plain_part, sample_after}
+use Rattle.lr_rice.specs.Samples.{IsRun, IsSingle, ReadsBlock, WritesPart, places_after, plain_part, sample_after}
 use Rattle.lr_rice.specs.Samples.{samples_from, whole_block}
 use Rattle.lr_rice.proofs.SampleLemmas.{sample_after-zeros}
 
@@ -115,7 +115,7 @@ whole_block-zeros true (suc n) some = ap (λ k. 0 ∷ replicate k 0) (omega arit
 pub run_written : (bits block : ℕ) (first : Bool) (left p : ℕ) (string rest old new : List ℕ) (blocks : ℕ)
     → 1 ≤ left → 1 ≤ block → p ≤ greatest bits →
     IsRun left blocks string rest
-    → new ≡ overwritten old (samples_from (greatest bits) p (replicate (blocks * block) 0)) →
+    → new ≡ places_after old (samples_from (greatest bits) p (replicate (blocks * block) 0)) →
     WritesPart bits block first left ZeroBlock p string rest old new blocks p
 run_written bits block first left p string rest old new blocks some wide in_range run written =
     let span : 1 ≤ run_of left run.number = run_of-pos left run.number some in
@@ -128,7 +128,7 @@ run_written bits block first left p string rest old new blocks some wide in_rang
       part = Zeros run.number;
       reads = record { is_part = omega (arith, run.is_run, run.left_is); in_option = refl; is_string = run.is_string };
       spans = run.is_run;
-      written = written ∙ ap (λ l. overwritten old (samples_from (greatest bits) p l)) (sym all);
+      written = written ∙ ap (λ l. places_after old (samples_from (greatest bits) p l)) (sym all);
       is_last = λ enough. sym (ap (sample_after (greatest bits) p) all
           ∙ sample_after-zeros (greatest bits) p (blocks * block));
       in_range = in_range;

@@ -17,7 +17,7 @@ use Rattle.lr_rice.specs.CodedLines.{Follow, Form, IsLine, IsOption, IsPart, Par
 use Rattle.lr_rice.specs.CodedLines.{block_count, greatest, head_string, identifier, left_in_segment, part_string}
 use Rattle.lr_rice.specs.CodedLines.{body_string, places, run_of, span_of, string_from, values_from, values_of}
 use Rattle.lr_rice.specs.LineFaults.{LineFails, NoIdentifier}
-use Rattle.lr_rice.specs.Samples.{WritesPart, overwritten, sample_after, samples_from, whole_block}
+use Rattle.lr_rice.specs.Samples.{WritesPart, places_after, sample_after, samples_from, whole_block}
 use Rattle.lr_rice.proofs.BlockLemmas.{run_of-pos}
 use Rattle.lr_rice.proofs.SampleLemmas.{HaveValues-samples_from, length-samples_from, sample_after-append}
 use Rattle.lr_rice.proofs.SampleLemmas.{sample_of-zero, samples_from-append, samples_from-cons}
@@ -194,11 +194,11 @@ take_behind (suc n) (suc start) (x ∷ front) back size inside =
     ap (λ l. x ∷ l) (take_behind n start front back (omega arith) (omega arith))
     ∙ ap (λ k. x ∷ front ++ take k back) (omega arith)
 
-pub overwritten-more : (old out all more new : List ℕ) (start : ℕ) → length all ≡ start → start ≤ length old
-    → out ≡ overwritten old all →
-    new ≡ overwritten (drop start out) more → take start out ++ new ≡ overwritten old (all ++ more)
-unfolding overwritten
-overwritten-more old out all more new start size inside before after =
+pub places_after-more : (old out all more new : List ℕ) (start : ℕ) → length all ≡ start → start ≤ length old
+    → out ≡ places_after old all →
+    new ≡ places_after (drop start out) more → take start out ++ new ≡ places_after old (all ++ more)
+unfolding places_after
+places_after-more old out all more new start size inside before after =
     let n = length old in
     let out_is : out ≡ all ++ drop start old =
     before ∙ ap (λ k. take n (all ++ drop k old)) size
@@ -228,7 +228,7 @@ pub record Reached (form : Form) (reference : ℕ) (string rest old new : List �
   pub is_option : IsOption form.bits option
   pub is_string : string ≡ string_from form reference 0 parts ++
       (head_string form.bits (at == 0) reference option ++ rest)
-  pub written : new ≡ overwritten old (samples_from (greatest form.bits) reference (places_from form 0 parts))
+  pub written : new ≡ places_after old (samples_from (greatest form.bits) reference (places_from form 0 parts))
   pub is_last : last ≡ sample_after (greatest form.bits) reference (places_from form 0 parts)
   pub in_range : last ≤ greatest form.bits
   pub reference_in_range : reference ≤ greatest form.bits
@@ -240,25 +240,25 @@ pub record Done (form : Form) (reference : ℕ) (string rest old new : List ℕ)
   pub inside : at ≤ block_count form
   pub some : 1 ≤ at
   pub is_string : string ≡ string_from form reference 0 parts ++ rest
-  pub written : new ≡ overwritten old (samples_from (greatest form.bits) reference (places_from form 0 parts))
+  pub written : new ≡ places_after old (samples_from (greatest form.bits) reference (places_from form 0 parts))
   pub is_last : at < block_count form → last ≡ sample_after (greatest form.bits) reference (places_from form 0 parts)
   pub in_range : last ≤ greatest form.bits
   pub reference_in_range : reference ≤ greatest form.bits
 
-overwritten-nil : (old : List ℕ) → old ≡ overwritten old []
-unfolding overwritten
-overwritten-nil old = sym (take_all (length old) old (omega arith))
+places_after-nil : (old : List ℕ) → old ≡ places_after old []
+unfolding places_after
+places_after-nil old = sym (take_all (length old) old (omega arith))
 
-length-overwritten : (old out written : List ℕ) → out ≡ overwritten old written → length out ≡ length old
-unfolding overwritten
-length-overwritten old out written is =
+length-places_after : (old out written : List ℕ) → out ≡ places_after old written → length out ≡ length old
+unfolding places_after
+length-places_after old out written is =
     ap length is ∙ length-take-le (length old) (written ++ drop (length written) old)
     (omega (arith, length-append written (drop (length written) old), length-drop (length written) old))
 
-overwritten-full : (old written : List ℕ) → length old ≤ length written
-    → overwritten old written ≡ take (length old) written
-unfolding overwritten
-overwritten-full old written enough = take-append-le (length old) written (drop (length written) old) enough
+places_after-full : (old written : List ℕ) → length old ≤ length written
+    → places_after old written ≡ take (length old) written
+unfolding places_after
+places_after-full old written enough = take-append-le (length old) written (drop (length written) old) enough
 
 -- a block of the line begins before its last column, and the blocks have a place for each column
 pub block-before : (form : Form) (at : ℕ) → 1 ≤ form.block → at < block_count form → at * form.block < form.columns
@@ -290,7 +290,7 @@ begun form reference string behind rest old option some is_option in_range is mo
       is_option = is_option;
       is_string = is ∙ ap (λ l. identifier form.bits option ++ l) more
           ∙ sym (append_assoc (identifier form.bits option) (number_bits form.bits reference) rest);
-      written = overwritten-nil old;
+      written = places_after-nil old;
       is_last = refl;
       in_range = in_range;
       reference_in_range = in_range;
@@ -320,7 +320,7 @@ part_done form reference string now rest old out new option at last blocks next 
     (so_far ++ values) ≡ samples_from most reference so_far ++ samples_from most last values =
     samples_from-append most reference so_far values
     ∙ ap (λ p. samples_from most reference so_far ++ samples_from most p values) (sym reached.is_last) in
-    let out_size : length out ≡ length old = length-overwritten old out
+    let out_size : length out ≡ length old = length-places_after old out
     (samples_from most reference so_far) reached.written in
     let head = head_string form.bits (at == 0) reference option in
     let body = body_string form.bits (at == 0) part.part in
@@ -337,9 +337,9 @@ part_done form reference string now rest old out new option at last blocks next 
           (sym part.reads.in_option)
           ∙ sym (append_assoc front (part_string form.bits (at == 0) reference part.part) rest)
           ∙ ap (λ l. l ++ rest) (sym (string_from-more form reference 0 parts at part.part reached.follow));
-      written = overwritten-more old out (samples_from most reference so_far)
+      written = places_after-more old out (samples_from most reference so_far)
           (samples_from most last values) new start size inside reached.written part.written
-          ∙ ap (overwritten old) (sym samples ∙ ap (samples_from most reference) (sym more));
+          ∙ ap (places_after old) (sym samples ∙ ap (samples_from most reference) (sym more));
       is_last = λ before. part.is_last
           (omega (
             arith,
@@ -424,7 +424,7 @@ line_read form reference string rest old new at last wide columns done end =
         others = samples_from most reference values;
         have_values = HaveValues-samples_from most reference values done.reference_in_range
             (values_from-small form 0 parts at done.follow);
-        are_samples = done.written ∙ overwritten-full old (samples_from most reference all) enough
+        are_samples = done.written ∙ places_after-full old (samples_from most reference all) enough
             ∙ ap (λ n. take n (samples_from most reference all)) (sym columns)
             ∙ ap (take form.columns) samples;
       },

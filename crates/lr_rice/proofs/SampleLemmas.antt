@@ -6,7 +6,7 @@ use Rattle.std.proofs.lemmas.Bool.Decides.{nat_tests}
 use Rattle.std.proofs.lemmas.List.{take_at, take-append-drop, take_all, append_assoc, append-nil, nil_from_length}
 use Rattle.std.proofs.lemmas.List.{length-take-le}
 use Rattle.lr_rice.specs.CodedLines.{mapped_value, HaveValues}
-use Rattle.lr_rice.specs.Samples.{sample_of, samples_from, sample_after, overwritten}
+use Rattle.lr_rice.specs.Samples.{sample_of, samples_from, sample_after, places_after}
 
 -- ---- one sample
 
@@ -168,11 +168,11 @@ sample_after-zeros most p (suc n) = ap (λ s. sample_after most s (replicate n 0
 
 -- ---- writing over places
 
-pub overwritten-is : (old new written rest : List ℕ) (i : ℕ) → length new ≡ length old → i ≤ length old
+pub places_after-is : (old new written rest : List ℕ) (i : ℕ) → length new ≡ length old → i ≤ length old
     → drop i new ≡ drop i old → written ≡ take i new ++ rest →
-    (length rest ≡ 0) ⊎ (i ≡ length old) → new ≡ overwritten old written
-unfolding overwritten
-overwritten-is old new written rest i same inside kept is (inl none) =
+    (length rest ≡ 0) ⊎ (i ≡ length old) → new ≡ places_after old written
+unfolding places_after
+places_after-is old new written rest i same inside kept is (inl none) =
     let all : written ≡ take i new = is ∙ ap (λ l. take i new ++ l) (nil_from_length rest none)
     ∙ append-nil (take i new) in
     let long : length written ≡ i = ap length all ∙ length-take-le i new (omega (arith, same)) in
@@ -180,7 +180,7 @@ overwritten-is old new written rest i same inside kept is (inl none) =
     ap (λ l. l ++ drop (length written) old) all ∙ ap (λ n. take i new ++ drop n old) long
     ∙ ap (λ l. take i new ++ l) (sym kept) ∙ take-append-drop i new in
     sym (ap (take (length old)) whole ∙ take_all (length old) new (omega (arith, same)))
-overwritten-is old new written rest i same inside kept is (inr full) =
+places_after-is old new written rest i same inside kept is (inr full) =
     let all : written ≡ new ++ rest = is ∙ ap (λ l. l ++ rest) (take_all i new (omega (arith, same, full))) in
     sym (ap (λ w. take (length old) (w ++ drop (length written) old)) all
     ∙ ap (take (length old)) (append_assoc new rest (drop (length written) old))

@@ -24,8 +24,8 @@ sample_after most p [] = p
 sample_after most p (value ∷ values) = sample_after most (sample_of most p value) values
 
 -- the places of a list, from the first on, where others are written over them
-unfoldable pub overwritten : List ℕ → List ℕ → List ℕ
-overwritten places written = take (length places) (written ++ drop (length written) places)
+unfoldable pub places_after : List ℕ → List ℕ → List ℕ
+places_after places written = take (length places) (written ++ drop (length written) places)
 
 -- the values of all places of a block: the first place of a line has the mapped value 0
 abbrev pub whole_block : Bool → List ℕ → List ℕ
@@ -69,7 +69,7 @@ pub record WritesPart (bits block : ℕ) (first : Bool) (left : ℕ) (option : B
   pub part : Part
   pub reads : ReadsPart bits block first left option string rest part
   pub spans : span_of left part ≡ blocks
-  pub written : new ≡ overwritten old
+  pub written : new ≡ places_after old
       (samples_from (greatest bits) p (whole_block first (values_of block first left part)))
   pub is_last : length (whole_block first (values_of block first left part)) ≤ length old →
       last ≡ sample_after (greatest bits) p (whole_block first (values_of block first left part))

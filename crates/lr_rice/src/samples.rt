@@ -2,7 +2,7 @@
 
 ghost use Rattle.std.specs.Prelude.{◌≡◌, ◌+◌, ◌/◌, ◌%◌, ◌<◌, ◌≤◌, ◌*◌, ◌-◌, ◌^◌, All, length, min, replicate};
 ghost use Rattle.lr_rice.specs.CodedLines.{greatest};
-ghost use Rattle.lr_rice.specs.Samples.{overwritten, sample_after, sample_of, samples_from};
+ghost use Rattle.lr_rice.specs.Samples.{places_after, sample_after, sample_of, samples_from};
 
 /// The greatest sample of this many bits.
 #[inline(always)]
@@ -51,7 +51,7 @@ pub(crate) fn write_samples(most: u64, p: u64, values: &[u64], out: &mut [u16]) 
     requires narrow { most < 2 ^ 16 }
     requires sample { p ≤ most }
     requires values { All (λ value. value ≤ most) values.now }
-    ensures written { out.new ≡ overwritten out.old (samples_from most p values.now) }
+    ensures written { out.new ≡ places_after out.old (samples_from most p values.now) }
     ensures last { length values.now ≤ length out.old → result ≡ sample_after most p values.now }
     ensures in_range { result ≤ most }
 {
@@ -67,7 +67,7 @@ pub(crate) fn write_samples(most: u64, p: u64, values: &[u64], out: &mut [u16]) 
 pub(crate) fn repeat_sample(most: u64, p: u64, count: usize, out: &mut [u16])
     requires narrow { most < 2 ^ 16 }
     requires sample { p ≤ most }
-    ensures { out.new ≡ overwritten out.old (samples_from most p (replicate count 0)) }
+    ensures { out.new ≡ places_after out.old (samples_from most p (replicate count 0)) }
 {
     let end = count.min(out.len());
     out[..end].fill(p as u16);

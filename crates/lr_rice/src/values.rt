@@ -85,7 +85,7 @@ fn read_numbers(reader: &mut BitReader<'_>, width: u32, values: &mut [u64]) -> R
     ensures fits { OnOk result (All (λ value. value < 2 ^ width) values.new) }
     ensures err { OnErr result (length reader.old < length values.old * width) }
 {
-    let mut own = reader.copied();
+    let mut own = reader.duplicate();
     for i in 0..values.len() {
         let Ok(value) = own.bits(width) else {
             return Err(Ended);
@@ -104,7 +104,7 @@ fn read_sequences(reader: &mut BitReader<'_>, bits: u32, values: &mut [u64]) -> 
     ensures err { IfErr result (λ cause. SequencesFail bits (length values.old) reader.old cause) }
 {
     let most = most_of(bits);
-    let mut own = reader.copied();
+    let mut own = reader.duplicate();
     for i in 0..values.len() {
         let Ok(value) = own.zeros() else {
             return Err(Cause::Ended);
@@ -124,7 +124,7 @@ fn read_highs(reader: &mut BitReader<'_>, values: &mut [u64]) -> Result<(), Ende
     ensures err { OnErr result ((highs : List ℕ) × (rest : List ℕ) × (length highs < length values.old)
         × (reader.old ≡ flat_map zeros_and_one highs ++ rest) × NoSequence rest) }
 {
-    let mut own = reader.copied();
+    let mut own = reader.duplicate();
     for i in 0..values.len() {
         values[i] = own.zeros()?;
     }
@@ -142,7 +142,7 @@ fn read_lows(reader: &mut BitReader<'_>, bits: u32, k: u32, values: &mut [u64]) 
     ensures err { IfErr result (λ cause. LowBitsFail bits k values.old reader.old cause) }
 {
     let most = most_of(bits);
-    let mut own = reader.copied();
+    let mut own = reader.duplicate();
     for i in 0..values.len() {
         let high = values[i];
         let Ok(low) = own.bits(k) else {

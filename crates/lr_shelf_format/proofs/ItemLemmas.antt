@@ -72,7 +72,7 @@ use Rattle.lr_shelf_format.specs.Record.{
   head_of_file,
   origin_bytes,
   origin_of,
-  sealed,
+  with_checksum,
 }
 use Rattle.lr_shelf_format.specs.declared.item.ItemHead.{ItemHead}
 use Rattle.lr_shelf_format.specs.declared.item.ItemHead.TheVariants.{Old, Add, Discard}
@@ -335,7 +335,7 @@ item_is item item' rest rest' is is' same =
 pub put_sealed : (before front body first second new : List ℕ) (start : ℕ) → first ≡ before ++ front
     → second ≡ first ++ body → start ≡ length before
     → new ≡ second ++ (big_bytes 2 (crc_of (drop start second)) ++ 0 ∷ [])
-    → new ≡ before ++ (sealed (front ++ body) ++ 0 ∷ [])
+    → new ≡ before ++ (with_checksum (front ++ body) ++ 0 ∷ [])
 put_sealed before front body first second new start first_is second_is start_is end =
     let all : second ≡ before ++ (front ++ body) = second_is ∙ ap (λ (l : List ℕ). l ++ body) first_is
     ∙ append_assoc before front body in
@@ -368,13 +368,13 @@ put_add_item file origin before first second new start first_is second_is start_
     ++ (origin_bytes origin ++ body_of file) = append_assoc fields (origin_bytes origin) (body_of file) in
     put_sealed before (0x80 ∷ (fields ++ origin_bytes origin))
     (body_of file) first second new start first_is second_is start_is end
-    ∙ ap (λ (l : List ℕ). before ++ (sealed (0x80 ∷ l) ++ 0 ∷ [])) turn
+    ∙ ap (λ (l : List ℕ). before ++ (with_checksum (0x80 ∷ l) ++ 0 ∷ [])) turn
 
 -- ---- bytes of the form of a record, with the right checksum, are an item
 
 -- their parts
 whole_of : (content : List ℕ) (bytes : List ℕ) → AreBytes bytes → 2 ≤ length bytes
-    → content ≡ take (length bytes - 2) bytes → stored_checksum bytes ≡ computed_checksum bytes → sealed content ≡ bytes
+    → content ≡ take (length bytes - 2) bytes → stored_checksum bytes ≡ computed_checksum bytes → with_checksum content ≡ bytes
 whole_of content bytes fit long same right =
     let front = length bytes - 2 in
     let sum : crc_of content ≡ big_number 2 (drop front bytes) = ap crc_of same ∙ sym right in

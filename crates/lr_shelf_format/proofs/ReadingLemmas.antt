@@ -29,7 +29,7 @@ use Rattle.std.proofs.Common.{
 use Rattle.std.specs.List.{flat_map, sum_by}
 use Rattle.std.proofs.lemmas.List.{drop_at, get_or_at}
 use Rattle.std.proofs.lemmas.List.Sums.{sum_by-cons}
-use Rattle.lr_shelf_format.specs.Gates.{front, opened, IsClosedAfter}
+use Rattle.lr_shelf_format.specs.Gates.{front, after_open_gate, IsClosedAfter}
 use Rattle.lr_shelf_format.specs.Header.{HasHeader, header_bytes}
 use Rattle.lr_shelf_format.specs.Items.{AreProper, Begins, IsItem, Item, extent_of, head_of_item, item_bytes}
 use Rattle.lr_shelf_format.specs.Reading.{StandsFor, HasOneReading, IsOneWalk, end_of, steps_of}
@@ -39,7 +39,7 @@ use Rattle.lr_shelf_format.proofs.ItemLemmas.{begins_item, item_is, length-item_
 
 -- all items, each after its open gate
 abbrev pub gated : List Item → List ℕ
-gated items = flat_map opened (map item_bytes items)
+gated items = flat_map after_open_gate (map item_bytes items)
 
 abbrev pub extent_of_item : Item → ℕ
 extent_of_item item = extent_of (head_of_item item)

@@ -38,7 +38,7 @@ use Rattle.lr_shelf_format.specs.Record.{
   numbers_in,
   origin_bytes,
   origin_of,
-  sealed,
+  with_checksum,
 }
 use Rattle.lr_shelf_format.specs.declared.item.ItemHead.{ItemHead}
 use Rattle.lr_shelf_format.specs.declared.item.ItemHead.TheVariants.{Old, Add, Discard}
@@ -52,13 +52,13 @@ pub data Item : Type 0 where
   discard_item : (number : ℕ) → Item
 
 unfoldable pub old_bytes : File → List ℕ
-old_bytes file = sealed (fields_of (head_of_file file) ++ body_of file)
+old_bytes file = with_checksum (fields_of (head_of_file file) ++ body_of file)
 
 unfoldable pub add_bytes : File → Origin → List ℕ
-add_bytes file origin = sealed (0x80 ∷ (fields_of (head_of_file file) ++ (origin_bytes origin ++ body_of file)))
+add_bytes file origin = with_checksum (0x80 ∷ (fields_of (head_of_file file) ++ (origin_bytes origin ++ body_of file)))
 
 unfoldable pub discard_bytes : ℕ → List ℕ
-discard_bytes number = sealed (0x81 ∷ big_bytes 8 number)
+discard_bytes number = with_checksum (0x81 ∷ big_bytes 8 number)
 
 abbrev pub item_bytes : Item → List ℕ
 item_bytes (old_item file) = old_bytes file

@@ -47,8 +47,8 @@ abbrev pub origin_bytes : Origin → List ℕ
 origin_bytes origin = big_bytes 8 origin.first ++ (big_bytes 8 origin.last ++ big_bytes 8 origin.corrected)
 
 -- bytes, and their checksum
-abbrev pub sealed : List ℕ → List ℕ
-sealed content = content ++ big_bytes 2 (crc_of content)
+abbrev pub with_checksum : List ℕ → List ℕ
+with_checksum content = content ++ big_bytes 2 (crc_of content)
 
 -- the fields that eleven bytes give
 abbrev pub head_of : List ℕ → RecordHead

@@ -27,11 +27,11 @@ const VERSION: u8 = 2;
 pub fn header_of(capacity: u64) -> [u8; 20]
     ensures { result ≡ header_bytes 2 capacity ++ 0 ∷ [] }
 {
-    versioned(VERSION, capacity)
+    header_of_version(VERSION, capacity)
 }
 
 /// The header of this version, and the closed gate after it.
-pub(crate) fn versioned(version: u8, capacity: u64) -> [u8; 20]
+pub(crate) fn header_of_version(version: u8, capacity: u64) -> [u8; 20]
     ensures { result ≡ header_bytes version capacity ++ 0 ∷ [] }
 {
     let mut header = [0; HEADER_BYTES];
@@ -57,7 +57,7 @@ pub fn read_header(bytes: &[u8; 20]) -> Option<u64>
     if capacity < LEAST_CAPACITY || capacity > MOST_CAPACITY {
         return None;
     }
-    let header = versioned(version, capacity);
+    let header = header_of_version(version, capacity);
     if bytes[..FIRST_GATE] != header[..FIRST_GATE] {
         return None;
     }

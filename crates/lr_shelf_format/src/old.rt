@@ -5,7 +5,7 @@ ghost use Rattle.lr_shelf_format.specs.Header.{header_bytes};
 ghost use Rattle.lr_shelf_format.specs.Items.{old_bytes};
 ghost use Rattle.lr_shelf_format.specs.Record.{StartsWith};
 
-use crate::header::versioned;
+use crate::header::header_of_version;
 use crate::record::{fields_of_file, put_body, put_end};
 use lr_bits::{Bytes, MissionFile, NoMemory};
 
@@ -13,7 +13,7 @@ use lr_bits::{Bytes, MissionFile, NoMemory};
 pub fn old_header_of(capacity: u64) -> [u8; 20]
     ensures { result ≡ header_bytes 1 capacity ++ 0 ∷ [] }
 {
-    versioned(1, capacity)
+    header_of_version(1, capacity)
 }
 
 /// Appends the Old item of the file and the closed gate after it, or leaves the bytes as they were.

@@ -10,7 +10,7 @@ ghost use Rattle.lr_vc.specs.Steps.{packets_inside, met_by, completed_packets, c
 ghost use Rattle.lr_vc.specs.Steps.{packets_with, open_after, start_of, is_nowhere, ends_at};
 
 use crate::TransferFrame;
-use crate::zone::{copied, end_across, push_inside, whole};
+use crate::zone::{copy_of, end_across, push_inside, whole};
 use lr_bits::{Bytes, NoMemory, RawPacket, ZONE_BYTES};
 use std::alloc::Global;
 use std::marker::Model;
@@ -160,7 +160,7 @@ fn open_inside(
     if start == ZONE_BYTES {
         return Ok(None);
     }
-    let bytes = copied(alloc, &frame.zone[start..])?;
+    let bytes = copy_of(alloc, &frame.zone[start..])?;
     Ok(Some(bytes))
 }
 

@@ -66,7 +66,7 @@ pub fn whole(vc: u8, bytes: Bytes) -> RawPacket
 }
 
 /// A copy of bytes.
-pub fn copied(alloc: Global, piece: &[u8]) -> Result<Bytes, NoMemory>
+pub fn copy_of(alloc: Global, piece: &[u8]) -> Result<Bytes, NoMemory>
     ensures { IfOk result (λ bytes. bytes ≡ piece.now) }
 {
     let mut bytes = Bytes::new(alloc);
@@ -93,7 +93,7 @@ pub fn push_inside(
 {
     let mut start = first;
     while let Some(end) = end_inside(zone, start) {
-        let bytes = copied(alloc, &zone[start..end])?;
+        let bytes = copy_of(alloc, &zone[start..end])?;
         packets.push(whole(vc, bytes))?;
         start = end;
     }

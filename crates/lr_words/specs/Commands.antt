@@ -192,8 +192,8 @@ trial_of words = if is_taken trial_app words
     else None
 
 -- the command that the first word names
-abbrev pub named : Text → List Text → Option Command
-named name words =
+abbrev pub command_named : Text → List Text → Option Command
+command_named name words =
     if bytes_eq name (codes "init") then init_of words
     else if bytes_eq name (codes "frames") then frames_of words
     else if bytes_eq name (codes "packets") then packets_of words
@@ -212,7 +212,7 @@ named name words =
 
 unfoldable pub command_of : List Text → Option Command
 command_of [] = None
-command_of (name ∷ rest) = named name (name ∷ rest)
+command_of (name ∷ rest) = command_named name (name ∷ rest)
 
 -- whether a command of this name may change the shelf
 abbrev pub is_writing : Text → Bool

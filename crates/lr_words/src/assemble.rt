@@ -5,8 +5,8 @@ ghost use Rattle.lr_words.specs.Commands.{assemble_app, assemble_of, IsInRange};
 
 use crate::arguments::place;
 use crate::command::Command;
-use crate::matched::matched;
 use crate::numbers::number_given;
+use crate::parsing::matches_of;
 use clap::Command as Parser;
 use lr_bits::NoMemory;
 use std::alloc::{AllocError, Global};
@@ -32,7 +32,7 @@ pub(crate) fn read_assemble(alloc: Global, words: &[String]) -> Result<Option<Co
     ensures gives { IfOk result (λ r. r ≡ assemble_of (map string_bytes words.now)) }
     ensures range { IfOk result IsInRange }
 {
-    let Some(matches) = matched(assemble_parser(alloc)?, words)? else {
+    let Some(matches) = matches_of(assemble_parser(alloc)?, words)? else {
         return Ok(None);
     };
     let Some(from) = number_given(&matches, "from", 0, u64::MAX) else {

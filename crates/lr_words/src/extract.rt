@@ -3,8 +3,8 @@ ghost use Rattle.lr_words.specs.Commands.{extract_of, IsInRange};
 
 use crate::arguments::number_parser;
 use crate::command::Command;
-use crate::matched::matched;
 use crate::numbers::number_given;
+use crate::parsing::matches_of;
 use lr_bits::NoMemory;
 use std::alloc::Global;
 
@@ -13,7 +13,7 @@ pub(crate) fn read_extract(alloc: Global, words: &[String]) -> Result<Option<Com
     ensures gives { IfOk result (λ r. r ≡ extract_of (map string_bytes words.now)) }
     ensures range { IfOk result IsInRange }
 {
-    let Some(matches) = matched(number_parser(alloc, "extract")?, words)? else {
+    let Some(matches) = matches_of(number_parser(alloc, "extract")?, words)? else {
         return Ok(None);
     };
     let Some(number) = number_given(&matches, "number", 0, u64::MAX) else {

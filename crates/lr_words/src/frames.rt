@@ -3,7 +3,7 @@ ghost use Rattle.lr_words.specs.Commands.{frames_of, IsInRange};
 
 use crate::arguments::symbols_parser;
 use crate::command::Command;
-use crate::matched::matched;
+use crate::parsing::matches_of;
 use crate::values::most;
 use lr_bits::NoMemory;
 use std::alloc::Global;
@@ -13,7 +13,7 @@ pub(crate) fn read_frames(alloc: Global, words: &[String]) -> Result<Option<Comm
     ensures gives { IfOk result (λ r. r ≡ frames_of (map string_bytes words.now)) }
     ensures range { IfOk result IsInRange }
 {
-    let Some(matches) = matched(symbols_parser(alloc, "frames")?, words)? else {
+    let Some(matches) = matches_of(symbols_parser(alloc, "frames")?, words)? else {
         return Ok(None);
     };
     let Some(most) = most(&matches) else {

@@ -5,8 +5,8 @@ ghost use Rattle.lr_words.specs.Commands.{init_app, init_of, IsInRange};
 
 use crate::arguments::place;
 use crate::command::Command;
-use crate::matched::matched;
 use crate::numbers::number_given;
+use crate::parsing::matches_of;
 use clap::Command as Parser;
 use lr_bits::NoMemory;
 use lr_shelf_format::{LEAST_CAPACITY, MOST_CAPACITY};
@@ -23,7 +23,7 @@ pub(crate) fn read_init(alloc: Global, words: &[String]) -> Result<Option<Comman
     ensures gives { IfOk result (λ r. r ≡ init_of (map string_bytes words.now)) }
     ensures range { IfOk result IsInRange }
 {
-    let Some(matches) = matched(init_parser(alloc)?, words)? else {
+    let Some(matches) = matches_of(init_parser(alloc)?, words)? else {
         return Ok(None);
     };
     let Some(capacity) = number_given(&matches, "capacity", LEAST_CAPACITY, MOST_CAPACITY) else {

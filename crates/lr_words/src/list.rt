@@ -4,7 +4,7 @@ ghost use Rattle.clap.specs.Words.{app_of};
 ghost use Rattle.lr_words.specs.Commands.{list_app, list_of, IsInRange};
 
 use crate::command::Command;
-use crate::matched::matched;
+use crate::parsing::matches_of;
 use clap::Command as Parser;
 use lr_bits::NoMemory;
 use std::alloc::Global;
@@ -20,7 +20,7 @@ pub(crate) fn read_list(alloc: Global, words: &[String]) -> Result<Option<Comman
     ensures gives { IfOk result (λ r. r ≡ list_of (map string_bytes words.now)) }
     ensures range { IfOk result IsInRange }
 {
-    match matched(list_parser(alloc), words)? {
+    match matches_of(list_parser(alloc), words)? {
         Some(_) => Ok(Some(Command::List)),
         None => Ok(None),
     }

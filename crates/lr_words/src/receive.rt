@@ -3,7 +3,7 @@ ghost use Rattle.lr_words.specs.Commands.{receive_of, IsInRange};
 
 use crate::arguments::intake_parser;
 use crate::command::Command;
-use crate::matched::matched;
+use crate::parsing::matches_of;
 use crate::values::{any_input, line_code, most, workers};
 use lr_bits::NoMemory;
 use std::alloc::Global;
@@ -13,7 +13,7 @@ pub(crate) fn read_receive(alloc: Global, words: &[String]) -> Result<Option<Com
     ensures gives { IfOk result (λ r. r ≡ receive_of (map string_bytes words.now)) }
     ensures range { IfOk result IsInRange }
 {
-    let Some(matches) = matched(intake_parser(alloc, "receive")?, words)? else {
+    let Some(matches) = matches_of(intake_parser(alloc, "receive")?, words)? else {
         return Ok(None);
     };
     let Some(_) = workers(&matches) else {

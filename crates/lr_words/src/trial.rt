@@ -5,8 +5,8 @@ ghost use Rattle.lr_words.specs.Commands.{trial_app, trial_of, IsInRange};
 
 use crate::arguments::{option, stream_parser};
 use crate::command::Command;
-use crate::matched::matched;
 use crate::numbers::number_given;
+use crate::parsing::matches_of;
 use crate::values::{MOST_WRONG, workers};
 use clap::Command as Parser;
 use lr_bits::NoMemory;
@@ -26,7 +26,7 @@ pub(crate) fn read_trial(alloc: Global, words: &[String]) -> Result<Option<Comma
     ensures gives { IfOk result (λ r. r ≡ trial_of (map string_bytes words.now)) }
     ensures range { IfOk result IsInRange }
 {
-    let Some(matches) = matched(trial_parser(alloc)?, words)? else {
+    let Some(matches) = matches_of(trial_parser(alloc)?, words)? else {
         return Ok(None);
     };
     let Some(start) = number_given(&matches, "start", 0, u64::MAX) else {

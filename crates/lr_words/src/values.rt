@@ -92,7 +92,7 @@ fn marks(matches: &ArgMatches) -> Option<bool>
 }
 
 /// Whether the second symbol of each pair is complemented.
-fn inverted(matches: &ArgMatches) -> Option<bool>
+fn inversion(matches: &ArgMatches) -> Option<bool>
     ensures { result ≡ inverted_of (first_value (found_of matches.now) (codes "g2")) }
 {
     let Some(text) = matches.get_str("g2") else {
@@ -113,7 +113,7 @@ pub(crate) fn line_code(matches: &ArgMatches) -> Option<LineCode>
         (first_value (found_of matches.now) (codes "g2")) }
 {
     let marks = marks(matches)?;
-    let inverted = inverted(matches)?;
+    let inverted = inversion(matches)?;
     Some(LineCode { marks, inverted })
 }
 

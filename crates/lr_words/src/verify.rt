@@ -4,7 +4,7 @@ ghost use Rattle.clap.specs.Words.{app_of};
 ghost use Rattle.lr_words.specs.Commands.{verify_app, verify_of, IsInRange};
 
 use crate::command::Command;
-use crate::matched::matched;
+use crate::parsing::matches_of;
 use clap::Command as Parser;
 use lr_bits::NoMemory;
 use std::alloc::Global;
@@ -20,7 +20,7 @@ pub(crate) fn read_verify(alloc: Global, words: &[String]) -> Result<Option<Comm
     ensures gives { IfOk result (λ r. r ≡ verify_of (map string_bytes words.now)) }
     ensures range { IfOk result IsInRange }
 {
-    match matched(verify_parser(alloc), words)? {
+    match matches_of(verify_parser(alloc), words)? {
         Some(_) => Ok(Some(Command::Verify)),
         None => Ok(None),
     }

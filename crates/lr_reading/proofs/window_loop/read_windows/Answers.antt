@@ -16,7 +16,7 @@ returns-in-Ended-clause-all g c =
     let so = c.windows.invariant.taken in
     let ends = c.in-Ended.ensures.feeds c.args.decoder.feed.lock.line so.bytes so.given c.args.source.now so.feeds in
     windows_ended g.S.Source g.C.Consumer.took c.args.decoder.feed.lock.line c.args.decoder.feed.most so
-    c.in-Ended.stop ends (c.in-Ended.ensures.most ∙ so.limit_is) _ refl c.taken.ensures refl refl
+    c.in-Ended.stop ends (c.in-Ended.ensures.most ∙ so.limit_is) _ refl c.bytes_taken.ensures refl refl
 
 pub take-requires-clause-few : goal.take-requires-clause-few
 take-requires-clause-few g c =

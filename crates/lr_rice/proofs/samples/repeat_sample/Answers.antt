@@ -3,7 +3,7 @@ use Rattle.std.proofs.Common.{length-append, length-drop, min}
 use Rattle.std.proofs.lemmas.Bool.{cases_lt}
 use Rattle.std.proofs.lemmas.List.{take_at, drop_at, length-replicate, replicate-append-replicate, length-take-le}
 use Rattle.lr_rice.specs.Samples.{samples_from}
-use Rattle.lr_rice.proofs.SampleLemmas.{samples_from-zeros, overwritten-is}
+use Rattle.lr_rice.proofs.SampleLemmas.{samples_from-zeros, places_after-is}
 use Rattle.lr_rice.proofs.samples.repeat_sample.Goals as goal
 
 pub returns : goal.returns
@@ -18,7 +18,7 @@ returns c =
     ∙ ap (λ n. replicate n p) size in
     let front : length c.fill.new.self ≡ end = ap length filled ∙ length-replicate end p in
     let new = c.fill.new.self ++ drop end old in
-    overwritten-is old new (samples_from c.args.most p (replicate count 0)) (replicate (count - end) p) end
+    places_after-is old new (samples_from c.args.most p (replicate count 0)) (replicate (count - end) p) end
     (omega (arith, length-append c.fill.new.self (drop end old), length-drop end old, front))
     (omega arith)
     (drop_at c.fill.new.self (drop end old) end front)

@@ -4,7 +4,7 @@ use Rattle.std.proofs.lemmas.Bool.{cases_lt}
 use Rattle.std.proofs.lemmas.List.{append_assoc, drop_more, drop_all, drop-drop, drop-set-lt, take_more_set}
 use Rattle.lr_rice.specs.Samples.{sample_of, samples_from, sample_after}
 use Rattle.lr_rice.proofs.SampleLemmas.{samples_from-cons, sample_after-cons, sample_after-nil, length-samples_from}
-use Rattle.lr_rice.proofs.SampleLemmas.{overwritten-is}
+use Rattle.lr_rice.proofs.SampleLemmas.{places_after-is}
 use Rattle.lr_rice.proofs.samples.write_samples.Goals as goal
 
 pub loop-i-preserved : goal.loop-i-preserved
@@ -41,7 +41,7 @@ returns-clause-written c =
     let i = c.loop-i.i in
     let rest = samples_from most c.loop-i.last (drop i values) in
     let long : length rest ≡ length (drop i values) = length-samples_from most c.loop-i.last (drop i values) in
-    overwritten-is c.args.out.now c.loop-i.out
+    places_after-is c.args.out.now c.loop-i.out
     (samples_from most c.args.p values) rest i c.loop-i.invariant.same_length
     (omega arith) c.loop-i.invariant.kept c.loop-i.invariant.written
     (elim (cases_lt i (length c.args.out.now)) [

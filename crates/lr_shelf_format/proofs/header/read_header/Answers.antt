@@ -51,13 +51,13 @@ returns-then-ne-clause-none c capacity has =
     c.read_u64-capacity.ensures in
     let read = given ∙ big_from-take 0 8 11 (drop 9 c.args.bytes.now) (omega arith)
     ∙ capacity_in c.args.bytes.now capacity has in
-    let made : take 19 c.versioned-header.result ≡ header_bytes has.version capacity =
-    ap (take 19) c.versioned-header.ensures ∙ take-header_bytes version c.read_u64-capacity.result (0 ∷ [])
+    let made : take 19 c.header_of_version-header.result ≡ header_bytes has.version capacity =
+    ap (take 19) c.header_of_version-header.ensures ∙ take-header_bytes version c.read_u64-capacity.result (0 ∷ [])
     ∙ ap (header_bytes version) read
     ∙ ap (λ v. header_bytes v capacity) (version_is c.args.bytes.now capacity has) in
     let unequal : c.ne.result ≡ false =
     c.ne.ensures ∙ ap not
-    ((bytes_eq-Decides (take 19 c.args.bytes.now) (take 19 c.versioned-header.result)).1 (has.stands ∙ sym made)) in
+    ((bytes_eq-Decides (take 19 c.args.bytes.now) (take 19 c.header_of_version-header.result)).1 (has.stands ∙ sym made)) in
     cc (unequal, c.if-ne.true)
 
 pub returns-then-not-is_known-clause-none : goal.returns-then-not-is_known-clause-none
@@ -70,13 +70,13 @@ returns-then-not-is_known-clause-none c capacity has =
 pub returns-clause-found : goal.returns-clause-found
 returns-clause-found c =
     let version = get_or c.args.bytes.now 8 0 in
-    let same = (bytes_eq-Decides (take 19 c.args.bytes.now) (take 19 c.versioned-header.result)).0
+    let same = (bytes_eq-Decides (take 19 c.args.bytes.now) (take 19 c.header_of_version-header.result)).0
     (is_true _ (sym c.ne.ensures ∙ c.if-ne.false)) in
     record {
       version = version;
       known = c.is_known.ensures.0 c.if-not-is_known.false;
       allowed = record { least = omega arith; most = omega arith };
       whole = omega arith;
-      stands = same ∙ ap (take 19) c.versioned-header.ensures
+      stands = same ∙ ap (take 19) c.header_of_version-header.ensures
           ∙ take-header_bytes version c.read_u64-capacity.result (0 ∷ []);
     }

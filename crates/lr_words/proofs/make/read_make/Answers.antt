@@ -1,5 +1,5 @@
 use Rattle.lr_words.proofs.Covered.{make_covered}
 use Rattle.lr_words.proofs.make.read_make.Goals as goal
 
-pub matched-requires : goal.matched-requires
-matched-requires c = rw c.in_ok-make_parser.ensures make_covered
+pub matches_of-requires : goal.matches_of-requires
+matches_of-requires c = rw c.in_ok-make_parser.ensures make_covered

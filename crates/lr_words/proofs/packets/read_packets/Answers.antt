@@ -2,5 +2,5 @@ use Rattle.std.proofs.Common.{codes}
 use Rattle.lr_words.proofs.Covered.{symbols_covered}
 use Rattle.lr_words.proofs.packets.read_packets.Goals as goal
 
-pub matched-requires : goal.matched-requires
-matched-requires c = rw c.in_ok-symbols_parser.ensures (symbols_covered (codes "packets"))
+pub matches_of-requires : goal.matches_of-requires
+matches_of-requires c = rw c.in_ok-symbols_parser.ensures (symbols_covered (codes "packets"))

@@ -1,5 +1,5 @@
 use Rattle.lr_words.proofs.Covered.{verify_covered}
 use Rattle.lr_words.proofs.verify.read_verify.Goals as goal
 
-pub matched-requires : goal.matched-requires
-matched-requires c = rw c.verify_parser.ensures verify_covered
+pub matches_of-requires : goal.matches_of-requires
+matches_of-requires c = rw c.verify_parser.ensures verify_covered

@@ -43,22 +43,22 @@ returns-in-Discarded-clause-takes g c = λ read few gathered.
     let gone =
     subst (IsGetRefusal g.D.Disk (kept_by c.args.shelf.now) c.args.number c.args.disk.now) c.in-Discarded.is
     c.in-Err.ensures.refused in
-    on_ok c.gone.result
+    on_ok c.gone_entry.result
     (λ puts.
     takes_gone g.D.Disk g.O.Sink (kept_by c.args.shelf.now) c.args.number c.args.disk.now c.requires.working
-    c.requires.there (g.C.ReadsFiles.asked c.args.self.now.0) read c.args.out.now c.gone.new.out gone
+    c.requires.there (g.C.ReadsFiles.asked c.args.self.now.0) read c.args.out.now c.gone_entry.new.out gone
     (g.C.ReadsFiles.gathers c.args.self.now.0 c.args.gathered.now) puts gathered)
-    c.gone.ensures.puts
+    c.gone_entry.ensures.puts
 
 pub returns-in-Discarded-clause-stops : goal.returns-in-Discarded-clause-stops
 returns-in-Discarded-clause-stops g c = λ read gathered.
     let gone =
     subst (IsGetRefusal g.D.Disk (kept_by c.args.shelf.now) c.args.number c.args.disk.now) c.in-Discarded.is
     c.in-Err.ensures.refused in
-    on_err c.gone.result
+    on_err c.gone_entry.result
     (stops_gone g.D.Disk g.O.Sink (kept_by c.args.shelf.now) c.args.number c.args.disk.now c.requires.working
-    c.requires.there (g.C.ReadsFiles.asked c.args.self.now.0) read c.args.out.now c.gone.new.out gone)
-    c.gone.ensures.stops
+    c.requires.there (g.C.ReadsFiles.asked c.args.self.now.0) read c.args.out.now c.gone_entry.new.out gone)
+    c.gone_entry.ensures.stops
 
 pub returns-in_default-clause-counted : goal.returns-in_default-clause-counted
 returns-in_default-clause-counted g c = λ read gathered.

@@ -16,7 +16,7 @@ use Rattle.std.proofs.Common.{
 }
 use Rattle.lr_io.proofs.Moving.{moved_on}
 use Rattle.lr_io.proofs.PlaceLemmas.{moves_of_both}
-use Rattle.lr_io.specs.MemSource.{cut_places, failing_places, left_of, moved}
+use Rattle.lr_io.specs.MemSource.{cut_places, failing_places, left_of, bytes_moved}
 use Rattle.lr_io.specs.Places.{MovesMost}
 use Rattle.lr_io.proofs.source.MemSourceSource.take.Goals as goal
 
@@ -39,15 +39,15 @@ returns-clause-most c =
       c.reach-count.ensures.most.within,
       c.reach.ensures.most.within,
     ) in
-    let failing : MovesMost (failing_places self) (moved self) c.min-most.result c.reach.result =
-    subst (λ (l : List ℕ). MovesMost l (moved self) c.min-most.result c.reach.result) c.deref-3.ensures.value
+    let failing : MovesMost (failing_places self) (bytes_moved self) c.min-most.result c.reach.result =
+    subst (λ (l : List ℕ). MovesMost l (bytes_moved self) c.min-most.result c.reach.result) c.deref-3.ensures.value
     c.reach.ensures.most in
-    let cuts : MovesMost (cut_places self) (moved self) c.reach.result c.reach-count.result =
-    subst (λ (l : List ℕ). MovesMost l (moved self) c.reach.result c.reach-count.result) c.deref-2.ensures.value
+    let cuts : MovesMost (cut_places self) (bytes_moved self) c.reach.result c.reach-count.result =
+    subst (λ (l : List ℕ). MovesMost l (bytes_moved self) c.reach.result c.reach-count.result) c.deref-2.ensures.value
     c.reach-count.ensures.most in
-    subst (λ (n : ℕ). MovesMost (cut_places self ++ failing_places self) (moved self) n c.reach-count.result) wanted
+    subst (λ (n : ℕ). MovesMost (cut_places self ++ failing_places self) (bytes_moved self) n c.reach-count.result) wanted
     (moves_of_both (cut_places self) (failing_places self)
-    (moved self) c.min-most.result c.reach.result c.reach-count.result failing cuts)
+    (bytes_moved self) c.min-most.result c.reach.result c.reach-count.result failing cuts)
 
 pub returns-then-contains-clause-untouched : goal.returns-then-contains-clause-untouched
 returns-then-contains-clause-untouched c = refl

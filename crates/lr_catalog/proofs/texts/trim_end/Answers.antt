@@ -1,8 +1,8 @@
 use Rattle.std.proofs.Common.{◌≡◌, ℕ, take, ◌∙◌, ap, sym, arith}
-use Rattle.lr_catalog.specs.Texts.{trimmed}
+use Rattle.lr_catalog.specs.Texts.{trimmed_text}
 use Rattle.lr_catalog.proofs.Trimming.{blank_ends, plain_ends}
-use Rattle.lr_catalog.proofs.texts.trimmed.Goals as goal
-use Rattle.lr_catalog.proofs.texts.trimmed.Goals.{then-loop-end-test+else-is_blank, else-loop-end-test}
+use Rattle.lr_catalog.proofs.texts.trim_end.Goals as goal
+use Rattle.lr_catalog.proofs.texts.trim_end.Goals.{then-loop-end-test+else-is_blank, else-loop-end-test}
 
 pub loop-end-preserved : goal.loop-end-preserved
 loop-end-preserved c =
@@ -24,5 +24,5 @@ returns c =
       | else-loop-end-test w ↦
           let none : c.loop-end.end ≡ 0 = omega (arith, w.loop-end-test.false) in
           let no_bytes = ap (λ (n : ℕ). take n c.args.text.now) none in
-          no_bytes ∙ sym (here.same ∙ ap trimmed no_bytes)
+          no_bytes ∙ sym (here.same ∙ ap trimmed_text no_bytes)
     ]

@@ -7,7 +7,7 @@ use clap::{ArgMatches, Command as Parser};
 use lr_bits::NoMemory;
 
 /// The matches of the words, of which the first is the command's name, or none where the command refuses them.
-pub(crate) fn matched<'a>(
+pub(crate) fn matches_of<'a>(
     command: Parser<'a>,
     words: &'a [String],
 ) -> Result<Option<ArgMatches<'a>>, NoMemory>

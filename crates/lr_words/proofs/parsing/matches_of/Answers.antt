@@ -3,7 +3,7 @@ use Rattle.clap.specs.Words.{app_of, first_of, found_of}
 use Rattle.clap.proofs.WalkLemmas.{first_value-rows}
 use Rattle.lr_words.specs.Words.{value_of}
 use Rattle.lr_words.proofs.Taken.{covered_free, covered_simple, taken_unless, refused_since}
-use Rattle.lr_words.proofs.matched.matched.Goals as goal
+use Rattle.lr_words.proofs.parsing.matches_of.Goals as goal
 
 pub returns-in-Ok : goal.returns-in-Ok
 unfolding value_of

@@ -1,6 +1,6 @@
 use Rattle.std.proofs.Common.{refl}
 use Rattle.lr_shelf_format.specs.Header.{header_bytes}
-use Rattle.lr_shelf_format.proofs.header.versioned.Goals as goal
+use Rattle.lr_shelf_format.proofs.header.header_of_version.Goals as goal
 
 pub returns : goal.returns
 unfolding header_bytes
