@@ -28,4 +28,9 @@ pub trait Consumer {
             → OnOk result (took c (arrivals ++ arrival.now ∷ []) self.new) }
         ensures stops { (c : Self) (arrivals : List Arrival) → took c arrivals self.old
             → IfErr result (λ cause. stopped c (arrivals ++ arrival.now ∷ []) cause self.new) };
+
+    /// Why it takes no more where memory for reading on was refused.
+    fn no_memory(&self) -> Self::Cause
+        ensures { (c : Self) (arrivals : List Arrival) → took c arrivals self.now
+            → stopped c arrivals result self.now };
 }

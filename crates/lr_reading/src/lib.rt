@@ -8,6 +8,7 @@
 
 mod arrival;
 mod consumer;
+mod crew;
 mod input;
 mod laws;
 mod next;
@@ -22,6 +23,7 @@ mod window_loop;
 
 pub use arrival::{Arrival, Position};
 pub use consumer::Consumer;
+pub use crew::{Alone, Crew};
 pub use input::{Input, MOST_BYTES, UnitForm};
 pub use laws::{arrivals_are_whole, outcomes_are_of_arrivals};
 pub use reader::Reader;

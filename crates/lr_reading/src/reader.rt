@@ -4,12 +4,12 @@ ghost use Rattle.lr_reading.specs.Inputs.{MayTake};
 ghost use Rattle.lr_reading.specs.Ways.{IsFreshDecoder};
 
 use crate::consumer::Consumer;
+use crate::crew::Crew;
 use crate::input::{Input, UnitForm};
 use crate::symbols::SymbolFeed;
 use crate::totals::Totals;
 use crate::unit_loop::read_units;
 use crate::way::{Decoder, Way};
-use crate::window_loop::read_windows;
 use lr_bits::{BLOCK_BYTES, FRAME_BYTES, NoMemory};
 use lr_conv::LineCode;
 use lr_frame::FrameWork;
@@ -66,9 +66,11 @@ impl Reader {
         Ok(Reader { way, most })
     }
 
-    /// Leads the consumer through all that comes of the input. It takes no memory.
-    pub fn read<S: Source, C: Consumer>(
+    /// Leads the consumer through all that comes of the input. Of symbols the crew does the work on windows. It takes
+    /// no memory.
+    pub fn read<K: Crew, S: Source, C: Consumer>(
         self,
+        crew: &K,
         source: &mut S,
         consumer: &mut C,
     ) -> Result<Totals, C::Cause>
@@ -81,7 +83,7 @@ impl Reader {
     {
         let Reader { way, most } = self;
         match way {
-            Way::Symbols(decoder) => read_windows(decoder, source, consumer),
+            Way::Symbols(decoder) => crew.lead(decoder, source, consumer),
             Way::Units(UnitForm::Blocks) => {
                 read_units::<BLOCK_BYTES, S, C>(UnitForm::Blocks, most, source, consumer)
             }

@@ -6,10 +6,10 @@ use lr_lock::Window;
 
 /// What leads symbols to outcomes: the lock with its buffer, the window that it shows, and the work on a window.
 #[derive(Drop)]
-pub(crate) struct Decoder {
-    pub feed: SymbolFeed,
-    pub window: Window,
-    pub work: FrameWork,
+pub struct Decoder {
+    pub(crate) feed: SymbolFeed,
+    pub(crate) window: Window,
+    pub(crate) work: FrameWork,
 }
 
 #[derive(Drop)]

@@ -43,6 +43,7 @@ use Rattle.lr_catalog.specs.declared.stop.Stop.{Stop}
 use Rattle.lr_catalog.specs.declared.stop.Stop.TheVariants.{End, Limit, Fault}
 use Rattle.lr_commands.specs.Causes.{IsCaused}
 use Rattle.lr_commands.specs.declared.cause.Cause.{Cause}
+use Rattle.lr_commands.specs.declared.cause.Cause.TheVariants.{NoMemory}
 use Rattle.lr_reading.specs.Arrivals.{HasWholeFrame, arrivals_of, outcomes_of_arrivals}
 use Rattle.lr_reading.specs.Inputs.{outcomes_of_bytes}
 use Rattle.lr_reading.specs.Reading.{EndsFor}
@@ -62,8 +63,8 @@ use Rattle.lr_receiving.specs.ShelverTaken.{IsOnSame, ShelverTook, ShelverStoppe
 use Rattle.lr_receiving.specs.Shelving.{Stops}
 use Rattle.lr_receiving.proofs.DecodeText.{both_kinds}
 use Rattle.lr_receiving.proofs.Causing.{caused_later}
-use Rattle.lr_receiving.proofs.Growing.{grows_none, grows_on, stops_after, stops_before}
-use Rattle.lr_receiving.proofs.Shelving.{stops_more}
+use Rattle.lr_receiving.proofs.Growing.{grows_none, grows_on, stops_after, stops_before, stops_for_memory}
+use Rattle.lr_receiving.proofs.Shelving.{out_of_memory, stops_more}
 use Rattle.lr_receiving.proofs.WholeFrames.{with_outcome}
 
 -- no outcomes have no files
@@ -155,6 +156,26 @@ module _ {D O : Type 0} (disk : DiskOf D) (out : SinkOf O) where
           length-map arrivals (λ (a : Arrival). a.outcome),
           ap (λ (n : Numbers). n.restored + n.lost) took.stands.numbers,
         )
+
+    -- memory for reading on was refused
+    pub shelver_refused : ShelverStopped disk out before arrivals NoMemory now
+    shelver_refused =
+        let files = placed_of_outcomes (outcomes_of_arrivals arrivals) in
+        record {
+          on_same = took.on_same;
+          kind = tt;
+          told_by_disk = took.told_by_disk;
+          told_by_out = took.told_by_out;
+          caused = λ works. tt;
+          stops = λ capacity items d o so_far.
+              subst (λ (l : List Placed). Stops disk out capacity items NoMemory l d now.disk.now o now.out.now)
+              (append-nil files)
+              (out_of_memory disk out capacity items files now.shelf.now d now.disk.now o now.out.now
+              (took.shelved capacity items d o so_far) []);
+          grown = subst (λ (l : List Placed). GrowsNoMore NoMemory l before.shelf.now before.disk.now now.disk.now
+              before.out.now now.out.now) (append-nil files)
+              (stops_after took.grown (stops_for_memory [] now.shelf.now now.disk.now now.out.now));
+        }
 
     module _ (arrival : Arrival) (now' : Shelver D O) (same : IsOnSame now now') where
       both : IsOnSame before now'

@@ -16,7 +16,7 @@ use lr_bits::{Bytes, Outcome};
 use lr_catalog::{Stop, Summary, frame_line, summary_line};
 use lr_commands::Cause;
 use lr_io::{Sink, Source};
-use lr_reading::{Arrival, Consumer, Input, Reader, Totals, UnitForm};
+use lr_reading::{Alone, Arrival, Consumer, Input, Reader, Totals, UnitForm};
 use lr_vc::TransferFrame;
 use std::alloc::Global;
 
@@ -44,6 +44,10 @@ impl<'a, O: Sink> Consumer for FrameLines<'a, O> {
         put_frame(self.alloc, self.frames, &arrival.outcome, self.out)?;
         self.frames += 1;
         Ok(())
+    }
+
+    fn no_memory(&self) -> Cause {
+        Cause::NoMemory
     }
 }
 
@@ -87,7 +91,7 @@ fn put_each_frame<S: Source, O: Sink>(
         frames: 0,
         out,
     };
-    let totals = reader.read(source, &mut lines)?;
+    let totals = reader.read(&Alone, source, &mut lines)?;
     Ok(totals)
 }
 

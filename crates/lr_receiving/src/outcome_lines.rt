@@ -16,7 +16,7 @@ use lr_bits::{Bytes, Outcome};
 use lr_catalog::{Stop, Summary, block_line, summary_line, window_line};
 use lr_commands::Cause;
 use lr_io::{Sink, Source};
-use lr_reading::{Arrival, Consumer, Input, Reader, Totals};
+use lr_reading::{Arrival, Consumer, Crew, Input, Reader, Totals};
 use std::alloc::Global;
 
 /// Puts a line for each outcome, of which it took this many, and counts those that are restored.
@@ -45,6 +45,10 @@ impl<'a, O: Sink> Consumer for OutcomeLines<'a, O> {
         self.outcomes += 1;
         self.restored = count_restored(self.restored, &arrival.outcome);
         Ok(())
+    }
+
+    fn no_memory(&self) -> Cause {
+        Cause::NoMemory
     }
 }
 
@@ -87,8 +91,9 @@ fn put_outcome<O: Sink>(
 }
 
 /// Puts all lines, and answers how many outcomes are restored.
-fn put_each_outcome<S: Source, O: Sink>(
+fn put_each_outcome<K: Crew, S: Source, O: Sink>(
     alloc: Global,
+    crew: &K,
     reader: Reader,
     source: &mut S,
     out: &mut O,
@@ -107,7 +112,7 @@ fn put_each_outcome<S: Source, O: Sink>(
         restored: 0,
         out,
     };
-    let totals = reader.read(source, &mut lines)?;
+    let totals = reader.read(crew, source, &mut lines)?;
     Ok((totals, lines.restored))
 }
 
@@ -139,8 +144,9 @@ fn put_last<O: Sink>(
     put_text(line.as_slice(), out)
 }
 
-fn put_outcomes<S: Source, O: Sink>(
+fn put_outcomes<K: Crew, S: Source, O: Sink>(
     alloc: Global,
+    crew: &K,
     input: Input,
     most: u64,
     source: &mut S,
@@ -153,15 +159,16 @@ fn put_outcomes<S: Source, O: Sink>(
         cause source.old source.new out.old out.new) }
 {
     let reader = Reader::new(alloc, input, most)?;
-    let (totals, restored) = put_each_outcome(alloc, reader, source, out)?;
+    let (totals, restored) = put_each_outcome(alloc, crew, reader, source, out)?;
     put_last(alloc, &totals, restored, out)?;
     Ok(totals.stop)
 }
 
 /// A line for what became of each window or block of the source, and a last line. At most `most` bytes are
 /// taken.
-pub fn decode<S: Source, O: Sink>(
+pub fn decode<K: Crew, S: Source, O: Sink>(
     alloc: Global,
+    crew: &K,
     input: Input,
     most: u64,
     source: &mut S,
@@ -171,7 +178,7 @@ pub fn decode<S: Source, O: Sink>(
     ensures { Prints S.Source O.Sink (decode_text input) (decode_last input) most result source.old source.new
         out.old out.new }
 {
-    match put_outcomes(alloc, input, most, source, out) {
+    match put_outcomes(alloc, crew, input, most, source, out) {
         Ok(stop) => cause_at(stop),
         Err(cause) => cause,
     }

@@ -46,7 +46,7 @@ use lr_catalog::{Stop, Summary, packet_line, summary_line};
 use lr_commands::Cause;
 use lr_io::{Sink, Source};
 use lr_packet::check;
-use lr_reading::{Arrival, Consumer, Input, Reader, Totals, UnitForm};
+use lr_reading::{Alone, Arrival, Consumer, Input, Reader, Totals, UnitForm};
 use lr_vc::{Channels, TransferFrame};
 use std::alloc::Global;
 
@@ -87,6 +87,10 @@ impl<'a, O: Sink> Consumer for PacketLines<'a, O> {
             self.out,
         )?;
         Ok(())
+    }
+
+    fn no_memory(&self) -> Cause {
+        Cause::NoMemory
     }
 }
 
@@ -201,7 +205,7 @@ fn put_each_packet<S: Source, O: Sink>(
         },
         out,
     };
-    let totals = reader.read(source, &mut lines)?;
+    let totals = reader.read(&Alone, source, &mut lines)?;
     Ok((totals, lines.counted))
 }
 

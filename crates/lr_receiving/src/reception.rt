@@ -16,13 +16,14 @@ use lr_commands::Cause;
 use lr_disk::Disk;
 use lr_io::{Sink, Source};
 use lr_layers::Layers;
-use lr_reading::{Input, Reader};
+use lr_reading::{Crew, Input, Reader};
 use lr_shelf::Shelf;
 use std::alloc::Global;
 
 /// Shelves all files of the input.
-pub(crate) fn receive_all<S: Source, D: Disk, O: Sink>(
+pub(crate) fn receive_all<K: Crew, S: Source, D: Disk, O: Sink>(
     alloc: Global,
+    crew: &K,
     reader: Reader,
     shelf: &mut Shelf,
     source: &mut S,
@@ -56,7 +57,7 @@ pub(crate) fn receive_all<S: Source, D: Disk, O: Sink>(
         disk,
         out,
     };
-    let totals = reader.read(source, &mut shelver)?;
+    let totals = reader.read(crew, source, &mut shelver)?;
     Ok(Sums {
         totals,
         counts: shelver.counts,
@@ -84,8 +85,9 @@ pub(crate) fn put_last<O: Sink>(alloc: Global, sums: &Sums, out: &mut O) -> Resu
 }
 
 /// Shelves all files of the input onto a shelf that is loaded, and puts the last line.
-fn receive_onto<S: Source, D: Disk, O: Sink>(
+fn receive_onto<K: Crew, S: Source, D: Disk, O: Sink>(
     alloc: Global,
+    crew: &K,
     reader: Reader,
     shelf: &mut Shelf,
     source: &mut S,
@@ -108,15 +110,16 @@ fn receive_onto<S: Source, D: Disk, O: Sink>(
         (λ cause. EndsRun S.Source D.Disk O.Sink reader.input reader.most cause shelf.old source.old
         source.new disk.old disk.new out.old out.new) }
 {
-    let sums = receive_all(alloc, reader, shelf, source, disk, out)?;
+    let sums = receive_all(alloc, crew, reader, shelf, source, disk, out)?;
     put_last(alloc, &sums, out)?;
     Ok(sums.totals.stop)
 }
 
 /// Takes at most `most` bytes, and puts their mission files onto the shelf that the disk holds. What reading takes of
 /// memory is taken first, then the shelf is loaded, and then the source is read.
-pub fn receive<S: Source, D: Disk, O: Sink>(
+pub fn receive<K: Crew, S: Source, D: Disk, O: Sink>(
     alloc: Global,
+    crew: &K,
     input: Input,
     most: u64,
     source: &mut S,
@@ -139,7 +142,7 @@ pub fn receive<S: Source, D: Disk, O: Sink>(
         Ok(shelf) => shelf,
         Err(error) => return Cause::from(error),
     };
-    match receive_onto(alloc, reader, &mut shelf, source, disk, out) {
+    match receive_onto(alloc, crew, reader, &mut shelf, source, disk, out) {
         Ok(stop) => cause_at(stop),
         Err(cause) => cause,
     }

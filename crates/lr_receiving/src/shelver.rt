@@ -48,4 +48,8 @@ impl<'a, D: Disk, O: Sink> Consumer for Shelver<'a, D, O> {
         self.counts = self.layers.counts();
         Ok(())
     }
+
+    fn no_memory(&self) -> Cause {
+        Cause::NoMemory
+    }
 }

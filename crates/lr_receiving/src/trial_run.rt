@@ -28,7 +28,7 @@ use lr_conv::STANDARD;
 use lr_disk::Disk;
 use lr_io::{Sink, SureSink, SureSource};
 use lr_make::Maker;
-use lr_reading::{Input, MOST_BYTES, Reader};
+use lr_reading::{Crew, Input, MOST_BYTES, Reader};
 use lr_shelf::Shelf;
 use std::alloc::Global;
 
@@ -58,8 +58,9 @@ fn stream(alloc: Global, start: u64, frames: u64, wrong: u8) -> Result<Vec<u8>, 
 }
 
 /// Makes an empty shelf on the disk, and puts the files of these symbols onto it.
-fn shelve_stream<D: Disk>(
+fn shelve_stream<K: Crew, D: Disk>(
     alloc: Global,
+    crew: &K,
     reader: Reader,
     symbols: Vec<u8>,
     disk: &mut D,
@@ -79,14 +80,23 @@ fn shelve_stream<D: Disk>(
     let mut shelf = Shelf::load(alloc, disk)?;
     let mut source = SureSource::of(symbols);
     let mut lines = SureSink::new();
-    receive_all(alloc, reader, &mut shelf, &mut source, disk, &mut lines)
+    receive_all(
+        alloc,
+        crew,
+        reader,
+        &mut shelf,
+        &mut source,
+        disk,
+        &mut lines,
+    )
 }
 
 /// Makes the symbols of this many frames of the test stream, an empty shelf on the disk, and puts the mission files
 /// of the symbols onto it. The last line alone is printed. The memory for the symbols, and for reading them, is taken
 /// first.
-pub fn trial<D: Disk, O: Sink>(
+pub fn trial<K: Crew, D: Disk, O: Sink>(
     alloc: Global,
+    crew: &K,
     start: u64,
     frames: u64,
     wrong: u8,
@@ -110,7 +120,7 @@ pub fn trial<D: Disk, O: Sink>(
         Ok(reader) => reader,
         Err(NoMemory) => return Cause::NoMemory,
     };
-    let sums = match shelve_stream(alloc, reader, symbols, disk) {
+    let sums = match shelve_stream(alloc, crew, reader, symbols, disk) {
         Ok(sums) => sums,
         Err(cause) => return cause,
     };
