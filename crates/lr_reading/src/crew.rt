@@ -5,6 +5,9 @@ use crate::way::Decoder;
 use crate::window_loop::read_windows;
 use lr_io::Source;
 
+/// The most that work on windows, the caller among them.
+pub const MOST_WORKERS: u64 = 64;
+
 /// Who does the work on windows. Whoever does it, a consumer is led through the same arrivals.
 pub trait Crew {
     ghost use Rattle.std.specs.Prelude.{◌≡◌, ◌≤◌, [], IfOk, IfErr};

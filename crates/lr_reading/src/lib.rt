@@ -23,7 +23,7 @@ mod window_loop;
 
 pub use arrival::{Arrival, Position};
 pub use consumer::Consumer;
-pub use crew::{Alone, Crew};
+pub use crew::{Alone, Crew, MOST_WORKERS};
 pub use input::{Input, MOST_BYTES, UnitForm};
 pub use laws::{arrivals_are_whole, outcomes_are_of_arrivals};
 pub use reader::Reader;

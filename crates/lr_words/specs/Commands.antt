@@ -21,6 +21,7 @@ use Rattle.std.specs.Str.{bytes_eq}
 use Rattle.clap.specs.Words.{App, Text, new_app, with_rule}
 use Rattle.lr_shelf_format.specs.declared.header.TheConstants.{LEAST_CAPACITY, MOST_CAPACITY}
 use Rattle.lr_shelf_format.specs.Header.{IsCapacity}
+use Rattle.lr_reading.specs.declared.crew.TheConstants.{MOST_WORKERS}
 use Rattle.lr_words.specs.Arguments.{place, option, number_app, symbols_app, intake_app, stream_app}
 use Rattle.lr_words.specs.Numbers.{number_given}
 use Rattle.lr_words.specs.Values.{coded_input, any_input, output_of, most_of, workers_of, line_of}
@@ -74,14 +75,14 @@ packets_of words = if is_taken packets_app words
     then option_map (λ n. Packets n) (most_of (value_of packets_app words (codes "symbols")))
     else None
 
--- `decode [--input symbols|blocks] [--workers 1] [--symbols N] [--line nrz-l|nrz-m] [--g2 inverted|plain]`; the last
+-- `decode [--input symbols|blocks] [--workers N] [--symbols N] [--line nrz-l|nrz-m] [--g2 inverted|plain]`; the last
 -- two are read in each form, and say something of symbols alone
 abbrev pub decode_app : App
 decode_app = intake_app (codes "decode")
 
 abbrev pub decode_of : List Text → Option Command
 decode_of words = if is_taken decode_app words
-    then option_and_then (λ one. option_and_then (λ line. option_and_then (λ input. option_map (λ n. Decode input n)
+    then option_and_then (λ w. option_and_then (λ line. option_and_then (λ input. option_map (λ n. Decode input w n)
     (most_of (value_of decode_app words (codes "symbols"))))
     (coded_input line (value_of decode_app words (codes "input"))))
     (line_of (value_of decode_app words (codes "line")) (value_of decode_app words (codes "g2"))))
@@ -94,7 +95,7 @@ receive_app = intake_app (codes "receive")
 
 abbrev pub receive_of : List Text → Option Command
 receive_of words = if is_taken receive_app words
-    then option_and_then (λ one. option_and_then (λ line. option_and_then (λ input. option_map (λ n. Receive input n)
+    then option_and_then (λ w. option_and_then (λ line. option_and_then (λ input. option_map (λ n. Receive input w n)
     (most_of (value_of receive_app words (codes "symbols"))))
     (any_input line (value_of receive_app words (codes "input"))))
     (line_of (value_of receive_app words (codes "line")) (value_of receive_app words (codes "g2"))))
@@ -178,13 +179,13 @@ make_of words = if is_taken make_app words
     (number_given 0 most_u64 (value_of make_app words (codes "start")))
     else None
 
--- `trial START FRAMES WRONG [--workers 1]`
+-- `trial START FRAMES WRONG [--workers N]`
 unfoldable pub trial_app : App
 trial_app = with_rule (stream_app (codes "trial")) (option (codes "workers"))
 
 abbrev pub trial_of : List Text → Option Command
 trial_of words = if is_taken trial_app words
-    then option_and_then (λ s. option_and_then (λ f. option_and_then (λ w. option_map (λ k. Trial s f w)
+    then option_and_then (λ s. option_and_then (λ f. option_and_then (λ w. option_map (λ k. Trial s f w k)
     (workers_of (value_of trial_app words (codes "workers"))))
     (number_given 0 16 (value_of trial_app words (codes "wrong"))))
     (number_given 1 1024 (value_of trial_app words (codes "frames"))))
@@ -223,14 +224,18 @@ abbrev pub writes_shelf : List Text → Bool
 writes_shelf [] = false
 writes_shelf (name ∷ rest) = is_writing name
 
+-- this many may work on windows, the caller among them
+abbrev pub IsCrew : ℕ → Type 0
+IsCrew workers = (1 ≤ workers) × (workers ≤ MOST_WORKERS)
+
 -- The numbers of a command are in their ranges.
 abbrev pub IsInRange : Option Command → Type 0
 IsInRange (Some (Init capacity)) = IsCapacity capacity
 IsInRange (Some (Frames most)) = most ≤ 2 ^ 48
 IsInRange (Some (Packets most)) = most ≤ 2 ^ 48
-IsInRange (Some (Decode input most)) = most ≤ 2 ^ 48
-IsInRange (Some (Receive input most)) = most ≤ 2 ^ 48
+IsInRange (Some (Decode input workers most)) = (most ≤ 2 ^ 48) × IsCrew workers
+IsInRange (Some (Receive input workers most)) = (most ≤ 2 ^ 48) × IsCrew workers
 IsInRange (Some (Assemble from to apid image)) = (apid ≤ 2046) × (image ≤ 65535)
 IsInRange (Some (Make start frames wrong form)) = (frames ≤ 65536) × (wrong ≤ 16)
-IsInRange (Some (Trial start frames wrong)) = (frames ≤ 1024) × (wrong ≤ 16)
+IsInRange (Some (Trial start frames wrong workers)) = ((frames ≤ 1024) × (wrong ≤ 16)) × IsCrew workers
 IsInRange _ = Unit {0}

@@ -15,6 +15,7 @@ use Rattle.std.specs.Prelude.{
 use Rattle.std.specs.Str.{bytes_eq}
 use Rattle.clap.specs.Words.{Text}
 use Rattle.lr_conv.specs.declared.line.LineCode.{LineCode}
+use Rattle.lr_reading.specs.declared.crew.TheConstants.{MOST_WORKERS}
 use Rattle.lr_reading.specs.declared.input.Input.{Input}
 use Rattle.lr_reading.specs.declared.input.Input.TheVariants.{Symbols, Units}
 use Rattle.lr_reading.specs.declared.input.UnitForm.TheVariants.{Blocks, Frames}
@@ -74,6 +75,6 @@ line_of line g2 = option_and_then (λ marks. option_map (λ inverted. record { m
 abbrev pub most_of : Option Text → Option ℕ
 most_of = number_or 0 MOST_BYTES MOST_BYTES
 
--- `--workers`: one, since there aren't more yet
+-- `--workers`: how many work on windows
 abbrev pub workers_of : Option Text → Option ℕ
-workers_of = number_or 1 1 1
+workers_of = number_or 1 MOST_WORKERS 1

@@ -18,11 +18,13 @@ pub enum Command {
     /// A line for what became of each window or block; at most `most` bytes are taken.
     Decode {
         input: Input,
+        workers: u32,
         most: u64,
     },
     /// Puts each mission file onto the shelf; at most `most` bytes are taken.
     Receive {
         input: Input,
+        workers: u32,
         most: u64,
     },
     /// The bytes of the mission file of this number.
@@ -66,5 +68,6 @@ pub enum Command {
         start: u64,
         frames: u64,
         wrong: u8,
+        workers: u32,
     },
 }

@@ -16,7 +16,7 @@ pub(crate) fn read_decode(alloc: Global, words: &[String]) -> Result<Option<Comm
     let Some(matches) = matches_of(intake_parser(alloc, "decode")?, words)? else {
         return Ok(None);
     };
-    let Some(_) = workers(&matches) else {
+    let Some(workers) = workers(&matches) else {
         return Ok(None);
     };
     let Some(line) = line_code(&matches) else {
@@ -28,5 +28,9 @@ pub(crate) fn read_decode(alloc: Global, words: &[String]) -> Result<Option<Comm
     let Some(most) = most(&matches) else {
         return Ok(None);
     };
-    Ok(Some(Command::Decode { input, most }))
+    Ok(Some(Command::Decode {
+        input,
+        workers,
+        most,
+    }))
 }

@@ -16,7 +16,7 @@ pub(crate) fn read_receive(alloc: Global, words: &[String]) -> Result<Option<Com
     let Some(matches) = matches_of(intake_parser(alloc, "receive")?, words)? else {
         return Ok(None);
     };
-    let Some(_) = workers(&matches) else {
+    let Some(workers) = workers(&matches) else {
         return Ok(None);
     };
     let Some(line) = line_code(&matches) else {
@@ -28,5 +28,9 @@ pub(crate) fn read_receive(alloc: Global, words: &[String]) -> Result<Option<Com
     let Some(most) = most(&matches) else {
         return Ok(None);
     };
-    Ok(Some(Command::Receive { input, most }))
+    Ok(Some(Command::Receive {
+        input,
+        workers,
+        most,
+    }))
 }

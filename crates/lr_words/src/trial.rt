@@ -38,12 +38,13 @@ pub(crate) fn read_trial(alloc: Global, words: &[String]) -> Result<Option<Comma
     let Some(wrong) = number_given(&matches, "wrong", 0, MOST_WRONG) else {
         return Ok(None);
     };
-    if workers(&matches).is_none() {
+    let Some(workers) = workers(&matches) else {
         return Ok(None);
-    }
+    };
     Ok(Some(Command::Trial {
         start,
         frames,
         wrong: wrong as u8,
+        workers,
     }))
 }

@@ -15,10 +15,8 @@ ghost use Rattle.lr_words.specs.Values.{
 use crate::numbers::number_or;
 use clap::ArgMatches;
 use lr_conv::LineCode;
+use lr_reading::MOST_WORKERS;
 use lr_receiving::{Input, MOST_BYTES, Output, UnitForm};
-
-/// The value of `--workers`. More than one aren't there yet.
-const WORKERS: u64 = 1;
 
 /// The most wrong bytes in each word of a test stream.
 pub(crate) const MOST_WRONG: u64 = 16;
@@ -125,9 +123,12 @@ pub(crate) fn most(matches: &ArgMatches) -> Option<u64>
     number_or(matches, "symbols", 0, MOST_BYTES, MOST_BYTES)
 }
 
-/// How many workers decode.
-pub(crate) fn workers(matches: &ArgMatches) -> Option<u64>
-    ensures { result ≡ workers_of (first_value (found_of matches.now) (codes "workers")) }
+/// How many work on windows, the caller among them.
+pub(crate) fn workers(matches: &ArgMatches) -> Option<u32>
+    ensures gives { result ≡ workers_of (first_value (found_of matches.now) (codes "workers")) }
+    ensures some { IfSome result (λ n. 1 ≤ n) }
+    ensures few { IfSome result (λ n. n ≤ 64) }
 {
-    number_or(matches, "workers", WORKERS, WORKERS, WORKERS)
+    let workers = number_or(matches, "workers", 1, MOST_WORKERS, 1)?;
+    Some(workers as u32)
 }
