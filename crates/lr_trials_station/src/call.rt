@@ -2,7 +2,7 @@
 use crate::short::ShortSource;
 use lr_disk::MemDisk;
 use lr_io::{MemSink, MemSource};
-use lr_station::station;
+use lr_station::station_alone;
 use std::alloc::{AllocError, Global};
 use std::test::Fail;
 
@@ -79,7 +79,7 @@ fn call(alloc: Global, disk: &mut MemDisk, input: Input<'_>, room: Room) -> Resu
     let mut source = ShortSource::of(bytes, input.reads);
     let mut out = MemSink::of(alloc, vec![in alloc; room.fault]?, room.bytes)?;
     let mut err = MemSink::of(alloc, Vec::new(alloc), 100)?;
-    let status = station(alloc, &words, &mut source, disk, &mut out, &mut err);
+    let status = station_alone(alloc, &words, &mut source, disk, &mut out, &mut err);
     Ok(Printed { status, out, err })
 }
 

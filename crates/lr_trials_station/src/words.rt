@@ -6,7 +6,7 @@ use std::alloc::{AllocError, Global};
 use std::test::Fail;
 
 /// Words with a space between them, and the command that they give.
-const READ: [(&str, &str); 43] = [
+const READ: [(&str, &str); 46] = [
     ("init 100", "init 100"),
     ("init -- 100", "init 100"),
     ("init 00000000000000000100", "init 100"),
@@ -39,35 +39,46 @@ const READ: [(&str, &str); 43] = [
     ("frames --symbols 1099511627776", "frames 1099511627776"),
     ("packets", "packets 1099511627776"),
     ("packets --symbols 0", "packets 0"),
-    ("decode", "decode symbols nrz-l inverted 1099511627776"),
+    ("decode", "decode symbols nrz-l inverted 1099511627776 by 1"),
     (
         "decode --symbols=0 --workers=1 --input=blocks",
-        "decode blocks 0",
+        "decode blocks 0 by 1",
     ),
     (
         "decode --input=blocks --symbols=0 --workers=1",
-        "decode blocks 0",
+        "decode blocks 0 by 1",
     ),
     (
         "decode --line nrz-m --symbols 9",
-        "decode symbols nrz-m inverted 9",
+        "decode symbols nrz-m inverted 9 by 1",
     ),
     (
         "decode --g2=plain --symbols 9",
-        "decode symbols nrz-l plain 9",
+        "decode symbols nrz-l plain 9 by 1",
     ),
     (
         "decode --g2 plain --line nrz-m --symbols 9",
-        "decode symbols nrz-m plain 9",
+        "decode symbols nrz-m plain 9 by 1",
     ),
-    ("receive", "receive symbols nrz-l inverted 1099511627776"),
+    (
+        "receive",
+        "receive symbols nrz-l inverted 1099511627776 by 1",
+    ),
     (
         "receive --input frames --line nrz-m --g2 plain --symbols 1",
-        "receive frames 1",
+        "receive frames 1 by 1",
     ),
     (
         "receive --g2 inverted --line nrz-l --workers 1 --symbols 1",
-        "receive symbols nrz-l inverted 1",
+        "receive symbols nrz-l inverted 1 by 1",
+    ),
+    (
+        "decode --workers 64 --symbols 9",
+        "decode symbols nrz-l inverted 9 by 64",
+    ),
+    (
+        "receive --input blocks --workers 2",
+        "receive blocks 1099511627776 by 2",
     ),
     ("make 1 2 3", "make 1 2 3 symbols"),
     ("make --output blocks 1 2 3", "make 1 2 3 blocks"),
@@ -77,9 +88,10 @@ const READ: [(&str, &str); 43] = [
         "make 18446744073709551615 65536 16",
         "make 18446744073709551615 65536 16 symbols",
     ),
-    ("trial 0 1 0", "trial 0 1 0"),
-    ("trial 9 1024 16", "trial 9 1024 16"),
-    ("trial 9 --workers 1 1024 16", "trial 9 1024 16"),
+    ("trial 0 1 0", "trial 0 1 0 by 1"),
+    ("trial 9 1024 16", "trial 9 1024 16 by 1"),
+    ("trial 9 --workers 08 1024 16", "trial 9 1024 16 by 8"),
+    ("trial 9 --workers 1 1024 16", "trial 9 1024 16 by 1"),
 ];
 
 /// Words of which the arguments don't fit the command.
@@ -119,7 +131,7 @@ const WRONG_ARGUMENTS: [&str; 37] = [
     "make 1 2 3 --input blocks",
     "trial 1 2",
     "trial 1 2 3 --output symbols",
-    "trial 1 2 3 --workers 2",
+    "trial 1 2 3 --workers",
     "decode blocks",
 ];
 
@@ -215,8 +227,8 @@ const WRONG_VALUES: [&str; 49] = [
     "decode --g2 nrz-m",
     "decode --g2=",
     "receive --workers 0",
-    "receive --workers 2",
-    "receive --workers 64",
+    "receive --workers 65",
+    "trial 0 1 0 --workers 0",
     "receive --input windows",
     "receive --line NRZ-L",
     "receive --g2 Inverted",
@@ -251,16 +263,22 @@ fn g2_name(line: LineCode) -> &'static str {
     if line.inverted { "inverted" } else { "plain" }
 }
 
-fn input_text(alloc: Global, name: &str, input: Input, most: u64) -> Result<String, AllocError> {
+fn input_text(
+    alloc: Global,
+    name: &str,
+    input: Input,
+    workers: u32,
+    most: u64,
+) -> Result<String, AllocError> {
     match input {
         Input::Symbols(line) => {
             let code = line_name(line);
             let g2 = g2_name(line);
-            format!(in alloc; "{name} symbols {code} {g2} {most}")
+            format!(in alloc; "{name} symbols {code} {g2} {most} by {workers}")
         }
         Input::Units(form) => {
             let units = unit_name(form);
-            format!(in alloc; "{name} {units} {most}")
+            format!(in alloc; "{name} {units} {most} by {workers}")
         }
     }
 }
@@ -271,8 +289,16 @@ fn text_of(alloc: Global, command: Command) -> Result<String, AllocError> {
         Command::Init { capacity } => format!(in alloc; "init {capacity}"),
         Command::Frames { most } => format!(in alloc; "frames {most}"),
         Command::Packets { most } => format!(in alloc; "packets {most}"),
-        Command::Decode { input, most } => input_text(alloc, "decode", input, most),
-        Command::Receive { input, most } => input_text(alloc, "receive", input, most),
+        Command::Decode {
+            input,
+            workers,
+            most,
+        } => input_text(alloc, "decode", input, workers, most),
+        Command::Receive {
+            input,
+            workers,
+            most,
+        } => input_text(alloc, "receive", input, workers, most),
         Command::Extract { number } => format!(in alloc; "extract {number}"),
         Command::List => String::from_str(alloc, "list"),
         Command::Show { number } => format!(in alloc; "show {number}"),
@@ -295,7 +321,8 @@ fn text_of(alloc: Global, command: Command) -> Result<String, AllocError> {
             start,
             frames,
             wrong,
-        } => format!(in alloc; "trial {start} {frames} {wrong}"),
+            workers,
+        } => format!(in alloc; "trial {start} {frames} {wrong} by {workers}"),
     }
 }
 
