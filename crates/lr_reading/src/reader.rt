@@ -1,20 +1,14 @@
 //! What reads the input, with the memory that it takes.
-ghost use Rattle.std.specs.Prelude.{◌≡◌, ◌≤◌, ◌^◌, [], IfOk, IfErr};
-ghost use Rattle.lr_reading.specs.Inputs.{MayTake};
-ghost use Rattle.lr_reading.specs.Ways.{IsFreshDecoder};
-
 use crate::consumer::Consumer;
+use crate::desk::Desk;
 use crate::input::{Input, UnitForm};
-use crate::symbols::SymbolFeed;
 use crate::totals::Totals;
 use crate::unit_loop::read_units;
-use crate::way::{Decoder, Way};
+use crate::way::Way;
 use crate::window_loop::read_windows;
 use lr_bits::{BLOCK_BYTES, FRAME_BYTES, NoMemory};
-use lr_conv::LineCode;
 use lr_frame::FrameWork;
 use lr_io::Source;
-use lr_lock::Window;
 use std::alloc::Global;
 use std::marker::Model;
 
@@ -37,18 +31,6 @@ impl Model for Reader {
     ghost invariant = { λ r. IsReadyFor r.most r.way };
 }
 
-/// All memory that symbols of this line code take.
-fn new_decoder(alloc: Global, line: LineCode, most: u64) -> Result<Decoder, NoMemory>
-    requires { most ≤ 2 ^ 61 }
-    ensures fresh { IfOk result (IsFreshDecoder most) }
-    ensures line { IfOk result (λ decoder. decoder.feed.lock.line ≡ line) }
-{
-    let feed = SymbolFeed::new(alloc, line, most)?;
-    let window = Window::new(alloc, line)?;
-    let work = FrameWork::new(alloc)?;
-    Ok(Decoder { feed, window, work })
-}
-
 impl Reader {
     ghost use Rattle.std.specs.Prelude.{◌≡◌, ◌≤◌, [], IfOk, IfErr};
     ghost use Rattle.lr_reading.specs.Inputs.{MayTake};
@@ -60,7 +42,13 @@ impl Reader {
         ensures { IfOk result (λ reader. reader ≡ record { input = input; most = most }) }
     {
         let way = match input {
-            Input::Symbols(line) => Way::Symbols(new_decoder(alloc, line, most)?),
+            Input::Symbols(line) => Way::Symbols(Desk::<FrameWork>::new(
+                alloc,
+                line,
+                most,
+                0,
+                &(),
+            )?),
             Input::Units(form) => Way::Units(form),
         };
         Ok(Reader { way, most })
@@ -81,7 +69,7 @@ impl Reader {
     {
         let Reader { way, most } = self;
         match way {
-            Way::Symbols(decoder) => read_windows(decoder, source, consumer),
+            Way::Symbols(desk) => read_windows(desk, source, consumer),
             Way::Units(UnitForm::Blocks) => {
                 read_units::<BLOCK_BYTES, S, C>(UnitForm::Blocks, most, source, consumer)
             }

@@ -1,20 +1,11 @@
 //! What reads the input, by its form.
+use crate::desk::Desk;
 use crate::input::UnitForm;
-use crate::symbols::SymbolFeed;
 use lr_frame::FrameWork;
-use lr_lock::Window;
-
-/// What leads symbols to outcomes: the lock with its buffer, the window that it shows, and the work on a window.
-#[derive(Drop)]
-pub(crate) struct Decoder {
-    pub feed: SymbolFeed,
-    pub window: Window,
-    pub work: FrameWork,
-}
 
 #[derive(Drop)]
 pub(crate) enum Way {
-    Symbols(Decoder),
+    Symbols(Desk<FrameWork>),
     /// Units are gathered in an array.
     Units(UnitForm),
 }
