@@ -47,13 +47,13 @@ impl FrameWork {
 }
 
 impl Work for FrameWork {
-    ghost use Rattle.lr_frame.specs.Outcomes.{outcome_of_window};
+    ghost use Rattle.lr_frame.specs.Hands.{done_of};
 
     type Job = Window;
 
     type Done = FrameDone;
 
-    ghost gives = { λ window. record { window = window; outcome = outcome_of_window window.line window.symbols } };
+    ghost gives = { done_of };
 
     /// Gives the window back with its outcome. It takes no memory.
     fn run(&mut self, job: Window) -> FrameDone {

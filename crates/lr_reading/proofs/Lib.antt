@@ -1,9 +1,11 @@
+pub mod Beginning
 pub mod Coming
 pub mod Feeding
 pub mod Gathering
+pub mod Jobs
+pub mod Leading
 pub mod Numbered
 pub mod UnitLoop
 pub mod UnitsOf
 pub mod UnitsRead
 pub mod Whole
-pub mod WindowLoop

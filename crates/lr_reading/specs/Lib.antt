@@ -1,9 +1,11 @@
 pub mod Arrivals
+pub mod Desks
 pub mod Feeding
 pub mod Gathering
 pub mod Inputs
 pub mod Lines
 pub mod Readers
 pub mod Reading
+pub mod Rounds
 pub mod Runs
 pub mod Ways

@@ -9,11 +9,14 @@
 mod arrival;
 mod consumer;
 mod crew;
+mod desk;
 mod input;
+mod intake;
 mod laws;
 mod next;
 mod outcome;
 mod reader;
+mod round;
 mod symbols;
 mod totals;
 mod unit_loop;

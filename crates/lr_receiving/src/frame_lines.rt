@@ -74,7 +74,7 @@ fn put_frame<O: Sink>(
 
 fn put_each_frame<S: Source, O: Sink>(
     alloc: Global,
-    reader: Reader,
+    reader: Reader<Alone>,
     source: &mut S,
     out: &mut O,
 ) -> Result<Totals, Cause>
@@ -91,7 +91,7 @@ fn put_each_frame<S: Source, O: Sink>(
         frames: 0,
         out,
     };
-    let totals = reader.read(&Alone, source, &mut lines)?;
+    let totals = reader.read(source, &mut lines)?;
     Ok(totals)
 }
 
@@ -122,7 +122,7 @@ fn put_frames<S: Source, O: Sink>(
     ensures stopped { IfErr result
         (λ cause. Prints S.Source O.Sink frames_text frames_last most cause source.old source.new out.old out.new) }
 {
-    let reader = Reader::new(alloc, Input::Units(UnitForm::Frames), most)?;
+    let reader = Reader::new(alloc, Alone, Input::Units(UnitForm::Frames), 1, most)?;
     let totals = put_each_frame(alloc, reader, source, out)?;
     put_last(alloc, &totals, out)?;
     Ok(totals.stop)

@@ -93,8 +93,7 @@ fn put_outcome<O: Sink>(
 /// Puts all lines, and answers how many outcomes are restored.
 fn put_each_outcome<K: Crew, S: Source, O: Sink>(
     alloc: Global,
-    crew: &K,
-    reader: Reader,
+    reader: Reader<K>,
     source: &mut S,
     out: &mut O,
 ) -> Result<(Totals, u64), Cause>
@@ -112,7 +111,7 @@ fn put_each_outcome<K: Crew, S: Source, O: Sink>(
         restored: 0,
         out,
     };
-    let totals = reader.read(crew, source, &mut lines)?;
+    let totals = reader.read(source, &mut lines)?;
     Ok((totals, lines.restored))
 }
 
@@ -146,20 +145,22 @@ fn put_last<O: Sink>(
 
 fn put_outcomes<K: Crew, S: Source, O: Sink>(
     alloc: Global,
-    crew: &K,
+    crew: K,
     input: Input,
+    workers: u32,
     most: u64,
     source: &mut S,
     out: &mut O,
 ) -> Result<Stop, Cause>
     requires few { most ≤ 2 ^ 48 }
+    requires workers { (1 ≤ workers) × (workers ≤ 64) }
     ensures all { IfOk result (λ stop. PrintsAll S.Source O.Sink (decode_text input) (decode_last input) most stop
         source.old source.new out.old out.new) }
     ensures stopped { IfErr result (λ cause. Prints S.Source O.Sink (decode_text input) (decode_last input) most
         cause source.old source.new out.old out.new) }
 {
-    let reader = Reader::new(alloc, input, most)?;
-    let (totals, restored) = put_each_outcome(alloc, crew, reader, source, out)?;
+    let reader = Reader::new(alloc, crew, input, workers, most)?;
+    let (totals, restored) = put_each_outcome(alloc, reader, source, out)?;
     put_last(alloc, &totals, restored, out)?;
     Ok(totals.stop)
 }
@@ -168,17 +169,19 @@ fn put_outcomes<K: Crew, S: Source, O: Sink>(
 /// taken.
 pub fn decode<K: Crew, S: Source, O: Sink>(
     alloc: Global,
-    crew: &K,
+    crew: K,
     input: Input,
+    workers: u32,
     most: u64,
     source: &mut S,
     out: &mut O,
 ) -> Cause
     requires few { most ≤ 2 ^ 48 }
+    requires workers { (1 ≤ workers) × (workers ≤ 64) }
     ensures { Prints S.Source O.Sink (decode_text input) (decode_last input) most result source.old source.new
         out.old out.new }
 {
-    match put_outcomes(alloc, crew, input, most, source, out) {
+    match put_outcomes(alloc, crew, input, workers, most, source, out) {
         Ok(stop) => cause_at(stop),
         Err(cause) => cause,
     }

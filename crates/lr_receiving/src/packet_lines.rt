@@ -181,7 +181,7 @@ fn put_frame<O: Sink>(
 /// Puts all lines, and answers how many packets there are.
 fn put_each_packet<S: Source, O: Sink>(
     alloc: Global,
-    reader: Reader,
+    reader: Reader<Alone>,
     source: &mut S,
     out: &mut O,
 ) -> Result<(Totals, PacketCount), Cause>
@@ -205,7 +205,7 @@ fn put_each_packet<S: Source, O: Sink>(
         },
         out,
     };
-    let totals = reader.read(&Alone, source, &mut lines)?;
+    let totals = reader.read(source, &mut lines)?;
     Ok((totals, lines.counted))
 }
 
@@ -244,7 +244,7 @@ fn put_packets<S: Source, O: Sink>(
     ensures stopped { IfErr result
         (λ cause. Prints S.Source O.Sink packets_text packets_last most cause source.old source.new out.old out.new) }
 {
-    let reader = Reader::new(alloc, Input::Units(UnitForm::Frames), most)?;
+    let reader = Reader::new(alloc, Alone, Input::Units(UnitForm::Frames), 1, most)?;
     let (totals, counted) = put_each_packet(alloc, reader, source, out)?;
     put_last(alloc, &totals, counted, out)?;
     Ok(totals.stop)

@@ -23,8 +23,7 @@ use std::alloc::Global;
 /// Shelves all files of the input.
 pub(crate) fn receive_all<K: Crew, S: Source, D: Disk, O: Sink>(
     alloc: Global,
-    crew: &K,
-    reader: Reader,
+    reader: Reader<K>,
     shelf: &mut Shelf,
     source: &mut S,
     disk: &mut D,
@@ -57,7 +56,7 @@ pub(crate) fn receive_all<K: Crew, S: Source, D: Disk, O: Sink>(
         disk,
         out,
     };
-    let totals = reader.read(crew, source, &mut shelver)?;
+    let totals = reader.read(source, &mut shelver)?;
     Ok(Sums {
         totals,
         counts: shelver.counts,
@@ -87,8 +86,7 @@ pub(crate) fn put_last<O: Sink>(alloc: Global, sums: &Sums, out: &mut O) -> Resu
 /// Shelves all files of the input onto a shelf that is loaded, and puts the last line.
 fn receive_onto<K: Crew, S: Source, D: Disk, O: Sink>(
     alloc: Global,
-    crew: &K,
-    reader: Reader,
+    reader: Reader<K>,
     shelf: &mut Shelf,
     source: &mut S,
     disk: &mut D,
@@ -110,7 +108,7 @@ fn receive_onto<K: Crew, S: Source, D: Disk, O: Sink>(
         (λ cause. EndsRun S.Source D.Disk O.Sink reader.input reader.most cause shelf.old source.old
         source.new disk.old disk.new out.old out.new) }
 {
-    let sums = receive_all(alloc, crew, reader, shelf, source, disk, out)?;
+    let sums = receive_all(alloc, reader, shelf, source, disk, out)?;
     put_last(alloc, &sums, out)?;
     Ok(sums.totals.stop)
 }
@@ -119,14 +117,16 @@ fn receive_onto<K: Crew, S: Source, D: Disk, O: Sink>(
 /// memory is taken first, then the shelf is loaded, and then the source is read.
 pub fn receive<K: Crew, S: Source, D: Disk, O: Sink>(
     alloc: Global,
-    crew: &K,
+    crew: K,
     input: Input,
+    workers: u32,
     most: u64,
     source: &mut S,
     disk: &mut D,
     out: &mut O,
 ) -> Cause
     requires few { most ≤ 2 ^ 48 }
+    requires workers { (1 ≤ workers) × (workers ≤ 64) }
     ensures cause { IsCaused result (counts (S.faults source.old) (D.faults disk.old) (O.faults out.old))
         (counts (S.faults source.new) (D.faults disk.new) (O.faults out.new)) }
     ensures told_by_disk { D.tells disk.old → D.tells disk.new }
@@ -134,7 +134,7 @@ pub fn receive<K: Crew, S: Source, D: Disk, O: Sink>(
     ensures run { ReceiveRun S.Source D.Disk O.Sink input most result source.old source.new disk.old disk.new
         out.old out.new }
 {
-    let reader = match Reader::new(alloc, input, most) {
+    let reader = match Reader::new(alloc, crew, input, workers, most) {
         Ok(reader) => reader,
         Err(NoMemory) => return Cause::NoMemory,
     };
@@ -142,7 +142,7 @@ pub fn receive<K: Crew, S: Source, D: Disk, O: Sink>(
         Ok(shelf) => shelf,
         Err(error) => return Cause::from(error),
     };
-    match receive_onto(alloc, crew, reader, &mut shelf, source, disk, out) {
+    match receive_onto(alloc, reader, &mut shelf, source, disk, out) {
         Ok(stop) => cause_at(stop),
         Err(cause) => cause,
     }

@@ -60,8 +60,7 @@ fn stream(alloc: Global, start: u64, frames: u64, wrong: u8) -> Result<Vec<u8>, 
 /// Makes an empty shelf on the disk, and puts the files of these symbols onto it.
 fn shelve_stream<K: Crew, D: Disk>(
     alloc: Global,
-    crew: &K,
-    reader: Reader,
+    reader: Reader<K>,
     symbols: Vec<u8>,
     disk: &mut D,
 ) -> Result<Sums, Cause>
@@ -80,15 +79,7 @@ fn shelve_stream<K: Crew, D: Disk>(
     let mut shelf = Shelf::load(alloc, disk)?;
     let mut source = SureSource::of(symbols);
     let mut lines = SureSink::new();
-    receive_all(
-        alloc,
-        crew,
-        reader,
-        &mut shelf,
-        &mut source,
-        disk,
-        &mut lines,
-    )
+    receive_all(alloc, reader, &mut shelf, &mut source, disk, &mut lines)
 }
 
 /// Makes the symbols of this many frames of the test stream, an empty shelf on the disk, and puts the mission files
@@ -96,15 +87,17 @@ fn shelve_stream<K: Crew, D: Disk>(
 /// first.
 pub fn trial<K: Crew, D: Disk, O: Sink>(
     alloc: Global,
-    crew: &K,
+    crew: K,
     start: u64,
     frames: u64,
     wrong: u8,
+    workers: u32,
     disk: &mut D,
     out: &mut O,
 ) -> Cause
     requires few { frames ≤ 1024 }
     requires wrong { wrong ≤ 16 }
+    requires workers { (1 ≤ workers) × (workers ≤ 64) }
     ensures cause { IsCaused result (counts 0 (D.faults disk.old) (O.faults out.old))
         (counts 0 (D.faults disk.new) (O.faults out.new)) }
     ensures told_by_disk { D.tells disk.old → D.tells disk.new }
@@ -116,11 +109,11 @@ pub fn trial<K: Crew, D: Disk, O: Sink>(
         Ok(symbols) => symbols,
         Err(NoMemory) => return Cause::NoMemory,
     };
-    let reader = match Reader::new(alloc, Input::Symbols(STANDARD), MOST_BYTES) {
+    let reader = match Reader::new(alloc, crew, Input::Symbols(STANDARD), workers, MOST_BYTES) {
         Ok(reader) => reader,
         Err(NoMemory) => return Cause::NoMemory,
     };
-    let sums = match shelve_stream(alloc, crew, reader, symbols, disk) {
+    let sums = match shelve_stream(alloc, reader, symbols, disk) {
         Ok(sums) => sums,
         Err(cause) => return cause,
     };
