@@ -9,11 +9,11 @@ use std::io::{self, Read, Write};
 
 /// How lines are coded, and how many there are.
 #[derive(Clone, Copy)]
-struct Shape {
-    bits: u32,
-    block: u32,
-    columns: u32,
-    lines: u32,
+pub(crate) struct Shape {
+    pub(crate) bits: u32,
+    pub(crate) block: u32,
+    pub(crate) columns: u32,
+    pub(crate) lines: u32,
     ghost bits_fit: { (5 ≤ bits) × (bits ≤ 16) },
     ghost block_fits: { (2 ≤ block) × (block ≤ 64) × (block % 2 ≡ 0) },
     ghost columns_fit: { (1 ≤ columns) × (columns ≤ 65535) },
@@ -21,12 +21,12 @@ struct Shape {
 }
 
 /// The word at this place, read as a number.
-fn number_at(words: &[String], place: usize) -> Option<u32> {
+pub(crate) fn number_at(words: &[String], place: usize) -> Option<u32> {
     words.get(place)?.as_str().parse::<u32>().ok()
 }
 
 /// The shape that the first four words tell.
-fn shape_of(words: &[String]) -> Option<Shape> {
+pub(crate) fn shape_of(words: &[String]) -> Option<Shape> {
     let bits = number_at(words, 0)?;
     let block = number_at(words, 1)?;
     let columns = number_at(words, 2)?;

@@ -8,7 +8,7 @@
 //! `shelf.bench` of the working folder, and `shelf-load` loads what stands there. `export` writes an image of 1,024
 //! columns and lines as PGM, from a shelf in memory. `all` does `rs`, `path`, `lanes`,
 //! `lock`, `frame` and `shelf-memory`. A line for each says the rounds and what came of them, or a checksum of it.
-//! `lines` and `samples` have more words, and read coded lines from standard input.
+//! `lines`, `samples` and `export-lossless` have more words, and read coded lines from standard input.
 #![tactic(auto)]
 
 mod export;
@@ -30,6 +30,9 @@ fn main(rt: HostRuntime) -> Result<(), Trouble> {
     let name = name.as_str();
     if matches!(name, "lines" | "samples") {
         return lines::run(&rt, name, &words[1..]);
+    }
+    if name == "export-lossless" {
+        return export::run_lossless(&rt, &words[1..]);
     }
     let rounds = rounds.as_str().parse::<u32>().unwrap_or(0);
     words::run(&rt, name, rounds)?;

@@ -6,37 +6,44 @@ use std::alloc::Global;
 use std::test::Fail;
 
 /// Ten bytes of transport header, then the header of an image of 8 columns and 2 lines, coded without loss.
-static CODED: [u8; 42] = [
+pub(crate) static CODED: [u8; 42] = [
     0, 1, 0, 0, 0, 0, 0, 0, 1, 48, 0x00, 0x00, 0x10, 0x00, 0x00, 0x00, 0x00, 0x20, 0, 0, 0, 0, 0,
     0, 0, 48, 0x01, 0x00, 0x09, 8, 0, 8, 0, 2, 1, 0x83, 0x00, 0x07, 0x00, 49, 8, 1,
 ];
 
 /// The same with a key record.
-static KEYED: [u8; 47] = [
+pub(crate) static KEYED: [u8; 47] = [
     0, 1, 0, 0, 0, 0, 0, 0, 1, 48, 0x00, 0x00, 0x10, 0x00, 0x00, 0x00, 0x00, 0x25, 0, 0, 0, 0, 0,
     0, 0, 48, 0x01, 0x00, 0x09, 8, 0, 8, 0, 2, 1, 0x83, 0x00, 0x07, 0x00, 49, 8, 1, 0x07, 0x00,
     0x05, 0, 0,
 ];
 
 /// The header of an image of 2 columns and 1 line, of 12 bits and not compressed, and its data field.
-static PLAIN: [u8; 38] = [
+pub(crate) static PLAIN: [u8; 38] = [
     0, 1, 0, 0, 0, 0, 0, 0, 0, 224, 0x00, 0x00, 0x10, 0x00, 0x00, 0x00, 0x00, 0x19, 0, 0, 0, 0, 0,
     0, 0, 24, 0x01, 0x00, 0x09, 12, 0, 2, 0, 1, 0, 0xAB, 0xC1, 0x23,
 ];
 
 /// A coded line of eight pixels of 5, and one of 5 6 4 5 5 5 5 5.
-static FIRST: [u8; 2] = [0x00, 0x58];
+pub(crate) static FIRST: [u8; 2] = [0x00, 0x58];
 
-static SECOND: [u8; 4] = [0x40, 0xAA, 0xFA, 0x00];
+pub(crate) static SECOND: [u8; 4] = [0x40, 0xAA, 0xFA, 0x00];
+
+/// Their image.
+pub(crate) const LINES_OF_FIVE: &[u8] =
+    b"P5\n8 2\n255\n\x05\x05\x05\x05\x05\x05\x05\x05\x05\x06\x04\x05\x05\x05\x05\x05";
+
+fn put_body(lengths: &mut Lengths, bytes: &mut Bytes, body: &[u8]) -> Result<(), NoMemory> {
+    lengths.push(u16::try_from(body.len()).unwrap_or(0))?;
+    bytes.extend(body)
+}
 
 /// The file of these bodies.
 fn file_of(alloc: Global, bodies: &[&[u8]]) -> Result<MissionFile, Fail> {
     let mut lengths = Lengths::new(alloc);
     let mut bytes = Bytes::new(alloc);
     for body in bodies {
-        let length = u16::try_from(body.len()).ok().ok_or("a body is too long")?;
-        lengths.push(length)?;
-        bytes.extend(body)?;
+        put_body(&mut lengths, &mut bytes, body)?;
     }
     Ok(MissionFile::build(0, 100, lengths, bytes).ok_or("no file")?)
 }
@@ -51,7 +58,7 @@ fn pgm_of(alloc: Global, image: &Image) -> Result<Bytes, NoMemory> {
 }
 
 /// Whether the file of these bodies has an image of this PGM.
-fn shows(alloc: Global, bodies: &[&[u8]], wanted: &[u8]) -> Result<bool, Fail> {
+pub(crate) fn shows(alloc: Global, bodies: &[&[u8]], wanted: &[u8]) -> Result<bool, Fail> {
     let file = file_of(alloc, bodies)?;
     match image_of(alloc, &file) {
         Ok(image) => Ok(*pgm_of(alloc, &image)?.as_slice() == *wanted),
@@ -59,29 +66,34 @@ fn shows(alloc: Global, bodies: &[&[u8]], wanted: &[u8]) -> Result<bool, Fail> {
     }
 }
 
-fn is_same(found: ImageFault, wanted: ImageFault) -> bool {
-    match (found, wanted) {
-        (ImageFault::Headers(_), ImageFault::Headers(_)) => true,
-        (ImageFault::NotImage { kind }, ImageFault::NotImage { kind: other }) => kind == other,
-        (ImageFault::NoStructure, ImageFault::NoStructure) => true,
-        (ImageFault::Encrypted, ImageFault::Encrypted) => true,
-        (ImageFault::Compression { value }, ImageFault::Compression { value: other }) => value
-            == other,
-        (ImageFault::Depth { bits }, ImageFault::Depth { bits: other }) => bits == other,
-        (ImageFault::Empty, ImageFault::Empty) => true,
-        (ImageFault::TooLarge { pixels }, ImageFault::TooLarge { pixels: other }) => pixels
-            == other,
-        (ImageFault::Flags { flags }, ImageFault::Flags { flags: other }) => flags == other,
-        (ImageFault::BlockSize { block }, ImageFault::BlockSize { block: other }) => block == other,
-        (ImageFault::LinesPerPacket, ImageFault::LinesPerPacket) => true,
-        (ImageFault::Rice { piece, .. }, ImageFault::Rice { piece: other, .. }) => piece == other,
-        (ImageFault::Short { pixels }, ImageFault::Short { pixels: other }) => pixels == other,
-        _ => false,
+/// A number for each fault, and what the fault says.
+fn told(fault: ImageFault) -> (u8, u64) {
+    match fault {
+        ImageFault::Headers(_) => (1, 0),
+        ImageFault::NotImage { kind } => (2, u64::from(kind)),
+        ImageFault::NoStructure => (3, 0),
+        ImageFault::Encrypted => (4, 0),
+        ImageFault::Compression { value } => (5, u64::from(value)),
+        ImageFault::Depth { bits } => (6, u64::from(bits)),
+        ImageFault::Empty => (7, 0),
+        ImageFault::TooLarge { pixels } => (8, pixels),
+        ImageFault::Flags { flags } => (9, u64::from(flags)),
+        ImageFault::BlockSize { block } => (10, u64::from(block)),
+        ImageFault::LinesPerPacket => (11, 0),
+        ImageFault::Rice { piece, .. } => (12, u64::from(piece)),
+        ImageFault::Short { pixels } => (13, pixels),
+        ImageFault::NoMemory => (14, 0),
     }
 }
 
+fn is_same(found: ImageFault, wanted: ImageFault) -> bool {
+    let (kind, value) = told(found);
+    let (other, expected) = told(wanted);
+    kind == other && value == expected
+}
+
 /// Whether the file of these bodies has no image, and this fault.
-fn fails(alloc: Global, bodies: &[&[u8]], wanted: ImageFault) -> Result<bool, Fail> {
+pub(crate) fn fails(alloc: Global, bodies: &[&[u8]], wanted: ImageFault) -> Result<bool, Fail> {
     let file = file_of(alloc, bodies)?;
     Ok(match image_of(alloc, &file) {
         Ok(_) => false,
@@ -100,10 +112,9 @@ fn fails_with(alloc: Global, place: usize, byte: u8, wanted: ImageFault) -> Resu
 
 #[test]
 fn coded_lines_are_read_packet_by_packet(rt: HostRuntime) -> Result<(), Fail> {
-    let wanted = b"P5\n8 2\n255\n\x05\x05\x05\x05\x05\x05\x05\x05\x05\x06\x04\x05\x05\x05\x05\x05";
-    assert!(rt; shows(rt.alloc(), &[&CODED, &FIRST, &SECOND], wanted)?);
+    assert!(rt; shows(rt.alloc(), &[&CODED, &FIRST, &SECOND], LINES_OF_FIVE)?);
     // A key of zeros hides nothing.
-    assert!(rt; shows(rt.alloc(), &[&KEYED, &FIRST, &SECOND], wanted)?);
+    assert!(rt; shows(rt.alloc(), &[&KEYED, &FIRST, &SECOND], LINES_OF_FIVE)?);
     Ok(())
 }
 
@@ -150,8 +161,7 @@ fn the_pieces_of_the_data_field_count(rt: HostRuntime) -> Result<(), Fail> {
     let mut joined = [0; 44];
     joined[..42].copy_from_slice(&CODED);
     joined[42..].copy_from_slice(&FIRST);
-    let wanted = b"P5\n8 2\n255\n\x05\x05\x05\x05\x05\x05\x05\x05\x05\x06\x04\x05\x05\x05\x05\x05";
-    assert!(rt; shows(alloc, &[&joined, &[], &SECOND], wanted)?);
+    assert!(rt; shows(alloc, &[&joined, &[], &SECOND], LINES_OF_FIVE)?);
     assert!(rt; fails(alloc, &[&joined, &[]], ImageFault::Short { pixels: 8 })?);
     let fault = lr_rice::RiceFault::Ended { line: 0 };
     let rice = ImageFault::Rice { piece: 1, fault };

@@ -8,4 +8,6 @@ mod images;
 #[cfg(test)]
 mod lines;
 #[cfg(test)]
+mod pictures;
+#[cfg(test)]
 mod segments;

@@ -55,29 +55,69 @@ fn is_fault<T: Drop>(answer: Result<T, AssembleFault>, wanted: AssembleFault) ->
     }
 }
 
+// ---- the calls
+
+fn begun(alloc: Global, segment: &Segment) -> Result<Assembly, AssembleFault> {
+    Assembly::new(alloc, segment, 8)
+}
+
+fn add(assembly: &mut Assembly, image: &Image, segment: &Segment) -> Result<(), AssembleFault> {
+    assembly.add(image, segment)
+}
+
+fn finish(assembly: Assembly) -> (Image, u64) {
+    assembly.finish()
+}
+
+/// Whether a line of these pixels is added at this place.
+fn takes(
+    alloc: Global,
+    assembly: &mut Assembly,
+    values: &[u16],
+    column: u16,
+) -> Result<bool, Fail> {
+    let image = row(alloc, 8, values)?.ok_or("no image")?;
+    Ok(add(assembly, &image, &segment(column, 0)).is_ok())
+}
+
+/// Whether a line of these pixels is refused at this place, with this fault.
+fn refuses(
+    alloc: Global,
+    assembly: &mut Assembly,
+    bits: u8,
+    values: &[u16],
+    at: Segment,
+    fault: AssembleFault,
+) -> Result<bool, Fail> {
+    let image = row(alloc, bits, values)?.ok_or("no image")?;
+    Ok(is_fault(add(assembly, &image, &at), fault))
+}
+
+/// The pixels 1 and 2 at the column 0, and then 9 at the column 1, with refused ones between.
+fn replaces(alloc: Global, assembly: &mut Assembly) -> Result<bool, Fail> {
+    let depths = AssembleFault::Depths { kept: 8, given: 9 };
+    let outside = AssembleFault::Outside;
+    Ok(
+        takes(alloc, assembly, &[1, 2], 0)?
+            && takes(alloc, assembly, &[9], 1)?
+            && refuses(alloc, assembly, 8, &[1, 2], segment(1, 0), outside)?
+            && refuses(alloc, assembly, 8, &[9], segment(0, 2), outside)?
+            && refuses(alloc, assembly, 9, &[9], segment(1, 0), depths)?,
+    )
+}
+
+/// Whether the assembly is this image, with two pixels that no segment covers.
+fn gives(assembly: Assembly, wanted: &[u16]) -> bool {
+    let (image, uncovered) = finish(assembly);
+    *image.pixels() == *wanted && uncovered == 2
+}
+
 #[test]
 fn later_segments_replace_earlier_ones(rt: HostRuntime) -> Result<(), Fail> {
     let alloc = rt.alloc();
-    let mut assembly = Assembly::new(alloc, &segment(0, 0), 8)
-        .ok()
-        .ok_or("no assembly")?;
-    let first = row(alloc, 8, &[1, 2])?.ok_or("no image")?;
-    let second = row(alloc, 8, &[9])?.ok_or("no image")?;
-    let deeper = row(alloc, 9, &[9])?.ok_or("no image")?;
-    assert!(rt; assembly.add(&first, &segment(0, 0)).is_ok());
-    assert!(rt; assembly.add(&second, &segment(1, 0)).is_ok());
-    assert!(rt; is_fault(assembly.add(&first, &segment(1, 0)), AssembleFault::Outside));
-    assert!(rt;
-        is_fault(
-            assembly.add(&second, &segment(0, 2)),
-            AssembleFault::Outside
-        )
-    );
-    let depths = AssembleFault::Depths { kept: 8, given: 9 };
-    assert!(rt; is_fault(assembly.add(&deeper, &segment(1, 0)), depths));
-    let (image, uncovered) = assembly.finish();
-    assert_eq!(rt; image.pixels(), [1, 9, 0, 0].as_slice());
-    assert!(rt; uncovered == 2);
+    let mut assembly = begun(alloc, &segment(0, 0)).ok().ok_or("no assembly")?;
+    let is_replaced = replaces(alloc, &mut assembly)?;
+    assert!(rt; is_replaced && gives(assembly, &[1, 9, 0, 0]));
     Ok(())
 }
 
@@ -85,14 +125,14 @@ fn later_segments_replace_earlier_ones(rt: HostRuntime) -> Result<(), Fail> {
 fn an_image_has_columns_and_lines(rt: HostRuntime) -> Result<(), Fail> {
     let mut none = segment(0, 0);
     none.columns = 0;
-    assert!(rt; is_fault(Assembly::new(rt.alloc(), &none, 8), AssembleFault::Empty));
+    assert!(rt; is_fault(begun(rt.alloc(), &none), AssembleFault::Empty));
     let mut large = segment(0, 0);
     large.columns = 65_535;
     large.lines = 65_535;
     let pixels = 65_535 * 65_535;
     assert!(rt;
         is_fault(
-            Assembly::new(rt.alloc(), &large, 8),
+            begun(rt.alloc(), &large),
             AssembleFault::TooLarge { pixels }
         )
     );

@@ -1,8 +1,10 @@
 //! Bytes that are changed, and Discards that don't fit.
 use crate::shared::{
-    append, check, discard, disk, first, get, holds_two, is_at, is_crc, is_gone, is_no_shelf,
-    is_number, is_stored, load, second, with_byte, with_two,
+    add_first, add_second, check, discard, disk, get, holds_first, holds_second, holds_two, is_at,
+    is_crc, is_gone, is_no_shelf, load, with_byte, with_two,
 };
+use lr_disk::{Disk, MemDisk};
+use lr_shelf::Shelf;
 use lr_shelf_format::discard_of;
 use std::alloc::Global;
 use std::test::Fail;
@@ -13,14 +15,17 @@ const LAST_GATE: usize = 137;
 /// The head of an Add item of the most bytes.
 static LONG_HEAD: [u8; 12] = [0x80, 63, 7, 0xFE, 0, 0, 0, 1, 4, 0, 0, 0];
 
+/// Whether the first record has another checksum.
+fn is_damaged<D: Disk>(shelf: &mut Shelf, disk: &mut D) -> bool {
+    is_crc(check(shelf, disk, 0), 0x719C, 0xB0E8) && is_crc(get(shelf, disk, 0), 0x719C, 0xB0E8)
+}
+
 /// A content byte of the first record is changed.
 fn the_checksum_tells(alloc: Global) -> Result<bool, Fail> {
     let mut made = with_byte(alloc, 65, 0x47)?;
     let mut shelf = load(alloc, &mut made)?;
-    let told = is_crc(check(&mut shelf, &mut made, 0), 0x719C, 0xB0E8)
-        && is_crc(get(&mut shelf, &mut made, 0), 0x719C, 0xB0E8);
-    let two = get(&mut shelf, &mut made, 1)?;
-    Ok(told && is_stored(&two, &second(alloc)?))
+    let told = is_damaged(&mut shelf, &mut made);
+    Ok(told && holds_second(alloc, &mut shelf, &mut made, 1)?)
 }
 
 /// The length of the first record's body is changed, so that the lengths don't add up.
@@ -34,27 +39,32 @@ fn lengths_tell(alloc: Global) -> Result<bool, Fail> {
     )
 }
 
-/// A file is added to a damaged shelf, and the damaged one is discarded.
+/// Adds a file to a damaged shelf, and discards the damaged one.
+fn goes_on<D: Disk>(alloc: Global, shelf: &mut Shelf, disk: &mut D) -> Result<bool, Fail> {
+    let added = add_first(alloc, shelf, disk)? == 2;
+    let still = is_damaged(shelf, disk) && discard(shelf, disk, 0).is_ok();
+    Ok(added && still && is_gone(check(shelf, disk, 0)))
+}
+
+/// After that the others are there, and no byte before the last gate was changed.
 fn a_damaged_shelf_goes_on(alloc: Global) -> Result<bool, Fail> {
+    let damaged = with_byte(alloc, 65, 0x47)?;
     let mut made = with_byte(alloc, 65, 0x47)?;
-    let damaged = made.as_slice().to_vec(alloc)?;
     let mut shelf = load(alloc, &mut made)?;
-    let added = is_number(append(&mut shelf, &mut made, &first(alloc)?), 2);
-    let still = is_crc(check(&mut shelf, &mut made, 0), 0x719C, 0xB0E8);
-    discard(&mut shelf, &mut made, 0)?;
-    let gone = is_gone(check(&mut shelf, &mut made, 0)) && is_at(&shelf, 3, 217, 1000);
-    let two = get(&mut shelf, &mut made, 1)?;
-    let three = get(&mut shelf, &mut made, 2)?;
     Ok(
-        added
-            && still
-            && gone
-            && is_stored(&two, &second(alloc)?)
-            && is_stored(&three, &first(alloc)?)
-            && made
-                .as_slice()
-                .starts_with(&damaged[..LAST_GATE.min(damaged.len())]),
+        goes_on(alloc, &mut shelf, &mut made)?
+            && is_at(&shelf, 3, 217, 1000)
+            && holds_second(alloc, &mut shelf, &mut made, 1)?
+            && holds_first(alloc, &mut shelf, &mut made, 2)?
+            && begins_with(&made, &damaged),
     )
+}
+
+/// Whether the bytes before the last gate are the same.
+fn begins_with(made: &MemDisk, damaged: &MemDisk) -> bool {
+    let bytes = damaged.as_slice();
+    made.as_slice()
+        .starts_with(&bytes[..LAST_GATE.min(bytes.len())])
 }
 
 /// A shelf of both files, with its last gate open and these bytes after it.
@@ -68,42 +78,64 @@ fn opened(alloc: Global, more: &[u8]) -> Result<Vec<u8>, Fail> {
 }
 
 fn loads_not(alloc: Global, more: &[u8], place: u64) -> Result<bool, Fail> {
-    let mut made = disk(alloc, &opened(alloc, more)?)?;
+    let mut made = disk_with(alloc, more)?;
     Ok(is_no_shelf(load(alloc, &mut made), place))
+}
+
+/// A Discard of one file, an open gate, and one of another file.
+fn discards(alloc: Global, one: u64, other: u64) -> Result<Vec<u8>, Fail> {
+    let mut more = discard_of(one)[..11].to_vec(alloc)?;
+    more.extend_from_slice(&[1])?;
+    more.extend_from_slice(&discard_of(other))?;
+    Ok(more)
 }
 
 /// The same file is discarded twice.
 fn is_discarded_once(alloc: Global) -> Result<bool, Fail> {
-    let mut more = discard_of(0)[..11].to_vec(alloc)?;
-    more.extend_from_slice(&[1])?;
-    more.extend_from_slice(&discard_of(0))?;
+    let more = discards(alloc, 0, 0)?;
     loads_not(alloc, &more, 149)
+}
+
+/// A disk with these bytes after the last gate.
+fn disk_with(alloc: Global, more: &[u8]) -> Result<MemDisk, Fail> {
+    let bytes = opened(alloc, more)?;
+    disk(alloc, &bytes)
+}
+
+fn both_are_gone<D: Disk>(shelf: &mut Shelf, disk: &mut D) -> bool {
+    is_at(shelf, 2, 162, 1000) && is_gone(get(shelf, disk, 0)) && is_gone(get(shelf, disk, 1))
 }
 
 /// Both files are discarded, and one is added.
 fn discards_have_no_number(alloc: Global) -> Result<bool, Fail> {
-    let mut more = discard_of(1)[..11].to_vec(alloc)?;
-    more.extend_from_slice(&[1])?;
-    more.extend_from_slice(&discard_of(0))?;
-    let mut made = disk(alloc, &opened(alloc, &more)?)?;
+    let more = discards(alloc, 1, 0)?;
+    let mut made = disk_with(alloc, &more)?;
     let mut shelf = load(alloc, &mut made)?;
-    let both = is_at(&shelf, 2, 162, 1000)
-        && is_gone(get(&mut shelf, &mut made, 0))
-        && is_gone(get(&mut shelf, &mut made, 1));
-    Ok(both && is_number(append(&mut shelf, &mut made, &second(alloc)?), 2))
+    let both = both_are_gone(&mut shelf, &mut made);
+    Ok(both && add_second(alloc, &mut shelf, &mut made)? == 2)
+}
+
+/// A shelf of both files, with more bytes after it.
+fn longer(alloc: Global) -> Result<MemDisk, Fail> {
+    let whole = with_two(alloc)?;
+    let mut bytes = whole.as_slice().to_vec(alloc)?;
+    bytes.extend_from_slice(&[1; 300])?;
+    disk(alloc, &bytes)
+}
+
+/// Whether the shelf has a third file with a right checksum.
+fn has_three(alloc: Global, made: &mut MemDisk) -> Result<bool, Fail> {
+    let mut later = load(alloc, made)?;
+    Ok(is_at(&later, 3, 205, 1000) && check(&mut later, made, 2).is_ok())
 }
 
 /// What follows a closed gate is no part of the shelf.
 fn more_bytes_are_no_part(alloc: Global) -> Result<bool, Fail> {
-    let whole = with_two(alloc)?;
-    let mut bytes = whole.as_slice().to_vec(alloc)?;
-    bytes.extend_from_slice(&[1; 300])?;
-    let mut made = disk(alloc, &bytes)?;
+    let mut made = longer(alloc)?;
     let mut shelf = load(alloc, &mut made)?;
     let before = is_at(&shelf, 2, 138, 1000) && holds_two(alloc, &mut made)?;
-    append(&mut shelf, &mut made, &first(alloc)?)?;
-    let mut later = load(alloc, &mut made)?;
-    Ok(before && is_at(&later, 3, 205, 1000) && check(&mut later, &mut made, 2).is_ok())
+    add_first(alloc, &mut shelf, &mut made)?;
+    Ok(before && has_three(alloc, &mut made)?)
 }
 
 fn is_nowhere(alloc: Global, bytes: &[u8]) -> Result<bool, Fail> {

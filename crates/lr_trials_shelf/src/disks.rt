@@ -1,10 +1,11 @@
 //! Shelves on files, on files that move few bytes a call, and disks at their limits.
 use crate::shared::{
-    append, check, disk, file, first, get, holds_two, init, is_at, is_no_shelf, is_number, is_same,
-    load, second,
+    add_first, append, check, disk, file, fill, holds, holds_first, holds_two, init, is_at,
+    is_no_shelf, is_number, load,
 };
 use lr_bits::{Origin, Placed};
 use lr_disk::{Disk, FileDisk, MemDisk, MemFile, SureDisk};
+use lr_shelf::Shelf;
 use std::alloc::Global;
 use std::fs::{self, File};
 use std::io;
@@ -63,20 +64,29 @@ fn large(alloc: Global) -> Result<Placed, Fail> {
     Ok(Placed { file, origin })
 }
 
+/// Adds the large file and the first one.
+fn add_large(alloc: Global, real: &mut FileDisk) -> Result<bool, Fail> {
+    let placed = large(alloc)?;
+    let mut shelf = load(alloc, real)?;
+    let added = is_number(append(&mut shelf, real, &placed), 0);
+    Ok(added && add_first(alloc, &mut shelf, real)? == 1)
+}
+
+/// Whether the first file is the large one.
+fn holds_large(alloc: Global, shelf: &mut Shelf, real: &mut FileDisk) -> Result<bool, Fail> {
+    let placed = large(alloc)?;
+    Ok(check(shelf, real, 0).is_ok() && holds(shelf, real, 0, &placed))
+}
+
 fn is_shelf_of_large(alloc: Global, real: &mut FileDisk) -> Result<bool, Fail> {
     init(real, 1 << 20)?;
-    let mut shelf = load(alloc, real)?;
-    let added = is_number(append(&mut shelf, real, &large(alloc)?), 0)
-        && is_number(append(&mut shelf, real, &first(alloc)?), 1);
+    let added = add_large(alloc, real)?;
     let mut again = load(alloc, real)?;
-    let one = get(&mut again, real, 0)?;
-    let two = get(&mut again, real, 1)?;
-    check(&mut again, real, 0)?;
     Ok(
         added
             && is_at(&again, 2, 200_136, 1 << 20)
-            && is_same(&one.file, &large(alloc)?.file)
-            && is_same(&two.file, &first(alloc)?.file),
+            && holds_large(alloc, &mut again, real)?
+            && holds_first(alloc, &mut again, real, 1)?,
     )
 }
 
@@ -97,17 +107,21 @@ fn a_file_is_a_shelf(rt: &HostRuntime) -> Result<bool, Fail> {
     Ok(is_shelf)
 }
 
+/// Whether a shelf of both files is made on this disk.
+fn is_shelf_on<D: Disk>(alloc: Global, slow: &mut D) -> Result<bool, Fail> {
+    init(slow, 1000)?;
+    fill(alloc, slow)?;
+    holds_two(alloc, slow)
+}
+
 /// A shelf on a file that moves at most this many bytes a call.
 fn is_shelf_of_two(alloc: Global, most: usize) -> Result<bool, Fail> {
     if most == 0 {
         return Err(Fail::from("nothing is moved"));
     }
-    let mut slow = FileDisk::of(MemFile::of(disk(alloc, &[])?, most));
-    init(&mut slow, 1000)?;
-    let mut shelf = load(alloc, &mut slow)?;
-    append(&mut shelf, &mut slow, &first(alloc)?)?;
-    append(&mut shelf, &mut slow, &second(alloc)?)?;
-    holds_two(alloc, &mut slow)
+    let memory = disk(alloc, &[])?;
+    let mut slow = FileDisk::of(MemFile::of(memory, most));
+    is_shelf_on(alloc, &mut slow)
 }
 
 #[test]

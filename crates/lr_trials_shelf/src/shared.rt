@@ -7,7 +7,7 @@ use std::alloc::Global;
 use std::test::Fail;
 
 /// The room of a test's disk, in bytes.
-const ROOM: usize = 100_000;
+const ROOM: u64 = 100_000;
 
 /// The body of the first file. That of the second is its first ten bytes.
 pub(crate) static BODY: [u8; 26] = [
@@ -55,13 +55,18 @@ pub(crate) fn second(alloc: Global) -> Result<Placed, Fail> {
     Ok(Placed { file, origin })
 }
 
-/// A disk of these bytes, with room and calls enough.
-pub(crate) fn disk(alloc: Global, bytes: &[u8]) -> Result<MemDisk, Fail> {
+/// A disk of these bytes, with so much room, and so many calls.
+pub(crate) fn disk_of(alloc: Global, bytes: &[u8], room: u64, calls: u64) -> Result<MemDisk, Fail> {
     let bytes = bytes.to_vec(alloc)?;
-    if bytes.len() > ROOM {
+    if bytes.len() as u64 > room {
         return Err(Fail::from("too many bytes"));
     }
-    Ok(MemDisk::of(alloc, bytes, ROOM as u64, 1000)?)
+    Ok(MemDisk::of(alloc, bytes, room, calls)?)
+}
+
+/// A disk of these bytes, with room and calls enough.
+pub(crate) fn disk(alloc: Global, bytes: &[u8]) -> Result<MemDisk, Fail> {
+    disk_of(alloc, bytes, ROOM, 1000)
 }
 
 /// An empty shelf of this capacity.
@@ -74,10 +79,16 @@ pub(crate) fn empty(alloc: Global, capacity: u64) -> Result<MemDisk, Fail> {
 /// A shelf of both files, which ends at 138.
 pub(crate) fn with_two(alloc: Global) -> Result<MemDisk, Fail> {
     let mut made = empty(alloc, 1000)?;
-    let mut shelf = load(alloc, &mut made)?;
-    append(&mut shelf, &mut made, &first(alloc)?)?;
-    append(&mut shelf, &mut made, &second(alloc)?)?;
+    fill(alloc, &mut made)?;
     Ok(made)
+}
+
+/// Adds both files.
+pub(crate) fn fill<D: Disk>(alloc: Global, made: &mut D) -> Result<(), Fail> {
+    let mut shelf = load(alloc, made)?;
+    add_first(alloc, &mut shelf, made)?;
+    add_second(alloc, &mut shelf, made)?;
+    Ok(())
 }
 
 /// The same, with one byte changed.
@@ -109,6 +120,26 @@ pub(crate) fn append<D: Disk>(
     placed: &Placed,
 ) -> Result<u64, ShelfError> {
     shelf.append(disk, placed)
+}
+
+/// Adds the first file, and answers its number.
+pub(crate) fn add_first<D: Disk>(
+    alloc: Global,
+    shelf: &mut Shelf,
+    disk: &mut D,
+) -> Result<u64, Fail> {
+    let placed = first(alloc)?;
+    Ok(append(shelf, disk, &placed)?)
+}
+
+/// The same of the second file.
+pub(crate) fn add_second<D: Disk>(
+    alloc: Global,
+    shelf: &mut Shelf,
+    disk: &mut D,
+) -> Result<u64, Fail> {
+    let placed = second(alloc)?;
+    Ok(append(shelf, disk, &placed)?)
 }
 
 pub(crate) fn discard<D: Disk>(
@@ -186,7 +217,7 @@ pub(crate) fn is_same(one: &MissionFile, other: &MissionFile) -> bool {
 }
 
 /// Whether the file was stored with its origin.
-pub(crate) fn is_stored(stored: &Stored, placed: &Placed) -> bool {
+fn is_stored(stored: &Stored, placed: &Placed) -> bool {
     let expected = placed.origin;
     is_same(&stored.file, &placed.file)
         && matches!(
@@ -198,16 +229,54 @@ pub(crate) fn is_stored(stored: &Stored, placed: &Placed) -> bool {
         )
 }
 
+/// Whether the file of this number is this one, with its origin.
+pub(crate) fn holds<D: Disk>(
+    shelf: &mut Shelf,
+    disk: &mut D,
+    number: u64,
+    placed: &Placed,
+) -> bool {
+    match get(shelf, disk, number) {
+        Ok(stored) => is_stored(&stored, placed),
+        Err(_) => false,
+    }
+}
+
+/// Whether the file of this number is the first one.
+pub(crate) fn holds_first<D: Disk>(
+    alloc: Global,
+    shelf: &mut Shelf,
+    disk: &mut D,
+    number: u64,
+) -> Result<bool, Fail> {
+    let placed = first(alloc)?;
+    Ok(holds(shelf, disk, number, &placed))
+}
+
+/// Whether it is the second one.
+pub(crate) fn holds_second<D: Disk>(
+    alloc: Global,
+    shelf: &mut Shelf,
+    disk: &mut D,
+    number: u64,
+) -> Result<bool, Fail> {
+    let placed = second(alloc)?;
+    Ok(holds(shelf, disk, number, &placed))
+}
+
+/// Whether two files have the right checksum, and there is no third.
+fn checks_two<D: Disk>(shelf: &mut Shelf, disk: &mut D) -> bool {
+    check(shelf, disk, 0).is_ok()
+        && check(shelf, disk, 1).is_ok()
+        && is_past(get(shelf, disk, 2), 2)
+}
+
 /// Whether both files are on the shelf, and no third.
 pub(crate) fn holds_two<D: Disk>(alloc: Global, disk: &mut D) -> Result<bool, Fail> {
     let mut shelf = load(alloc, disk)?;
-    check(&mut shelf, disk, 0)?;
-    check(&mut shelf, disk, 1)?;
-    let one = get(&mut shelf, disk, 0)?;
-    let two = get(&mut shelf, disk, 1)?;
     Ok(
-        is_stored(&one, &first(alloc)?)
-            && is_stored(&two, &second(alloc)?)
-            && is_past(get(&mut shelf, disk, 2), 2),
+        checks_two(&mut shelf, disk)
+            && holds_first(alloc, &mut shelf, disk, 0)?
+            && holds_second(alloc, &mut shelf, disk, 1)?,
     )
 }

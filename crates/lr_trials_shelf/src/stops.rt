@@ -1,8 +1,9 @@
 //! Stops inside calls, and calls that fail.
 use crate::shared::{
-    append, check, discard, disk, empty, first, get, holds_two, init, is_at, is_disk, is_failed,
-    is_not_empty, is_number, is_stored, load, second,
+    add_first, add_second, append, check, discard, disk, empty, get, holds_first, holds_two, init,
+    is_at, is_disk, is_failed, is_not_empty, load, second,
 };
+use lr_bits::Placed;
 use lr_disk::{Disk, MemDisk};
 use lr_shelf::Shelf;
 use std::alloc::Global;
@@ -21,7 +22,7 @@ const GATE_CALL: u64 = LOAD_CALLS + 2;
 fn with_first(alloc: Global) -> Result<MemDisk, Fail> {
     let mut made = empty(alloc, 1000)?;
     let mut shelf = load(alloc, &mut made)?;
-    append(&mut shelf, &mut made, &first(alloc)?)?;
+    add_first(alloc, &mut shelf, &mut made)?;
     disk(alloc, made.as_slice())
 }
 
@@ -29,7 +30,7 @@ fn with_first(alloc: Global) -> Result<MemDisk, Fail> {
 fn with_second(alloc: Global) -> Result<MemDisk, Fail> {
     let mut made = with_first(alloc)?;
     let mut shelf = load(alloc, &mut made)?;
-    append(&mut shelf, &mut made, &second(alloc)?)?;
+    add_second(alloc, &mut shelf, &mut made)?;
     Ok(made)
 }
 
@@ -51,8 +52,7 @@ fn holds_one_or_two(alloc: Global, made: &mut MemDisk) -> Result<bool, Fail> {
     if shelf.len() == 2 {
         return holds_two(alloc, made);
     }
-    let one = get(&mut shelf, made, 0)?;
-    Ok(is_at(&shelf, 1, 87, 1000) && is_stored(&one, &first(alloc)?))
+    Ok(is_at(&shelf, 1, 87, 1000) && holds_first(alloc, &mut shelf, made, 0)?)
 }
 
 /// Whether each stop inside these calls leaves one of both.
@@ -67,6 +67,14 @@ fn stops_are_harmless(alloc: Global, kind: u8) -> Result<bool, Fail> {
     Ok(true)
 }
 
+/// Whether a shelf of one file whose last gate is torn stands as it was, and is no place for a new shelf.
+fn is_kept(shelf: &Shelf, left: &mut MemDisk, torn: &[u8]) -> bool {
+    torn.get(86).copied() == Some(0x7F)
+        && is_at(shelf, 1, 87, 1000)
+        && is_not_empty(init(left, 1000), 138)
+        && left.as_slice() == torn
+}
+
 /// A stop in the write that opens the second gate left 7F there.
 fn a_torn_gate_is_closed(alloc: Global) -> Result<bool, Fail> {
     let whole = with_second(alloc)?;
@@ -74,31 +82,29 @@ fn a_torn_gate_is_closed(alloc: Global) -> Result<bool, Fail> {
     let torn = left.as_slice().to_vec(alloc)?;
     let mut shelf = load(alloc, &mut left)?;
     Ok(
-        torn.get(86).copied() == Some(0x7F)
-            && is_at(&shelf, 1, 87, 1000)
-            && left.as_slice() == torn.as_slice()
-            && is_not_empty(init(&mut left, 1000), 138)
-            && is_number(append(&mut shelf, &mut left, &second(alloc)?), 1)
+        is_kept(&shelf, &mut left, torn.as_slice())
+            && add_second(alloc, &mut shelf, &mut left)? == 1
             && left.as_slice() == whole.as_slice(),
     )
 }
 
 /// The call of this number fails in `append`; after that the shelf answers nothing until it is loaded again.
 fn a_fault_spoils_the_shelf(alloc: Global, call: u64) -> Result<bool, Fail> {
+    let placed = second(alloc)?;
     let mut made = with_first(alloc)?;
     let mut shelf = load(alloc, &mut made)?;
     made.fail_at(call);
-    let placed = second(alloc)?;
+    let failed = is_disk(append(&mut shelf, &mut made, &placed));
     Ok(
-        is_disk(append(&mut shelf, &mut made, &placed))
-            && is_failed(append(&mut shelf, &mut made, &placed))
-            && answers_nothing(&mut shelf, &mut made)
+        failed
+            && answers_nothing(&mut shelf, &mut made, &placed)
             && holds_one_or_two(alloc, &mut made)?,
     )
 }
 
-fn answers_nothing<D: Disk>(shelf: &mut Shelf, disk: &mut D) -> bool {
-    is_failed(discard(shelf, disk, 0))
+fn answers_nothing<D: Disk>(shelf: &mut Shelf, disk: &mut D, placed: &Placed) -> bool {
+    is_failed(append(shelf, disk, placed))
+        && is_failed(discard(shelf, disk, 0))
         && is_failed(get(shelf, disk, 0))
         && is_failed(check(shelf, disk, 0))
 }

@@ -1,11 +1,11 @@
 //! Shelves of version 1 that go on, and how far a shelf goes.
 use crate::shared::{
-    append, check, discard, disk, empty, file, first, get, is_at, is_full, is_gone, is_number,
-    is_past, is_same, is_stored, load,
+    add_first, append, check, discard, disk, empty, file, first, get, holds, is_at, is_full,
+    is_gone, is_number, is_past, is_same, load,
 };
 use lr_bits::{Origin, Placed};
-use lr_disk::Disk;
-use lr_shelf::{Shelf, Stored};
+use lr_disk::{Disk, MemDisk};
+use lr_shelf::Shelf;
 use std::alloc::Global;
 use std::test::Fail;
 
@@ -28,35 +28,45 @@ fn again(alloc: Global) -> Result<Placed, Fail> {
     Ok(Placed { file, origin })
 }
 
-fn has_no_origin(stored: &Stored, placed: &Placed) -> bool {
-    is_same(&stored.file, &placed.file) && stored.origin.is_none()
+/// Whether the first file is this one, with no origin, and the second is this one with its origin.
+fn holds_both<D: Disk>(shelf: &mut Shelf, disk: &mut D, placed: &Placed) -> bool {
+    match get(shelf, disk, 0) {
+        Ok(stored) => {
+            is_same(&stored.file, &placed.file)
+                && stored.origin.is_none()
+                && holds(shelf, disk, 1, placed)
+        }
+        Err(_) => false,
+    }
 }
 
 /// A file is added after the old one.
 fn goes_on(alloc: Global) -> Result<bool, Fail> {
+    let placed = again(alloc)?;
     let mut made = disk(alloc, &OLD_SHELF)?;
     let mut shelf = load(alloc, &mut made)?;
-    let placed = again(alloc)?;
     let before = is_at(&shelf, 1, 62, 200);
-    let added = is_number(append(&mut shelf, &mut made, &placed), 1);
-    let one = get(&mut shelf, &mut made, 0)?;
-    let two = get(&mut shelf, &mut made, 1)?;
     Ok(
         before
-            && added
+            && is_number(append(&mut shelf, &mut made, &placed), 1)
             && is_at(&shelf, 2, 129, 200)
-            && has_no_origin(&one, &placed)
-            && is_stored(&two, &placed)
+            && holds_both(&mut shelf, &mut made, &placed)
             && made.as_slice().starts_with(&OLD_SHELF[..61]),
     )
+}
+
+/// Adds the old file again, and discards the old one.
+fn without_first(alloc: Global, shelf: &mut Shelf, made: &mut MemDisk) -> Result<(), Fail> {
+    let placed = again(alloc)?;
+    append(shelf, made, &placed)?;
+    Ok(discard(shelf, made, 0)?)
 }
 
 /// The old file is discarded, and is so after a further load.
 fn discards_the_old_one(alloc: Global) -> Result<bool, Fail> {
     let mut made = disk(alloc, &OLD_SHELF)?;
     let mut shelf = load(alloc, &mut made)?;
-    append(&mut shelf, &mut made, &again(alloc)?)?;
-    discard(&mut shelf, &mut made, 0)?;
+    without_first(alloc, &mut shelf, &mut made)?;
     let mut later = load(alloc, &mut made)?;
     Ok(
         is_without_first(&mut shelf, &mut made)
@@ -76,35 +86,45 @@ fn is_without_first<D: Disk>(shelf: &mut Shelf, made: &mut D) -> bool {
 
 /// The first file on an empty shelf of this capacity.
 fn fits(alloc: Global, capacity: u64) -> Result<bool, Fail> {
+    let placed = first(alloc)?;
     let mut made = empty(alloc, capacity)?;
     let mut shelf = load(alloc, &mut made)?;
-    let answer = append(&mut shelf, &mut made, &first(alloc)?);
-    Ok(is_number(answer, 0) && is_at(&shelf, 1, 87, capacity) && made.as_slice().len() == 87)
+    Ok(
+        is_number(append(&mut shelf, &mut made, &placed), 0)
+            && is_at(&shelf, 1, 87, capacity)
+            && made.as_slice().len() == 87,
+    )
 }
 
 fn is_refused(alloc: Global, capacity: u64) -> Result<bool, Fail> {
+    let placed = first(alloc)?;
     let mut made = empty(alloc, capacity)?;
     let mut shelf = load(alloc, &mut made)?;
-    let answer = append(&mut shelf, &mut made, &first(alloc)?);
     Ok(
-        is_full(answer, 87, capacity)
+        is_full(append(&mut shelf, &mut made, &placed), 87, capacity)
             && is_at(&shelf, 0, 20, capacity)
             && made.as_slice().len() == 20,
     )
 }
 
-/// Discards the first file on a shelf of this capacity that holds it alone.
-fn discard_fits(alloc: Global, capacity: u64) -> Result<bool, Fail> {
+/// A shelf of this capacity that holds the first file alone.
+fn with_first(alloc: Global, capacity: u64) -> Result<MemDisk, Fail> {
     let mut made = empty(alloc, capacity)?;
     let mut shelf = load(alloc, &mut made)?;
-    append(&mut shelf, &mut made, &first(alloc)?)?;
+    add_first(alloc, &mut shelf, &mut made)?;
+    Ok(made)
+}
+
+/// Discards the first file on a shelf of this capacity that holds it alone.
+fn discard_fits(alloc: Global, capacity: u64) -> Result<bool, Fail> {
+    let mut made = with_first(alloc, capacity)?;
+    let mut shelf = load(alloc, &mut made)?;
     Ok(discard(&mut shelf, &mut made, 0).is_ok() && is_at(&shelf, 1, 99, capacity))
 }
 
 fn discard_is_refused(alloc: Global, capacity: u64) -> Result<bool, Fail> {
-    let mut made = empty(alloc, capacity)?;
+    let mut made = with_first(alloc, capacity)?;
     let mut shelf = load(alloc, &mut made)?;
-    append(&mut shelf, &mut made, &first(alloc)?)?;
     Ok(
         is_full(discard(&mut shelf, &mut made, 0), 99, capacity)
             && is_at(&shelf, 1, 87, capacity)
@@ -112,19 +132,29 @@ fn discard_is_refused(alloc: Global, capacity: u64) -> Result<bool, Fail> {
     )
 }
 
+/// The bytes of the old shelf, with another capacity.
+fn old_of(alloc: Global, capacity: u64) -> Result<Vec<u8>, Fail> {
+    let mut bytes = lr_shelf_format::old_header_of(capacity)[..19].to_vec(alloc)?;
+    bytes.extend_from_slice(&OLD_SHELF[19..])?;
+    Ok(bytes)
+}
+
+/// Whether a shelf that ends past its capacity of 50 has its file, and takes nothing more.
+fn takes_nothing<D: Disk>(shelf: &mut Shelf, disk: &mut D, placed: &Placed) -> bool {
+    is_at(shelf, 1, 62, 50)
+        && check(shelf, disk, 0).is_ok()
+        && is_full(discard(shelf, disk, 0), 74, 50)
+        && is_full(append(shelf, disk, placed), 129, 50)
+}
+
 /// A shelf whose end is past its capacity is read, and takes nothing more.
 fn is_read_past_its_capacity(alloc: Global) -> Result<bool, Fail> {
-    let mut bytes = lr_shelf_format::old_header_of(50)[..19].to_vec(alloc)?;
-    bytes.extend_from_slice(&OLD_SHELF[19..])?;
+    let bytes = old_of(alloc, 50)?;
+    let placed = again(alloc)?;
     let mut made = disk(alloc, &bytes)?;
     let mut shelf = load(alloc, &mut made)?;
-    Ok(
-        is_at(&shelf, 1, 62, 50)
-            && check(&mut shelf, &mut made, 0).is_ok()
-            && is_full(discard(&mut shelf, &mut made, 0), 74, 50)
-            && is_full(append(&mut shelf, &mut made, &again(alloc)?), 129, 50)
-            && made.as_slice() == bytes.as_slice(),
-    )
+    let refused = takes_nothing(&mut shelf, &mut made, &placed);
+    Ok(refused && made.as_slice() == bytes.as_slice())
 }
 
 #[test]

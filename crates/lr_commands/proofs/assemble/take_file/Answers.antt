@@ -1,4 +1,4 @@
-use Rattle.std.proofs.Common.{◌≡◌, Option, Some, IfErr, rules, subst}
+use Rattle.std.proofs.Common.{◌≡◌, Option, Some, IfErr, rules, arith, subst}
 use Rattle.lr_segment.specs.Canvas.{Member, member}
 use Rattle.lr_commands.specs.Assemble.{join_fate, member_with}
 use Rattle.lr_commands.specs.Gathered.{IsStop}
@@ -10,3 +10,6 @@ returns-in-Some-Ok-clause-stops c = λ members skipped gathers.
     search rules in
     subst (λ (o : Option Member). IfErr c.add_segment.result (IsStop (join_fate members o))) same
     (c.add_segment.ensures.stops members skipped gathers)
+
+pub returns-in-Some-Err-clause-gathered : goal.returns-in-Some-Err-clause-gathered
+returns-in-Some-Err-clause-gathered c = search (rules, arith)

@@ -1,0 +1,43 @@
+#!/bin/sh
+# Pictures of many shapes, received, exported and put together: netpbm (Debian's package of that name; without it nothing is
+# tried) says of each PGM which size and which greatest pixel it has, and reads its pixels, which are those that were sent.
+# Usage: trials/pictures.sh. Needs rt and python3.
+top=$(cd "$(dirname "$0")/.." && pwd)
+for tool in pnmfile pamtable; do
+    command -v $tool > /dev/null || { echo "$tool isn't installed: nothing was tried"; exit 0; }
+done
+scratch=$(mktemp -d) || exit 1
+trap 'rm -rf "$scratch"' EXIT
+"$top/lritstation" - frames < /dev/null > "$scratch/build.log" 2>&1 || { cat "$scratch/build.log"; exit 1; }
+station=$top/crates/lr_program/out/lr_program
+draw="python3 $top/trials/pictures.py"
+cd "$scratch" || exit 1
+tried=0
+failed=0
+
+# reads W H MOST: netpbm reads picture.pgm as one of this size and greatest pixel, with the pixels in `values`
+reads() {
+    told=$(pnmfile picture.pgm | tr -s '\t ' ' ')
+    pamtable picture.pgm | sed 's/  */ /g; s/^ //' > found
+    tried=$((tried + 1))
+    if [ "$told" != "picture.pgm: PGM raw, $1 by $2 maxval $3" ] || ! cmp -s found values; then
+        echo "differs: $told, not $1 by $2 maxval $3, or its pixels"
+        failed=$((failed + 1))
+    fi
+}
+
+$draw frames > frames && $draw list > list || exit 1
+"$station" shelf init 200000 > out || exit 1
+"$station" shelf receive --input frames < frames > out || exit 1
+while read -r number columns lines most what; do
+    "$station" shelf export "$number" > picture.pgm || { echo "$number, $what: export ended with $?"; exit 1; }
+    $draw values "$number" > values
+    reads "$columns" "$lines" "$most"
+done < list
+count=$(wc -l < list)
+"$station" shelf assemble 0 "$count" 300 1 > picture.pgm 2> told || { cat told; exit 1; }
+$draw whole > values
+reads 40 30 1023
+[ "$(cat told)" = "assembled 3 skipped 0 uncovered 200" ] || { cat told; failed=$((failed + 1)); }
+echo "tried $tried failed $failed"
+[ "$failed" = 0 ]
