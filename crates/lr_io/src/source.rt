@@ -129,7 +129,8 @@ impl Source for MemSource {
     };
     ghost use Rattle.lr_bits.specs.Faults.{HasCause};
     ghost use Rattle.lr_io.specs.Places.{MovesMost};
-    ghost use Rattle.lr_io.specs.MemSource.{bytes_moved, left_of, cut_places, faults_of, failing_places, stopping_places};
+    ghost use Rattle.lr_io.specs.MemSource.{bytes_moved, left_of, cut_places, faults_of, failing_places};
+    ghost use Rattle.lr_io.specs.MemSource.{stopping_places};
 
     ghost faults = { λ s. s.faults };
 

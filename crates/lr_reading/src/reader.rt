@@ -35,8 +35,8 @@ impl<K: Crew> Reader<K> {
     ghost use Rattle.lr_reading.specs.Inputs.{MayTake};
     ghost use Rattle.lr_reading.specs.Runs.{TakesAll, TakesSome};
 
-    /// All memory that reading this input takes. At most `most` bytes will be taken. Of symbols so many of the crew work
-    /// on windows, the caller among them.
+    /// All memory that reading this input takes. At most `most` bytes will be taken. Of symbols this many of the crew
+    /// work on windows, the caller among them.
     pub fn new(
         alloc: Global,
         crew: K,

@@ -374,7 +374,8 @@ put_add_item file origin before first second new start first_is second_is start_
 
 -- their parts
 whole_of : (content : List ℕ) (bytes : List ℕ) → AreBytes bytes → 2 ≤ length bytes
-    → content ≡ take (length bytes - 2) bytes → stored_checksum bytes ≡ computed_checksum bytes → with_checksum content ≡ bytes
+    → content ≡ take (length bytes - 2) bytes → stored_checksum bytes ≡ computed_checksum bytes
+    → with_checksum content ≡ bytes
 whole_of content bytes fit long same right =
     let front = length bytes - 2 in
     let sum : crc_of content ≡ big_number 2 (drop front bytes) = ap crc_of same ∙ sym right in

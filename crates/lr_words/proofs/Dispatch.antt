@@ -99,16 +99,19 @@ at_init name words e = rw e refl
 pub at_frames : (name : Text) (words : List Text) → name ≡ codes "frames" → frames_of words ≡ command_named name words
 at_frames name words e = rw e refl
 
-pub at_packets : (name : Text) (words : List Text) → name ≡ codes "packets" → packets_of words ≡ command_named name words
+pub at_packets : (name : Text) (words : List Text) → name ≡ codes "packets"
+    → packets_of words ≡ command_named name words
 at_packets name words e = rw e refl
 
 pub at_decode : (name : Text) (words : List Text) → name ≡ codes "decode" → decode_of words ≡ command_named name words
 at_decode name words e = rw e refl
 
-pub at_receive : (name : Text) (words : List Text) → name ≡ codes "receive" → receive_of words ≡ command_named name words
+pub at_receive : (name : Text) (words : List Text) → name ≡ codes "receive"
+    → receive_of words ≡ command_named name words
 at_receive name words e = rw e refl
 
-pub at_extract : (name : Text) (words : List Text) → name ≡ codes "extract" → extract_of words ≡ command_named name words
+pub at_extract : (name : Text) (words : List Text) → name ≡ codes "extract"
+    → extract_of words ≡ command_named name words
 at_extract name words e = rw e refl
 
 pub at_list : (name : Text) (words : List Text) → name ≡ codes "list" → list_of words ≡ command_named name words
@@ -123,10 +126,12 @@ at_verify name words e = rw e refl
 pub at_export : (name : Text) (words : List Text) → name ≡ codes "export" → export_of words ≡ command_named name words
 at_export name words e = rw e refl
 
-pub at_assemble : (name : Text) (words : List Text) → name ≡ codes "assemble" → assemble_of words ≡ command_named name words
+pub at_assemble : (name : Text) (words : List Text) → name ≡ codes "assemble"
+    → assemble_of words ≡ command_named name words
 at_assemble name words e = rw e refl
 
-pub at_discard : (name : Text) (words : List Text) → name ≡ codes "discard" → discard_of words ≡ command_named name words
+pub at_discard : (name : Text) (words : List Text) → name ≡ codes "discard"
+    → discard_of words ≡ command_named name words
 at_discard name words e = rw e refl
 
 pub at_make : (name : Text) (words : List Text) → name ≡ codes "make" → make_of words ≡ command_named name words

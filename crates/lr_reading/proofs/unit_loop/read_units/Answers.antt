@@ -14,7 +14,8 @@ units-init g c =
 pub returns-in-Ended-clause-all : goal.returns-in-Ended-clause-all
 returns-in-Ended-clause-all g c =
     units_ended g.S.Source g.C.Consumer.took c.args.form g.row.N c.args.most c.requires.size c.units.invariant
-    c.in-Ended.stop c.in-Ended.ensures.gathered c.in-Ended.ensures.reason _ refl c.bytes_taken.ensures refl c.len.ensures
+    c.in-Ended.stop c.in-Ended.ensures.gathered c.in-Ended.ensures.reason _ refl c.bytes_taken.ensures refl
+    c.len.ensures
 
 pub take-requires-clause-few : goal.take-requires-clause-few
 take-requires-clause-few g c =

@@ -57,7 +57,8 @@ returns-then-ne-clause-none c capacity has =
     ∙ ap (λ v. header_bytes v capacity) (version_is c.args.bytes.now capacity has) in
     let unequal : c.ne.result ≡ false =
     c.ne.ensures ∙ ap not
-    ((bytes_eq-Decides (take 19 c.args.bytes.now) (take 19 c.header_of_version-header.result)).1 (has.stands ∙ sym made)) in
+    ((bytes_eq-Decides (take 19 c.args.bytes.now) (take 19 c.header_of_version-header.result)).1
+    (has.stands ∙ sym made)) in
     cc (unequal, c.if-ne.true)
 
 pub returns-then-not-is_known-clause-none : goal.returns-then-not-is_known-clause-none

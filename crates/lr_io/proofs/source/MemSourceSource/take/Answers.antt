@@ -45,7 +45,8 @@ returns-clause-most c =
     let cuts : MovesMost (cut_places self) (bytes_moved self) c.reach.result c.reach-count.result =
     subst (λ (l : List ℕ). MovesMost l (bytes_moved self) c.reach.result c.reach-count.result) c.deref-2.ensures.value
     c.reach-count.ensures.most in
-    subst (λ (n : ℕ). MovesMost (cut_places self ++ failing_places self) (bytes_moved self) n c.reach-count.result) wanted
+    subst (λ (n : ℕ). MovesMost (cut_places self ++ failing_places self) (bytes_moved self) n c.reach-count.result)
+    wanted
     (moves_of_both (cut_places self) (failing_places self)
     (bytes_moved self) c.min-most.result c.reach.result c.reach-count.result failing cuts)
 
