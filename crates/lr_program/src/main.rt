@@ -3,7 +3,7 @@
 
 use lr_disk::{Disk, FileDisk, MemDisk};
 use lr_io::{ReadSource, WriteSink};
-use lr_station::{Cause, station_alone, tell, writes_shelf};
+use lr_station::{Cause, station, tell, writes_shelf};
 use std::fs::{File, OpenOptions};
 use std::process::ExitCode;
 use std::{env, fs, io};
@@ -77,7 +77,7 @@ fn run_on<D: Disk>(rt: &HostRuntime, words: &[String], disk: &mut D) -> u8 {
     let mut source = ReadSource::of(rt.stdin());
     let mut out = WriteSink::of(rt.stdout());
     let mut err = WriteSink::of(rt.stderr());
-    station_alone(rt.alloc(), words, &mut source, disk, &mut out, &mut err)
+    station(rt, rt.alloc(), words, &mut source, disk, &mut out, &mut err)
 }
 
 fn run_in_memory(rt: &HostRuntime, words: &[String]) -> u8 {

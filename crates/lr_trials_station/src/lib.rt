@@ -29,8 +29,7 @@ mod receive;
 mod recording;
 #[cfg(test)]
 mod shelves;
-#[cfg(test)]
-mod short;
+pub mod short;
 #[cfg(test)]
 mod stated;
 #[cfg(test)]
