@@ -32,6 +32,7 @@ use Rattle.lr_gate.specs.declared.view.View.{View}
 use Rattle.lr_catalog.specs.declared.stop.Stop.{Stop}
 use Rattle.lr_reading.specs.Desks.{IsFreshDesk}
 use Rattle.lr_reading.specs.Feeding.{FeedState, IsFresh, arrivals_given, FedSoFar}
+use Rattle.lr_reading.specs.Pools.{MayConduct}
 use Rattle.lr_reading.specs.Rounds.{arrival_of_window, AreOfLine, MayGoOn}
 use Rattle.lr_reading.specs.declared.arrival.Arrival.{Arrival}
 use Rattle.lr_reading.specs.declared.desk.Desk.{Desk}
@@ -92,3 +93,11 @@ may_begin source took most desk fresh few s before ready =
             (sym (ap (λ (k : ℕ). take k (arrivals_given line [] [])) none_taken)) none;
       };
     }
+
+pub may_conduct : {S C H T : Type 0} (source : SourceOf S) (took : C → List Arrival → C → Type 0) (most : ℕ)
+    (desk : Desk H T) → IsFreshDesk desk.intake.feed.most desk → desk.intake.feed.most ≤ most → (s : S) (now : C)
+    → (c : C) × took c [] now → MayConduct source took most desk.conductor desk.intake s now
+may_conduct source took most desk fresh few s now ready = (
+  desk.gate,
+  may_begin source took most desk fresh few s now ready,
+)

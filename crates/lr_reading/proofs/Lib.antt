@@ -3,6 +3,7 @@ pub mod Coming
 pub mod Feeding
 pub mod Gathering
 pub mod Jobs
+pub mod Joining
 pub mod Leading
 pub mod Numbered
 pub mod UnitLoop

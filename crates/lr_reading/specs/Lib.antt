@@ -5,6 +5,7 @@ pub mod Gathering
 pub mod Inputs
 pub mod Lines
 pub mod Readers
+pub mod Pools
 pub mod Reading
 pub mod Rounds
 pub mod Runs

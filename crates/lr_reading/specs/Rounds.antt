@@ -30,7 +30,9 @@ use Rattle.lr_lock.specs.Frames.{AreFrames}
 use Rattle.lr_lock.specs.Symbols.{symbols_of}
 use Rattle.lr_lock.specs.Windows.{WindowView}
 use Rattle.lr_lock.specs.declared.frame.Frame.{Frame}
+use Rattle.lr_frame.specs.Hands.{done_of}
 use Rattle.lr_frame.specs.Outcomes.{outcome_of_window}
+use Rattle.lr_frame.specs.declared.work.FrameDone.{FrameDone}
 use Rattle.lr_gate.specs.Left.{unfinished_count}
 use Rattle.lr_gate.specs.Seats.{cells_of, IsConductorOf, view_of, put_count}
 use Rattle.lr_gate.specs.declared.gate.Conductor.{Conductor}
@@ -49,6 +51,10 @@ arrival_of_window window = record {
   position = Some (record { place = window.position; positive = window.positive });
   outcome = outcome_of_window window.line window.symbols;
 }
+
+-- the work of the ring decodes windows
+abbrev pub Decodes : (WindowView → FrameDone) → Type 0
+Decodes gives = (window : WindowView) → gives window ≡ done_of window
 
 -- each window is of this line code
 abbrev pub AreOfLine : LineCode → List WindowView → Type 0

@@ -4,9 +4,16 @@
 //! frame, of blocks and frames that of each whole unit. A `Reader` takes all memory that reading needs when it is made.
 //! It leads a `Consumer` through the arrivals, however the reads of the source are cut, and takes no byte more than it
 //! was allowed. A consumer knows nothing of how they come; `TakesAll` and `TakesSome` (`Runs`) say how far it was led.
+//!
+//! Windows go through the ring of `lr_gate`. One round hands an arrival to the consumer, or fills a spare window and
+//! puts it, or does a job (`next_round`). What it keeps is `MayGoOn` in `Rounds`: the jobs are the windows of the
+//! frames so far, in their order, and the consumer took what became of the first ones. The order of the arrivals comes
+//! from this alone, and not from who finished first. A loop of rounds on one thread returns (`read_windows`); the same
+//! rounds beside workers (`read_beside`) may wait.
 #![tactic(auto)]
 
 mod arrival;
+mod beside;
 mod consumer;
 mod crew;
 mod desk;
@@ -21,6 +28,7 @@ mod symbols;
 mod totals;
 mod unit_loop;
 mod units;
+mod unread;
 mod way;
 mod window_loop;
 

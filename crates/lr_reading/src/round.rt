@@ -4,7 +4,7 @@ ghost use Rattle.std.specs.Prelude.{IsSome, IfOk, IfErr};
 ghost use Rattle.lr_conv.specs.declared.line.LineCode.{LineCode};
 ghost use Rattle.lr_lock.specs.declared.frame.Frame.{Frame};
 ghost use Rattle.lr_gate.specs.Seats.{cells_of, workers_of, IsConductorOf, view_of, TakesNothing, OldestWaits};
-ghost use Rattle.lr_reading.specs.Rounds.{HasWindows, MayHandOver, HandsOver, StopsAt, IsPut, PutsMore};
+ghost use Rattle.lr_reading.specs.Rounds.{Decodes, HasWindows, MayHandOver, HandsOver, StopsAt, IsPut, PutsMore};
 ghost use Rattle.lr_reading.specs.Rounds.{MayGoOn, Goes, rounds_left};
 ghost use Rattle.lr_reading.specs.Runs.{TakesSome};
 ghost use Rattle.lr_reading.specs.declared.input.Input.TheVariants.{Symbols};
@@ -15,8 +15,9 @@ use crate::consumer::Consumer;
 use crate::intake::Intake;
 use crate::next::Next;
 use lr_catalog::Stop;
-use lr_frame::{FrameDone, Hand, Hired};
+use lr_frame::FrameDone;
 use lr_gate::{Conductor, Gate, RingFull};
+use lr_gatecore::Work;
 use lr_io::Source;
 use lr_lock::Window;
 
@@ -43,12 +44,13 @@ fn position_of(window: &Window) -> Position
 }
 
 /// Hands what became of the oldest window to the consumer, if it is done. The answer is whether it was.
-fn hand_over<H: Hand, C: Consumer>(
-    gate: &Gate<Hired<H>>,
-    conductor: &mut Conductor<Hired<H>>,
+fn hand_over<W: Work<Job = Window, Done = FrameDone>, C: Consumer>(
+    gate: &Gate<W>,
+    conductor: &mut Conductor<W>,
     intake: &mut Intake,
     consumer: &mut C,
 ) -> Result<bool, C::Cause>
+    requires decodes { Decodes W.gives }
     requires mine { IsConductorOf gate.now conductor.old }
     requires windows { HasWindows (cells_of gate.now) (view_of conductor.old) intake.old }
     requires may { MayHandOver C.took C.most (view_of conductor.old) intake.old consumer.old }
@@ -80,12 +82,13 @@ fn hand_over<H: Hand, C: Consumer>(
 
 /// Fills a spare window with the next frame, and puts it, or ends the input. The answer is whether there was anything
 /// to do.
-fn put_next<H: Hand, S: Source>(
-    gate: &Gate<Hired<H>>,
-    conductor: &mut Conductor<Hired<H>>,
+fn put_next<W: Work<Job = Window, Done = FrameDone>, S: Source>(
+    gate: &Gate<W>,
+    conductor: &mut Conductor<W>,
     intake: &mut Intake,
     source: &mut S,
 ) -> bool
+    requires decodes { Decodes W.gives }
     requires mine { IsConductorOf gate.now conductor.old }
     requires running { (view_of conductor.old).stopped ≡ false }
     requires windows { HasWindows (cells_of gate.now) (view_of conductor.old) intake.old }
@@ -126,14 +129,15 @@ fn put_next<H: Hand, S: Source>(
 }
 
 /// Hands an arrival over, or else puts a window, or else does a job, whichever can be done first.
-pub(crate) fn next_round<H: Hand, S: Source, C: Consumer>(
-    gate: &Gate<Hired<H>>,
-    conductor: &mut Conductor<Hired<H>>,
-    own: &mut Hired<H>,
+pub(crate) fn next_round<W: Work<Job = Window, Done = FrameDone>, S: Source, C: Consumer>(
+    gate: &Gate<W>,
+    conductor: &mut Conductor<W>,
+    own: &mut W,
     intake: &mut Intake,
     source: &mut S,
     consumer: &mut C,
 ) -> Result<Round, C::Cause>
+    requires decodes { Decodes W.gives }
     requires going { (line : LineCode) × (limit : ℕ) × (s : _) × (before : C)
         × MayGoOn S.Source C.took line limit C.most gate.now conductor.old intake.old
         s source.old before consumer.old }

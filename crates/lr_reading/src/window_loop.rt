@@ -2,7 +2,7 @@
 ghost use Rattle.std.specs.Prelude.{◌≡◌, ◌≤◌, [], IfOk, IfErr};
 ghost use Rattle.lr_gate.specs.Seats.{workers_of};
 ghost use Rattle.lr_reading.specs.Desks.{IsFreshDesk};
-ghost use Rattle.lr_reading.specs.Rounds.{MayGoOn};
+ghost use Rattle.lr_reading.specs.Rounds.{Decodes, MayGoOn};
 ghost use Rattle.lr_reading.specs.Runs.{TakesAll, TakesSome};
 ghost use Rattle.lr_reading.specs.declared.input.Input.TheVariants.{Symbols};
 
@@ -12,9 +12,11 @@ use crate::intake::Intake;
 use crate::round::{Round, next_round};
 use crate::totals::Totals;
 use lr_catalog::Stop;
-use lr_frame::{Hand, Hired};
+use lr_frame::{FrameDone, Hand};
 use lr_gate::{Conductor, Gate};
+use lr_gatecore::Work;
 use lr_io::Source;
+use lr_lock::Window;
 
 /// What was read, where the input ended for this reason.
 pub(crate) fn totals_of(intake: &Intake, stop: Stop) -> Totals
@@ -32,14 +34,15 @@ pub(crate) fn totals_of(intake: &Intake, stop: Stop) -> Totals
 }
 
 /// Makes rounds until the input ended and all that comes of it was taken.
-fn read_alone<H: Hand, S: Source, C: Consumer>(
-    gate: &Gate<Hired<H>>,
-    conductor: &mut Conductor<Hired<H>>,
-    own: &mut Hired<H>,
+fn read_alone<W: Work<Job = Window, Done = FrameDone>, S: Source, C: Consumer>(
+    gate: &Gate<W>,
+    conductor: &mut Conductor<W>,
+    own: &mut W,
     intake: &mut Intake,
     source: &mut S,
     consumer: &mut C,
 ) -> Result<Totals, C::Cause>
+    requires decodes { Decodes W.gives }
     requires going { MayGoOn S.Source C.took intake.old.feed.lock.line intake.old.feed.most C.most gate.now
         conductor.old intake.old source.old source.old consumer.old consumer.old }
     requires alone { workers_of gate.now ≡ 0 }

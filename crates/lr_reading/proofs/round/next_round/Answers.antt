@@ -1,7 +1,6 @@
 use Rattle.std.proofs.Common.{◌≡◌, ◌∙◌, Bool, true, refl, sym, ap, subst, arith}
 use Rattle.std.proofs.lemmas.Result.{err_from_is_err_and}
 use Rattle.lr_lock.specs.Windows.{WindowView}
-use Rattle.lr_frame.specs.declared.hand.Hired.{Hired}
 use Rattle.lr_frame.specs.declared.work.FrameDone.{FrameDone}
 use Rattle.lr_gate.specs.Seats.{cells_of, view_of, Helps}
 use Rattle.lr_gate.specs.declared.gate.Conductor.{Conductor}
@@ -12,7 +11,7 @@ use Rattle.lr_reading.proofs.Leading.{may_hand_over, goes_on_handed, goes_on_put
 use Rattle.lr_reading.proofs.round.next_round.Goals as goal
 
 pub hand_over-requires-clause-may : goal.hand_over-requires-clause-may
-hand_over-requires-clause-may g c κs within =
+hand_over-requires-clause-may g c =
     let r = c.requires.going in
     may_hand_over g.S.Source g.C.Consumer.took r.0 r.1 g.C.Consumer.most c.args.gate.now r.4
 
@@ -55,7 +54,7 @@ returns-then-help-clause-goes g c = λ line limit s before may.
     goes_on_idle g.S.Source g.C.Consumer.took line limit g.C.Consumer.most c.args.gate.now mid
     c.help.new.self c.put_next.new.intake c.put_next.new.source c.hand_over.new.consumer c.help.ensures.mine
     still.0 still.2 refl
-    (subst (λ (k : Conductor (Hired g.row.H.Denot g.row.H-Tools.Denot) WindowView FrameDone).
+    (subst (λ (k : Conductor g.row.W.Denot WindowView FrameDone).
     SameJobs (view_of k) (view_of c.help.new.self)) still.1
     (helped (cells_of c.args.gate.now) (view_of c.put_next.new.conductor) (view_of c.help.new.self) c.help.result
     c.help.ensures.helps))
@@ -72,7 +71,7 @@ returns-then-help-clause-fewer g c = λ did.
     omega (
       arith,
       less,
-      ap (λ (k : Conductor (Hired g.row.H.Denot g.row.H-Tools.Denot) WindowView FrameDone).
+      ap (λ (k : Conductor g.row.W.Denot WindowView FrameDone).
           rounds_left (view_of k) c.put_next.new.intake) still.1
           ∙ ap (λ (i : Intake). rounds_left (view_of c.hand_over.new.conductor) i) (still.0 ∙ same.0)
           ∙ rounds_same c.args.intake.now none.0 none.1,
@@ -90,7 +89,7 @@ returns-then-len-capacity-clause-goes g c = λ line limit s before may.
     goes_on_idle g.S.Source g.C.Consumer.took line limit g.C.Consumer.most c.args.gate.now mid
     c.help.new.self c.put_next.new.intake c.put_next.new.source c.hand_over.new.consumer c.help.ensures.mine
     still.0 still.2 refl
-    (subst (λ (k : Conductor (Hired g.row.H.Denot g.row.H-Tools.Denot) WindowView FrameDone).
+    (subst (λ (k : Conductor g.row.W.Denot WindowView FrameDone).
     SameJobs (view_of k) (view_of c.help.new.self)) still.1
     (helped (cells_of c.args.gate.now) (view_of c.put_next.new.conductor) (view_of c.help.new.self) c.help.result
     c.help.ensures.helps))
@@ -107,7 +106,7 @@ returns-clause-goes g c = λ line limit s before may.
     let end = goes_on_idle g.S.Source g.C.Consumer.took line limit g.C.Consumer.most c.args.gate.now mid
     c.help.new.self c.put_next.new.intake c.put_next.new.source c.hand_over.new.consumer c.help.ensures.mine
     still.0 still.2 refl
-    (subst (λ (k : Conductor (Hired g.row.H.Denot g.row.H-Tools.Denot) WindowView FrameDone).
+    (subst (λ (k : Conductor g.row.W.Denot WindowView FrameDone).
     SameJobs (view_of k) (view_of c.help.new.self)) still.1
     (helped (cells_of c.args.gate.now) (view_of c.put_next.new.conductor) (view_of c.help.new.self) c.help.result
     c.help.ensures.helps)) in (

@@ -5,7 +5,7 @@ use Rattle.lr_reading.proofs.Leading.{few_put, puts_window, ends_input}
 use Rattle.lr_reading.proofs.round.put_next.Goals as goal
 
 pub put-requires-clause-few : goal.put-requires-clause-few
-put-requires-clause-few g c κs within =
+put-requires-clause-few g c =
     let r = c.requires.is_put in
     omega (arith, few_put g.S.Source r.0 r.1 r.6, r.5)
 
