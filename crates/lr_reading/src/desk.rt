@@ -13,13 +13,13 @@ use std::alloc::Global;
 
 /// A ring that windows are led through, what fills them, and the hands of the workers and of the caller.
 #[derive(Drop)]
-pub struct Desk<H: Hand> {
-    pub(crate) intake: Intake,
-    pub(crate) gate: Gate<Hired<H>>,
-    pub(crate) conductor: Conductor<Hired<H>>,
-    pub(crate) seats: Vec<WorkerSeat<Hired<H>>>,
-    pub(crate) works: Vec<Hired<H>>,
-    pub(crate) own: Hired<H>,
+pub(crate) struct Desk<H: Hand> {
+    pub intake: Intake,
+    pub gate: Gate<Hired<H>>,
+    pub conductor: Conductor<Hired<H>>,
+    pub seats: Vec<WorkerSeat<Hired<H>>>,
+    pub works: Vec<Hired<H>>,
+    pub own: Hired<H>,
 }
 
 /// This many windows.

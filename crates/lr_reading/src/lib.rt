@@ -15,7 +15,6 @@
 mod arrival;
 mod beside;
 mod consumer;
-mod crew;
 mod desk;
 mod input;
 mod intake;
@@ -25,6 +24,7 @@ mod outcome;
 mod reader;
 mod round;
 mod symbols;
+mod team;
 mod totals;
 mod unit_loop;
 mod units;
@@ -34,8 +34,8 @@ mod window_loop;
 
 pub use arrival::{Arrival, Position};
 pub use consumer::Consumer;
-pub use crew::{Alone, Crew, MOST_WORKERS};
 pub use input::{Input, MOST_BYTES, UnitForm};
 pub use laws::{arrivals_are_whole, outcomes_are_of_arrivals};
 pub use reader::Reader;
+pub use team::{MOST_WORKERS, Team};
 pub use totals::Totals;

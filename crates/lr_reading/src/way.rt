@@ -1,10 +1,11 @@
 //! What reads the input, by its form.
-use crate::crew::Crew;
+use crate::desk::Desk;
 use crate::input::UnitForm;
+use lr_frame::FrameWork;
 
 #[derive(Drop)]
-pub(crate) enum Way<K: Crew> {
-    Symbols(K::Desk),
+pub(crate) enum Way {
+    Symbols(Desk<FrameWork>),
     /// Units are gathered in an array.
     Units(UnitForm),
 }

@@ -16,7 +16,7 @@ use lr_bits::{Bytes, Outcome};
 use lr_catalog::{Stop, Summary, frame_line, summary_line};
 use lr_commands::Cause;
 use lr_io::{Sink, Source};
-use lr_reading::{Alone, Arrival, Consumer, Input, Reader, Totals, UnitForm};
+use lr_reading::{Arrival, Consumer, Input, Reader, Totals, UnitForm};
 use lr_vc::TransferFrame;
 use std::alloc::Global;
 
@@ -74,7 +74,7 @@ fn put_frame<O: Sink>(
 
 fn put_each_frame<S: Source, O: Sink>(
     alloc: Global,
-    reader: Reader<Alone>,
+    reader: Reader,
     source: &mut S,
     out: &mut O,
 ) -> Result<Totals, Cause>
@@ -122,7 +122,7 @@ fn put_frames<S: Source, O: Sink>(
     ensures stopped { IfErr result
         (λ cause. Prints S.Source O.Sink frames_text frames_last most cause source.old source.new out.old out.new) }
 {
-    let reader = Reader::new(alloc, Alone, Input::Units(UnitForm::Frames), 1, most)?;
+    let reader = Reader::new(alloc, Input::Units(UnitForm::Frames), most)?;
     let totals = put_each_frame(alloc, reader, source, out)?;
     put_last(alloc, &totals, out)?;
     Ok(totals.stop)

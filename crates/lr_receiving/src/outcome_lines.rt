@@ -16,7 +16,7 @@ use lr_bits::{Bytes, Outcome};
 use lr_catalog::{Stop, Summary, block_line, summary_line, window_line};
 use lr_commands::Cause;
 use lr_io::{Sink, Source};
-use lr_reading::{Arrival, Consumer, Crew, Input, Reader, Totals};
+use lr_reading::{Arrival, Consumer, Input, Reader, Totals};
 use std::alloc::Global;
 
 /// Puts a line for each outcome, of which it took this many, and counts those that are restored.
@@ -91,9 +91,9 @@ fn put_outcome<O: Sink>(
 }
 
 /// Puts all lines, and answers how many outcomes are restored.
-fn put_each_outcome<K: Crew, S: Source, O: Sink>(
+fn put_each_outcome<S: Source, O: Sink>(
     alloc: Global,
-    reader: Reader<K>,
+    reader: Reader,
     source: &mut S,
     out: &mut O,
 ) -> Result<(Totals, u64), Cause>
@@ -143,23 +143,20 @@ fn put_last<O: Sink>(
     put_text(line.as_slice(), out)
 }
 
-fn put_outcomes<K: Crew, S: Source, O: Sink>(
+fn put_outcomes<S: Source, O: Sink>(
     alloc: Global,
-    crew: K,
     input: Input,
-    workers: u32,
     most: u64,
     source: &mut S,
     out: &mut O,
 ) -> Result<Stop, Cause>
     requires few { most ≤ 2 ^ 48 }
-    requires workers { (1 ≤ workers) × (workers ≤ 64) }
     ensures all { IfOk result (λ stop. PrintsAll S.Source O.Sink (decode_text input) (decode_last input) most stop
         source.old source.new out.old out.new) }
     ensures stopped { IfErr result (λ cause. Prints S.Source O.Sink (decode_text input) (decode_last input) most
         cause source.old source.new out.old out.new) }
 {
-    let reader = Reader::new(alloc, crew, input, workers, most)?;
+    let reader = Reader::new(alloc, input, most)?;
     let (totals, restored) = put_each_outcome(alloc, reader, source, out)?;
     put_last(alloc, &totals, restored, out)?;
     Ok(totals.stop)
@@ -167,21 +164,18 @@ fn put_outcomes<K: Crew, S: Source, O: Sink>(
 
 /// A line for what became of each window or block of the source, and a last line. At most `most` bytes are
 /// taken.
-pub fn decode<K: Crew, S: Source, O: Sink>(
+pub fn decode<S: Source, O: Sink>(
     alloc: Global,
-    crew: K,
     input: Input,
-    workers: u32,
     most: u64,
     source: &mut S,
     out: &mut O,
 ) -> Cause
     requires few { most ≤ 2 ^ 48 }
-    requires workers { (1 ≤ workers) × (workers ≤ 64) }
     ensures { Prints S.Source O.Sink (decode_text input) (decode_last input) most result source.old source.new
         out.old out.new }
 {
-    match put_outcomes(alloc, crew, input, workers, most, source, out) {
+    match put_outcomes(alloc, input, most, source, out) {
         Ok(stop) => cause_at(stop),
         Err(cause) => cause,
     }

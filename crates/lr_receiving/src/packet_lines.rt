@@ -46,7 +46,7 @@ use lr_catalog::{Stop, Summary, packet_line, summary_line};
 use lr_commands::Cause;
 use lr_io::{Sink, Source};
 use lr_packet::check;
-use lr_reading::{Alone, Arrival, Consumer, Input, Reader, Totals, UnitForm};
+use lr_reading::{Arrival, Consumer, Input, Reader, Totals, UnitForm};
 use lr_vc::{Channels, TransferFrame};
 use std::alloc::Global;
 
@@ -181,7 +181,7 @@ fn put_frame<O: Sink>(
 /// Puts all lines, and answers how many packets there are.
 fn put_each_packet<S: Source, O: Sink>(
     alloc: Global,
-    reader: Reader<Alone>,
+    reader: Reader,
     source: &mut S,
     out: &mut O,
 ) -> Result<(Totals, PacketCount), Cause>
@@ -244,7 +244,7 @@ fn put_packets<S: Source, O: Sink>(
     ensures stopped { IfErr result
         (λ cause. Prints S.Source O.Sink packets_text packets_last most cause source.old source.new out.old out.new) }
 {
-    let reader = Reader::new(alloc, Alone, Input::Units(UnitForm::Frames), 1, most)?;
+    let reader = Reader::new(alloc, Input::Units(UnitForm::Frames), most)?;
     let (totals, counted) = put_each_packet(alloc, reader, source, out)?;
     put_last(alloc, &totals, counted, out)?;
     Ok(totals.stop)

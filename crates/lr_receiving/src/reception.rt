@@ -16,14 +16,14 @@ use lr_commands::Cause;
 use lr_disk::Disk;
 use lr_io::{Sink, Source};
 use lr_layers::Layers;
-use lr_reading::{Crew, Input, Reader};
+use lr_reading::{Input, Reader};
 use lr_shelf::Shelf;
 use std::alloc::Global;
 
 /// Shelves all files of the input.
-pub(crate) fn receive_all<K: Crew, S: Source, D: Disk, O: Sink>(
+pub(crate) fn receive_all<S: Source, D: Disk, O: Sink>(
     alloc: Global,
-    reader: Reader<K>,
+    reader: Reader,
     shelf: &mut Shelf,
     source: &mut S,
     disk: &mut D,
@@ -84,9 +84,9 @@ pub(crate) fn put_last<O: Sink>(alloc: Global, sums: &Sums, out: &mut O) -> Resu
 }
 
 /// Shelves all files of the input onto a shelf that is loaded, and puts the last line.
-fn receive_onto<K: Crew, S: Source, D: Disk, O: Sink>(
+fn receive_onto<S: Source, D: Disk, O: Sink>(
     alloc: Global,
-    reader: Reader<K>,
+    reader: Reader,
     shelf: &mut Shelf,
     source: &mut S,
     disk: &mut D,
@@ -115,18 +115,15 @@ fn receive_onto<K: Crew, S: Source, D: Disk, O: Sink>(
 
 /// Takes at most `most` bytes, and puts their mission files onto the shelf that the disk holds. What reading takes of
 /// memory is taken first, then the shelf is loaded, and then the source is read.
-pub fn receive<K: Crew, S: Source, D: Disk, O: Sink>(
+pub fn receive<S: Source, D: Disk, O: Sink>(
     alloc: Global,
-    crew: K,
     input: Input,
-    workers: u32,
     most: u64,
     source: &mut S,
     disk: &mut D,
     out: &mut O,
 ) -> Cause
     requires few { most ≤ 2 ^ 48 }
-    requires workers { (1 ≤ workers) × (workers ≤ 64) }
     ensures cause { IsCaused result (counts (S.faults source.old) (D.faults disk.old) (O.faults out.old))
         (counts (S.faults source.new) (D.faults disk.new) (O.faults out.new)) }
     ensures told_by_disk { D.tells disk.old → D.tells disk.new }
@@ -134,7 +131,7 @@ pub fn receive<K: Crew, S: Source, D: Disk, O: Sink>(
     ensures run { ReceiveRun S.Source D.Disk O.Sink input most result source.old source.new disk.old disk.new
         out.old out.new }
 {
-    let reader = match Reader::new(alloc, crew, input, workers, most) {
+    let reader = match Reader::new(alloc, input, most) {
         Ok(reader) => reader,
         Err(NoMemory) => return Cause::NoMemory,
     };

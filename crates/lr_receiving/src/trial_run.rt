@@ -28,7 +28,7 @@ use lr_conv::STANDARD;
 use lr_disk::Disk;
 use lr_io::{Sink, SureSink, SureSource};
 use lr_make::Maker;
-use lr_reading::{Crew, Input, MOST_BYTES, Reader};
+use lr_reading::{Input, MOST_BYTES, Reader};
 use lr_shelf::Shelf;
 use std::alloc::Global;
 
@@ -58,9 +58,9 @@ fn stream(alloc: Global, start: u64, frames: u64, wrong: u8) -> Result<Vec<u8>, 
 }
 
 /// Makes an empty shelf on the disk, and puts the files of these symbols onto it.
-fn shelve_stream<K: Crew, D: Disk>(
+fn shelve_stream<D: Disk>(
     alloc: Global,
-    reader: Reader<K>,
+    reader: Reader,
     symbols: Vec<u8>,
     disk: &mut D,
 ) -> Result<Sums, Cause>
@@ -85,19 +85,16 @@ fn shelve_stream<K: Crew, D: Disk>(
 /// Makes the symbols of this many frames of the test stream, an empty shelf on the disk, and puts the mission files
 /// of the symbols onto it. The last line alone is printed. The memory for the symbols, and for reading them, is taken
 /// first.
-pub fn trial<K: Crew, D: Disk, O: Sink>(
+pub fn trial<D: Disk, O: Sink>(
     alloc: Global,
-    crew: K,
     start: u64,
     frames: u64,
     wrong: u8,
-    workers: u32,
     disk: &mut D,
     out: &mut O,
 ) -> Cause
     requires few { frames ≤ 1024 }
     requires wrong { wrong ≤ 16 }
-    requires workers { (1 ≤ workers) × (workers ≤ 64) }
     ensures cause { IsCaused result (counts 0 (D.faults disk.old) (O.faults out.old))
         (counts 0 (D.faults disk.new) (O.faults out.new)) }
     ensures told_by_disk { D.tells disk.old → D.tells disk.new }
@@ -109,7 +106,7 @@ pub fn trial<K: Crew, D: Disk, O: Sink>(
         Ok(symbols) => symbols,
         Err(NoMemory) => return Cause::NoMemory,
     };
-    let reader = match Reader::new(alloc, crew, Input::Symbols(STANDARD), workers, MOST_BYTES) {
+    let reader = match Reader::new(alloc, Input::Symbols(STANDARD), MOST_BYTES) {
         Ok(reader) => reader,
         Err(NoMemory) => return Cause::NoMemory,
     };

@@ -1,0 +1,22 @@
+-- Memory for reading was refused.
+use Rattle.std.proofs.Common.{◌≡◌, ℕ, List, [], ◌++◌, refl, arith}
+use Rattle.lr_io.specs.declared.source.Source.{Ghosts as SourceOf}
+use Rattle.lr_reading.specs.Arrivals.{arrivals_of}
+use Rattle.lr_reading.specs.Runs.{TakesSome}
+use Rattle.lr_reading.specs.declared.arrival.Arrival.{Arrival}
+use Rattle.lr_reading.specs.declared.input.Input.{Input}
+
+-- nothing was read, and the consumer stops before the first arrival
+pub stops_at_once : {S C Cause : Type 0} (source : SourceOf S) (took : C → List Arrival → C → Type 0) (input : Input)
+    (limit : ℕ) (stopped : C → List Arrival → Cause → C → Type 0) (cause : Cause) (s : S) (now : C)
+    → ((c : C) (arrivals : List Arrival) → took c arrivals now → stopped c arrivals cause now)
+    → TakesSome source took input limit stopped cause s s now now
+stops_at_once source took input limit stopped cause s now stops = record {
+  bytes = [];
+  read = record { told = λ t. t; moved = λ t. refl; few = omega arith };
+  passed = [];
+  rest = arrivals_of input [];
+  split = refl;
+  stops = λ c taken. stops c [] taken;
+  first = λ line is tells few calm. (arrivals_of input ([] ++ source.left s), refl);
+}
