@@ -1,35 +1,12 @@
 -- Before the first round.
-use Rattle.std.proofs.Common.{
-  ◌≡◌,
-  ◌≤◌,
-  ◌+◌,
-  ℕ,
-  ℤ,
-  false,
-  Some,
-  None,
-  List,
-  [],
-  length,
-  map,
-  take,
-  refl,
-  sym,
-  ap,
-  ◌∙◌,
-  subst,
-  arith,
-}
+use Rattle.std.proofs.Common.{◌≡◌, ◌≤◌, ℕ, ℤ, Some, None, List, [], length, map, take, refl, sym, ap, ◌∙◌, subst, arith}
 use Rattle.std.proofs.Math.Seq.{drop-nil}
 use Rattle.std.proofs.lemmas.List.Elements.{All-nil}
 use Rattle.lr_conv.specs.declared.line.LineCode.{LineCode}
 use Rattle.lr_io.specs.declared.source.Source.{Ghosts as SourceOf}
 use Rattle.lr_lock.specs.Windows.{WindowView}
-use Rattle.lr_gate.specs.Seats.{cells_of, IsConductorOf, view_of, opening_view}
-use Rattle.lr_gate.specs.declared.gate.Conductor.{Conductor}
-use Rattle.lr_gate.specs.declared.gate.Gate.{Gate}
+use Rattle.lr_gate.specs.Seats.{view_of}
 use Rattle.lr_gate.specs.declared.view.View.{View}
-use Rattle.lr_catalog.specs.declared.stop.Stop.{Stop}
 use Rattle.lr_reading.specs.Desks.{IsFreshDesk}
 use Rattle.lr_reading.specs.Feeding.{FeedState, IsFresh, arrivals_given, FedSoFar}
 use Rattle.lr_reading.specs.Pools.{MayConduct}

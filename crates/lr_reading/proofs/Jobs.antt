@@ -1,42 +1,5 @@
 -- The jobs of the ring, and what is left to do.
-use Rattle.std.proofs.Common.{
-  ◌≡◌,
-  ◌≢◌,
-  ◌<◌,
-  ◌≤◌,
-  ◌+◌,
-  ◌*◌,
-  ◌-◌,
-  ◌%◌,
-  ◌==◌,
-  ℕ,
-  zero,
-  suc,
-  Bool,
-  true,
-  false,
-  cond,
-  Option,
-  Some,
-  None,
-  List,
-  [],
-  ◌∷◌,
-  ◌++◌,
-  length,
-  length-append,
-  map,
-  take,
-  vec_len,
-  vec_capacity,
-  refl,
-  sym,
-  ap,
-  ◌∙◌,
-  subst,
-  arith,
-  ⊎_elim,
-}
+use Rattle.std.proofs.Common.{◌≡◌, ◌<◌, ◌≤◌, ◌+◌, ◌==◌, ℕ, zero, suc, Bool, true, false, cond, Option, Some, None, List, [], ◌∷◌, ◌++◌, length, length-append, map, take, sym, ap, ◌∙◌, subst, arith, ⊎_elim}
 use mathlib.Core.Logic.{dite}
 use mathlib.Core.Option.{some, some-ne-none, some-injective}
 use native.Mathlib.Decide.{ℕ_discrete}
@@ -50,24 +13,14 @@ use Rattle.lr_lock.specs.declared.frame.Frame.{Frame}
 use Rattle.lr_gatecore.proofs.Lists.{at_length}
 use Rattle.lr_gate.proofs.Fewer.{fewer, same_left}
 use Rattle.lr_gate.proofs.Seats.{All-last, All-front}
-use Rattle.lr_gate.specs.Calls.{with_reads, after_work, HasFinished}
 use Rattle.lr_gate.specs.Left.{unfinished_from, unfinished_count}
-use Rattle.lr_gate.specs.Reads.{ClaimsJob}
-use Rattle.lr_gate.specs.Seats.{put_count, TakesNothing, Helps, Takes, SomeUnfinished, OldestWaits}
+use Rattle.lr_gate.specs.Seats.{put_count, TakesNothing, Helps}
 use Rattle.lr_gate.specs.Shows.{count_of}
-use Rattle.lr_gate.specs.Steps.{read, after_put}
+use Rattle.lr_gate.specs.Steps.{after_put}
 use Rattle.lr_gate.specs.declared.view.View.{View}
 use Rattle.lr_catalog.specs.declared.stop.Stop.{Stop}
 use Rattle.lr_reading.specs.Feeding.{FeedState, symbols_left, arrivals_given}
-use Rattle.lr_reading.specs.Rounds.{
-  arrival_of_window,
-  AreOfLine,
-  HasWindows,
-  HasJobs,
-  handed,
-  feeding_left,
-  rounds_left,
-}
+use Rattle.lr_reading.specs.Rounds.{arrival_of_window, AreOfLine, HasJobs, handed, feeding_left, rounds_left}
 use Rattle.lr_reading.specs.declared.arrival.Arrival.{Arrival}
 use Rattle.lr_reading.specs.declared.intake.Intake.{Intake}
 

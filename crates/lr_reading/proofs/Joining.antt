@@ -1,5 +1,5 @@
 -- A conductor is of one ring.
-use Rattle.std.proofs.Common.{◌≡◌, ◌+◌, ◌-◌, ℕ, zero, suc, List, length, refl, sym, ap, ◌∙◌, subst, arith}
+use Rattle.std.proofs.Common.{◌≡◌, ◌+◌, ◌-◌, ℕ, zero, suc, List, length, refl, ap, ◌∙◌, subst, arith}
 use Rattle.std.specs.Prelude.{Result, Ok, Err, IfOk, IfErr}
 use Rattle.lr_io.specs.declared.source.Source.{Ghosts as SourceOf}
 use Rattle.lr_conv.specs.declared.line.LineCode.{LineCode}

@@ -1,41 +1,8 @@
 -- A consumer is led through what becomes of windows, round by round.
-use Rattle.std.proofs.Common.{
-  ◌≡◌,
-  ◌<◌,
-  ◌≤◌,
-  ◌+◌,
-  ◌*◌,
-  ◌^◌,
-  ℕ,
-  ℤ,
-  Bool,
-  true,
-  false,
-  Some,
-  None,
-  List,
-  [],
-  ◌∷◌,
-  ◌++◌,
-  length,
-  length-append,
-  append-nil,
-  append_assoc,
-  map,
-  take,
-  drop,
-  vec_len,
-  vec_capacity,
-  refl,
-  sym,
-  ap,
-  ◌∙◌,
-  subst,
-  arith,
-}
+use Rattle.std.proofs.Common.{◌≡◌, ◌<◌, ◌≤◌, ◌+◌, ◌*◌, ℕ, Bool, true, false, Some, None, List, [], ◌∷◌, ◌++◌, length, append-nil, append_assoc, map, take, drop, refl, sym, ap, ◌∙◌, subst, arith}
 use mathlib.Core.Option.{some}
 use lib.ListN.{get_elem?}
-use Rattle.std.proofs.Math.Seq.{drop-nil, take-length}
+use Rattle.std.proofs.Math.Seq.{take-length}
 use Rattle.std.proofs.lemmas.List.{map-append, take-append-le, take-append-drop}
 use Rattle.std.proofs.lemmas.List.Elements.{All-push}
 use Rattle.lr_bits.specs.Faults.{Rose}
@@ -50,7 +17,7 @@ use Rattle.lr_lock.specs.declared.frame.Frame.{Frame}
 use Rattle.lr_frame.specs.declared.work.FrameDone.{FrameDone}
 use Rattle.lr_frame.specs.Hands.{done_of}
 use Rattle.lr_gatecore.proofs.Lists.{at_length}
-use Rattle.lr_gate.specs.Seats.{cells_of, IsConductorOf, view_of, put_count, Takes}
+use Rattle.lr_gate.specs.Seats.{cells_of, IsConductorOf, view_of, put_count}
 use Rattle.lr_gate.specs.Steps.{after_put}
 use Rattle.lr_gate.specs.declared.gate.Conductor.{Conductor}
 use Rattle.lr_gate.specs.declared.gate.Gate.{Gate}
@@ -58,37 +25,16 @@ use Rattle.lr_gate.specs.declared.view.View.{View}
 use Rattle.lr_catalog.specs.declared.stop.Stop.{Stop}
 use Rattle.lr_catalog.specs.declared.stop.Stop.TheVariants.{End, Limit, Fault}
 use Rattle.lr_reading.specs.Arrivals.{arrival_in, arrivals_of}
-use Rattle.lr_reading.specs.Feeding.{FeedState, IsFresh, arrivals_given, FedSoFar, GivesFrame, EndsFrames}
+use Rattle.lr_reading.specs.Feeding.{FeedState, arrivals_given, FedSoFar, GivesFrame, EndsFrames}
 use Rattle.lr_reading.specs.Reading.{EndsFor}
-use Rattle.lr_reading.specs.Rounds.{
-  arrival_of_window,
-  AreOfLine,
-  HasWindows,
-  HasJobs,
-  IsOver,
-  handed,
-  IsPut,
-  PutsMore,
-  MayHandOver,
-  HandsOver,
-  StopsAt,
-  IsLed,
-  MayGoOn,
-}
+use Rattle.lr_reading.specs.Rounds.{arrival_of_window, AreOfLine, HasWindows, HasJobs, IsOver, handed, IsPut, PutsMore, MayHandOver, HandsOver, StopsAt, MayGoOn}
 use Rattle.lr_reading.specs.Runs.{TakesAll, TakesSome}
 use Rattle.lr_reading.specs.declared.arrival.Arrival.{Arrival}
 use Rattle.lr_reading.specs.declared.arrival.Position.{Position}
 use Rattle.lr_reading.specs.declared.input.Input.TheVariants.{Symbols}
 use Rattle.lr_reading.specs.declared.intake.Intake.{Intake}
 use Rattle.lr_reading.specs.declared.totals.Totals.{Totals}
-use Rattle.lr_reading.proofs.Coming.{
-  arrivals_given-none,
-  arrivals_given-push,
-  arrivals_given-counted,
-  arrivals_first,
-  arrivals_go_on,
-  arrivals_all,
-}
+use Rattle.lr_reading.proofs.Coming.{arrivals_given-push, arrivals_given-counted, arrivals_first, arrivals_go_on, arrivals_all}
 use Rattle.lr_reading.proofs.Jobs.{as_many, oldest_line, handed_more, SameJobs}
 
 abbrev pub arrival_at : Position → Outcome → Arrival

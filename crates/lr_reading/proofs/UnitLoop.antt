@@ -23,7 +23,6 @@ use Rattle.std.proofs.Common.{
 }
 use Rattle.std.specs.List.{concat}
 use Rattle.std.proofs.lemmas.List.Elements.{All-push}
-use Rattle.lr_bits.specs.declared.outcome.Outcome.{Outcome}
 use Rattle.lr_io.specs.declared.source.Source.{Ghosts as SourceOf}
 use Rattle.lr_catalog.specs.declared.stop.Stop.{Stop}
 use Rattle.lr_reading.specs.Arrivals.{arrival_of, arrivals_of_units, arrivals_of}

@@ -1,6 +1,5 @@
 -- What reads symbols, before it has read any. No clause of a public call cites this.
 use Rattle.std.specs.Prelude.{◌≡◌, ◌<◌, ◌≤◌, ◌^◌, ℕ, None, All, vec_len, vec_capacity}
-use Rattle.lr_lock.specs.Windows.{WindowView}
 use Rattle.lr_gate.specs.Seats.{cells_of, workers_of, IsConductorOf, IsSeatOf, view_of, opening_view}
 use Rattle.lr_reading.specs.Feeding.{IsFresh}
 use Rattle.lr_reading.specs.Rounds.{AreOfLine}

@@ -1,6 +1,5 @@
 //! One round of leading windows through a ring.
-ghost use Rattle.std.specs.Prelude.{◌≡◌, ◌≢◌, ◌<◌, ◌≤◌, ◌⊎◌, ◌^◌, ℕ, List, [], true, false, vec_len};
-ghost use Rattle.std.specs.Prelude.{IsSome, IfOk, IfErr};
+ghost use Rattle.std.specs.Prelude.{◌≡◌, ◌≢◌, ◌<◌, ◌≤◌, ◌⊎◌, ◌^◌, ℕ, List, true, false, IsSome, IfOk, IfErr, vec_len};
 ghost use Rattle.lr_conv.specs.declared.line.LineCode.{LineCode};
 ghost use Rattle.lr_lock.specs.declared.frame.Frame.{Frame};
 ghost use Rattle.lr_gate.specs.Seats.{cells_of, workers_of, IsConductorOf, view_of, TakesNothing, OldestWaits};

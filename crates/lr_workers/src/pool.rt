@@ -13,7 +13,8 @@ use std::mem::ManuallyDrop;
 use std::snapshot::Snapshot;
 use std::sync::Wait;
 use std::thread;
-use std::thread::{Promise, Scope, Threads};
+use std::thread::{Parker, Promise, Scope, Threads};
+use std::time::Duration;
 
 /// What a pool hands back.
 #[derive(Drop)]
@@ -42,7 +43,14 @@ impl<W: Work> Promise<(WorkerSeat<W>, W)> for SameGate<W> {
     ghost kept_by = { λ p r. IsSeatIn (seat_table p.0.value) r.0 };
 }
 
-/// Takes turns until the gate is stopped.
+/// How many turns in a row may find nothing before a worker sleeps between turns.
+const PATIENCE: u32 = 200;
+
+/// How long it sleeps then.
+const NAP_MICROSECONDS: u64 = 100;
+
+/// Takes turns until the gate is stopped. A worker that has found nothing for a while sleeps for a short time before
+/// it looks again.
 fn work_on<R: Wait, W: Work>(
     rt: &R,
     gate: &Gate<W>,
@@ -52,11 +60,19 @@ fn work_on<R: Wait, W: Work>(
     requires { IsSeatOf gate.now seat }
     ensures { IsSeatOf gate.now result.0 }
 {
+    let bed = Parker::new();
+    let nap = Duration::from_micros(NAP_MICROSECONDS);
+    let mut idle = 0;
     for _ in rt.forever() {
         match seat.turn(gate, &mut work) {
             Turn::Stopped => break,
-            Turn::Did => {}
-            Turn::Nothing => thread::yield_now(),
+            Turn::Did => idle = 0,
+            Turn::Nothing if idle < PATIENCE => {
+                idle += 1;
+                thread::yield_now();
+            }
+            // No one wakes it, so that this ends with the time.
+            Turn::Nothing => bed.park_timeout(rt, nap),
         }
     }
     (seat, work)

@@ -1,7 +1,6 @@
 use Rattle.std.proofs.Common.{subst}
 use Rattle.lr_reading.specs.Rounds.{Goes}
 use Rattle.lr_reading.specs.declared.round.Round.{Round}
-use Rattle.lr_reading.specs.declared.round.Round.TheVariants.{Ended}
 use Rattle.lr_reading.proofs.Leading.{led_all}
 use Rattle.lr_reading.proofs.beside.read_on.Goals as goal
 

@@ -1,4 +1,4 @@
-use Rattle.std.proofs.Common.{◌≡◌, ◌∙◌, Bool, true, refl, sym, ap, subst, arith}
+use Rattle.std.proofs.Common.{◌∙◌, Bool, refl, ap, subst, arith}
 use Rattle.std.proofs.lemmas.Result.{err_from_is_err_and}
 use Rattle.lr_lock.specs.Windows.{WindowView}
 use Rattle.lr_frame.specs.declared.work.FrameDone.{FrameDone}

@@ -1,4 +1,4 @@
-use Rattle.std.proofs.Common.{◌≡◌, None, Some, refl, ap, arith, rules}
+use Rattle.std.proofs.Common.{◌≡◌, None, Some, refl, arith, rules}
 use Rattle.lr_gate.specs.Seats.{view_of}
 use Rattle.lr_reading.proofs.Jobs.{spare_left, spare_again, fewer_put}
 use Rattle.lr_reading.proofs.Leading.{few_put, puts_window, ends_input}
