@@ -18,6 +18,8 @@ mod reception;
 mod shelve;
 mod shelver;
 mod sums;
+mod team_files;
+mod team_lines;
 mod test_stream;
 mod trial_run;
 
@@ -28,5 +30,7 @@ pub use outcome_lines::decode;
 pub use output::Output;
 pub use packet_lines::packets;
 pub use reception::receive;
+pub use team_files::{receive_by_team, trial_by_team};
+pub use team_lines::decode_by_team;
 pub use test_stream::make;
 pub use trial_run::trial;

@@ -33,10 +33,10 @@ use lr_shelf::Shelf;
 use std::alloc::Global;
 
 /// How many bytes the shelf may have.
-const CAPACITY: u64 = 1_048_576;
+pub(crate) const CAPACITY: u64 = 1_048_576;
 
 /// The symbols of this many frames, each in a byte. Each of their blocks is received as its frame.
-fn stream(alloc: Global, start: u64, frames: u64, wrong: u8) -> Result<Vec<u8>, NoMemory>
+pub(crate) fn stream(alloc: Global, start: u64, frames: u64, wrong: u8) -> Result<Vec<u8>, NoMemory>
     requires few { frames ≤ 1024 }
     requires wrong { wrong ≤ 16 }
     ensures bytes { IfOk result (λ bytes. bytes.items ≡ made_bytes Output.Symbols start wrong frames) }

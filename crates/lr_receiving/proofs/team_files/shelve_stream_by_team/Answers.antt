@@ -1,0 +1,53 @@
+use Rattle.std.proofs.Common.{subst, Result, IfErr}
+use Rattle.std.proofs.lemmas.Result.{err_from_is_err_and}
+use Rattle.lr_shelf.specs.Load.{IsLoadRefusal}
+use Rattle.lr_shelf.specs.declared.shelf.Shelf.{Shelf}
+use Rattle.lr_shelf.specs.declared.error.ShelfError.{ShelfError}
+use Rattle.lr_reading.specs.declared.input.TheConstants.{MOST_BYTES as most_bytes}
+use Rattle.lr_receiving.proofs.Causing.{none_rose}
+use Rattle.lr_receiving.proofs.Trying.{init_refused, not_loaded, lines, all_done, some_done}
+use Rattle.lr_receiving.proofs.team_files.shelve_stream_by_team.Goals as goal
+
+pub returns-in_err-init-clause-stopped : goal.returns-in_err-init-clause-stopped
+returns-in_err-init-clause-stopped g c =
+    let p = err_from_is_err_and c.from_residual.result c.from_residual.ensures.1 in
+    rw (p.1, p.2)
+    (init_refused g.D.Disk c.args.symbols.items c.args.disk.now c.init.new.disk c.init.result
+    c.in_err-init.field-0.0 c.in_err-init.was c.init.ensures)
+
+pub returns-in_err-shelf-clause-stopped : goal.returns-in_err-shelf-clause-stopped
+returns-in_err-shelf-clause-stopped g c =
+    let p = err_from_is_err_and c.from_residual-in_err-shelf.result c.from_residual-in_err-shelf.ensures.1 in
+    rw (p.1, p.2)
+    (not_loaded g.D.Disk c.args.symbols.items c.args.disk.now c.init.new.disk c.init.result c.in_ok-init.was
+    c.init.ensures c.load.new.disk c.load.result c.load.ensures c.in_err-shelf.field-0.0 c.in_err-shelf.was
+    (subst (λ (r : Result Shelf ShelfError). IfErr r (IsLoadRefusal g.D.Disk c.init.new.disk))
+    c.in_err-shelf.was c.load.ensures.refused))
+
+pub returns-clause-line : goal.returns-clause-line
+returns-clause-line g c =
+    lines g.D.Disk c.args.symbols.items c.args.disk.now c.init.new.disk c.init.result c.in_ok-init.was
+    c.init.ensures c.load.new.disk c.load.result c.load.ensures _ _ most_bytes c.requires.few
+    c.in_ok-shelf.shelf c.in_ok-shelf.was
+    c.of-source.result c.receive_all_by_team.new.source tt c.of-source.ensures c.receive_all_by_team.new.disk c.new-lines.result
+    c.receive_all_by_team.new.out c.receive_all_by_team.new.shelf c.receive_all_by_team.result
+    (rw c.requires.input at c.receive_all_by_team.ensures.all) none_rose
+
+pub returns-clause-done : goal.returns-clause-done
+returns-clause-done g c =
+    all_done g.D.Disk c.args.symbols.items c.args.disk.now c.init.new.disk c.init.result c.in_ok-init.was
+    c.init.ensures c.load.new.disk c.load.result c.load.ensures _ _ most_bytes c.requires.few
+    c.in_ok-shelf.shelf c.in_ok-shelf.was
+    c.of-source.result c.receive_all_by_team.new.source tt c.of-source.ensures c.receive_all_by_team.new.disk c.new-lines.result
+    c.receive_all_by_team.new.out c.receive_all_by_team.new.shelf c.receive_all_by_team.result
+    (rw c.requires.input at c.receive_all_by_team.ensures.all) none_rose c.receive_all_by_team.ensures.counts
+
+pub returns-clause-stopped : goal.returns-clause-stopped
+returns-clause-stopped g c =
+    some_done g.D.Disk c.args.symbols.items c.args.disk.now c.init.new.disk c.init.result c.in_ok-init.was
+    c.init.ensures c.load.new.disk c.load.result c.load.ensures _ _ most_bytes c.requires.few
+    c.in_ok-shelf.shelf c.in_ok-shelf.was
+    c.of-source.result c.receive_all_by_team.new.source tt c.of-source.ensures c.receive_all_by_team.new.disk c.new-lines.result
+    c.receive_all_by_team.new.out c.receive_all_by_team.result
+    (rw c.requires.input at c.receive_all_by_team.ensures.some) none_rose c.requires.fit c.receive_all_by_team.ensures.kind _ _
+    _ _ c.receive_all_by_team.ensures.cause
