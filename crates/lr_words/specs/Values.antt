@@ -15,7 +15,7 @@ use Rattle.std.specs.Prelude.{
 use Rattle.std.specs.Str.{bytes_eq}
 use Rattle.clap.specs.Words.{Text}
 use Rattle.lr_conv.specs.declared.line.LineCode.{LineCode}
-use Rattle.lr_reading.specs.declared.crew.TheConstants.{MOST_WORKERS}
+use Rattle.lr_reading.specs.declared.team.TheConstants.{MOST_WORKERS}
 use Rattle.lr_reading.specs.declared.input.Input.{Input}
 use Rattle.lr_reading.specs.declared.input.Input.TheVariants.{Symbols, Units}
 use Rattle.lr_reading.specs.declared.input.UnitForm.TheVariants.{Blocks, Frames}

@@ -1,0 +1,26 @@
+use Rattle.std.proofs.Common.{rules, arith}
+use Rattle.lr_station.proofs.StatusLemmas.{says}
+use Rattle.lr_station.proofs.top.station_alone.Goals as goal
+
+pub returns : goal.returns
+returns g c =
+    let ran = c.run_words-cause.ensures in
+    record {
+      cause = c.run_words-cause.result;
+      runs = ran.runs;
+      caused = ran.caused;
+      told = c.tell.ensures.line;
+      answers = c.status.ensures;
+      source_failed = search (rules, arith);
+      disk_failed = search (rules, arith);
+      output_failed = search (rules, arith);
+      says = says g.S.Source g.D.Disk g.O.Sink c.args.source.now c.run_words-cause.new.source c.args.disk.now
+          c.run_words-cause.new.disk c.args.out.now c.run_words-cause.new.out _ c.run_words-cause.result
+          c.status.result c.status.ensures ran.runs ran.caused;
+      tell = record {
+        by_source = ran.told_by_source;
+        by_disk = ran.told_by_disk;
+        by_out = ran.told_by_out;
+        by_err = c.tell.ensures.told;
+      };
+    }
