@@ -1,8 +1,10 @@
 #!/bin/sh
 # The program over a real file: many small files are received, verified and extracted. Then rounds in which `receive` is
-# killed (SIGKILL) at a drawn moment: each file whose line was printed must be on the shelf, with its bytes.
+# killed (SIGKILL) at a drawn moment: each file whose line was printed must be on the shelf, with its bytes. Then as many
+# rounds over one shelf, which goes on from each kill to the next.
 # A kill leaves what the system was handed, so this tries the order of the writes, and not what a disk keeps of them.
-# Usage: trials/kill.sh [ROUNDS [FRAMES]] (20 rounds of 4,000 frames, each with one file). Needs rt and python3.
+# Usage: trials/kill.sh [ROUNDS [FRAMES]] (20 rounds of 4,000 frames, each with one file). It takes some 3 minutes, or as long as
+# the disk takes for 8 syncs a frame. Needs rt and python3.
 set -e
 top=$(cd "$(dirname "$0")/.." && pwd)
 rounds=${1:-20}
@@ -70,10 +72,10 @@ def verified():
     return len(lines) if good else None
 
 
-# whether some drawn ones of these first files, and the last two, are extracted as they were sent
-def extracts(count):
+# whether some drawn ones of these files, and the last two, are extracted as they were sent; the first one has this number
+def extracts(count, first=0):
     drawn = random.sample(range(count), min(20, count)) + list(range(count))[-2:]
-    return all(run("extract", str(k), stdout=subprocess.PIPE).stdout == proper(k) for k in drawn)
+    return all(run("extract", str(first + k), stdout=subprocess.PIPE).stdout == proper(k) for k in drawn)
 
 
 # receives all frames, or is killed so many seconds after its start; answers the seconds that it ran
@@ -120,6 +122,26 @@ for number in range(rounds):
     good += kept
     print("round %d: %s, status %d, %d files acknowledged" % (number, "passed" if kept else "FAILED", status, len(numbers)))
 print("%d of %d rounds passed, in %d of them the program was killed" % (good, rounds, killed))
-sys.exit(0 if passed and good == rounds else 1)
+
+
+# One shelf, on which every `receive` is killed: each adds the acknowledged files and at most one more, and the next one goes on
+# after them. The bases are the numbers at which the rounds began.
+make_shelf()
+bases = [0]
+on = 0
+for number in range(rounds):
+    status, _ = receive(random.uniform(0, whole))
+    numbers = acknowledged()
+    count = verified()
+    if count is None or numbers != list(range(bases[-1], bases[-1] + len(numbers))):
+        break
+    added = count - bases[-1]
+    if added - len(numbers) not in (0, 1) or not extracts(added, bases[-1]):
+        break
+    bases.append(count)
+    on += 1
+kept = on == rounds and all(extracts(end - begin, begin) for begin, end in zip(bases, bases[1:]))
+print("one shelf: %s, %d of %d rounds, %d files" % ("passed" if kept else "FAILED", on, rounds, bases[-1]))
+sys.exit(0 if passed and good == rounds and kept else 1)
 PYTHON
 python3 "$scratch/kill.py" "$scratch" "$rounds" "$frames"
