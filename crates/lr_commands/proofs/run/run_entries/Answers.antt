@@ -23,7 +23,7 @@ pub returns-in-Ok-take_entries : goal.returns-in-Ok-take_entries
 returns-in-Ok-take_entries g c =
     let asked = g.C.ReadsEntries.asked c.args.command.now in
     let note = c.in-Ok-take_entries.note in
-    rw c.done.ensures
+    rw c.done_with.ensures
     (over g.D.Disk g.O.Sink asked c.args.disk.now c.take_entries.new.disk c.args.out.now c.take_entries.new.out
     (done_with note)
     (loaded g.D.Disk g.O.Sink asked c.args.disk.now c.load.new.disk c.args.out.now c.load.result c.load.ensures
