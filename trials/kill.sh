@@ -34,7 +34,7 @@ def packet(apid, count, data):
     return bytes([apid >> 8, apid & 255, 0xC0 | count >> 8 & 63, count & 255]) + (len(data) - 1).to_bytes(2, "big") + data
 
 
-# the file of this number behind its transport header: 1 to 300 bytes
+# the file of this number after its transport header: 1 to 300 bytes
 def proper(number):
     return (number.to_bytes(4, "big") * 75)[:1 + number * 37 % 300]
 
@@ -103,7 +103,7 @@ passed = status == 0 and last == wanted and acknowledged() == list(range(frames)
 print("whole run: %s, %d files in %.2f s" % ("passed" if passed else "FAILED", frames, whole))
 
 
-# A shelf on which a `receive` was killed has the acknowledged files and at most one more, and takes the next ones behind them.
+# A shelf on which a `receive` was killed has the acknowledged files and at most one more, and takes the next ones after them.
 def keeps_all(numbers):
     count = verified()
     if count is None or numbers != list(range(len(numbers))) or count - len(numbers) not in (0, 1) or not extracts(count):

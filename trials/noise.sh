@@ -1,11 +1,12 @@
 #!/bin/sh
-# A long run of noise at constant memory: `receive` reads random symbols for SECONDS (180), in which some markers are found
-# by chance and their frames are lost. The resident memory of the process is read after the first tenth of the time and at
-# the end, and must not have grown by more than 64 KiB; then the noise ends, and the last line must say that as many symbols
-# came as frames, of which none was restored.
-# It takes SECONDS and a little more. Usage: trials/noise.sh [SECONDS]. Needs rt, and Linux for /proc.
+# A long run of noise at constant memory: `receive` reads this many random symbols, in which some markers are found by chance
+# and their frames are lost. The resident memory of the process is read each second; from the fifth second on it must not grow
+# by more than 64 KiB. The last line must say that all symbols were read and that no frame was restored, and the shelf must
+# stay empty.
+# Usage: trials/noise.sh [SYMBOLS] (86,400,000,000, which are 24 hours at a million symbols a second). It takes some ten
+# seconds for each thousand million symbols, or as long as /dev/urandom takes for them. Needs rt, and Linux for /proc.
 top=$(cd "$(dirname "$0")/.." && pwd)
-seconds=${1:-180}
+symbols=${1:-86400000000}
 if [ ! -r /proc/self/status ] || [ ! -r /dev/urandom ]; then
     echo "/proc or /dev/urandom is missing: no noise was tried"
     exit 0
@@ -25,23 +26,23 @@ fail() {
 mkfifo noise
 "$station" shelf receive < noise > out 2> err &
 receiver=$!
-cat /dev/urandom > noise 2> noise.log &
-source=$!
+head -c "$symbols" /dev/urandom > noise 2> noise.log &
 
-# the resident memory of the receiver, in KiB
-resident() { awk '/^VmRSS/ { print $2 }' "/proc/$receiver/status"; }
-
-sleep $((seconds / 10 + 1))
-first=$(resident)
-sleep $((seconds - seconds / 10))
-last=$(resident)
-kill "$source"
+# the resident memory of the receiver, in KiB, each second until it ends
+start=$(date +%s)
+: > resident
+while kill -0 "$receiver" 2> gone.log; do
+    awk '/^VmRSS/ { print $2 }' "/proc/$receiver/status" >> resident 2> gone.log
+    sleep 1
+done
 wait "$receiver"
 status=$?
-echo "resident memory: $first KiB at first, $last KiB at last"
+awk -v seconds=$(($(date +%s) - start)) '
+    NR >= 5 { if (!first) first = $1; if ($1 > most) most = $1 }
+    END { printf "%d seconds, resident memory %d KiB in the fifth second, %d KiB at most from then on\n", seconds, first, most
+          exit most > first + 64 }' resident || fail "its memory grew"
 cat out
 [ "$status" = 0 ] || fail "it ended with $status: $(cat err)"
-[ $((last - first)) -le 64 ] || fail "it grew by $((last - first)) KiB"
-grep -Eq '^symbols [0-9]+ frames ([0-9]+) restored 0 lost \1 packets 0 files 0 left 0 stop end$' out || fail "the last line"
+grep -Eq "^symbols $symbols frames ([0-9]+) restored 0 lost \\1 packets 0 files 0 left 0 stop end\$" out || fail "the last line"
 [ "$(wc -c < shelf)" = 20 ] || fail "something is on the shelf"
 echo "trials/noise.sh: passed"

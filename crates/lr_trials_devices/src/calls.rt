@@ -44,7 +44,7 @@ const CALLS: u64 = 400;
 
 /// What a call reads, the places at which its source and its `out` fail once, and the room of `err`. A frame is filled
 /// up with zeros.
-#[derive(Clone, Copy)]
+#[derive(Drop)]
 pub(crate) struct Call<'a> {
     pub(crate) words: &'a [&'a str],
     pub(crate) frames: &'a [&'a [u8]],

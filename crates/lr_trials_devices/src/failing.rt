@@ -14,7 +14,7 @@ const INPUT: u64 = 1_784;
 const STRIDE: u64 = 4;
 
 /// What fails.
-#[derive(Clone, Copy)]
+#[derive(Drop)]
 enum Device {
     Disk,
     Source,
@@ -105,7 +105,7 @@ fn source_fails(alloc: Global, job: &Job, place: u64) -> Result<Option<bool>, Tr
 }
 
 /// Whether the job ends as it should, wherever the device fails. It is asked at one place at least.
-fn ends(alloc: Global, job: &Job, device: Device) -> Result<bool, Trouble> {
+fn ends(alloc: Global, job: &Job, device: &Device) -> Result<bool, Trouble> {
     for place in 0..PAST {
         let answer = match device {
             Device::Disk => disk_fails(alloc, job, place)?,
@@ -124,24 +124,24 @@ fn ends(alloc: Global, job: &Job, device: Device) -> Result<bool, Trouble> {
 #[test]
 fn a_disk_that_fails_keeps_what_was_acknowledged(rt: HostRuntime) {
     let alloc = rt.alloc();
-    assert!(rt; holds(ends(alloc, &RECEIVE, Device::Disk)));
-    assert!(rt; holds(ends(alloc, &INIT, Device::Disk)));
-    assert!(rt; holds(ends(alloc, &DISCARD, Device::Disk)));
-    assert!(rt; holds(ends(alloc, &TRIAL, Device::Disk)));
+    assert!(rt; holds(ends(alloc, &RECEIVE, &Device::Disk)));
+    assert!(rt; holds(ends(alloc, &INIT, &Device::Disk)));
+    assert!(rt; holds(ends(alloc, &DISCARD, &Device::Disk)));
+    assert!(rt; holds(ends(alloc, &TRIAL, &Device::Disk)));
 }
 
 #[test]
 fn an_output_that_fails_takes_nothing_back(rt: HostRuntime) {
     let alloc = rt.alloc();
-    assert!(rt; holds(ends(alloc, &RECEIVE, Device::Out)));
-    assert!(rt; holds(ends(alloc, &INIT, Device::Out)));
-    assert!(rt; holds(ends(alloc, &DISCARD, Device::Out)));
-    assert!(rt; holds(ends(alloc, &TRIAL, Device::Out)));
+    assert!(rt; holds(ends(alloc, &RECEIVE, &Device::Out)));
+    assert!(rt; holds(ends(alloc, &INIT, &Device::Out)));
+    assert!(rt; holds(ends(alloc, &DISCARD, &Device::Out)));
+    assert!(rt; holds(ends(alloc, &TRIAL, &Device::Out)));
 }
 
 #[test]
 fn a_source_that_fails_leaves_the_files_of_whole_frames(rt: HostRuntime) {
-    assert!(rt; holds(ends(rt.alloc(), &RECEIVE, Device::Source)));
+    assert!(rt; holds(ends(rt.alloc(), &RECEIVE, &Device::Source)));
 }
 
 /// `err` takes nothing, and the shelf is one byte too small for the file.

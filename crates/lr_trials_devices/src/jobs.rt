@@ -39,7 +39,6 @@ files 3 used 854 capacity 1048576\n",
 ];
 
 /// The station's work on a disk.
-#[derive(Clone, Copy)]
 pub(crate) struct Job {
     pub(crate) words: &'static [&'static str],
     /// What the disk holds before.
