@@ -78,8 +78,13 @@ def extracts(count, first=0):
     return all(run("extract", str(first + k), stdout=subprocess.PIPE).stdout == proper(k) for k in drawn)
 
 
-# receives all frames, or is killed so many seconds after its start; answers the seconds that it ran
+# the seconds of the shortest run so far that came to its end
+shortest = float("inf")
+
+
+# receives all frames, or is killed so many seconds after its start
 def receive(after=None):
+    global shortest
     begin = time.monotonic()
     with open(stream, "rb") as source, open(out, "wb") as lines:
         running = subprocess.Popen([program, shelf, "receive", "--input", "frames"], stdin=source, stdout=lines)
@@ -88,19 +93,26 @@ def receive(after=None):
         except subprocess.TimeoutExpired:
             running.kill()
             running.wait()
-    return running.returncode, time.monotonic() - begin
+    if running.returncode == 0:
+        shortest = min(shortest, time.monotonic() - begin)
+    return running.returncode
+
+
+# receives frames, and is killed at a drawn moment
+def receive_some():
+    return receive(random.uniform(0, shortest))
 
 
 with open(stream, "wb") as target:
     for number in range(frames):
         target.write(frame(number))
 make_shelf()
-status, whole = receive()
+status = receive()
 with open(out, "rb") as lines:
     last = lines.read().split(b"\n")[-2].decode()
 wanted = "symbols %d frames %d restored %d lost 0 packets %d files %d left 0 stop end" % (892 * frames, *[frames] * 4)
 passed = status == 0 and last == wanted and acknowledged() == list(range(frames)) and verified() == frames and extracts(frames)
-print("whole run: %s, %d files in %.2f s" % ("passed" if passed else "FAILED", frames, whole))
+print("whole run: %s, %d files in %.2f s" % ("passed" if passed else "FAILED", frames, shortest))
 
 
 # A shelf on which a `receive` was killed has the acknowledged files and at most one more, and takes the next ones after them.
@@ -108,14 +120,14 @@ def keeps_all(numbers):
     count = verified()
     if count is None or numbers != list(range(len(numbers))) or count - len(numbers) not in (0, 1) or not extracts(count):
         return False
-    status, _ = receive()
+    status = receive()
     return status == 0 and acknowledged() == list(range(count, count + frames)) and verified() == count + frames
 
 
 good = killed = 0
 for number in range(rounds):
     make_shelf()
-    status, _ = receive(random.uniform(0, whole))
+    status = receive_some()
     numbers = acknowledged()
     killed += status == -9
     kept = keeps_all(numbers)
@@ -128,9 +140,10 @@ print("%d of %d rounds passed, in %d of them the program was killed" % (good, ro
 # after them. The bases are the numbers at which the rounds began.
 make_shelf()
 bases = [0]
-on = 0
+on = ended = 0
 for number in range(rounds):
-    status, _ = receive(random.uniform(0, whole))
+    status = receive_some()
+    ended += status == -9
     numbers = acknowledged()
     count = verified()
     if count is None or numbers != list(range(bases[-1], bases[-1] + len(numbers))):
@@ -141,7 +154,9 @@ for number in range(rounds):
     bases.append(count)
     on += 1
 kept = on == rounds and all(extracts(end - begin, begin) for begin, end in zip(bases, bases[1:]))
-print("one shelf: %s, %d of %d rounds, %d files" % ("passed" if kept else "FAILED", on, rounds, bases[-1]))
-sys.exit(0 if passed and good == rounds and kept else 1)
+print("one shelf: %s, %d of %d rounds, killed in %d, %d files" % ("passed" if kept else "FAILED", on, rounds, ended, bases[-1]))
+if killed + ended == 0:
+    print("no run was killed: nothing was tried")
+sys.exit(0 if passed and good == rounds and kept and killed + ended > 0 else 1)
 PYTHON
 python3 "$scratch/kill.py" "$scratch" "$rounds" "$frames"

@@ -11,7 +11,7 @@ pub(crate) type Step = (&'static [&'static str], u8, &'static str);
 pub(crate) fn follows(
     alloc: Global,
     disk: &mut MemDisk,
-    frames: &[&[u8]],
+    frames: &'static [&'static [u8]],
     steps: &[Step],
 ) -> Result<bool, Trouble> {
     for (words, status, text) in steps {
