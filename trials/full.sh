@@ -4,7 +4,7 @@
 # all fits, each file whose line was printed must be there, and the shelf must go on once there is room. `receive`, `list`,
 # `show`, `verify` and `extract` run with a full and a closed output and with a reader that leaves, and must end with 5, with the
 # shelf's bytes unchanged, or of `receive` with the acknowledged files on it.
-# It takes some 20 seconds. What needs a tool that is missing is skipped, with a word. Usage: trials/full.sh. Needs rt.
+# It takes some ten seconds, or as the disk syncs. What needs a tool that is missing is skipped, with a word. Usage: trials/full.sh. Needs rt.
 top=$(cd "$(dirname "$0")/.." && pwd)
 scratch=$(mktemp -d) || exit 1
 mounted=
@@ -73,6 +73,9 @@ fi
 "$station" shelf init 1000000 > out || fail "init"
 "$station" shelf receive < stream > out || fail "receive"
 cp shelf before
+# the descriptor 4 is a pipe whose reader has left
+mkfifo left
+exec 3<> left 4> left 3>&-
 # outputs INPUT WORDS: these words end with 5 wherever the output fails
 outputs() {
     input=$1
@@ -86,8 +89,9 @@ outputs() {
     "$station" shelf "$@" < "$input" >&- 2> err
     status=$?
     [ "$status" = 5 ] && [ "$(cat err)" = "station: output failed" ] || fail "$1 without an output ended with $status"
-    (trap '' PIPE; "$station" shelf "$@" < "$input" 2> err; echo $? > status) | true
-    [ "$(cat status)" = 5 ] && [ "$(cat err)" = "station: output failed" ] || fail "$1 into nothing ended with $(cat status)"
+    (trap '' PIPE; exec "$station" shelf "$@" < "$input" >&4 2> err)
+    status=$?
+    [ "$status" = 5 ] && [ "$(cat err)" = "station: output failed" ] || fail "$1 without a reader ended with $status"
     cases=$((cases + 2))
 }
 [ -w /dev/full ] || echo "/dev/full is missing: no full output was tried"
