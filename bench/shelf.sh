@@ -57,13 +57,13 @@ for run in $(seq "$runs"); do
 done
 awk -v load="$load" -v line="$(cat line)" 'BEGIN { printf "load: %s, %.1f ms\n", line, load / 1e6 }'
 
-# one load from memory: what 21 loads take more than one, by 20
+# one load from memory: what 201 loads take more than one, by 200
 one= more=
 for run in $(seq "$runs"); do
     one=$(least "$one" "$(nanoseconds "$ours" shelf-loads 1)")
-    more=$(least "$more" "$(nanoseconds "$ours" shelf-loads 21)")
+    more=$(least "$more" "$(nanoseconds "$ours" shelf-loads 201)")
 done
-awk -v one="$one" -v more="$more" 'BEGIN { printf "load from memory: 100000 files, %.1f ms\n", (more - one) / 20 / 1e6 }'
+awk -v one="$one" -v more="$more" 'BEGIN { printf "load from memory: 100000 files, %.1f ms\n", (more - one) / 200 / 1e6 }'
 
 # the greatest resident memory, in KiB, of a process that loads this many files
 resident() {
