@@ -4,7 +4,8 @@
 # all fits, each file whose line was printed must be there, and the shelf must go on once there is room. `receive`, `list`,
 # `show`, `verify` and `extract` run with a full and a closed output and with a reader that leaves, and must end with 5, with the
 # shelf's bytes unchanged, or of `receive` with the acknowledged files on it.
-# It takes some ten seconds, or as the disk syncs. What needs a tool that is missing is skipped, with a word. Usage: trials/full.sh. Needs rt.
+# It takes some ten seconds, or as the disk syncs. What needs a tool that is missing is skipped, with a word.
+# Usage: trials/full.sh. Needs rt.
 top=$(cd "$(dirname "$0")/.." && pwd)
 scratch=$(mktemp -d) || exit 1
 mounted=

@@ -4,7 +4,7 @@
 # rounds over one shelf, which goes on from each kill to the next.
 # A kill leaves what the system was handed, so this tries the order of the writes, and not what a disk keeps of them.
 # Usage: trials/kill.sh [ROUNDS [FRAMES]] (20 rounds of 4,000 frames, each with one file). It takes as long as the disk takes for
-# 4 syncs of each frame in each round: three minutes for 12 rounds of 600 frames, and up to 20 by default. Needs rt and python3.
+# 4 syncs of each frame in each round: two minutes for 20 rounds of 600 frames, and some 15 by default. Needs rt and python3.
 set -e
 top=$(cd "$(dirname "$0")/.." && pwd)
 rounds=${1:-20}

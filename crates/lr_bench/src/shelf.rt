@@ -118,7 +118,7 @@ fn many(alloc: Global, files: u64, calls: u64) -> Result<MemDisk, Trouble> {
 }
 
 /// Loads a shelf in memory this often.
-fn loaded_again(alloc: Global, rounds: u64) -> Result<Shelf, Trouble> {
+fn load_again(alloc: Global, rounds: u64) -> Result<Shelf, Trouble> {
     let mut disk = many(alloc, MANY, rounds.saturating_mul(LOAD_CALLS))?;
     let mut shelf = Shelf::load(alloc, &mut disk)?;
     for _ in 1..rounds {
@@ -128,7 +128,7 @@ fn loaded_again(alloc: Global, rounds: u64) -> Result<Shelf, Trouble> {
 }
 
 /// Verifies a shelf in memory of this many files, and prints how many calls of the disk its load and its files took.
-fn verified(rt: &HostRuntime, files: u64) -> Result<(), Trouble> {
+fn count_reads(rt: &HostRuntime, files: u64) -> Result<(), Trouble> {
     let alloc = rt.alloc();
     let calls = files.saturating_mul(4).saturating_add(2 * LOAD_CALLS);
     let mut disk = many(alloc, files, calls)?;
@@ -146,8 +146,8 @@ pub fn run(rt: &HostRuntime, name: &str, rounds: u64) -> Result<(), Trouble> {
         "shelf-memory" | "all" => in_memory(rt.alloc(), rounds)?,
         "shelf-file" => in_file(rt, rounds)?,
         "shelf-load" => loaded(rt)?,
-        "shelf-loads" => loaded_again(rt.alloc(), rounds)?,
-        "shelf-verify" => return verified(rt, rounds),
+        "shelf-loads" => load_again(rt.alloc(), rounds)?,
+        "shelf-verify" => return count_reads(rt, rounds),
         _ => return Ok(()),
     };
     let files = shelf.len();

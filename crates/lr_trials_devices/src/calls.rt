@@ -77,7 +77,7 @@ pub(crate) fn reading<'a>(words: &'a [&'a str], frames: &'a [&'a [u8]]) -> Call<
     }
 }
 
-fn owned(alloc: Global, words: &[&str]) -> Result<Vec<String>, AllocError> {
+fn owned_words(alloc: Global, words: &[&str]) -> Result<Vec<String>, AllocError> {
     let mut all = Vec::new(alloc);
     for word in words {
         all.push(String::from_str(alloc, word)?)?;
@@ -118,7 +118,7 @@ pub(crate) fn run_from<S: Source>(
     call: Call<'_>,
     source: &mut S,
 ) -> Result<Printed, Trouble> {
-    let words = owned(alloc, call.words)?;
+    let words = owned_words(alloc, call.words)?;
     let mut out = sink_of(alloc, call.out_fails, OUT_ROOM)?;
     let mut err = sink_of(alloc, NEVER, call.err_room)?;
     let status = station(alloc, &words, source, disk, &mut out, &mut err);
@@ -161,6 +161,6 @@ pub(crate) fn is_front(printed: &Printed, text: &str) -> bool {
 }
 
 /// Whether a call ended with this status and this line on `err`.
-pub(crate) fn ended(printed: &Printed, status: u8, line: &str) -> bool {
+pub(crate) fn ends_so(printed: &Printed, status: u8, line: &str) -> bool {
     printed.status == status && printed.err.as_slice() == line.as_bytes()
 }

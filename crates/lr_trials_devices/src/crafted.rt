@@ -1,5 +1,5 @@
 //! Shelves that no station wrote, each refused by its cause. The checksums are those of `reference/shelf.py`.
-use crate::calls::{Trouble, disk, ended, holds, is_out, reading, run};
+use crate::calls::{Trouble, disk, ends_so, holds, is_out, reading, run};
 use crate::steps::{Step, follows};
 use lr_disk::MemDisk;
 use std::alloc::Global;
@@ -74,7 +74,7 @@ fn are_refused(
     for items in all {
         let mut made = shelf_of(alloc, front, items, back)?;
         let printed = run(alloc, &mut made, reading(&["list"], &[]))?;
-        if !ended(&printed, 6, line) || !is_out(&printed, "") {
+        if !ends_so(&printed, 6, line) || !is_out(&printed, "") {
             return Ok(false);
         }
     }
@@ -127,7 +127,7 @@ const DAMAGED_ITEM: &[u8] = b"\x01\x80\x00\x00\x64\x00\x00\x00\x01\x00\x00\x00\x
 const DAMAGED_ROOM: usize = 600_000;
 
 /// A shelf of damaged items, and what stands from the last gate on.
-fn damaged(alloc: Global, last: &[u8]) -> Result<MemDisk, Trouble> {
+fn damaged_shelf(alloc: Global, last: &[u8]) -> Result<MemDisk, Trouble> {
     let mut bytes = HEADER.to_vec(alloc)?;
     for _ in 0..DAMAGED {
         bytes.extend_from_slice(DAMAGED_ITEM)?;
@@ -155,7 +155,7 @@ static PASSED: [Step; 4] = [
 static BROKEN_OFF: [Step; 1] = [(&["extract", "0"], 6, "station: not a shelf at 510019\n")];
 
 fn follows_damaged(alloc: Global, last: &[u8], steps: &[Step]) -> Result<bool, Trouble> {
-    follows(alloc, &mut damaged(alloc, last)?, &[], steps)
+    follows(alloc, &mut damaged_shelf(alloc, last)?, &[], steps)
 }
 
 #[test]

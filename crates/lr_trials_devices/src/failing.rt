@@ -1,5 +1,5 @@
 //! The disk, the source or `out` fails once, at each place in turn.
-use crate::calls::{Call, Trouble, disk, ended, holds, is_front, is_out, lines, reading, run};
+use crate::calls::{Call, Trouble, disk, ends_so, holds, is_front, is_out, lines, reading, run};
 use crate::given::{FILE_7, FILE_8, FRAMES};
 use crate::jobs::{DISCARD, INIT, Job, RECEIVE, TRIAL, progress};
 use crate::steps::follows;
@@ -28,7 +28,7 @@ fn call_of(job: &Job) -> Call<'static> {
 
 /// What is said of a job that was done: nothing where its device wasn't asked at this place, and else that it should
 /// have ended otherwise.
-fn done(was_asked: bool) -> Option<bool> {
+fn verdict_when_done(was_asked: bool) -> Option<bool> {
     if was_asked { Some(false) } else { None }
 }
 
@@ -38,12 +38,12 @@ fn disk_fails(alloc: Global, job: &Job, number: u64) -> Result<Option<bool>, Tro
     made.fail_at(number);
     let printed = run(alloc, &mut made, call_of(job))?;
     if printed.status == 0 {
-        return Ok(done(number < made.calls()));
+        return Ok(verdict_when_done(number < made.calls()));
     }
     let mut left = disk(alloc, made.as_slice())?;
     let reached = progress(alloc, job, &mut left)?;
     Ok(Some(
-        ended(&printed, 4, "station: disk failed\n")
+        ends_so(&printed, 4, "station: disk failed\n")
             && is_front(&printed, job.text)
             && reached.is_some_and(|place| lines(&printed) <= place),
     ))
@@ -57,7 +57,7 @@ fn out_fails(alloc: Global, job: &Job, place: u64) -> Result<Option<bool>, Troub
     let printed = run(alloc, &mut made, call)?;
     let put = printed.out.as_slice().len() as u64;
     if printed.status == 0 {
-        return Ok(done(place < put));
+        return Ok(verdict_when_done(place < put));
     }
     let wanted = if job.text.starts_with("shelved") {
         lines(&printed).saturating_add(1).min(job.whole)
@@ -67,7 +67,7 @@ fn out_fails(alloc: Global, job: &Job, place: u64) -> Result<Option<bool>, Troub
     let mut left = disk(alloc, made.as_slice())?;
     let reached = progress(alloc, job, &mut left)?;
     Ok(Some(
-        ended(&printed, 5, "station: output failed\n")
+        ends_so(&printed, 5, "station: output failed\n")
             && put == place
             && is_front(&printed, job.text)
             && reached == Some(wanted),
@@ -89,14 +89,14 @@ fn source_fails(alloc: Global, job: &Job, place: u64) -> Result<Option<bool>, Tr
     call.source_fails = place;
     let printed = run(alloc, &mut made, call)?;
     if printed.status == 0 {
-        return Ok(done(place <= INPUT));
+        return Ok(verdict_when_done(place <= INPUT));
     }
     let whole = (place / 892).min(2) as usize;
     let mut left = disk(alloc, made.as_slice())?;
     let reached = progress(alloc, job, &mut left)?;
     let out = printed.out.as_slice();
     Ok(Some(
-        ended(&printed, 3, "station: source failed\n")
+        ends_so(&printed, 3, "station: source failed\n")
             && out.starts_with(LINES[whole].as_bytes())
             && out.ends_with(b" stop fault\n")
             && lines(&printed) == whole + 1
@@ -156,7 +156,7 @@ fn err_fails(alloc: Global) -> Result<bool, Trouble> {
     let mut call = reading(&FRAMES, &[FILE_7]);
     call.err_room = 0;
     let printed = run(alloc, &mut made, call)?;
-    Ok(small && ended(&printed, 10, "") && is_out(&printed, ""))
+    Ok(small && ends_so(&printed, 10, "") && is_out(&printed, ""))
 }
 
 #[test]

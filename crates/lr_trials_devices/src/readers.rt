@@ -1,5 +1,5 @@
 //! A source over a reader that fails once.
-use crate::calls::{Trouble, bytes_of, disk, ended, holds, is_out, reading, run_from};
+use crate::calls::{Trouble, bytes_of, disk, ends_so, holds, is_out, reading, run_from};
 use crate::given::{EMPTY, FILE_7, FILE_8, FRAMES};
 use lr_io::{ReadSource, Source};
 use std::alloc::Global;
@@ -29,7 +29,7 @@ impl Read for FailsOnce {
 }
 
 /// A source of these bytes, of which the second read fails.
-fn failing(bytes: Vec<u8>) -> ReadSource<FailsOnce> {
+fn failing_source(bytes: Vec<u8>) -> ReadSource<FailsOnce> {
     ReadSource::of(FailsOnce {
         bytes,
         at: 0,
@@ -46,7 +46,7 @@ fn take<S: Source>(source: &mut S) -> Option<(usize, u8)> {
 
 /// Three bytes, with a failure between the first two and the third: nothing is lost.
 fn loses_nothing(alloc: Global) -> Result<bool, Trouble> {
-    let mut source = failing([7, 8, 9].to_vec(alloc)?);
+    let mut source = failing_source([7, 8, 9].to_vec(alloc)?);
     let first = take(&mut source) == Some((2, 7));
     let failed = take(&mut source).is_none();
     let last = take(&mut source) == Some((1, 9));
@@ -59,9 +59,9 @@ symbols 892 frames 1 restored 1 lost 0 packets 1 files 1 left 0 stop fault\n";
 /// Of two frames the first is read, and then the reader fails: the station doesn't ask again.
 fn ends_the_input(alloc: Global) -> Result<bool, Trouble> {
     let mut made = disk(alloc, EMPTY)?;
-    let mut source = failing(bytes_of(alloc, &[FILE_7, FILE_8])?);
+    let mut source = failing_source(bytes_of(alloc, &[FILE_7, FILE_8])?);
     let printed = run_from(alloc, &mut made, reading(&FRAMES, &[]), &mut source)?;
-    Ok(ended(&printed, 3, "station: source failed\n") && is_out(&printed, ONE_FILE))
+    Ok(ends_so(&printed, 3, "station: source failed\n") && is_out(&printed, ONE_FILE))
 }
 
 #[test]

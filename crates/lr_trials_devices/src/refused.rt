@@ -1,5 +1,5 @@
 //! Each job with the memory that there is. `trials/memory.sh` refuses each request for memory in turn.
-use crate::calls::{Trouble, disk, ended, is_front, is_out, lines, reading, run};
+use crate::calls::{Trouble, disk, ends_so, is_front, is_out, lines, reading, run};
 use crate::given::{FILE_7, FILE_8};
 use crate::jobs::{DISCARD, INIT, Job, RECEIVE, TRIAL, progress};
 use std::alloc::Global;
@@ -13,11 +13,11 @@ fn ends(alloc: Global, job: &Job) -> Result<bool, Trouble> {
     let Some(reached) = progress(alloc, job, &mut left)? else {
         return Ok(false);
     };
-    if ended(&printed, 0, "") {
+    if ends_so(&printed, 0, "") {
         return Ok(reached == job.whole && is_out(&printed, job.text));
     }
     let acknowledged = lines(&printed) == reached || job.text.starts_with("symbols");
-    Ok(ended(&printed, 9, "station: no memory\n") && is_front(&printed, job.text) && acknowledged)
+    Ok(ends_so(&printed, 9, "station: no memory\n") && is_front(&printed, job.text) && acknowledged)
 }
 
 /// Whether the job ends so, or the trial itself was refused memory.

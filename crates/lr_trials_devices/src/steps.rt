@@ -1,5 +1,5 @@
 //! Calls one after another, and what each must print.
-use crate::calls::{Trouble, ended, is_out, reading, run};
+use crate::calls::{Trouble, ends_so, is_out, reading, run};
 use lr_disk::MemDisk;
 use std::alloc::Global;
 
@@ -21,7 +21,7 @@ pub(crate) fn follows(
         } else {
             ("", *text)
         };
-        if !ended(&printed, *status, line) || !is_out(&printed, out) {
+        if !ends_so(&printed, *status, line) || !is_out(&printed, out) {
             return Ok(false);
         }
     }

@@ -1,5 +1,5 @@
 //! A stop inside each call of the disk in turn.
-use crate::calls::{Trouble, disk, ended, holds, is_out, reading, run};
+use crate::calls::{Trouble, disk, ends_so, holds, is_out, reading, run};
 use crate::given::{FILE_7, FILE_8, FRAMES};
 use crate::jobs::{DISCARD, INIT, Job, RECEIVE, TRIAL, progress};
 use lr_disk::MemDisk;
@@ -9,7 +9,7 @@ use std::alloc::Global;
 fn whole(alloc: Global, job: &Job) -> Result<MemDisk, Trouble> {
     let mut made = disk(alloc, job.before)?;
     let printed = run(alloc, &mut made, reading(job.words, &[FILE_7, FILE_8]))?;
-    if ended(&printed, 0, "") && is_out(&printed, job.text) {
+    if ends_so(&printed, 0, "") && is_out(&printed, job.text) {
         Ok(made)
     } else {
         Err(Trouble::NotMade)
@@ -17,7 +17,7 @@ fn whole(alloc: Global, job: &Job) -> Result<MemDisk, Trouble> {
 }
 
 /// What a stop inside this call leaves.
-fn stopped(alloc: Global, made: &MemDisk, call: u64, kind: u8) -> Result<MemDisk, Trouble> {
+fn disk_after_stop(alloc: Global, made: &MemDisk, call: u64, kind: u8) -> Result<MemDisk, Trouble> {
     if call >= made.calls() || kind > 2 {
         return Err(Trouble::NotMade);
     }
@@ -50,7 +50,7 @@ fn is_harmless(
     call: u64,
     kind: u8,
 ) -> Result<bool, Trouble> {
-    let mut left = stopped(alloc, made, call, kind)?;
+    let mut left = disk_after_stop(alloc, made, call, kind)?;
     match progress(alloc, job, &mut left)? {
         Some(reached) => goes_on(alloc, &mut left, if job.adds { reached } else { 2 }),
         None => Ok(false),
