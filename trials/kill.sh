@@ -1,8 +1,10 @@
 #!/bin/sh
 # The program over a real file: many small files are received, verified and extracted. Then rounds in which `receive` is
-# killed (SIGKILL) at a drawn moment: each file whose line was printed must be on the shelf, with its bytes.
+# killed (SIGKILL) at a drawn moment: each file whose line was printed must be on the shelf, with its bytes. Then as many
+# rounds over one shelf, which goes on from each kill to the next.
 # A kill leaves what the system was handed, so this tries the order of the writes, and not what a disk keeps of them.
-# Usage: trials/kill.sh [ROUNDS [FRAMES]] (20 rounds of 4,000 frames, each with one file). Needs rt and python3.
+# Usage: trials/kill.sh [ROUNDS [FRAMES]] (20 rounds of 4,000 frames, each with one file). It takes as long as the disk takes for
+# 4 syncs of each frame in each round: two minutes for 20 rounds of 600 frames, and some 15 by default. Needs rt and python3.
 set -e
 top=$(cd "$(dirname "$0")/.." && pwd)
 rounds=${1:-20}
@@ -32,7 +34,7 @@ def packet(apid, count, data):
     return bytes([apid >> 8, apid & 255, 0xC0 | count >> 8 & 63, count & 255]) + (len(data) - 1).to_bytes(2, "big") + data
 
 
-# the file of this number behind its transport header: 1 to 300 bytes
+# the file of this number after its transport header: 1 to 300 bytes
 def proper(number):
     return (number.to_bytes(4, "big") * 75)[:1 + number * 37 % 300]
 
@@ -70,14 +72,19 @@ def verified():
     return len(lines) if good else None
 
 
-# whether some drawn ones of these first files, and the last two, are extracted as they were sent
-def extracts(count):
+# whether some drawn ones of these files, and the last two, are extracted as they were sent; the first one has this number
+def extracts(count, first=0):
     drawn = random.sample(range(count), min(20, count)) + list(range(count))[-2:]
-    return all(run("extract", str(k), stdout=subprocess.PIPE).stdout == proper(k) for k in drawn)
+    return all(run("extract", str(first + k), stdout=subprocess.PIPE).stdout == proper(k) for k in drawn)
 
 
-# receives all frames, or is killed so many seconds after its start; answers the seconds that it ran
+# the seconds of the shortest run so far that came to its end
+shortest = float("inf")
+
+
+# receives all frames, or is killed so many seconds after its start
 def receive(after=None):
+    global shortest
     begin = time.monotonic()
     with open(stream, "rb") as source, open(out, "wb") as lines:
         running = subprocess.Popen([program, shelf, "receive", "--input", "frames"], stdin=source, stdout=lines)
@@ -86,40 +93,70 @@ def receive(after=None):
         except subprocess.TimeoutExpired:
             running.kill()
             running.wait()
-    return running.returncode, time.monotonic() - begin
+    if running.returncode == 0:
+        shortest = min(shortest, time.monotonic() - begin)
+    return running.returncode
+
+
+# receives frames, and is killed at a drawn moment
+def receive_some():
+    return receive(random.uniform(0, shortest))
 
 
 with open(stream, "wb") as target:
     for number in range(frames):
         target.write(frame(number))
 make_shelf()
-status, whole = receive()
+status = receive()
 with open(out, "rb") as lines:
     last = lines.read().split(b"\n")[-2].decode()
 wanted = "symbols %d frames %d restored %d lost 0 packets %d files %d left 0 stop end" % (892 * frames, *[frames] * 4)
 passed = status == 0 and last == wanted and acknowledged() == list(range(frames)) and verified() == frames and extracts(frames)
-print("whole run: %s, %d files in %.2f s" % ("passed" if passed else "FAILED", frames, whole))
+print("whole run: %s, %d files in %.2f s" % ("passed" if passed else "FAILED", frames, shortest))
 
 
-# A shelf on which a `receive` was killed has the acknowledged files and at most one more, and takes the next ones behind them.
+# A shelf on which a `receive` was killed has the acknowledged files and at most one more, and takes the next ones after them.
 def keeps_all(numbers):
     count = verified()
     if count is None or numbers != list(range(len(numbers))) or count - len(numbers) not in (0, 1) or not extracts(count):
         return False
-    status, _ = receive()
+    status = receive()
     return status == 0 and acknowledged() == list(range(count, count + frames)) and verified() == count + frames
 
 
 good = killed = 0
 for number in range(rounds):
     make_shelf()
-    status, _ = receive(random.uniform(0, whole))
+    status = receive_some()
     numbers = acknowledged()
     killed += status == -9
     kept = keeps_all(numbers)
     good += kept
     print("round %d: %s, status %d, %d files acknowledged" % (number, "passed" if kept else "FAILED", status, len(numbers)))
 print("%d of %d rounds passed, in %d of them the program was killed" % (good, rounds, killed))
-sys.exit(0 if passed and good == rounds else 1)
+
+
+# One shelf, on which every `receive` is killed: each adds the acknowledged files and at most one more, and the next one goes on
+# after them. The bases are the numbers at which the rounds began.
+make_shelf()
+bases = [0]
+on = ended = 0
+for number in range(rounds):
+    status = receive_some()
+    ended += status == -9
+    numbers = acknowledged()
+    count = verified()
+    if count is None or numbers != list(range(bases[-1], bases[-1] + len(numbers))):
+        break
+    added = count - bases[-1]
+    if added - len(numbers) not in (0, 1) or not extracts(added, bases[-1]):
+        break
+    bases.append(count)
+    on += 1
+kept = on == rounds and all(extracts(end - begin, begin) for begin, end in zip(bases, bases[1:]))
+print("one shelf: %s, %d of %d rounds, killed in %d, %d files" % ("passed" if kept else "FAILED", on, rounds, ended, bases[-1]))
+if killed + ended == 0:
+    print("no run was killed: nothing was tried")
+sys.exit(0 if passed and good == rounds and kept and killed + ended > 0 else 1)
 PYTHON
 python3 "$scratch/kill.py" "$scratch" "$rounds" "$frames"

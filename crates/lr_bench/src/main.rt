@@ -5,9 +5,11 @@
 //! the lanes, `lanes-plain`, `lanes-marks` and `lanes-marks-plain` under the other line codes. `noise` and `locked`
 //! feed 32,768 symbols to a lock that many times, `lock` does both, and `frame` leads the window of a frame to its
 //! outcome. `shelf-memory` and `shelf-file` put that many small files on a new shelf, the latter in the file
-//! `shelf.bench` of the working folder, and `shelf-load` loads what stands there. `export` writes an image of 1,024
-//! columns and lines as PGM, from a shelf in memory. `all` does `rs`, `path`, `lanes`,
-//! `lock`, `frame` and `shelf-memory`. A line for each says the rounds and what came of them, or a checksum of it.
+//! `shelf.bench` of the working folder, and `shelf-load` loads what stands there. `shelf-loads` loads a shelf of
+//! 100,000 files in memory that many times, and `shelf-verify` verifies one of that many files and counts the calls of
+//! the disk. `export` writes an image of 1,024 columns and lines as PGM, from a shelf in memory. `all` does `rs`,
+//! `path`, `lanes`, `lock`, `frame` and `shelf-memory`. A line for each says the rounds and what came of them, or a
+//! checksum of it.
 //! `lines`, `samples` and `export-lossless` have more words, and read coded lines from standard input.
 #![tactic(auto)]
 

@@ -1,7 +1,9 @@
-//! Small files that are put on a new shelf, and a shelf that is loaded.
+//! Small files that are put on a new shelf, and shelves that are loaded and verified.
 
 use lr_bits::{Bytes, Lengths, MissionFile, NoMemory, Origin, Placed};
+use lr_commands::verify::verify;
 use lr_disk::{Disk, FileDisk, MemDisk};
+use lr_io::SureSink;
 use lr_shelf::{Shelf, ShelfError};
 use std::alloc::{AllocError, Global};
 use std::{fs, io};
@@ -12,6 +14,15 @@ const CAPACITY: u64 = 1 << 40;
 
 /// The room of a shelf in memory.
 const ROOM: u64 = 1 << 16;
+
+/// How many files a shelf in memory has that is loaded.
+const MANY: u64 = 100_000;
+
+/// The bytes that are written for a small file: its item and the gates before and after it, each as it is written.
+const FILE_BYTES: u64 = 68;
+
+/// How many calls of its disk a load of such a shelf makes at most.
+const LOAD_CALLS: u64 = 1_000;
 
 /// Why the work stopped.
 #[derive(Debug, Drop)]
@@ -93,13 +104,50 @@ fn loaded(rt: &HostRuntime) -> Result<Shelf, Trouble> {
     Ok(Shelf::load(rt.alloc(), &mut disk)?)
 }
 
-/// Does what one of the names says, where it is of a shelf: puts `rounds` files on a shelf in memory or in a file, or
-/// loads the one in that file.
+/// A disk in memory with a shelf of this many files, which allows this many calls.
+fn many(alloc: Global, files: u64, calls: u64) -> Result<MemDisk, Trouble> {
+    let room = files.saturating_mul(FILE_BYTES).saturating_add(100);
+    let appends = files.saturating_mul(4).saturating_add(100);
+    let mut made = MemDisk::of(alloc, Vec::new(alloc), room, appends)?;
+    filled(alloc, &mut made, files)?;
+    let bytes = made.as_slice().to_vec(alloc)?;
+    if bytes.len() as u64 > room {
+        return Err(Trouble::NoFile);
+    }
+    Ok(MemDisk::of(alloc, bytes, room, calls)?)
+}
+
+/// Loads a shelf in memory this often.
+fn load_again(alloc: Global, rounds: u64) -> Result<Shelf, Trouble> {
+    let mut disk = many(alloc, MANY, rounds.saturating_mul(LOAD_CALLS))?;
+    let mut shelf = Shelf::load(alloc, &mut disk)?;
+    for _ in 1..rounds {
+        shelf = Shelf::load(alloc, &mut disk)?;
+    }
+    Ok(shelf)
+}
+
+/// Verifies a shelf in memory of this many files, and prints how many calls of the disk its load and its files took.
+fn count_reads(rt: &HostRuntime, files: u64) -> Result<(), Trouble> {
+    let alloc = rt.alloc();
+    let calls = files.saturating_mul(4).saturating_add(2 * LOAD_CALLS);
+    let mut disk = many(alloc, files, calls)?;
+    Shelf::load(alloc, &mut disk)?;
+    let load = disk.calls();
+    let status = verify(alloc, &mut disk, &mut SureSink::new()).status();
+    let reads = disk.calls().saturating_sub(load).saturating_sub(load);
+    Ok(println!(rt; "verify {files} files status {status} load {load} calls reads {reads}")?)
+}
+
+/// Does what one of the names says, where it is of a shelf: puts `rounds` files on a shelf in memory or in a file,
+/// loads the one in that file, loads one in memory `rounds` times, or verifies one of `rounds` files in memory.
 pub fn run(rt: &HostRuntime, name: &str, rounds: u64) -> Result<(), Trouble> {
     let shelf = match name {
         "shelf-memory" | "all" => in_memory(rt.alloc(), rounds)?,
         "shelf-file" => in_file(rt, rounds)?,
         "shelf-load" => loaded(rt)?,
+        "shelf-loads" => load_again(rt.alloc(), rounds)?,
+        "shelf-verify" => return count_reads(rt, rounds),
         _ => return Ok(()),
     };
     let files = shelf.len();

@@ -198,6 +198,19 @@ fn what_ends_too_early_is_named(rt: HostRuntime) -> Result<(), Fail> {
 }
 
 #[test]
+fn short_strings_have_their_faults(rt: HostRuntime) -> Result<(), Fail> {
+    let alloc = rt.alloc();
+    let line = shape_of(8, 8, 8, 1);
+    // The bytes 00; 00 04; 00 00 80; and 20, 32 bytes of 00, 10, whose first sequence is one too long.
+    assert!(rt; fails(alloc, line, "00000000", RiceFault::Ended { line: 0 })?);
+    let past = RiceFault::RunPastSegment { line: 0 };
+    assert!(rt; fails(alloc, line, "00000000 00000100", past)?);
+    assert!(rt; gives_all(alloc, line, "00000000 00000000 10000000", 8, 0)?);
+    assert!(rt; is_limit(alloc, line, "001 00000000 ", 256, "1 0000")?);
+    Ok(())
+}
+
+#[test]
 fn an_identifier_may_end_in_its_last_bit(rt: HostRuntime) -> Result<(), Fail> {
     // Two blocks: the first has the sixteen bits, and the second one's identifier has three bits and no fourth one.
     let alloc = rt.alloc();
