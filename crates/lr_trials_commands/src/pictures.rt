@@ -1,6 +1,6 @@
 //! Images that go out in several pieces.
 use crate::shared::{ended, with_room};
-use lr_bits::{Bytes, Lengths, MissionFile, Origin, Placed};
+use lr_bits::{Bytes, Lengths, MissionFile, NoMemory, Origin, Placed};
 use lr_commands::Cause;
 use lr_commands::export::export;
 use lr_disk::{Disk, MemDisk};
@@ -9,11 +9,8 @@ use lr_shelf::Shelf;
 use std::alloc::Global;
 use std::test::Fail;
 
-/// Ten bytes of transport header, and the header of an image that isn't compressed. It has 200 lines.
-const HEADER: [u8; 35] = [
-    0, 1, 0, 0, 0, 0, 0, 0, 0, 0, 0x00, 0x00, 0x10, 0x00, 0x00, 0x00, 0x00, 0x19, 0, 0, 0, 0, 0, 0,
-    0, 0, 0x01, 0x00, 0x09, 8, 0, 200, 0, 200, 0,
-];
+/// The lines of an image.
+const LINES: u8 = 200;
 
 /// The bytes of a data field.
 const DATA_BYTES: u32 = 40_000;
@@ -26,27 +23,45 @@ fn data(alloc: Global) -> Result<Vec<u8>, Fail> {
     Ok(bytes)
 }
 
-/// A shelf with one file: an image of these bits and columns, in two bodies.
-fn with_image(alloc: Global, bits: u8, columns: u8, pixels: &[u8]) -> Result<MemDisk, Fail> {
-    let mut header = HEADER;
-    header[29] = bits;
-    header[31] = columns;
+fn put_body(lengths: &mut Lengths, bytes: &mut Bytes, body: &[u8]) -> Result<(), NoMemory> {
+    lengths.push(u16::try_from(body.len()).unwrap_or(0))?;
+    bytes.extend(body)
+}
+
+/// The header of an image of these bits and columns.
+fn header(bits: u8, columns: u8) -> [u8; 35] {
+    [
+        0, 1, 0, 0, 0, 0, 0, 0, 0, 0, 0x00, 0x00, 0x10, 0x00, 0x00, 0x00, 0x00, 0x19, 0, 0, 0, 0,
+        0, 0, 0, 0, 0x01, 0x00, 0x09, bits, 0, columns, 0, LINES, 0,
+    ]
+}
+
+/// A file of an image of these bits and columns, in two bodies.
+fn file_of(alloc: Global, bits: u8, columns: u8, pixels: &[u8]) -> Result<MissionFile, Fail> {
     let mut lengths = Lengths::new(alloc);
     let mut bytes = Bytes::new(alloc);
-    for body in [header.as_slice(), pixels] {
-        lengths.push(u16::try_from(body.len()).ok().ok_or("a body is too long")?)?;
-        bytes.extend(body)?;
-    }
-    let file = MissionFile::build(0, 100, lengths, bytes).ok_or("no file")?;
+    put_body(&mut lengths, &mut bytes, &header(bits, columns))?;
+    put_body(&mut lengths, &mut bytes, pixels)?;
+    Ok(MissionFile::build(0, 100, lengths, bytes).ok_or("no file")?)
+}
+
+/// Adds a file, which came with the outcome 0.
+fn add(alloc: Global, made: &mut MemDisk, file: MissionFile) -> Result<u64, Fail> {
     let origin = Origin {
         first: 0,
         last: 0,
         corrected: 0,
     };
+    let placed = Placed { file, origin };
+    let mut shelf = Shelf::load(alloc, made)?;
+    Ok(shelf.append(made, &placed)?)
+}
+
+/// A shelf with this image alone.
+fn with_image(alloc: Global, bits: u8, columns: u8, pixels: &[u8]) -> Result<MemDisk, Fail> {
     let mut made = MemDisk::of(alloc, Vec::new(alloc), 50_000, 1_000)?;
     Shelf::init(&mut made, 50_000)?;
-    let mut shelf = Shelf::load(alloc, &mut made)?;
-    shelf.append(&mut made, &Placed { file, origin })?;
+    add(alloc, &mut made, file_of(alloc, bits, columns, pixels)?)?;
     Ok(made)
 }
 
@@ -54,18 +69,33 @@ fn exports<D: Disk, O: Sink>(alloc: Global, disk: &mut D, out: &mut O) -> Cause 
     export(alloc, 0, disk, out)
 }
 
+/// Whether the export into this much room ends with this status, and has put this text.
+fn ends(
+    alloc: Global,
+    made: &mut MemDisk,
+    room: usize,
+    status: u8,
+    text: &[u8],
+) -> Result<bool, Fail> {
+    let mut out = with_room(alloc, room)?;
+    let cause = exports(alloc, made, &mut out);
+    Ok(ended(cause, &out, status, text))
+}
+
+/// A head and what comes after it.
+fn joined(alloc: Global, head: &[u8], rest: &[u8]) -> Result<Vec<u8>, Fail> {
+    let mut text = head.to_vec(alloc)?;
+    text.extend_from_slice(rest)?;
+    Ok(text)
+}
+
 /// Whether the image is put with this head and its data after it; and where there is less room, the front of them.
 fn puts(alloc: Global, bits: u8, columns: u8, head: &[u8]) -> Result<bool, Fail> {
     let pixels = data(alloc)?;
-    let mut text = head.to_vec(alloc)?;
-    text.extend_from_slice(&pixels)?;
+    let text = joined(alloc, head, &pixels)?;
     let mut made = with_image(alloc, bits, columns, &pixels)?;
-    let mut all = with_room(alloc, 50_000)?;
-    let done = exports(alloc, &mut made, &mut all);
-    let mut some = with_room(alloc, 33_333)?;
-    let failed = exports(alloc, &mut made, &mut some);
-    let front = text.get(..33_333).ok_or("no front")?;
-    Ok(ended(done, &all, 0, &text) && ended(failed, &some, 5, front))
+    let front = &text[..33_333.min(text.len())];
+    Ok(ends(alloc, &mut made, 50_000, 0, &text)? && ends(alloc, &mut made, 33_333, 5, front)?)
 }
 
 #[test]

@@ -45,27 +45,36 @@ pub(crate) fn with_byte(alloc: Global, place: usize, byte: u8) -> Result<MemDisk
 /// The old shelf, of another capacity.
 pub(crate) fn with_capacity(alloc: Global, capacity: u64) -> Result<MemDisk, Fail> {
     let mut bytes = old_header_of(capacity)[..19].to_vec(alloc)?;
-    for byte in &OLD_SHELF[19..] {
-        bytes.push(*byte)?;
-    }
+    bytes.extend_from_slice(&OLD_SHELF[19..])?;
     disk(alloc, bytes.as_slice())
 }
 
-/// The old shelf, on which its file was received again in the outcome 0. It ends at 129.
-pub(crate) fn with_two(alloc: Global) -> Result<MemDisk, Fail> {
-    let mut made = disk(alloc, &OLD_SHELF)?;
+/// The file of the old shelf.
+fn file_of(alloc: Global) -> Result<MissionFile, Fail> {
     let mut lengths = Lengths::new(alloc);
     let mut bytes = Bytes::new(alloc);
     lengths.push(26)?;
     bytes.extend(&OLD_SHELF[33..59])?;
-    let file = MissionFile::build(0, 100, lengths, bytes).ok_or("no file")?;
+    Ok(MissionFile::build(0, 100, lengths, bytes).ok_or("no file")?)
+}
+
+/// The same, received again in the outcome 0.
+fn again(alloc: Global) -> Result<Placed, Fail> {
+    let file = file_of(alloc)?;
     let origin = Origin {
         first: 0,
         last: 0,
         corrected: 0,
     };
+    Ok(Placed { file, origin })
+}
+
+/// The old shelf, on which its file was received again. It ends at 129.
+pub(crate) fn with_two(alloc: Global) -> Result<MemDisk, Fail> {
+    let placed = again(alloc)?;
+    let mut made = disk(alloc, &OLD_SHELF)?;
     let mut shelf = Shelf::load(alloc, &mut made)?;
-    shelf.append(&mut made, &Placed { file, origin })?;
+    shelf.append(&mut made, &placed)?;
     Ok(made)
 }
 

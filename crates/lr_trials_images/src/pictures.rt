@@ -7,6 +7,10 @@ use std::test::Fail;
 /// A coded piece of two lines of eight pixels: one of 5, and one of 5 6 4 5 5 5 5 5.
 static BOTH: [u8; 6] = [0x00, 0x5A, 0x05, 0x57, 0xD0, 0x00];
 
+/// The image of that piece and a line of 5 more.
+const THREE_LINES: &[u8] =
+    b"P5\n8 3\n255\n\x05\x05\x05\x05\x05\x05\x05\x05\x05\x06\x04\x05\x05\x05\x05\x05\x05\x05\x05\x05\x05\x05\x05\x05";
+
 /// The header of an image that isn't compressed.
 fn plain(bits: u8, columns: u16, lines: u16) -> [u8; 35] {
     let [column, columns] = columns.to_be_bytes();
@@ -81,9 +85,7 @@ fn pixels_go_on_from_body_to_body(rt: HostRuntime) -> Result<(), Fail> {
 fn the_last_piece_has_the_lines_that_are_left(rt: HostRuntime) -> Result<(), Fail> {
     let alloc = rt.alloc();
     assert!(rt; shows(alloc, &[&coded(2, 8, 2), &BOTH], LINES_OF_FIVE)?);
-    let three =
-        b"P5\n8 3\n255\n\x05\x05\x05\x05\x05\x05\x05\x05\x05\x06\x04\x05\x05\x05\x05\x05\x05\x05\x05\x05\x05\x05\x05\x05";
-    assert!(rt; shows(alloc, &[&coded(3, 8, 2), &BOTH, &FIRST], three)?);
+    assert!(rt; shows(alloc, &[&coded(3, 8, 2), &BOTH, &FIRST], THREE_LINES)?);
     // A piece after the last wanted line isn't read.
     assert!(rt; shows(alloc, &[&coded(2, 8, 2), &BOTH, &[0xFF]], LINES_OF_FIVE)?);
     assert!(rt;

@@ -20,14 +20,22 @@ fn segment(start_column: u16, start_line: u16) -> Segment {
     }
 }
 
-/// An image of one line.
-fn row(alloc: Global, bits: u8, values: &[u16]) -> Result<Option<Image>, NoMemory> {
+fn pixels_of(alloc: Global, values: &[u16]) -> Result<Pixels, NoMemory> {
     let mut pixels = Pixels::new(alloc);
     for value in values {
         pixels.push(*value)?;
     }
+    Ok(pixels)
+}
+
+fn image_of(bits: u8, columns: u32, pixels: Pixels) -> Option<Image> {
+    Image::build(bits, columns, 1, pixels)
+}
+
+/// An image of one line.
+fn row(alloc: Global, bits: u8, values: &[u16]) -> Result<Option<Image>, NoMemory> {
     let columns = u32::try_from(values.len()).unwrap_or(0);
-    Ok(Image::build(bits, columns, 1, pixels))
+    Ok(image_of(bits, columns, pixels_of(alloc, values)?))
 }
 
 fn is_same(found: AssembleFault, wanted: AssembleFault) -> bool {
