@@ -2,7 +2,7 @@
 use lr_bits::NoMemory;
 use lr_disk::MemDisk;
 use lr_io::{MemSink, MemSource, Source};
-use lr_station::station;
+use lr_station::station_alone;
 use std::alloc::{AllocError, Global};
 
 /// Why a trial stopped before its end.
@@ -121,7 +121,7 @@ pub(crate) fn run_from<S: Source>(
     let words = owned_words(alloc, call.words)?;
     let mut out = sink_of(alloc, call.out_fails, OUT_ROOM)?;
     let mut err = sink_of(alloc, NEVER, call.err_room)?;
-    let status = station(alloc, &words, source, disk, &mut out, &mut err);
+    let status = station_alone(alloc, &words, source, disk, &mut out, &mut err);
     Ok(Printed { status, out, err })
 }
 

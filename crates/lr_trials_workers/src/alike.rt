@@ -1,5 +1,5 @@
 // Any number of workers prints and shelves the same.
-use crate::calls::{call, call_alone, disk_of_calls, empty_shelf, given, symbols};
+use crate::calls::{call, call_alone, disk_of_calls, empty_shelf, faultless, symbols};
 use std::alloc::Global;
 use std::sync::Wait;
 use std::test::Fail;
@@ -24,10 +24,10 @@ fn receives_alike<R: Threads + Wait + Sync>(
     bytes: &[u8],
 ) -> Result<bool, Fail> {
     let mut disk = empty_shelf(alloc)?;
-    let alone = call_alone(alloc, &given("receive", bytes, 4_096), &mut disk)?;
+    let alone = call_alone(alloc, &faultless("receive", bytes, 4_096), &mut disk)?;
     for reads in [1, 4_096, 65_536] {
         let mut other_disk = empty_shelf(alloc)?;
-        let other = call(rt, alloc, &given(words, bytes, reads), &mut other_disk)?;
+        let other = call(rt, alloc, &faultless(words, bytes, reads), &mut other_disk)?;
         if !other.is_like(&alone) || other_disk.as_slice() != disk.as_slice() {
             return Ok(false);
         }
@@ -52,7 +52,7 @@ fn windows_are_decoded_alike(rt: HostRuntime) -> Result<(), Fail> {
     let bytes = symbols(alloc, "make 1 8 16", 0, 8)?;
     for words in ["decode --workers 2", "decode --workers 64"] {
         let mut disk = disk_of_calls(alloc, 0)?;
-        let printed = call(&rt, alloc, &given(words, &bytes, 65_536), &mut disk)?;
+        let printed = call(&rt, alloc, &faultless(words, &bytes, 65_536), &mut disk)?;
         assert!(rt; printed.status == 0);
         assert!(rt; printed.out.as_slice().ends_with(SIXTEEN_WRONG.as_bytes()));
     }
@@ -62,7 +62,7 @@ fn windows_are_decoded_alike(rt: HostRuntime) -> Result<(), Fail> {
 // Whether a trial of these words prints the line of 64 frames, and leaves the shelf of their 63 files.
 fn tries<R: Threads + Wait + Sync>(rt: &R, alloc: Global, words: &str) -> Result<bool, Fail> {
     let mut disk = disk_of_calls(alloc, 10_000)?;
-    let printed = call(rt, alloc, &given(words, &[], 1), &mut disk)?;
+    let printed = call(rt, alloc, &faultless(words, &[], 1), &mut disk)?;
     Ok(
         printed.status == 0
             && printed.out.as_slice() == TRIAL.as_bytes()
@@ -85,7 +85,7 @@ fn blocks_need_no_worker(rt: HostRuntime) -> Result<(), Fail> {
     let alloc = rt.alloc();
     let mut disk = disk_of_calls(alloc, 0)?;
     let words = "decode --input blocks --workers 8";
-    let printed = call(&rt, alloc, &given(words, &[7; 1_020], 1_020), &mut disk)?;
+    let printed = call(&rt, alloc, &faultless(words, &[7; 1_020], 1_020), &mut disk)?;
     assert!(rt; printed.status == 0 && printed.out.as_slice().ends_with(b" left 0 stop end\n"));
     Ok(())
 }

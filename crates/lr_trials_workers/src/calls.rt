@@ -22,7 +22,7 @@ pub struct Given<'a> {
 }
 
 /// A call of these words over these bytes in which nothing fails.
-pub fn given<'a>(words: &'a str, bytes: &'a [u8], reads: usize) -> Given<'a> {
+pub fn faultless<'a>(words: &'a str, bytes: &'a [u8], reads: usize) -> Given<'a> {
     Given {
         words,
         bytes,
@@ -104,7 +104,7 @@ pub fn disk_of_calls(alloc: Global, calls: u64) -> Result<MemDisk, Fail> {
 /// An empty shelf of 65,536 bytes, on a disk that allows this many calls in all.
 pub fn shelf_of_calls(alloc: Global, calls: u64) -> Result<MemDisk, Fail> {
     let mut disk = disk_of_calls(alloc, calls)?;
-    let made = call_alone(alloc, &given("init 65536", &[], 1), &mut disk)?;
+    let made = call_alone(alloc, &faultless("init 65536", &[], 1), &mut disk)?;
     if made.status == 0 {
         Ok(disk)
     } else {
@@ -120,7 +120,7 @@ pub fn empty_shelf(alloc: Global) -> Result<MemDisk, Fail> {
 pub fn symbols(alloc: Global, words: &str, silence: usize, frames: usize) -> Result<Vec<u8>, Fail> {
     let words = words_of(alloc, words)?;
     let mut disk = disk_of_calls(alloc, 0)?;
-    let mut source = source_of(alloc, &given("", &[], 1))?;
+    let mut source = source_of(alloc, &faultless("", &[], 1))?;
     let mut out = MemSink::of(alloc, Vec::new(alloc), frames.min(64) * 16_384)?;
     let mut err = err_of(alloc)?;
     let status = station_alone(alloc, &words, &mut source, &mut disk, &mut out, &mut err);

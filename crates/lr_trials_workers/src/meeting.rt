@@ -2,7 +2,8 @@
 ghost use Rattle.std.specs.Prelude.{◌≡◌};
 
 use crate::calls::{
-    Printed, call, disk_of_calls, empty_shelf, err_of, given, out_of, source_of, symbols, words_of,
+    Printed, call, disk_of_calls, empty_shelf, err_of, faultless, out_of, source_of, symbols,
+    words_of,
 };
 use lr_bits::NoMemory;
 use lr_disk::MemDisk;
@@ -74,7 +75,7 @@ fn call_with<R: Threads + Wait + Sync>(
     tools: &Flags,
     disk: &mut MemDisk,
 ) -> Result<Printed, Fail> {
-    let given = given(words, bytes, 65_536);
+    let given = faultless(words, bytes, 65_536);
     let words = words_of(alloc, given.words)?;
     let mut source = source_of(alloc, &given)?;
     let mut out = out_of(alloc, &given)?;
@@ -106,7 +107,12 @@ fn meets<R: Threads + Wait + Sync>(
         too_late: Arc::new(alloc, AtomicBool::new(false))?,
     };
     let printed = call_with(rt, alloc, words, &bytes, &flags, &mut disk)?;
-    let usual = call(rt, alloc, &given(words, &bytes, 65_536), &mut other_disk)?;
+    let usual = call(
+        rt,
+        alloc,
+        &faultless(words, &bytes, 65_536),
+        &mut other_disk,
+    )?;
     let in_time = flags.met.load(SeqCst) && !flags.too_late.load(SeqCst);
     Ok(
         in_time
