@@ -1,5 +1,33 @@
 -- A consumer is led through what becomes of windows, round by round.
-use Rattle.std.proofs.Common.{◌≡◌, ◌<◌, ◌≤◌, ◌+◌, ◌*◌, ℕ, Bool, true, false, Some, None, List, [], ◌∷◌, ◌++◌, length, append-nil, append_assoc, map, take, drop, refl, sym, ap, ◌∙◌, subst, arith}
+use Rattle.std.proofs.Common.{
+  ◌≡◌,
+  ◌<◌,
+  ◌≤◌,
+  ◌+◌,
+  ◌*◌,
+  ℕ,
+  Bool,
+  true,
+  false,
+  Some,
+  None,
+  List,
+  [],
+  ◌∷◌,
+  ◌++◌,
+  length,
+  append-nil,
+  append_assoc,
+  map,
+  take,
+  drop,
+  refl,
+  sym,
+  ap,
+  ◌∙◌,
+  subst,
+  arith,
+}
 use mathlib.Core.Option.{some}
 use lib.ListN.{get_elem?}
 use Rattle.std.proofs.Math.Seq.{take-length}
@@ -27,14 +55,33 @@ use Rattle.lr_catalog.specs.declared.stop.Stop.TheVariants.{End, Limit, Fault}
 use Rattle.lr_reading.specs.Arrivals.{arrival_in, arrivals_of}
 use Rattle.lr_reading.specs.Feeding.{FeedState, arrivals_given, FedSoFar, GivesFrame, EndsFrames}
 use Rattle.lr_reading.specs.Reading.{EndsFor}
-use Rattle.lr_reading.specs.Rounds.{arrival_of_window, AreOfLine, HasWindows, HasJobs, IsOver, handed, IsPut, PutsMore, MayHandOver, HandsOver, StopsAt, MayGoOn}
+use Rattle.lr_reading.specs.Rounds.{
+  arrival_of_window,
+  AreOfLine,
+  HasWindows,
+  HasJobs,
+  IsOver,
+  handed,
+  IsPut,
+  PutsMore,
+  MayHandOver,
+  HandsOver,
+  StopsAt,
+  MayGoOn,
+}
 use Rattle.lr_reading.specs.Runs.{TakesAll, TakesSome}
 use Rattle.lr_reading.specs.declared.arrival.Arrival.{Arrival}
 use Rattle.lr_reading.specs.declared.arrival.Position.{Position}
 use Rattle.lr_reading.specs.declared.input.Input.TheVariants.{Symbols}
 use Rattle.lr_reading.specs.declared.intake.Intake.{Intake}
 use Rattle.lr_reading.specs.declared.totals.Totals.{Totals}
-use Rattle.lr_reading.proofs.Coming.{arrivals_given-push, arrivals_given-counted, arrivals_first, arrivals_go_on, arrivals_all}
+use Rattle.lr_reading.proofs.Coming.{
+  arrivals_given-push,
+  arrivals_given-counted,
+  arrivals_first,
+  arrivals_go_on,
+  arrivals_all,
+}
 use Rattle.lr_reading.proofs.Jobs.{as_many, oldest_line, handed_more, SameJobs, nothing_taken, helped}
 
 abbrev pub arrival_at : Position → Outcome → Arrival

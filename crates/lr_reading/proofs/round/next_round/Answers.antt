@@ -7,7 +7,14 @@ use Rattle.lr_gate.specs.declared.gate.Conductor.{Conductor}
 use Rattle.lr_reading.specs.Rounds.{rounds_left}
 use Rattle.lr_reading.specs.declared.intake.Intake.{Intake}
 use Rattle.lr_reading.proofs.Jobs.{nothing_taken, rounds_same, fewer_done}
-use Rattle.lr_reading.proofs.Leading.{may_hand_over, goes_on_handed, goes_on_put, goes_on_none_taken, goes_on_helped, led_some}
+use Rattle.lr_reading.proofs.Leading.{
+  may_hand_over,
+  goes_on_handed,
+  goes_on_put,
+  goes_on_none_taken,
+  goes_on_helped,
+  led_some,
+}
 use Rattle.lr_reading.proofs.round.next_round.Goals as goal
 
 pub hand_over-requires-clause-may : goal.hand_over-requires-clause-may
