@@ -1,5 +1,23 @@
 -- What comes of the input, piece by piece.
-use Rattle.std.proofs.Common.{◌≡◌, ℕ, ℤ, ◌+◌, ◌≤◌, List, [], ◌∷◌, ◌++◌, length, map, ap, ◌∙◌, refl, None, append_assoc, All}
+use Rattle.std.proofs.Common.{
+  ◌≡◌,
+  ℕ,
+  ℤ,
+  ◌+◌,
+  ◌≤◌,
+  List,
+  [],
+  ◌∷◌,
+  ◌++◌,
+  length,
+  map,
+  ap,
+  ◌∙◌,
+  refl,
+  None,
+  append_assoc,
+  All,
+}
 use Rattle.std.proofs.lemmas.List.{length-map, map-append}
 use Rattle.lr_bits.specs.declared.outcome.Outcome.{Outcome}
 use Rattle.lr_conv.proofs.Tails.{tail_size}

@@ -1,5 +1,33 @@
 -- A consumer is led through what becomes of windows, round by round.
-use Rattle.std.proofs.Common.{◌≡◌, ◌<◌, ◌≤◌, ◌+◌, ◌*◌, ℕ, Bool, true, false, Some, None, List, [], ◌∷◌, ◌++◌, length, append-nil, append_assoc, map, take, drop, refl, sym, ap, ◌∙◌, subst, arith}
+use Rattle.std.proofs.Common.{
+  ◌≡◌,
+  ◌<◌,
+  ◌≤◌,
+  ◌+◌,
+  ◌*◌,
+  ℕ,
+  Bool,
+  true,
+  false,
+  Some,
+  None,
+  List,
+  [],
+  ◌∷◌,
+  ◌++◌,
+  length,
+  append-nil,
+  append_assoc,
+  map,
+  take,
+  drop,
+  refl,
+  sym,
+  ap,
+  ◌∙◌,
+  subst,
+  arith,
+}
 use mathlib.Core.Option.{some}
 use lib.ListN.{get_elem?}
 use Rattle.std.proofs.Math.Seq.{take-length}
@@ -17,7 +45,7 @@ use Rattle.lr_lock.specs.declared.frame.Frame.{Frame}
 use Rattle.lr_frame.specs.declared.work.FrameDone.{FrameDone}
 use Rattle.lr_frame.specs.Hands.{done_of}
 use Rattle.lr_gatecore.proofs.Lists.{at_length}
-use Rattle.lr_gate.specs.Seats.{cells_of, IsConductorOf, view_of, put_count}
+use Rattle.lr_gate.specs.Seats.{cells_of, IsConductorOf, view_of, put_count, TakesNothing, Helps}
 use Rattle.lr_gate.specs.Steps.{after_put}
 use Rattle.lr_gate.specs.declared.gate.Conductor.{Conductor}
 use Rattle.lr_gate.specs.declared.gate.Gate.{Gate}
@@ -27,15 +55,34 @@ use Rattle.lr_catalog.specs.declared.stop.Stop.TheVariants.{End, Limit, Fault}
 use Rattle.lr_reading.specs.Arrivals.{arrival_in, arrivals_of}
 use Rattle.lr_reading.specs.Feeding.{FeedState, arrivals_given, FedSoFar, GivesFrame, EndsFrames}
 use Rattle.lr_reading.specs.Reading.{EndsFor}
-use Rattle.lr_reading.specs.Rounds.{arrival_of_window, AreOfLine, HasWindows, HasJobs, IsOver, handed, IsPut, PutsMore, MayHandOver, HandsOver, StopsAt, MayGoOn}
+use Rattle.lr_reading.specs.Rounds.{
+  arrival_of_window,
+  AreOfLine,
+  HasWindows,
+  HasJobs,
+  IsOver,
+  handed,
+  IsPut,
+  PutsMore,
+  MayHandOver,
+  HandsOver,
+  StopsAt,
+  MayGoOn,
+}
 use Rattle.lr_reading.specs.Runs.{TakesAll, TakesSome}
 use Rattle.lr_reading.specs.declared.arrival.Arrival.{Arrival}
 use Rattle.lr_reading.specs.declared.arrival.Position.{Position}
 use Rattle.lr_reading.specs.declared.input.Input.TheVariants.{Symbols}
 use Rattle.lr_reading.specs.declared.intake.Intake.{Intake}
 use Rattle.lr_reading.specs.declared.totals.Totals.{Totals}
-use Rattle.lr_reading.proofs.Coming.{arrivals_given-push, arrivals_given-counted, arrivals_first, arrivals_go_on, arrivals_all}
-use Rattle.lr_reading.proofs.Jobs.{as_many, oldest_line, handed_more, SameJobs}
+use Rattle.lr_reading.proofs.Coming.{
+  arrivals_given-push,
+  arrivals_given-counted,
+  arrivals_first,
+  arrivals_go_on,
+  arrivals_all,
+}
+use Rattle.lr_reading.proofs.Jobs.{as_many, oldest_line, handed_more, SameJobs, nothing_taken, helped}
 
 abbrev pub arrival_at : Position → Outcome → Arrival
 arrival_at position outcome = record { position = Some position; outcome = outcome }
@@ -305,6 +352,25 @@ module _ {S C W D : Type 0} (source : SourceOf S) (took : C → List Arrival →
       (subst (λ (u : S). MayGoOn source took line limit most gate conductor' intake s u before now') (sym source_same)
       (subst (λ (n : C). MayGoOn source took line limit most gate conductor' intake s s' before n) (sym now_same)
       (same_jobs conductor' mine same)))
+
+  -- no result could be taken
+  pub goes_on_none_taken : (conductor' : Conductor W WindowView D) (intake' : Intake) (now' : C)
+      → IsConductorOf gate conductor' → (intake' ≡ intake) × (now' ≡ now)
+      × TakesNothing (cells_of gate) (view_of conductor) (view_of conductor')
+      → MayGoOn source took line limit most gate conductor' intake' s s' before now'
+  goes_on_none_taken conductor' intake' now' mine none =
+      goes_on_idle conductor' intake' s' now' mine none.0 refl none.1
+      (nothing_taken (cells_of gate) (view_of conductor) (view_of conductor') none.2).0
+
+  -- a job was done, or none could be
+  pub goes_on_helped : (same conductor' : Conductor W WindowView D) (intake' : Intake) (t : S) (did : Bool)
+      → IsConductorOf gate conductor' → intake' ≡ intake → same ≡ conductor → t ≡ s'
+      → Helps (cells_of gate) (view_of same) (view_of conductor') did
+      → MayGoOn source took line limit most gate conductor' intake' s t before now
+  goes_on_helped same conductor' intake' t did mine intake_same conductor_same source_same helps =
+      goes_on_idle conductor' intake' t now mine intake_same source_same refl
+      (subst (λ (k : Conductor W WindowView D). SameJobs (view_of k) (view_of conductor')) conductor_same
+      (helped (cells_of gate) (view_of same) (view_of conductor') did helps))
 
   -- ---- the end of the reading
 

@@ -1,5 +1,26 @@
 -- How windows are led through the ring, round by round. No clause of a public call cites this.
-use Rattle.std.specs.Prelude.{◌≡◌, ◌<◌, ◌≤◌, ◌+◌, ◌-◌, ◌*◌, ◌^◌, ℕ, true, false, Option, Some, None, List, [], ◌++◌, map, take, vec_len, vec_capacity}
+use Rattle.std.specs.Prelude.{
+  ◌≡◌,
+  ◌<◌,
+  ◌≤◌,
+  ◌+◌,
+  ◌-◌,
+  ◌*◌,
+  ◌^◌,
+  ℕ,
+  true,
+  false,
+  Option,
+  Some,
+  None,
+  List,
+  [],
+  ◌++◌,
+  map,
+  take,
+  vec_len,
+  vec_capacity,
+}
 use Rattle.std.specs.List.{All}
 use Rattle.lr_conv.specs.Marker.{tail_of}
 use Rattle.lr_conv.specs.declared.line.LineCode.{LineCode}

@@ -1,4 +1,4 @@
-use Rattle.std.proofs.Common.{◌∙◌, Bool, refl, ap, subst, arith}
+use Rattle.std.proofs.Common.{◌∙◌, Bool, ap, subst, arith}
 use Rattle.std.proofs.lemmas.Result.{err_from_is_err_and}
 use Rattle.lr_lock.specs.Windows.{WindowView}
 use Rattle.lr_frame.specs.declared.work.FrameDone.{FrameDone}
@@ -6,8 +6,15 @@ use Rattle.lr_gate.specs.Seats.{cells_of, view_of, Helps}
 use Rattle.lr_gate.specs.declared.gate.Conductor.{Conductor}
 use Rattle.lr_reading.specs.Rounds.{rounds_left}
 use Rattle.lr_reading.specs.declared.intake.Intake.{Intake}
-use Rattle.lr_reading.proofs.Jobs.{SameJobs, nothing_taken, helped, rounds_same, fewer_done}
-use Rattle.lr_reading.proofs.Leading.{may_hand_over, goes_on_handed, goes_on_put, goes_on_idle, led_some}
+use Rattle.lr_reading.proofs.Jobs.{nothing_taken, rounds_same, fewer_done}
+use Rattle.lr_reading.proofs.Leading.{
+  may_hand_over,
+  goes_on_handed,
+  goes_on_put,
+  goes_on_none_taken,
+  goes_on_helped,
+  led_some,
+}
 use Rattle.lr_reading.proofs.round.next_round.Goals as goal
 
 pub hand_over-requires-clause-may : goal.hand_over-requires-clause-may
@@ -31,12 +38,9 @@ returns-then-branch-clause-goes g c = λ line limit s before may.
 
 pub returns-then-put_next-clause-goes : goal.returns-then-put_next-clause-goes
 returns-then-put_next-clause-goes g c = λ line limit s before may.
-    let same = c.in_ok-hand_over.ensures.same c.if-branch.false in
-    let mid = goes_on_idle g.S.Source g.C.Consumer.took line limit g.C.Consumer.most c.args.gate.now may
-    c.hand_over.new.conductor c.hand_over.new.intake c.args.source.now c.hand_over.new.consumer
-    c.hand_over.ensures.mine same.0 refl same.1
-    (nothing_taken (cells_of c.args.gate.now) (view_of c.args.conductor.now) (view_of c.hand_over.new.conductor)
-    same.2).0 in
+    let mid = goes_on_none_taken g.S.Source g.C.Consumer.took line limit g.C.Consumer.most c.args.gate.now may
+    c.hand_over.new.conductor c.hand_over.new.intake c.hand_over.new.consumer c.hand_over.ensures.mine
+    (c.in_ok-hand_over.ensures.same c.if-branch.false) in
     goes_on_put g.S.Source g.C.Consumer.took line limit g.C.Consumer.most c.args.gate.now mid
     c.put_next.new.conductor c.put_next.new.intake c.put_next.new.source c.put_next.ensures.mine
     c.put_next.ensures.running c.put_next.ensures.windows c.put_next.ensures.taken
@@ -44,20 +48,13 @@ returns-then-put_next-clause-goes g c = λ line limit s before may.
 
 pub returns-then-help-clause-goes : goal.returns-then-help-clause-goes
 returns-then-help-clause-goes g c = λ line limit s before may.
-    let same = c.in_ok-hand_over.ensures.same c.if-branch.false in
     let still = c.put_next.ensures.same c.if-put_next.false in
-    let mid = goes_on_idle g.S.Source g.C.Consumer.took line limit g.C.Consumer.most c.args.gate.now may
-    c.hand_over.new.conductor c.hand_over.new.intake c.args.source.now c.hand_over.new.consumer
-    c.hand_over.ensures.mine same.0 refl same.1
-    (nothing_taken (cells_of c.args.gate.now) (view_of c.args.conductor.now) (view_of c.hand_over.new.conductor)
-    same.2).0 in
-    goes_on_idle g.S.Source g.C.Consumer.took line limit g.C.Consumer.most c.args.gate.now mid
-    c.help.new.self c.put_next.new.intake c.put_next.new.source c.hand_over.new.consumer c.help.ensures.mine
-    still.0 still.2 refl
-    (subst (λ (k : Conductor g.row.W.Denot WindowView FrameDone).
-    SameJobs (view_of k) (view_of c.help.new.self)) still.1
-    (helped (cells_of c.args.gate.now) (view_of c.put_next.new.conductor) (view_of c.help.new.self) c.help.result
-    c.help.ensures.helps))
+    let mid = goes_on_none_taken g.S.Source g.C.Consumer.took line limit g.C.Consumer.most c.args.gate.now may
+    c.hand_over.new.conductor c.hand_over.new.intake c.hand_over.new.consumer c.hand_over.ensures.mine
+    (c.in_ok-hand_over.ensures.same c.if-branch.false) in
+    goes_on_helped g.S.Source g.C.Consumer.took line limit g.C.Consumer.most c.args.gate.now mid
+    c.put_next.new.conductor c.help.new.self c.put_next.new.intake c.put_next.new.source c.help.result
+    c.help.ensures.mine still.0 still.1 still.2 c.help.ensures.helps
 
 pub returns-then-help-clause-fewer : goal.returns-then-help-clause-fewer
 returns-then-help-clause-fewer g c = λ did.
@@ -79,37 +76,23 @@ returns-then-help-clause-fewer g c = λ did.
 
 pub returns-then-len-capacity-clause-goes : goal.returns-then-len-capacity-clause-goes
 returns-then-len-capacity-clause-goes g c = λ line limit s before may.
-    let same = c.in_ok-hand_over.ensures.same c.if-branch.false in
     let still = c.put_next.ensures.same c.if-put_next.false in
-    let mid = goes_on_idle g.S.Source g.C.Consumer.took line limit g.C.Consumer.most c.args.gate.now may
-    c.hand_over.new.conductor c.hand_over.new.intake c.args.source.now c.hand_over.new.consumer
-    c.hand_over.ensures.mine same.0 refl same.1
-    (nothing_taken (cells_of c.args.gate.now) (view_of c.args.conductor.now) (view_of c.hand_over.new.conductor)
-    same.2).0 in
-    goes_on_idle g.S.Source g.C.Consumer.took line limit g.C.Consumer.most c.args.gate.now mid
-    c.help.new.self c.put_next.new.intake c.put_next.new.source c.hand_over.new.consumer c.help.ensures.mine
-    still.0 still.2 refl
-    (subst (λ (k : Conductor g.row.W.Denot WindowView FrameDone).
-    SameJobs (view_of k) (view_of c.help.new.self)) still.1
-    (helped (cells_of c.args.gate.now) (view_of c.put_next.new.conductor) (view_of c.help.new.self) c.help.result
-    c.help.ensures.helps))
+    let mid = goes_on_none_taken g.S.Source g.C.Consumer.took line limit g.C.Consumer.most c.args.gate.now may
+    c.hand_over.new.conductor c.hand_over.new.intake c.hand_over.new.consumer c.hand_over.ensures.mine
+    (c.in_ok-hand_over.ensures.same c.if-branch.false) in
+    goes_on_helped g.S.Source g.C.Consumer.took line limit g.C.Consumer.most c.args.gate.now mid
+    c.put_next.new.conductor c.help.new.self c.put_next.new.intake c.put_next.new.source c.help.result
+    c.help.ensures.mine still.0 still.1 still.2 c.help.ensures.helps
 
 pub returns-clause-goes : goal.returns-clause-goes
 returns-clause-goes g c = λ line limit s before may.
-    let same = c.in_ok-hand_over.ensures.same c.if-branch.false in
     let still = c.put_next.ensures.same c.if-put_next.false in
-    let mid = goes_on_idle g.S.Source g.C.Consumer.took line limit g.C.Consumer.most c.args.gate.now may
-    c.hand_over.new.conductor c.hand_over.new.intake c.args.source.now c.hand_over.new.consumer
-    c.hand_over.ensures.mine same.0 refl same.1
-    (nothing_taken (cells_of c.args.gate.now) (view_of c.args.conductor.now) (view_of c.hand_over.new.conductor)
-    same.2).0 in
-    let end = goes_on_idle g.S.Source g.C.Consumer.took line limit g.C.Consumer.most c.args.gate.now mid
-    c.help.new.self c.put_next.new.intake c.put_next.new.source c.hand_over.new.consumer c.help.ensures.mine
-    still.0 still.2 refl
-    (subst (λ (k : Conductor g.row.W.Denot WindowView FrameDone).
-    SameJobs (view_of k) (view_of c.help.new.self)) still.1
-    (helped (cells_of c.args.gate.now) (view_of c.put_next.new.conductor) (view_of c.help.new.self) c.help.result
-    c.help.ensures.helps)) in (
+    let mid = goes_on_none_taken g.S.Source g.C.Consumer.took line limit g.C.Consumer.most c.args.gate.now may
+    c.hand_over.new.conductor c.hand_over.new.intake c.hand_over.new.consumer c.hand_over.ensures.mine
+    (c.in_ok-hand_over.ensures.same c.if-branch.false) in
+    let end = goes_on_helped g.S.Source g.C.Consumer.took line limit g.C.Consumer.most c.args.gate.now mid
+    c.put_next.new.conductor c.help.new.self c.put_next.new.intake c.put_next.new.source c.help.result
+    c.help.ensures.mine still.0 still.1 still.2 c.help.ensures.helps in (
       end,
       c.in-Some.is,
       omega (
