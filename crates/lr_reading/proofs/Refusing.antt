@@ -1,5 +1,5 @@
 -- Memory for reading was refused.
-use Rattle.std.proofs.Common.{◌≡◌, ℕ, List, [], ◌++◌, refl, arith}
+use Rattle.std.proofs.Common.{ℕ, List, [], ◌++◌, refl, arith}
 use Rattle.lr_io.specs.declared.source.Source.{Ghosts as SourceOf}
 use Rattle.lr_reading.specs.Arrivals.{arrivals_of}
 use Rattle.lr_reading.specs.Runs.{TakesSome}

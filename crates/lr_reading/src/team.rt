@@ -63,8 +63,8 @@ impl<H: Hand> Team<H> {
         Ok(Team { desk })
     }
 
-    /// Leads the consumer through all that comes of the symbols, as a `Reader` does. A thread is started for each worker
-    /// but the caller. Where there is no other worker, none is.
+    /// Leads the consumer through all that comes of the symbols, as a `Reader` does. A thread is started for each
+    /// worker but the caller. Where there is no other worker, none is.
     pub fn read<R: Threads + Wait + Sync, S: Source, C: Consumer>(
         self,
         rt: &R,

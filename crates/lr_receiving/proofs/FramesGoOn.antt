@@ -1,37 +1,16 @@
 -- `frames` goes on by one frame, and what it puts in all.
-use Rattle.std.proofs.Common.{
-  ◌≡◌,
-  ℕ,
-  ◌/◌,
-  ◌%◌,
-  List,
-  [],
-  ◌∷◌,
-  ◌++◌,
-  length,
-  map,
-  ap,
-  ◌∙◌,
-  sym,
-  refl,
-  subst,
-  arith,
-  ◌+◌,
-}
+use Rattle.std.proofs.Common.{◌≡◌, ℕ, ◌/◌, ◌%◌, List, [], ◌∷◌, ◌++◌, length, ap, ◌∙◌, sym, refl, subst, arith, ◌+◌}
 use Rattle.std.specs.List.{range_with_len}
 use Rattle.std.proofs.lemmas.List.{length-map}
 use Rattle.std.proofs.lemmas.List.FromFn.{length-range_with_len}
-use Rattle.lr_vc.specs.Frame.{frame_of}
-use Rattle.lr_catalog.specs.Frames.{frame_line}
 use Rattle.lr_io.specs.declared.sink.Sink.{Ghosts as SinkOf}
 use Rattle.lr_io.specs.declared.source.Source.{Ghosts as SourceOf}
-use Rattle.lr_catalog.specs.declared.stop.Stop.{Stop}
 use Rattle.lr_catalog.specs.declared.summary.Summary.TheVariants.{Frames as FramesLine}
 use Rattle.lr_catalog.specs.Summaries.{summary_line}
 use Rattle.lr_commands.specs.declared.cause.Cause.{Cause}
 use Rattle.lr_commands.specs.Puts.{Puts}
 use Rattle.lr_reading.specs.Arrivals.{arrivals_of, arrivals_of_units, arrival_of}
-use Rattle.lr_reading.specs.Inputs.{unit_bytes, outcome_of_unit}
+use Rattle.lr_reading.specs.Inputs.{outcome_of_unit}
 use Rattle.lr_reading.specs.Lines.{numbered_lines}
 use Rattle.lr_reading.specs.Reading.{unit_of, units_of}
 use Rattle.lr_reading.specs.Runs.{ReadsInput, TakesAll, TakesSome}

@@ -1,24 +1,6 @@
 -- What comes of a disk from which no shelf was loaded, and of one from which it was.
-use Rattle.std.proofs.Common.{
-  ◌≡◌,
-  ◌<◌,
-  inl,
-  ℕ,
-  List,
-  [],
-  ◌∷◌,
-  ◌++◌,
-  length,
-  refl,
-  sym,
-  ◌∙◌,
-  ap,
-  subst,
-  arith,
-  append-nil,
-}
+use Rattle.std.proofs.Common.{◌≡◌, inl, ℕ, List, [], ◌∷◌, ◌++◌, refl, sym, ◌∙◌, ap, subst, arith, append-nil}
 use Rattle.std.proofs.Common.{Result, Ok, Err, IfOk, MatchResult}
-use Rattle.std.proofs.lemmas.List.Elements.{All-nil}
 use Rattle.lr_bits.specs.declared.placed.Placed.{Placed}
 use Rattle.lr_io.specs.declared.source.Source.{Ghosts as SourceOf}
 use Rattle.lr_io.specs.declared.sink.Sink.{Ghosts as SinkOf}
@@ -26,8 +8,6 @@ use Rattle.lr_disk.specs.declared.disk.Disk.{Ghosts as DiskOf}
 use Rattle.lr_disk.specs.Disk.{LeavesOnly}
 use Rattle.lr_disk.specs.Reads.{IsUnwritten}
 use Rattle.lr_disk.proofs.Moments.{weaker, stays, unwritten_yet}
-use Rattle.lr_lock.specs.FramesOf.{frames_of}
-use Rattle.lr_frame.specs.Outcomes.{outcomes_of_symbols}
 use Rattle.lr_shelf_format.specs.Items.{Item}
 use Rattle.lr_shelf_format.specs.Reading.{StandsFor}
 use Rattle.lr_shelf_format.specs.Way.{IsWay, IsNoShelfAt}
@@ -48,11 +28,8 @@ use Rattle.lr_commands.specs.declared.cause.Cause.TheVariants.{Failed, NoMemory,
 use Rattle.lr_commands.specs.declared.cause.Party.TheVariants.{Disk, Output}
 use Rattle.lr_commands.specs.declared.cause.Refusal.TheVariants.{NotAShelf, Capacity}
 use Rattle.lr_commands.specs.Causes.{cause_of}
-use Rattle.lr_conv.specs.declared.line.LineCode.{LineCode}
 use Rattle.lr_reading.specs.declared.input.Input.{Input}
-use Rattle.lr_reading.specs.declared.input.Input.TheVariants.{Symbols, Units}
 use Rattle.lr_receiving.specs.Causes.{cause_at}
-use Rattle.lr_reading.specs.Inputs.{unit_bytes, outcomes_of_bytes}
 use Rattle.lr_receiving.specs.Inputs.{files_of_bytes}
 use Rattle.lr_reading.specs.Reading.{IsRead}
 use Rattle.lr_receiving.specs.Shelving.{next_number, shelved_lines, LeavesFronts}

@@ -1,35 +1,9 @@
 -- `packets` goes on by one frame, and what it puts in all.
-use Rattle.std.proofs.Common.{
-  ◌≡◌,
-  ℕ,
-  ◌+◌,
-  ◌*◌,
-  ◌<◌,
-  ◌≤◌,
-  ◌^◌,
-  List,
-  [],
-  ◌∷◌,
-  ◌++◌,
-  length,
-  map,
-  ap,
-  ◌∙◌,
-  sym,
-  refl,
-  subst,
-  arith,
-  append-nil,
-  length-append,
-  Result,
-  Ok,
-  Err,
-}
+use Rattle.std.proofs.Common.{◌≡◌, ℕ, ◌+◌, ◌*◌, ◌<◌, ◌≤◌, List, [], ◌∷◌, ◌++◌, length, ap, ◌∙◌, sym, refl, subst, arith, append-nil, length-append, Result, Ok, Err}
 use Rattle.std.specs.Prelude.{All}
 use Rattle.std.specs.Result.{result_ok}
 use Rattle.std.specs.List.{filter_map}
 use Rattle.std.proofs.lemmas.List.Elements.{All-nil, All-cons, All-head, All-tail, filter_map-append}
-use Rattle.lr_bits.specs.declared.outcome.Outcome.{Outcome}
 use Rattle.lr_bits.specs.declared.outcome.Outcome.TheVariants.{Restored, Lost}
 use Rattle.lr_bits.specs.declared.outcome.Corrected.{Corrected}
 use Rattle.lr_io.specs.declared.source.Source.{Ghosts as SourceOf}
@@ -43,8 +17,7 @@ use Rattle.lr_vc.specs.Standing.{Kept, StandsFor}
 use Rattle.lr_packet.specs.Verdict.{good_packets}
 use Rattle.lr_commands.specs.declared.cause.Cause.{Cause}
 use Rattle.lr_commands.specs.Puts.{Puts}
-use Rattle.lr_reading.specs.Arrivals.{arrival_of, arrivals_of, arrivals_of_units}
-use Rattle.lr_reading.specs.Inputs.{outcome_of_unit}
+use Rattle.lr_reading.specs.Arrivals.{arrivals_of, arrivals_of_units}
 use Rattle.lr_reading.specs.Reading.{units_of}
 use Rattle.lr_reading.specs.Runs.{ReadsInput, TakesAll, TakesSome}
 use Rattle.lr_reading.specs.declared.arrival.Arrival.{Arrival}

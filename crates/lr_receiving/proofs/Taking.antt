@@ -1,28 +1,5 @@
 -- `receive` goes on by one outcome, and what it does with all that comes of its input.
-use Rattle.std.proofs.Common.{
-  ◌≡◌,
-  ℕ,
-  ◌+◌,
-  ◌*◌,
-  ◌<◌,
-  ◌≤◌,
-  ◌^◌,
-  false,
-  List,
-  [],
-  ◌∷◌,
-  ◌++◌,
-  length,
-  map,
-  ap,
-  ◌∙◌,
-  sym,
-  refl,
-  subst,
-  arith,
-  append_assoc,
-  append-nil,
-}
+use Rattle.std.proofs.Common.{◌≡◌, ℕ, ◌+◌, ◌*◌, ◌<◌, ◌≤◌, ◌^◌, false, List, [], ◌∷◌, ◌++◌, length, ap, ◌∙◌, sym, refl, subst, arith, append_assoc, append-nil}
 use Rattle.std.specs.Prelude.{All}
 use Rattle.std.proofs.lemmas.List.{length-map, map-append}
 use Rattle.std.proofs.lemmas.List.Elements.{All-nil, All-head, All-tail}
@@ -47,10 +24,9 @@ use Rattle.lr_commands.specs.declared.cause.Cause.TheVariants.{NoMemory}
 use Rattle.lr_reading.specs.Arrivals.{HasWholeFrame, arrivals_of, outcomes_of_arrivals}
 use Rattle.lr_reading.specs.Inputs.{outcomes_of_bytes}
 use Rattle.lr_reading.specs.Reading.{EndsFor}
-use Rattle.lr_reading.specs.Runs.{ReadsInput, TakesAll, TakesSome}
+use Rattle.lr_reading.specs.Runs.{TakesAll, TakesSome}
 use Rattle.lr_reading.specs.declared.arrival.Arrival.{Arrival}
 use Rattle.lr_reading.specs.declared.input.Input.{Input}
-use Rattle.lr_reading.specs.declared.totals.Totals.{Totals}
 use Rattle.lr_reading.proofs.Coming.{outcomes_are, no_arrivals}
 use Rattle.lr_reading.proofs.Whole.{all_whole}
 use Rattle.lr_receiving.specs.declared.shelver.Shelver.{Shelver}

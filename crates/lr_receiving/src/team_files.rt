@@ -110,8 +110,8 @@ fn receive_onto_by_team<R: Threads + Wait + Sync, H: Hand, S: Source, D: Disk, O
     Ok(sums.totals.stop)
 }
 
-/// The same of symbols of this line code, with so many that work on windows, the caller among them. The memory for their
-/// ring and their hands is taken with that for reading.
+/// What `receive` does with symbols of this line code. This many work on windows, the caller among them. The memory
+/// for their ring and their hands is taken with that for reading.
 pub fn receive_by_team<R: Threads + Wait + Sync, H: Hand, S: Source, D: Disk, O: Sink>(
     rt: &R,
     alloc: Global,
@@ -172,7 +172,7 @@ fn shelve_stream_by_team<R: Threads + Wait + Sync, H: Hand, D: Disk>(
     receive_all_by_team(rt, alloc, team, &mut shelf, &mut source, disk, &mut lines)
 }
 
-/// The same, with so many that work on windows, the caller among them.
+/// What `trial` does. This many work on windows, the caller among them.
 pub fn trial_by_team<R: Threads + Wait + Sync, H: Hand, D: Disk, O: Sink>(
     rt: &R,
     alloc: Global,

@@ -69,7 +69,7 @@ fn put_outcomes_by_team<R: Threads + Wait + Sync, H: Hand, S: Source, O: Sink>(
     Ok(totals.stop)
 }
 
-/// The same of symbols of this line code, with so many that work on windows, the caller among them.
+/// What `decode` does with symbols of this line code. This many work on windows, the caller among them.
 pub fn decode_by_team<R: Threads + Wait + Sync, H: Hand, S: Source, O: Sink>(
     rt: &R,
     alloc: Global,

@@ -11,7 +11,8 @@ use std::thread::Threads;
 /// A place that no source and no sink of these trials reaches.
 pub const NEVER: u64 = 1_000_000_000;
 
-/// What a call is given: its words and bytes, the length of its reads, and the places at which source and `out` fail once.
+/// What a call is given: its words and bytes, the length of its reads, and the places at which source and `out` fail
+/// once.
 #[derive(Clone, Copy)]
 pub struct Given<'a> {
     pub words: &'a str,

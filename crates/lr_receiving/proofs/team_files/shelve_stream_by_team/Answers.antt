@@ -29,7 +29,8 @@ returns-clause-line g c =
     lines g.D.Disk c.args.symbols.items c.args.disk.now c.init.new.disk c.init.result c.in_ok-init.was
     c.init.ensures c.load.new.disk c.load.result c.load.ensures _ _ most_bytes c.requires.few
     c.in_ok-shelf.shelf c.in_ok-shelf.was
-    c.of-source.result c.receive_all_by_team.new.source tt c.of-source.ensures c.receive_all_by_team.new.disk c.new-lines.result
+    c.of-source.result c.receive_all_by_team.new.source tt c.of-source.ensures c.receive_all_by_team.new.disk
+    c.new-lines.result
     c.receive_all_by_team.new.out c.receive_all_by_team.new.shelf c.receive_all_by_team.result
     (rw c.requires.input at c.receive_all_by_team.ensures.all) none_rose
 
@@ -38,7 +39,8 @@ returns-clause-done g c =
     all_done g.D.Disk c.args.symbols.items c.args.disk.now c.init.new.disk c.init.result c.in_ok-init.was
     c.init.ensures c.load.new.disk c.load.result c.load.ensures _ _ most_bytes c.requires.few
     c.in_ok-shelf.shelf c.in_ok-shelf.was
-    c.of-source.result c.receive_all_by_team.new.source tt c.of-source.ensures c.receive_all_by_team.new.disk c.new-lines.result
+    c.of-source.result c.receive_all_by_team.new.source tt c.of-source.ensures c.receive_all_by_team.new.disk
+    c.new-lines.result
     c.receive_all_by_team.new.out c.receive_all_by_team.new.shelf c.receive_all_by_team.result
     (rw c.requires.input at c.receive_all_by_team.ensures.all) none_rose c.receive_all_by_team.ensures.counts
 
@@ -47,7 +49,9 @@ returns-clause-stopped g c =
     some_done g.D.Disk c.args.symbols.items c.args.disk.now c.init.new.disk c.init.result c.in_ok-init.was
     c.init.ensures c.load.new.disk c.load.result c.load.ensures _ _ most_bytes c.requires.few
     c.in_ok-shelf.shelf c.in_ok-shelf.was
-    c.of-source.result c.receive_all_by_team.new.source tt c.of-source.ensures c.receive_all_by_team.new.disk c.new-lines.result
+    c.of-source.result c.receive_all_by_team.new.source tt c.of-source.ensures c.receive_all_by_team.new.disk
+    c.new-lines.result
     c.receive_all_by_team.new.out c.receive_all_by_team.result
-    (rw c.requires.input at c.receive_all_by_team.ensures.some) none_rose c.requires.fit c.receive_all_by_team.ensures.kind _ _
+    (rw c.requires.input at c.receive_all_by_team.ensures.some) none_rose c.requires.fit
+    c.receive_all_by_team.ensures.kind _ _
     _ _ c.receive_all_by_team.ensures.cause

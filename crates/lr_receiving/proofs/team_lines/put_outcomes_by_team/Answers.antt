@@ -15,7 +15,8 @@ returns-in_err-team-clause-stopped g c =
 pub put_last-requires : goal.put_last-requires
 put_last-requires g c =
     let all = rw c.in_ok-team.ensures at c.in_ok-totals.ensures.all in
-    no_more_restored g.S.Source (Symbols c.args.line) c.args.most c.in_ok-totals.totals c.in_ok-totals.restored all.0 _ _
+    no_more_restored g.S.Source (Symbols c.args.line) c.args.most c.in_ok-totals.totals c.in_ok-totals.restored
+    all.0 _ _
     all.1 all.2
 
 pub returns-in_err-put_last-clause-stopped : goal.returns-in_err-put_last-clause-stopped
@@ -23,7 +24,8 @@ returns-in_err-put_last-clause-stopped g c =
     let p = err_from_is_err_and c.from_residual-in_err-put_last.result c.from_residual-in_err-put_last.ensures.1 in
     let all = rw c.in_ok-team.ensures at c.in_ok-totals.ensures.all in
     rw (p.1, p.2)
-    (last_stopped g.S.Source g.O.Sink (decode_text (Symbols c.args.line)) (decode_last (Symbols c.args.line)) c.args.most all.0
+    (last_stopped g.S.Source g.O.Sink (decode_text (Symbols c.args.line)) (decode_last (Symbols c.args.line))
+    c.args.most all.0
     all.1.read c.in_ok-totals.totals.stop all.1.reason all.3 _
     (decode_last_is g.S.Source (Symbols c.args.line) c.args.most c.in_ok-totals.totals c.in_ok-totals.restored all.0 _ _
     all.1 all.2) c.put_last.new.out _ c.in_err-put_last.ensures.stopped)
@@ -31,7 +33,8 @@ returns-in_err-put_last-clause-stopped g c =
 pub returns-clause-all : goal.returns-clause-all
 returns-clause-all g c =
     let all = rw c.in_ok-team.ensures at c.in_ok-totals.ensures.all in
-    all_put g.S.Source g.O.Sink (decode_text (Symbols c.args.line)) (decode_last (Symbols c.args.line)) c.args.most all.0 all.1.read
+    all_put g.S.Source g.O.Sink (decode_text (Symbols c.args.line)) (decode_last (Symbols c.args.line))
+    c.args.most all.0 all.1.read
     c.in_ok-totals.totals.stop all.1.reason all.3 _
     (decode_last_is g.S.Source (Symbols c.args.line) c.args.most c.in_ok-totals.totals c.in_ok-totals.restored all.0 _ _
     all.1 all.2) c.in_ok-put_last.ensures.put

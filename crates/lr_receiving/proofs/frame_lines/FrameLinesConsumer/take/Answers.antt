@@ -1,4 +1,4 @@
-use Rattle.std.proofs.Common.{◌+◌, ◌∷◌, [], arith, length-append}
+use Rattle.std.proofs.Common.{◌∷◌, [], arith, length-append}
 use Rattle.std.proofs.lemmas.Result.{err_from_is_err_and}
 use Rattle.lr_receiving.proofs.FramesGoOn.{text_put, text_stopped}
 use Rattle.lr_receiving.proofs.frame_lines.FrameLinesConsumer.take.Goals as goal

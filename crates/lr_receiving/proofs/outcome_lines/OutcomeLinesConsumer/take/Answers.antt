@@ -1,4 +1,4 @@
-use Rattle.std.proofs.Common.{◌+◌, ◌∷◌, [], arith, length-append}
+use Rattle.std.proofs.Common.{◌∷◌, [], arith, length-append}
 use Rattle.std.proofs.lemmas.Result.{err_from_is_err_and}
 use Rattle.lr_receiving.proofs.DecodeText.{text_put, text_stopped, restored_more}
 use Rattle.lr_receiving.proofs.outcome_lines.OutcomeLinesConsumer.take.Goals as goal
