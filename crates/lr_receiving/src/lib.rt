@@ -3,6 +3,8 @@
 //! `frames`, `packets` and `decode` print lines of the bytes that they read, and their contract is `Prints`. `receive`
 //! puts the mission files of its input onto the shelf, each acknowledged by its line; its contract is `ReceiveRun`.
 //! Each of them is a `Consumer` of what comes of the input (`lr_reading`).
+//! A `.._by_team` does with symbols what the command of that name does, by a `Team` of several threads; it has the same
+//! contract.
 //! `init` makes an empty shelf (`InitRun`), `make` writes the test stream (`MakeEnds`), and `trial` receives that
 //! stream onto a shelf that it makes (`TrialRun`). Each says for every cause what became of source, disk and `out`.
 #![tactic(auto)]

@@ -15,13 +15,15 @@ pub enum Command {
     Packets {
         most: u64,
     },
-    /// A line for what became of each window or block; at most `most` bytes are taken.
+    /// A line for what became of each window or block; at most `most` bytes are taken. Of symbols this many work on
+    /// windows, the caller among them.
     Decode {
         input: Input,
         workers: u32,
         most: u64,
     },
-    /// Puts each mission file onto the shelf; at most `most` bytes are taken.
+    /// Puts each mission file onto the shelf; at most `most` bytes are taken. Of symbols this many work on windows, the
+    /// caller among them.
     Receive {
         input: Input,
         workers: u32,
@@ -63,7 +65,7 @@ pub enum Command {
         form: Output,
     },
     /// The main job on `frames` frames of that stream: the symbols are made and received onto a shelf that is made for
-    /// them.
+    /// them. This many work on windows, the caller among them.
     Trial {
         start: u64,
         frames: u64,
