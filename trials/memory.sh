@@ -1,25 +1,112 @@
 #!/bin/sh
-# Refused memory: the tests of `lr_trials_devices` named `refused` do the station's work on a disk (`receive` of two files,
-# `init`, `discard`, and `trial` of three frames), and the toolchain refuses one request for memory in each run, the one of this
-# number in each test. The station must do its work or end with 9, and what is on the shelf must be what was acknowledged.
-# The jobs make fewer than 160 requests each; past its last one a job runs as without a refusal. Each number takes a minute or
-# more, since the toolchain builds the tests anew for it. No crate need be proved. Usage: trials/memory.sh [FIRST [LAST]]
-# (the numbers 1 to 160). Needs rt.
+# Refused memory: each command of the program does its work on a real shelf again and again, and in each run one request for
+# memory is refused, the first, the second, and so on, until the command makes no more. The command must do its work, or end with
+# 9, its line and a front of what it prints; or, where the path's name finds no memory, with 1 and nothing printed. Then
+# the shelf must hold what was acknowledged and nothing else. Usage: trials/memory.sh. Needs rt, gcc and python3.
+set -e
 top=$(cd "$(dirname "$0")/.." && pwd)
-first=${1:-1}
-last=${2:-160}
-log=$(mktemp) || exit 1
-trap 'rm -f "$log"' EXIT
-cd "$top/crates/lr_trials_devices" || exit 1
-failed=0
-for number in $(seq "$first" "$last"); do
-    if rt try --test --fail-alloc "$number" -- refused > "$log" 2>&1; then
-        echo "request $number: passed"
-    else
-        echo "request $number: FAILED"
-        cat "$log"
-        failed=$((failed + 1))
-    fi
+for tool in gcc python3; do
+    command -v "$tool" > /dev/null || { echo "trials/memory.sh: skipped, $tool isn't here"; exit 0; }
 done
-echo "trials/memory.sh: $failed of the requests $first to $last failed"
-[ "$failed" = 0 ]
+scratch=$(mktemp -d)
+trap 'rm -rf "$scratch"' EXIT
+"$top/lritstation" - frames < /dev/null > "$scratch/build.log" 2>&1 || { cat "$scratch/build.log"; exit 1; }
+cp "$top/crates/lr_program/out/lr_program" "$scratch/lritstation"
+gcc -O2 -shared -fPIC "$top/trials/refuse.c" -o "$scratch/refuse.so"
+cd "$scratch"
+python3 - <<'PYTHON'
+import os, shutil, subprocess, sys
+
+NO_MEMORY = b"station: no memory\n"
+
+def run(words, stdin=b"", refuse=0):
+    """Status, output, error line, and whether a request was refused."""
+    environment = dict(os.environ)
+    if os.path.exists("refused"):
+        os.remove("refused")
+    if refuse:
+        environment.update(LD_PRELOAD="./refuse.so", REFUSE=str(refuse), REFUSED="refused")
+    done = subprocess.run(["./lritstation", "shelf"] + words.split(), input=stdin, capture_output=True, env=environment)
+    return done.returncode, done.stdout, done.stderr, os.path.exists("refused")
+
+def contents():
+    with open("shelf", "rb") as shelf:
+        return shelf.read()
+
+def put(bytes):
+    with open("shelf", "wb") as shelf:
+        shelf.write(bytes)
+
+def made(words):
+    return subprocess.run(["./lritstation", "-"] + words.split(), capture_output=True, check=True).stdout
+
+frames = made("make 1 10 3 --output frames")
+symbols = made("make 1 10 3")
+put(b"")
+assert run("init 100000")[0] == 0
+empty = contents()
+assert run("receive --input frames", frames)[0] == 0
+full = contents()
+
+def files():
+    """How many files the shelf has, each of them sound."""
+    status, text, _, _ = run("verify")
+    lines = text.splitlines()
+    assert status == 0 and all(line.endswith((b" ok", b" discarded")) for line in lines), (status, text)
+    return len(lines)
+
+# For each command: its words, its input, and the shelf that it finds.
+JOBS = [
+    ("init 100000", b"", b""),
+    ("receive --input frames", frames, empty),
+    ("receive", symbols, empty),
+    ("receive --workers 3", symbols, empty),
+    ("trial 1 10 3", b"", b""),
+    ("trial 1 10 3 --workers 3", b"", b""),
+    ("discard 1", b"", full),
+    ("list", b"", full), ("show 7", b"", full), ("extract 7", b"", full), ("verify", b"", full),
+    ("export 7", b"", full), ("assemble 0 8 100 1", b"", full),
+    ("frames", frames, full), ("packets", frames, full), ("decode", symbols, full), ("decode --workers 3", symbols, full),
+]
+
+def is_sound(words, before, status, out, whole_out, whole_shelf):
+    now = contents()
+    if status != 9:
+        return now == (whole_shelf if status != 1 else before)
+    name = words.split()[0]
+    if name == "init":
+        return now == before
+    if name == "trial":
+        return now == before or files() <= 9
+    if name == "discard":
+        return now in (before, whole_shelf)
+    if name == "receive":
+        return files() == out.count(b"shelved ") and whole_out.startswith(out)
+    return now == before
+
+failed = runs = 0
+for words, stdin, before in JOBS:
+    put(before)
+    usual = run(words, stdin)
+    whole_shelf = contents()
+    counts = {}
+    number = 0
+    while True:
+        number += 1
+        put(before)
+        status, out, error, refused = run(words, stdin, refuse=number)
+        if not refused:
+            break
+        runs += 1
+        counts[status] = counts.get(status, 0) + 1
+        good = (status, out, error) == usual[:3] \
+            or (status == 9 and error == NO_MEMORY and usual[1].startswith(out)) \
+            or (status == 1 and not out and not error)
+        if not good or not is_sound(words, before, status, out, usual[1], whole_shelf):
+            failed += 1
+            print(f"{words}: request {number} FAILED: status {status}, {out[-80:]!r}, {error!r}")
+    told = ", ".join(f"{count} ended with {status}" for status, count in sorted(counts.items()))
+    print(f"{words}: {number - 1} requests; {told}")
+print(f"trials/memory.sh: {runs} runs, failed {failed}")
+sys.exit(failed != 0)
+PYTHON

@@ -89,15 +89,15 @@ fn in_file(rt: &HostRuntime, count: u64) -> Result<Shelf, Trouble> {
     let mut options = fs::OpenOptions::new();
     options.read(true).write(true).create(true).truncate(true);
     let mut disk = FileDisk::of(options.open(rt, PATH)?);
-    filled(rt.alloc(), &mut disk, count)
+    filled_shelf(rt.alloc(), &mut disk, count)
 }
 
 fn in_memory(alloc: Global, count: u64) -> Result<Shelf, Trouble> {
     let mut disk = MemDisk::of(alloc, Vec::new(alloc), ROOM, ROOM)?;
-    filled(alloc, &mut disk, count)
+    filled_shelf(alloc, &mut disk, count)
 }
 
-fn loaded(rt: &HostRuntime) -> Result<Shelf, Trouble> {
+fn loaded_shelf(rt: &HostRuntime) -> Result<Shelf, Trouble> {
     let mut options = fs::OpenOptions::new();
     options.read(true).write(true);
     let mut disk = FileDisk::of(options.open(rt, PATH)?);
@@ -109,7 +109,7 @@ fn many(alloc: Global, files: u64, calls: u64) -> Result<MemDisk, Trouble> {
     let room = files.saturating_mul(FILE_BYTES).saturating_add(100);
     let appends = files.saturating_mul(4).saturating_add(100);
     let mut made = MemDisk::of(alloc, Vec::new(alloc), room, appends)?;
-    filled(alloc, &mut made, files)?;
+    filled_shelf(alloc, &mut made, files)?;
     let bytes = made.as_slice().to_vec(alloc)?;
     if bytes.len() as u64 > room {
         return Err(Trouble::NoFile);
@@ -145,7 +145,7 @@ pub fn run(rt: &HostRuntime, name: &str, rounds: u64) -> Result<(), Trouble> {
     let shelf = match name {
         "shelf-memory" | "all" => in_memory(rt.alloc(), rounds)?,
         "shelf-file" => in_file(rt, rounds)?,
-        "shelf-load" => loaded(rt)?,
+        "shelf-load" => loaded_shelf(rt)?,
         "shelf-loads" => load_again(rt.alloc(), rounds)?,
         "shelf-verify" => return count_reads(rt, rounds),
         _ => return Ok(()),

@@ -50,7 +50,7 @@ use Rattle.lr_gate.specs.Steps.{after_put}
 use Rattle.lr_gate.specs.declared.view.View.{View}
 use Rattle.lr_catalog.specs.declared.stop.Stop.{Stop}
 use Rattle.lr_reading.specs.Feeding.{FeedState, symbols_left, arrivals_given}
-use Rattle.lr_reading.specs.Rounds.{arrival_of_window, AreOfLine, HasJobs, handed, feeding_left, rounds_left}
+use Rattle.lr_reading.specs.Rounds.{arrival_of_window, AreOfLine, HasJobs, first_arrivals, feeding_left, rounds_left}
 use Rattle.lr_reading.specs.declared.arrival.Arrival.{Arrival}
 use Rattle.lr_reading.specs.declared.intake.Intake.{Intake}
 
@@ -79,7 +79,7 @@ module _ {line : LineCode} {bytes : List ℕ} {given : List Frame} {view : View 
 
     -- what becomes of it is the next arrival
     pub handed_more : take (view.taken + 1) (arrivals_given line bytes given)
-        ≡ handed line bytes given view ++ arrival_of_window j ∷ []
+        ≡ first_arrivals line bytes given view ++ arrival_of_window j ∷ []
     handed_more = subst (λ (l : List Arrival). take (view.taken + 1) l ≡ take view.taken l ++ arrival_of_window j ∷ [])
         jobs.jobs (ap (λ (k : ℕ). take k (map arrival_of_window view.jobs))
         (let e : view.taken + 1 ≡ suc view.taken = omega arith in e)

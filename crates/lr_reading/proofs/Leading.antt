@@ -61,7 +61,7 @@ use Rattle.lr_reading.specs.Rounds.{
   HasWindows,
   HasJobs,
   IsOver,
-  handed,
+  first_arrivals,
   IsPut,
   PutsMore,
   MayHandOver,
@@ -103,9 +103,9 @@ module _ {C : Type 0} (took : C → List Arrival → C → Type 0) (view : View 
     (j : WindowView) (at : get_elem? view.jobs view.taken ≡ some j) where
   module _ (arrival : Arrival) (is : arrival ≡ arrival_of_window j) where
     handed_then : {line : LineCode} {bytes : List ℕ} {given : List Frame} → HasJobs line bytes given view intake
-        → take (view.taken + 1) (arrivals_given line bytes given) ≡ handed line bytes given view ++ arrival ∷ []
+        → take (view.taken + 1) (arrivals_given line bytes given) ≡ first_arrivals line bytes given view ++ arrival ∷ []
     handed_then {line} {bytes} {given} jobs = handed_more jobs j at
-        ∙ ap (λ (a : Arrival). handed line bytes given view ++ a ∷ []) (sym is)
+        ∙ ap (λ (a : Arrival). first_arrivals line bytes given view ++ a ∷ []) (sym is)
 
     pub stops_at : {Cause : Type 0} (stopped : C → List Arrival → Cause → C → Type 0) (cause : Cause) (now' : C)
         → ((c : C) (arrivals : List Arrival) → took c arrivals now → stopped c (arrivals ++ arrival ∷ []) cause now')
@@ -113,7 +113,7 @@ module _ {C : Type 0} (took : C → List Arrival → C → Type 0) (view : View 
     stops_at {Cause} stopped cause now' stops = λ line bytes given jobs c taken. (
       at_length view.jobs view.taken j at,
       subst (λ (l : List Arrival). stopped c l cause now') (sym (handed_then jobs))
-          (stops c (handed line bytes given view) taken),
+          (stops c (first_arrivals line bytes given view) taken),
     )
 
     pub hands_over : (view' : View WindowView) (intake' : Intake) (window : WindowView) (now' : C)
@@ -140,7 +140,7 @@ module _ {C : Type 0} (took : C → List Arrival → C → Type 0) (view : View 
       takes = λ line bytes given has c so.
           subst (λ (l : List Arrival). took c l now')
           (sym (ap (λ (k : ℕ). take k (arrivals_given line bytes given)) taken ∙ handed_then has))
-          (takes c (handed line bytes given view) so);
+          (takes c (first_arrivals line bytes given view) so);
     }
 
 -- ---- a window is put
@@ -296,8 +296,8 @@ module _ {S C W D : Type 0} (source : SourceOf S) (took : C → List Arrival →
     };
   }
     where
-      same : handed line puts.all puts.every (view_of conductor')
-          ≡ handed line may.led.bytes may.led.given (view_of conductor)
+      same : first_arrivals line puts.all puts.every (view_of conductor')
+          ≡ first_arrivals line may.led.bytes may.led.given (view_of conductor)
       same = ap (λ (k : ℕ). take k (arrivals_given line puts.all puts.every)) taken
           ∙ ap (take (view_of conductor).taken) puts.grown
           ∙ take-append-le (view_of conductor).taken (arrivals_given line may.led.bytes may.led.given) puts.rest
@@ -464,7 +464,7 @@ module _ {S C W D : Type 0} (source : SourceOf S) (took : C → List Arrival →
       come : arrivals_of (Symbols line) may.led.bytes ≡ arrivals_given line may.led.bytes may.led.given
       come = arrivals_all line may.led.bytes may.led.given over.every
 
-      whole : handed line may.led.bytes may.led.given (view_of conductor)
+      whole : first_arrivals line may.led.bytes may.led.given (view_of conductor)
           ≡ arrivals_given line may.led.bytes may.led.given
       whole = ap (λ (k : ℕ). take k (arrivals_given line may.led.bytes may.led.given))
           (all ∙ sym (as_many may.led.is_put.jobs))

@@ -81,8 +81,8 @@ pub record IsOver (line : LineCode) (bytes : List ℕ) (given : List Frame) (fee
   pub every : AreFrames (tail_of line) (symbols_of bytes) given
 
 -- the first arrivals, as many as were taken
-abbrev pub handed : LineCode → List ℕ → List Frame → View WindowView → List Arrival
-handed line bytes given view = take view.taken (arrivals_given line bytes given)
+abbrev pub first_arrivals : LineCode → List ℕ → List Frame → View WindowView → List Arrival
+first_arrivals line bytes given view = take view.taken (arrivals_given line bytes given)
 
 -- ---- how long it takes
 
@@ -126,7 +126,7 @@ module _ {C : Type 0} (took : C → List Arrival → C → Type 0) where
     pub given : List Frame
     pub jobs : HasJobs line bytes given view intake
     pub first : C
-    pub taken : took first (handed line bytes given view) now
+    pub taken : took first (first_arrivals line bytes given view) now
     pub few : 892 * put_count view ≤ most
 
   -- the consumer took the arrival of the oldest job, and the job's window is spare
@@ -140,14 +140,14 @@ module _ {C : Type 0} (took : C → List Arrival → C → Type 0) where
     pub still : (line : LineCode) (bytes : List ℕ) (given : List Frame) → HasJobs line bytes given view intake
         → HasJobs line bytes given view' intake'
     pub takes : (line : LineCode) (bytes : List ℕ) (given : List Frame) → HasJobs line bytes given view intake
-        → (c : C) → took c (handed line bytes given view) now → took c (handed line bytes given view') now'
+        → (c : C) → took c (first_arrivals line bytes given view) now → took c (first_arrivals line bytes given view') now'
 
   -- the consumer stopped for this cause at the arrival of the oldest job
   abbrev pub StopsAt : {Cause : Type 0} → (C → List Arrival → Cause → C → Type 0) → Cause
       → View WindowView → Intake → C → C → Type 0
   StopsAt {Cause} stopped cause view intake now now' =
       (line : LineCode) (bytes : List ℕ) (given : List Frame) → HasJobs line bytes given view intake
-      → (c : C) → took c (handed line bytes given view) now
+      → (c : C) → took c (first_arrivals line bytes given view) now
       → (view.taken < put_count view)
       × stopped c (take (view.taken + 1) (arrivals_given line bytes given)) cause now'
 
@@ -160,7 +160,7 @@ module _ {S C : Type 0} (source : SourceOf S) (took : C → List Arrival → C �
     pub bytes : List ℕ
     pub given : List Frame
     pub is_put : IsPut source line limit bytes given view intake s s'
-    pub taken : (c : C) → took c [] before → took c (handed line bytes given view) now
+    pub taken : (c : C) → took c [] before → took c (first_arrivals line bytes given view) now
 
   -- With a consumer that may take what comes of this many bytes
   module _ {W D : Type 0} (most : ℕ) (gate : Gate W WindowView D) where

@@ -1,6 +1,7 @@
 //! What the commands put and answer, on a shelf of version 1 that goes on. Its bytes are those of `reference/shelf.py`.
 use crate::shared::{
-    OLD_SHELF, discards, disk, ended, extracts, sink, verifies, with_byte, with_capacity, with_two,
+    OLD_SHELF, discards, disk, ended_with, extracts, sink, verifies, with_byte, with_capacity,
+    with_two,
 };
 use lr_commands::{Cause, Refusal};
 use lr_disk::MemDisk;
@@ -16,13 +17,13 @@ fn extract_puts(
 ) -> Result<bool, Fail> {
     let mut out = sink(alloc)?;
     let cause = extracts(alloc, number, &mut made, &mut out);
-    Ok(ended(cause, &out, status, text))
+    Ok(ended_with(cause, &out, status, text))
 }
 
 fn verify_puts(alloc: Global, mut made: MemDisk, status: u8, text: &str) -> Result<bool, Fail> {
     let mut out = sink(alloc)?;
     let cause = verifies(alloc, &mut made, &mut out);
-    Ok(ended(cause, &out, status, text.as_bytes()))
+    Ok(ended_with(cause, &out, status, text.as_bytes()))
 }
 
 fn discard_puts(
@@ -34,7 +35,7 @@ fn discard_puts(
 ) -> Result<bool, Fail> {
     let mut out = sink(alloc)?;
     let cause = discards(alloc, number, &mut made, &mut out);
-    Ok(ended(cause, &out, status, text.as_bytes()))
+    Ok(ended_with(cause, &out, status, text.as_bytes()))
 }
 
 /// The shelf of two files, the first of which is discarded.
@@ -42,7 +43,7 @@ pub(crate) fn without_first(alloc: Global) -> Result<MemDisk, Fail> {
     let mut made = with_two(alloc)?;
     let mut out = sink(alloc)?;
     let cause = discards(alloc, 0, &mut made, &mut out);
-    if ended(cause, &out, 0, b"discarded 0\n") && made.as_slice().len() == 141 {
+    if ended_with(cause, &out, 0, b"discarded 0\n") && made.as_slice().len() == 141 {
         Ok(made)
     } else {
         Err(Fail::from("it wasn't discarded"))

@@ -1,5 +1,5 @@
 //! Images that go out in several pieces.
-use crate::shared::{ended, with_room};
+use crate::shared::{ended_with, with_room};
 use lr_bits::{Bytes, Lengths, MissionFile, NoMemory, Origin, Placed};
 use lr_commands::Cause;
 use lr_commands::export::export;
@@ -79,11 +79,11 @@ fn ends(
 ) -> Result<bool, Fail> {
     let mut out = with_room(alloc, room)?;
     let cause = exports(alloc, made, &mut out);
-    Ok(ended(cause, &out, status, text))
+    Ok(ended_with(cause, &out, status, text))
 }
 
 /// A head and what comes after it.
-fn joined(alloc: Global, head: &[u8], rest: &[u8]) -> Result<Vec<u8>, Fail> {
+fn joined_bytes(alloc: Global, head: &[u8], rest: &[u8]) -> Result<Vec<u8>, Fail> {
     let mut text = head.to_vec(alloc)?;
     text.extend_from_slice(rest)?;
     Ok(text)
@@ -92,7 +92,7 @@ fn joined(alloc: Global, head: &[u8], rest: &[u8]) -> Result<Vec<u8>, Fail> {
 /// Whether the image is put with this head and its data after it; and where there is less room, the front of them.
 fn puts(alloc: Global, bits: u8, columns: u8, head: &[u8]) -> Result<bool, Fail> {
     let pixels = data(alloc)?;
-    let text = joined(alloc, head, &pixels)?;
+    let text = joined_bytes(alloc, head, &pixels)?;
     let mut made = with_image(alloc, bits, columns, &pixels)?;
     let front = &text[..33_333.min(text.len())];
     Ok(ends(alloc, &mut made, 50_000, 0, &text)? && ends(alloc, &mut made, 33_333, 5, front)?)

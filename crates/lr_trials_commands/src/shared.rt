@@ -88,7 +88,7 @@ pub(crate) fn with_room(alloc: Global, room: usize) -> Result<MemSink, Fail> {
 }
 
 /// Whether a run ended with this status, and put this text.
-pub(crate) fn ended(cause: Cause, out: &MemSink, status: u8, text: &[u8]) -> bool {
+pub(crate) fn ended_with(cause: Cause, out: &MemSink, status: u8, text: &[u8]) -> bool {
     cause.status() == status && out.as_slice() == text
 }
 

@@ -1,6 +1,6 @@
 //! Runs that a failure of the disk or of the output ends.
 use crate::shared::{
-    OLD_SHELF, discards, disk, ended, extracts, sink, verifies, with_room, with_two,
+    OLD_SHELF, discards, disk, ended_with, extracts, sink, verifies, with_room, with_two,
 };
 use lr_disk::MemDisk;
 use std::alloc::Global;
@@ -10,7 +10,7 @@ use std::test::Fail;
 fn is_discarded(alloc: Global, made: &mut MemDisk) -> Result<bool, Fail> {
     let mut out = sink(alloc)?;
     let cause = verifies(alloc, made, &mut out);
-    if ended(cause, &out, 0, b"file 0 discarded\nfile 1 ok\n") {
+    if ended_with(cause, &out, 0, b"file 0 discarded\nfile 1 ok\n") {
         Ok(true)
     } else if out.as_slice() == b"file 0 ok\nfile 1 ok\n".as_slice() {
         Ok(false)
@@ -24,7 +24,7 @@ fn discards_into(alloc: Global, room: usize, status: u8, put: &[u8]) -> Result<b
     let mut made = with_two(alloc)?;
     let mut out = with_room(alloc, room)?;
     let cause = discards(alloc, 0, &mut made, &mut out);
-    Ok(ended(cause, &out, status, put) && is_discarded(alloc, &mut made)?)
+    Ok(ended_with(cause, &out, status, put) && is_discarded(alloc, &mut made)?)
 }
 
 /// Discards file 0 where one call of the disk fails, counted from the run's first: status 4, and nothing is put.
@@ -35,7 +35,7 @@ fn stopped_at(alloc: Global, after: u64) -> Result<bool, Fail> {
     let mut out = sink(alloc)?;
     made.fail_at(after);
     let cause = discards(alloc, 0, &mut made, &mut out);
-    if !ended(cause, &out, 4, b"") {
+    if !ended_with(cause, &out, 4, b"") {
         return Err(Fail::from("another end"));
     }
     is_discarded(alloc, &mut made)

@@ -56,7 +56,7 @@ fn bytes_of(alloc: Global, text: &str) -> Result<Bytes, NoMemory> {
     Ok(bytes)
 }
 
-fn decoded(alloc: Global, shape: Shape, coded: &[u8]) -> Result<Pixels, RiceFault> {
+fn decoded_pixels(alloc: Global, shape: Shape, coded: &[u8]) -> Result<Pixels, RiceFault> {
     let Shape {
         bits,
         block,
@@ -73,7 +73,7 @@ fn decoded(alloc: Global, shape: Shape, coded: &[u8]) -> Result<Pixels, RiceFaul
 /// Whether the text gives these samples.
 fn gives(alloc: Global, shape: Shape, text: &str, wanted: &[u16]) -> Result<bool, NoMemory> {
     let coded = bytes_of(alloc, text)?;
-    Ok(match decoded(alloc, shape, coded.as_slice()) {
+    Ok(match decoded_pixels(alloc, shape, coded.as_slice()) {
         Ok(pixels) => *pixels.as_slice() == *wanted,
         Err(_) => false,
     })
@@ -88,7 +88,7 @@ fn gives_all(
     value: u16,
 ) -> Result<bool, NoMemory> {
     let coded = bytes_of(alloc, text)?;
-    Ok(match decoded(alloc, shape, coded.as_slice()) {
+    Ok(match decoded_pixels(alloc, shape, coded.as_slice()) {
         Ok(pixels) => {
             let samples = pixels.as_slice();
             samples.len() == count && samples.iter().all(|sample| *sample == value)
@@ -110,7 +110,7 @@ fn is_same(found: RiceFault, wanted: RiceFault) -> bool {
 /// Whether the text has this fault.
 fn fails(alloc: Global, shape: Shape, text: &str, wanted: RiceFault) -> Result<bool, NoMemory> {
     let coded = bytes_of(alloc, text)?;
-    Ok(match decoded(alloc, shape, coded.as_slice()) {
+    Ok(match decoded_pixels(alloc, shape, coded.as_slice()) {
         Ok(_) => false,
         Err(fault) => is_same(fault, wanted),
     })

@@ -22,7 +22,7 @@ fn plain(bits: u8, columns: u16, lines: u16) -> [u8; 35] {
 }
 
 /// The header of a coded image of 8 columns: its lines, how many samples a block has, and how many lines a piece.
-fn coded(lines: u8, block: u8, each: u8) -> [u8; 42] {
+fn coded_header(lines: u8, block: u8, each: u8) -> [u8; 42] {
     [
         0, 1, 0, 0, 0, 0, 0, 0, 1, 48, 0x00, 0x00, 0x10, 0x00, 0x00, 0x00, 0x00, 0x20, 0, 0, 0, 0,
         0, 0, 0, 48, 0x01, 0x00, 0x09, 8, 0, 8, 0, lines, 1, 0x83, 0x00, 0x07, 0x00, 49, block,
@@ -84,14 +84,20 @@ fn pixels_go_on_from_body_to_body(rt: HostRuntime) -> Result<(), Fail> {
 #[test]
 fn the_last_piece_has_the_lines_that_are_left(rt: HostRuntime) -> Result<(), Fail> {
     let alloc = rt.alloc();
-    assert!(rt; shows(alloc, &[&coded(2, 8, 2), &BOTH], LINES_OF_FIVE)?);
-    assert!(rt; shows(alloc, &[&coded(3, 8, 2), &BOTH, &FIRST], THREE_LINES)?);
+    assert!(rt; shows(alloc, &[&coded_header(2, 8, 2), &BOTH], LINES_OF_FIVE)?);
+    assert!(rt; shows(alloc, &[&coded_header(3, 8, 2), &BOTH, &FIRST], THREE_LINES)?);
     // A piece after the last wanted line isn't read.
-    assert!(rt; shows(alloc, &[&coded(2, 8, 2), &BOTH, &[0xFF]], LINES_OF_FIVE)?);
+    assert!(rt;
+        shows(
+            alloc,
+            &[&coded_header(2, 8, 2), &BOTH, &[0xFF]],
+            LINES_OF_FIVE
+        )?
+    );
     assert!(rt;
         fails(
             alloc,
-            &[&coded(3, 8, 2), &BOTH],
+            &[&coded_header(3, 8, 2), &BOTH],
             ImageFault::Short { pixels: 16 }
         )?
     );
@@ -141,27 +147,27 @@ fn limits_of_blocks(rt: HostRuntime) -> Result<(), Fail> {
     assert!(rt;
         fails(
             alloc,
-            &[&coded(2, 0, 1), &FIRST],
+            &[&coded_header(2, 0, 1), &FIRST],
             ImageFault::BlockSize { block: 0 }
         )?
     );
     assert!(rt;
         fails(
             alloc,
-            &[&coded(2, 65, 1), &FIRST],
+            &[&coded_header(2, 65, 1), &FIRST],
             ImageFault::BlockSize { block: 65 }
         )?
     );
     assert!(rt;
         fails(
             alloc,
-            &[&coded(2, 66, 1), &FIRST],
+            &[&coded_header(2, 66, 1), &FIRST],
             ImageFault::BlockSize { block: 66 }
         )?
     );
     // Lines of one block of 64, of which the last 56 are dropped.
     let lines = b"P5\n8 2\n255\n\x05\x05\x05\x05\x05\x05\x05\x05\x05\x05\x05\x05\x05\x05\x05\x05";
-    assert!(rt; shows(alloc, &[&coded(2, 64, 1), &FIRST, &FIRST], lines)?);
+    assert!(rt; shows(alloc, &[&coded_header(2, 64, 1), &FIRST, &FIRST], lines)?);
     Ok(())
 }
 

@@ -65,7 +65,7 @@ fn is_fault<T: Drop>(answer: Result<T, AssembleFault>, wanted: AssembleFault) ->
 
 // ---- the calls
 
-fn begun(alloc: Global, segment: &Segment) -> Result<Assembly, AssembleFault> {
+fn begun_assembly(alloc: Global, segment: &Segment) -> Result<Assembly, AssembleFault> {
     Assembly::new(alloc, segment, 8)
 }
 
@@ -123,7 +123,9 @@ fn gives(assembly: Assembly, wanted: &[u16]) -> bool {
 #[test]
 fn later_segments_replace_earlier_ones(rt: HostRuntime) -> Result<(), Fail> {
     let alloc = rt.alloc();
-    let mut assembly = begun(alloc, &segment(0, 0)).ok().ok_or("no assembly")?;
+    let mut assembly = begun_assembly(alloc, &segment(0, 0))
+        .ok()
+        .ok_or("no assembly")?;
     let is_replaced = replaces(alloc, &mut assembly)?;
     assert!(rt; is_replaced && gives(assembly, &[1, 9, 0, 0]));
     Ok(())
@@ -133,14 +135,14 @@ fn later_segments_replace_earlier_ones(rt: HostRuntime) -> Result<(), Fail> {
 fn an_image_has_columns_and_lines(rt: HostRuntime) -> Result<(), Fail> {
     let mut none = segment(0, 0);
     none.columns = 0;
-    assert!(rt; is_fault(begun(rt.alloc(), &none), AssembleFault::Empty));
+    assert!(rt; is_fault(begun_assembly(rt.alloc(), &none), AssembleFault::Empty));
     let mut large = segment(0, 0);
     large.columns = 65_535;
     large.lines = 65_535;
     let pixels = 65_535 * 65_535;
     assert!(rt;
         is_fault(
-            begun(rt.alloc(), &large),
+            begun_assembly(rt.alloc(), &large),
             AssembleFault::TooLarge { pixels }
         )
     );

@@ -25,7 +25,7 @@ struct Piece {
 }
 
 /// A packet of channel 0 and application 100.
-fn sent(flags: u8, count: u16, from: usize, to: usize) -> Piece {
+fn sent_piece(flags: u8, count: u16, from: usize, to: usize) -> Piece {
     Piece {
         vc: 0,
         apid: 100,
@@ -103,7 +103,7 @@ fn single(alloc: Global) -> Result<bool, NoMemory> {
 }
 
 /// Two keys whose packets interleave: the file of the second ends first.
-fn interleaved(alloc: Global, vc: u8, apid: u16) -> Result<bool, NoMemory> {
+fn are_interleaved(alloc: Global, vc: u8, apid: u16) -> Result<bool, NoMemory> {
     let other = |flags, count, from, to| Piece {
         vc,
         apid,
@@ -115,11 +115,11 @@ fn interleaved(alloc: Global, vc: u8, apid: u16) -> Result<bool, NoMemory> {
     let files = files_of(
         alloc,
         &[
-            sent(1, 5, 0, 4),
+            sent_piece(1, 5, 0, 4),
             other(1, 8, 0, 3),
-            sent(0, 6, 4, 6),
+            sent_piece(0, 6, 4, 6),
             other(2, 9, 3, 10),
-            sent(2, 7, 6, 10),
+            sent_piece(2, 7, 6, 10),
         ],
     )?;
     Ok(
@@ -137,8 +137,8 @@ fn interleaved(alloc: Global, vc: u8, apid: u16) -> Result<bool, NoMemory> {
 fn one_packet_is_a_file(rt: HostRuntime) -> Result<(), Fail> {
     let alloc = rt.alloc();
     assert!(rt; single(alloc)?);
-    assert!(rt; make_one(alloc, &[sent(3, 9, 0, 10)], &[10])?);
-    assert!(rt; make_none(alloc, &[sent(3, 9, 0, 9)])?);
+    assert!(rt; make_one(alloc, &[sent_piece(3, 9, 0, 10)], &[10])?);
+    assert!(rt; make_none(alloc, &[sent_piece(3, 9, 0, 9)])?);
     Ok(())
 }
 
@@ -146,13 +146,17 @@ fn one_packet_is_a_file(rt: HostRuntime) -> Result<(), Fail> {
 fn several_packets_are_a_file(rt: HostRuntime) -> Result<(), Fail> {
     let alloc = rt.alloc();
     let four = [
-        sent(1, 4, 0, 5),
-        sent(0, 5, 5, 5),
-        sent(0, 6, 5, 8),
-        sent(2, 7, 8, 10),
+        sent_piece(1, 4, 0, 5),
+        sent_piece(0, 5, 5, 5),
+        sent_piece(0, 6, 5, 8),
+        sent_piece(2, 7, 8, 10),
     ];
     assert!(rt; make_one(alloc, &four, &[5, 0, 3, 2])?);
-    let nine = [sent(1, 4, 0, 3), sent(0, 5, 3, 6), sent(2, 6, 6, 9)];
+    let nine = [
+        sent_piece(1, 4, 0, 3),
+        sent_piece(0, 5, 3, 6),
+        sent_piece(2, 6, 6, 9),
+    ];
     assert!(rt; make_none(alloc, &nine)?);
     Ok(())
 }
@@ -161,17 +165,17 @@ fn several_packets_are_a_file(rt: HostRuntime) -> Result<(), Fail> {
 fn counts_follow_one_another(rt: HostRuntime) -> Result<(), Fail> {
     let alloc = rt.alloc();
     let wrapped = [
-        sent(1, 16_382, 0, 2),
-        sent(0, 16_383, 2, 4),
-        sent(2, 0, 4, 10),
+        sent_piece(1, 16_382, 0, 2),
+        sent_piece(0, 16_383, 2, 4),
+        sent_piece(2, 0, 4, 10),
     ];
     assert!(rt; make_one(alloc, &wrapped, &[2, 2, 6])?);
     let jumped = [
-        sent(1, 4, 0, 5),
-        sent(0, 5, 5, 6),
-        sent(2, 7, 8, 10),
-        sent(1, 8, 0, 6),
-        sent(2, 9, 6, 10),
+        sent_piece(1, 4, 0, 5),
+        sent_piece(0, 5, 5, 6),
+        sent_piece(2, 7, 8, 10),
+        sent_piece(1, 8, 0, 6),
+        sent_piece(2, 9, 6, 10),
     ];
     assert!(rt; make_one(alloc, &jumped, &[6, 4])?);
     Ok(())
@@ -180,9 +184,17 @@ fn counts_follow_one_another(rt: HostRuntime) -> Result<(), Fail> {
 #[test]
 fn a_first_packet_begins_anew(rt: HostRuntime) -> Result<(), Fail> {
     let alloc = rt.alloc();
-    let twice = [sent(1, 1, 0, 3), sent(1, 2, 0, 5), sent(2, 3, 5, 10)];
+    let twice = [
+        sent_piece(1, 1, 0, 3),
+        sent_piece(1, 2, 0, 5),
+        sent_piece(2, 3, 5, 10),
+    ];
     assert!(rt; make_one(alloc, &twice, &[5, 5])?);
-    let inside = [sent(1, 1, 0, 5), sent(3, 2, 0, 10), sent(2, 3, 5, 10)];
+    let inside = [
+        sent_piece(1, 1, 0, 5),
+        sent_piece(3, 2, 0, 10),
+        sent_piece(2, 3, 5, 10),
+    ];
     assert!(rt; make_one(alloc, &inside, &[10])?);
     Ok(())
 }
@@ -190,15 +202,15 @@ fn a_first_packet_begins_anew(rt: HostRuntime) -> Result<(), Fail> {
 #[test]
 fn without_a_first_packet_there_is_no_file(rt: HostRuntime) -> Result<(), Fail> {
     let alloc = rt.alloc();
-    assert!(rt; make_none(alloc, &[sent(2, 1, 0, 10)])?);
-    assert!(rt; make_none(alloc, &[sent(0, 1, 0, 5), sent(2, 2, 5, 10)])?);
+    assert!(rt; make_none(alloc, &[sent_piece(2, 1, 0, 10)])?);
+    assert!(rt; make_none(alloc, &[sent_piece(0, 1, 0, 5), sent_piece(2, 2, 5, 10)])?);
     Ok(())
 }
 
 #[test]
 fn channels_and_applications_are_apart(rt: HostRuntime) -> Result<(), Fail> {
     let alloc = rt.alloc();
-    assert!(rt; interleaved(alloc, 1, 100)?);
-    assert!(rt; interleaved(alloc, 0, 101)?);
+    assert!(rt; are_interleaved(alloc, 1, 100)?);
+    assert!(rt; are_interleaved(alloc, 0, 101)?);
     Ok(())
 }

@@ -3,7 +3,7 @@
 ghost use Rattle.std.specs.Prelude.{◌≡◌};
 
 use crate::drawn::drawn_stream;
-use crate::streams::{bytes_of, coded_frames, part, sent, turn};
+use crate::streams::{bytes_of, coded_frames, part, sent_symbols, turn};
 use lr_bits::{FRAME_BYTES, NoMemory, Outcome, WINDOW_SYMBOLS};
 use lr_conv::{LineCode, MARKER_SYMBOLS, STANDARD};
 use lr_frame::FrameWork;
@@ -94,7 +94,7 @@ fn plain_frames(alloc: Global, line: LineCode, bytes: &[u8]) -> Result<u32, NoMe
 #[test]
 fn windows_lead_to_frames(rt: HostRuntime) -> Result<(), Fail> {
     let alloc = rt.alloc();
-    let stream = sent(alloc)?;
+    let stream = sent_symbols(alloc)?;
     assert!(rt; first_frame_is_plain(alloc, &stream)?);
     assert!(rt;
         plain_frames(

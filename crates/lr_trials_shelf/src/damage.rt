@@ -68,7 +68,7 @@ fn begins_with(made: &MemDisk, damaged: &MemDisk) -> bool {
 }
 
 /// A shelf of both files, with its last gate open and these bytes after it.
-fn opened(alloc: Global, more: &[u8]) -> Result<Vec<u8>, Fail> {
+fn opened_shelf(alloc: Global, more: &[u8]) -> Result<Vec<u8>, Fail> {
     let whole = with_two(alloc)?;
     let mut bytes = whole.as_slice().to_vec(alloc)?;
     bytes.truncate(LAST_GATE);
@@ -98,7 +98,7 @@ fn is_discarded_once(alloc: Global) -> Result<bool, Fail> {
 
 /// A disk with these bytes after the last gate.
 fn disk_with(alloc: Global, more: &[u8]) -> Result<MemDisk, Fail> {
-    let bytes = opened(alloc, more)?;
+    let bytes = opened_shelf(alloc, more)?;
     disk(alloc, &bytes)
 }
 

@@ -47,7 +47,7 @@ fn a_sure_disk_is_empty(alloc: Global) -> bool {
 }
 
 /// An empty file, which is open to be read and written.
-fn opened(rt: &HostRuntime, path: &str) -> io::Result<File> {
+fn opened_file(rt: &HostRuntime, path: &str) -> io::Result<File> {
     let mut options = fs::OpenOptions::new();
     options.read(true).write(true).create(true).truncate(true);
     options.open(rt, path)
@@ -101,7 +101,7 @@ fn is_cut(real: &mut FileDisk) -> bool {
 
 fn a_file_is_a_shelf(rt: &HostRuntime) -> Result<bool, Fail> {
     let path = "lr_trials_shelf.tmp";
-    let mut real = FileDisk::of(opened(rt, path)?);
+    let mut real = FileDisk::of(opened_file(rt, path)?);
     let is_shelf = is_shelf_of_large(rt.alloc(), &mut real)? && is_cut(&mut real);
     fs::remove_file(rt, path)?;
     Ok(is_shelf)

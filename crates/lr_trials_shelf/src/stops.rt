@@ -35,7 +35,7 @@ fn with_second(alloc: Global) -> Result<MemDisk, Fail> {
 }
 
 /// What a stop inside this call leaves.
-fn stopped(alloc: Global, made: &MemDisk, call: u64, kind: u8) -> Result<MemDisk, Fail> {
+fn stopped_disk(alloc: Global, made: &MemDisk, call: u64, kind: u8) -> Result<MemDisk, Fail> {
     if call >= made.calls() || kind > 2 {
         return Err(Fail::from("no such call"));
     }
@@ -59,7 +59,7 @@ fn holds_one_or_two(alloc: Global, made: &mut MemDisk) -> Result<bool, Fail> {
 fn stops_are_harmless(alloc: Global, kind: u8) -> Result<bool, Fail> {
     let made = with_second(alloc)?;
     for call in 0..LOAD_CALLS + APPEND_CALLS {
-        let mut left = stopped(alloc, &made, call, kind)?;
+        let mut left = stopped_disk(alloc, &made, call, kind)?;
         if !holds_one_or_two(alloc, &mut left)? {
             return Ok(false);
         }
@@ -78,7 +78,7 @@ fn is_kept(shelf: &Shelf, left: &mut MemDisk, torn: &[u8]) -> bool {
 /// A stop in the write that opens the second gate left 7F there.
 fn a_torn_gate_is_closed(alloc: Global) -> Result<bool, Fail> {
     let whole = with_second(alloc)?;
-    let mut left = stopped(alloc, &whole, GATE_CALL, 2)?;
+    let mut left = stopped_disk(alloc, &whole, GATE_CALL, 2)?;
     let torn = left.as_slice().to_vec(alloc)?;
     let mut shelf = load(alloc, &mut left)?;
     Ok(

@@ -1,5 +1,5 @@
 // `decode --input blocks` and `receive --input blocks`.
-use crate::call::{AMPLE, Input, NEVER, done, gives, gives_on};
+use crate::call::{AMPLE, Input, NEVER, done_with, gives, gives_on};
 use crate::shelves::empty_shelf;
 use crate::stated::{FRAME, file_7};
 use lr_block::{derandomise, encode_block};
@@ -30,15 +30,15 @@ const AFTER_LOST: &str = "shelved 0 vc 0 apid 100 counter 7 bytes 26 packets 1\n
 symbols 2040 frames 2 restored 1 lost 1 packets 1 files 1 left 0 stop end\n";
 
 // The bytes 40, which are a block of four codewords, as they are sent.
-fn sent() -> [u8; BLOCK] {
+fn sent_block() -> [u8; BLOCK] {
     let mut block = [0x40; BLOCK];
     derandomise(&mut block);
     block
 }
 
 // The same with seventeen wrong bytes in the first word.
-fn damaged() -> [u8; BLOCK] {
-    let mut block = sent();
+fn damaged_block() -> [u8; BLOCK] {
+    let mut block = sent_block();
     for (place, byte) in block.iter_mut().enumerate() {
         if place % 60 == 56 {
             *byte ^= 0xFF;
@@ -61,7 +61,7 @@ fn block_of_file(alloc: Global) -> Result<[u8; BLOCK], Fail> {
 }
 
 // These blocks, one behind the other.
-fn joined(alloc: Global, first: &[u8], second: &[u8]) -> Result<Vec<u8>, Fail> {
+fn joined_bytes(alloc: Global, first: &[u8], second: &[u8]) -> Result<Vec<u8>, Fail> {
     let mut bytes = Vec::new(alloc);
     bytes.extend_from_slice(first)?;
     bytes.extend_from_slice(second)?;
@@ -76,7 +76,7 @@ fn decodes(alloc: Global, bytes: Vec<u8>, reads: usize, out: &str) -> Result<boo
         reads,
         fault: NEVER,
     };
-    gives(alloc, input, AMPLE, done(out))
+    gives(alloc, input, AMPLE, done_with(out))
 }
 
 // Onto an empty shelf.
@@ -88,17 +88,45 @@ fn receives(alloc: Global, bytes: Vec<u8>, reads: usize, out: &str) -> Result<bo
         reads,
         fault: NEVER,
     };
-    gives_on(alloc, &mut shelf, input, AMPLE, done(out))
+    gives_on(alloc, &mut shelf, input, AMPLE, done_with(out))
 }
 
 #[test]
 fn each_block_has_its_line_however_the_reads_are_cut(rt: HostRuntime) -> Result<(), Fail> {
     let alloc = rt.alloc();
     for reads in [1, 1020, 4096] {
-        assert!(rt; decodes(alloc, joined(alloc, &sent(), &[])?, reads, RESTORED)?);
-        assert!(rt; decodes(alloc, joined(alloc, &damaged(), &[])?, reads, LOST)?);
-        assert!(rt; decodes(alloc, joined(alloc, &sent(), &[7; 5])?, reads, CUT_SHORT)?);
-        assert!(rt; decodes(alloc, joined(alloc, &damaged(), &sent())?, reads, BOTH)?);
+        assert!(rt;
+            decodes(
+                alloc,
+                joined_bytes(alloc, &sent_block(), &[])?,
+                reads,
+                RESTORED
+            )?
+        );
+        assert!(rt;
+            decodes(
+                alloc,
+                joined_bytes(alloc, &damaged_block(), &[])?,
+                reads,
+                LOST
+            )?
+        );
+        assert!(rt;
+            decodes(
+                alloc,
+                joined_bytes(alloc, &sent_block(), &[7; 5])?,
+                reads,
+                CUT_SHORT
+            )?
+        );
+        assert!(rt;
+            decodes(
+                alloc,
+                joined_bytes(alloc, &damaged_block(), &sent_block())?,
+                reads,
+                BOTH
+            )?
+        );
     }
     Ok(())
 }
@@ -108,9 +136,23 @@ fn a_block_gives_the_files_of_its_frame(rt: HostRuntime) -> Result<(), Fail> {
     let alloc = rt.alloc();
     let block = block_of_file(alloc)?;
     for reads in [1, 1020, 4096] {
-        assert!(rt; receives(alloc, joined(alloc, &block, &[])?, reads, ONE_FILE)?);
-        assert!(rt; receives(alloc, joined(alloc, &damaged(), &[])?, reads, NO_FILE)?);
-        assert!(rt; receives(alloc, joined(alloc, &damaged(), &block)?, reads, AFTER_LOST)?);
+        assert!(rt; receives(alloc, joined_bytes(alloc, &block, &[])?, reads, ONE_FILE)?);
+        assert!(rt;
+            receives(
+                alloc,
+                joined_bytes(alloc, &damaged_block(), &[])?,
+                reads,
+                NO_FILE
+            )?
+        );
+        assert!(rt;
+            receives(
+                alloc,
+                joined_bytes(alloc, &damaged_block(), &block)?,
+                reads,
+                AFTER_LOST
+            )?
+        );
     }
     Ok(())
 }

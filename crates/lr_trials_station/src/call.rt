@@ -40,7 +40,7 @@ pub const AMPLE: Room = Room {
 };
 
 /// The work is done, and this is printed.
-pub fn done(out: &str) -> Outcome<'_> {
+pub fn done_with(out: &str) -> Outcome<'_> {
     Outcome {
         out,
         status: 0,
@@ -49,7 +49,7 @@ pub fn done(out: &str) -> Outcome<'_> {
 }
 
 /// Nothing is printed.
-pub fn refused(status: u8, line: &str) -> Outcome<'_> {
+pub fn refused_with(status: u8, line: &str) -> Outcome<'_> {
     Outcome {
         out: "",
         status,
@@ -57,7 +57,7 @@ pub fn refused(status: u8, line: &str) -> Outcome<'_> {
     }
 }
 
-fn owned(alloc: Global, words: &[&str]) -> Result<Vec<String>, AllocError> {
+fn owned_words(alloc: Global, words: &[&str]) -> Result<Vec<String>, AllocError> {
     let mut all = Vec::new(alloc);
     for word in words {
         all.push(String::from_str(alloc, word)?)?;
@@ -74,7 +74,7 @@ struct Printed {
 }
 
 fn call(alloc: Global, disk: &mut MemDisk, input: Input<'_>, room: Room) -> Result<Printed, Fail> {
-    let words = owned(alloc, input.words)?;
+    let words = owned_words(alloc, input.words)?;
     let bytes = MemSource::of(input.bytes, Vec::new(alloc), vec![in alloc; input.fault]?);
     let mut source = ShortSource::of(bytes, input.reads);
     let mut out = MemSink::of(alloc, vec![in alloc; room.fault]?, room.bytes)?;
@@ -152,7 +152,7 @@ pub fn written_on(
 }
 
 /// The same, over a disk of which no call succeeds.
-pub fn written(alloc: Global, words: &[&str], bytes: usize) -> Result<Vec<u8>, Fail> {
+pub fn written_bytes(alloc: Global, words: &[&str], bytes: usize) -> Result<Vec<u8>, Fail> {
     let mut disk = MemDisk::of(alloc, Vec::new(alloc), 0, 0)?;
     written_on(alloc, &mut disk, words, bytes)
 }

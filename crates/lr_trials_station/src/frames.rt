@@ -1,5 +1,5 @@
 // `frames`.
-use crate::call::{AMPLE, Input, NEVER, Outcome, Room, done, gives, refused};
+use crate::call::{AMPLE, Input, NEVER, Outcome, Room, done_with, gives, refused_with};
 use std::alloc::Global;
 use std::test::Fail;
 
@@ -29,7 +29,7 @@ fn frames(
 }
 
 fn prints(alloc: Global, byte: u8, count: usize, reads: usize, out: &str) -> Result<bool, Fail> {
-    frames(alloc, byte, count, reads, NEVER, done(out))
+    frames(alloc, byte, count, reads, NEVER, done_with(out))
 }
 
 #[test]
@@ -85,7 +85,7 @@ fn is_refused(alloc: Global, words: &[&str]) -> Result<bool, Fail> {
         reads: 892,
         fault: NEVER,
     };
-    let wanted = refused(2, "station: usage: SHELF COMMAND [WORDS]\n");
+    let wanted = refused_with(2, "station: usage: SHELF COMMAND [WORDS]\n");
     gives(alloc, input, AMPLE, wanted)
 }
 

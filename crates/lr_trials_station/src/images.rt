@@ -1,5 +1,7 @@
 // `export` and `assemble`.
-use crate::call::{AMPLE, Outcome, done, gives_alone, printed_on, refused, written, written_on};
+use crate::call::{
+    AMPLE, Outcome, done_with, gives_alone, printed_on, refused_with, written_bytes, written_on,
+};
 use crate::made::{LINES, reading, shelf};
 use crate::shelves::{FRAMES, TWO_FILES, disk, empty_shelf, with_byte};
 use crate::stated::{FRAME, header, idle};
@@ -106,7 +108,7 @@ fn exports(alloc: Global, bodies: &[&[u8]], wanted: &[u8]) -> Result<bool, Fail>
 // Whether the file of these bodies is refused, with this line.
 fn refuses(alloc: Global, bodies: &[&[u8]], line: &str) -> Result<bool, Fail> {
     let mut made = shelf_of(alloc, bodies, &[])?;
-    gives_alone(alloc, &mut made, &["export", "0"], refused(8, line))
+    gives_alone(alloc, &mut made, &["export", "0"], refused_with(8, line))
 }
 
 // Places of the coded image's first body, other bytes there, and the line of the fault.
@@ -193,7 +195,7 @@ fn faults_of_the_data_field_and_of_a_key(rt: HostRuntime) -> Result<(), Fail> {
 #[test]
 fn an_image_of_the_test_stream_is_exported(rt: HostRuntime) -> Result<(), Fail> {
     let alloc = rt.alloc();
-    let frames = written(
+    let frames = written_bytes(
         alloc,
         &["make", "1", "64", "0", "--output", "frames"],
         60_000,
@@ -205,9 +207,9 @@ fn an_image_of_the_test_stream_is_exported(rt: HostRuntime) -> Result<(), Fail> 
     assert!(rt; image.len() == 4_109 && file.len() == 4_121);
     assert!(rt; image.starts_with(b"P5\n64 64\n255\n"));
     assert!(rt; &image[13..] == &file[25..]);
-    let none = refused(8, "station: cannot export: not-image\n");
+    let none = refused_with(8, "station: cannot export: not-image\n");
     assert!(rt; gives_alone(alloc, &mut made, &["export", "0"], none)?);
-    let beyond = refused(7, "station: no such file, count 63\n");
+    let beyond = refused_with(7, "station: no such file, count 63\n");
     assert!(rt; gives_alone(alloc, &mut made, &["export", "63"], beyond)?);
     Ok(())
 }
@@ -216,12 +218,19 @@ fn an_image_of_the_test_stream_is_exported(rt: HostRuntime) -> Result<(), Fail> 
 fn files_that_are_not_there_are_not_exported(rt: HostRuntime) -> Result<(), Fail> {
     let alloc = rt.alloc();
     let mut bad = with_byte(alloc, 135, 0xA5)?;
-    let wrong = refused(12, "station: bad checksum\n");
+    let wrong = refused_with(12, "station: bad checksum\n");
     assert!(rt; gives_alone(alloc, &mut bad, &["export", "1"], wrong)?);
     assert!(rt; gives_alone(alloc, &mut bad, &["assemble", "0", "2", "7", "1"], wrong)?);
     let mut gone = disk(alloc, &TWO_FILES)?;
-    assert!(rt; gives_alone(alloc, &mut gone, &["discard", "1"], done("discarded 1\n"))?);
-    let discarded = refused(13, "station: discarded\n");
+    assert!(rt;
+        gives_alone(
+            alloc,
+            &mut gone,
+            &["discard", "1"],
+            done_with("discarded 1\n")
+        )?
+    );
+    let discarded = refused_with(13, "station: discarded\n");
     assert!(rt; gives_alone(alloc, &mut gone, &["export", "1"], discarded)?);
     Ok(())
 }
@@ -238,7 +247,7 @@ fn at_column_1() -> [u8; 52] {
 
 const ALL_OF_1: [&str; 5] = ["assemble", "0", "2", "100", "1"];
 
-fn assembled(out: &'static str, line: &'static str) -> Outcome<'static> {
+fn assembled_as(out: &'static str, line: &'static str) -> Outcome<'static> {
     Outcome {
         out,
         status: 0,
@@ -266,7 +275,7 @@ const USAGE: &str = "station: usage: SHELF COMMAND [WORDS]\n";
 // Whether each of these is refused so.
 fn refuses_each(alloc: Global, made: &mut MemDisk) -> Result<bool, Fail> {
     for (words, status, line) in REFUSED {
-        if !gives_alone(alloc, made, &words, refused(status, line))? {
+        if !gives_alone(alloc, made, &words, refused_with(status, line))? {
             return Ok(false);
         }
     }
@@ -277,7 +286,7 @@ fn refuses_each(alloc: Global, made: &mut MemDisk) -> Result<bool, Fail> {
 fn segments_are_put_together(rt: HostRuntime) -> Result<(), Fail> {
     let alloc = rt.alloc();
     let mut made = two_segments(alloc, &at_column_1(), &[9])?;
-    let two = assembled(
+    let two = assembled_as(
         "P5\n2 2\n255\n\u{1}\u{9}\0\0",
         "assembled 2 skipped 0 uncovered 2\n",
     );
@@ -292,14 +301,21 @@ fn segments_without_an_image_are_skipped_and_gone_ones_left_out(
 ) -> Result<(), Fail> {
     let alloc = rt.alloc();
     let mut made = two_segments(alloc, &with(&at_column_1(), 34, 2), &[9])?;
-    let one = assembled(
+    let one = assembled_as(
         "P5\n2 2\n255\n\u{1}\u{2}\0\0",
         "assembled 1 skipped 1 uncovered 2\n",
     );
     assert!(rt; gives_alone(alloc, &mut made, &ALL_OF_1, one)?);
     let mut gone = two_segments(alloc, &at_column_1(), &[9])?;
-    assert!(rt; gives_alone(alloc, &mut gone, &["discard", "0"], done("discarded 0\n"))?);
-    let other = assembled(
+    assert!(rt;
+        gives_alone(
+            alloc,
+            &mut gone,
+            &["discard", "0"],
+            done_with("discarded 0\n")
+        )?
+    );
+    let other = assembled_as(
         "P5\n2 2\n255\n\0\u{9}\0\0",
         "assembled 1 skipped 0 uncovered 3\n",
     );
@@ -310,13 +326,13 @@ fn segments_without_an_image_are_skipped_and_gone_ones_left_out(
 // Whether segments of which the second has this header are refused, with this line.
 fn refuses_second(alloc: Global, second: &[u8], line: &str) -> Result<bool, Fail> {
     let mut made = two_segments(alloc, second, &[9, 9])?;
-    gives_alone(alloc, &mut made, &ALL_OF_1, refused(8, line))
+    gives_alone(alloc, &mut made, &ALL_OF_1, refused_with(8, line))
 }
 
 // The same of the first.
 fn refuses_first(alloc: Global, first: &[u8], line: &str) -> Result<bool, Fail> {
     let mut made = shelf_of(alloc, &[first, &[1, 2]], &[&SEGMENT, &[1, 2]])?;
-    gives_alone(alloc, &mut made, &ALL_OF_1, refused(8, line))
+    gives_alone(alloc, &mut made, &ALL_OF_1, refused_with(8, line))
 }
 
 #[test]

@@ -1,5 +1,7 @@
 // `verify` and `extract`, and what a stop leaves.
-use crate::call::{AMPLE, Input, NEVER, Outcome, Room, done, gives_alone, gives_on, refused};
+use crate::call::{
+    AMPLE, Input, NEVER, Outcome, Room, done_with, gives_alone, gives_on, refused_with,
+};
 use crate::shelves::{FRAMES, TWO_FILES, disk, disk_of_calls, one_file, with_byte};
 use crate::stated::{file_8, two_files};
 use std::alloc::Global;
@@ -52,7 +54,7 @@ fn extracts(alloc: Global, place: usize, number: &str, wanted: Outcome<'_>) -> R
 fn each_checksum_has_its_line(rt: HostRuntime) -> Result<(), Fail> {
     let alloc = rt.alloc();
     let mut shelf = disk(alloc, &TWO_FILES)?;
-    assert!(rt; gives_alone(alloc, &mut shelf, &["verify"], done(BOTH))?);
+    assert!(rt; gives_alone(alloc, &mut shelf, &["verify"], done_with(BOTH))?);
     assert!(rt; verifies(alloc, 68, FIRST_BAD)?);
     assert!(rt; verifies(alloc, 135, SECOND_BAD)?);
     Ok(())
@@ -61,12 +63,12 @@ fn each_checksum_has_its_line(rt: HostRuntime) -> Result<(), Fail> {
 #[test]
 fn a_sound_file_is_extracted(rt: HostRuntime) -> Result<(), Fail> {
     let alloc = rt.alloc();
-    let bad = refused(12, "station: bad checksum\n");
-    let missing = refused(7, "station: no such file, count 2\n");
-    assert!(rt; extracts(alloc, 135, "0", done(PROPER))?);
+    let bad = refused_with(12, "station: bad checksum\n");
+    let missing = refused_with(7, "station: no such file, count 2\n");
+    assert!(rt; extracts(alloc, 135, "0", done_with(PROPER))?);
     assert!(rt; extracts(alloc, 135, "1", bad)?);
     assert!(rt; extracts(alloc, 68, "0", bad)?);
-    assert!(rt; extracts(alloc, 68, "1", done(PROPER))?);
+    assert!(rt; extracts(alloc, 68, "1", done_with(PROPER))?);
     assert!(rt; extracts(alloc, 68, "2", missing)?);
     assert!(rt; extracts(alloc, 68, "18446744073709551615", missing)?);
     Ok(())
@@ -75,7 +77,7 @@ fn a_sound_file_is_extracted(rt: HostRuntime) -> Result<(), Fail> {
 // All three commands find no shelf on a disk of these bytes, and leave it.
 fn is_no_shelf(alloc: Global, bytes: &[u8], line: &str) -> Result<bool, Fail> {
     let mut shelf = disk(alloc, bytes)?;
-    let wanted = refused(6, line);
+    let wanted = refused_with(6, line);
     let received = gives_on(alloc, &mut shelf, one_file(alloc)?, AMPLE, wanted)?;
     let extracted = gives_alone(alloc, &mut shelf, &["extract", "0"], wanted)?;
     let verified = gives_alone(alloc, &mut shelf, &["verify"], wanted)?;
@@ -114,8 +116,8 @@ fn next_file(alloc: Global) -> Result<Input<'static>, Fail> {
 // A stop in the write that opens the second gate left 7F there. The next file stands in the place of the second.
 fn a_stop_leaves_no_file(alloc: Global) -> Result<bool, Fail> {
     let mut shelf = with_byte(alloc, 86, 0x7F)?;
-    let without = gives_alone(alloc, &mut shelf, &["verify"], done("file 0 ok\n"))?;
-    let added = gives_on(alloc, &mut shelf, next_file(alloc)?, AMPLE, done(NEXT))?;
+    let without = gives_alone(alloc, &mut shelf, &["verify"], done_with("file 0 ok\n"))?;
+    let added = gives_on(alloc, &mut shelf, next_file(alloc)?, AMPLE, done_with(NEXT))?;
     Ok(without && added && shelf.as_slice() == ONE_BY_ONE.as_slice())
 }
 
@@ -142,14 +144,14 @@ fn disk_fails(alloc: Global, calls: u64, out: &str, verified: &str) -> Result<bo
     };
     let fails = gives_on(alloc, &mut shelf, input, AMPLE, wanted)?;
     let mut again = disk(alloc, shelf.as_slice())?;
-    let stands = gives_alone(alloc, &mut again, &["verify"], done(verified))?;
+    let stands = gives_alone(alloc, &mut again, &["verify"], done_with(verified))?;
     Ok(fails && stands)
 }
 
 // These words alone, over a disk that allows no call.
 fn no_call_succeeds(alloc: Global, words: &[&str]) -> Result<bool, Fail> {
     let mut shelf = disk_of_calls(alloc, &TWO_FILES, 0)?;
-    let wanted = refused(4, "station: disk failed\n");
+    let wanted = refused_with(4, "station: disk failed\n");
     gives_alone(alloc, &mut shelf, words, wanted)
 }
 

@@ -1,6 +1,6 @@
 //! How many bytes are taken, where a word says so.
 
-use crate::call::{AMPLE, Input, NEVER, done, gives, gives_on};
+use crate::call::{AMPLE, Input, NEVER, done_with, gives, gives_on};
 use crate::shelves::empty_shelf;
 use std::alloc::Global;
 use std::test::Fail;
@@ -22,7 +22,7 @@ fn prints(alloc: Global, words: &[&str], fault: u64, out: &str) -> Result<bool, 
         reads: 893,
         fault,
     };
-    gives(alloc, input, AMPLE, done(out))
+    gives(alloc, input, AMPLE, done_with(out))
 }
 
 #[test]
@@ -47,7 +47,7 @@ fn a_limit_of_nothing_shelves_nothing(rt: HostRuntime) -> Result<(), Fail> {
             reads: 893,
             fault: 0,
         };
-        assert!(rt; gives_on(alloc, &mut shelf, input, AMPLE, done(NOTHING))?);
+        assert!(rt; gives_on(alloc, &mut shelf, input, AMPLE, done_with(NOTHING))?);
     }
     Ok(())
 }

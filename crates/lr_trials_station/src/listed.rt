@@ -1,5 +1,5 @@
 // `list` and `show`.
-use crate::call::{AMPLE, Outcome, done, gives_alone, gives_on, refused};
+use crate::call::{AMPLE, Outcome, done_with, gives_alone, gives_on, refused_with};
 use crate::shelves::{TWO_FILES, disk, empty_shelf, one_file, with_byte};
 use std::test::Fail;
 
@@ -21,17 +21,17 @@ const RECEIVED: &str = "shelved 0 vc 0 apid 100 counter 7 bytes 26 packets 1\n\
 fn an_empty_shelf_has_a_last_line_alone(rt: HostRuntime) -> Result<(), Fail> {
     let alloc = rt.alloc();
     let mut made = disk(alloc, &[])?;
-    let wanted = done("shelf capacity 100\n");
+    let wanted = done_with("shelf capacity 100\n");
     assert!(rt; gives_alone(alloc, &mut made, &["init", "100"], wanted)?);
     assert!(rt;
         gives_alone(
             alloc,
             &mut made,
             &["list"],
-            done("files 0 used 20 capacity 100\n")
+            done_with("files 0 used 20 capacity 100\n")
         )?
     );
-    let none = refused(7, "station: no such file, count 0\n");
+    let none = refused_with(7, "station: no such file, count 0\n");
     assert!(rt; gives_alone(alloc, &mut made, &["show", "0"], none)?);
     Ok(())
 }
@@ -40,9 +40,17 @@ fn an_empty_shelf_has_a_last_line_alone(rt: HostRuntime) -> Result<(), Fail> {
 fn a_received_file_is_listed_and_shown(rt: HostRuntime) -> Result<(), Fail> {
     let alloc = rt.alloc();
     let mut made = empty_shelf(alloc)?;
-    assert!(rt; gives_on(alloc, &mut made, one_file(alloc)?, AMPLE, done(RECEIVED))?);
-    assert!(rt; gives_alone(alloc, &mut made, &["list"], done(SHELF_OF_ONE))?);
-    assert!(rt; gives_alone(alloc, &mut made, &["show", "0"], done(SHOWN))?);
+    assert!(rt;
+        gives_on(
+            alloc,
+            &mut made,
+            one_file(alloc)?,
+            AMPLE,
+            done_with(RECEIVED)
+        )?
+    );
+    assert!(rt; gives_alone(alloc, &mut made, &["list"], done_with(SHELF_OF_ONE))?);
+    assert!(rt; gives_alone(alloc, &mut made, &["show", "0"], done_with(SHOWN))?);
     Ok(())
 }
 
@@ -57,8 +65,8 @@ fn a_wrong_checksum_ends_the_list_alone(rt: HostRuntime) -> Result<(), Fail> {
         line: bad,
     };
     assert!(rt; gives_alone(alloc, &mut made, &["list"], wanted)?);
-    assert!(rt; gives_alone(alloc, &mut made, &["show", "0"], done(SHOWN))?);
-    assert!(rt; gives_alone(alloc, &mut made, &["show", "1"], refused(12, bad))?);
+    assert!(rt; gives_alone(alloc, &mut made, &["show", "0"], done_with(SHOWN))?);
+    assert!(rt; gives_alone(alloc, &mut made, &["show", "1"], refused_with(12, bad))?);
     Ok(())
 }
 
@@ -66,8 +74,15 @@ fn a_wrong_checksum_ends_the_list_alone(rt: HostRuntime) -> Result<(), Fail> {
 fn a_discarded_file_is_listed_and_not_shown(rt: HostRuntime) -> Result<(), Fail> {
     let alloc = rt.alloc();
     let mut made = disk(alloc, &TWO_FILES)?;
-    assert!(rt; gives_alone(alloc, &mut made, &["discard", "1"], done("discarded 1\n"))?);
-    let gone = refused(13, "station: discarded\n");
+    assert!(rt;
+        gives_alone(
+            alloc,
+            &mut made,
+            &["discard", "1"],
+            done_with("discarded 1\n")
+        )?
+    );
+    let gone = refused_with(13, "station: discarded\n");
     assert!(rt; gives_alone(alloc, &mut made, &["show", "1"], gone)?);
     Ok(())
 }

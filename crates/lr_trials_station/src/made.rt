@@ -1,7 +1,7 @@
 // `make`, and what the other commands make of what it writes.
 use crate::call::{
-    AMPLE, Input, NEVER, Outcome, Room, done, ends_on, gives, gives_alone, gives_on, refused,
-    written,
+    AMPLE, Input, NEVER, Outcome, Room, done_with, ends_on, gives, gives_alone, gives_on,
+    refused_with, written_bytes,
 };
 use lr_disk::MemDisk;
 use lr_trials_lock::streams::{bytes_of, leave_hits, silence};
@@ -56,7 +56,7 @@ pub(crate) const LINES: Room = Room {
 // An empty shelf of this capacity.
 fn shelf_of(alloc: Global, capacity: &str, line: &str) -> Result<MemDisk, Fail> {
     let mut disk = MemDisk::of(alloc, Vec::new(alloc), 100_000, 10_000)?;
-    if gives_alone(alloc, &mut disk, &["init", capacity], done(line))? {
+    if gives_alone(alloc, &mut disk, &["init", capacity], done_with(line))? {
         Ok(disk)
     } else {
         Err(Fail::from("no shelf was made"))
@@ -78,26 +78,26 @@ pub(crate) fn reading<'a>(words: &'a [&'a str], bytes: Vec<u8>, reads: usize) ->
 
 // Whether a call over these bytes prints this, and no call on the disk would succeed.
 fn prints(alloc: Global, words: &[&str], bytes: Vec<u8>, out: &str) -> Result<bool, Fail> {
-    gives(alloc, reading(words, bytes, 4_096), AMPLE, done(out))
+    gives(alloc, reading(words, bytes, 4_096), AMPLE, done_with(out))
 }
 
 // Whether `receive` ends with this line.
 fn receives(alloc: Global, bytes: Vec<u8>, last: &str) -> Result<bool, Fail> {
     let mut disk = shelf(alloc)?;
     let input = reading(&["receive"], bytes, 65_536);
-    ends_on(alloc, &mut disk, input, LINES, done(last))
+    ends_on(alloc, &mut disk, input, LINES, done_with(last))
 }
 
 #[test]
 fn one_frame_is_decoded_in_each_form(rt: HostRuntime) -> Result<(), Fail> {
     let alloc = rt.alloc();
-    let plain = written(alloc, &["make", "1", "1", "0"], FRAME)?;
+    let plain = written_bytes(alloc, &["make", "1", "1", "0"], FRAME)?;
     assert!(rt; prints(alloc, &["decode"], plain, PLAIN)?);
-    let wrong = written(alloc, &["make", "1", "1", "16"], FRAME)?;
+    let wrong = written_bytes(alloc, &["make", "1", "1", "16"], FRAME)?;
     assert!(rt; prints(alloc, &["decode"], wrong, WRONG)?);
-    let block = written(alloc, &["make", "1", "1", "3", "--output", "blocks"], 1_020)?;
+    let block = written_bytes(alloc, &["make", "1", "1", "3", "--output", "blocks"], 1_020)?;
     assert!(rt; prints(alloc, &["decode", "--input", "blocks"], block, BLOCK)?);
-    let frame = written(alloc, &["make", "1", "1", "3", "--output", "frames"], 892)?;
+    let frame = written_bytes(alloc, &["make", "1", "1", "3", "--output", "frames"], 892)?;
     assert!(rt; prints(alloc, &["frames"], frame, ONE_FRAME)?);
     Ok(())
 }
@@ -105,7 +105,7 @@ fn one_frame_is_decoded_in_each_form(rt: HostRuntime) -> Result<(), Fail> {
 #[test]
 fn one_frame_needs_all_its_symbols(rt: HostRuntime) -> Result<(), Fail> {
     let alloc = rt.alloc();
-    let mut bytes = written(alloc, &["make", "1", "1", "0"], FRAME)?;
+    let mut bytes = written_bytes(alloc, &["make", "1", "1", "0"], FRAME)?;
     assert!(rt; receives(alloc, bytes.as_slice().to_vec(alloc)?, ONE)?);
     assert!(rt;
         receives(
@@ -131,7 +131,7 @@ fn symbols_of(alloc: Global, bytes: &[u8]) -> Result<Vec<i8>, Fail> {
 #[test]
 fn missed_markers_lose_nothing(rt: HostRuntime) -> Result<(), Fail> {
     let alloc = rt.alloc();
-    let bytes = written(alloc, &["make", "1", "8", "0"], 8 * FRAME)?;
+    let bytes = written_bytes(alloc, &["make", "1", "8", "0"], 8 * FRAME)?;
     let mut symbols = symbols_of(alloc, &bytes)?;
     for number in 1..=3 {
         leave_hits(&mut symbols, number, 0);
@@ -145,7 +145,7 @@ fn missed_markers_lose_nothing(rt: HostRuntime) -> Result<(), Fail> {
 // 700 symbols of 0, and then 64 frames.
 pub(crate) fn after_silence(alloc: Global) -> Result<Vec<u8>, Fail> {
     let mut bytes = vec![in alloc; 0; 700]?;
-    bytes.extend_from_slice(&written(alloc, &["make", "1", "64", "0"], ALL)?)?;
+    bytes.extend_from_slice(&written_bytes(alloc, &["make", "1", "64", "0"], ALL)?)?;
     Ok(bytes)
 }
 
@@ -156,9 +156,9 @@ fn files_are_shelved_however_the_reads_are_cut(rt: HostRuntime) -> Result<(), Fa
     for reads in [1, 4_096, 65_536] {
         let mut disk = shelf(alloc)?;
         let input = reading(&["receive"], bytes.as_slice().to_vec(alloc)?, reads);
-        assert!(rt; ends_on(alloc, &mut disk, input, LINES, done(AFTER))?);
+        assert!(rt; ends_on(alloc, &mut disk, input, LINES, done_with(AFTER))?);
     }
-    let damaged = written(alloc, &["make", "1", "64", "16"], ALL)?;
+    let damaged = written_bytes(alloc, &["make", "1", "64", "16"], ALL)?;
     assert!(rt; receives(alloc, damaged, DAMAGED)?);
     Ok(())
 }
@@ -180,11 +180,11 @@ fn shelved_files_are_listed_and_shown(rt: HostRuntime) -> Result<(), Fail> {
     let mut disk = shelf(alloc)?;
     let bytes = after_silence(alloc)?;
     let input = reading(&["receive"], bytes, 65_536);
-    assert!(rt; ends_on(alloc, &mut disk, input, LINES, done(AFTER))?);
+    assert!(rt; ends_on(alloc, &mut disk, input, LINES, done_with(AFTER))?);
     let listing = reading(&["list"], Vec::new(alloc), 1);
-    assert!(rt; ends_on(alloc, &mut disk, listing, LINES, done(LAST_LISTED))?);
-    assert!(rt; gives_alone(alloc, &mut disk, &["show", "7"], done(IMAGE))?);
-    let none = refused(7, "station: no such file, count 63\n");
+    assert!(rt; ends_on(alloc, &mut disk, listing, LINES, done_with(LAST_LISTED))?);
+    assert!(rt; gives_alone(alloc, &mut disk, &["show", "7"], done_with(IMAGE))?);
+    let none = refused_with(7, "station: no such file, count 63\n");
     assert!(rt; gives_alone(alloc, &mut disk, &["show", "63"], none)?);
     Ok(())
 }
@@ -195,7 +195,7 @@ fn all_files_fit_or_the_last_one_does_not(rt: HostRuntime) -> Result<(), Fail> {
     let bytes = after_silence(alloc)?;
     let mut whole = shelf_of(alloc, "41666", "shelf capacity 41666\n")?;
     let input = reading(&["receive"], bytes.as_slice().to_vec(alloc)?, 4_096);
-    assert!(rt; ends_on(alloc, &mut whole, input, LINES, done(AFTER))?);
+    assert!(rt; ends_on(alloc, &mut whole, input, LINES, done_with(AFTER))?);
     let mut less = shelf_of(alloc, "41665", "shelf capacity 41665\n")?;
     let wanted = Outcome {
         out: LAST,
@@ -211,7 +211,7 @@ fn all_files_fit_or_the_last_one_does_not(rt: HostRuntime) -> Result<(), Fail> {
             wanted
         )?
     );
-    let none = refused(7, "station: no such file, count 62\n");
+    let none = refused_with(7, "station: no such file, count 62\n");
     assert!(rt; gives_alone(alloc, &mut less, &["extract", "62"], none)?);
     Ok(())
 }
@@ -222,7 +222,7 @@ fn a_source_fails_after_eight_frames(rt: HostRuntime) -> Result<(), Fail> {
     let mut disk = shelf(alloc)?;
     let input = Input {
         words: &["receive"],
-        bytes: written(alloc, &["make", "1", "64", "0"], ALL)?,
+        bytes: written_bytes(alloc, &["make", "1", "64", "0"], ALL)?,
         reads: 4_096,
         fault: 131_072,
     };
@@ -232,7 +232,7 @@ fn a_source_fails_after_eight_frames(rt: HostRuntime) -> Result<(), Fail> {
         line: "station: source failed\n",
     };
     assert!(rt; ends_on(alloc, &mut disk, input, LINES, wanted)?);
-    let none = refused(7, "station: no such file, count 7\n");
+    let none = refused_with(7, "station: no such file, count 7\n");
     assert!(rt; gives_alone(alloc, &mut disk, &["extract", "7"], none)?);
     Ok(())
 }
@@ -250,7 +250,7 @@ fn an_output_that_fails_got_a_front_of_the_stream(rt: HostRuntime) -> Result<(),
         Vec::new(alloc),
         1,
     );
-    let wanted = refused(5, "station: output failed\n");
+    let wanted = refused_with(5, "station: output failed\n");
     assert!(rt; gives_on(alloc, &mut disk, input, room, wanted)?);
     Ok(())
 }
@@ -259,7 +259,7 @@ fn an_output_that_fails_got_a_front_of_the_stream(rt: HostRuntime) -> Result<(),
 fn other_streams_are_refused(rt: HostRuntime) -> Result<(), Fail> {
     let alloc = rt.alloc();
     let mut disk = MemDisk::of(alloc, Vec::new(alloc), 0, 0)?;
-    let usage = refused(2, "station: usage: SHELF COMMAND [WORDS]\n");
+    let usage = refused_with(2, "station: usage: SHELF COMMAND [WORDS]\n");
     let words: [&[&str]; 6] = [
         &["make", "1", "0", "0"],
         &["make", "1", "65537", "0"],

@@ -1,5 +1,5 @@
 // `packets`.
-use crate::call::{AMPLE, Input, NEVER, done, gives};
+use crate::call::{AMPLE, Input, NEVER, done_with, gives};
 use crate::stated::{DIGITS, FRAME, header, idle};
 use std::alloc::{AllocError, Global};
 use std::test::Fail;
@@ -32,7 +32,7 @@ fn prints(alloc: Global, bytes: Vec<u8>, reads: usize, out: &str) -> Result<bool
         reads,
         fault: NEVER,
     };
-    gives(alloc, input, AMPLE, done(out))
+    gives(alloc, input, AMPLE, done_with(out))
 }
 
 // A packet, and an idle one behind it.

@@ -1,5 +1,7 @@
 // `receive --input frames`.
-use crate::call::{AMPLE, Input, NEVER, Outcome, Room, done, gives_alone, gives_on, refused};
+use crate::call::{
+    AMPLE, Input, NEVER, Outcome, Room, done_with, gives_alone, gives_on, refused_with,
+};
 use crate::shelves::{FRAMES, TWO_FILES, disk, empty_shelf, one_file};
 use crate::stated::{DIGITS, FRAME, file_7, header, idle, packet, two_files};
 use std::alloc::{AllocError, Global};
@@ -41,7 +43,7 @@ fn prints(alloc: Global, bytes: Vec<u8>, reads: usize, out: &str) -> Result<bool
         reads,
         fault: NEVER,
     };
-    gives_on(alloc, &mut shelf, input, AMPLE, done(out))
+    gives_on(alloc, &mut shelf, input, AMPLE, done_with(out))
 }
 
 // The first packet of a file of several, with this count.
@@ -51,7 +53,7 @@ fn begin(alloc: Global, count: u8) -> Result<Vec<u8>, AllocError> {
 }
 
 // Three packets of a file, the third with a wrong checksum.
-fn damaged(alloc: Global) -> Result<Vec<u8>, AllocError> {
+fn damaged_bytes(alloc: Global) -> Result<Vec<u8>, AllocError> {
     let first = begin(alloc, 0)?;
     let middle = packet(alloc, [0x00, 1], 3, &[1, 2], MIDDLE)?;
     let wrong = packet(alloc, [0x00, 2], 3, &[1, 2], [0, 0])?;
@@ -79,7 +81,7 @@ fn whole(alloc: Global) -> Result<Vec<u8>, AllocError> {
 }
 
 fn damaged_and_whole(alloc: Global) -> Result<Vec<u8>, AllocError> {
-    let mut bytes = damaged(alloc)?;
+    let mut bytes = damaged_bytes(alloc)?;
     let second = whole(alloc)?;
     bytes.extend_from_slice(&second)?;
     Ok(bytes)
@@ -136,14 +138,14 @@ fn fills_the_shelf(alloc: Global) -> Result<bool, Fail> {
         reads: 893,
         fault: NEVER,
     };
-    let received = gives_on(alloc, &mut shelf, input, AMPLE, done(BOTH_FILES))?;
+    let received = gives_on(alloc, &mut shelf, input, AMPLE, done_with(BOTH_FILES))?;
     Ok(received && shelf.as_slice() == TWO_FILES.as_slice())
 }
 
 // A source without bytes leaves the shelf as it is.
 fn keeps_the_shelf(alloc: Global) -> Result<bool, Fail> {
     let mut shelf = disk(alloc, &TWO_FILES)?;
-    let received = gives_alone(alloc, &mut shelf, &FRAMES, done(NOTHING))?;
+    let received = gives_alone(alloc, &mut shelf, &FRAMES, done_with(NOTHING))?;
     Ok(received && shelf.as_slice() == TWO_FILES.as_slice())
 }
 
@@ -162,9 +164,15 @@ fn fits(alloc: Global) -> Result<bool, Fail> {
         alloc,
         &mut shelf,
         &["init", "87"],
-        done("shelf capacity 87\n"),
+        done_with("shelf capacity 87\n"),
     )?;
-    let received = gives_on(alloc, &mut shelf, one_file(alloc)?, AMPLE, done(ONE_FILE))?;
+    let received = gives_on(
+        alloc,
+        &mut shelf,
+        one_file(alloc)?,
+        AMPLE,
+        done_with(ONE_FILE),
+    )?;
     Ok(made && received && shelf.as_slice().len() == 87)
 }
 
@@ -175,10 +183,10 @@ fn fits_not(alloc: Global) -> Result<bool, Fail> {
         alloc,
         &mut shelf,
         &["init", "86"],
-        done("shelf capacity 86\n"),
+        done_with("shelf capacity 86\n"),
     )?;
     let before = shelf.as_slice().to_vec(alloc)?;
-    let wanted = refused(10, "station: capacity: needs 87 of 86\n");
+    let wanted = refused_with(10, "station: capacity: needs 87 of 86\n");
     let refuses = gives_on(alloc, &mut shelf, one_file(alloc)?, AMPLE, wanted)?;
     Ok(made && refuses && shelf.as_slice() == before.as_slice())
 }
@@ -206,7 +214,7 @@ fn source_fails(alloc: Global, fault: u64, out: &str) -> Result<bool, Fail> {
         line: "station: source failed\n",
     };
     let ended = gives_on(alloc, &mut shelf, input, AMPLE, wanted)?;
-    let stands = gives_alone(alloc, &mut shelf, &["verify"], done("file 0 ok\n"))?;
+    let stands = gives_alone(alloc, &mut shelf, &["verify"], done_with("file 0 ok\n"))?;
     Ok(ended && stands)
 }
 
@@ -231,7 +239,7 @@ fn output_fails(alloc: Global) -> Result<bool, Fail> {
         fault: NEVER,
     };
     let ended = gives_on(alloc, &mut shelf, one_file(alloc)?, room, wanted)?;
-    let stands = gives_alone(alloc, &mut shelf, &["verify"], done("file 0 ok\n"))?;
+    let stands = gives_alone(alloc, &mut shelf, &["verify"], done_with("file 0 ok\n"))?;
     Ok(ended && stands)
 }
 

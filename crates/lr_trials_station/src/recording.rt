@@ -1,6 +1,6 @@
 //! A recording: what becomes of the same symbols in other reads, levels and line codes, and of the shelf that it fills.
 
-use crate::call::{AMPLE, NEVER, Room, printed_on, written, written_on};
+use crate::call::{AMPLE, NEVER, Room, printed_on, written_bytes, written_on};
 use crate::made::{LINES, after_silence, reading, shelf};
 use crate::shelves::empty_shelf;
 use lr_disk::MemDisk;
@@ -15,13 +15,13 @@ const TURNED: &str = "window 0 at 0 polarity - restored 0 0 0 0\n\
 symbols 16384 frames 1 restored 1 lost 0 left 0 stop end\n";
 
 /// What `decode` with these words prints of these bytes.
-fn decoded(alloc: Global, words: &[&str], bytes: Vec<u8>) -> Result<Vec<u8>, Fail> {
+fn decoded_text(alloc: Global, words: &[&str], bytes: Vec<u8>) -> Result<Vec<u8>, Fail> {
     let mut disk = MemDisk::of(alloc, Vec::new(alloc), 0, 0)?;
     printed_on(alloc, &mut disk, reading(words, bytes, 4_096), AMPLE)
 }
 
 /// The symbols with the opposite sign, every one or every second one.
-fn negated(alloc: Global, bytes: &[u8], every: bool) -> Result<Vec<u8>, Fail> {
+fn negated_bytes(alloc: Global, bytes: &[u8], every: bool) -> Result<Vec<u8>, Fail> {
     let mut turned = Vec::new(alloc);
     let mut second = false;
     for byte in bytes {
@@ -44,14 +44,14 @@ fn loud(alloc: Global, bytes: &[u8]) -> Result<Vec<u8>, Fail> {
 #[test]
 fn signs_and_levels_are_made_up_for(rt: HostRuntime) -> Result<(), Fail> {
     let alloc = rt.alloc();
-    let bytes = written(alloc, &["make", "1", "1", "0"], FRAME)?;
-    let turned = negated(alloc, &bytes, true)?;
+    let bytes = written_bytes(alloc, &["make", "1", "1", "0"], FRAME)?;
+    let turned = negated_bytes(alloc, &bytes, true)?;
     assert_eq!(rt;
-        decoded(alloc, &["decode"], turned)?.as_slice(),
+        decoded_text(alloc, &["decode"], turned)?.as_slice(),
         TURNED.as_bytes()
     );
-    let louder = decoded(alloc, &["decode"], loud(alloc, &bytes)?)?;
-    let plain = decoded(alloc, &["decode"], bytes)?;
+    let louder = decoded_text(alloc, &["decode"], loud(alloc, &bytes)?)?;
+    let plain = decoded_text(alloc, &["decode"], bytes)?;
     assert!(rt; louder.as_slice() == plain.as_slice());
     Ok(())
 }
@@ -59,19 +59,19 @@ fn signs_and_levels_are_made_up_for(rt: HostRuntime) -> Result<(), Fail> {
 #[test]
 fn second_symbols_may_come_uncomplemented(rt: HostRuntime) -> Result<(), Fail> {
     let alloc = rt.alloc();
-    let bytes = written(alloc, &["make", "1", "8", "0"], 8 * FRAME)?;
-    let plain = decoded(
+    let bytes = written_bytes(alloc, &["make", "1", "8", "0"], 8 * FRAME)?;
+    let plain = decoded_text(
         alloc,
         &["decode", "--g2", "plain"],
-        negated(alloc, &bytes, false)?,
+        negated_bytes(alloc, &bytes, false)?,
     )?;
-    let usual = decoded(alloc, &["decode"], bytes)?;
+    let usual = decoded_text(alloc, &["decode"], bytes)?;
     assert!(rt; usual.len() > 300 && plain.as_slice() == usual.as_slice());
     Ok(())
 }
 
 /// What `receive` prints of the recording in reads of this size, and the disk that it leaves.
-fn received(alloc: Global, bytes: &[u8], reads: usize) -> Result<(Vec<u8>, MemDisk), Fail> {
+fn received_text(alloc: Global, bytes: &[u8], reads: usize) -> Result<(Vec<u8>, MemDisk), Fail> {
     let mut disk = shelf(alloc)?;
     let input = reading(&["receive"], bytes.to_vec(alloc)?, reads);
     let text = printed_on(alloc, &mut disk, input, LINES)?;
@@ -87,10 +87,10 @@ fn lines(text: &[u8]) -> usize {
 fn output_and_disk_are_the_same_in_any_reads(rt: HostRuntime) -> Result<(), Fail> {
     let alloc = rt.alloc();
     let bytes = after_silence(alloc)?;
-    let (text, disk) = received(alloc, &bytes, 4_096)?;
+    let (text, disk) = received_text(alloc, &bytes, 4_096)?;
     assert!(rt; text.as_slice().starts_with(FIRST.as_bytes()));
     for reads in [1, 65_536] {
-        let (other, other_disk) = received(alloc, &bytes, reads)?;
+        let (other, other_disk) = received_text(alloc, &bytes, reads)?;
         assert!(rt; other.as_slice() == text.as_slice());
         assert!(rt; other_disk.as_slice() == disk.as_slice());
     }
@@ -101,7 +101,7 @@ fn output_and_disk_are_the_same_in_any_reads(rt: HostRuntime) -> Result<(), Fail
 fn the_files_of_a_recording_are_there(rt: HostRuntime) -> Result<(), Fail> {
     let alloc = rt.alloc();
     let bytes = after_silence(alloc)?;
-    let (_, mut disk) = received(alloc, &bytes, 65_536)?;
+    let (_, mut disk) = received_text(alloc, &bytes, 65_536)?;
     assert!(rt; written_on(alloc, &mut disk, &["extract", "7"], 5_000)?.len() == 4_121);
     let verified = written_on(alloc, &mut disk, &["verify"], 5_000)?;
     assert!(rt; lines(&verified) == 63);

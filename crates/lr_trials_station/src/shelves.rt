@@ -1,5 +1,5 @@
 // Shelves on disks in memory.
-use crate::call::{Input, NEVER, done, gives_alone};
+use crate::call::{Input, NEVER, done_with, gives_alone};
 use crate::stated::file_7;
 use lr_disk::MemDisk;
 use std::alloc::Global;
@@ -39,7 +39,7 @@ pub fn empty_shelf(alloc: Global) -> Result<MemDisk, Fail> {
         alloc,
         &mut made,
         &["init", "1000"],
-        done("shelf capacity 1000\n"),
+        done_with("shelf capacity 1000\n"),
     )? {
         Ok(made)
     } else {

@@ -1,9 +1,9 @@
 // `decode` and `receive` of symbols.
-use crate::call::{AMPLE, Input, NEVER, Outcome, done, ends_on, gives, gives_on};
+use crate::call::{AMPLE, Input, NEVER, Outcome, done_with, ends_on, gives, gives_on};
 use crate::shelves::empty_shelf;
 use lr_conv::LineCode;
 use lr_disk::MemDisk;
-use lr_trials_lock::streams::{bytes_of, coded_frames, leave_hits, sent, silence, turn};
+use lr_trials_lock::streams::{bytes_of, coded_frames, leave_hits, sent_symbols, silence, turn};
 use std::alloc::Global;
 use std::test::Fail;
 
@@ -52,7 +52,7 @@ const FAILED: &str =
     "symbols 70000 frames 4 restored 4 lost 0 packets 0 files 0 left 0 stop fault\n";
 
 // The symbols of the other polarity, as bytes.
-fn turned(alloc: Global, symbols: &[i8]) -> Result<Vec<u8>, Fail> {
+fn turned_bytes(alloc: Global, symbols: &[i8]) -> Result<Vec<u8>, Fail> {
     let mut other = symbols.to_vec(alloc)?;
     turn(&mut other);
     Ok(bytes_of(alloc, &other)?)
@@ -71,9 +71,9 @@ fn decoding<'a>(bytes: Vec<u8>, reads: usize) -> Input<'a> {
 fn decodes(alloc: Global, symbols: &[i8], last: &str) -> Result<bool, Fail> {
     let mut disk = MemDisk::of(alloc, Vec::new(alloc), 0, 0)?;
     for reads in [1, 4_096, 65_536] {
-        for bytes in [bytes_of(alloc, symbols)?, turned(alloc, symbols)?] {
+        for bytes in [bytes_of(alloc, symbols)?, turned_bytes(alloc, symbols)?] {
             let input = decoding(bytes, reads);
-            if !ends_on(alloc, &mut disk, input, AMPLE, done(last))? {
+            if !ends_on(alloc, &mut disk, input, AMPLE, done_with(last))? {
                 return Ok(false);
             }
         }
@@ -95,18 +95,18 @@ fn receives(alloc: Global, bytes: Vec<u8>, wanted: Outcome<'_>) -> Result<bool, 
 #[test]
 fn each_window_has_its_line(rt: HostRuntime) -> Result<(), Fail> {
     let alloc = rt.alloc();
-    let symbols = sent(alloc)?;
+    let symbols = sent_symbols(alloc)?;
     let plain = decoding(bytes_of(alloc, &symbols)?, 4_096);
-    assert!(rt; gives(alloc, plain, AMPLE, done(EIGHT_WINDOWS))?);
-    let negated = decoding(turned(alloc, &symbols)?, 4_096);
-    assert!(rt; gives(alloc, negated, AMPLE, done(NEGATED))?);
+    assert!(rt; gives(alloc, plain, AMPLE, done_with(EIGHT_WINDOWS))?);
+    let negated = decoding(turned_bytes(alloc, &symbols)?, 4_096);
+    assert!(rt; gives(alloc, negated, AMPLE, done_with(NEGATED))?);
     Ok(())
 }
 
 #[test]
 fn last_lines_are_those_of_any_reads(rt: HostRuntime) -> Result<(), Fail> {
     let alloc = rt.alloc();
-    let mut symbols = sent(alloc)?;
+    let mut symbols = sent_symbols(alloc)?;
     assert!(rt; decodes(alloc, &symbols, ALL)?);
     let shorter = symbols.len().saturating_sub(1);
     assert!(rt; decodes(alloc, &symbols[..shorter], CUT_SHORT)?);
@@ -128,7 +128,7 @@ fn decodes_two(alloc: Global, words: &[&str], line: LineCode) -> Result<bool, Fa
         reads: 4_096,
         fault: NEVER,
     };
-    ends_on(alloc, &mut disk, input, AMPLE, done(TWO))
+    ends_on(alloc, &mut disk, input, AMPLE, done_with(TWO))
 }
 
 // Whether `decode` with these options prints this of one frame's symbols.
@@ -139,14 +139,14 @@ fn decodes_one(alloc: Global, words: &[&str], bytes: Vec<u8>, out: &str) -> Resu
         reads: 4_096,
         fault: NEVER,
     };
-    gives(alloc, input, AMPLE, done(out))
+    gives(alloc, input, AMPLE, done_with(out))
 }
 
 // Whether `decode` with these options restores frames of this line code, in both polarities.
 fn decodes_line(alloc: Global, words: &[&str], line: LineCode) -> Result<bool, Fail> {
     let symbols = coded_frames(alloc, line, 1)?;
     let plain = decodes_one(alloc, words, bytes_of(alloc, &symbols)?, ONE_WINDOW)?;
-    let negated = decodes_one(alloc, words, turned(alloc, &symbols)?, ONE_NEGATED)?;
+    let negated = decodes_one(alloc, words, turned_bytes(alloc, &symbols)?, ONE_NEGATED)?;
     Ok(plain && negated && decodes_two(alloc, words, line)?)
 }
 
@@ -168,9 +168,9 @@ fn each_line_code_is_decoded(rt: HostRuntime) -> Result<(), Fail> {
 #[test]
 fn symbols_without_files_leave_the_shelf_empty(rt: HostRuntime) -> Result<(), Fail> {
     let alloc = rt.alloc();
-    assert!(rt; receives(alloc, Vec::new(alloc), done(NOTHING))?);
-    let bytes = bytes_of(alloc, &sent(alloc)?)?;
-    assert!(rt; receives(alloc, bytes, done(NO_FILE))?);
+    assert!(rt; receives(alloc, Vec::new(alloc), done_with(NOTHING))?);
+    let bytes = bytes_of(alloc, &sent_symbols(alloc)?)?;
+    assert!(rt; receives(alloc, bytes, done_with(NO_FILE))?);
     Ok(())
 }
 
@@ -180,7 +180,7 @@ fn frames_before_a_fault_are_received(rt: HostRuntime) -> Result<(), Fail> {
     let mut shelf = empty_shelf(alloc)?;
     let input = Input {
         words: &["receive", "--input", "symbols"],
-        bytes: bytes_of(alloc, &sent(alloc)?)?,
+        bytes: bytes_of(alloc, &sent_symbols(alloc)?)?,
         reads: 4_096,
         fault: 70_000,
     };

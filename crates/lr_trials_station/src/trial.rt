@@ -1,7 +1,7 @@
 // `trial`, and the shelf that it leaves.
 use crate::call::{
-    AMPLE, Input, NEVER, Outcome, Room, done, ends_on, gives_alone, gives_on, refused, written,
-    written_on,
+    AMPLE, Input, NEVER, Outcome, Room, done_with, ends_on, gives_alone, gives_on, refused_with,
+    written_bytes, written_on,
 };
 use crate::shelves::disk_of_calls;
 use lr_disk::MemDisk;
@@ -46,9 +46,9 @@ fn empty(alloc: Global, room: u64) -> Result<MemDisk, Fail> {
 }
 
 // The disk that a trial leaves.
-fn tried(alloc: Global) -> Result<MemDisk, Fail> {
+fn tried_disk(alloc: Global) -> Result<MemDisk, Fail> {
     let mut disk = empty(alloc, 100_000)?;
-    if gives_alone(alloc, &mut disk, &TRIAL, done(LINE))? {
+    if gives_alone(alloc, &mut disk, &TRIAL, done_with(LINE))? {
         Ok(disk)
     } else {
         Err(Fail::from("the trial wasn't done"))
@@ -56,17 +56,17 @@ fn tried(alloc: Global) -> Result<MemDisk, Fail> {
 }
 
 // The disk that `init` and `receive` leave, of the same stream.
-fn received(alloc: Global) -> Result<MemDisk, Fail> {
+fn received_disk(alloc: Global) -> Result<MemDisk, Fail> {
     let mut disk = empty(alloc, 100_000)?;
-    let line = done("shelf capacity 1048576\n");
+    let line = done_with("shelf capacity 1048576\n");
     let made = gives_alone(alloc, &mut disk, &["init", "1048576"], line)?;
     let input = Input {
         words: &["receive"],
-        bytes: written(alloc, &["make", "1", "64", "0"], ALL)?,
+        bytes: written_bytes(alloc, &["make", "1", "64", "0"], ALL)?,
         reads: 4_096,
         fault: NEVER,
     };
-    if made && ends_on(alloc, &mut disk, input, LINES, done(LINE))? {
+    if made && ends_on(alloc, &mut disk, input, LINES, done_with(LINE))? {
         Ok(disk)
     } else {
         Err(Fail::from("nothing was received"))
@@ -76,7 +76,7 @@ fn received(alloc: Global) -> Result<MemDisk, Fail> {
 // Whether a trial of these words on an empty disk prints this line alone, and leaves this many bytes.
 fn leaves(alloc: Global, words: &[&str], line: &str, bytes: usize) -> Result<bool, Fail> {
     let mut disk = empty(alloc, 700_000)?;
-    let prints = gives_alone(alloc, &mut disk, words, done(line))?;
+    let prints = gives_alone(alloc, &mut disk, words, done_with(line))?;
     Ok(prints && disk.as_slice().len() == bytes)
 }
 
@@ -104,8 +104,8 @@ fn the_most_frames_are_tried(rt: HostRuntime) -> Result<(), Fail> {
 #[test]
 fn the_shelf_is_the_one_of_init_and_receive(rt: HostRuntime) -> Result<(), Fail> {
     let alloc = rt.alloc();
-    let mut disk = tried(alloc)?;
-    let mut other = received(alloc)?;
+    let mut disk = tried_disk(alloc)?;
+    let mut other = received_disk(alloc)?;
     assert!(rt; disk.as_slice() == other.as_slice());
     let text = written_on(alloc, &mut disk, &["extract", "0"], 500)?;
     assert!(rt; text.len() == TEXT);
@@ -116,8 +116,8 @@ fn the_shelf_is_the_one_of_init_and_receive(rt: HostRuntime) -> Result<(), Fail>
 #[test]
 fn a_second_trial_is_refused(rt: HostRuntime) -> Result<(), Fail> {
     let alloc = rt.alloc();
-    let mut disk = tried(alloc)?;
-    assert!(rt; gives_alone(alloc, &mut disk, &TRIAL, refused(11, NOT_EMPTY))?);
+    let mut disk = tried_disk(alloc)?;
+    assert!(rt; gives_alone(alloc, &mut disk, &TRIAL, refused_with(11, NOT_EMPTY))?);
     assert!(rt; disk.as_slice().len() == SHELF);
     Ok(())
 }
@@ -126,7 +126,7 @@ fn a_second_trial_is_refused(rt: HostRuntime) -> Result<(), Fail> {
 fn other_trials_are_refused(rt: HostRuntime) -> Result<(), Fail> {
     let alloc = rt.alloc();
     let mut disk = disk_of_calls(alloc, &[], 0)?;
-    let usage = refused(2, "station: usage: SHELF COMMAND [WORDS]\n");
+    let usage = refused_with(2, "station: usage: SHELF COMMAND [WORDS]\n");
     let words: [&[&str]; 5] = [
         &["trial", "1", "1025", "0"],
         &["trial", "1", "0", "0"],
@@ -164,7 +164,7 @@ fn a_line_that_fails_leaves_the_whole_shelf(rt: HostRuntime) -> Result<(), Fail>
     };
     let input = reading(Vec::new(alloc), NEVER);
     assert!(rt; gives_on(alloc, &mut disk, input, room, wanted)?);
-    assert!(rt; disk.as_slice() == tried(alloc)?.as_slice());
+    assert!(rt; disk.as_slice() == tried_disk(alloc)?.as_slice());
     Ok(())
 }
 
@@ -172,7 +172,7 @@ fn a_line_that_fails_leaves_the_whole_shelf(rt: HostRuntime) -> Result<(), Fail>
 fn a_disk_that_fails_ends_the_trial(rt: HostRuntime) -> Result<(), Fail> {
     let alloc = rt.alloc();
     let mut disk = disk_of_calls(alloc, &[], 0)?;
-    let wanted = refused(4, "station: disk failed\n");
+    let wanted = refused_with(4, "station: disk failed\n");
     assert!(rt; gives_alone(alloc, &mut disk, &TRIAL, wanted)?);
     Ok(())
 }
@@ -183,8 +183,8 @@ fn the_source_is_not_read(rt: HostRuntime) -> Result<(), Fail> {
     for fault in [NEVER, 0] {
         let mut disk = empty(alloc, 100_000)?;
         let input = reading(vec![in alloc; 7; 892]?, fault);
-        assert!(rt; gives_on(alloc, &mut disk, input, AMPLE, done(LINE))?);
-        assert!(rt; disk.as_slice() == tried(alloc)?.as_slice());
+        assert!(rt; gives_on(alloc, &mut disk, input, AMPLE, done_with(LINE))?);
+        assert!(rt; disk.as_slice() == tried_disk(alloc)?.as_slice());
     }
     Ok(())
 }
