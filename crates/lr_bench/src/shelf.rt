@@ -75,7 +75,7 @@ fn small_file(alloc: Global) -> Result<Placed, Trouble> {
 }
 
 /// Makes a shelf of `count` files.
-fn filled<D: Disk>(alloc: Global, disk: &mut D, count: u64) -> Result<Shelf, Trouble> {
+fn filled_shelf<D: Disk>(alloc: Global, disk: &mut D, count: u64) -> Result<Shelf, Trouble> {
     let placed = small_file(alloc)?;
     Shelf::init(disk, CAPACITY)?;
     let mut shelf = Shelf::load(alloc, disk)?;
