@@ -6,6 +6,8 @@ use lr_io::{ReadSource, WriteSink};
 use lr_station::{Cause, station, tell, writes_shelf};
 use std::fs::{File, OpenOptions};
 use std::process::ExitCode;
+use std::sync::Wait;
+use std::thread::Threads;
 use std::{env, fs, io};
 
 /// The path that stands for an empty disk in memory, which no one sees afterwards.
@@ -73,23 +75,41 @@ fn refuse(rt: &HostRuntime, cause: Cause) -> u8 {
     cause.status()
 }
 
-fn run_on<D: Disk>(rt: &HostRuntime, words: &[String], disk: &mut D) -> u8 {
+fn run_on<T: Threads + Wait + Sync, D: Disk>(
+    rt: &HostRuntime,
+    threads: &T,
+    words: &[String],
+    disk: &mut D,
+) -> u8 {
     let mut source = ReadSource::of(rt.stdin());
     let mut out = WriteSink::of(rt.stdout());
     let mut err = WriteSink::of(rt.stderr());
-    station(rt, rt.alloc(), words, &mut source, disk, &mut out, &mut err)
+    station(
+        threads,
+        rt.alloc(),
+        words,
+        &mut source,
+        disk,
+        &mut out,
+        &mut err,
+    )
 }
 
-fn run_in_memory(rt: &HostRuntime, words: &[String]) -> u8 {
+fn run_in_memory<T: Threads + Wait + Sync>(rt: &HostRuntime, threads: &T, words: &[String]) -> u8 {
     match MemDisk::of(rt.alloc(), Vec::new(rt.alloc()), ROOM, CALLS) {
-        Ok(mut disk) => run_on(rt, words, &mut disk),
+        Ok(mut disk) => run_on(rt, threads, words, &mut disk),
         Err(_) => refuse(rt, Cause::NoMemory),
     }
 }
 
 /// Runs a command on the file at this path. One that writes holds the file's advisory lock until it ends, and isn't run
 /// where another process holds it.
-fn run_on_file(rt: &HostRuntime, path: &str, words: &[String]) -> u8 {
+fn run_on_file<T: Threads + Wait + Sync>(
+    rt: &HostRuntime,
+    threads: &T,
+    path: &str,
+    words: &[String],
+) -> u8 {
     let _streams = fill_streams(rt);
     let Ok(file) = open_shelf(rt, path) else {
         return UNOPENED;
@@ -97,10 +117,11 @@ fn run_on_file(rt: &HostRuntime, path: &str, words: &[String]) -> u8 {
     if writes_shelf(words) && file.try_lock().is_err() {
         return UNOPENED;
     }
-    run_on(rt, words, &mut FileDisk::of(file))
+    run_on(rt, threads, words, &mut FileDisk::of(file))
 }
 
-fn run(rt: &HostRuntime) -> u8 {
+/// What `main` does. The threads are those that it may start.
+fn run<T: Threads + Wait + Sync>(rt: &HostRuntime, threads: &T) -> u8 {
     let all = match all_words(rt) {
         Ok(all) => all,
         Err(cause) => return refuse(rt, cause),
@@ -109,11 +130,11 @@ fn run(rt: &HostRuntime) -> u8 {
         return refuse(rt, Cause::Usage);
     };
     if path.as_str() == NO_FILE {
-        return run_in_memory(rt, words);
+        return run_in_memory(rt, threads, words);
     }
-    run_on_file(rt, path.as_str(), words)
+    run_on_file(rt, threads, path.as_str(), words)
 }
 
 fn main(rt: HostRuntime) -> ExitCode {
-    ExitCode::from(run(&rt))
+    ExitCode::from(run(&rt, &rt))
 }
