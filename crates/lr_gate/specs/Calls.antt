@@ -80,6 +80,16 @@ module _ {J D : Type 0} where
       → ((p : ℕ) → old.0.taken ≤ p → p < length old.0.jobs → p % n ≡ cell → HasFinished old.0 p)
       × ((p : ℕ) → p < old.0.taken → HasFinished old.0 p))
 
+  -- of the cells from one up to another, one was worked in, or each was passed over
+  abbrev pub GoesBetween : ℕ → ℕ → ℕ → SeatState J D → SeatState J D → Bool → Type 0
+  GoesBetween n from to old new true = Works n old new
+  GoesBetween n from to old new false =
+      (reads : List Read) × (new ≡ (with_reads old.0 reads, old.1))
+      × ((c : ℕ) → from ≤ c → c < to → IsPassedOver reads c)
+      × (IsAlone old.0
+      → ((p : ℕ) → old.0.taken ≤ p → p < length old.0.jobs → from ≤ p % n → p % n < to → HasFinished old.0 p)
+      × (from < to → (p : ℕ) → p < old.0.taken → HasFinished old.0 p))
+
   -- a round worked, or passed over every cell
   abbrev pub GoesRound : ℕ → SeatState J D → SeatState J D → Bool → Type 0
   GoesRound n old new true = Works n old new

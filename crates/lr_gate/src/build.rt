@@ -93,7 +93,7 @@ impl<W: Work> Gate<W> {
         ensures put { result.put ≡ put_count (view_of conductor) }
         ensures taken { result.taken ≡ (view_of conductor).taken }
     {
-        while let Some(WorkerSeat { seat, number: _ }) = seats.pop() {
+        while let Some(WorkerSeat { seat, .. }) = seats.pop() {
             self.table
                 .shared
                 .join_seat::<Joins>(&mut conductor.seat, seat);

@@ -64,14 +64,15 @@ impl<W: Work> Conductor<W> {
         }
     }
 
-    /// Does one job, if some cell is ready. The answer is whether it did.
+    /// Does one job, the oldest one first, if some cell is ready. The answer is whether it did.
     pub fn help(&mut self, gate: &Gate<W>, work: &mut W) -> bool
         requires mine { IsConductorOf gate.now self.old }
         ensures mine { IsConductorOf gate.now self.new }
         ensures helps { Helps (cells_of gate.now) (view_of self.old) (view_of self.new) result }
         ensures alone { workers_of gate.now ≡ 0 → (IsTrue result ↔ SomeUnfinished (view_of self.old)) }
     {
-        go_round(gate, &mut self.seat, 0, work)
+        let mut oldest = (self.taken % gate.cells) as usize;
+        go_round(gate, &mut self.seat, 0, &mut oldest, work)
     }
 
     /// Stops the workers. No job is put after it.
@@ -94,6 +95,10 @@ impl<W: Work> Conductor<W> {
         ensures new { result.seat.me ≡ (new_view number, []) }
     {
         let seat = gate.table.shared.split_seat::<SplitsOff>(&mut self.seat);
-        WorkerSeat { seat, number }
+        WorkerSeat {
+            seat,
+            number,
+            start: 0,
+        }
     }
 }

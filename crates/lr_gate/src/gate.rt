@@ -31,6 +31,8 @@ pub struct Conductor<W: Work> {
 pub struct WorkerSeat<W: Work> {
     pub(crate) seat: Seat<Cargo<W::Job, W::Done>, View<W::Job>>,
     pub(crate) number: u64,
+    /// The cell at which its next round begins: the one after that of its last job.
+    pub(crate) start: usize,
 }
 
 /// Each cell has a job that wasn't taken. The job comes back.

@@ -1,7 +1,7 @@
 //! A seat goes round the cells, and does the first job that it can claim.
 
-ghost use Rattle.std.specs.Prelude.{◌≡◌, ◌<◌};
-ghost use Rattle.lr_gate.specs.Calls.{MayClaim, Visits, GoesRound};
+ghost use Rattle.std.specs.Prelude.{◌≡◌, ◌<◌, ◌≤◌, false};
+ghost use Rattle.lr_gate.specs.Calls.{MayClaim, Visits, GoesBetween, GoesRound};
 
 use crate::cargo::Cargo;
 use crate::gate::Gate;
@@ -10,19 +10,47 @@ use crate::view::View;
 use atomic_table::Seat;
 use lr_gatecore::Work;
 
-/// Visits each cell once, until one is claimed and its job is done. The answer is whether one was.
+/// Visits each cell once, the one of this number first and then in the order of the ring, until one is claimed and its
+/// job is done. The answer is whether one was. Then `start` is the cell after it.
 pub(crate) fn go_round<W: Work>(
     gate: &Gate<W>,
     seat: &mut Seat<Cargo<W::Job, W::Done>, View<W::Job>>,
     number: u64,
+    start: &mut usize,
     work: &mut W,
 ) -> bool
     requires { MayClaim gate.now.table.shared.table_id seat.old number }
     ensures same { (seat.new.table_id ≡ seat.old.table_id) × (seat.new.id ≡ seat.old.id) }
     ensures rounds { GoesRound gate.now.cells seat.old.me seat.new.me result }
 {
-    for cell in 0..gate.cells as usize {
+    let cells = gate.cells as usize;
+    let first = *start % cells;
+    if go_between(gate, seat, number, start, work, first, cells) {
+        return true;
+    }
+    go_between(gate, seat, number, start, work, 0, first)
+}
+
+/// Visits the cells from one up to another, until one is claimed and its job is done.
+fn go_between<W: Work>(
+    gate: &Gate<W>,
+    seat: &mut Seat<Cargo<W::Job, W::Done>, View<W::Job>>,
+    number: u64,
+    start: &mut usize,
+    work: &mut W,
+    from: usize,
+    to: usize,
+) -> bool
+    requires mine { MayClaim gate.now.table.shared.table_id seat.old number }
+    requires order { from ≤ to }
+    requires cells { to ≤ gate.now.cells }
+    ensures same { (seat.new.table_id ≡ seat.old.table_id) × (seat.new.id ≡ seat.old.id) }
+    ensures mine { result ≡ false → MayClaim gate.now.table.shared.table_id seat.new number }
+    ensures goes { GoesBetween gate.now.cells from to seat.old.me seat.new.me result }
+{
+    for cell in from..to {
         if visit(gate, seat, number, work, cell) {
+            *start = cell + 1;
             return true;
         }
     }

@@ -15,7 +15,7 @@ impl<W: Work> WorkerSeat<W> {
         if gate.table.shared.load::<Looks<W>>(&mut self.seat, 0) != 0 {
             return Turn::Stopped;
         }
-        if go_round(gate, &mut self.seat, self.number, work) {
+        if go_round(gate, &mut self.seat, self.number, &mut self.start, work) {
             Turn::Did
         } else {
             Turn::Nothing

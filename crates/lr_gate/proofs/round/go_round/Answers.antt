@@ -1,25 +1,9 @@
-use Rattle.std.proofs.Common.{◌∙◌, ap, refl}
-use Rattle.lr_gate.proofs.Rounds.{gone_more, gone_works}
+use Rattle.std.proofs.Common.{mod-lt}
+use Rattle.lr_gate.proofs.Rounds.{goes_on}
 use Rattle.lr_gate.proofs.round.go_round.Goals as goal
 
-pub returns-then-visit-clause-rounds : goal.returns-then-visit-clause-rounds
-returns-then-visit-clause-rounds g c =
-    gone_works c.args.gate.now.cells c.args.seat.now.me c.loop-cell.seat.me c.visit.new.seat.me c.loop-cell.cell
-    c.loop-cell.invariant.3 c.if-visit.ensures.visits
-
-pub loop-cell-preserved : goal.loop-cell-preserved
-loop-cell-preserved g c = let old = c.loop-cell.invariant in let v = c.if-visit.ensures.visits in
-    let same = c.visit.ensures.same in (
-      record {
-        table = same.0 ∙ old.0.table;
-        number_is = ap (λ m. m.0.number) v.1 ∙ old.0.number_is;
-        low = old.0.low;
-        live = ap (λ m. m.0.spent) v.1 ∙ old.0.live;
-        free = ap (λ m. m.0.held) v.1 ∙ old.0.free;
-      },
-      same.0 ∙ old.1,
-      same.1 ∙ old.2,
-      gone_more c.args.gate.now.cells c.args.seat.now.me c.loop-cell.seat.me c.visit.new.seat.me c.loop-cell.cell
-          old.3 v,
-      refl,
-    )
+pub returns-clause-rounds : goal.returns-clause-rounds
+returns-clause-rounds g c =
+    goes_on c.args.gate.now.cells c.args.seat.now.me c.go_between.new.seat.me c.go_between-2.new.seat.me _
+    c.go_between-2.result (mod-lt c.args.start.now c.args.gate.now.sized.some_cell) c.if-go_between.ensures.goes
+    c.go_between-2.ensures.goes
