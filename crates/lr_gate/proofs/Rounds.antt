@@ -53,7 +53,8 @@ module _ {J D : Type 0} (n : ℕ) where
       )
 
   -- cells that were all passed over
-  pub gone_between : (old now : SeatState J D) (from to : ℕ) → Gone old now from to → GoesBetween n from to old now false
+  pub gone_between : (old now : SeatState J D) (from to : ℕ) → Gone old now from to
+      → GoesBetween n from to old now false
   gone_between old now from to g = (g.reads, g.now_is, g.passed, λ one. (g.window one, λ some. g.past some one))
 
   passed_gone : (old now : SeatState J D) (from to : ℕ) → GoesBetween n from to old now false → Gone old now from to

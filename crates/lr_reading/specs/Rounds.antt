@@ -140,7 +140,8 @@ module _ {C : Type 0} (took : C → List Arrival → C → Type 0) where
     pub still : (line : LineCode) (bytes : List ℕ) (given : List Frame) → HasJobs line bytes given view intake
         → HasJobs line bytes given view' intake'
     pub takes : (line : LineCode) (bytes : List ℕ) (given : List Frame) → HasJobs line bytes given view intake
-        → (c : C) → took c (first_arrivals line bytes given view) now → took c (first_arrivals line bytes given view') now'
+        → (c : C) → took c (first_arrivals line bytes given view) now
+        → took c (first_arrivals line bytes given view') now'
 
   -- the consumer stopped for this cause at the arrival of the oldest job
   abbrev pub StopsAt : {Cause : Type 0} → (C → List Arrival → Cause → C → Type 0) → Cause

@@ -17,7 +17,8 @@ returns-in-Err-NoMemory-clause-some g c =
     let most = c.args.self.most in
     let feed = c.self.inside.desk.intake.feed in
     let same = subst (λ (u : Unread g.row.C-Cause.Denot). IsUnread source took (Symbols feed.lock.line) feed.most
-    stopped u c.args.source.now s c.args.consumer.now now) c.in-Err-NoMemory.field-0-is c.in-Err-NoMemory.ensures.some in
+    stopped u c.args.source.now s c.args.consumer.now now) c.in-Err-NoMemory.field-0-is
+    c.in-Err-NoMemory.ensures.some in
     subst (λ before. TakesSome source took input most stopped c.no_memory.result c.args.source.now s before now) same.1
     (subst (λ first. TakesSome source took input most stopped c.no_memory.result first s now now) same.0
     (stops_at_once source took input most stopped c.no_memory.result s now c.no_memory.ensures))
