@@ -1,4 +1,4 @@
-/* Decodes the coded lines on standard input so many times with libaec.
+/* Decodes the coded lines on standard input ROUNDS times with libaec.
    Usage: lines BITS BLOCK COLUMNS LINES ROUNDS. COLUMNS is a multiple of BLOCK. It prints a checksum of the samples. */
 #include <libaec.h>
 #include <stdint.h>

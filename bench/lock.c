@@ -66,7 +66,7 @@ static void feed(void) {
     kept += PIECE;
 }
 
-// 1 for the positive polarity, 0 for the other, -1 where neither has so many hits
+// 1 for the positive polarity, 0 for the other, -1 where neither has enough hits
 static int polarity_at(const int8_t *symbols, unsigned least) {
     uint8_t first = 0, second = 0;
     for (int i = 0; i < 52; i++) {

@@ -1,7 +1,7 @@
 #!/bin/sh
 # Symbols a second from standard input to a synced shelf, by the program on one core: `receive` of clean frames of the test
 # stream. Beside it its parts, by lr_bench: a frame from window to outcome, and the lock.
-# Usage: bench/receive.sh [RUNS [FRAMES]]. The best of so many runs is taken (5 runs of 1024 frames). Needs rt.
+# Usage: bench/receive.sh [RUNS [FRAMES]]. The best of RUNS runs (5) is taken, each of FRAMES frames (1024). Needs rt.
 set -e
 top=$(cd "$(dirname "$0")/.." && pwd)
 runs=${1:-5}

@@ -1,7 +1,7 @@
 #!/bin/sh
 # Words restored a second, with 0, 1, 8, 16 and 17 wrong bytes: lr_bench beside libfec as Debian builds it (its own
 # code is in the library; gcc -O3 builds the program around it).
-# Usage: bench/reed_solomon.sh [RUNS]. The best of so many runs is taken (7). Needs rt, gcc and libfec-dev.
+# Usage: bench/reed_solomon.sh [RUNS]. The best of RUNS runs is taken (7). Needs rt, gcc and libfec-dev.
 set -e
 top=$(cd "$(dirname "$0")/.." && pwd)
 runs=${1:-7}

@@ -1,7 +1,7 @@
 #!/bin/sh
 # Frames and symbols decoded a second, on one core: lr_bench beside the same loop in plain Rust (rustc -O) and in C
 # (gcc -O3). Each program draws its windows itself, which is some 2% of the time.
-# Usage: bench/trellis.sh [RUNS] [WINDOWS]. The best of so many runs is taken (5), of so many windows each (1000). Needs
+# Usage: bench/trellis.sh [RUNS] [WINDOWS]. The best of RUNS runs (5) is taken, each of WINDOWS windows (1000). Needs
 # rt, rustc and gcc.
 set -e
 top=$(cd "$(dirname "$0")/.." && pwd)

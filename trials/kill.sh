@@ -82,7 +82,7 @@ def extracts(count, first=0):
 shortest = float("inf")
 
 
-# receives all frames, or is killed so many seconds after its start
+# receives all frames, or is killed N seconds after its start
 def receive(after=None):
     global shortest
     begin = time.monotonic()

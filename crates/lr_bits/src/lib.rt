@@ -19,6 +19,7 @@ mod pixels;
 mod placed;
 mod reader;
 mod refusals;
+mod remainders;
 mod sizes;
 
 pub use bits::field;

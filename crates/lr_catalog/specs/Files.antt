@@ -15,7 +15,7 @@ shelved_line number file = concat (
 unfoldable pub ok_line : ℕ → List ℕ
 ok_line number = concat (codes "file " ∷ decimal number ∷ codes " ok\n" ∷ [])
 
--- a file whose checksum is wrong: the one that is stored behind its record, and the one of the record's bytes
+-- a file whose checksum is wrong: the one that is stored after its record, and the one of the record's bytes
 unfoldable pub bad_line : ℕ → ℕ → ℕ → List ℕ
 bad_line number stored computed = concat (
     codes "file " ∷ decimal number ∷ codes " bad stored " ∷ hex_word stored ∷ codes " computed "

@@ -17,7 +17,7 @@ abbrev pub last_stretches : List Good → List (List Good)
 last_stretches [] = []
 last_stretches (p ∷ ps) = (p ∷ ps) ∷ last_stretches ps
 
--- the flags of a file of so many packets: 3 where it has one, else 1, then 0 for each between, then 2
+-- the flags of a file of n packets: 3 where it has one, else 1, then 0 for each between, then 2
 abbrev pub flags_of_file : ℕ → List ℕ
 flags_of_file n = if n == 1 then 3 ∷ [] else ((1 ∷ replicate (n - 2) 0) ++ (2 ∷ []))
 
@@ -51,7 +51,7 @@ file_at before packet =
     option_map (file_from packet.vc packet.apid) (find is_file
     (last_stretches (packets_of_key packet.vc packet.apid (before ++ packet ∷ []))))
 
--- for each packet in turn the file that ends with it, where so many came before
+-- for each packet in turn the file that ends with it, where n came before
 abbrev pub files_after : List Good → List Good → List File
 files_after before [] = []
 files_after before (packet ∷ packets) =

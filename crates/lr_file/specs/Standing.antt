@@ -46,7 +46,7 @@ pub record IsWithinLimits (file : Open) : Type 0 where
   pub most : length file.bytes ≤ 67108864
   pub counted : file.count < 16384
 
--- the flags of an open file of so many packets: 1, then 0 for each other
+-- the flags of an open file of n packets: 1, then 0 for each other
 abbrev pub flags_of_open : ℕ → List ℕ
 flags_of_open n = 1 ∷ replicate (n - 1) 0
 

@@ -76,11 +76,11 @@ module _ {J D : Type 0} (n : ℕ) where
       subst (λ (m : SeatState J D). GoesBetween n 0 start m next false) first.1 second' in (
         first.0 ++ second.0,
         second.1 ∙ ap (λ (x : View J). (x, old.1)) (more_reads old.0 first.0 second.0),
-        λ c l. dite (dec_le start c) (λ behind. passed_longer first.0 second.0 c (first.2 c behind l))
+        λ c l. dite (dec_le start c) (λ later. passed_longer first.0 second.0 c (first.2 c later l))
             (λ front. passed_behind first.0 second.0 c (second.2 c (omega arith) (omega arith))),
         λ one p below. dite (dec_le old.0.taken p)
             (λ waits. dite (dec_le start (p % n))
-            (λ behind. (first.3 one).0 p waits below behind (mod-lt p (omega arith)))
+            (λ later. (first.3 one).0 p waits below later (mod-lt p (omega arith)))
             (λ front. (second.3 one).0 p waits below (omega arith) (omega arith)))
             (λ was. (first.3 one).1 inside p (omega arith)),
       )

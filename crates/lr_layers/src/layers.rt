@@ -80,7 +80,7 @@ impl Layers {
         }
     }
 
-    /// The next outcome, in which so many bytes were changed.
+    /// The next outcome, in which this many bytes were changed.
     fn now(&self, changed: u64) -> Now
         requires few { self.now.numbers.restored + self.now.numbers.lost < 2 ^ 48 }
         requires changed { changed ≤ 1020 }

@@ -54,8 +54,8 @@ impl<H: Hand> Desk<H> {
     ghost use Rattle.lr_gate.specs.Seats.{workers_of};
     ghost use Rattle.lr_reading.specs.Desks.{IsFreshDesk};
 
-    /// All memory that reading symbols of this line code takes, with so many workers beside the caller. At most `most`
-    /// bytes will be taken.
+    /// All memory that reading symbols of this line code takes, with this many workers beside the caller. At most
+    /// `most` bytes will be taken.
     pub(crate) fn new(
         alloc: Global,
         line: LineCode,

@@ -55,7 +55,7 @@ pub(crate) fn second(alloc: Global) -> Result<Placed, Fail> {
     Ok(Placed { file, origin })
 }
 
-/// A disk of these bytes, with so much room, and so many calls.
+/// A disk of these bytes, with this much room and this many calls before it fails.
 pub(crate) fn disk_of(alloc: Global, bytes: &[u8], room: u64, calls: u64) -> Result<MemDisk, Fail> {
     let bytes = bytes.to_vec(alloc)?;
     if bytes.len() as u64 > room {

@@ -60,7 +60,7 @@ fn block_of_file(alloc: Global) -> Result<[u8; BLOCK], Fail> {
     Ok(block)
 }
 
-// These blocks, one behind the other.
+// These blocks, one after the other.
 fn joined_bytes(alloc: Global, first: &[u8], second: &[u8]) -> Result<Vec<u8>, Fail> {
     let mut bytes = Vec::new(alloc);
     bytes.extend_from_slice(first)?;

@@ -35,7 +35,7 @@ fn prints(alloc: Global, bytes: Vec<u8>, reads: usize, out: &str) -> Result<bool
     gives(alloc, input, AMPLE, done_with(out))
 }
 
-// A packet, and an idle one behind it.
+// A packet, and an idle one after it.
 fn one_frame(alloc: Global, last: u8) -> Result<Vec<u8>, AllocError> {
     let mut bytes = header(alloc, [0, 0, 0], [0, 0])?;
     bytes.extend_from_slice(&DIGITS[..16])?;
@@ -45,7 +45,7 @@ fn one_frame(alloc: Global, last: u8) -> Result<Vec<u8>, AllocError> {
     Ok(bytes)
 }
 
-// The second of two frames: the rest of a packet, and an idle one behind it.
+// The second of two frames: the rest of a packet, and an idle one after it.
 fn second_frame(alloc: Global, counter: [u8; 3], pointer: [u8; 2]) -> Result<Vec<u8>, AllocError> {
     let mut bytes = header(alloc, counter, pointer)?;
     bytes.extend_from_slice(&DIGITS[3..])?;

@@ -199,7 +199,7 @@ fn a_full_shelf_refuses_the_file(rt: HostRuntime) -> Result<(), Fail> {
     Ok(())
 }
 
-// The source fails behind the frame of the first file, and the file is on the shelf.
+// The source fails after the frame of the first file, and the file is on the shelf.
 fn source_fails(alloc: Global, fault: u64, out: &str) -> Result<bool, Fail> {
     let mut shelf = empty_shelf(alloc)?;
     let input = Input {

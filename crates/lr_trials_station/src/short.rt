@@ -4,7 +4,7 @@ ghost use Rattle.std.specs.Prelude.{◌<◌, ◌≤◌};
 use lr_bits::Failed;
 use lr_io::{MemSource, Source};
 
-/// A source of which each call takes at most so many bytes.
+/// A source of which each call takes at most `most` bytes.
 #[derive(Drop)]
 pub struct ShortSource {
     source: MemSource,

@@ -60,7 +60,7 @@ fn with_file(
     Ok(bytes)
 }
 
-/// The frame of the file with the counter 7, and the one behind it, of the file with the counter 8.
+/// The frame of the file with the counter 7, and the one after it, of the file with the counter 8.
 pub fn file_7(alloc: Global) -> Result<Vec<u8>, AllocError> {
     with_file(alloc, 0, 7, [0x90, 0xB4])
 }

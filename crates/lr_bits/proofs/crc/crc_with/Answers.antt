@@ -4,5 +4,5 @@ use Rattle.lr_bits.proofs.crc.crc_with.Goals as goal
 
 pub returns : goal.returns
 returns c =
-    ap (bit_xor (c.args.crc * 2 ^ 8 % 2 ^ 16)) c.remainder_of_byte.ensures
+    ap (bit_xor (c.args.crc * 2 ^ 8 % 2 ^ 16)) c.remainder.ensures
     ∙ sym (remainder_of-bytes c.args.crc c.args.byte (omega arith))
