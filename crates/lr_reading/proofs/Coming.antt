@@ -43,10 +43,10 @@ use Rattle.lr_reading.specs.Feeding.{arrivals_given}
 use Rattle.lr_reading.specs.Inputs.{unit_bytes, outcome_of_unit, outcomes_of_units, outcomes_of_bytes}
 use Rattle.lr_reading.specs.Reading.{units_of}
 use Rattle.lr_reading.specs.declared.arrival.Arrival.{Arrival}
-use Rattle.lr_reading.specs.declared.input.Input.{Input}
-use Rattle.lr_reading.specs.declared.input.Input.TheVariants.{Symbols, Units}
-use Rattle.lr_reading.specs.declared.input.UnitForm.{UnitForm}
-use Rattle.lr_reading.specs.declared.input.UnitForm.TheVariants.{Blocks, Frames}
+use Rattle.lr_forms.specs.declared.forms.Input.{Input}
+use Rattle.lr_forms.specs.declared.forms.Input.TheVariants.{Symbols, Units}
+use Rattle.lr_forms.specs.declared.forms.UnitForm.{UnitForm}
+use Rattle.lr_forms.specs.declared.forms.UnitForm.TheVariants.{Blocks, Frames}
 use Rattle.lr_reading.proofs.Feeding.{same_arrivals}
 
 -- ---- their outcomes

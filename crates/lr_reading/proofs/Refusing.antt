@@ -4,7 +4,7 @@ use Rattle.lr_io.specs.declared.source.Source.{Ghosts as SourceOf}
 use Rattle.lr_reading.specs.Arrivals.{arrivals_of}
 use Rattle.lr_reading.specs.Runs.{TakesSome}
 use Rattle.lr_reading.specs.declared.arrival.Arrival.{Arrival}
-use Rattle.lr_reading.specs.declared.input.Input.{Input}
+use Rattle.lr_forms.specs.declared.forms.Input.{Input}
 
 -- nothing was read, and the consumer stops before the first arrival
 pub stops_at_once : {S C Cause : Type 0} (source : SourceOf S) (took : C → List Arrival → C → Type 0) (input : Input)

@@ -31,9 +31,9 @@ use Rattle.lr_reading.specs.Inputs.{unit_bytes, outcome_of_unit}
 use Rattle.lr_reading.specs.Reading.{EndsFor, units_of}
 use Rattle.lr_reading.specs.Runs.{TakesAll, TakesSome}
 use Rattle.lr_reading.specs.declared.arrival.Arrival.{Arrival}
-use Rattle.lr_reading.specs.declared.input.Input.TheVariants.{Units}
-use Rattle.lr_reading.specs.declared.input.UnitForm.{UnitForm}
-use Rattle.lr_reading.specs.declared.input.UnitForm.TheVariants.{Blocks, Frames}
+use Rattle.lr_forms.specs.declared.forms.Input.TheVariants.{Units}
+use Rattle.lr_forms.specs.declared.forms.UnitForm.{UnitForm}
+use Rattle.lr_forms.specs.declared.forms.UnitForm.TheVariants.{Blocks, Frames}
 use Rattle.lr_reading.specs.declared.next.Next.TheVariants.{Ended}
 use Rattle.lr_reading.specs.declared.totals.Totals.{Totals}
 use Rattle.lr_reading.proofs.Coming.{

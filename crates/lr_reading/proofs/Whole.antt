@@ -37,10 +37,10 @@ use Rattle.lr_reading.specs.Arrivals.{HasWholeFrame, arrival_in, arrival_of, arr
 use Rattle.lr_reading.specs.Inputs.{unit_bytes, outcome_of_unit}
 use Rattle.lr_reading.specs.Reading.{unit_of, units_of}
 use Rattle.lr_reading.specs.declared.arrival.Arrival.{Arrival}
-use Rattle.lr_reading.specs.declared.input.Input.{Input}
-use Rattle.lr_reading.specs.declared.input.Input.TheVariants.{Symbols, Units}
-use Rattle.lr_reading.specs.declared.input.UnitForm.{UnitForm}
-use Rattle.lr_reading.specs.declared.input.UnitForm.TheVariants.{Blocks, Frames}
+use Rattle.lr_forms.specs.declared.forms.Input.{Input}
+use Rattle.lr_forms.specs.declared.forms.Input.TheVariants.{Symbols, Units}
+use Rattle.lr_forms.specs.declared.forms.UnitForm.{UnitForm}
+use Rattle.lr_forms.specs.declared.forms.UnitForm.TheVariants.{Blocks, Frames}
 
 pub whole_window : (line : LineCode) (window : List ℤ) (outcome : Outcome) → outcome ≡ outcome_of_window line window
     → HasWholeFrame outcome

@@ -12,9 +12,9 @@ use Rattle.lr_frame.specs.Outcomes.{outcome_in}
 use Rattle.lr_reading.specs.Inputs.{unit_bytes, outcome_of_unit}
 use Rattle.lr_reading.specs.Reading.{units_of}
 use Rattle.lr_reading.specs.declared.arrival.Arrival.{Arrival}
-use Rattle.lr_reading.specs.declared.input.Input.{Input}
-use Rattle.lr_reading.specs.declared.input.Input.TheVariants.{Symbols, Units}
-use Rattle.lr_reading.specs.declared.input.UnitForm.{UnitForm}
+use Rattle.lr_forms.specs.declared.forms.Input.{Input}
+use Rattle.lr_forms.specs.declared.forms.Input.TheVariants.{Symbols, Units}
+use Rattle.lr_forms.specs.declared.forms.UnitForm.{UnitForm}
 
 -- a block was restored to a whole frame, if it was
 abbrev pub HasWholeFrame : Outcome → Type 0

@@ -6,10 +6,10 @@ use Rattle.lr_bits.specs.declared.sizes.TheConstants.{BLOCK_BYTES, FRAME_BYTES}
 use Rattle.lr_lock.specs.Symbols.{symbols_of}
 use Rattle.lr_frame.specs.Outcomes.{outcomes_of_symbols}
 use Rattle.lr_block.specs.Outcomes.{outcome_of_block}
-use Rattle.lr_reading.specs.declared.input.Input.{Input}
-use Rattle.lr_reading.specs.declared.input.Input.TheVariants.{Symbols, Units}
-use Rattle.lr_reading.specs.declared.input.UnitForm.{UnitForm}
-use Rattle.lr_reading.specs.declared.input.UnitForm.TheVariants.{Blocks, Frames}
+use Rattle.lr_forms.specs.declared.forms.Input.{Input}
+use Rattle.lr_forms.specs.declared.forms.Input.TheVariants.{Symbols, Units}
+use Rattle.lr_forms.specs.declared.forms.UnitForm.{UnitForm}
+use Rattle.lr_forms.specs.declared.forms.UnitForm.TheVariants.{Blocks, Frames}
 use Rattle.lr_reading.specs.Reading.{units_of}
 
 -- how many bytes a block or a frame has

@@ -7,7 +7,7 @@ use Rattle.lr_gate.specs.declared.gate.Gate.{Gate}
 use Rattle.lr_reading.specs.Rounds.{MayGoOn}
 use Rattle.lr_reading.specs.Runs.{TakesSome}
 use Rattle.lr_reading.specs.declared.arrival.Arrival.{Arrival}
-use Rattle.lr_reading.specs.declared.input.Input.{Input}
+use Rattle.lr_forms.specs.declared.forms.Input.{Input}
 use Rattle.lr_reading.specs.declared.intake.Intake.{Intake}
 use Rattle.lr_reading.specs.declared.unread.Unread.{Unread}
 use Rattle.lr_reading.specs.declared.unread.Unread.TheVariants.{NoMemory, Stopped}

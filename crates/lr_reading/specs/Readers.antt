@@ -1,6 +1,6 @@
 -- What a reader shows: the form of the input that it reads, and the most bytes that it takes of it.
 use Rattle.std.specs.Prelude.{ℕ}
-use Rattle.lr_reading.specs.declared.input.Input.{Input}
+use Rattle.lr_forms.specs.declared.forms.Input.{Input}
 
 pub record ReaderView : Type 0 where
   pub input : Input

@@ -7,8 +7,8 @@ use Rattle.lr_reading.specs.Arrivals.{arrivals_of}
 use Rattle.lr_reading.specs.Inputs.{left_of}
 use Rattle.lr_reading.specs.Reading.{IsRead, EndsFor}
 use Rattle.lr_reading.specs.declared.arrival.Arrival.{Arrival}
-use Rattle.lr_reading.specs.declared.input.Input.{Input}
-use Rattle.lr_reading.specs.declared.input.Input.TheVariants.{Symbols}
+use Rattle.lr_forms.specs.declared.forms.Input.{Input}
+use Rattle.lr_forms.specs.declared.forms.Input.TheVariants.{Symbols}
 use Rattle.lr_reading.specs.declared.totals.Totals.{Totals}
 
 -- these bytes were taken, no more are to be had, and this is what the totals tell of them

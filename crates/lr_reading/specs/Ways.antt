@@ -1,7 +1,7 @@
 -- What reads the input, by its form. No clause of a public call cites this.
 use Rattle.std.specs.Prelude.{◌≡◌, ℕ}
-use Rattle.lr_reading.specs.declared.input.Input.{Input}
-use Rattle.lr_reading.specs.declared.input.Input.TheVariants.{Symbols as Symbols', Units as Units'}
+use Rattle.lr_forms.specs.declared.forms.Input.{Input}
+use Rattle.lr_forms.specs.declared.forms.Input.TheVariants.{Symbols as Symbols', Units as Units'}
 use Rattle.lr_reading.specs.declared.way.Way.{Way}
 use Rattle.lr_reading.specs.declared.way.Way.TheVariants.{Symbols, Units}
 use Rattle.lr_gate.specs.Seats.{workers_of}

@@ -5,7 +5,7 @@ ghost use Rattle.lr_reading.specs.Desks.{IsFreshDesk};
 ghost use Rattle.lr_reading.specs.Rounds.{Decodes, MayGoOn};
 ghost use Rattle.lr_reading.specs.Runs.{TakesAll, TakesSome};
 ghost use Rattle.lr_reading.specs.Pools.{IsUnread};
-ghost use Rattle.lr_reading.specs.declared.input.Input.TheVariants.{Symbols};
+ghost use Rattle.lr_forms.specs.declared.forms.Input.TheVariants.{Symbols};
 
 use crate::consumer::Consumer;
 use crate::desk::Desk;
@@ -70,7 +70,7 @@ impl<'r, 's, 'c, R: Wait, H: Hand, S: Source, C: Consumer> Body<Hired<H>>
     ghost use Rattle.std.specs.Prelude.{◌≡◌, IfOk, IfErr};
     ghost use Rattle.lr_reading.specs.Pools.{MayConduct};
     ghost use Rattle.lr_reading.specs.Runs.{TakesAll, TakesSome};
-    ghost use Rattle.lr_reading.specs.declared.input.Input.TheVariants.{Symbols};
+    ghost use Rattle.lr_forms.specs.declared.forms.Input.TheVariants.{Symbols};
 
     ghost needs = { λ body conductor. MayConduct S.Source C.took C.most conductor body.intake body.source.now
         body.consumer.now };

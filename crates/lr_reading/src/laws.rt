@@ -3,7 +3,7 @@ ghost use Rattle.std.specs.Prelude.{◌≡◌, ℕ, List, All};
 ghost use Rattle.lr_reading.specs.Arrivals.{arrivals_of, outcomes_of_arrivals, HasWholeFrame};
 ghost use Rattle.lr_reading.specs.Inputs.{outcomes_of_bytes};
 ghost use Rattle.lr_reading.specs.declared.arrival.Arrival.{Arrival};
-ghost use Rattle.lr_reading.specs.declared.input.Input.{Input};
+ghost use Rattle.lr_forms.specs.declared.forms.Input.{Input};
 
 /// That the outcomes of the bytes are those of what comes of them.
 pub fn outcomes_are_of_arrivals()

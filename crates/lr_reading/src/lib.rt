@@ -16,7 +16,6 @@ mod arrival;
 mod beside;
 mod consumer;
 mod desk;
-mod input;
 mod intake;
 mod laws;
 mod next;
@@ -34,8 +33,7 @@ mod window_loop;
 
 pub use arrival::{Arrival, Position};
 pub use consumer::Consumer;
-pub use input::{Input, MOST_BYTES, UnitForm};
 pub use laws::{arrivals_are_whole, outcomes_are_of_arrivals};
 pub use reader::Reader;
-pub use team::{MOST_WORKERS, Team};
+pub use team::Team;
 pub use totals::Totals;

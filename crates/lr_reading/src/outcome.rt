@@ -3,9 +3,9 @@ ghost use Rattle.std.specs.Prelude.{◌≡◌};
 ghost use Rattle.lr_reading.specs.Arrivals.{HasWholeFrame};
 ghost use Rattle.lr_reading.specs.Inputs.{unit_bytes, outcome_of_unit};
 
-use crate::input::UnitForm;
 use lr_bits::{BLOCK_BYTES, Corrected, FRAME_BYTES, Outcome};
 use lr_block::outcome_of;
+use lr_forms::UnitForm;
 use lr_rs::RsScratch;
 
 /// What becomes of a block or a frame.

@@ -1,12 +1,12 @@
 //! What reads the input, with the memory that it takes.
 use crate::consumer::Consumer;
 use crate::desk::Desk;
-use crate::input::{Input, UnitForm};
 use crate::totals::Totals;
 use crate::unit_loop::read_units;
 use crate::way::Way;
 use crate::window_loop::read_windows;
 use lr_bits::{BLOCK_BYTES, FRAME_BYTES, NoMemory};
+use lr_forms::{Input, UnitForm};
 use lr_frame::FrameWork;
 use lr_io::Source;
 use std::alloc::Global;

@@ -6,7 +6,7 @@ ghost use Rattle.lr_gate.specs.Seats.{cells_of, workers_of, IsConductorOf, view_
 ghost use Rattle.lr_reading.specs.Rounds.{Decodes, HasWindows, MayHandOver, HandsOver, StopsAt, IsPut, PutsMore};
 ghost use Rattle.lr_reading.specs.Rounds.{MayGoOn, Goes, rounds_left};
 ghost use Rattle.lr_reading.specs.Runs.{TakesSome};
-ghost use Rattle.lr_reading.specs.declared.input.Input.TheVariants.{Symbols};
+ghost use Rattle.lr_forms.specs.declared.forms.Input.TheVariants.{Symbols};
 ghost use Rattle.lr_reading.specs.declared.round.Round.TheVariants.{Worked, Waits};
 
 use crate::arrival::{Arrival, Position};

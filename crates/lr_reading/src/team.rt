@@ -1,6 +1,6 @@
 //! A team that reads symbols: workers with a hand each, and the caller, which helps.
 ghost use Rattle.std.specs.Prelude.{◌≡◌};
-ghost use Rattle.lr_reading.specs.declared.input.Input.TheVariants.{Symbols};
+ghost use Rattle.lr_forms.specs.declared.forms.Input.TheVariants.{Symbols};
 
 use crate::beside::read_beside;
 use crate::consumer::Consumer;
@@ -17,9 +17,6 @@ use std::marker::Model;
 use std::sync::Wait;
 use std::thread::Threads;
 
-/// The most that work on windows, the caller among them.
-pub const MOST_WORKERS: u64 = 64;
-
 /// Reads symbols once, with all memory that this takes.
 #[derive(Drop)]
 pub struct Team<H: Hand> {
@@ -29,7 +26,7 @@ pub struct Team<H: Hand> {
 impl<H: Hand> Model for Team<H> {
     ghost use Rattle.lr_reading.specs.Readers.{ReaderView};
     ghost use Rattle.lr_reading.specs.Desks.{IsFreshDesk};
-    ghost use Rattle.lr_reading.specs.declared.input.Input.TheVariants.{Symbols};
+    ghost use Rattle.lr_forms.specs.declared.forms.Input.TheVariants.{Symbols};
 
     ghost Value = { ReaderView };
 
@@ -44,7 +41,7 @@ impl<H: Hand> Model for Team<H> {
 impl<H: Hand> Team<H> {
     ghost use Rattle.std.specs.Prelude.{◌≡◌, ◌≤◌, ◌^◌, [], IfOk, IfErr};
     ghost use Rattle.lr_reading.specs.Runs.{TakesAll, TakesSome};
-    ghost use Rattle.lr_reading.specs.declared.input.Input.TheVariants.{Symbols};
+    ghost use Rattle.lr_forms.specs.declared.forms.Input.TheVariants.{Symbols};
 
     /// All memory that reading symbols of this line code takes. At most `most` bytes will be taken. This many work on
     /// windows, the caller among them; each has a hand that is made with these tools.

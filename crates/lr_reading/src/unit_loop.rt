@@ -2,15 +2,15 @@
 ghost use Rattle.std.specs.Prelude.{◌≡◌, ◌≤◌, [], IfOk, IfErr};
 ghost use Rattle.lr_reading.specs.Inputs.{unit_bytes};
 ghost use Rattle.lr_reading.specs.Runs.{TakesAll, TakesSome};
-ghost use Rattle.lr_reading.specs.declared.input.Input.TheVariants.{Units};
+ghost use Rattle.lr_forms.specs.declared.forms.Input.TheVariants.{Units};
 
 use crate::arrival::Arrival;
 use crate::consumer::Consumer;
-use crate::input::UnitForm;
 use crate::next::Next;
 use crate::outcome::unit_outcome;
 use crate::totals::Totals;
 use crate::units::UnitFeed;
+use lr_forms::UnitForm;
 use lr_io::Source;
 use lr_rs::RsScratch;
 

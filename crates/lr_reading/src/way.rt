@@ -1,6 +1,6 @@
 //! What reads the input, by its form.
 use crate::desk::Desk;
-use crate::input::UnitForm;
+use lr_forms::UnitForm;
 use lr_frame::FrameWork;
 
 #[derive(Drop)]

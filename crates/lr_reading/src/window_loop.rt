@@ -4,7 +4,7 @@ ghost use Rattle.lr_gate.specs.Seats.{workers_of};
 ghost use Rattle.lr_reading.specs.Desks.{IsFreshDesk};
 ghost use Rattle.lr_reading.specs.Rounds.{Decodes, MayGoOn};
 ghost use Rattle.lr_reading.specs.Runs.{TakesAll, TakesSome};
-ghost use Rattle.lr_reading.specs.declared.input.Input.TheVariants.{Symbols};
+ghost use Rattle.lr_forms.specs.declared.forms.Input.TheVariants.{Symbols};
 
 use crate::consumer::Consumer;
 use crate::desk::Desk;

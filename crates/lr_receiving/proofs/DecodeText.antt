@@ -47,8 +47,8 @@ use Rattle.lr_reading.specs.Lines.{numbered_lines}
 use Rattle.lr_reading.specs.Reading.{units_of}
 use Rattle.lr_reading.specs.Runs.{ReadsInput, TakesAll, TakesSome}
 use Rattle.lr_reading.specs.declared.arrival.Arrival.{Arrival}
-use Rattle.lr_reading.specs.declared.input.Input.{Input}
-use Rattle.lr_reading.specs.declared.input.Input.TheVariants.{Symbols, Units}
+use Rattle.lr_forms.specs.declared.forms.Input.{Input}
+use Rattle.lr_forms.specs.declared.forms.Input.TheVariants.{Symbols, Units}
 use Rattle.lr_reading.specs.declared.totals.Totals.{Totals}
 use Rattle.lr_reading.proofs.Coming.{outcomes_are, outcomes_counted}
 use Rattle.lr_reading.proofs.Numbered.{

@@ -43,8 +43,8 @@ use Rattle.lr_sent.proofs.MadeFiles.{placed_fit}
 use Rattle.lr_shelf_format.specs.Items.{extent_of, head_of_item}
 use Rattle.lr_shelf_format.specs.Reading.{end_of}
 use Rattle.lr_shelf.specs.Append.{item_for}
-use Rattle.lr_reading.specs.declared.input.Input.TheVariants.{Symbols}
-use Rattle.lr_receiving.specs.declared.output.Output.TheVariants.{Symbols as AsSymbols}
+use Rattle.lr_forms.specs.declared.forms.Input.TheVariants.{Symbols}
+use Rattle.lr_forms.specs.declared.forms.Output.TheVariants.{Symbols as AsSymbols}
 use Rattle.lr_reading.specs.Inputs.{outcomes_of_bytes}
 use Rattle.lr_receiving.specs.Inputs.{files_of_bytes}
 use Rattle.lr_receiving.specs.Made.{bytes_of_symbols, made_bytes}

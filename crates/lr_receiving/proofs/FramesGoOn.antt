@@ -15,8 +15,8 @@ use Rattle.lr_reading.specs.Lines.{numbered_lines}
 use Rattle.lr_reading.specs.Reading.{unit_of, units_of}
 use Rattle.lr_reading.specs.Runs.{ReadsInput, TakesAll, TakesSome}
 use Rattle.lr_reading.specs.declared.arrival.Arrival.{Arrival}
-use Rattle.lr_reading.specs.declared.input.Input.TheVariants.{Units}
-use Rattle.lr_reading.specs.declared.input.UnitForm.TheVariants.{Frames}
+use Rattle.lr_forms.specs.declared.forms.Input.TheVariants.{Units}
+use Rattle.lr_forms.specs.declared.forms.UnitForm.TheVariants.{Frames}
 use Rattle.lr_reading.specs.declared.totals.Totals.{Totals}
 use Rattle.lr_reading.proofs.Coming.{arrivals_of_units-counted}
 use Rattle.lr_reading.proofs.Numbered.{

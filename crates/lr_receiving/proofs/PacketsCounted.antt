@@ -10,8 +10,8 @@ use Rattle.lr_catalog.specs.Summaries.{summary_line}
 use Rattle.lr_io.specs.declared.source.Source.{Ghosts as SourceOf}
 use Rattle.lr_reading.specs.Reading.{units_of}
 use Rattle.lr_reading.specs.Runs.{ReadsInput}
-use Rattle.lr_reading.specs.declared.input.Input.TheVariants.{Units}
-use Rattle.lr_reading.specs.declared.input.UnitForm.TheVariants.{Frames}
+use Rattle.lr_forms.specs.declared.forms.Input.TheVariants.{Units}
+use Rattle.lr_forms.specs.declared.forms.UnitForm.TheVariants.{Frames}
 use Rattle.lr_reading.specs.declared.totals.Totals.{Totals}
 use Rattle.lr_receiving.specs.declared.packet_count.PacketCount.{PacketCount}
 use Rattle.lr_receiving.specs.Packets.{frames_read, packets_read, lines_from, packets_count, packets_last}

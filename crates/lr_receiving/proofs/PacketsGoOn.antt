@@ -44,8 +44,8 @@ use Rattle.lr_reading.specs.Arrivals.{arrivals_of, arrivals_of_units}
 use Rattle.lr_reading.specs.Reading.{units_of}
 use Rattle.lr_reading.specs.Runs.{ReadsInput, TakesAll, TakesSome}
 use Rattle.lr_reading.specs.declared.arrival.Arrival.{Arrival}
-use Rattle.lr_reading.specs.declared.input.Input.TheVariants.{Units}
-use Rattle.lr_reading.specs.declared.input.UnitForm.TheVariants.{Frames}
+use Rattle.lr_forms.specs.declared.forms.Input.TheVariants.{Units}
+use Rattle.lr_forms.specs.declared.forms.UnitForm.TheVariants.{Frames}
 use Rattle.lr_reading.specs.declared.totals.Totals.{Totals}
 use Rattle.lr_reading.proofs.Whole.{units_long}
 use Rattle.lr_receiving.specs.declared.packet_count.PacketCount.{PacketCount}

@@ -39,7 +39,7 @@ use Rattle.lr_commands.specs.declared.cause.Refusal.TheVariants.{Capacity}
 use Rattle.lr_receiving.specs.declared.sums.Sums.{Sums}
 use Rattle.lr_reading.specs.Runs.{ReadsInput}
 use Rattle.lr_reading.proofs.Coming.{outcomes_counted}
-use Rattle.lr_reading.specs.declared.input.Input.{Input}
+use Rattle.lr_forms.specs.declared.forms.Input.{Input}
 use Rattle.lr_receiving.specs.Causes.{IsEarlier, cause_at}
 use Rattle.lr_reading.specs.Inputs.{outcomes_of_bytes}
 use Rattle.lr_receiving.specs.Inputs.{files_of_bytes}

@@ -48,7 +48,7 @@ use Rattle.lr_reading.specs.Inputs.{outcomes_of_bytes}
 use Rattle.lr_reading.specs.Reading.{EndsFor}
 use Rattle.lr_reading.specs.Runs.{TakesAll, TakesSome}
 use Rattle.lr_reading.specs.declared.arrival.Arrival.{Arrival}
-use Rattle.lr_reading.specs.declared.input.Input.{Input}
+use Rattle.lr_forms.specs.declared.forms.Input.{Input}
 use Rattle.lr_reading.proofs.Coming.{outcomes_are, no_arrivals}
 use Rattle.lr_reading.proofs.Whole.{all_whole}
 use Rattle.lr_receiving.specs.declared.shelver.Shelver.{Shelver}

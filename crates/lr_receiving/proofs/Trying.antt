@@ -62,7 +62,7 @@ use Rattle.lr_commands.specs.declared.cause.Party.TheVariants.{Disk, Output}
 use Rattle.lr_commands.specs.declared.cause.Refusal.TheVariants.{NotAShelf, Capacity, NotEmpty}
 use Rattle.lr_receiving.specs.declared.sums.Sums.{Sums}
 use Rattle.lr_conv.specs.declared.line.TheConstants.{STANDARD}
-use Rattle.lr_reading.specs.declared.input.Input.TheVariants.{Symbols}
+use Rattle.lr_forms.specs.declared.forms.Input.TheVariants.{Symbols}
 use Rattle.lr_commands.specs.Causes.{cause_of, IsCaused}
 use Rattle.lr_receiving.specs.Causes.{IsEarlier, counts}
 use Rattle.lr_receiving.specs.Inputs.{files_of_bytes}

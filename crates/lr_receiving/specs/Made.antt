@@ -7,9 +7,9 @@ use Rattle.lr_make.specs.Stream.{frame_stream, block_stream, symbol_stream}
 use Rattle.lr_commands.specs.declared.cause.Cause.{Cause}
 use Rattle.lr_commands.specs.declared.cause.Cause.TheVariants.{Done, Failed}
 use Rattle.lr_commands.specs.declared.cause.Party.TheVariants.{Output}
-use Rattle.lr_receiving.specs.declared.output.Output.{Output as Form}
-use Rattle.lr_receiving.specs.declared.output.Output.TheVariants.{Symbols, Units}
-use Rattle.lr_reading.specs.declared.input.UnitForm.TheVariants.{Blocks, Frames}
+use Rattle.lr_forms.specs.declared.forms.Output.{Output as Form}
+use Rattle.lr_forms.specs.declared.forms.Output.TheVariants.{Symbols, Units}
+use Rattle.lr_forms.specs.declared.forms.UnitForm.TheVariants.{Blocks, Frames}
 
 -- each symbol in one byte
 abbrev pub bytes_of_symbols : List ℤ → List ℕ

@@ -16,8 +16,8 @@ use Rattle.lr_commands.specs.declared.cause.Cause.TheVariants.{Failed, Refused}
 use Rattle.lr_commands.specs.declared.cause.Party.TheVariants.{Disk}
 use Rattle.lr_commands.specs.declared.cause.Refusal.TheVariants.{Capacity}
 use Rattle.lr_receiving.specs.declared.sums.Sums.{Sums}
-use Rattle.lr_reading.specs.declared.input.Input.{Input}
-use Rattle.lr_reading.specs.declared.input.Input.TheVariants.{Symbols}
+use Rattle.lr_forms.specs.declared.forms.Input.{Input}
+use Rattle.lr_forms.specs.declared.forms.Input.TheVariants.{Symbols}
 use Rattle.lr_reading.specs.Inputs.{outcomes_of_bytes}
 use Rattle.lr_reading.specs.Runs.{ReadsInput}
 use Rattle.lr_receiving.specs.Inputs.{files_of_bytes}

@@ -2,8 +2,8 @@
 ghost use Rattle.std.specs.Prelude.{◌≡◌, ◌<◌, ◌^◌, List, ℕ, IfOk, IfErr};
 ghost use Rattle.lr_catalog.specs.Summaries.{summary_line};
 ghost use Rattle.lr_reading.specs.Runs.{ReadsInput};
-ghost use Rattle.lr_reading.specs.declared.input.Input.TheVariants.{Units};
-ghost use Rattle.lr_reading.specs.declared.input.UnitForm.TheVariants.{Frames};
+ghost use Rattle.lr_forms.specs.declared.forms.Input.TheVariants.{Units};
+ghost use Rattle.lr_forms.specs.declared.forms.UnitForm.TheVariants.{Frames};
 ghost use Rattle.lr_receiving.specs.Frames.{frames_text, frames_last};
 ghost use Rattle.lr_receiving.specs.FrameLines.{frame_text};
 ghost use Rattle.lr_receiving.specs.Printing.{Prints, PrintsAll};
@@ -15,8 +15,9 @@ use crate::sums::cause_at;
 use lr_bits::{Bytes, Outcome};
 use lr_catalog::{Stop, Summary, frame_line, summary_line};
 use lr_commands::Cause;
+use lr_forms::{Input, UnitForm};
 use lr_io::{Sink, Source};
-use lr_reading::{Arrival, Consumer, Input, Reader, Totals, UnitForm};
+use lr_reading::{Arrival, Consumer, Reader, Totals};
 use lr_vc::TransferFrame;
 use std::alloc::Global;
 

@@ -12,7 +12,6 @@
 mod frame_lines;
 mod new_shelf;
 mod outcome_lines;
-mod output;
 mod packet_count;
 mod packet_lines;
 mod put;
@@ -26,10 +25,8 @@ mod test_stream;
 mod trial_run;
 
 pub use frame_lines::frames;
-pub use lr_reading::{Input, MOST_BYTES, UnitForm};
 pub use new_shelf::init;
 pub use outcome_lines::decode;
-pub use output::Output;
 pub use packet_lines::packets;
 pub use reception::receive;
 pub use team_files::{receive_by_team, trial_by_team};

@@ -15,8 +15,9 @@ use crate::sums::cause_at;
 use lr_bits::{Bytes, Outcome};
 use lr_catalog::{Stop, Summary, block_line, summary_line, window_line};
 use lr_commands::Cause;
+use lr_forms::Input;
 use lr_io::{Sink, Source};
-use lr_reading::{Arrival, Consumer, Input, Reader, Totals};
+use lr_reading::{Arrival, Consumer, Reader, Totals};
 use std::alloc::Global;
 
 /// Puts a line for each outcome, of which it took this many, and counts those that are restored.

@@ -22,8 +22,8 @@ ghost use Rattle.lr_vc.specs.Standing.{StandsFor};
 ghost use Rattle.lr_packet.specs.Verdict.{good_of, good_packets};
 ghost use Rattle.lr_reading.specs.Reading.{units_of};
 ghost use Rattle.lr_reading.specs.Runs.{ReadsInput};
-ghost use Rattle.lr_reading.specs.declared.input.Input.TheVariants.{Units};
-ghost use Rattle.lr_reading.specs.declared.input.UnitForm.TheVariants.{Frames};
+ghost use Rattle.lr_forms.specs.declared.forms.Input.TheVariants.{Units};
+ghost use Rattle.lr_forms.specs.declared.forms.UnitForm.TheVariants.{Frames};
 ghost use Rattle.lr_receiving.specs.Added.{packets_added, lines_added};
 ghost use Rattle.lr_receiving.specs.Packets.{
   frames_read,
@@ -44,9 +44,10 @@ use crate::sums::cause_at;
 use lr_bits::{Bytes, FRAME_BYTES, NoMemory, Outcome, RawPacket};
 use lr_catalog::{Stop, Summary, packet_line, summary_line};
 use lr_commands::Cause;
+use lr_forms::{Input, UnitForm};
 use lr_io::{Sink, Source};
 use lr_packet::check;
-use lr_reading::{Arrival, Consumer, Input, Reader, Totals, UnitForm};
+use lr_reading::{Arrival, Consumer, Reader, Totals};
 use lr_vc::{Channels, TransferFrame};
 use std::alloc::Global;
 

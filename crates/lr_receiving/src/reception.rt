@@ -14,9 +14,10 @@ use lr_bits::{Bytes, NoMemory};
 use lr_catalog::{Stop, Summary, summary_line};
 use lr_commands::Cause;
 use lr_disk::Disk;
+use lr_forms::Input;
 use lr_io::{Sink, Source};
 use lr_layers::Layers;
-use lr_reading::{Input, Reader};
+use lr_reading::Reader;
 use lr_shelf::Shelf;
 use std::alloc::Global;
 

@@ -3,7 +3,7 @@ ghost use Rattle.std.specs.Prelude.{◌≡◌, ◌≤◌, ◌^◌, List, ℕ, If
 ghost use Rattle.lr_layers.specs.Layers.{is_restored};
 ghost use Rattle.lr_reading.specs.Inputs.{outcomes_of_bytes};
 ghost use Rattle.lr_reading.specs.Runs.{ReadsInput};
-ghost use Rattle.lr_reading.specs.declared.input.Input.TheVariants.{Symbols};
+ghost use Rattle.lr_forms.specs.declared.forms.Input.TheVariants.{Symbols};
 ghost use Rattle.lr_receiving.specs.Decode.{decode_text, decode_last};
 ghost use Rattle.lr_receiving.specs.Printing.{Prints, PrintsAll};
 ghost use Rattle.lr_commands.specs.Puts.{Puts};

@@ -8,13 +8,12 @@ ghost use Rattle.lr_receiving.specs.Causes.{counts};
 ghost use Rattle.lr_receiving.specs.Made.{bytes_of_symbols, made_bytes, MakeEnds};
 ghost use Rattle.lr_commands.specs.Puts.{Puts, PutFails};
 
-use crate::output::Output;
 use crate::put::put_text;
 use lr_bits::{BLOCK_BYTES, FRAME_BYTES, FRAME_SYMBOLS};
 use lr_commands::Cause;
+use lr_forms::{Output, UnitForm};
 use lr_io::Sink;
 use lr_make::Maker;
-use lr_reading::UnitForm;
 
 /// Each symbol in a byte.
 pub(crate) fn put_bytes(symbols: &[i8; FRAME_SYMBOLS], bytes: &mut [u8; FRAME_SYMBOLS])

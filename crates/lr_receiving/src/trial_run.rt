@@ -15,10 +15,9 @@ ghost use Rattle.lr_receiving.specs.Reception.{sums_line};
 ghost use Rattle.lr_receiving.specs.Shelved.{StopsTrial};
 ghost use Rattle.lr_receiving.specs.Shelving.{with_files};
 ghost use Rattle.lr_receiving.specs.Trial.{trial_capacity, LeavesDisk, TrialRun};
-ghost use Rattle.lr_reading.specs.declared.input.Input.TheVariants.{Symbols};
-ghost use Rattle.lr_reading.specs.declared.input.TheConstants.{MOST_BYTES as most_bytes};
+ghost use Rattle.lr_forms.specs.declared.forms.Input.TheVariants.{Symbols};
+ghost use Rattle.lr_forms.specs.declared.forms.TheConstants.{MOST_BYTES as most_bytes};
 
-use crate::output::Output;
 use crate::reception::{put_last, receive_all};
 use crate::sums::Sums;
 use crate::test_stream::put_bytes;
@@ -26,9 +25,10 @@ use lr_bits::{FRAME_SYMBOLS, NoMemory};
 use lr_commands::Cause;
 use lr_conv::STANDARD;
 use lr_disk::Disk;
+use lr_forms::{Input, MOST_BYTES, Output};
 use lr_io::{Sink, SureSink, SureSource};
 use lr_make::Maker;
-use lr_reading::{Input, MOST_BYTES, Reader};
+use lr_reading::Reader;
 use lr_shelf::Shelf;
 use std::alloc::Global;
 

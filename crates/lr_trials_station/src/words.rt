@@ -1,6 +1,6 @@
 // Which words are read, and as which command.
 use lr_conv::LineCode;
-use lr_receiving::{Input, Output, UnitForm};
+use lr_forms::{Input, Output, UnitForm};
 use lr_words::{Command, read_words, writes_shelf};
 use std::alloc::{AllocError, Global};
 use std::test::Fail;

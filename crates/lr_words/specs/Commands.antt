@@ -21,7 +21,7 @@ use Rattle.std.specs.Str.{bytes_eq}
 use Rattle.clap.specs.Words.{App, Text, new_app, with_rule}
 use Rattle.lr_shelf_format.specs.declared.header.TheConstants.{LEAST_CAPACITY, MOST_CAPACITY}
 use Rattle.lr_shelf_format.specs.Header.{IsCapacity}
-use Rattle.lr_reading.specs.declared.team.TheConstants.{MOST_WORKERS}
+use Rattle.lr_forms.specs.declared.forms.TheConstants.{MOST_WORKERS}
 use Rattle.lr_words.specs.Arguments.{place, option, number_app, symbols_app, intake_app, stream_app}
 use Rattle.lr_words.specs.Numbers.{number_given}
 use Rattle.lr_words.specs.Values.{coded_input, any_input, output_of, most_of, workers_of, line_of}

@@ -1,4 +1,4 @@
-use lr_receiving::{Input, Output};
+use lr_forms::{Input, Output};
 
 /// A command with what its words say.
 #[derive(Clone, Copy)]

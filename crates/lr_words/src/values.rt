@@ -15,8 +15,7 @@ ghost use Rattle.lr_words.specs.Values.{
 use crate::numbers::number_or;
 use clap::ArgMatches;
 use lr_conv::LineCode;
-use lr_reading::MOST_WORKERS;
-use lr_receiving::{Input, MOST_BYTES, Output, UnitForm};
+use lr_forms::{Input, MOST_BYTES, MOST_WORKERS, Output, UnitForm};
 
 /// The most wrong bytes in each word of a test stream.
 pub(crate) const MOST_WRONG: u64 = 16;

@@ -2,7 +2,7 @@ use Rattle.std.proofs.Common.{◌≡◌, ◌∙◌, sym, rules}
 use Rattle.lr_reading.proofs.Beginning.{may_conduct}
 use Rattle.lr_reading.proofs.Joining.{back_at_ok, back_at_err}
 use Rattle.lr_reading.specs.Runs.{TakesAll, TakesSome}
-use Rattle.lr_reading.specs.declared.input.Input.TheVariants.{Symbols}
+use Rattle.lr_forms.specs.declared.forms.Input.TheVariants.{Symbols}
 use Rattle.lr_reading.proofs.beside.read_beside.Goals as goal
 
 pub with_pool-requires-clause-needs : goal.with_pool-requires-clause-needs

@@ -1,7 +1,7 @@
 use Rattle.std.proofs.Common.{◌≤◌, ap, sym, subst, arith, List, [], ℕ, length}
 use Rattle.lr_shelf_format.specs.Reading.{end_of}
 use Rattle.lr_conv.specs.declared.line.TheConstants.{STANDARD}
-use Rattle.lr_reading.specs.declared.input.Input.TheVariants.{Symbols}
+use Rattle.lr_forms.specs.declared.forms.Input.TheVariants.{Symbols}
 use Rattle.lr_receiving.specs.Inputs.{files_of_bytes}
 use Rattle.lr_receiving.specs.Shelving.{with_files}
 use Rattle.lr_receiving.specs.Trial.{trial_capacity}

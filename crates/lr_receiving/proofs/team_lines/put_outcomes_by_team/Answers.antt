@@ -1,5 +1,5 @@
 use Rattle.std.proofs.lemmas.Result.{err_from_is_err_and}
-use Rattle.lr_reading.specs.declared.input.Input.TheVariants.{Symbols}
+use Rattle.lr_forms.specs.declared.forms.Input.TheVariants.{Symbols}
 use Rattle.lr_receiving.specs.Decode.{decode_text, decode_last}
 use Rattle.lr_receiving.proofs.DecodeText.{no_more_restored, decode_last_is}
 use Rattle.lr_receiving.proofs.Lines.{none_read, all_put, last_stopped}

@@ -1,7 +1,7 @@
 use Rattle.std.proofs.Common.{sym, subst}
 use Rattle.lr_make.specs.Stream.{symbol_stream}
-use Rattle.lr_receiving.specs.declared.output.Output.{Output}
-use Rattle.lr_receiving.specs.declared.output.Output.TheVariants.{Units}
+use Rattle.lr_forms.specs.declared.forms.Output.{Output}
+use Rattle.lr_forms.specs.declared.forms.Output.TheVariants.{Units}
 use Rattle.lr_receiving.specs.Made.{bytes_of_symbols, made_bytes, MakeEnds}
 use Rattle.lr_receiving.proofs.Making.{make_ends}
 use Rattle.lr_receiving.proofs.test_stream.make.Goals as goal

@@ -3,7 +3,7 @@ use Rattle.std.proofs.lemmas.Result.{err_from_is_err_and}
 use Rattle.lr_shelf.specs.Load.{IsLoadRefusal}
 use Rattle.lr_shelf.specs.declared.shelf.Shelf.{Shelf}
 use Rattle.lr_shelf.specs.declared.error.ShelfError.{ShelfError}
-use Rattle.lr_reading.specs.declared.input.TheConstants.{MOST_BYTES as most_bytes}
+use Rattle.lr_forms.specs.declared.forms.TheConstants.{MOST_BYTES as most_bytes}
 use Rattle.lr_receiving.proofs.Causing.{none_rose}
 use Rattle.lr_receiving.proofs.Trying.{init_refused, not_loaded, lines, all_done, some_done}
 use Rattle.lr_receiving.proofs.trial_run.shelve_stream.Goals as goal

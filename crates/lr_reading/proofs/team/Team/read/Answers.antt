@@ -1,7 +1,7 @@
 use Rattle.std.proofs.Common.{subst}
 use Rattle.lr_reading.specs.Pools.{IsUnread}
 use Rattle.lr_reading.specs.Runs.{TakesSome}
-use Rattle.lr_reading.specs.declared.input.Input.TheVariants.{Symbols}
+use Rattle.lr_forms.specs.declared.forms.Input.TheVariants.{Symbols}
 use Rattle.lr_reading.specs.declared.unread.Unread.{Unread}
 use Rattle.lr_reading.proofs.Refusing.{stops_at_once}
 use Rattle.lr_reading.proofs.team.Team.read.Goals as goal

@@ -3,6 +3,9 @@ use lr_conv::LineCode;
 /// The most bytes that a call takes from the source where no word gives another number.
 pub const MOST_BYTES: u64 = 1_099_511_627_776;
 
+/// The most that work on windows, the caller among them.
+pub const MOST_WORKERS: u64 = 64;
+
 /// Units of a fixed number of bytes, one after another.
 #[derive(Clone, Copy)]
 pub enum UnitForm {
@@ -17,5 +20,13 @@ pub enum UnitForm {
 pub enum Input {
     /// Soft symbols of this line code, each in a byte that is read as a signed one.
     Symbols(LineCode),
+    Units(UnitForm),
+}
+
+/// The form in which the test stream is written.
+#[derive(Clone, Copy)]
+pub enum Output {
+    /// Soft symbols under the standard's line code, each in a byte that is read as a signed one.
+    Symbols,
     Units(UnitForm),
 }
