@@ -1,6 +1,6 @@
 #!/bin/sh
 # The symbols of a test stream, sent through a noisy channel and received again by GNU Radio (Debian's package of that name; without
-# it nothing is tried), give the frames and the shelf that they give without it.
+# it nothing is tried), give the lines of `receive` and `verify` that they give without it, but for the last line's counts.
 # Usage: trials/radio.sh. Needs rt and python3.
 top=$(cd "$(dirname "$0")/.." && pwd)
 for python in python3 /usr/bin/python3 none; do
@@ -24,6 +24,4 @@ tail -n 1 soft.lines
 # (the last line counts the symbols too, of which more were received, and the frames that were found)
 sed '$d' sent.lines > sent.files
 sed '$d' soft.lines > soft.files
-"$station" - decode < soft | sed '$d' | cut -d ' ' -f 7- > changes
-echo "bytes changed by Reed-Solomon: $(tr ' ' '\n' < changes | awk '/^[0-9]+$/ { sum += $1 } END { print sum + 0 }')"
 cmp sent.files soft.files && cmp sent.verified soft.verified
