@@ -17,17 +17,17 @@ use Rattle.lr_headers.specs.declared.fields.Segment.{Segment}
 use Rattle.lr_image.specs.Pgm.{pgm_text}
 use Rattle.lr_io.specs.declared.sink.Sink.{Ghosts as SinkOf}
 use Rattle.lr_segment.specs.Canvas.{Member, whole_picture}
-use Rattle.lr_commands.specs.declared.cause.Cause.{Cause}
-use Rattle.lr_commands.specs.declared.cause.Cause.TheVariants.{Done, DoneWith, Usage, Failed, NoMemory, Refused}
-use Rattle.lr_commands.specs.declared.cause.Party.TheVariants.{Source, Disk, Output}
-use Rattle.lr_commands.specs.declared.cause.Refusal.{Refusal}
+use Rattle.lr_causes.specs.declared.cause.Cause.{Cause}
+use Rattle.lr_causes.specs.declared.cause.Cause.TheVariants.{Done, DoneWith, Usage, Failed, NoMemory, Refused}
+use Rattle.lr_causes.specs.declared.cause.Party.TheVariants.{Source, Disk, Output}
+use Rattle.lr_causes.specs.declared.cause.Refusal.{Refusal}
 use Rattle.lr_commands.specs.declared.gathering.Gathering.{Gathering}
 use Rattle.lr_commands.specs.declared.opened.Opened.{Opened}
 use Rattle.lr_commands.specs.Assemble.{whole_fate, if_of, is_without, member_of, members_of, segment_in, skipped_of}
 use Rattle.lr_commands.specs.Gathered.{Gathers, IsStop, with_member, with_skipped}
 use Rattle.lr_commands.specs.Steps.{PutsText, TextStops}
 use Rattle.lr_commands.proofs.Exporting.{pgm_some}
-use Rattle.lr_commands.proofs.Joining.{puts_none}
+use Rattle.lr_causes.proofs.Joining.{puts_none}
 
 -- ---- the segment of a file
 

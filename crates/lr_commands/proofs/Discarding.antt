@@ -57,9 +57,9 @@ use Rattle.lr_shelf.specs.declared.error.ShelfError.TheVariants.{
   Discarded as Discarded',
 }
 use Rattle.lr_catalog.specs.Discards.{discard_line}
-use Rattle.lr_commands.specs.declared.cause.Party.TheVariants.{Source, Disk, Output}
-use Rattle.lr_commands.specs.declared.cause.Refusal.{Refusal}
-use Rattle.lr_commands.specs.declared.cause.Refusal.TheVariants.{
+use Rattle.lr_causes.specs.declared.cause.Party.TheVariants.{Source, Disk, Output}
+use Rattle.lr_causes.specs.declared.cause.Refusal.{Refusal}
+use Rattle.lr_causes.specs.declared.cause.Refusal.TheVariants.{
   NotAShelf,
   NoSuchFile,
   Capacity,
@@ -68,10 +68,10 @@ use Rattle.lr_commands.specs.declared.cause.Refusal.TheVariants.{
   Discarded,
   CannotExport,
 }
-use Rattle.lr_commands.specs.declared.cause.Cause.{Cause}
-use Rattle.lr_commands.specs.declared.cause.Cause.TheVariants.{Done, DoneWith, Usage, Failed, NoMemory, Refused}
+use Rattle.lr_causes.specs.declared.cause.Cause.{Cause}
+use Rattle.lr_causes.specs.declared.cause.Cause.TheVariants.{Done, DoneWith, Usage, Failed, NoMemory, Refused}
 use Rattle.lr_commands.specs.Asked.{entry_at}
-use Rattle.lr_commands.specs.Causes.{Counts, cause_of}
+use Rattle.lr_causes.specs.Causes.{Counts, cause_of}
 use Rattle.lr_commands.specs.Discard.{
   IsRefusedOn,
   IsDiscardRefusal,
@@ -86,7 +86,7 @@ use Rattle.lr_commands.specs.Discard.{
   RunsDiscard,
   way_after,
 }
-use Rattle.lr_commands.specs.Puts.{Puts, PutFails}
+use Rattle.lr_causes.specs.Puts.{Puts, PutFails}
 use Rattle.lr_commands.specs.Runs.{Counted, CutsNothing, counts_of}
 use Rattle.lr_commands.proofs.Filing.{shelf_counted}
 use Rattle.lr_commands.proofs.Texts.{same_counts}

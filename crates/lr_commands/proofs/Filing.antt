@@ -42,11 +42,11 @@ use Rattle.lr_shelf.specs.declared.error.ShelfError.TheVariants.{
   Failed as Failed',
   Discarded as Discarded',
 }
-use Rattle.lr_commands.specs.declared.cause.Refusal.TheVariants.{NotAShelf, BadChecksum}
-use Rattle.lr_commands.specs.declared.cause.Cause.{Cause}
+use Rattle.lr_causes.specs.declared.cause.Refusal.TheVariants.{NotAShelf, BadChecksum}
+use Rattle.lr_causes.specs.declared.cause.Cause.{Cause}
 use Rattle.lr_commands.specs.declared.opened.Opened.{Opened}
 use Rattle.lr_commands.specs.Asked.{Asked, IsLooked, Seen, Whole, Wrong, Absent}
-use Rattle.lr_commands.specs.Causes.{cause_of}
+use Rattle.lr_causes.specs.Causes.{cause_of}
 use Rattle.lr_commands.specs.Files.{AskedOfFiles, asked_of_files, files_of}
 use Rattle.lr_commands.specs.Runs.{Counted, counts_of}
 use Rattle.lr_commands.specs.Steps.{PutsText, TextStops, TakesEntry, EntryStops}

@@ -48,10 +48,10 @@ use Rattle.lr_shelf.specs.declared.error.ShelfError.TheVariants.{
   Failed as Failed',
   Discarded as Discarded',
 }
-use Rattle.lr_commands.specs.declared.cause.Party.TheVariants.{Source, Disk, Output}
-use Rattle.lr_commands.specs.declared.cause.Cause.{Cause}
-use Rattle.lr_commands.specs.declared.cause.Cause.TheVariants.{Done, DoneWith, Usage, Failed, NoMemory, Refused}
-use Rattle.lr_commands.specs.declared.note.Note.{Note}
+use Rattle.lr_causes.specs.declared.cause.Party.TheVariants.{Source, Disk, Output}
+use Rattle.lr_causes.specs.declared.cause.Cause.{Cause}
+use Rattle.lr_causes.specs.declared.cause.Cause.TheVariants.{Done, DoneWith, Usage, Failed, NoMemory, Refused}
+use Rattle.lr_causes.specs.declared.note.Note.{Note}
 use Rattle.lr_commands.specs.Asked.{
   Asked,
   Answer,
@@ -62,7 +62,7 @@ use Rattle.lr_commands.specs.Asked.{
   done_answer,
   refused_answer,
 }
-use Rattle.lr_commands.specs.Causes.{Counts, cause_of}
+use Rattle.lr_causes.specs.Causes.{Counts, cause_of}
 use Rattle.lr_commands.specs.Runs.{
   Counted,
   PutsFirst,

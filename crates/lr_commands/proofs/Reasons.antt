@@ -43,15 +43,15 @@ use Rattle.lr_image.specs.declared.fault.ImageFault.{ImageFault}
 use Rattle.lr_shelf_format.specs.Way.{Way, IsWay, Sound, Bad, HasSoundRecord, IsFound}
 use Rattle.lr_shelf_format.specs.declared.stored.Stored.{Stored}
 use Rattle.lr_shelf_format.proofs.WayLemmas.{has_one_way}
-use Rattle.lr_commands.specs.declared.cause.Refusal.{Refusal}
-use Rattle.lr_commands.specs.declared.cause.Refusal.TheVariants.{
+use Rattle.lr_causes.specs.declared.cause.Refusal.{Refusal}
+use Rattle.lr_causes.specs.declared.cause.Refusal.TheVariants.{
   NotAShelf,
   NoSuchFile,
   BadChecksum,
   Discarded,
   CannotExport,
 }
-use Rattle.lr_commands.specs.declared.fault.ExportFault.{ExportFault}
+use Rattle.lr_causes.specs.declared.fault.ExportFault.{ExportFault}
 use Rattle.lr_commands.specs.declared.range.Range.{Range}
 use Rattle.lr_commands.specs.Asked.{
   Asked,
@@ -76,7 +76,7 @@ use Rattle.lr_commands.specs.Asked.{
 }
 use Rattle.lr_commands.specs.Export.{export_asked}
 use Rattle.lr_commands.specs.Extract.{extract_asked}
-use Rattle.lr_commands.specs.Faults.{image_fault}
+use Rattle.lr_causes.specs.Faults.{image_fault}
 use Rattle.lr_commands.specs.Files.{one_entry, refused_for}
 use Rattle.lr_commands.specs.Laws.{HasReasons, ExtractHasReasons, HasExportReasons, ExportHasReasons, SaysWhy}
 use Rattle.lr_commands.specs.Laws.{VerifyHasReasons}

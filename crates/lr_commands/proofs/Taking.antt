@@ -35,12 +35,12 @@ use Rattle.lr_disk.specs.Reads.{IsUnwritten}
 use Rattle.lr_disk.specs.declared.disk.Disk.{Ghosts as DiskOf}
 use Rattle.lr_disk.proofs.Moments.{unwritten_joined, unwritten_yet}
 use Rattle.lr_shelf_format.specs.Way.{Way}
-use Rattle.lr_commands.specs.declared.cause.Party.TheVariants.{Source, Disk, Output}
-use Rattle.lr_commands.specs.declared.cause.Refusal.{Refusal}
-use Rattle.lr_commands.specs.declared.cause.Refusal.TheVariants.{NoSuchFile}
-use Rattle.lr_commands.specs.declared.cause.Cause.{Cause}
-use Rattle.lr_commands.specs.declared.cause.Cause.TheVariants.{Done, DoneWith, Usage, Failed, NoMemory, Refused}
-use Rattle.lr_commands.specs.declared.note.Note.{Note}
+use Rattle.lr_causes.specs.declared.cause.Party.TheVariants.{Source, Disk, Output}
+use Rattle.lr_causes.specs.declared.cause.Refusal.{Refusal}
+use Rattle.lr_causes.specs.declared.cause.Refusal.TheVariants.{NoSuchFile}
+use Rattle.lr_causes.specs.declared.cause.Cause.{Cause}
+use Rattle.lr_causes.specs.declared.cause.Cause.TheVariants.{Done, DoneWith, Usage, Failed, NoMemory, Refused}
+use Rattle.lr_causes.specs.declared.note.Note.{Note}
 use Rattle.lr_commands.specs.declared.range.Range.{Range}
 use Rattle.lr_commands.specs.Asked.{
   Asked,
@@ -58,8 +58,8 @@ use Rattle.lr_commands.specs.Asked.{
   AnswersOn,
   BegunBy,
 }
-use Rattle.lr_commands.specs.Causes.{Counts, done_with}
-use Rattle.lr_commands.specs.Puts.{Puts}
+use Rattle.lr_causes.specs.Causes.{Counts, done_with}
+use Rattle.lr_causes.specs.Puts.{Puts}
 use Rattle.lr_commands.specs.Runs.{Counted, PutsAll, PutsFirst, PutsRefused, PutsCut, Got, RunsOn, by_count, counts_of}
 use Rattle.lr_commands.specs.Steps.{PutsText, CutsText, TextStops, TakesEntry, EntryStops}
 use Rattle.lr_commands.proofs.Answering.{

@@ -19,7 +19,7 @@ use Rattle.lr_shelf.specs.declared.error.ShelfError.TheVariants.{
 }
 use Rattle.lr_catalog.specs.Discards.{gone_line}
 use Rattle.lr_catalog.specs.Files.{check_line}
-use Rattle.lr_commands.specs.declared.cause.Cause.{Cause}
+use Rattle.lr_causes.specs.declared.cause.Cause.{Cause}
 use Rattle.lr_commands.specs.declared.opened.Opened.{Opened}
 use Rattle.lr_commands.specs.Asked.{Seen, Whole, Wrong, Absent, plain}
 use Rattle.lr_commands.specs.Steps.{PutsText, TextStops, TakesEntry, EntryStops}

@@ -8,9 +8,9 @@ use Rattle.lr_image.specs.declared.fault.ImageFault.{ImageFault}
 use Rattle.lr_shelf_format.specs.Way.{Way, IsWay, IsNoShelfAt, Sound, Bad, Gone, IsFound, entry_in}
 use Rattle.lr_shelf_format.specs.declared.entry.Entry.{Entry}
 use Rattle.lr_shelf_format.specs.declared.stored.Stored.{Stored}
-use Rattle.lr_commands.specs.declared.cause.Refusal.{Refusal}
-use Rattle.lr_commands.specs.declared.cause.Refusal.TheVariants.{NotAShelf, NoSuchFile}
-use Rattle.lr_commands.specs.declared.note.Note.{Note}
+use Rattle.lr_causes.specs.declared.cause.Refusal.{Refusal}
+use Rattle.lr_causes.specs.declared.cause.Refusal.TheVariants.{NotAShelf, NoSuchFile}
+use Rattle.lr_causes.specs.declared.note.Note.{Note}
 use Rattle.lr_commands.specs.declared.opened.Opened.{Opened}
 use Rattle.lr_commands.specs.declared.range.Range.{Range}
 

@@ -12,14 +12,14 @@ use Rattle.lr_image.specs.Pgm.{pgm_text}
 use Rattle.lr_image.specs.Picture.{Picture}
 use Rattle.lr_image.specs.declared.fault.ImageFault.{ImageFault}
 use Rattle.lr_segment.specs.Canvas.{Member, member, member_fault, uncovered_count, whole_picture}
-use Rattle.lr_commands.specs.declared.cause.Refusal.{Refusal}
-use Rattle.lr_commands.specs.declared.cause.Refusal.TheVariants.{CannotExport}
-use Rattle.lr_commands.specs.declared.fault.ExportFault.TheVariants.{NoSegment}
-use Rattle.lr_commands.specs.declared.note.Note.{Note}
-use Rattle.lr_commands.specs.declared.note.Note.TheVariants.{Assembled}
+use Rattle.lr_causes.specs.declared.cause.Refusal.{Refusal}
+use Rattle.lr_causes.specs.declared.cause.Refusal.TheVariants.{CannotExport}
+use Rattle.lr_causes.specs.declared.fault.ExportFault.TheVariants.{NoSegment}
+use Rattle.lr_causes.specs.declared.note.Note.{Note}
+use Rattle.lr_causes.specs.declared.note.Note.TheVariants.{Assembled}
 use Rattle.lr_commands.specs.declared.opened.Opened.{Opened}
 use Rattle.lr_commands.specs.Asked.{Asked}
-use Rattle.lr_commands.specs.Faults.{assembly_fault}
+use Rattle.lr_causes.specs.Faults.{assembly_fault}
 use Rattle.lr_commands.specs.Files.{AskedOfFiles, asked_of_files, entries_between, no_text, refused_for}
 
 -- ---- the segments of an image

@@ -9,13 +9,13 @@ use Rattle.lr_shelf_format.specs.Way.{Way, IsWay, IsNoShelfAt, way_with}
 use Rattle.lr_shelf_format.specs.declared.item.ItemHead.TheVariants.{Discard}
 use Rattle.lr_shelf.specs.Shelf.{HasEitherWay, IsDurable, StandsForEither}
 use Rattle.lr_catalog.specs.Discards.{discard_line}
-use Rattle.lr_commands.specs.declared.cause.Party.TheVariants.{Disk, Output}
-use Rattle.lr_commands.specs.declared.cause.Refusal.{Refusal}
-use Rattle.lr_commands.specs.declared.cause.Refusal.TheVariants.{NotAShelf, NoSuchFile, Capacity, Discarded}
-use Rattle.lr_commands.specs.declared.cause.Cause.{Cause}
-use Rattle.lr_commands.specs.declared.cause.Cause.TheVariants.{Done, Failed, NoMemory, Refused}
+use Rattle.lr_causes.specs.declared.cause.Party.TheVariants.{Disk, Output}
+use Rattle.lr_causes.specs.declared.cause.Refusal.{Refusal}
+use Rattle.lr_causes.specs.declared.cause.Refusal.TheVariants.{NotAShelf, NoSuchFile, Capacity, Discarded}
+use Rattle.lr_causes.specs.declared.cause.Cause.{Cause}
+use Rattle.lr_causes.specs.declared.cause.Cause.TheVariants.{Done, Failed, NoMemory, Refused}
 use Rattle.lr_commands.specs.Asked.{entry_at}
-use Rattle.lr_commands.specs.Puts.{Puts, PutFails}
+use Rattle.lr_causes.specs.Puts.{Puts, PutFails}
 use Rattle.lr_commands.specs.Runs.{Counted, counts_of}
 
 -- ---- what it is refused for

@@ -3,10 +3,10 @@ use Rattle.std.specs.Prelude.{ℕ, true, Option, Some, None, Result, Ok, Err, Li
 use Rattle.lr_image.specs.Pgm.{pgm_text}
 use Rattle.lr_image.specs.Picture.{Picture}
 use Rattle.lr_image.specs.declared.fault.ImageFault.{ImageFault}
-use Rattle.lr_commands.specs.declared.cause.Refusal.{Refusal}
-use Rattle.lr_commands.specs.declared.cause.Refusal.TheVariants.{Discarded}
+use Rattle.lr_causes.specs.declared.cause.Refusal.{Refusal}
+use Rattle.lr_causes.specs.declared.cause.Refusal.TheVariants.{Discarded}
 use Rattle.lr_commands.specs.Asked.{Asked}
-use Rattle.lr_commands.specs.Faults.{image_fault}
+use Rattle.lr_causes.specs.Faults.{image_fault}
 use Rattle.lr_commands.specs.Files.{AskedOfFiles, asked_of_files, no_note, no_text, one_entry, refused_for}
 
 -- the text of an image, or what is refused for its fault; an image that wasn't looked at has no text

@@ -1,7 +1,7 @@
 -- `extract N`: the mission file proper.
 use Rattle.std.specs.Prelude.{ℕ, Ok, Err}
 use Rattle.lr_bits.specs.File.{proper_of}
-use Rattle.lr_commands.specs.declared.cause.Refusal.TheVariants.{Discarded}
+use Rattle.lr_causes.specs.declared.cause.Refusal.TheVariants.{Discarded}
 use Rattle.lr_commands.specs.Asked.{Asked}
 use Rattle.lr_commands.specs.Files.{AskedOfFiles, asked_of_files, no_image, no_note, no_text, one_entry}
 

@@ -4,10 +4,10 @@ use Rattle.std.specs.Prelude.{ℕ, ◌+◌, ◌&&◌, Bool, false, Option, Some,
 use Rattle.std.specs.Prelude.{if◌then◌else◌, nat_le}
 use Rattle.lr_shelf_format.specs.Way.{Way}
 use Rattle.lr_shelf_format.specs.declared.stored.Stored.{Stored}
-use Rattle.lr_commands.specs.declared.cause.Refusal.{Refusal}
-use Rattle.lr_commands.specs.declared.cause.Refusal.TheVariants.{BadChecksum, CannotExport}
-use Rattle.lr_commands.specs.declared.fault.ExportFault.{ExportFault}
-use Rattle.lr_commands.specs.declared.note.Note.{Note}
+use Rattle.lr_causes.specs.declared.cause.Refusal.{Refusal}
+use Rattle.lr_causes.specs.declared.cause.Refusal.TheVariants.{BadChecksum, CannotExport}
+use Rattle.lr_causes.specs.declared.fault.ExportFault.{ExportFault}
+use Rattle.lr_causes.specs.declared.note.Note.{Note}
 use Rattle.lr_commands.specs.declared.opened.Opened.{Opened}
 use Rattle.lr_commands.specs.declared.range.Range.{Range}
 use Rattle.lr_commands.specs.Asked.{Asked, Seen, Whole, Wrong, Absent}

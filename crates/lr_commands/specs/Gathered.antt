@@ -3,9 +3,9 @@ use Rattle.std.specs.Prelude.{◌≡◌, ◌+◌, ℕ, Bool, true, false, Option
 use Rattle.std.specs.Prelude.{length}
 use Rattle.lr_segment.specs.Canvas.{Canvas, HasSizeOf, Member, StandsFor}
 use Rattle.lr_commands.specs.declared.gathering.Gathering.{Gathering}
-use Rattle.lr_commands.specs.declared.cause.Cause.{Cause}
-use Rattle.lr_commands.specs.declared.cause.Cause.TheVariants.{NoMemory, Refused}
-use Rattle.lr_commands.specs.declared.cause.Refusal.{Refusal}
+use Rattle.lr_causes.specs.declared.cause.Cause.{Cause}
+use Rattle.lr_causes.specs.declared.cause.Cause.TheVariants.{NoMemory, Refused}
+use Rattle.lr_causes.specs.declared.cause.Refusal.{Refusal}
 
 -- nothing, as long as there is no member; then the canvas of the members, of the first one's size and depth
 abbrev pub IsCanvasOf : List Member → Option Canvas → Type 0

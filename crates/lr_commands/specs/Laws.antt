@@ -1,4 +1,4 @@
--- What is true of all causes, and of all bytes.
+-- What is true of all bytes.
 use Rattle.std.specs.Prelude.{◌≡◌, ◌⊎◌, ◌<◌, ◌≤◌, ◌++◌, ℕ, true, false, Some, None, Ok, Err, List, length}
 use Rattle.lr_bits.specs.File.{proper_of}
 use Rattle.lr_image.specs.Pgm.{pgm_text}
@@ -10,57 +10,11 @@ use Rattle.lr_shelf_format.specs.declared.stored.Stored.{Stored}
 use Rattle.lr_commands.specs.Asked.{Asked, Answer, entry_at, IsAnswer, IsBegun, IsRefusedFor, PutsOneText, done_answer}
 use Rattle.lr_commands.specs.Export.{export_asked}
 use Rattle.lr_commands.specs.Extract.{extract_asked}
-use Rattle.lr_commands.specs.Faults.{image_fault}
+use Rattle.lr_causes.specs.Faults.{image_fault}
 use Rattle.lr_commands.specs.Show.{show_asked}
 use Rattle.lr_commands.specs.Verify.{verify_asked}
-use Rattle.lr_commands.specs.declared.cause.Party.{Party}
-use Rattle.lr_commands.specs.declared.cause.Refusal.TheVariants.{
-  NotAShelf,
-  NoSuchFile,
-  Capacity,
-  NotEmpty,
-  BadChecksum,
-  Discarded,
-  CannotExport,
-}
-use Rattle.lr_commands.specs.declared.cause.Cause.{Cause}
-use Rattle.lr_commands.specs.declared.cause.Cause.TheVariants.{Done, DoneWith, Usage, Failed, NoMemory, Refused}
-use Rattle.lr_commands.specs.declared.fault.ExportFault.{ExportFault}
-use Rattle.lr_commands.specs.Causes.{status_of}
-
--- a cause without the values that its line tells
-pub data Kind : Type 0 where
-  IsDone : Kind
-  IsUsage : Kind
-  HasFailed : Party → Kind
-  IsNoMemory : Kind
-  IsNotAShelf : Kind
-  IsNoSuchFile : Kind
-  IsCapacity : Kind
-  IsNotEmpty : Kind
-  IsBadChecksum : Kind
-  IsDiscarded : Kind
-  IsNoExport : Kind
-
-abbrev pub kind_of : Cause → Kind
-kind_of Done = IsDone
-kind_of (DoneWith note) = IsDone
-kind_of Usage = IsUsage
-kind_of (Failed party) = HasFailed party
-kind_of NoMemory = IsNoMemory
-kind_of (Refused (NotAShelf at)) = IsNotAShelf
-kind_of (Refused (NoSuchFile count)) = IsNoSuchFile
-kind_of (Refused (Capacity needed capacity)) = IsCapacity
-kind_of (Refused (NotEmpty size)) = IsNotEmpty
-kind_of (Refused BadChecksum) = IsBadChecksum
-kind_of (Refused Discarded) = IsDiscarded
-kind_of (Refused (CannotExport fault)) = IsNoExport
-
--- equal statuses mean equal kinds
-abbrev pub HasOneKind : Type 0
-HasOneKind = (one other : Cause) → status_of one ≡ status_of other → kind_of one ≡ kind_of other
-
--- ---- answers
+use Rattle.lr_causes.specs.declared.cause.Refusal.TheVariants.{NotAShelf, NoSuchFile, BadChecksum, Discarded, CannotExport}
+use Rattle.lr_causes.specs.declared.fault.ExportFault.{ExportFault}
 
 -- bytes have one answer, if they have any
 abbrev pub HasOneAnswer : Type 0

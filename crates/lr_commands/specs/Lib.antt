@@ -1,15 +1,12 @@
 pub mod Asked
 pub mod Assemble
-pub mod Causes
 pub mod Discard
 pub mod Export
 pub mod Extract
-pub mod Faults
 pub mod Files
 pub mod Gathered
 pub mod Laws
 pub mod List
-pub mod Puts
 pub mod Runs
 pub mod Show
 pub mod Steps

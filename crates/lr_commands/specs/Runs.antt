@@ -5,12 +5,12 @@ use Rattle.lr_io.specs.declared.sink.Sink.{Ghosts as SinkOf}
 use Rattle.lr_io.specs.Pieces.{PutsPart}
 use Rattle.lr_disk.specs.Reads.{IsUnwritten}
 use Rattle.lr_disk.specs.declared.disk.Disk.{Ghosts as DiskOf}
-use Rattle.lr_commands.specs.declared.cause.Party.TheVariants.{Source, Disk, Output}
-use Rattle.lr_commands.specs.declared.cause.Refusal.{Refusal}
-use Rattle.lr_commands.specs.declared.cause.Refusal.TheVariants.{NotAShelf, NoSuchFile}
-use Rattle.lr_commands.specs.declared.cause.Cause.{Cause}
-use Rattle.lr_commands.specs.declared.cause.Cause.TheVariants.{Done, DoneWith, Failed, NoMemory, Refused}
-use Rattle.lr_commands.specs.declared.note.Note.{Note}
+use Rattle.lr_causes.specs.declared.cause.Party.TheVariants.{Source, Disk, Output}
+use Rattle.lr_causes.specs.declared.cause.Refusal.{Refusal}
+use Rattle.lr_causes.specs.declared.cause.Refusal.TheVariants.{NotAShelf, NoSuchFile}
+use Rattle.lr_causes.specs.declared.cause.Cause.{Cause}
+use Rattle.lr_causes.specs.declared.cause.Cause.TheVariants.{Done, DoneWith, Failed, NoMemory, Refused}
+use Rattle.lr_causes.specs.declared.note.Note.{Note}
 use Rattle.lr_shelf_format.specs.Way.{Way}
 use Rattle.lr_commands.specs.Asked.{
   Asked,
@@ -24,7 +24,7 @@ use Rattle.lr_commands.specs.Asked.{
   done_answer,
   refused_answer,
 }
-use Rattle.lr_commands.specs.Causes.{Counts, done_with}
+use Rattle.lr_causes.specs.Causes.{Counts, done_with}
 
 -- what a command may be refused for, over any disk: no shelf or no item at a place, a count by which a number isn't
 -- allowed, or what it says of something that was seen or of all that was

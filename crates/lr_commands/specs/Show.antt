@@ -4,7 +4,7 @@ use Rattle.lr_bits.specs.File.{proper_of}
 use Rattle.lr_catalog.specs.Entries.{file_line}
 use Rattle.lr_catalog.specs.Records.{header_lines}
 use Rattle.lr_shelf_format.specs.declared.stored.Stored.{Stored}
-use Rattle.lr_commands.specs.declared.cause.Refusal.TheVariants.{Discarded}
+use Rattle.lr_causes.specs.declared.cause.Refusal.TheVariants.{Discarded}
 use Rattle.lr_commands.specs.Asked.{Asked}
 use Rattle.lr_commands.specs.Files.{AskedOfFiles, asked_of_files, no_image, no_note, no_text, one_entry}
 

@@ -6,12 +6,12 @@ use Rattle.lr_disk.specs.declared.disk.Disk.{Ghosts as DiskOf}
 use Rattle.lr_shelf_format.specs.Way.{Way}
 use Rattle.lr_shelf.specs.Kept.{kept_by}
 use Rattle.lr_shelf.specs.declared.shelf.Shelf.{Shelf}
-use Rattle.lr_commands.specs.declared.cause.Party.TheVariants.{Disk, Output}
-use Rattle.lr_commands.specs.declared.cause.Refusal.{Refusal}
-use Rattle.lr_commands.specs.declared.cause.Cause.{Cause}
-use Rattle.lr_commands.specs.declared.cause.Cause.TheVariants.{Failed, NoMemory, Refused}
+use Rattle.lr_causes.specs.declared.cause.Party.TheVariants.{Disk, Output}
+use Rattle.lr_causes.specs.declared.cause.Refusal.{Refusal}
+use Rattle.lr_causes.specs.declared.cause.Cause.{Cause}
+use Rattle.lr_causes.specs.declared.cause.Cause.TheVariants.{Failed, NoMemory, Refused}
 use Rattle.lr_commands.specs.Asked.{Asked, IsSeen, Seen, entry_at, fate_of}
-use Rattle.lr_commands.specs.Puts.{Puts, PutFails}
+use Rattle.lr_causes.specs.Puts.{Puts, PutFails}
 
 module _ {O : Type 0} (out : SinkOf O) (fate : Result (List ℕ) Refusal) where
   -- the text was put

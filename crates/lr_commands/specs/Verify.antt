@@ -2,8 +2,8 @@
 use Rattle.std.specs.Prelude.{ℕ, Bool, true, false, Result, Ok, Err, Some, None, List, [], ◌∷◌}
 use Rattle.lr_catalog.specs.Discards.{gone_line}
 use Rattle.lr_catalog.specs.Files.{check_line}
-use Rattle.lr_commands.specs.declared.cause.Refusal.{Refusal}
-use Rattle.lr_commands.specs.declared.cause.Refusal.TheVariants.{BadChecksum}
+use Rattle.lr_causes.specs.declared.cause.Refusal.{Refusal}
+use Rattle.lr_causes.specs.declared.cause.Refusal.TheVariants.{BadChecksum}
 use Rattle.lr_commands.specs.Asked.{Asked, Seen, Whole, Wrong, Absent}
 use Rattle.lr_commands.specs.Files.{all_entries, no_image}
 

@@ -5,16 +5,14 @@ ghost use Rattle.lr_commands.specs.Assemble.{assemble_asked, if_of, is_without, 
 ghost use Rattle.lr_commands.specs.Gathered.{Gathers, IsCanvasOf, IsStop, with_member, with_skipped};
 ghost use Rattle.lr_commands.specs.Runs.{RunsOver};
 
-use crate::cause::{Cause, Refusal};
-use crate::fault::ExportFault;
 use crate::files::{Files, ReadsFiles};
 use crate::gathering::Gathering;
-use crate::note::Note;
 use crate::opened::Opened;
 use crate::pgm::put_pgm;
 use crate::range::Range;
 use crate::run::run_entries;
 use lr_bits::{MissionFile, NoMemory};
+use lr_causes::{Cause, ExportFault, Note, Refusal};
 use lr_disk::Disk;
 use lr_headers::{HeaderFault, Records, Segment};
 use lr_image::Image;

@@ -1,10 +1,9 @@
 //! `discard`: a file is discarded.
 ghost use Rattle.lr_commands.specs.Discard.{RunsDiscard};
 
-use crate::cause::Cause;
-use crate::put::put_text;
 use lr_bits::Bytes;
 use lr_catalog::discard_line;
+use lr_causes::{Cause, put_text};
 use lr_disk::Disk;
 use lr_io::Sink;
 use lr_shelf::Shelf;

@@ -2,14 +2,13 @@
 ghost use Rattle.lr_commands.specs.Export.{export_asked};
 ghost use Rattle.lr_commands.specs.Runs.{RunsOver};
 
-use crate::cause::{Cause, Refusal};
 use crate::files::{Files, ReadsFiles};
-use crate::note::Note;
 use crate::opened::Opened;
 use crate::pgm::put_pgm;
 use crate::range::Range;
 use crate::run::run_entries;
 use lr_bits::NoMemory;
+use lr_causes::{Cause, Note, Refusal};
 use lr_disk::Disk;
 use lr_io::Sink;
 use lr_shelf::{Shelf, Stored};

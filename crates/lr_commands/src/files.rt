@@ -3,12 +3,11 @@ ghost use Rattle.std.specs.Prelude.{◌≡◌, IfOk};
 ghost use Rattle.lr_image.specs.Reading.{HasOutcome};
 ghost use Rattle.lr_commands.specs.Asked.{IsLooked};
 
-use crate::cause::Cause;
-use crate::note::Note;
 use crate::opened::Opened;
 use crate::range::Range;
 use crate::reads::ReadsEntries;
 use lr_bits::{MissionFile, NoMemory};
+use lr_causes::{Cause, Note};
 use lr_disk::Disk;
 use lr_image::{Image, ImageFault, image_of};
 use lr_io::Sink;

@@ -1,4 +1,4 @@
-//! What is true of all causes, and of all bytes.
+//! What is true of all bytes.
 ghost use Rattle.lr_commands.specs.Laws.{
   BegunComesFirst,
   ExportHasReasons,
@@ -7,14 +7,8 @@ ghost use Rattle.lr_commands.specs.Laws.{
   ExtractPutsOneText,
   ShowPutsOneText,
   HasOneAnswer,
-  HasOneKind,
   VerifyHasReasons,
 };
-
-/// Equal statuses mean equal causes, but for the values that their lines tell.
-pub fn statuses_have_one_kind()
-    ensures { HasOneKind }
-{}
 
 /// Bytes have one answer to what a command asks, if they have any: so a run is refused for one thing, the first.
 pub fn bytes_have_one_answer()

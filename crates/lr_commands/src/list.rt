@@ -5,15 +5,14 @@ ghost use Rattle.lr_commands.specs.List.{list_asked};
 ghost use Rattle.lr_commands.specs.Runs.{RunsOver};
 ghost use Rattle.lr_commands.specs.Steps.{PutsText, TextStops};
 
-use crate::cause::Cause;
 use crate::files::{Files, ReadsFiles};
-use crate::note::Note;
+use crate::gone::put_gone;
 use crate::opened::Opened;
-use crate::put::{put_gone, put_text};
 use crate::range::Range;
 use crate::run::run_entries;
 use lr_bits::{Bytes, NoMemory};
 use lr_catalog::{file_line, shelf_line};
+use lr_causes::{Cause, Note, put_text};
 use lr_disk::Disk;
 use lr_io::Sink;
 use lr_shelf::{Shelf, Stored};

@@ -2,12 +2,11 @@
 ghost use Rattle.std.specs.Prelude.{◌≡◌, ◌<◌, ◌^◌, All, Ok, IfErr, OnOk, OnErr, length};
 ghost use Rattle.std.specs.List.{flat_map};
 ghost use Rattle.lr_image.specs.Pgm.{head_text, pgm_text, pixel_bytes};
-ghost use Rattle.lr_commands.specs.Puts.{Puts, PutFails};
+ghost use Rattle.lr_causes.specs.Puts.{Puts, PutFails};
 ghost use Rattle.lr_commands.specs.Steps.{TextStops};
 
-use crate::cause::{Cause, Party};
-use crate::put::put_text;
 use lr_bits::Bytes;
+use lr_causes::{Cause, Party, put_text};
 use lr_image::{Image, pgm_head, write_pixels};
 use lr_io::Sink;
 use std::alloc::Global;

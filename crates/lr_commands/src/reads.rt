@@ -1,8 +1,7 @@
 //! What a command is that reads the entries of a shelf.
-use crate::cause::Cause;
-use crate::note::Note;
 use crate::range::Range;
 use lr_bits::NoMemory;
+use lr_causes::{Cause, Note};
 use lr_disk::Disk;
 use lr_io::Sink;
 use lr_shelf::Shelf;

@@ -1,12 +1,11 @@
 //! The one loop over the entries of a shelf.
 ghost use Rattle.std.specs.Prelude.{◌≡◌, false, [], IfErr, IfOk};
 ghost use Rattle.lr_shelf.specs.Kept.{kept_by};
-ghost use Rattle.lr_commands.specs.Causes.{done_with};
+ghost use Rattle.lr_causes.specs.Causes.{done_with};
 ghost use Rattle.lr_commands.specs.Runs.{RunsOn, RunsOver};
 
-use crate::cause::{Cause, Refusal};
-use crate::note::Note;
 use crate::reads::ReadsEntries;
+use lr_causes::{Cause, Note, Refusal};
 use lr_disk::Disk;
 use lr_io::Sink;
 use lr_shelf::Shelf;

@@ -3,15 +3,13 @@ ghost use Rattle.std.specs.Prelude.{◌≡◌, IfOk};
 ghost use Rattle.lr_commands.specs.Runs.{RunsOver};
 ghost use Rattle.lr_commands.specs.Show.{show_asked, show_text};
 
-use crate::cause::{Cause, Refusal};
 use crate::files::{Files, ReadsFiles};
-use crate::note::Note;
 use crate::opened::Opened;
-use crate::put::put_text;
 use crate::range::Range;
 use crate::run::run_entries;
 use lr_bits::{Bytes, NoMemory};
 use lr_catalog::{file_line, header_lines};
+use lr_causes::{Cause, Note, Refusal, put_text};
 use lr_disk::Disk;
 use lr_io::Sink;
 use lr_shelf::{Shelf, Stored};

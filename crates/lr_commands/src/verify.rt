@@ -5,14 +5,13 @@ ghost use Rattle.lr_commands.specs.Runs.{RunsOver};
 ghost use Rattle.lr_commands.specs.Steps.{PutsText, TextStops};
 ghost use Rattle.lr_commands.specs.Verify.{verify_asked};
 
-use crate::cause::{Cause, Refusal};
-use crate::note::Note;
-use crate::put::{put_gone, put_text};
+use crate::gone::put_gone;
 use crate::range::Range;
 use crate::reads::ReadsEntries;
 use crate::run::run_entries;
 use lr_bits::{Bytes, NoMemory};
 use lr_catalog::check_line;
+use lr_causes::{Cause, Note, Refusal, put_text};
 use lr_disk::Disk;
 use lr_io::Sink;
 use lr_shelf::{Shelf, ShelfError};

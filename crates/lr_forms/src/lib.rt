@@ -1,5 +1,5 @@
-//! The forms in which symbols, blocks and frames come in and go out, and the most of them that a call takes. Words, reading and
-//! the commands share them; what a form means is said where it is read or written.
+//! The forms in which symbols, blocks and frames come in and go out, and the greatest numbers of bytes and of workers
+//! that a call takes. Words, reading and the commands share them; what a form means is said where it is read or written.
 #![tactic(auto)]
 
 mod forms;

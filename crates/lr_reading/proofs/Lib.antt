@@ -6,6 +6,7 @@ pub mod Jobs
 pub mod Joining
 pub mod Leading
 pub mod Numbered
+pub mod Outcomes
 pub mod Refusing
 pub mod UnitLoop
 pub mod UnitsOf

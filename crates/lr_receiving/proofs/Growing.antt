@@ -7,9 +7,9 @@ use Rattle.lr_shelf_format.specs.Way.{Way}
 use Rattle.lr_shelf.specs.Append.{item_for}
 use Rattle.lr_shelf.specs.Kept.{kept_by, kept_with}
 use Rattle.lr_shelf.specs.declared.shelf.Shelf.{Shelf}
-use Rattle.lr_commands.specs.declared.cause.Cause.{Cause}
-use Rattle.lr_commands.specs.declared.cause.Cause.TheVariants.{NoMemory, Refused}
-use Rattle.lr_commands.specs.declared.cause.Refusal.TheVariants.{Capacity}
+use Rattle.lr_causes.specs.declared.cause.Cause.{Cause}
+use Rattle.lr_causes.specs.declared.cause.Cause.TheVariants.{NoMemory, Refused}
+use Rattle.lr_causes.specs.declared.cause.Refusal.TheVariants.{Capacity}
 use Rattle.lr_receiving.specs.Onto.{room_for, end_with, HasRoom, IsFullWith}
 use Rattle.lr_receiving.specs.Shelved.{Grows, GrowsNoMore}
 

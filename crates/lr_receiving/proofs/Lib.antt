@@ -1,17 +1,9 @@
-pub mod Adding
 pub mod Causing
-pub mod DecodeText
 pub mod Fitting
-pub mod FramesGoOn
 pub mod Growing
 pub mod Headline
-pub mod Lines
 pub mod Loading
 pub mod Making
-pub mod Outcomes
-pub mod PacketsCounted
-pub mod PacketsGoOn
-pub mod PacketsText
 pub mod Pieces
 pub mod ReceiveEnding
 pub mod ShelvedLines

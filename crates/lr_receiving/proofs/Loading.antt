@@ -23,13 +23,12 @@ use Rattle.lr_shelf.specs.declared.error.ShelfError.TheVariants.{
 }
 use Rattle.lr_catalog.specs.declared.stop.Stop.{Stop}
 use Rattle.lr_catalog.specs.declared.stop.Stop.TheVariants.{End, Limit, Fault}
-use Rattle.lr_commands.specs.declared.cause.Cause.{Cause}
-use Rattle.lr_commands.specs.declared.cause.Cause.TheVariants.{Failed, NoMemory, Refused}
-use Rattle.lr_commands.specs.declared.cause.Party.TheVariants.{Disk, Output}
-use Rattle.lr_commands.specs.declared.cause.Refusal.TheVariants.{NotAShelf, Capacity}
-use Rattle.lr_commands.specs.Causes.{cause_of}
+use Rattle.lr_causes.specs.declared.cause.Cause.{Cause}
+use Rattle.lr_causes.specs.declared.cause.Cause.TheVariants.{Failed, NoMemory, Refused}
+use Rattle.lr_causes.specs.declared.cause.Party.TheVariants.{Disk, Output}
+use Rattle.lr_causes.specs.declared.cause.Refusal.TheVariants.{NotAShelf, Capacity}
+use Rattle.lr_causes.specs.Causes.{cause_of, cause_at}
 use Rattle.lr_forms.specs.declared.forms.Input.{Input}
-use Rattle.lr_receiving.specs.Causes.{cause_at}
 use Rattle.lr_receiving.specs.Inputs.{files_of_bytes}
 use Rattle.lr_reading.specs.Reading.{IsRead}
 use Rattle.lr_receiving.specs.Shelving.{next_number, shelved_lines, LeavesFronts}

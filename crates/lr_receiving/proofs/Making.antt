@@ -35,14 +35,13 @@ use Rattle.lr_make.specs.Symbols.{symbols_at}
 use Rattle.lr_make.proofs.Sending.{symbol_stream-more}
 use Rattle.lr_bits.specs.Faults.{Rose}
 use Rattle.lr_io.specs.declared.sink.Sink.{Ghosts as SinkOf}
-use Rattle.lr_commands.specs.declared.cause.Cause.{Cause}
-use Rattle.lr_commands.specs.declared.cause.Cause.TheVariants.{Done, Failed}
-use Rattle.lr_commands.specs.declared.cause.Party.TheVariants.{Output}
-use Rattle.lr_receiving.specs.Causes.{counts}
-use Rattle.lr_commands.specs.Causes.{IsCaused}
+use Rattle.lr_causes.specs.declared.cause.Cause.{Cause}
+use Rattle.lr_causes.specs.declared.cause.Cause.TheVariants.{Done, Failed}
+use Rattle.lr_causes.specs.declared.cause.Party.TheVariants.{Output}
+use Rattle.lr_causes.specs.Causes.{counts, IsCaused}
 use Rattle.lr_receiving.specs.Made.{bytes_of_symbols, MakeEnds}
-use Rattle.lr_commands.specs.Puts.{Puts, PutFails}
-use Rattle.lr_receiving.proofs.Lines.{put_behind}
+use Rattle.lr_causes.specs.Puts.{Puts, PutFails}
+use Rattle.lr_causes.proofs.Joining.{puts_both}
 
 pub symbols_more : (start wrong n : ℕ) → bytes_of_symbols (symbol_stream start wrong (n + 1))
     ≡ bytes_of_symbols (symbol_stream start wrong n) ++ bytes_of_symbols (symbols_at start wrong n)
@@ -74,7 +73,7 @@ module _ (text item : ℕ → List ℕ) (grows : (n : ℕ) → text (n + 1) ≡ 
         → Puts out bytes p o' → Puts out (text (n + 1)) o o'
     put_next n bytes is o p o' before more =
         subst (λ (l : List ℕ). Puts out l o o') (ap (λ (l : List ℕ). text n ++ l) is ∙ sym (grows n))
-        (put_behind out before more)
+        (puts_both out _ _ _ _ _ before more)
 
     pub put_cut : (n m : ℕ) → n < m → (bytes : List ℕ) → bytes ≡ item n → (o p o' : O) → Puts out (text n) o p
         → PutFails out bytes p o' → PutFails out (text m) o o'

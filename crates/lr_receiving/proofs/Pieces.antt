@@ -31,8 +31,8 @@ use Rattle.lr_shelf.specs.declared.shelf.Shelf.{Shelf}
 use Rattle.lr_layers.specs.Origins.{placed_of_outcomes}
 use Rattle.lr_layers.specs.Standing.{StandsFor, Kept}
 use Rattle.lr_layers.proofs.GoingOn.{go_on}
-use Rattle.lr_commands.specs.declared.cause.Cause.{Cause}
-use Rattle.lr_commands.specs.declared.cause.Cause.TheVariants.{NoMemory}
+use Rattle.lr_causes.specs.declared.cause.Cause.{Cause}
+use Rattle.lr_causes.specs.declared.cause.Cause.TheVariants.{NoMemory}
 use Rattle.lr_receiving.specs.Shelving.{Stops}
 use Rattle.lr_reading.specs.Arrivals.{HasWholeFrame}
 use Rattle.lr_receiving.specs.Shelved.{ShelvesSoFar, Midway, Grows, GrowsNoMore, GainsNoMore}

@@ -32,18 +32,18 @@ use Rattle.lr_shelf.specs.declared.shelf.Shelf.{Shelf}
 use Rattle.lr_disk.proofs.Moments.{weaker}
 use Rattle.lr_catalog.specs.declared.stop.Stop.{Stop}
 use Rattle.lr_catalog.specs.declared.stop.Stop.TheVariants.{End, Limit, Fault}
-use Rattle.lr_commands.specs.declared.cause.Cause.{Cause}
-use Rattle.lr_commands.specs.declared.cause.Cause.TheVariants.{Failed, NoMemory, Refused}
-use Rattle.lr_commands.specs.declared.cause.Party.TheVariants.{Source, Disk, Output}
-use Rattle.lr_commands.specs.declared.cause.Refusal.TheVariants.{Capacity}
+use Rattle.lr_causes.specs.declared.cause.Cause.{Cause}
+use Rattle.lr_causes.specs.declared.cause.Cause.TheVariants.{Failed, NoMemory, Refused}
+use Rattle.lr_causes.specs.declared.cause.Party.TheVariants.{Source, Disk, Output}
+use Rattle.lr_causes.specs.declared.cause.Refusal.TheVariants.{Capacity}
 use Rattle.lr_receiving.specs.declared.sums.Sums.{Sums}
 use Rattle.lr_reading.specs.Runs.{ReadsInput}
 use Rattle.lr_reading.proofs.Coming.{outcomes_counted}
 use Rattle.lr_forms.specs.declared.forms.Input.{Input}
-use Rattle.lr_receiving.specs.Causes.{IsEarlier, cause_at}
+use Rattle.lr_causes.specs.Causes.{IsEarlier, cause_at}
 use Rattle.lr_reading.specs.Inputs.{outcomes_of_bytes}
 use Rattle.lr_receiving.specs.Inputs.{files_of_bytes}
-use Rattle.lr_commands.specs.Puts.{PutFails}
+use Rattle.lr_causes.specs.Puts.{PutFails}
 use Rattle.lr_receiving.specs.Shelving.{next_number, shelved_lines, StandsForFront, StopsBy}
 use Rattle.lr_receiving.specs.Shelved.{MayStop, ShelvesSoFar, Grows, GrowsNoMore}
 use Rattle.lr_receiving.specs.Receive.{counts_line, receive_count, receive_last, IsWorkDone, Finishes, Ends}

@@ -48,12 +48,12 @@ use Rattle.lr_shelf.specs.declared.error.ShelfError.TheVariants.{
 }
 use Rattle.lr_shelf.proofs.ItemsKept.{entry_count_is}
 use Rattle.lr_catalog.specs.Files.{shelved_line}
-use Rattle.lr_commands.specs.declared.cause.Cause.{Cause}
-use Rattle.lr_commands.specs.declared.cause.Cause.TheVariants.{Failed, NoMemory, Refused}
-use Rattle.lr_commands.specs.declared.cause.Party.TheVariants.{Disk, Output}
-use Rattle.lr_commands.specs.declared.cause.Refusal.TheVariants.{Capacity}
-use Rattle.lr_commands.specs.Causes.{cause_of}
-use Rattle.lr_commands.specs.Puts.{Puts, PutFails}
+use Rattle.lr_causes.specs.declared.cause.Cause.{Cause}
+use Rattle.lr_causes.specs.declared.cause.Cause.TheVariants.{Failed, NoMemory, Refused}
+use Rattle.lr_causes.specs.declared.cause.Party.TheVariants.{Disk, Output}
+use Rattle.lr_causes.specs.declared.cause.Refusal.TheVariants.{Capacity}
+use Rattle.lr_causes.specs.Causes.{cause_of}
+use Rattle.lr_causes.specs.Puts.{Puts, PutFails}
 use Rattle.lr_receiving.specs.Onto.{end_with}
 use Rattle.lr_receiving.specs.Shelving.{
   with_files,

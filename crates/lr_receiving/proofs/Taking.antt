@@ -40,9 +40,9 @@ use Rattle.lr_shelf_format.specs.Items.{Item}
 use Rattle.lr_shelf.specs.Kept.{kept_by}
 use Rattle.lr_catalog.specs.declared.stop.Stop.{Stop}
 use Rattle.lr_catalog.specs.declared.stop.Stop.TheVariants.{End, Limit, Fault}
-use Rattle.lr_commands.specs.Causes.{IsCaused}
-use Rattle.lr_commands.specs.declared.cause.Cause.{Cause}
-use Rattle.lr_commands.specs.declared.cause.Cause.TheVariants.{NoMemory}
+use Rattle.lr_causes.specs.Causes.{IsCaused, cause_at, counts}
+use Rattle.lr_causes.specs.declared.cause.Cause.{Cause}
+use Rattle.lr_causes.specs.declared.cause.Cause.TheVariants.{NoMemory}
 use Rattle.lr_reading.specs.Arrivals.{HasWholeFrame, arrivals_of, outcomes_of_arrivals}
 use Rattle.lr_reading.specs.Inputs.{outcomes_of_bytes}
 use Rattle.lr_reading.specs.Reading.{EndsFor}
@@ -53,13 +53,12 @@ use Rattle.lr_reading.proofs.Coming.{outcomes_are, no_arrivals}
 use Rattle.lr_reading.proofs.Whole.{all_whole}
 use Rattle.lr_receiving.specs.declared.shelver.Shelver.{Shelver}
 use Rattle.lr_receiving.specs.declared.sums.Sums.{Sums}
-use Rattle.lr_receiving.specs.Causes.{cause_at, counts}
 use Rattle.lr_receiving.specs.Inputs.{files_of_bytes}
 use Rattle.lr_receiving.specs.Reception.{ReadsAll, ReadsSome}
 use Rattle.lr_receiving.specs.Shelved.{MayStop, ShelvesSoFar, Grows, GrowsNoMore, Gains, GainsNoMore}
 use Rattle.lr_receiving.specs.ShelverTaken.{IsOnSame, ShelverTook, ShelverStopped}
 use Rattle.lr_receiving.specs.Shelving.{Stops}
-use Rattle.lr_receiving.proofs.DecodeText.{both_kinds}
+use Rattle.lr_reading.proofs.Outcomes.{both_kinds}
 use Rattle.lr_receiving.proofs.Causing.{caused_later}
 use Rattle.lr_receiving.proofs.Growing.{grows_none, grows_on, stops_after, stops_before, stops_for_memory}
 use Rattle.lr_receiving.proofs.Shelving.{out_of_memory, stops_more}

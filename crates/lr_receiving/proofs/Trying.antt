@@ -56,15 +56,14 @@ use Rattle.lr_shelf.specs.declared.error.ShelfError.TheVariants.{
 use Rattle.lr_disk.proofs.Moments.{weaker, joined}
 use Rattle.lr_catalog.specs.declared.stop.Stop.{Stop}
 use Rattle.lr_catalog.specs.declared.stop.Stop.TheVariants.{End, Limit, Fault}
-use Rattle.lr_commands.specs.declared.cause.Cause.{Cause}
-use Rattle.lr_commands.specs.declared.cause.Cause.TheVariants.{Done, Failed, NoMemory, Refused}
-use Rattle.lr_commands.specs.declared.cause.Party.TheVariants.{Disk, Output}
-use Rattle.lr_commands.specs.declared.cause.Refusal.TheVariants.{NotAShelf, Capacity, NotEmpty}
+use Rattle.lr_causes.specs.declared.cause.Cause.{Cause}
+use Rattle.lr_causes.specs.declared.cause.Cause.TheVariants.{Done, Failed, NoMemory, Refused}
+use Rattle.lr_causes.specs.declared.cause.Party.TheVariants.{Disk, Output}
+use Rattle.lr_causes.specs.declared.cause.Refusal.TheVariants.{NotAShelf, Capacity, NotEmpty}
 use Rattle.lr_receiving.specs.declared.sums.Sums.{Sums}
 use Rattle.lr_conv.specs.declared.line.TheConstants.{STANDARD}
 use Rattle.lr_forms.specs.declared.forms.Input.TheVariants.{Symbols}
-use Rattle.lr_commands.specs.Causes.{cause_of, IsCaused}
-use Rattle.lr_receiving.specs.Causes.{IsEarlier, counts}
+use Rattle.lr_causes.specs.Causes.{cause_of, IsCaused, IsEarlier, counts}
 use Rattle.lr_receiving.specs.Inputs.{files_of_bytes}
 use Rattle.lr_reading.specs.Reading.{IsRead, EndsFor}
 use Rattle.lr_receiving.specs.Receive.{receive_last}

@@ -9,7 +9,7 @@ use Rattle.lr_vc.specs.Runs.{AreFrames}
 use Rattle.lr_layers.specs.Layers.{frames_of_outcomes}
 use Rattle.lr_layers.proofs.Pushing.{frames_same, frames_more}
 use Rattle.lr_reading.specs.Arrivals.{HasWholeFrame}
-use Rattle.lr_receiving.proofs.Adding.{zone_is}
+use Rattle.lr_reading.proofs.Outcomes.{zone_is}
 
 -- one outcome more, whose frame has 892 bytes if it has one
 pub with_outcome : (outcomes : List Outcome) (outcome : Outcome) → AreFrames (frames_of_outcomes outcomes)

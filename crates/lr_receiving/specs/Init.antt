@@ -8,11 +8,11 @@ use Rattle.lr_disk.specs.Disk.{Only, LeavesOnly}
 use Rattle.lr_disk.specs.Reads.{IsUnwritten}
 use Rattle.lr_shelf.specs.Init.{IsTaken, IsBlank}
 use Rattle.lr_shelf.specs.Shelf.{IsDurable}
-use Rattle.lr_commands.specs.declared.cause.Cause.{Cause}
-use Rattle.lr_commands.specs.declared.cause.Cause.TheVariants.{Done, Failed, NoMemory, Refused}
-use Rattle.lr_commands.specs.declared.cause.Party.TheVariants.{Disk, Output}
-use Rattle.lr_commands.specs.declared.cause.Refusal.TheVariants.{NotEmpty}
-use Rattle.lr_receiving.specs.Causes.{IsEarlier}
+use Rattle.lr_causes.specs.declared.cause.Cause.{Cause}
+use Rattle.lr_causes.specs.declared.cause.Cause.TheVariants.{Done, Failed, NoMemory, Refused}
+use Rattle.lr_causes.specs.declared.cause.Party.TheVariants.{Disk, Output}
+use Rattle.lr_causes.specs.declared.cause.Refusal.TheVariants.{NotEmpty}
+use Rattle.lr_causes.specs.Causes.{IsEarlier}
 
 -- the line of a shelf that was made
 unfoldable pub capacity_line : ℕ → List ℕ

@@ -4,9 +4,9 @@ use Rattle.std.specs.Int.{cast_unsigned, w8}
 use Rattle.lr_io.specs.declared.sink.Sink.{Ghosts as SinkOf}
 use Rattle.lr_io.specs.Pieces.{PutsPart}
 use Rattle.lr_make.specs.Stream.{frame_stream, block_stream, symbol_stream}
-use Rattle.lr_commands.specs.declared.cause.Cause.{Cause}
-use Rattle.lr_commands.specs.declared.cause.Cause.TheVariants.{Done, Failed}
-use Rattle.lr_commands.specs.declared.cause.Party.TheVariants.{Output}
+use Rattle.lr_causes.specs.declared.cause.Cause.{Cause}
+use Rattle.lr_causes.specs.declared.cause.Cause.TheVariants.{Done, Failed}
+use Rattle.lr_causes.specs.declared.cause.Party.TheVariants.{Output}
 use Rattle.lr_forms.specs.declared.forms.Output.{Output as Form}
 use Rattle.lr_forms.specs.declared.forms.Output.TheVariants.{Symbols, Units}
 use Rattle.lr_forms.specs.declared.forms.UnitForm.TheVariants.{Blocks, Frames}

@@ -11,21 +11,20 @@ use Rattle.lr_layers.specs.Layers.{numbers_of}
 use Rattle.lr_layers.specs.Standing.{numbers}
 use Rattle.lr_shelf.specs.Kept.{kept_by}
 use Rattle.lr_shelf.specs.declared.shelf.Shelf.{Shelf}
-use Rattle.lr_commands.specs.declared.cause.Cause.{Cause}
-use Rattle.lr_commands.specs.declared.cause.Cause.TheVariants.{Failed, Refused}
-use Rattle.lr_commands.specs.declared.cause.Party.TheVariants.{Disk}
-use Rattle.lr_commands.specs.declared.cause.Refusal.TheVariants.{Capacity}
+use Rattle.lr_causes.specs.declared.cause.Cause.{Cause}
+use Rattle.lr_causes.specs.declared.cause.Cause.TheVariants.{Failed, Refused}
+use Rattle.lr_causes.specs.declared.cause.Party.TheVariants.{Disk}
+use Rattle.lr_causes.specs.declared.cause.Refusal.TheVariants.{Capacity}
 use Rattle.lr_receiving.specs.declared.sums.Sums.{Sums}
 use Rattle.lr_forms.specs.declared.forms.Input.{Input}
 use Rattle.lr_forms.specs.declared.forms.Input.TheVariants.{Symbols}
 use Rattle.lr_reading.specs.Inputs.{outcomes_of_bytes}
 use Rattle.lr_reading.specs.Runs.{ReadsInput}
 use Rattle.lr_receiving.specs.Inputs.{files_of_bytes}
-use Rattle.lr_receiving.specs.Causes.{IsEarlier}
+use Rattle.lr_causes.specs.Causes.{IsEarlier}
 use Rattle.lr_receiving.specs.Onto.{HasRoom, IsFullWith}
 use Rattle.lr_reading.specs.Reading.{IsRead}
-use Rattle.lr_commands.specs.Puts.{Puts}
-use Rattle.lr_receiving.specs.Progress.{PutStops}
+use Rattle.lr_causes.specs.Puts.{Puts, PutStops}
 use Rattle.lr_receiving.specs.Receive.{counts_line, IsWorkDone, Ends}
 use Rattle.lr_receiving.specs.Shelving.{LeavesFronts, Stops}
 use Rattle.lr_receiving.specs.Shelved.{ShelvesSoFar, Grows, GrowsNoMore}

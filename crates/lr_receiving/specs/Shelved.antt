@@ -9,11 +9,11 @@ use Rattle.lr_shelf_format.specs.Items.{Item}
 use Rattle.lr_shelf.specs.Kept.{kept_by}
 use Rattle.lr_shelf.specs.Shelf.{IsSettled}
 use Rattle.lr_shelf.specs.declared.shelf.Shelf.{Shelf}
-use Rattle.lr_commands.specs.declared.cause.Cause.{Cause}
-use Rattle.lr_commands.specs.declared.cause.Cause.TheVariants.{Failed, NoMemory, Refused}
-use Rattle.lr_commands.specs.declared.cause.Party.TheVariants.{Disk, Output}
-use Rattle.lr_commands.specs.declared.cause.Refusal.TheVariants.{NotAShelf, Capacity, NotEmpty}
-use Rattle.lr_commands.specs.Puts.{Puts}
+use Rattle.lr_causes.specs.declared.cause.Cause.{Cause}
+use Rattle.lr_causes.specs.declared.cause.Cause.TheVariants.{Failed, NoMemory, Refused}
+use Rattle.lr_causes.specs.declared.cause.Party.TheVariants.{Disk, Output}
+use Rattle.lr_causes.specs.declared.cause.Refusal.TheVariants.{NotAShelf, Capacity, NotEmpty}
+use Rattle.lr_causes.specs.Puts.{Puts}
 use Rattle.lr_receiving.specs.Onto.{end_with, HasRoom, IsFullWith}
 use Rattle.lr_receiving.specs.Shelving.{with_files, next_number, shelved_lines, LeavesFronts}
 

@@ -6,12 +6,11 @@ use Rattle.lr_io.specs.declared.sink.Sink.{Ghosts as SinkOf}
 use Rattle.lr_disk.specs.declared.disk.Disk.{Ghosts as DiskOf}
 use Rattle.lr_layers.specs.Origins.{placed_of_outcomes}
 use Rattle.lr_layers.specs.Standing.{StandsFor, numbers}
-use Rattle.lr_commands.specs.Causes.{IsCaused}
-use Rattle.lr_commands.specs.declared.cause.Cause.{Cause}
+use Rattle.lr_causes.specs.Causes.{IsCaused, counts}
+use Rattle.lr_causes.specs.declared.cause.Cause.{Cause}
 use Rattle.lr_reading.specs.Arrivals.{outcomes_of_arrivals}
 use Rattle.lr_reading.specs.declared.arrival.Arrival.{Arrival}
 use Rattle.lr_receiving.specs.declared.shelver.Shelver.{Shelver}
-use Rattle.lr_receiving.specs.Causes.{counts}
 use Rattle.lr_receiving.specs.Shelving.{Stops}
 use Rattle.lr_receiving.specs.Shelved.{MayStop, ShelvesSoFar, Grows, GrowsNoMore}
 

@@ -13,10 +13,10 @@ use Rattle.lr_shelf_format.specs.Reading.{StandsFor, end_of, entries_of}
 use Rattle.lr_shelf.specs.Append.{item_for}
 use Rattle.lr_shelf.specs.Shelf.{IsDurable}
 use Rattle.lr_catalog.specs.Files.{shelved_line}
-use Rattle.lr_commands.specs.declared.cause.Cause.{Cause}
-use Rattle.lr_commands.specs.declared.cause.Cause.TheVariants.{Failed, NoMemory, Refused}
-use Rattle.lr_commands.specs.declared.cause.Party.TheVariants.{Disk, Output}
-use Rattle.lr_commands.specs.declared.cause.Refusal.TheVariants.{Capacity}
+use Rattle.lr_causes.specs.declared.cause.Cause.{Cause}
+use Rattle.lr_causes.specs.declared.cause.Cause.TheVariants.{Failed, NoMemory, Refused}
+use Rattle.lr_causes.specs.declared.cause.Party.TheVariants.{Disk, Output}
+use Rattle.lr_causes.specs.declared.cause.Refusal.TheVariants.{Capacity}
 
 -- the items, and after them the Add items of these files
 abbrev pub with_files : List Item → List Placed → List Item

@@ -9,12 +9,12 @@ use Rattle.lr_disk.specs.Reads.{IsUnwritten}
 use Rattle.lr_shelf.specs.Init.{IsTaken, IsBlank}
 use Rattle.lr_shelf.specs.Shelf.{IsDurable}
 use Rattle.lr_catalog.specs.declared.stop.Stop.TheVariants.{End}
-use Rattle.lr_commands.specs.declared.cause.Cause.{Cause}
-use Rattle.lr_commands.specs.declared.cause.Cause.TheVariants.{Done, Failed, NoMemory, Refused}
-use Rattle.lr_commands.specs.declared.cause.Party.TheVariants.{Disk, Output}
-use Rattle.lr_commands.specs.declared.cause.Refusal.TheVariants.{NotAShelf, Capacity, NotEmpty}
+use Rattle.lr_causes.specs.declared.cause.Cause.{Cause}
+use Rattle.lr_causes.specs.declared.cause.Cause.TheVariants.{Done, Failed, NoMemory, Refused}
+use Rattle.lr_causes.specs.declared.cause.Party.TheVariants.{Disk, Output}
+use Rattle.lr_causes.specs.declared.cause.Refusal.TheVariants.{NotAShelf, Capacity, NotEmpty}
 use Rattle.lr_forms.specs.declared.forms.Input.TheVariants.{Symbols}
-use Rattle.lr_receiving.specs.Causes.{IsEarlier}
+use Rattle.lr_causes.specs.Causes.{IsEarlier}
 use Rattle.lr_receiving.specs.Inputs.{files_of_bytes}
 use Rattle.lr_receiving.specs.Receive.{receive_last}
 use Rattle.lr_receiving.specs.Shelving.{with_files, StandsForFront, Got}

@@ -1,12 +1,10 @@
 //! `init`: an empty shelf is made.
 ghost use Rattle.std.specs.Prelude.{◌≡◌, IfOk, string_bytes};
 ghost use Rattle.lr_shelf_format.specs.Header.{IsCapacity};
-ghost use Rattle.lr_commands.specs.Causes.{IsCaused};
-ghost use Rattle.lr_receiving.specs.Causes.{counts};
+ghost use Rattle.lr_causes.specs.Causes.{IsCaused, counts};
 ghost use Rattle.lr_receiving.specs.Init.{capacity_line, InitRun};
 
-use crate::put::put_text;
-use lr_commands::Cause;
+use lr_causes::{Cause, put_text};
 use lr_disk::Disk;
 use lr_io::Sink;
 use lr_shelf::Shelf;

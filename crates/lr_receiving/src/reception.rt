@@ -1,18 +1,16 @@
 //! `receive`: the mission files of the input go onto the shelf.
 ghost use Rattle.std.specs.Prelude.{◌≡◌, ◌≤◌, ◌^◌, false, IfOk, IfErr, OnOk};
 ghost use Rattle.lr_shelf.specs.Kept.{kept_by};
-ghost use Rattle.lr_commands.specs.Causes.{IsCaused};
-ghost use Rattle.lr_receiving.specs.Causes.{cause_at, counts};
+ghost use Rattle.lr_causes.specs.Causes.{IsCaused, cause_at, counts};
 ghost use Rattle.lr_receiving.specs.Receive.{ReceiveRun};
 ghost use Rattle.lr_receiving.specs.Reception.{ReadsAll, ReadsSome, EndsRun, PutsLast, LastStops};
 ghost use Rattle.lr_receiving.specs.Shelved.{MayStop};
 
-use crate::put::put_text;
 use crate::shelver::Shelver;
-use crate::sums::{Sums, cause_at};
+use crate::sums::Sums;
 use lr_bits::{Bytes, NoMemory};
 use lr_catalog::{Stop, Summary, summary_line};
-use lr_commands::Cause;
+use lr_causes::{Cause, cause_at, put_text};
 use lr_disk::Disk;
 use lr_forms::Input;
 use lr_io::{Sink, Source};

@@ -6,8 +6,7 @@ ghost use Rattle.lr_layers.specs.Origins.{placed_of_outcomes};
 ghost use Rattle.lr_layers.specs.Standing.{StandsFor};
 ghost use Rattle.lr_shelf_format.specs.Items.{Item};
 ghost use Rattle.lr_shelf.specs.Kept.{kept_by};
-ghost use Rattle.lr_commands.specs.Causes.{IsCaused};
-ghost use Rattle.lr_receiving.specs.Causes.{counts};
+ghost use Rattle.lr_causes.specs.Causes.{IsCaused, counts};
 ghost use Rattle.lr_receiving.specs.Shelving.{Stops};
 ghost use Rattle.lr_reading.specs.Arrivals.{HasWholeFrame};
 ghost use Rattle.lr_receiving.specs.Shelved.{
@@ -19,10 +18,9 @@ ghost use Rattle.lr_receiving.specs.Shelved.{
   GainsNoMore,
 };
 
-use crate::put::put_text;
 use lr_bits::{Bytes, Outcome, Placed};
 use lr_catalog::shelved_line;
-use lr_commands::Cause;
+use lr_causes::{Cause, put_text};
 use lr_disk::Disk;
 use lr_io::Sink;
 use lr_layers::Layers;

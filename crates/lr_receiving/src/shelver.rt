@@ -1,7 +1,7 @@
 //! What `receive` does with each outcome.
 use crate::shelve::shelve_outcome;
 use lr_bits::Placed;
-use lr_commands::Cause;
+use lr_causes::Cause;
 use lr_disk::Disk;
 use lr_io::Sink;
 use lr_layers::{Counts, Layers};

@@ -4,10 +4,9 @@ ghost use Rattle.lr_catalog.specs.declared.stop.Stop.TheVariants.{End};
 ghost use Rattle.lr_conv.specs.declared.line.TheConstants.{STANDARD as standard};
 ghost use Rattle.lr_shelf_format.specs.Reading.{end_of};
 ghost use Rattle.lr_shelf.specs.Kept.{kept_by};
-ghost use Rattle.lr_commands.specs.Causes.{IsCaused};
+ghost use Rattle.lr_causes.specs.Causes.{IsCaused, cause_at, counts};
 ghost use Rattle.lr_forms.specs.declared.forms.Input.TheVariants.{Symbols};
 ghost use Rattle.lr_forms.specs.declared.forms.TheConstants.{MOST_BYTES as most_bytes};
-ghost use Rattle.lr_receiving.specs.Causes.{cause_at, counts};
 ghost use Rattle.lr_receiving.specs.Inputs.{files_of_bytes};
 ghost use Rattle.lr_receiving.specs.Made.{made_bytes};
 ghost use Rattle.lr_receiving.specs.Receive.{receive_last, ReceiveRun};
@@ -18,11 +17,11 @@ ghost use Rattle.lr_receiving.specs.Trial.{trial_capacity, LeavesDisk, TrialRun}
 
 use crate::reception::put_last;
 use crate::shelver::Shelver;
-use crate::sums::{Sums, cause_at};
+use crate::sums::Sums;
 use crate::trial_run::{CAPACITY, stream};
 use lr_bits::NoMemory;
 use lr_catalog::Stop;
-use lr_commands::Cause;
+use lr_causes::{Cause, cause_at};
 use lr_conv::{LineCode, STANDARD};
 use lr_disk::Disk;
 use lr_forms::{MOST_BYTES, Output};

@@ -2,15 +2,13 @@
 ghost use Rattle.std.specs.Prelude.{◌≡◌, ◌≤◌, ◌<◌, IfOk, IfErr, OnOk, OnErr, map};
 ghost use Rattle.std.specs.Int.{cast_unsigned, w8};
 ghost use Rattle.lr_make.specs.Stream.{frame_stream, block_stream, symbol_stream};
-ghost use Rattle.lr_commands.specs.declared.cause.Party.TheVariants.{Output as OutputParty};
-ghost use Rattle.lr_commands.specs.Causes.{IsCaused};
-ghost use Rattle.lr_receiving.specs.Causes.{counts};
+ghost use Rattle.lr_causes.specs.declared.cause.Party.TheVariants.{Output as OutputParty};
+ghost use Rattle.lr_causes.specs.Causes.{IsCaused, counts};
 ghost use Rattle.lr_receiving.specs.Made.{bytes_of_symbols, made_bytes, MakeEnds};
-ghost use Rattle.lr_commands.specs.Puts.{Puts, PutFails};
+ghost use Rattle.lr_causes.specs.Puts.{Puts, PutFails};
 
-use crate::put::put_text;
 use lr_bits::{BLOCK_BYTES, FRAME_BYTES, FRAME_SYMBOLS};
-use lr_commands::Cause;
+use lr_causes::{Cause, put_text};
 use lr_forms::{Output, UnitForm};
 use lr_io::Sink;
 use lr_make::Maker;

@@ -3,7 +3,7 @@ use crate::shared::{
     OLD_SHELF, discards, disk, ended_with, extracts, sink, verifies, with_byte, with_capacity,
     with_two,
 };
-use lr_commands::{Cause, Refusal};
+use lr_causes::{Cause, Refusal};
 use lr_disk::MemDisk;
 use std::alloc::Global;
 use std::test::Fail;

@@ -1,7 +1,7 @@
 //! Images that go out in several pieces.
 use crate::shared::{ended_with, with_room};
 use lr_bits::{Bytes, Lengths, MissionFile, NoMemory, Origin, Placed};
-use lr_commands::Cause;
+use lr_causes::Cause;
 use lr_commands::export::export;
 use lr_disk::{Disk, MemDisk};
 use lr_io::Sink;

@@ -1,6 +1,6 @@
 //! Shelves, sinks and runs that the tests share.
 use lr_bits::{Bytes, Lengths, MissionFile, Origin, Placed};
-use lr_commands::Cause;
+use lr_causes::Cause;
 use lr_commands::discard::discard;
 use lr_commands::extract::extract;
 use lr_commands::list::list;

@@ -1,6 +1,6 @@
 use Rattle.std.proofs.Common.{rules, ◌≡◌, ℕ, List, subst}
 use Rattle.lr_catalog.specs.Discards.{discard_line}
-use Rattle.lr_commands.specs.Puts.{Puts, PutFails}
+use Rattle.lr_causes.specs.Puts.{Puts, PutFails}
 use Rattle.lr_commands.proofs.Discarding.{not_begun, not_loaded, not_added, ok_from, told_line, cut_line}
 use Rattle.lr_commands.proofs.discard.discard.Goals as goal
 

@@ -2,9 +2,9 @@ use Rattle.std.proofs.Common.{ℕ, List, subst}
 use Rattle.std.specs.List.{flat_map}
 use Rattle.lr_image.specs.Pgm.{pixel_bytes, rows_bytes}
 use Rattle.lr_commands.proofs.Exporting.{head_and_rest, pgm_some, text_of}
-use Rattle.lr_commands.proofs.Joining.{puts_both, fails_after, fails_before}
+use Rattle.lr_causes.proofs.Joining.{puts_both, fails_after, fails_before}
 use Rattle.lr_commands.proofs.Texts.{on_ok, on_failed, always_failed}
-use Rattle.lr_commands.specs.Puts.{Puts, PutFails}
+use Rattle.lr_causes.specs.Puts.{Puts, PutFails}
 use Rattle.lr_commands.proofs.pgm.put_image.Goals as goal
 
 pub returns-in-Err-clause-failed : goal.returns-in-Err-clause-failed

@@ -3,9 +3,9 @@ use Rattle.std.specs.List.{flat_map}
 use Rattle.std.proofs.lemmas.Grind.{flat_map-append}
 use Rattle.std.proofs.lemmas.List.Elements.{All-drop}
 use Rattle.lr_image.specs.Pgm.{pixel_bytes}
-use Rattle.lr_commands.specs.Puts.{Puts, PutFails}
+use Rattle.lr_causes.specs.Puts.{Puts, PutFails}
 use Rattle.lr_commands.proofs.Exporting.{both_parts}
-use Rattle.lr_commands.proofs.Joining.{so_more, so_fails}
+use Rattle.lr_causes.proofs.Joining.{so_more, so_fails}
 use Rattle.lr_commands.proofs.pgm.put_pixels.Goals as goal
 
 pub returns-in-Err-clause-failed : goal.returns-in-Err-clause-failed

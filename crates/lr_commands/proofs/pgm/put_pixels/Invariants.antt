@@ -1,7 +1,7 @@
 use Rattle.std.proofs.Common.{◌<◌, ◌^◌, All, length}
 use Rattle.std.specs.List.{flat_map}
 use Rattle.lr_image.specs.Pgm.{pixel_bytes}
-use Rattle.lr_commands.proofs.Joining.{PutSoFar}
+use Rattle.lr_causes.proofs.Joining.{PutSoFar}
 use Rattle.lr_commands.proofs.pgm.put_pixels.Given as goal
 
 -- the bytes of the pixels before the rest were put

@@ -1,5 +1,5 @@
-use Rattle.lr_commands.specs.declared.cause.Cause.TheVariants.{NoMemory}
-use Rattle.lr_commands.specs.Causes.{cause_of, done_with}
+use Rattle.lr_causes.specs.declared.cause.Cause.TheVariants.{NoMemory}
+use Rattle.lr_causes.specs.Causes.{cause_of, done_with}
 use Rattle.lr_commands.proofs.Loading.{not_started, not_loaded, loaded, over}
 use Rattle.lr_commands.proofs.run.run_entries.Goals as goal
 

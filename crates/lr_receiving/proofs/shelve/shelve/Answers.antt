@@ -1,11 +1,11 @@
 use Rattle.std.proofs.Common.{rules, ◌≡◌, ◌++◌, ◌∷◌, ⊎_elim}
 use Rattle.lr_catalog.specs.Files.{shelved_line}
 use Rattle.lr_receiving.specs.Shelving.{Stops}
-use Rattle.lr_commands.specs.declared.cause.Cause.TheVariants.{Failed}
-use Rattle.lr_commands.specs.declared.cause.Party.TheVariants.{Output}
+use Rattle.lr_causes.specs.declared.cause.Cause.TheVariants.{Failed}
+use Rattle.lr_causes.specs.declared.cause.Party.TheVariants.{Output}
 use Rattle.lr_shelf.specs.Append.{item_for}
 use Rattle.lr_shelf.specs.Kept.{kept_by}
-use Rattle.lr_receiving.proofs.Outcomes.{if_ok_on, if_err_one}
+use Rattle.lr_causes.proofs.Results.{if_ok_on, if_err_one}
 use Rattle.lr_receiving.proofs.Shelving.{append_kind, append_stopped, shelved, line_stopped, rose_of, not_appended}
 use Rattle.lr_receiving.proofs.shelve.shelve.Goals as goal
 

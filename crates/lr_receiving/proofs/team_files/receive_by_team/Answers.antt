@@ -4,7 +4,7 @@ use Rattle.lr_shelf.specs.declared.shelf.Shelf.{Shelf}
 use Rattle.lr_shelf.specs.declared.error.ShelfError.{ShelfError}
 use Rattle.lr_reading.specs.Readers.{ReaderView}
 use Rattle.lr_forms.specs.declared.forms.Input.TheVariants.{Symbols}
-use Rattle.lr_receiving.specs.Causes.{cause_at}
+use Rattle.lr_causes.specs.Causes.{cause_at}
 use Rattle.lr_receiving.specs.Reception.{EndsRun}
 use Rattle.lr_receiving.proofs.Loading.{not_made, not_loaded, loaded_run, done_cause, done_kind, stop_cause, stop_kind}
 use Rattle.lr_receiving.proofs.team_files.receive_by_team.Goals as goal

@@ -1,7 +1,7 @@
 use Rattle.std.proofs.Common.{◌-◌, ◌≤◌}
 use Rattle.lr_make.specs.Standing.{StandsFor}
 use Rattle.lr_make.specs.Stream.{frame_stream}
-use Rattle.lr_commands.specs.Puts.{Puts}
+use Rattle.lr_causes.specs.Puts.{Puts}
 use Rattle.lr_receiving.proofs.test_stream.make_frames.Given as goal
 
 abbrev pub invariant-frames : goal.invariant-frames

@@ -1,6 +1,6 @@
 use Rattle.std.proofs.Common.{◌≡◌, ℕ, List, [], Result, Ok, length, refl, rules, arith}
 use Rattle.lr_catalog.specs.Entries.{shelf_line}
-use Rattle.lr_commands.specs.declared.cause.Refusal.{Refusal}
+use Rattle.lr_causes.specs.declared.cause.Refusal.{Refusal}
 use Rattle.lr_commands.proofs.list.ListAllReadsFiles.last.Goals as goal
 
 some_text : (count used capacity : ℕ) (none : Result (List ℕ) Refusal) → none ≡ Ok []

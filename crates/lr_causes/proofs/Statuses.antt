@@ -1,0 +1,60 @@
+-- Equal statuses mean equal kinds.
+use Rattle.std.proofs.Common.{◌≡◌, ◌==◌, ℕ, refl, ap, ◌∙◌, sym}
+use Rattle.std.specs.Prelude.{if◌then◌else◌}
+use Rattle.lr_causes.specs.declared.cause.Party.TheVariants.{Source, Disk, Output}
+use Rattle.lr_causes.specs.declared.cause.Refusal.TheVariants.{
+  NotAShelf,
+  NoSuchFile,
+  Capacity,
+  NotEmpty,
+  BadChecksum,
+  Discarded,
+  CannotExport,
+}
+use Rattle.lr_causes.specs.declared.cause.Cause.{Cause}
+use Rattle.lr_causes.specs.declared.cause.Cause.TheVariants.{Done, DoneWith, Usage, Failed, NoMemory, Refused}
+use Rattle.lr_causes.specs.Causes.{status_of}
+use Rattle.lr_causes.specs.Kinds.{
+  Kind,
+  IsDone,
+  IsUsage,
+  HasFailed,
+  IsNoMemory,
+  IsNotAShelf,
+  IsNoSuchFile,
+  IsCapacity,
+  IsNotEmpty,
+  IsBadChecksum,
+  IsDiscarded,
+  IsNoExport,
+  kind_of,
+  HasOneKind,
+}
+
+-- the kind of a status
+abbrev kind_at : ℕ → Kind
+kind_at n =
+    if n == 0 then IsDone else if n == 2 then IsUsage else if n == 3 then HasFailed Source else if n == 4 then
+    HasFailed Disk
+    else if n == 5 then HasFailed Output else if n == 6 then IsNotAShelf else if n == 7 then IsNoSuchFile
+    else if n == 8 then IsNoExport else if n == 9 then IsNoMemory else if n == 10 then IsCapacity
+    else if n == 11 then IsNotEmpty else if n == 12 then IsBadChecksum else IsDiscarded
+
+kind_is : (cause : Cause) → kind_at (status_of cause) ≡ kind_of cause
+kind_is Done = refl
+kind_is (DoneWith note) = refl
+kind_is Usage = refl
+kind_is (Failed Source) = refl
+kind_is (Failed Disk) = refl
+kind_is (Failed Output) = refl
+kind_is NoMemory = refl
+kind_is (Refused (NotAShelf at)) = refl
+kind_is (Refused (NoSuchFile count)) = refl
+kind_is (Refused (Capacity needed capacity)) = refl
+kind_is (Refused (NotEmpty size)) = refl
+kind_is (Refused BadChecksum) = refl
+kind_is (Refused Discarded) = refl
+kind_is (Refused (CannotExport fault)) = refl
+
+pub one_kind : HasOneKind
+one_kind one other same = sym (kind_is one) ∙ ap kind_at same ∙ kind_is other

@@ -1,0 +1,125 @@
+-- Why a call ended, the status of each cause, and the line that it puts on `err`.
+use Rattle.std.specs.Prelude.{ℕ, List, [], ◌++◌, Option, Some, None, codes, decimal}
+use Rattle.lr_bits.specs.Faults.{Rose}
+use Rattle.lr_catalog.specs.declared.stop.Stop.{Stop}
+use Rattle.lr_catalog.specs.declared.stop.Stop.TheVariants.{End, Limit, Fault}
+use Rattle.lr_shelf.specs.declared.error.ShelfError.{ShelfError}
+use Rattle.lr_shelf.specs.declared.error.ShelfError.TheVariants.{
+  Disk as Disk',
+  NotAShelf as NotAShelf',
+  NotEmpty as NotEmpty',
+  Capacity as Capacity',
+  NoSuchFile as NoSuchFile',
+  Crc as Crc',
+  NoMemory as NoMemory',
+  Failed as Failed',
+  Discarded as Discarded',
+}
+use Rattle.lr_causes.specs.declared.cause.Party.{Party}
+use Rattle.lr_causes.specs.declared.cause.Party.TheVariants.{Source, Disk, Output}
+use Rattle.lr_causes.specs.declared.cause.Refusal.TheVariants.{
+  NotAShelf,
+  NoSuchFile,
+  Capacity,
+  NotEmpty,
+  BadChecksum,
+  Discarded,
+  CannotExport,
+}
+use Rattle.lr_causes.specs.declared.cause.Cause.{Cause}
+use Rattle.lr_causes.specs.declared.cause.Cause.TheVariants.{Done, DoneWith, Usage, Failed, NoMemory, Refused}
+use Rattle.lr_causes.specs.declared.fault.ExportFault.{ExportFault}
+use Rattle.lr_causes.specs.declared.note.Note.{Note}
+use Rattle.lr_causes.specs.declared.note.Note.TheVariants.{Assembled}
+use Rattle.lr_causes.specs.Faults.{word_of}
+
+abbrev pub status_of : Cause → ℕ
+status_of Done = 0
+status_of (DoneWith note) = 0
+status_of Usage = 2
+status_of (Failed Source) = 3
+status_of (Failed Disk) = 4
+status_of (Failed Output) = 5
+status_of NoMemory = 9
+status_of (Refused (NotAShelf at)) = 6
+status_of (Refused (NoSuchFile count)) = 7
+status_of (Refused (CannotExport fault)) = 8
+status_of (Refused (Capacity needed capacity)) = 10
+status_of (Refused (NotEmpty size)) = 11
+status_of (Refused BadChecksum) = 12
+status_of (Refused Discarded) = 13
+
+abbrev pub note_line : Note → List ℕ
+note_line (Assembled added skipped uncovered) = codes "assembled " ++ decimal added ++ codes " skipped "
+    ++ decimal skipped ++ codes " uncovered " ++ decimal uncovered ++ codes "\n"
+
+abbrev pub line_of : Cause → List ℕ
+line_of Done = []
+line_of (DoneWith note) = note_line note
+line_of Usage = codes "station: usage: SHELF COMMAND [WORDS]\n"
+line_of (Failed Source) = codes "station: source failed\n"
+line_of (Failed Disk) = codes "station: disk failed\n"
+line_of (Failed Output) = codes "station: output failed\n"
+line_of NoMemory = codes "station: no memory\n"
+line_of (Refused (NotAShelf at)) = codes "station: not a shelf at " ++ decimal at ++ codes "\n"
+line_of (Refused (NoSuchFile count)) = codes "station: no such file, count " ++ decimal count ++ codes "\n"
+line_of (Refused (Capacity needed capacity)) = codes "station: capacity: needs " ++ decimal needed
+    ++ codes " of " ++ decimal capacity ++ codes "\n"
+line_of (Refused (NotEmpty size)) = codes "station: not empty, length " ++ decimal size ++ codes "\n"
+line_of (Refused BadChecksum) = codes "station: bad checksum\n"
+line_of (Refused Discarded) = codes "station: discarded\n"
+line_of (Refused (CannotExport fault)) = codes "station: cannot export: " ++ word_of fault ++ codes "\n"
+
+-- the cause of what a call on a shelf answers; a shelf that failed before answers as a disk that fails
+abbrev pub cause_of : ShelfError → Cause
+cause_of Disk' = Failed Disk
+cause_of Failed' = Failed Disk
+cause_of (NotAShelf' at) = Refused (NotAShelf at)
+cause_of (NotEmpty' size) = Refused (NotEmpty size)
+cause_of (Capacity' needed capacity) = Refused (Capacity needed capacity)
+cause_of (NoSuchFile' count) = Refused (NoSuchFile count)
+cause_of (Crc' stored computed) = Refused BadChecksum
+cause_of NoMemory' = NoMemory
+cause_of Discarded' = Refused Discarded
+
+-- done, with what is told of it, if anything
+abbrev pub done_with : Option Note → Cause
+done_with None = Done
+done_with (Some note) = DoneWith note
+
+-- no PGM can be put for this fault; without one memory was refused
+abbrev pub cause_of_fault : Option ExportFault → Cause
+cause_of_fault None = NoMemory
+cause_of_fault (Some fault) = Refused (CannotExport fault)
+
+-- how often each party has failed
+pub record Counts : Type 0 where
+  pub source : ℕ
+  pub disk : ℕ
+  pub output : ℕ
+
+abbrev pub count_of : Party → Counts → ℕ
+count_of Source counts = counts.source
+count_of Disk counts = counts.disk
+count_of Output counts = counts.output
+
+-- a cause that names a party comes only where that party's count rose
+abbrev pub IsCaused : Cause → Counts → Counts → Type 0
+IsCaused (Failed party) before now = Rose (count_of party before) (count_of party now)
+IsCaused _ before now = Unit {0}
+
+-- how often the source, the disk and `out` have failed
+abbrev pub counts : ℕ → ℕ → ℕ → Counts
+counts source disk output = record { source = source; disk = disk; output = output }
+
+-- the cause of a run that put its last line
+abbrev pub cause_at : Stop → Cause
+cause_at End = Done
+cause_at Limit = Done
+cause_at Fault = Failed Source
+
+-- an event that comes before a refusal: the disk failed, or memory was refused
+abbrev pub IsEarlier : Cause → Type 0
+IsEarlier (Failed Disk) = Unit {0}
+IsEarlier NoMemory = Unit {0}
+IsEarlier _ = ⊥

@@ -1,0 +1,89 @@
+-- Why no PGM can be put, and the word for it.
+use Rattle.std.specs.Prelude.{ℕ, List, Option, Some, None, codes}
+use Rattle.lr_image.specs.declared.fault.ImageFault.{ImageFault}
+use Rattle.lr_image.specs.declared.fault.ImageFault.TheVariants.{
+  Headers as Headers',
+  NotImage as NotImage',
+  NoStructure as NoStructure',
+  Encrypted as Encrypted',
+  Compression as Compression',
+  Depth as Depth',
+  Empty as Empty',
+  TooLarge as TooLarge',
+  Flags as Flags',
+  BlockSize as BlockSize',
+  LinesPerPacket as LinesPerPacket',
+  Rice as Rice',
+  Short as Short',
+  NoMemory,
+}
+use Rattle.lr_segment.specs.declared.fault.AssembleFault.{AssembleFault}
+use Rattle.lr_segment.specs.declared.fault.AssembleFault.TheVariants.{
+  Empty as NoWhole,
+  TooLarge as LargeWhole,
+  Depths as OtherDepth,
+  Outside as PastWhole,
+  NoMemory as NoMemory',
+}
+use Rattle.lr_causes.specs.declared.fault.ExportFault.{ExportFault}
+use Rattle.lr_causes.specs.declared.fault.ExportFault.TheVariants.{
+  Headers,
+  NotImage,
+  NoStructure,
+  Encrypted,
+  Compression,
+  Depth,
+  Empty,
+  TooLarge,
+  Flags,
+  BlockSize,
+  LinesPerPacket,
+  Rice,
+  Short,
+  Depths,
+  Outside,
+  NoSegment,
+}
+
+-- of an image; want of memory is none
+abbrev pub image_fault : ImageFault → Option ExportFault
+image_fault (Headers' cause) = Some Headers
+image_fault (NotImage' kind) = Some NotImage
+image_fault NoStructure' = Some NoStructure
+image_fault Encrypted' = Some Encrypted
+image_fault (Compression' value) = Some Compression
+image_fault (Depth' bits) = Some Depth
+image_fault Empty' = Some Empty
+image_fault (TooLarge' pixels) = Some TooLarge
+image_fault (Flags' flags) = Some Flags
+image_fault (BlockSize' block) = Some BlockSize
+image_fault LinesPerPacket' = Some LinesPerPacket
+image_fault (Rice' piece rice) = Some Rice
+image_fault (Short' pixels) = Some Short
+image_fault NoMemory = None
+
+-- of segments that are put together; want of memory is none
+abbrev pub assembly_fault : AssembleFault → Option ExportFault
+assembly_fault NoWhole = Some Empty
+assembly_fault (LargeWhole pixels) = Some TooLarge
+assembly_fault (OtherDepth kept given) = Some Depths
+assembly_fault PastWhole = Some Outside
+assembly_fault NoMemory' = None
+
+abbrev pub word_of : ExportFault → List ℕ
+word_of Headers = codes "headers"
+word_of NotImage = codes "not-image"
+word_of NoStructure = codes "no-structure"
+word_of Encrypted = codes "encrypted"
+word_of Compression = codes "compression"
+word_of Depth = codes "depth"
+word_of Empty = codes "empty"
+word_of TooLarge = codes "too-large"
+word_of Flags = codes "flags"
+word_of BlockSize = codes "block-size"
+word_of LinesPerPacket = codes "lines-per-packet"
+word_of Rice = codes "rice"
+word_of Short = codes "short"
+word_of Depths = codes "depths"
+word_of Outside = codes "outside"
+word_of NoSegment = codes "no-segment"

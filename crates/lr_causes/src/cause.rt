@@ -1,0 +1,150 @@
+//! Why a call ends, and the status that it answers.
+use crate::fault::ExportFault;
+use crate::note::Note;
+use lr_bits::NoMemory;
+use lr_image::ImageFault;
+use lr_segment::AssembleFault;
+use lr_shelf::ShelfError;
+
+/// Who failed, and counted it.
+#[derive(Clone, Copy)]
+pub enum Party {
+    Source,
+    Disk,
+    Output,
+}
+
+/// What is refused for what it finds, with the values that the line tells.
+#[derive(Clone, Copy)]
+pub enum Refusal {
+    /// No header stands on the disk (at 0), or no item after the open gate at this place.
+    NotAShelf { at: u64 },
+    /// The shelf has this many files, and a number that was asked for isn't allowed.
+    NoSuchFile { count: u64 },
+    /// With the next item the shelf would end here, which is past its capacity.
+    Capacity { needed: u64, capacity: u64 },
+    /// The disk that an empty shelf was to be made on has this many bytes.
+    NotEmpty { length: u64 },
+    /// The checksum at the end of a file's item isn't that of its bytes.
+    BadChecksum,
+    /// The file of the number that was asked for is discarded.
+    Discarded,
+    /// What was found gives no PGM.
+    CannotExport(ExportFault),
+}
+
+/// Why a call ended.
+#[derive(Clone, Copy)]
+pub enum Cause {
+    Done,
+    /// Done, and this is told of it.
+    DoneWith(Note),
+    /// The words give no command.
+    Usage,
+    Failed(Party),
+    NoMemory,
+    Refused(Refusal),
+}
+
+impl Cause {
+    ghost use Rattle.std.specs.Prelude.{◌≡◌};
+    ghost use Rattle.lr_causes.specs.Causes.{done_with, cause_of_fault, status_of};
+
+    /// The status that the call answers.
+    pub fn status(self) -> u8
+        ensures { result ≡ status_of self }
+    {
+        match self {
+            Cause::Done | Cause::DoneWith(_) => 0,
+            Cause::Usage => 2,
+            Cause::Failed(Party::Source) => 3,
+            Cause::Failed(Party::Disk) => 4,
+            Cause::Failed(Party::Output) => 5,
+            Cause::NoMemory => 9,
+            Cause::Refused(Refusal::NotAShelf { .. }) => 6,
+            Cause::Refused(Refusal::NoSuchFile { .. }) => 7,
+            Cause::Refused(Refusal::CannotExport(_)) => 8,
+            Cause::Refused(Refusal::Capacity { .. }) => 10,
+            Cause::Refused(Refusal::NotEmpty { .. }) => 11,
+            Cause::Refused(Refusal::BadChecksum) => 12,
+            Cause::Refused(Refusal::Discarded) => 13,
+        }
+    }
+
+    /// Done, with what is told of it, if anything.
+    pub fn done_with(note: Option<Note>) -> Self
+        ensures { result ≡ done_with note }
+    {
+        match note {
+            Some(note) => Cause::DoneWith(note),
+            None => Cause::Done,
+        }
+    }
+
+    /// No PGM can be put for this fault; without one memory was refused.
+    fn of_fault(fault: Option<ExportFault>) -> Self
+        ensures { result ≡ cause_of_fault fault }
+    {
+        match fault {
+            Some(fault) => Cause::Refused(Refusal::CannotExport(fault)),
+            None => Cause::NoMemory,
+        }
+    }
+}
+
+impl From<NoMemory> for Cause {
+    ghost use Rattle.std.specs.Prelude.{◌≡◌};
+    ghost use Rattle.lr_causes.specs.declared.cause.Cause.TheVariants.{NoMemory};
+
+    ghost from_gives = { λ _ cause. cause ≡ NoMemory };
+
+    fn from(_: NoMemory) -> Self {
+        Cause::NoMemory
+    }
+}
+
+impl From<ShelfError> for Cause {
+    ghost use Rattle.std.specs.Prelude.{◌≡◌};
+    ghost use Rattle.lr_causes.specs.Causes.{cause_of};
+
+    ghost from_gives = { λ error cause. cause ≡ cause_of error };
+
+    fn from(error: ShelfError) -> Self {
+        match error {
+            ShelfError::Disk | ShelfError::Failed => Cause::Failed(Party::Disk),
+            ShelfError::NotAShelf { at } => Cause::Refused(Refusal::NotAShelf { at }),
+            ShelfError::NotEmpty { length } => Cause::Refused(Refusal::NotEmpty { length }),
+            ShelfError::Capacity { needed, capacity } => {
+                Cause::Refused(Refusal::Capacity { needed, capacity })
+            }
+            ShelfError::NoSuchFile { count } => Cause::Refused(Refusal::NoSuchFile { count }),
+            ShelfError::Crc { .. } => Cause::Refused(Refusal::BadChecksum),
+            ShelfError::NoMemory => Cause::NoMemory,
+            ShelfError::Discarded => Cause::Refused(Refusal::Discarded),
+        }
+    }
+}
+
+impl From<ImageFault> for Cause {
+    ghost use Rattle.std.specs.Prelude.{◌≡◌};
+    ghost use Rattle.lr_causes.specs.Causes.{cause_of_fault};
+    ghost use Rattle.lr_causes.specs.Faults.{image_fault};
+
+    ghost from_gives = { λ fault cause. cause ≡ cause_of_fault (image_fault fault) };
+
+    fn from(fault: ImageFault) -> Self {
+        Cause::of_fault(ExportFault::of_image(fault))
+    }
+}
+
+impl From<AssembleFault> for Cause {
+    ghost use Rattle.std.specs.Prelude.{◌≡◌};
+    ghost use Rattle.lr_causes.specs.Causes.{cause_of_fault};
+    ghost use Rattle.lr_causes.specs.Faults.{assembly_fault};
+
+    ghost from_gives = { λ fault cause. cause ≡ cause_of_fault (assembly_fault fault) };
+
+    fn from(fault: AssembleFault) -> Self {
+        Cause::of_fault(ExportFault::of_assembly(fault))
+    }
+}

@@ -1,0 +1,88 @@
+//! Why no PGM can be put.
+use lr_image::ImageFault;
+use lr_segment::AssembleFault;
+
+/// Why no PGM can be put: the fault of an image or of an assembly, without its values, or that no segment was met.
+#[derive(Clone, Copy)]
+pub enum ExportFault {
+    Headers,
+    NotImage,
+    NoStructure,
+    Encrypted,
+    Compression,
+    Depth,
+    Empty,
+    TooLarge,
+    Flags,
+    BlockSize,
+    LinesPerPacket,
+    Rice,
+    Short,
+    Depths,
+    Outside,
+    NoSegment,
+}
+
+impl ExportFault {
+    ghost use Rattle.std.specs.Prelude.{◌≡◌};
+    ghost use Rattle.lr_causes.specs.Faults.{assembly_fault, image_fault, word_of};
+
+    /// The fault of an image; want of memory is none.
+    pub fn of_image(fault: ImageFault) -> Option<Self>
+        ensures { result ≡ image_fault fault }
+    {
+        match fault {
+            ImageFault::Headers(_) => Some(ExportFault::Headers),
+            ImageFault::NotImage { .. } => Some(ExportFault::NotImage),
+            ImageFault::NoStructure => Some(ExportFault::NoStructure),
+            ImageFault::Encrypted => Some(ExportFault::Encrypted),
+            ImageFault::Compression { .. } => Some(ExportFault::Compression),
+            ImageFault::Depth { .. } => Some(ExportFault::Depth),
+            ImageFault::Empty => Some(ExportFault::Empty),
+            ImageFault::TooLarge { .. } => Some(ExportFault::TooLarge),
+            ImageFault::Flags { .. } => Some(ExportFault::Flags),
+            ImageFault::BlockSize { .. } => Some(ExportFault::BlockSize),
+            ImageFault::LinesPerPacket => Some(ExportFault::LinesPerPacket),
+            ImageFault::Rice { .. } => Some(ExportFault::Rice),
+            ImageFault::Short { .. } => Some(ExportFault::Short),
+            ImageFault::NoMemory => None,
+        }
+    }
+
+    /// The fault of an assembly; want of memory is none.
+    pub fn of_assembly(fault: AssembleFault) -> Option<Self>
+        ensures { result ≡ assembly_fault fault }
+    {
+        match fault {
+            AssembleFault::Empty => Some(ExportFault::Empty),
+            AssembleFault::TooLarge { .. } => Some(ExportFault::TooLarge),
+            AssembleFault::Depths { .. } => Some(ExportFault::Depths),
+            AssembleFault::Outside => Some(ExportFault::Outside),
+            AssembleFault::NoMemory => None,
+        }
+    }
+
+    /// Its word on `err`.
+    pub fn word(self) -> &'static str
+        ensures { result.now ≡ word_of self }
+    {
+        match self {
+            ExportFault::Headers => "headers",
+            ExportFault::NotImage => "not-image",
+            ExportFault::NoStructure => "no-structure",
+            ExportFault::Encrypted => "encrypted",
+            ExportFault::Compression => "compression",
+            ExportFault::Depth => "depth",
+            ExportFault::Empty => "empty",
+            ExportFault::TooLarge => "too-large",
+            ExportFault::Flags => "flags",
+            ExportFault::BlockSize => "block-size",
+            ExportFault::LinesPerPacket => "lines-per-packet",
+            ExportFault::Rice => "rice",
+            ExportFault::Short => "short",
+            ExportFault::Depths => "depths",
+            ExportFault::Outside => "outside",
+            ExportFault::NoSegment => "no-segment",
+        }
+    }
+}

@@ -1,0 +1,161 @@
+//! The line of a cause, which takes no memory.
+ghost use Rattle.std.specs.Prelude.{◌≡◌, ◌≤◌, ◌+◌, ◌++◌, ◌∷◌, [], length, decimal};
+ghost use Rattle.lr_causes.specs.Causes.{line_of};
+
+use crate::cause::{Cause, Party, Refusal};
+use crate::fault::ExportFault;
+use crate::note::Note;
+use itoa::Buffer;
+use std::marker::Model;
+
+/// How many bytes a line has, at most.
+const LINE_BYTES: usize = 160;
+
+/// A line, or the front of one, in an array.
+#[derive(Drop)]
+pub struct Line {
+    bytes: [u8; LINE_BYTES],
+    filled: usize,
+}
+
+impl Model for Line {
+    ghost use Rattle.std.specs.Prelude.{List, ℕ, take, ◌≤◌};
+
+    ghost Value = { List ℕ };
+
+    ghost view = { λ l. take l.filled l.bytes };
+
+    ghost invariant = { λ l. l.filled ≤ 160 };
+}
+
+impl Line {
+    fn new() -> Self
+        ensures { result ≡ [] }
+    {
+        Line {
+            bytes: [0; LINE_BYTES],
+            filled: 0,
+        }
+    }
+
+    /// Its bytes.
+    pub fn as_bytes(&self) -> &[u8]
+        ensures { result.now ≡ self.now }
+    {
+        &self.bytes[..self.filled]
+    }
+
+    fn push(&mut self, piece: &[u8])
+        requires { length self.old + length piece.now ≤ 160 }
+        ensures { self.new ≡ self.old ++ piece.now }
+    {
+        let filled = self.filled;
+        let end = filled + piece.len();
+        self.bytes[filled..end].copy_from_slice(piece);
+        self.filled = end;
+    }
+
+    fn number(&mut self, n: u64)
+        requires { length self.old + 40 ≤ 160 }
+        ensures added { self.new ≡ self.old ++ decimal n }
+        ensures short { length self.new ≤ length self.old + 40 }
+    {
+        let mut buffer = Buffer::new();
+        self.push(buffer.format(n).as_bytes());
+    }
+}
+
+/// A line of a text and a number.
+fn line_with(text: &[u8], number: u64) -> Line
+    requires { length text.now ≤ 40 }
+    ensures { result ≡ text.now ++ decimal number ++ 10 ∷ [] }
+{
+    let mut line = Line::new();
+    line.push(text);
+    line.number(number);
+    line.push(b"\n");
+    line
+}
+
+/// The line of a shelf that is full.
+fn capacity_line(needed: u64, capacity: u64) -> Line
+    ensures { result ≡ line_of (Cause.Refused (Refusal.Capacity needed capacity)) }
+{
+    let mut line = Line::new();
+    line.push(b"station: capacity: needs ");
+    line.number(needed);
+    line.push(b" of ");
+    line.number(capacity);
+    line.push(b"\n");
+    line
+}
+
+/// The line of a file that gives no PGM.
+fn export_line(fault: ExportFault) -> Line
+    ensures { result ≡ line_of (Cause.Refused (Refusal.CannotExport fault)) }
+{
+    let mut line = Line::new();
+    line.push(b"station: cannot export: ");
+    line.push(fault.word().as_bytes());
+    line.push(b"\n");
+    line
+}
+
+/// The line of work that is done.
+fn note_line(note: Note) -> Line
+    ensures { result ≡ line_of (Cause.DoneWith note) }
+{
+    let Note::Assembled {
+        added,
+        skipped,
+        uncovered,
+    } = note;
+    let mut line = Line::new();
+    line.push(b"assembled ");
+    line.number(added);
+    line.push(b" skipped ");
+    line.number(skipped);
+    line.push(b" uncovered ");
+    line.number(uncovered);
+    line.push(b"\n");
+    line
+}
+
+fn fixed_line(text: &[u8]) -> Line
+    requires { length text.now ≤ 40 }
+    ensures { result ≡ text.now }
+{
+    let mut line = Line::new();
+    line.push(text);
+    line
+}
+
+fn refusal_line(refusal: Refusal) -> Line
+    ensures { result ≡ line_of (Cause.Refused refusal) }
+{
+    match refusal {
+        Refusal::NotAShelf { at } => line_with(b"station: not a shelf at ", at),
+        Refusal::NoSuchFile { count } => line_with(b"station: no such file, count ", count),
+        Refusal::Capacity { needed, capacity } => capacity_line(needed, capacity),
+        Refusal::NotEmpty { length } => line_with(b"station: not empty, length ", length),
+        Refusal::BadChecksum => fixed_line(b"station: bad checksum\n"),
+        Refusal::Discarded => fixed_line(b"station: discarded\n"),
+        Refusal::CannotExport(fault) => export_line(fault),
+    }
+}
+
+/// The line that a cause puts on `err`.
+pub fn line_for(cause: Cause) -> Line
+    ensures { result ≡ line_of cause }
+{
+    match cause {
+        Cause::Done => Line::new(),
+        Cause::DoneWith(note) => note_line(note),
+        Cause::Usage => fixed_line(b"station: usage: SHELF COMMAND [WORDS]\n"),
+        Cause::Failed(Party::Source) => fixed_line(b"station: source failed\n"),
+        Cause::Failed(Party::Disk) => fixed_line(b"station: disk failed\n"),
+        Cause::Failed(Party::Output) => fixed_line(b"station: output failed\n"),
+        Cause::NoMemory => fixed_line(b"station: no memory\n"),
+        Cause::Refused(refusal) => refusal_line(refusal),
+    }
+}

@@ -1,0 +1,202 @@
+-- `decode` goes on by one outcome, and what it puts in all.
+use Rattle.std.proofs.Common.{◌≡◌, ℕ, ◌+◌, ◌-◌, ◌≤◌, not, List, [], ◌∷◌, ◌++◌, length, ap, ◌∙◌, sym, refl, subst, arith}
+use Rattle.std.specs.Prelude.{count_by, cond}
+use Rattle.std.proofs.lemmas.List.{map-append}
+use Rattle.std.proofs.lemmas.List.Sums.{count_by-le-length, sum_by-append, sum_by-cons}
+use Rattle.lr_bits.specs.declared.outcome.Outcome.{Outcome}
+use Rattle.lr_conv.specs.Marker.{tail_of}
+use Rattle.lr_lock.specs.FramesOf.{frames_of}
+use Rattle.lr_lock.specs.Symbols.{symbols_of}
+use Rattle.lr_io.specs.declared.source.Source.{Ghosts as SourceOf}
+use Rattle.lr_io.specs.declared.sink.Sink.{Ghosts as SinkOf}
+use Rattle.lr_layers.specs.Layers.{is_restored}
+use Rattle.lr_catalog.specs.declared.summary.Summary.TheVariants.{Decode}
+use Rattle.lr_catalog.specs.Summaries.{summary_line}
+use Rattle.lr_causes.specs.declared.cause.Cause.{Cause}
+use Rattle.lr_causes.specs.Puts.{Puts, PutStops}
+use Rattle.lr_reading.specs.Arrivals.{
+  arrival_in,
+  arrival_of,
+  arrivals_of,
+  arrivals_of_units,
+  outcomes_of_arrivals,
+}
+use Rattle.lr_reading.specs.Inputs.{unit_bytes, outcome_of_unit, outcomes_of_bytes, left_of}
+use Rattle.lr_reading.specs.Lines.{numbered_lines}
+use Rattle.lr_reading.specs.Reading.{units_of}
+use Rattle.lr_reading.specs.Runs.{ReadsInput, TakesAll, TakesSome}
+use Rattle.lr_reading.specs.declared.arrival.Arrival.{Arrival}
+use Rattle.lr_forms.specs.declared.forms.Input.{Input}
+use Rattle.lr_forms.specs.declared.forms.Input.TheVariants.{Symbols, Units}
+use Rattle.lr_reading.specs.declared.totals.Totals.{Totals}
+use Rattle.lr_reading.proofs.Coming.{outcomes_are, outcomes_counted}
+use Rattle.lr_reading.proofs.Numbered.{
+  numbered_lines-none,
+  numbered_lines-append,
+  numbered_lines-push,
+  numbered_lines-map,
+}
+use Rattle.lr_reading.proofs.Outcomes.{both_kinds}
+use Rattle.lr_printing.specs.declared.outcome_lines.OutcomeLines.{OutcomeLines}
+use Rattle.lr_printing.specs.Decode.{lines_of_units, lines_of_windows, decode_text, decode_last, decode_count}
+use Rattle.lr_printing.specs.DecodeTaken.{OutcomesTook, OutcomesStopped}
+use Rattle.lr_printing.specs.OutcomeLines.{outcome_text, text_of_outcomes}
+use Rattle.lr_printing.specs.Printing.{Prints}
+use Rattle.lr_printing.specs.Progress.{LinesStop}
+use Rattle.lr_causes.proofs.Joining.{puts_both, puts_none}
+use Rattle.lr_printing.proofs.Lines.{lines_stop, lines_stopped}
+
+abbrev line_of : ℕ → Arrival → List ℕ
+line_of place arrival = outcome_text place arrival.position arrival.outcome
+
+-- the line of the next outcome
+text_more : (arrivals : List Arrival) (arrival : Arrival) (place : ℕ) → place ≡ length arrivals
+    → text_of_outcomes (arrivals ++ arrival ∷ [])
+    ≡ text_of_outcomes arrivals ++ outcome_text place arrival.position arrival.outcome
+text_more arrivals arrival place is =
+    numbered_lines-push line_of 0 arrivals arrival
+    ∙ ap (λ (k : ℕ). text_of_outcomes arrivals ++ outcome_text k arrival.position arrival.outcome)
+    (omega (arith, is))
+
+-- the text of all that comes is that of the bytes
+text_of_all : (input : Input) (bytes : List ℕ) → text_of_outcomes (arrivals_of input bytes) ≡ decode_text input bytes
+unfolding arrivals_of arrivals_of_units lines_of_units lines_of_windows
+text_of_all (Symbols line) bytes =
+    numbered_lines-map line_of (arrival_in line (symbols_of bytes)) 0 (frames_of (tail_of line) (symbols_of bytes))
+text_of_all (Units form) bytes =
+    numbered_lines-map line_of (λ (unit : List ℕ). arrival_of (outcome_of_unit form unit)) 0
+    (units_of (unit_bytes form) bytes)
+
+-- the lines of the first ones come first
+text_first : (passed rest : List Arrival)
+    → (later : List ℕ) × (text_of_outcomes (passed ++ rest) ≡ text_of_outcomes passed ++ later)
+text_first passed rest =
+    (numbered_lines line_of (0 + length passed) rest, numbered_lines-append line_of 0 passed rest)
+
+-- ---- how many are restored
+
+count_push : (outcomes : List Outcome) (outcome : Outcome) → count_by is_restored (outcomes ++ outcome ∷ [])
+    ≡ count_by is_restored outcomes + cond (is_restored outcome) 1 0
+count_push outcomes outcome =
+    let one : Outcome → ℕ = λ x. cond (is_restored x) 1 0 in
+    let none : count_by is_restored [] ≡ 0 = refl in
+    omega (arith, sum_by-append one outcomes (outcome ∷ []), sum_by-cons one outcome [], none)
+
+pub restored_more : (arrivals : List Arrival) (arrival : Arrival) (restored more : ℕ)
+    → restored ≡ count_by is_restored (outcomes_of_arrivals arrivals)
+    → more ≡ restored + cond (is_restored arrival.outcome) 1 0
+    → more ≡ count_by is_restored (outcomes_of_arrivals (arrivals ++ arrival ∷ []))
+restored_more arrivals arrival restored more before is =
+    is ∙ ap (λ (k : ℕ). k + cond (is_restored arrival.outcome) 1 0) before
+    ∙ sym (count_push (outcomes_of_arrivals arrivals) arrival.outcome)
+    ∙ ap (λ (l : List Outcome). count_by is_restored l)
+    (sym (map-append (λ (a : Arrival). a.outcome) arrivals (arrival ∷ [])))
+
+pub few_restored : {O : Type 0} (out : SinkOf O) {before now : OutcomeLines O} {arrivals : List Arrival}
+    → OutcomesTook out before arrivals now → now.restored ≤ length arrivals
+few_restored out {before} {now} {arrivals} took = omega (
+  arith,
+  took.restored,
+  count_by-le-length is_restored (outcomes_of_arrivals arrivals),
+  length-outcomes arrivals,
+)
+  where
+    length-outcomes : (arrivals : List Arrival) → length (outcomes_of_arrivals arrivals) ≡ length arrivals
+    length-outcomes [] = refl
+    length-outcomes (a ∷ arrivals) = omega (arith, length-outcomes arrivals)
+
+module _ {S : Type 0} (source : SourceOf S) (input : Input) (limit : ℕ) (totals : Totals) (restored : ℕ)
+    (bytes : List ℕ) (s s' : S) (ends : ReadsInput source input limit totals bytes s s')
+    (restored_is : restored ≡ count_by is_restored (outcomes_of_bytes input bytes)) where
+  frames_are : length (outcomes_of_bytes input bytes) ≡ totals.frames
+  frames_are = outcomes_counted input bytes ∙ sym ends.frames
+
+  pub no_more_restored : restored ≤ totals.frames
+  no_more_restored = omega (
+    arith,
+    restored_is,
+    frames_are,
+    count_by-le-length is_restored (outcomes_of_bytes input bytes),
+  )
+
+  -- the last line tells what was counted
+  pub decode_last_is : decode_last input bytes totals.stop ≡ summary_line (Decode totals.symbols totals.frames
+      restored (totals.frames - restored) totals.left) totals.stop
+  unfolding decode_count
+  decode_last_is =
+      let outcomes = outcomes_of_bytes input bytes in
+      let lost : count_by (λ o. not (is_restored o)) (outcomes_of_bytes input bytes) ≡ totals.frames - restored =
+      omega (arith, both_kinds (outcomes_of_bytes input bytes), frames_are, restored_is) in
+      ap (λ k. summary_line (Decode k (length outcomes) (count_by is_restored outcomes)
+      (count_by (λ o. not (is_restored o)) outcomes) (left_of input bytes)) totals.stop) (sym ends.symbols)
+      ∙ ap (λ k. summary_line (Decode totals.symbols k (count_by is_restored outcomes)
+      (count_by (λ o. not (is_restored o)) outcomes) (left_of input bytes)) totals.stop) frames_are
+      ∙ ap (λ k. summary_line (Decode totals.symbols totals.frames k
+      (count_by (λ o. not (is_restored o)) outcomes) (left_of input bytes)) totals.stop) (sym restored_is)
+      ∙ ap (λ k. summary_line (Decode totals.symbols totals.frames restored k (left_of input bytes)) totals.stop) lost
+      ∙ ap (λ k. summary_line (Decode totals.symbols totals.frames restored (totals.frames - restored) k)
+      totals.stop) (sym ends.left)
+
+-- ---- the lines
+
+module _ {O : Type 0} (out : SinkOf O) where
+  -- it begins
+  pub outcomes_begun : (lines : OutcomeLines O) → lines.outcomes ≡ 0 → lines.restored ≡ 0
+      → OutcomesTook out lines [] lines
+  outcomes_begun lines none none_restored = record {
+    same_out = refl;
+    count = none;
+    restored = none_restored;
+    put = subst (λ (l : List ℕ). Puts out l lines.out.now lines.out.now) (sym (numbered_lines-none line_of 0))
+        (puts_none out lines.out.now);
+  }
+
+  module _ {before now : OutcomeLines O} {arrivals : List Arrival} (took : OutcomesTook out before arrivals now)
+      (arrival : Arrival) (o' : O) where
+    -- one line more was put
+    pub text_put : Puts out (outcome_text now.outcomes arrival.position arrival.outcome) now.out.now o'
+        → Puts out (text_of_outcomes (arrivals ++ arrival ∷ [])) before.out.now o'
+    text_put put = subst (λ (l : List ℕ). Puts out l before.out.now o')
+        (sym (text_more arrivals arrival now.outcomes took.count)) (puts_both out _ _ _ _ _ took.put put)
+
+    -- it wasn't
+    pub text_stopped : (cause : Cause)
+        → PutStops out (outcome_text now.outcomes arrival.position arrival.outcome) cause now.out.now o'
+        → LinesStop out (text_of_outcomes (arrivals ++ arrival ∷ [])) cause before.out.now o'
+    text_stopped cause stops = subst (λ (l : List ℕ). LinesStop out l cause before.out.now o')
+        (sym (text_more arrivals arrival now.outcomes took.count))
+        (lines_stop out (text_of_outcomes arrivals) (outcome_text now.outcomes arrival.position arrival.outcome)
+        before.out.now now.out.now o' took.put cause stops)
+
+  module _ {S : Type 0} (source : SourceOf S) (input : Input) (limit : ℕ) {s s' : S} {before now : OutcomeLines O}
+      (none : before.outcomes ≡ 0) (none_restored : before.restored ≡ 0) where
+    -- all outcomes were taken
+    pub outcomes_put : {totals : Totals} → TakesAll source (OutcomesTook out) input limit totals s s' before now
+        → (now.out.ghost_name ≡ before.out.ghost_name) × ((bytes : List ℕ)
+        × ReadsInput source input limit totals bytes s s'
+        × (now.restored ≡ count_by is_restored (outcomes_of_bytes input bytes))
+        × Puts out (decode_text input bytes) before.out.now now.out.now)
+    outcomes_put all =
+        let took = all.taken before (outcomes_begun before none none_restored) in (
+          took.same_out,
+          (
+            all.bytes,
+            all.ends,
+            took.restored ∙ ap (λ (l : List Outcome). count_by is_restored l) (sym (outcomes_are input all.bytes)),
+            subst (λ (l : List ℕ). Puts out l before.out.now now.out.now) (text_of_all input all.bytes) took.put,
+          ),
+        )
+
+    -- they were not
+    pub outcomes_stopped : (cause : Cause)
+        → TakesSome source (OutcomesTook out) input limit (OutcomesStopped out) cause s s' before now
+        → (now.out.ghost_name ≡ before.out.ghost_name)
+        × Prints source out (decode_text input) (decode_last input) limit cause s s' before.out.now now.out.now
+    outcomes_stopped cause some =
+        let stopped = some.stops before (outcomes_begun before none none_restored) in
+        let first = text_first some.passed some.rest in (
+          stopped.same_out,
+          lines_stopped source out (decode_text input) (decode_last input) limit some.bytes
+              (text_of_outcomes some.passed) first.0 s s' before.out.now now.out.now some.read
+              (sym (text_of_all input some.bytes) ∙ ap text_of_outcomes some.split ∙ first.1) cause stopped.stops,
+        )

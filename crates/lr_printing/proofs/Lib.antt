@@ -1,0 +1,7 @@
+pub mod Adding
+pub mod DecodeText
+pub mod FramesGoOn
+pub mod Lines
+pub mod PacketsCounted
+pub mod PacketsGoOn
+pub mod PacketsText

@@ -1,0 +1,12 @@
+pub mod Added
+pub mod Decode
+pub mod DecodeTaken
+pub mod FrameLines
+pub mod Frames
+pub mod FramesTaken
+pub mod OutcomeLines
+pub mod Packets
+pub mod PacketsRead
+pub mod PacketsTaken
+pub mod Printing
+pub mod Progress

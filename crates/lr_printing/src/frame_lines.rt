@@ -1,0 +1,137 @@
+//! `frames`: a line for each transfer frame.
+ghost use Rattle.std.specs.Prelude.{◌≡◌, ◌<◌, ◌^◌, List, ℕ, IfOk, IfErr};
+ghost use Rattle.lr_catalog.specs.Summaries.{summary_line};
+ghost use Rattle.lr_reading.specs.Runs.{ReadsInput};
+ghost use Rattle.lr_forms.specs.declared.forms.Input.TheVariants.{Units};
+ghost use Rattle.lr_forms.specs.declared.forms.UnitForm.TheVariants.{Frames};
+ghost use Rattle.lr_printing.specs.Frames.{frames_text, frames_last};
+ghost use Rattle.lr_printing.specs.FrameLines.{frame_text};
+ghost use Rattle.lr_printing.specs.Printing.{Prints, PrintsAll};
+ghost use Rattle.lr_causes.specs.Puts.{Puts, PutStops};
+
+use lr_bits::{Bytes, Outcome};
+use lr_catalog::{Stop, Summary, frame_line, summary_line};
+use lr_causes::{Cause, cause_at, put_text};
+use lr_forms::{Input, UnitForm};
+use lr_io::{Sink, Source};
+use lr_reading::{Arrival, Consumer, Reader, Totals};
+use lr_vc::TransferFrame;
+use std::alloc::Global;
+
+/// Puts a line for each frame, of which it took this many.
+#[derive(Drop)]
+pub(crate) struct FrameLines<'a, O> {
+    pub alloc: Global,
+    pub frames: u64,
+    pub out: &'a mut O,
+}
+
+impl<'a, O: Sink> Consumer for FrameLines<'a, O> {
+    ghost use Rattle.lr_printing.specs.FramesTaken.{FramesTook, FramesStopped};
+    ghost use Rattle.std.specs.Prelude.{◌^◌, ◌-◌};
+
+    type Cause = Cause;
+
+    ghost most = { 2 ^ 64 - 1 };
+
+    ghost took = { λ c arrivals now. FramesTook O.Sink c arrivals now };
+
+    ghost stopped = { λ c arrivals cause now. FramesStopped O.Sink c arrivals cause now };
+
+    fn take(&mut self, arrival: &Arrival) -> Result<(), Cause> {
+        put_frame(self.alloc, self.frames, &arrival.outcome, self.out)?;
+        self.frames += 1;
+        Ok(())
+    }
+
+    fn no_memory(&self) -> Cause {
+        Cause::NoMemory
+    }
+}
+
+/// Puts the line of a frame. A block that was lost has none.
+fn put_frame<O: Sink>(
+    alloc: Global,
+    place: u64,
+    outcome: &Outcome,
+    out: &mut O,
+) -> Result<(), Cause>
+    ensures put { IfOk result (λ _. Puts O.Sink (frame_text place outcome.now) out.old out.new) }
+    ensures stopped { IfErr result
+        (λ cause. PutStops O.Sink (frame_text place outcome.now) cause out.old out.new) }
+{
+    match outcome {
+        Outcome::Restored(_, frame) => {
+            let mut line = Bytes::new(alloc);
+            frame_line(alloc, place, &TransferFrame::read(frame), &mut line)?;
+            put_text(line.as_slice(), out)
+        }
+        Outcome::Lost(_) => Ok(()),
+    }
+}
+
+fn put_each_frame<S: Source, O: Sink>(
+    alloc: Global,
+    reader: Reader,
+    source: &mut S,
+    out: &mut O,
+) -> Result<Totals, Cause>
+    requires input { reader.input ≡ Units Frames }
+    requires few { reader.most < 2 ^ 64 }
+    ensures all { IfOk result (λ totals. (bytes : List ℕ)
+        × ReadsInput S.Source (Units Frames) reader.most totals bytes source.old source.new
+        × Puts O.Sink (frames_text bytes) out.old out.new) }
+    ensures stopped { IfErr result (λ cause.
+        Prints S.Source O.Sink frames_text frames_last reader.most cause source.old source.new out.old out.new) }
+{
+    let mut lines = FrameLines {
+        alloc,
+        frames: 0,
+        out,
+    };
+    let totals = reader.read(source, &mut lines)?;
+    Ok(totals)
+}
+
+fn put_last<O: Sink>(alloc: Global, totals: &Totals, out: &mut O) -> Result<(), Cause>
+    ensures put { IfOk result (λ _. Puts O.Sink
+        (summary_line (Summary.Frames totals.now.frames totals.now.left) totals.now.stop) out.old out.new) }
+    ensures stopped { IfErr result
+        (λ cause. PutStops O.Sink (summary_line (Summary.Frames totals.now.frames totals.now.left) totals.now.stop)
+        cause out.old out.new) }
+{
+    let mut line = Bytes::new(alloc);
+    let summary = Summary::Frames {
+        frames: totals.frames,
+        left: totals.left,
+    };
+    summary_line(alloc, &summary, totals.stop, &mut line)?;
+    put_text(line.as_slice(), out)
+}
+
+fn put_frames<S: Source, O: Sink>(
+    alloc: Global,
+    most: u64,
+    source: &mut S,
+    out: &mut O,
+) -> Result<Stop, Cause>
+    ensures all { IfOk result (λ stop. PrintsAll S.Source O.Sink frames_text frames_last most stop source.old
+        source.new out.old out.new) }
+    ensures stopped { IfErr result
+        (λ cause. Prints S.Source O.Sink frames_text frames_last most cause source.old source.new out.old out.new) }
+{
+    let reader = Reader::new(alloc, Input::Units(UnitForm::Frames), most)?;
+    let totals = put_each_frame(alloc, reader, source, out)?;
+    put_last(alloc, &totals, out)?;
+    Ok(totals.stop)
+}
+
+/// A line for each frame of the source, and a last line. At most `most` bytes are taken.
+pub fn frames<S: Source, O: Sink>(alloc: Global, most: u64, source: &mut S, out: &mut O) -> Cause
+    ensures { Prints S.Source O.Sink frames_text frames_last most result source.old source.new out.old out.new }
+{
+    match put_frames(alloc, most, source, out) {
+        Ok(stop) => cause_at(stop),
+        Err(cause) => cause,
+    }
+}

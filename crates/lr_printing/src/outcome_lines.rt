@@ -1,0 +1,187 @@
+//! `decode`: a line for what became of each window or block.
+ghost use Rattle.std.specs.Prelude.{◌≡◌, ◌≤◌, ◌<◌, ◌+◌, ◌-◌, ◌^◌, ◌++◌, List, ℕ, IfOk, IfErr, OnOk, count_by, cond};
+ghost use Rattle.lr_layers.specs.Layers.{is_restored};
+ghost use Rattle.lr_catalog.specs.Summaries.{summary_line};
+ghost use Rattle.lr_reading.specs.Inputs.{outcomes_of_bytes};
+ghost use Rattle.lr_reading.specs.Runs.{ReadsInput};
+ghost use Rattle.lr_printing.specs.Decode.{decode_text, decode_last};
+ghost use Rattle.lr_printing.specs.OutcomeLines.{outcome_text};
+ghost use Rattle.lr_printing.specs.Printing.{Prints, PrintsAll};
+ghost use Rattle.lr_causes.specs.Puts.{Puts, PutStops};
+
+use lr_bits::{Bytes, NoMemory, Outcome};
+use lr_catalog::{Stop, Summary, block_line, summary_line, window_line};
+use lr_causes::{Cause, cause_at, put_text};
+use lr_forms::Input;
+use lr_io::{Sink, Source};
+use lr_reading::{Arrival, Consumer, Reader, Totals};
+use std::alloc::Global;
+
+/// Puts a line for each outcome, of which it took this many, and counts those that are restored.
+#[derive(Drop)]
+pub(crate) struct OutcomeLines<'a, O> {
+    pub alloc: Global,
+    pub outcomes: u64,
+    pub restored: u64,
+    pub out: &'a mut O,
+}
+
+impl<'a, O: Sink> Consumer for OutcomeLines<'a, O> {
+    ghost use Rattle.std.specs.Prelude.{◌^◌};
+    ghost use Rattle.lr_printing.specs.DecodeTaken.{OutcomesTook, OutcomesStopped};
+
+    type Cause = Cause;
+
+    ghost most = { 2 ^ 48 };
+
+    ghost took = { λ c arrivals now. OutcomesTook O.Sink c arrivals now };
+
+    ghost stopped = { λ c arrivals cause now. OutcomesStopped O.Sink c arrivals cause now };
+
+    fn take(&mut self, arrival: &Arrival) -> Result<(), Cause> {
+        put_outcome(self.alloc, self.outcomes, arrival, self.out)?;
+        self.outcomes += 1;
+        self.restored = count_restored(self.restored, &arrival.outcome);
+        Ok(())
+    }
+
+    fn no_memory(&self) -> Cause {
+        Cause::NoMemory
+    }
+}
+
+/// How many outcomes are restored, with one more.
+fn count_restored(restored: u64, outcome: &Outcome) -> u64
+    requires { restored + 1 < 18446744073709551616 }
+    ensures { result ≡ restored + cond (is_restored outcome.now) 1 0 }
+{
+    match outcome {
+        Outcome::Restored(_, _) => restored + 1,
+        Outcome::Lost(_) => restored,
+    }
+}
+
+/// Composes the line of an outcome.
+fn outcome_line(
+    alloc: Global,
+    place: u64,
+    arrival: &Arrival,
+    line: &mut Bytes,
+) -> Result<(), NoMemory>
+    ensures { OnOk result (line.new ≡ line.old
+        ++ outcome_text place arrival.now.position arrival.now.outcome) }
+{
+    let outcome = &arrival.outcome;
+    match arrival.position {
+        Some(at) => window_line(alloc, place, at.place, at.positive, outcome, line),
+        None => block_line(alloc, place, outcome, line),
+    }
+}
+
+/// Puts the line of a window or a block.
+fn put_outcome<O: Sink>(
+    alloc: Global,
+    place: u64,
+    arrival: &Arrival,
+    out: &mut O,
+) -> Result<(), Cause>
+    ensures put { IfOk result (λ _. Puts O.Sink (outcome_text place arrival.now.position arrival.now.outcome)
+        out.old out.new) }
+    ensures stopped { IfErr result (λ cause. PutStops O.Sink
+        (outcome_text place arrival.now.position arrival.now.outcome) cause out.old out.new) }
+{
+    let mut line = Bytes::new(alloc);
+    outcome_line(alloc, place, arrival, &mut line)?;
+    put_text(line.as_slice(), out)
+}
+
+/// Puts all lines, and answers how many outcomes are restored.
+fn put_each_outcome<S: Source, O: Sink>(
+    alloc: Global,
+    reader: Reader,
+    source: &mut S,
+    out: &mut O,
+) -> Result<(Totals, u64), Cause>
+    requires few { reader.most ≤ 2 ^ 48 }
+    ensures all { IfOk result (λ sums. (bytes : List ℕ)
+        × ReadsInput S.Source reader.input reader.most sums.0 bytes source.old source.new
+        × (sums.1 ≡ count_by is_restored (outcomes_of_bytes reader.input bytes))
+        × Puts O.Sink (decode_text reader.input bytes) out.old out.new) }
+    ensures stopped { IfErr result (λ cause. Prints S.Source O.Sink (decode_text reader.input)
+        (decode_last reader.input) reader.most cause source.old source.new out.old out.new) }
+{
+    let mut lines = OutcomeLines {
+        alloc,
+        outcomes: 0,
+        restored: 0,
+        out,
+    };
+    let totals = reader.read(source, &mut lines)?;
+    Ok((totals, lines.restored))
+}
+
+/// The last line.
+pub(crate) fn put_last<O: Sink>(
+    alloc: Global,
+    totals: &Totals,
+    restored: u64,
+    out: &mut O,
+) -> Result<(), Cause>
+    requires { restored ≤ totals.now.frames }
+    ensures put { IfOk result (λ _. Puts O.Sink
+        (summary_line (Summary.Decode totals.now.symbols totals.now.frames restored
+        (totals.now.frames - restored) totals.now.left) totals.now.stop) out.old out.new) }
+    ensures stopped { IfErr result
+        (λ cause. PutStops O.Sink (summary_line
+        (Summary.Decode totals.now.symbols totals.now.frames restored
+        (totals.now.frames - restored) totals.now.left) totals.now.stop) cause out.old out.new) }
+{
+    let mut line = Bytes::new(alloc);
+    let summary = Summary::Decode {
+        symbols: totals.symbols,
+        frames: totals.frames,
+        restored,
+        lost: totals.frames - restored,
+        left: totals.left,
+    };
+    summary_line(alloc, &summary, totals.stop, &mut line)?;
+    put_text(line.as_slice(), out)
+}
+
+fn put_outcomes<S: Source, O: Sink>(
+    alloc: Global,
+    input: Input,
+    most: u64,
+    source: &mut S,
+    out: &mut O,
+) -> Result<Stop, Cause>
+    requires few { most ≤ 2 ^ 48 }
+    ensures all { IfOk result (λ stop. PrintsAll S.Source O.Sink (decode_text input) (decode_last input) most stop
+        source.old source.new out.old out.new) }
+    ensures stopped { IfErr result (λ cause. Prints S.Source O.Sink (decode_text input) (decode_last input) most
+        cause source.old source.new out.old out.new) }
+{
+    let reader = Reader::new(alloc, input, most)?;
+    let (totals, restored) = put_each_outcome(alloc, reader, source, out)?;
+    put_last(alloc, &totals, restored, out)?;
+    Ok(totals.stop)
+}
+
+/// A line for what became of each window or block of the source, and a last line. At most `most` bytes are
+/// taken.
+pub fn decode<S: Source, O: Sink>(
+    alloc: Global,
+    input: Input,
+    most: u64,
+    source: &mut S,
+    out: &mut O,
+) -> Cause
+    requires few { most ≤ 2 ^ 48 }
+    ensures { Prints S.Source O.Sink (decode_text input) (decode_last input) most result source.old source.new
+        out.old out.new }
+{
+    match put_outcomes(alloc, input, most, source, out) {
+        Ok(stop) => cause_at(stop),
+        Err(cause) => cause,
+    }
+}
