@@ -1,4 +1,4 @@
-use Rattle.std.proofs.Common.{rules, ◌≡◌, ◌++◌, ◌∷◌, ⊎_elim}
+use Rattle.std.proofs.Common.{rules, arith, ◌≡◌, ◌++◌, ◌∷◌, ⊎_elim}
 use Rattle.lr_catalog.specs.Files.{shelved_line}
 use Rattle.lr_receiving.specs.Shelving.{Stops}
 use Rattle.lr_causes.specs.declared.cause.Cause.TheVariants.{Failed}
@@ -54,3 +54,6 @@ returns-in-Err-clause-grown_no_more g c =
     rw c.from.ensures
     (not_appended g.D.Disk c.args.placed.now c.args.shelf.now c.append.new.self c.args.disk.now c.append.new.disk
     c.args.out.now c.append.result c.append.ensures c.in-Err.error c.in-Err.ensures.refused)
+
+pub returns-in-Err-clause-shelved : goal.returns-in-Err-clause-shelved
+returns-in-Err-clause-shelved g c = search (rules, arith)
