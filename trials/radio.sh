@@ -1,6 +1,7 @@
 #!/bin/sh
-# The symbols of a test stream, sent through a noisy channel and received again by GNU Radio (Debian's package of that name; without
-# it nothing is tried), give the lines of `receive` and `verify` that they give without it, but for the last line's counts.
+# The symbols of a test stream, sent through a noisy channel and received again by GNU Radio (Debian's package of that
+# name; without it nothing is tried), give the lines of `receive` and `verify` that they give without it, but for the
+# last line's counts.
 # Usage: trials/radio.sh. Needs rt and python3.
 top=$(cd "$(dirname "$0")/.." && pwd)
 for python in python3 /usr/bin/python3 none; do
