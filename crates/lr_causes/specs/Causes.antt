@@ -25,6 +25,7 @@ use Rattle.lr_causes.specs.declared.cause.Refusal.TheVariants.{
   BadChecksum,
   Discarded,
   CannotExport,
+  CannotSend,
 }
 use Rattle.lr_causes.specs.declared.cause.Cause.{Cause}
 use Rattle.lr_causes.specs.declared.cause.Cause.TheVariants.{Done, DoneWith, Usage, Failed, NoMemory, Refused}
@@ -48,6 +49,7 @@ status_of (Refused (Capacity needed capacity)) = 10
 status_of (Refused (NotEmpty size)) = 11
 status_of (Refused BadChecksum) = 12
 status_of (Refused Discarded) = 13
+status_of (Refused CannotSend) = 15
 
 abbrev pub note_line : Note → List ℕ
 note_line (Assembled added skipped uncovered) = codes "assembled " ++ decimal added ++ codes " skipped "
@@ -69,6 +71,7 @@ line_of (Refused (NotEmpty size)) = codes "station: not empty, length " ++ decim
 line_of (Refused BadChecksum) = codes "station: bad checksum\n"
 line_of (Refused Discarded) = codes "station: discarded\n"
 line_of (Refused (CannotExport fault)) = codes "station: cannot export: " ++ word_of fault ++ codes "\n"
+line_of (Refused CannotSend) = codes "station: cannot send: fill\n"
 
 -- the cause of what a call on a shelf answers; a shelf that failed before answers as a disk that fails
 abbrev pub cause_of : ShelfError → Cause

@@ -31,6 +31,8 @@ pub enum Refusal {
     Discarded,
     /// What was found gives no PGM.
     CannotExport(ExportFault),
+    /// The next file is of the channel of fill, which no file is sent on.
+    CannotSend,
 }
 
 /// Why a call ended.
@@ -68,6 +70,7 @@ impl Cause {
             Cause::Refused(Refusal::NotEmpty { .. }) => 11,
             Cause::Refused(Refusal::BadChecksum) => 12,
             Cause::Refused(Refusal::Discarded) => 13,
+            Cause::Refused(Refusal::CannotSend) => 15,
         }
     }
 

@@ -141,6 +141,7 @@ fn refusal_line(refusal: Refusal) -> Line
         Refusal::BadChecksum => fixed_line(b"station: bad checksum\n"),
         Refusal::Discarded => fixed_line(b"station: discarded\n"),
         Refusal::CannotExport(fault) => export_line(fault),
+        Refusal::CannotSend => fixed_line(b"station: cannot send: fill\n"),
     }
 }
 

@@ -4,6 +4,7 @@ pub mod Discarding
 pub mod Exporting
 pub mod Filing
 pub mod Loading
+pub mod Reading
 pub mod Reasons
 pub mod Seeing
 pub mod Taking

@@ -34,6 +34,7 @@ use Rattle.lr_io.specs.Pieces.{PutsPart}
 use Rattle.lr_disk.specs.Reads.{IsUnwritten}
 use Rattle.lr_disk.specs.declared.disk.Disk.{Ghosts as DiskOf}
 use Rattle.lr_disk.proofs.Moments.{unwritten_joined, unwritten_yet}
+use Rattle.std.specs.List.{concat}
 use Rattle.lr_shelf_format.specs.Way.{Way}
 use Rattle.lr_causes.specs.declared.cause.Party.TheVariants.{Source, Disk, Output}
 use Rattle.lr_causes.specs.declared.cause.Refusal.{Refusal}
@@ -62,6 +63,8 @@ use Rattle.lr_causes.specs.Causes.{Counts, done_with}
 use Rattle.lr_causes.specs.Puts.{Puts}
 use Rattle.lr_commands.specs.Runs.{Counted, PutsAll, PutsFirst, PutsRefused, PutsCut, Got, RunsOn, by_count, counts_of}
 use Rattle.lr_commands.specs.Steps.{PutsText, CutsText, TextStops, TakesEntry, EntryStops}
+use Rattle.lr_commands.specs.Read.{AreSeen, HasGathered, IsDone}
+use Rattle.lr_commands.proofs.Reading.{none_seen, one_more_seen, concat-push}
 use Rattle.lr_commands.proofs.Answering.{
   Reaches,
   reaches_first,
@@ -92,6 +95,10 @@ module _ {D O : Type 0} (disk : DiskOf D) (out : SinkOf O) (asked : Asked) (way 
     pub puts : Puts out text o o1
     pub untouched : number ≡ range.from → o1 ≡ o
     pub reaches : disk.tells d → Reaches asked (disk.contents d) way range.from number read text
+    pub texts : List (List ℕ)
+    pub joined : text ≡ concat texts
+    pub all : length read ≡ number - range.from
+    pub seen : disk.tells d → AreSeen asked (disk.contents d) way range.from read texts
 
   pub so_first : (gathers : List Seen → Type 0) → gathers [] → SoFar gathers range.from o
   so_first gathers fresh = record {
@@ -103,6 +110,10 @@ module _ {D O : Type 0} (disk : DiskOf D) (out : SinkOf O) (asked : Asked) (way 
     puts = record { told = λ t. t; put = λ t. sym (append-nil (out.contents o)); kept = refl };
     untouched = λ same. refl;
     reaches = λ t. reaches_first asked (disk.contents d) way range.from;
+    texts = [];
+    joined = refl;
+    all = omega arith;
+    seen = λ t. none_seen asked (disk.contents d) way range.from;
   }
 
   module _ (gathers : List Seen → Type 0) (number : ℕ) (o1 o2 : O) (so : SoFar gathers number o1) where
@@ -175,6 +186,18 @@ module _ {D O : Type 0} (disk : DiskOf D) (out : SinkOf O) (asked : Asked) (way 
         reaches = λ t.
             reaches_more asked (disk.contents d) way range.from number so.read so.text (so.reaches t) takes.seen
             (at_start (Some takes.seen) takes.stands t) takes.puts.text takes.puts.is;
+        texts = so.texts ++ takes.puts.text ∷ [];
+        joined =
+            ap (λ (l : List ℕ). l ++ takes.puts.text) so.joined
+            ∙ sym (concat-push so.texts takes.puts.text);
+        all = omega (arith, so.all, so.after, length-append so.read (takes.seen ∷ []));
+        seen = λ t.
+            let here : number ≡ range.from + length so.read = omega (arith, so.all, so.after) in
+            one_more_seen asked (disk.contents d) way range.from so.read so.texts (so.seen t) takes.seen
+            takes.puts.text
+            (subst (λ n. IsSeen asked.looks (disk.contents d) (entry_at way n) (Some takes.seen)) here
+            (at_start (Some takes.seen) takes.stands t))
+            (subst (λ n. asked.becomes so.read n takes.seen ≡ Ok takes.puts.text) here takes.puts.is);
       }
 
       module _ (allowed : asked.range (length way.entries) ≡ Some range) (t : disk.tells d) where
@@ -371,6 +394,29 @@ module _ {D O : Type 0} (disk : DiskOf D) (out : SinkOf O) (asked : Asked) (way 
         untouched = λ one cuts. absurd cuts;
       }
 
+      -- what all entries gave
+      pub gathered_all : {G : Type 0} (gather : G → List Seen → Type 0) (value : G) → gather value so.read
+          → disk.tells d → out.tells o → (put : List ℕ) × (out.contents o2 ≡ out.contents o ++ put)
+          × HasGathered asked gather (disk.contents d) way put
+      gathered_all gather value knows t told_out = (
+        so.text ++ puts.text,
+        puts.puts.put (so.puts.told told_out) ∙ ap (λ (l : List ℕ). l ++ puts.text) (so.puts.put told_out)
+            ∙ append_assoc (out.contents o) so.text puts.text,
+        record {
+          range = range;
+          allowed = allowed;
+          read = so.read;
+          texts = so.texts;
+          are = so.seen t;
+          all = omega (arith, so.all, inside, all);
+          gathered = value;
+          knows = knows;
+          last = puts.text;
+          last_is = puts.is;
+          is = ap (λ (l : List ℕ). l ++ puts.text) so.joined;
+        },
+      )
+
     -- or it was not
     pub last_stopped : number ≤ range.to → range.to ≤ number → (cause : Cause)
         → TextStops out (asked.last way so.read) cause o1 o2 → (asked.last way so.read ≡ Ok [] → ⊥)
@@ -385,3 +431,24 @@ module _ {D O : Type 0} (disk : DiskOf D) (out : SinkOf O) (asked : Asked) (way 
       got = λ t. last_got disk out asked way range d o gathers number o1 o2 so inside all allowed t cause stops;
       untouched = λ one cuts. absurd (some (one.nothing_last way so.read));
     }
+
+-- ---- what stops a run isn't done
+
+module _ {D O : Type 0} (disk : DiskOf D) (out : SinkOf O) where
+  pub text_undone : (fate : Result (List ℕ) Refusal) (o o' : O) (cause : Cause) → TextStops out fate cause o o'
+      → IsDone cause → ⊥
+  text_undone fate o o' Done stops done = stops
+  text_undone fate o o' (DoneWith note) stops done = stops
+  text_undone fate o o' Usage stops done = done
+  text_undone fate o o' (Failed party) stops done = done
+  text_undone fate o o' NoMemory stops done = done
+  text_undone fate o o' (Refused refusal) stops done = done
+
+  pub entry_undone : (asked : Asked) (way : Way) (read : List Seen) (number : ℕ) (d : D) (o o' : O) (cause : Cause)
+      → EntryStops disk out asked way read number cause d o o' → IsDone cause → ⊥
+  entry_undone asked way read number d o o' Done stops done = stops.stops
+  entry_undone asked way read number d o o' (DoneWith note) stops done = stops.stops
+  entry_undone asked way read number d o o' Usage stops done = done
+  entry_undone asked way read number d o o' (Failed party) stops done = done
+  entry_undone asked way read number d o o' NoMemory stops done = done
+  entry_undone asked way read number d o o' (Refused refusal) stops done = done

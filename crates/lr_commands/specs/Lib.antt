@@ -7,6 +7,7 @@ pub mod Files
 pub mod Gathered
 pub mod Laws
 pub mod List
+pub mod Read
 pub mod Runs
 pub mod Show
 pub mod Steps

@@ -27,7 +27,7 @@ impl Range {
     }
 
     /// The entries from one number up to another, if the first isn't greater and there are enough.
-    pub(crate) fn between(from: u64, to: u64, count: u64) -> Option<Range>
+    pub fn between(from: u64, to: u64, count: u64) -> Option<Range>
         ensures is { result ≡ entries_between from to count }
         ensures ordered { IfSome result (λ range. range.from ≤ range.to) }
         ensures inside { IfSome result (λ range. range.to ≤ count) }

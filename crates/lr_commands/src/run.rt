@@ -1,7 +1,8 @@
 //! The one loop over the entries of a shelf.
-ghost use Rattle.std.specs.Prelude.{◌≡◌, false, [], IfErr, IfOk};
+ghost use Rattle.std.specs.Prelude.{◌≡◌, ◌++◌, ℕ, List, false, [], IfErr, IfOk, OnOk};
 ghost use Rattle.lr_shelf.specs.Kept.{kept_by};
 ghost use Rattle.lr_causes.specs.Causes.{done_with};
+ghost use Rattle.lr_commands.specs.Read.{GathersOver, HasGathered, IsDone};
 ghost use Rattle.lr_commands.specs.Runs.{RunsOn, RunsOver};
 
 use crate::reads::ReadsEntries;
@@ -26,6 +27,11 @@ fn take_entries<C: ReadsEntries, D: Disk, O: Sink>(
         (done_with note) disk.old disk.new out.old out.new) }
     ensures stops { IfErr result (λ cause. RunsOn D.Disk O.Sink (C.asked command.now) (kept_by shelf.old).way cause
         disk.old disk.new out.old out.new) }
+    ensures undone { IfErr result (λ cause. IsDone cause → ⊥) }
+    ensures gathers { OnOk result (D.tells disk.old → O.tells out.old → (put : List ℕ)
+        × (O.contents out.new ≡ O.contents out.old ++ put)
+        × HasGathered (C.asked command.now) (C.gathers command.now) (D.contents disk.old)
+        (kept_by shelf.old).way put) }
 {
     let count = shelf.len();
     let Some(range) = command.range(count) else {
@@ -39,14 +45,18 @@ fn take_entries<C: ReadsEntries, D: Disk, O: Sink>(
 }
 
 /// Runs a command over the shelf on the disk: takes the memory at opening, loads the shelf, compares the numbers, takes
-/// the entries in order, and puts the last text. The first event decides.
+/// the entries in order, and puts the last text. The first event decides. Where it is done, what was gathered is that of
+/// all entries that were read.
 pub fn run_entries<C: ReadsEntries, D: Disk, O: Sink>(
     alloc: Global,
     command: &C,
     disk: &mut D,
     out: &mut O,
 ) -> Cause
-    ensures { RunsOver D.Disk O.Sink (C.asked command.now) result disk.old disk.new out.old out.new }
+    ensures runs { RunsOver D.Disk O.Sink (C.asked command.now) result disk.old disk.new out.old out.new }
+    ensures gathers { IsDone result → D.tells disk.old → O.tells out.old → (put : List ℕ)
+        × (O.contents out.new ≡ O.contents out.old ++ put)
+        × GathersOver (C.asked command.now) (C.gathers command.now) (D.contents disk.old) put }
 {
     let gathered = match command.start(alloc) {
         Ok(gathered) => gathered,

@@ -1,6 +1,7 @@
 -- The symbols of the stream (CCSDS 131.0-B, sections 3.3 and 9.3).
 use Rattle.std.specs.Prelude.{ℕ, ℤ, pos, negsuc, zero, suc, ◌+◌, ◌*◌, ◌==◌, ◌++◌, Bool, true, false, List, [], ◌∷◌}
 use Rattle.std.specs.Prelude.{length, map, drop, replicate}
+use Rattle.std.specs.Int.{cast_unsigned, w8}
 use Rattle.std.specs.List.{range_with_len}
 use Rattle.lr_bits.specs.declared.sizes.TheConstants.{FRAME_SYMBOLS}
 use Rattle.lr_bits.specs.Bits.{bit_of}
@@ -25,6 +26,10 @@ sent_bits start wrong (suc n) = sent_bits start wrong n ++ bits_of_bytes (marked
 abbrev pub level : Bool → ℤ
 level true = pos 100
 level false = negsuc 99
+
+-- each symbol in one byte
+abbrev pub bytes_of_symbols : List ℤ → List ℕ
+bytes_of_symbols symbols = map (cast_unsigned w8) symbols
 
 -- the code of what is sent of the first n frames, by one encoder that begins after six bits of 0
 abbrev pub all_symbols : ℕ → ℕ → ℕ → List ℤ

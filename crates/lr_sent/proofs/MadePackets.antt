@@ -7,7 +7,7 @@ use Rattle.lr_bits.specs.Bits.{field_of}
 use Rattle.lr_bits.specs.Crc.{crc_of}
 use Rattle.lr_bits.proofs.BitsLemmas.{field_of-none, field_of-more}
 use Rattle.lr_vc.proofs.Starts.{length_field}
-use Rattle.lr_make.specs.Packets.{head_of, packet_of}
+use Rattle.lr_make.specs.Packets.{head_of, head_with, packet_of}
 use Rattle.lr_make.specs.Files.{image_body, image_flags, image_packet, text_headers, text_bytes, text_packet}
 use Rattle.lr_make.proofs.Drawn.{length-drawn_bytes, length-text_bytes}
 use Rattle.lr_make.proofs.Heads.{length-head_of, length-image_headers, length-text_headers}
@@ -36,15 +36,15 @@ module _ (apid flags count : ℕ) (body : List ℕ) where
   number = (((0 + apid) * 4 + flags) * 16384 + count) * 65536 + (length body + 1)
 
   byte_two : get_or (packet_of apid flags count body) 2 0 ≡ number / 16777216 % 256
-  unfolding packet_of head_of
+  unfolding packet_of head_with
   byte_two = refl
 
   byte_four : get_or (packet_of apid flags count body) 4 0 ≡ number / 256 % 256
-  unfolding packet_of head_of
+  unfolding packet_of head_with
   byte_four = refl
 
   byte_five : get_or (packet_of apid flags count body) 5 0 ≡ number % 256
-  unfolding packet_of head_of
+  unfolding packet_of head_with
   byte_five = refl
 
   pub tells : length body < 65535 → TellsItsLength (packet_of apid flags count body)

@@ -1,17 +1,15 @@
 -- Blocks that are sent one after another under a line code (CCSDS 131.0-B, sections 3.3, 4 and 9.3), and what a
 -- receiver makes of them.
-use Rattle.std.specs.Prelude.{◌≡◌, ◌<◌, ◌≤◌, ℕ, ℤ, Bool, false, List, [], ◌∷◌, map, All}
+use Rattle.std.specs.Prelude.{◌≡◌, ℕ, ℤ, Bool, false, List, [], ◌∷◌, map, All}
 use Rattle.std.specs.List.{flat_map}
 use Rattle.lr_bits.specs.declared.outcome.Outcome.{Outcome}
 use Rattle.lr_bits.specs.declared.outcome.Outcome.TheVariants.{Restored, Lost}
-use Rattle.lr_rs.specs.Words.{distance}
-use Rattle.lr_block.specs.Blocks.{IsEncoded, word_of}
 use Rattle.lr_block.specs.Outcomes.{IsBlock, outcome_of_block}
-use Rattle.lr_block.specs.Randomiser.{randomised_block}
 use Rattle.lr_conv.specs.Convolution.{code}
 use Rattle.lr_conv.specs.Levels.{levels, six_zeros}
 use Rattle.lr_conv.specs.declared.line.LineCode.{LineCode}
 use Rattle.lr_frame.specs.Outcomes.{outcomes_of_symbols}
+pub use Rattle.lr_make.specs.Received.{IsSentFor}
 use Rattle.lr_make.specs.Symbols.{bits_of_bytes, level, marked_block}
 
 -- the bits of what is sent of these blocks: each of them with the marker in front of it
@@ -21,14 +19,6 @@ bits_of_blocks blocks = flat_map (λ block. bits_of_bytes (marked_block block)) 
 -- their symbols under a line code, by one encoder that begins after six levels 0
 unfoldable pub symbols_of_blocks : LineCode → List (List ℕ) → List ℤ
 symbols_of_blocks line blocks = map level (code line six_zeros (levels line false (bits_of_blocks blocks)))
-
--- A block is sent for a frame: without the randomiser each of its words differs in at most sixteen places from that of
--- the frame's encoded block.
-pub record IsSentFor (frame block : List ℕ) : Type 0 where
-  pub encoded : List ℕ
-  pub is : IsEncoded frame encoded
-  pub whole : IsBlock block
-  pub near : (k : ℕ) → k < 4 → distance 255 (word_of (randomised_block block) k) (word_of encoded k) ≤ 16
 
 -- one block is sent for each frame, in their order
 abbrev pub AreSentFor : List (List ℕ) → List (List ℕ) → Type 0

@@ -3,15 +3,15 @@ use Rattle.lr_causes.specs.Causes.{cause_of, done_with}
 use Rattle.lr_commands.proofs.Loading.{not_started, not_loaded, loaded, over}
 use Rattle.lr_commands.proofs.run.run_entries.Goals as goal
 
-pub returns-in-Err : goal.returns-in-Err
-returns-in-Err g c =
+pub returns-in-Err-clause-runs : goal.returns-in-Err-clause-runs
+returns-in-Err-clause-runs g c =
     let asked = g.C.ReadsEntries.asked c.args.command.now in
     rw c.from.ensures
     (over g.D.Disk g.O.Sink asked c.args.disk.now c.args.disk.now c.args.out.now c.args.out.now NoMemory
     (not_started g.D.Disk g.O.Sink asked g.met.D.Disk.only_now c.args.disk.now c.args.out.now))
 
-pub returns-in-Err-load : goal.returns-in-Err-load
-returns-in-Err-load g c =
+pub returns-in-Err-load-clause-runs : goal.returns-in-Err-load-clause-runs
+returns-in-Err-load-clause-runs g c =
     let asked = g.C.ReadsEntries.asked c.args.command.now in
     rw c.from-in-Err-load.ensures
     (over g.D.Disk g.O.Sink asked c.args.disk.now c.load.new.disk c.args.out.now c.args.out.now
@@ -19,8 +19,8 @@ returns-in-Err-load g c =
     (not_loaded g.D.Disk g.O.Sink asked c.args.disk.now c.load.new.disk c.args.out.now c.load.result c.load.ensures
     c.in-Err-load.error c.in-Err-load.is c.in-Err-load.ensures.refused))
 
-pub returns-in-Ok-take_entries : goal.returns-in-Ok-take_entries
-returns-in-Ok-take_entries g c =
+pub returns-in-Ok-take_entries-clause-runs : goal.returns-in-Ok-take_entries-clause-runs
+returns-in-Ok-take_entries-clause-runs g c =
     let asked = g.C.ReadsEntries.asked c.args.command.now in
     let note = c.in-Ok-take_entries.note in
     rw c.done_with.ensures
@@ -30,8 +30,8 @@ returns-in-Ok-take_entries g c =
     c.in-Ok-load.shelf c.in-Ok-load.is c.take_entries.new.disk c.take_entries.new.out (done_with note)
     c.in-Ok-take_entries.ensures.takes))
 
-pub returns : goal.returns
-returns g c =
+pub returns-clause-runs : goal.returns-clause-runs
+returns-clause-runs g c =
     let asked = g.C.ReadsEntries.asked c.args.command.now in
     over g.D.Disk g.O.Sink asked c.args.disk.now c.take_entries.new.disk c.args.out.now c.take_entries.new.out
     c.in-Err-take_entries.cause

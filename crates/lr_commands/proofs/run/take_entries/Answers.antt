@@ -3,8 +3,9 @@ use Rattle.std.proofs.lemmas.Result.{err_from_is_err_and}
 use Rattle.lr_disk.proofs.Moments.{unwritten_joined, unwritten_yet}
 use Rattle.lr_shelf.specs.Kept.{Kept, kept_by}
 use Rattle.lr_commands.specs.Steps.{PutsText, TextStops, TakesEntry, EntryStops}
-use Rattle.lr_commands.proofs.Texts.{on_noted, on_sure}
+use Rattle.lr_commands.proofs.Texts.{on_err, on_noted, on_ok, on_sure}
 use Rattle.lr_commands.proofs.Taking.{so_first, so_more, not_allowed, entry_stopped, last_taken, last_stopped}
+use Rattle.lr_commands.proofs.Taking.{entry_undone, gathered_all, text_undone}
 use Rattle.lr_commands.proofs.run.take_entries.Goals as goal
 
 pub returns-in_default-clause-stops : goal.returns-in_default-clause-stops
@@ -117,3 +118,41 @@ returns-clause-stops g c =
     c.loop-number.out c.last.new.out inv.so_far inv.told inv.reads inv.disk_count
     (c.loop-number.auto.number-end c.in-Some.ensures.ordered) c.loop-number-test.false)
     stops sure
+
+pub returns-in_err-entry-clause-undone : goal.returns-in_err-entry-clause-undone
+returns-in_err-entry-clause-undone g c =
+    let inv = c.loop-number.invariant in
+    let p = err_from_is_err_and c.from_residual.result c.from_residual.ensures.1 in
+    let asked = g.C.ReadsEntries.asked c.args.command.now in
+    let e = c.in_err-entry.ensures in
+    rw (p.1, p.2)
+    (entry_undone g.D.Disk g.O.Sink asked (kept_by c.loop-number.shelf).way inv.so_far.read c.loop-number.number
+    c.loop-number.disk c.loop-number.out c.entry.new.out c.in_err-entry.field-0.0
+    (e.stops inv.so_far.read inv.so_far.gathered))
+
+pub returns-clause-undone : goal.returns-clause-undone
+returns-clause-undone g c =
+    let inv = c.loop-number.invariant in
+    let asked = g.C.ReadsEntries.asked c.args.command.now in
+    on_err c.last.result
+    (text_undone g.D.Disk g.O.Sink (asked.last (kept_by c.loop-number.shelf).way inv.so_far.read) c.loop-number.out
+    c.last.new.out) (c.last.ensures.stops inv.so_far.read inv.so_far.gathered)
+
+pub returns-clause-gathers : goal.returns-clause-gathers
+returns-clause-gathers g c =
+    let inv = c.loop-number.invariant in
+    let asked = g.C.ReadsEntries.asked c.args.command.now in
+    let way = (kept_by c.args.shelf.now).way in
+    let allowed = ap asked.range (sym c.len-count.ensures) ∙ sym c.range.ensures.is ∙ c.in-Some.is in
+    let takes =
+    subst
+    (λ (k : Kept). OnOk c.last.result
+    (PutsText g.O.Sink (asked.last k.way inv.so_far.read) c.loop-number.out c.last.new.out)) inv.kept
+    (c.last.ensures.takes inv.so_far.read inv.so_far.gathered) in
+    on_ok c.last.result
+    (λ puts. gathered_all g.D.Disk g.O.Sink asked way c.args.disk.now c.args.out.now c.in-Some.range allowed
+    (g.C.ReadsEntries.gathers c.args.command.now c.loop-number.gathered) c.loop-number.number c.loop-number.disk
+    c.loop-number.out c.last.new.out inv.so_far inv.told inv.reads inv.disk_count
+    (c.loop-number.auto.number-end c.in-Some.ensures.ordered) c.loop-number-test.false puts
+    (g.C.ReadsEntries.gathers c.args.command.now) c.loop-number.gathered inv.so_far.gathered)
+    takes

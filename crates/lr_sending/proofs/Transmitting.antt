@@ -1,0 +1,235 @@
+-- What becomes of one file, and what all files put.
+use Rattle.std.proofs.Common.{◌≡◌, ℕ, zero, suc, ◌+◌, ◌<◌, ◌≤◌, ◌&&◌, Bool, true, false, cond, nat_le}
+use Rattle.std.proofs.Common.{Option, Some, None, Result, Ok, Err, IfErr, OnErr, List, [], ◌∷◌, ◌++◌, length}
+use Rattle.std.proofs.Common.{take, drop, get_or, slice_get, refl, sym, ap, ◌∙◌, subst, arith, append-nil}
+use Rattle.std.proofs.Common.{eq-eqb, ne_eqb, inl, inr, drop_at, add-one}
+use Rattle.std.specs.List.{concat}
+use Rattle.std.proofs.lemmas.Bool.{cases_eq}
+use Rattle.std.proofs.lemmas.List.{length-map, length-take-le, map-append, take_all, take_more}
+use Rattle.std.proofs.lemmas.Option.{slice_get-get_or}
+use Rattle.lr_bits.specs.File.{File}
+use Rattle.lr_conv.specs.declared.line.LineCode.{LineCode}
+use Rattle.lr_io.specs.declared.sink.Sink.{Ghosts as SinkOf}
+use Rattle.lr_sent.specs.Sent.{AreSentFor, bits_of_blocks, symbols_of_blocks}
+use Rattle.lr_shelf_format.specs.Way.{Way}
+use Rattle.lr_causes.specs.declared.cause.Cause.{Cause}
+use Rattle.lr_causes.specs.declared.cause.Cause.TheVariants.{Failed}
+use Rattle.lr_causes.specs.declared.cause.Party.TheVariants.{Output}
+use Rattle.lr_causes.specs.declared.cause.Refusal.TheVariants.{CannotSend, BadChecksum}
+use Rattle.lr_causes.specs.Puts.{Puts, PutFails}
+use Rattle.lr_commands.specs.declared.opened.Opened.{Opened}
+use Rattle.lr_commands.specs.declared.range.Range.{Range}
+use Rattle.lr_commands.specs.Asked.{IsSeen, Seen, Whole, Wrong, Absent, entry_at}
+use Rattle.lr_commands.specs.Files.{files_of, no_image}
+use Rattle.lr_commands.specs.Read.{AreSeen, GathersOver}
+use Rattle.lr_commands.specs.Steps.{PutsText, TextStops}
+use Rattle.lr_commands.proofs.Filing.{files_of-absent, files_of-whole}
+use Rattle.lr_commands.proofs.Reading.{concat-push}
+use Rattle.lr_uplink.specs.declared.uplink.Uplink.{Uplink}
+use Rattle.lr_uplink.specs.Sent.{file_frames, sent}
+use Rattle.lr_uplink.specs.Standing.{StandsFor, with_file}
+use Rattle.lr_uplink.proofs.Receiving.{sent_files_are_received}
+use Rattle.lr_uplink.proofs.UnderWay.{frames_stay, sent-more}
+use Rattle.lr_sending.specs.Received.{IsTransmitted}
+use Rattle.lr_sending.specs.Standing.{HasSent, IsAt, history_at, rest_bytes}
+use Rattle.lr_sending.specs.Transmit.{added_bytes, becomes_sent, block_for, blocks_for, files_read, frame_bytes, sent_bytes, transmit_asked}
+use Rattle.lr_sending.proofs.Sending.{frames-front}
+
+ok_same : {A B : Type 0} (a b : A) → ◌≡◌ {A = Result A B} (Ok a) (Ok b) → a ≡ b
+ok_same a b is = cc (is)
+
+err_or_ok : {A B : Type 0} (e : B) (a : A) → ◌≡◌ {A = Result A B} (Err e) (Ok a) → ⊥
+err_or_ok e a is = cc (is)
+
+-- ---- one file
+
+module _ (line : LineCode) (wrong : ℕ) (files : List File) (file : File) where
+  pub fate_sent : (file.vc ≡ 63 → ⊥) → becomes_sent line wrong files file ≡ Ok (added_bytes line wrong files file)
+  fate_sent other =
+      ap (λ b. cond b (Err CannotSend) (Ok (added_bytes line wrong files file))) (ne_eqb file.vc 63 other)
+
+  pub fate_fill : file.vc ≡ 63 → becomes_sent line wrong files file ≡ Err CannotSend
+  fate_fill fill =
+      ap (λ b. cond b (Err CannotSend) (Ok (added_bytes line wrong files file))) (eq-eqb file.vc 63 fill)
+
+  -- where it became a text, that is what it adds
+  pub added_is : (text : List ℕ) → becomes_sent line wrong files file ≡ Ok text
+      → text ≡ added_bytes line wrong files file
+  added_is text is = elim (cases_eq file.vc 63) [
+    | inl fill ↦ absurd (err_or_ok CannotSend text (sym (fate_fill fill) ∙ is))
+    | inr other ↦ ok_same text (added_bytes line wrong files file) (sym is ∙ fate_sent other)
+  ]
+
+  abbrev all : ℕ
+  all = length (sent files)
+
+  front : take all (sent (files ++ file ∷ [])) ≡ sent files
+  front = frames_stay files file all (omega arith) ∙ take_all all (sent files) (omega arith)
+
+  -- a file that was loaded is the next to be sent
+  pub loaded_at : (uplink : Uplink) → StandsFor uplink line (with_file (history_at wrong files all) file)
+      → IsAt line wrong (files ++ file ∷ []) all uplink
+  loaded_at uplink stands =
+      let same : take all (sent files) ≡ take all (sent (files ++ file ∷ [])) =
+      sym (frames_stay files file all (omega arith)) in
+      subst (λ (fs : List (List ℕ)). StandsFor uplink line (record {
+        files = files ++ file ∷ [];
+        given = all;
+        blocks = blocks_for wrong fs;
+      })) same stands
+
+  pub rest_is : rest_bytes line wrong (files ++ file ∷ []) all ≡ added_bytes line wrong files file
+  rest_is =
+      ap (λ fs. drop (length (frame_bytes line wrong fs)) (sent_bytes line wrong (files ++ file ∷ []))) front
+
+  -- what it adds stands after what the files before it are sent as
+  pub adds : sent_bytes line wrong (files ++ file ∷ []) ≡ sent_bytes line wrong files ++ added_bytes line wrong files file
+  adds =
+      let more = frames-front line wrong (sent files) (file_frames files file) in
+      let whole : sent_bytes line wrong (files ++ file ∷ []) ≡ sent_bytes line wrong files ++ more.0 =
+      ap (frame_bytes line wrong) (sent-more files file) ∙ more.1 in
+      let rest : added_bytes line wrong files file ≡ more.0 =
+      ap (drop (length (sent_bytes line wrong files))) whole
+      ∙ drop_at (sent_bytes line wrong files) more.0 (length (sent_bytes line wrong files)) refl in
+      whole ∙ ap (λ l. sent_bytes line wrong files ++ l) (sym rest)
+
+  module _ {O : Type 0} (out : SinkOf O) (o o' : O) where
+    pub puts_file : (file.vc ≡ 63 → ⊥) → Puts out (rest_bytes line wrong (files ++ file ∷ []) all) o o'
+        → PutsText out (becomes_sent line wrong files file) o o'
+    puts_file other puts = record {
+      text = added_bytes line wrong files file;
+      is = fate_sent other;
+      puts = subst (λ l. Puts out l o o') rest_is puts;
+    }
+
+    pub stops_file : (file.vc ≡ 63 → ⊥) → (cause : Cause) → cause ≡ Failed Output
+        → PutFails out (rest_bytes line wrong (files ++ file ∷ []) all) o o'
+        → 0 < length (rest_bytes line wrong (files ++ file ∷ []) all)
+        → TextStops out (becomes_sent line wrong files file) cause o o'
+    stops_file other cause is fails some =
+        subst (λ c. TextStops out (becomes_sent line wrong files file) c o o') (sym is) (record {
+          text = added_bytes line wrong files file;
+          is = fate_sent other;
+          some = subst (λ l. 0 < length l) rest_is some;
+          fails = subst (λ l. PutFails out l o o') rest_is fails;
+        })
+
+-- both of a refusal
+pub on_stop : {T : Type 0} {P Q : Cause → Type 0} {A B : Type 0} (r : Result T Cause) → ((c : Cause) → P c → A → B → Q c)
+    → IfErr r P → OnErr r A → OnErr r B → IfErr r Q
+on_stop (Ok v) f p a b = tt
+on_stop (Err c) f p a b = f c p a b
+
+-- ---- all files
+
+nothing_coded : (marks inverted : Bool) (wrong : ℕ)
+    → sent_bytes (record { marks = marks; inverted = inverted }) wrong [] ≡ []
+unfolding frame_bytes sent symbols_of_blocks bits_of_blocks
+nothing_coded true inverted wrong = refl
+nothing_coded false inverted wrong = refl
+
+nothing_sent : (line : LineCode) (wrong : ℕ) → sent_bytes line wrong [] ≡ []
+nothing_sent line wrong = nothing_coded line.marks line.inverted wrong
+
+module _ (line : LineCode) (wrong from : ℕ) (to : ℕ) (bytes : List ℕ) (way : Way) (start : ℕ) (read : List Seen)
+    (texts : List (List ℕ)) (are : AreSeen (transmit_asked from to wrong line) bytes way start read texts) where
+  -- the files of the first entries
+  abbrev first_files : ℕ → List File
+  first_files n = files_read (files_of (take n read))
+
+  abbrev first_texts : ℕ → List ℕ
+  first_texts n = concat (take n texts)
+
+  -- one entry more, by what was seen there
+  one_more : (n : ℕ) (seen : Seen) → slice_get read n ≡ Some seen
+      → take (n + 1) read ≡ take n read ++ seen ∷ [] → first_texts n ≡ sent_bytes line wrong (first_files n)
+      → first_texts n ++ get_or texts n [] ≡ sent_bytes line wrong (first_files (n + 1))
+  one_more n (Whole opened) is more so =
+      let before = first_files n in
+      let file = opened.stored.file in
+      let text : get_or texts n [] ≡ added_bytes line wrong before file =
+      added_is line wrong before file (get_or texts n []) (are.become n (Whole opened) is) in
+      let now : first_files (n + 1) ≡ before ++ file ∷ [] =
+      ap (λ l. files_read (files_of l)) more ∙ ap files_read (files_of-whole (take n read) opened)
+      ∙ map-append (λ (o : Opened). o.stored.file) (files_of (take n read)) (opened ∷ []) in
+      ap (λ l. l ++ get_or texts n []) so ∙ ap (λ l. sent_bytes line wrong before ++ l) text
+      ∙ sym (adds line wrong before file) ∙ ap (sent_bytes line wrong) (sym now)
+  one_more n (Wrong stored computed) is more so =
+      absurd (err_or_ok BadChecksum (get_or texts n []) (are.become n (Wrong stored computed) is))
+  one_more n Absent is more so =
+      let none : get_or texts n [] ≡ [] = sym (ok_same [] (get_or texts n []) (are.become n Absent is)) in
+      let now : first_files (n + 1) ≡ first_files n =
+      ap (λ l. files_read (files_of l)) more ∙ ap files_read (files_of-absent (take n read)) in
+      ap (λ l. first_texts n ++ l) none ∙ append-nil (first_texts n) ∙ so ∙ ap (sent_bytes line wrong) (sym now)
+
+  sums : (n : ℕ) → n ≤ length read → first_texts n ≡ sent_bytes line wrong (first_files n)
+  sums zero inside = sym (nothing_sent line wrong)
+  sums (suc n) inside =
+      let seen : Seen = get_or read n Absent in
+      let is : slice_get read n ≡ Some seen = slice_get-get_or read n Absent (omega (arith, inside)) in
+      let more : take (n + 1) read ≡ take n read ++ seen ∷ [] = take_more read n Absent (omega (arith, inside)) in
+      let joined : first_texts (n + 1) ≡ first_texts n ++ get_or texts n [] =
+      ap concat (take_more texts n [] (omega (arith, inside, are.count)))
+      ∙ concat-push (take n texts) (get_or texts n []) in
+      ap first_texts (sym (add-one n)) ∙ joined ∙ one_more n seen is more (sums n (omega (arith, inside)))
+      ∙ ap (λ k. sent_bytes line wrong (first_files k)) (add-one n)
+
+  pub all_texts : concat texts ≡ sent_bytes line wrong (files_read (files_of read))
+  all_texts =
+      let n = length read in
+      ap concat (sym (take_all n texts (omega (arith, are.count)))) ∙ sums n (omega arith)
+      ∙ ap (λ l. sent_bytes line wrong (files_read (files_of l))) (take_all n read (omega arith))
+
+  pub none_wrong : (i stored computed : ℕ) → slice_get read i ≡ Some (Wrong stored computed) → ⊥
+  none_wrong i stored computed is =
+      err_or_ok BadChecksum (get_or texts i []) (are.become i (Wrong stored computed) is)
+
+-- the range is the one that was asked for
+some_range : (from to count : ℕ) (b : Bool) (range : Range)
+    → cond b (Some (record { from = from; to = to })) None ≡ Some range
+    → (range.from ≡ from) × (range.to ≡ to)
+some_range from to count true range is =
+    let same : ◌≡◌ {A = Range} (record { from = from; to = to }) range = cc (is) in
+    (ap (λ (r : Range). r.from) (sym same), ap (λ (r : Range). r.to) (sym same))
+some_range from to count false range is = absurd (no_range is) where
+  no_range : ◌≡◌ {A = Option Range} None (Some range) → ⊥
+  no_range same = cc (same)
+
+pub transmitted : (line : LineCode) (from to wrong : ℕ) (bytes put : List ℕ)
+    → GathersOver (transmit_asked from to wrong line)
+    (λ (uplink : Uplink) read. HasSent line wrong (files_read (files_of read)) uplink) bytes put
+    → IsTransmitted line from to wrong bytes put
+transmitted line from to wrong bytes put over =
+    let has = over.has in
+    let way = over.way in
+    let files : List File = files_read (files_of has.read) in
+    let between = some_range from to (length way.entries) (nat_le from to && nat_le to (length way.entries)) has.range
+    has.allowed in
+    let start : has.range.from ≡ from = between.0 in
+    let none : has.last ≡ [] = sym (ok_same [] has.last has.last_is) in
+    let n : ℕ = length (sent files) in
+    let same : take n (sent files) ≡ sent files = take_all n (sent files) (omega arith) in
+    let blocks = blocks_for wrong (take n (sent files)) in
+    let whole : take (length blocks) (sent files) ≡ sent files =
+    ap (λ k. take k (sent files)) (length-map (take n (sent files)) (block_for wrong)
+    ∙ length-take-le n (sent files) (omega arith)) ∙ same in
+    let sent_for : AreSentFor (sent files) (blocks_for wrong (sent files)) =
+    subst (λ fs. AreSentFor fs (blocks_for wrong (sent files))) whole
+    (subst (λ fs. AreSentFor (take (length blocks) (sent files)) (blocks_for wrong fs)) same has.knows.blocks) in
+    record {
+      way = way;
+      is_way = over.is_way;
+      files = files;
+      are = record {
+        read = has.read;
+        all = omega (arith, has.all, between.0, between.1);
+        stand = λ i h.
+            subst (λ k. IsSeen no_image bytes (entry_at way (k + i)) (slice_get has.read i)) start
+            (has.are.stand i h);
+        sound = none_wrong line wrong from to bytes way has.range.from has.read has.texts has.are;
+        are = refl;
+      };
+      sent_as = has.is ∙ ap (λ l. concat has.texts ++ l) none ∙ append-nil (concat has.texts)
+          ∙ all_texts line wrong from to bytes way has.range.from has.read has.texts has.are;
+      received = sent_files_are_received line files (blocks_for wrong (sent files)) has.knows.files sent_for;
+    }

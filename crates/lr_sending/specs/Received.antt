@@ -1,0 +1,28 @@
+-- What `transmit` put once it is done, and what a receiver makes of it.
+use Rattle.std.specs.Prelude.{◌≡◌, ◌<◌, ◌+◌, ◌-◌, ℕ, Some, List, length, slice_get}
+use Rattle.lr_bits.specs.File.{File}
+use Rattle.lr_conv.specs.declared.line.LineCode.{LineCode}
+use Rattle.lr_frame.specs.Outcomes.{outcomes_of_symbols}
+use Rattle.lr_shelf_format.specs.Way.{Way, IsWay}
+use Rattle.lr_uplink.specs.Received.{AreFilesOf}
+use Rattle.lr_uplink.specs.Sent.{sent}
+use Rattle.lr_commands.specs.Asked.{IsSeen, Seen, Wrong, entry_at}
+use Rattle.lr_commands.specs.Files.{files_of, no_image}
+use Rattle.lr_sending.specs.Transmit.{files_read, sent_bytes, symbols_for}
+
+-- these are the files of the entries from one number up to another, without those that are gone; each one is sound
+pub record AreFilesBetween (bytes : List ℕ) (way : Way) (from to : ℕ) (files : List File) : Type 0 where
+  pub read : List Seen
+  pub all : length read ≡ to - from
+  pub stand : (i : ℕ) → i < length read → IsSeen no_image bytes (entry_at way (from + i)) (slice_get read i)
+  pub sound : (i stored computed : ℕ) → slice_get read i ≡ Some (Wrong stored computed) → ⊥
+  pub are : files ≡ files_read (files_of read)
+
+-- what was put is what these files are sent as, and a receiver of it finds them
+pub record IsTransmitted (line : LineCode) (from to wrong : ℕ) (bytes put : List ℕ) : Type 0 where
+  pub way : Way
+  pub is_way : IsWay bytes way
+  pub files : List File
+  pub are : AreFilesBetween bytes way from to files
+  pub sent_as : put ≡ sent_bytes line wrong files
+  pub received : AreFilesOf (outcomes_of_symbols line (symbols_for line wrong (sent files))) files

@@ -1,0 +1,11 @@
+pub mod Coding
+pub mod FilePackets
+pub mod Flowing
+pub mod Joining
+pub mod Parts
+pub mod Places
+pub mod Receiving
+pub mod UnderWay
+pub mod Verdicts
+pub mod Walking
+pub mod Zones

@@ -1,0 +1,17 @@
+use Rattle.std.proofs.Common.{◌≡◌, ◌*◌, ◌++◌, Bool, List, length, map, take, drop}
+use Rattle.lr_conv.specs.LineEncoder.{StandsFor}
+use Rattle.lr_conv.specs.declared.line.LineCode.{LineCode}
+use Rattle.lr_make.specs.Symbols.{level}
+use Rattle.lr_make.proofs.Coding.{first_bits}
+use Rattle.lr_uplink.proofs.Coding.{line_code}
+use Rattle.lr_uplink.proofs.symbols.put_symbols.Given as goal
+
+abbrev pub invariant-loop-place : goal.invariant-loop-place
+invariant-loop-place l = record {
+  long : length l.symbols ≡ 16384;
+  code : (line : LineCode) (bits : List Bool) → StandsFor l.initial.encoder line bits →
+      take (2 * l.place) l.symbols ≡ map level (drop (2 * length bits)
+      (line_code line (bits ++ first_bits l.bytes l.place)));
+  stands : (line : LineCode) (bits : List Bool) → StandsFor l.initial.encoder line bits →
+      StandsFor l.encoder line (bits ++ first_bits l.bytes l.place);
+}

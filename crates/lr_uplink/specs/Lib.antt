@@ -1,0 +1,6 @@
+pub mod Packets
+pub mod Pieces
+pub mod Progress
+pub mod Received
+pub mod Sent
+pub mod Standing
