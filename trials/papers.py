@@ -53,11 +53,12 @@ def is_path(token):
 def stands(token):
     """Whether a file or folder of this name is there: from the top, beside the documents, or in a crate."""
     token = token.rstrip("/")
-    for start in ("", "docs/", "crates/", "crates/*/", "crates/*/src/", "crates/*/specs/", "crates/*/proofs/", "trials/", "bench/", "reference/"):
+    for start in ("", "docs/", "crates/", "crates/*/", "crates/*/src/", "crates/*/specs/", "crates/*/proofs/", "trials/", "bench/", "reference/", "examples/"):
         for end in ("", ".antt", ".rt"):
             if glob.glob(start + token + end):
                 return True
-    return token.startswith(("/", "..")) or "out/" in token
+    # (what is made, what lies elsewhere, and names with a word in capitals, which stands for others)
+    return token.startswith(("/", "..")) or "out/" in token or re.search(r"\b[A-Z]{4,}\b", token.replace("README", "")) is not None
 
 
 def is_defined(module, name):
@@ -73,13 +74,11 @@ def look_at(document):
         place = f"{document}: `{token}`"
         defined = re.fullmatch(r"([A-Z]\w*)\.([A-Za-z_][\w-]*)", token)
         if is_path(token):
-            if not stands(token) and "/" not in token.strip("/").replace("specs/", "") or ("/" in token and not stands(token) and not re.search(r"\s", token)):
+            if not stands(token):
                 faults.append(f"{place} is no file here")
         elif defined and defined[1] in SPECS:
-            if not is_defined(defined[1], defined[2]) and not defined[2] in WORDS:
+            if not is_defined(defined[1], defined[2]):
                 faults.append(f"{place}: {defined[2]} is defined in no specs/{defined[1]}")
-            elif not is_defined(defined[1], defined[2]) and not any(re.search(rf"\b{re.escape(defined[2])}\b", it) for it in SPECS[defined[1]]):
-                faults.append(f"{place}: specs/{defined[1]} doesn't name {defined[2]}")
         else:
             for word in re.findall(r"[A-Za-z_][A-Za-z0-9_]*", re.sub(r"\\x\w\w", "", token)):
                 # (`.._of` stands for each name that ends so)
