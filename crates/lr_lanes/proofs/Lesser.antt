@@ -1,6 +1,6 @@
 -- The lesser of two vectors lane by lane, and the word of where it is the second, at any width of lanes.
-use Rattle.std.proofs.Common.{arith, sym, subst, ◌∙◌, ap, refl, ◌≡◌, ◌<◌, ◌≤◌, ◌-◌, ◌%◌, ◌^◌, ℕ, Bool, true, false, List}
-use Rattle.std.proofs.Common.{cond, min, nat_eq, length, get_or, ltb}
+use Rattle.std.proofs.Common.{arith, sym, subst, ◌∙◌, ap, refl, ◌≡◌, ◌<◌, ◌≤◌, ◌-◌, ◌%◌, ◌^◌, ℕ, Bool, true, false}
+use Rattle.std.proofs.Common.{cond, min, nat_eq, length, get_or, ltb, List}
 use Rattle.std.proofs.lemmas.Simd.{tops_compared, length-sel_l, get_or-sel_l, length-zip2, get_or-zip2, mask_l-mod}
 use Rattle.std.proofs.lemmas.Simd.{mask_l-lt, bit_mask_l}
 use Rattle.std.proofs.lemmas.Bool.{ltb-true, ltb-false}

@@ -28,7 +28,7 @@ lt_shifted b x y =
     (λ (above : y ≤ x). le-ltb (b + x) (b + y) (omega arith) ∙ sym (le-ltb x y above))
     (order x y)
 
--- two states of true costs are never further apart than six steps
+-- two states are never further apart than six steps cost
 pub near_lanes : (line : LineCode) (w : List ℤ) (i base : ℕ) (lanes words : List ℕ) → length lanes ≡ 64 → 6 ≤ i →
     Forward line w i (costs_from base lanes) words → (s t : ℕ) → s < 64 → t < 64 →
     slice_index lanes s ≤ slice_index lanes t + 3048
@@ -103,7 +103,7 @@ same_costs line w i old new words f same = record {
   most = f.most;
 }
 
--- what was taken off and what is left are what a path costs
+-- what was taken off and what is left are what a path costs: 4,148,329 for another start at most, and 508 a step
 pub base_bound : (line : LineCode) (w : List ℤ) (i base : ℕ) (lanes words : List ℕ) → length lanes ≡ 64 →
     Forward line w i (costs_from base lanes) words → base + slice_index lanes 0 ≤ 4148329 + 508 * i
 base_bound line w i base lanes words size f =

@@ -1,4 +1,4 @@
--- How far the least costs of two states are from one another.
+-- How far the least costs of two states are from one another: at most six steps of 508, which is 3,048.
 use Rattle.std.proofs.Common.{arith, subst, ◌≡◌, ◌+◌, ◌-◌, ◌*◌, ◌/◌, ◌%◌, ◌<◌, ◌≤◌, ℕ, suc, ⊎_elim}
 use Rattle.std.proofs.str.Laws.{order}
 use Rattle.lr_trellis.specs.Trellis.{least_cost}

@@ -8,11 +8,11 @@
 //!
 //! `nearest_lanes` has lanes of 32 bits. A path of 8,166 steps costs at most 4,148,328, so no sum passes 2^24.
 //!
-//! `nearest_narrow_lanes` has lanes of sixteen bits, so a vector has twice as many states, and it is the faster one. Its
-//! first six steps are those of `nearest_lanes`. After them every state has been reached from every other one, so the
-//! costs of two states differ by at most 3,048. From there on a lane holds the cost of its state less a number that is
-//! the same for all lanes, so a comparison of two lanes is that of their costs. Where the first lane is near the end of
-//! its sixteen bits, all lanes are lowered, and the number grows by as much.
+//! `nearest_narrow_lanes` has lanes of sixteen bits, so a vector has twice as many states, and it is the faster one.
+//! Its first six steps are those of `nearest_lanes`. After them every state has been reached from every other one, so
+//! the costs of two states differ by at most 3,048. From there on a lane holds the cost of its state less a number that
+//! is the same for all lanes, so a comparison of two lanes is that of their costs. Where the first lane is near the end
+//! of its sixteen bits, all lanes are lowered, and the number grows by as much.
 //!
 //! The two have one contract. The first is the plainer text, and what it answers is compared with the second's.
 #![tactic(auto)]

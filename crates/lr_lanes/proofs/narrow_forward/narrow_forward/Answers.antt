@@ -2,7 +2,8 @@ use Rattle.std.proofs.Common.{arith, ap, ◌∙◌, ◌≡◌, ◌+◌, ◌++◌
 use Rattle.std.proofs.Common.{slice_index, length-append}
 use Rattle.lr_trellis.proofs.Forward.{all, from_decided}
 use Rattle.lr_lanes.proofs.Merging.{low_at, high_at, both_from}
-use Rattle.lr_lanes.proofs.Narrow.{slice_index-costs_from, costs_from, near_lanes, one_more, same_costs, base_bound, first_costs}
+use Rattle.lr_lanes.proofs.Narrow.{slice_index-costs_from, costs_from, near_lanes, one_more, same_costs, base_bound}
+use Rattle.lr_lanes.proofs.Narrow.{first_costs}
 use Rattle.lr_lanes.proofs.narrow_forward.narrow_forward.Goals as goal
 
 both_size : (low high : List ℕ) → length low ≡ 32 → length high ≡ 32 → length (low ++ high) ≡ 64
@@ -117,8 +118,8 @@ returns c =
       least = λ s l. c.all_costs.ensures s l
           ∙ omega (
             arith,
-            both_from c.loop-i.base c.state_costs.result c.state_costs-2.result c.loop-i.low c.loop-i.high c.state_costs.ensures.size
-                c.loop-i.invariant.low_size c.state_costs.ensures.value c.state_costs-2.ensures.value s l,
+            both_from c.loop-i.base c.state_costs.result c.state_costs-2.result c.loop-i.low c.loop-i.high
+                c.state_costs.ensures.size c.loop-i.invariant.low_size c.state_costs.ensures.value c.state_costs-2.ensures.value s l,
             slice_index-costs_from c.loop-i.base (c.loop-i.low ++ c.loop-i.high) s (omega (
               arith,
               l,

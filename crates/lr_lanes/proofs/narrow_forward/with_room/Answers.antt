@@ -1,4 +1,5 @@
 use Rattle.std.proofs.Common.{arith, ◌+◌, ◌-◌, get_or}
+use Rattle.lr_lanes.specs.declared.narrow_forward.TheConstants.{SPREAD}
 use Rattle.lr_lanes.proofs.Merging.{low_at, high_at, both_from}
 use Rattle.lr_lanes.proofs.narrow_forward.with_room.Goals as goal
 
@@ -13,7 +14,7 @@ lanes_less-requires-2-clause-least c = λ k l.
 
 pub returns-clause-same : goal.returns-clause-same
 returns-clause-same c =
-    both_from (get_or c.args.low 0 0 - 3048) c.args.low c.args.high c.lanes_less.result c.lanes_less-2.result
+    both_from (get_or c.args.low 0 0 - SPREAD) c.args.low c.args.high c.lanes_less.result c.lanes_less-2.result
     c.requires.low c.lanes_less.ensures.size c.lanes_less.ensures.value c.lanes_less-2.ensures.value
 
 pub returns-clause-room : goal.returns-clause-room
@@ -22,7 +23,7 @@ returns-clause-room c = λ s l.
       arith,
       c.requires.near s 0 l (omega arith),
       low_at c.args.low c.args.high c.requires.low 0 (omega arith),
-      both_from (get_or c.args.low 0 0 - 3048) c.args.low c.args.high c.lanes_less.result c.lanes_less-2.result
+      both_from (get_or c.args.low 0 0 - SPREAD) c.args.low c.args.high c.lanes_less.result c.lanes_less-2.result
           c.requires.low c.lanes_less.ensures.size c.lanes_less.ensures.value c.lanes_less-2.ensures.value s l,
     )
 
