@@ -3,14 +3,14 @@
 #include <stdio.h>
 #include <stdlib.h>
 
-enum { BITS = 8160, STEPS = BITS + 6, FAR = 508 * STEPS + 1 };
+enum { BITS = 8160, STEPS = BITS + 6, FAR = 508 * STEPS + 1, DRAWN = 64 };
 
-static int8_t window[2 * STEPS];
+static int8_t drawn[DRAWN][2 * STEPS];
 static uint64_t words[STEPS];
 static uint8_t bytes[BITS / 8];
 static uint8_t pairs[32];  // the pairs of symbols of seven bits 2 * j, the newest as the least significant one
 
-static void draw(uint64_t state) {
+static void draw(uint64_t state, int8_t *window) {
     for (int i = 0; i < 2 * STEPS; i++) {
         state = state * 6364136223846793005u + 1442695040888963407u;
         int value = (int)(state >> 56) - 128;
@@ -32,7 +32,7 @@ static uint64_t step(const uint32_t costs[4], const uint32_t old[64], uint32_t n
     return word;
 }
 
-static void forward(void) {
+static void forward(const int8_t *window) {
     uint32_t rows[2][64];
     for (int s = 0; s < 64; s++) rows[0][s] = FAR;
     rows[0][29] = 0;
@@ -48,8 +48,8 @@ static unsigned before(uint64_t word, unsigned state) {
     return state / 2 + 32 * (word >> (state / 2 + 32 * (state % 2)) & 1);
 }
 
-static void nearest(void) {
-    forward();
+static void nearest(const int8_t *window) {
+    forward(window);
     unsigned state = 6;
     for (int i = STEPS - 1; i >= BITS; i--) state = before(words[i], state);
     for (int k = BITS / 8 - 1; k >= 0; k--) {
@@ -67,9 +67,9 @@ int main(int count, char **args) {
     uint64_t sum = 0;
     for (unsigned j = 0; j < 32; j++)
         pairs[j] = 2 * __builtin_parity(2 * j & 0x4F) + 1 - __builtin_parity(2 * j & 0x6D);
+    for (unsigned k = 0; k < DRAWN; k++) draw(k + 1, drawn[k]);
     for (unsigned k = 0; k < windows; k++) {
-        draw(k + 1);
-        nearest();
+        nearest(drawn[k % DRAWN]);
         for (int i = 0; i < BITS / 8; i++) sum = sum * 31 + bytes[i];
     }
     printf("path %u %016llx\n", windows, (unsigned long long)sum);

@@ -2,6 +2,7 @@
 const BITS: usize = 8160;
 const STEPS: usize = BITS + 6;
 const FAR: u32 = 508 * STEPS as u32 + 1;
+const DRAWN: u64 = 64;
 
 fn drawn(start: u64) -> Vec<i8> {
     let mut state = start;
@@ -86,8 +87,9 @@ fn main() {
     let mut words = vec![0; STEPS];
     let mut bytes = [0; 1020];
     let mut sum = 0u64;
+    let windows_drawn: Vec<Vec<i8>> = (0..DRAWN).map(|k| drawn(k + 1)).collect();
     for k in 0..windows {
-        nearest(&drawn(k + 1), &mut words, &mut bytes);
+        nearest(&windows_drawn[(k % DRAWN) as usize], &mut words, &mut bytes);
         sum = bytes.iter().fold(sum, |sum, byte| sum.wrapping_mul(31).wrapping_add(u64::from(*byte)));
     }
     println!("path {windows} {sum:016x}");

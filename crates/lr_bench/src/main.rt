@@ -1,19 +1,21 @@
 //! Works through fixed input many times over, to be timed from outside.
 //!
 //! The words: a name and a number of rounds. `rs0`, `rs1`, `rs8`, `rs16` and `rs17` restore Reed-Solomon words with
-//! that many wrong bytes, `rs` all five in turn. `path` decodes windows of symbols by the plain kernel, and `lanes` by
-//! the lanes, `lanes-plain`, `lanes-marks` and `lanes-marks-plain` under the other line codes. `noise` and `locked`
-//! feed 32,768 symbols to a lock that many times, `lock` does both, and `frame` leads the window of a frame to its
-//! outcome. `shelf-memory` and `shelf-file` put that many small files on a new shelf, the latter in the file
-//! `shelf.bench` of the working folder, and `shelf-load` loads what stands there. `shelf-loads` loads a shelf of
-//! 100,000 files in memory that many times, and `shelf-verify` verifies one of that many files and counts the calls of
-//! the disk. `export` writes an image of 1,024 columns and lines as PGM, from a shelf in memory. `all` does `rs`,
-//! `path`, `lanes`, `lock`, `frame` and `shelf-memory`. A line for each says the rounds and what came of them, or a
-//! checksum of it.
+//! that many wrong bytes, `rs` all five in turn. `path` decodes windows of symbols by the plain kernel, `lanes` by
+//! lanes of 32 bits and `narrow` by lanes of sixteen, and each with `-plain`, `-marks` or `-marks-plain` at its end
+//! under another line code. `noise` and `locked` feed 32,768 symbols to a lock that many times, `lock` does both, and
+//! `frame` leads the window of a frame to its outcome. `layers` leads 64 frames of the test stream to files, and
+//! `shelf-stream` puts these on a new shelf in memory. `shelf-memory` and `shelf-file` put that many small files on a
+//! new shelf, the latter in the file `shelf.bench` of the working folder, and `shelf-load` loads what stands there.
+//! `shelf-loads` loads a shelf of 100,000 files in memory that many times, and `shelf-verify` verifies one of that
+//! many files and counts the calls of the disk. `export` writes an image of 1,024 columns and lines as PGM, from a
+//! shelf in memory. `all` does `rs`, `path`, `lanes`, `narrow`, `lock`, `frame`, `layers`, `shelf-stream` and
+//! `shelf-memory`. A line for each says the rounds and what came of them, or a checksum of it.
 //! `lines`, `samples` and `export-lossless` have more words, and read coded lines from standard input.
 #![tactic(auto)]
 
 mod export;
+mod layers;
 mod lines;
 mod lock;
 mod path;
@@ -40,6 +42,7 @@ fn main(rt: HostRuntime) -> Result<(), Trouble> {
     words::run(&rt, name, rounds)?;
     path::run(&rt, name, rounds)?;
     lock::run(&rt, name, rounds)?;
+    layers::run(&rt, name, rounds)?;
     export::run(&rt, name, rounds)?;
     shelf::run(&rt, name, u64::from(rounds))
 }

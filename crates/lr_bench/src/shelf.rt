@@ -85,6 +85,17 @@ fn filled_shelf<D: Disk>(alloc: Global, disk: &mut D, count: u64) -> Result<Shel
     Ok(shelf)
 }
 
+/// Puts files on a new shelf in memory, and answers where it ends, in bytes.
+pub fn put_on_new_shelf(alloc: Global, files: &[Placed]) -> Result<u64, Trouble> {
+    let mut disk = MemDisk::of(alloc, Vec::new(alloc), ROOM, ROOM)?;
+    Shelf::init(&mut disk, CAPACITY)?;
+    let mut shelf = Shelf::load(alloc, &mut disk)?;
+    for placed in files {
+        shelf.append(&mut disk, placed)?;
+    }
+    Ok(shelf.end())
+}
+
 fn in_file(rt: &HostRuntime, count: u64) -> Result<Shelf, Trouble> {
     let mut options = fs::OpenOptions::new();
     options.read(true).write(true).create(true).truncate(true);

@@ -7,6 +7,7 @@ pub struct Draw {
 }
 
 impl Draw {
+    /// The generator that starts with this state.
     pub fn new(state: u64) -> Self {
         Draw { state }
     }

@@ -119,8 +119,8 @@ impl MemDisk {
     }
 
     /// The disk as a stop inside this call leaves it, counted from the first call on, with the same room and number of
-    /// calls. Kind 0 has nothing of what is pending then, kind 1 all of it, and kind 2 the byte 7F wherever any byte
-    /// may stand.
+    /// calls. It has made no call, has no fault, and no call of it is stated to fail. Kind 0 has nothing of what is
+    /// pending then, kind 1 all of it, and kind 2 the byte 7F wherever any byte may stand.
     pub fn image(&self, alloc: Global, call: u64, kind: u8) -> Result<MemDisk, NoMemory>
         requires made { call < calls_made self.now }
         requires kind { kind ≤ 2 }
@@ -130,6 +130,9 @@ impl MemDisk {
         ensures room { IfOk result (λ disk. room_of disk ≡ room_of self.now) }
         ensures calls { IfOk result (λ disk. calls_allowed disk ≡ calls_allowed self.now) }
         ensures made { IfOk result (λ disk. calls_made disk ≡ 0) }
+        ensures written { IfOk result (λ disk. bytes_written disk ≡ 0) }
+        ensures failing { IfOk result (λ disk. failing_call disk ≡ None) }
+        ensures faults { IfOk result (λ disk. faults_of disk ≡ 0) }
     {
         let mut left = Left::of(alloc, &self.past.first, self.room as usize)?;
         let before = call as usize;

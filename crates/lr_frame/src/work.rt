@@ -6,7 +6,7 @@ ghost use Rattle.lr_frame.specs.Outcomes.{outcome_of_window};
 use lr_bits::{BLOCK_BYTES, NoMemory, Outcome};
 use lr_block::outcome_of;
 use lr_gatecore::Work;
-use lr_lanes::{LaneScratch, nearest_lanes};
+use lr_lanes::{LaneScratch, nearest_narrow_lanes};
 use lr_lock::Window;
 use lr_rs::RsScratch;
 use std::alloc::Global;
@@ -41,7 +41,7 @@ impl FrameWork {
         ensures { result ≡ outcome_of_window window.now.line window.now.symbols }
     {
         let mut block = [0; BLOCK_BYTES];
-        nearest_lanes(window.line(), window.symbols(), &mut self.lanes, &mut block);
+        nearest_narrow_lanes(window.line(), window.symbols(), &mut self.lanes, &mut block);
         outcome_of(&block, &mut self.words)
     }
 }

@@ -126,12 +126,14 @@ impl<'a> Records<'a> {
         u64_at(self.header, 8)
     }
 
+    /// The file type of the primary record: 0 image, 1 GTS, 2 text, 3 key message, 128 and above mission specific.
     pub fn file_type(&self) -> u8
         ensures { result ≡ file_type self.now }
     {
         self.header[3]
     }
 
+    /// The first image structure record, of kind 1.
     pub fn structure(&self) -> Option<Structure>
         ensures { result ≡ structure_of self.now }
     {
@@ -139,6 +141,7 @@ impl<'a> Records<'a> {
         Some(structure_in(contents))
     }
 
+    /// The first navigation record, of kind 2.
     pub fn navigation(&self) -> Option<Navigation>
         ensures { result ≡ navigation_of self.now }
     {
@@ -146,6 +149,7 @@ impl<'a> Records<'a> {
         Some(navigation_in(contents))
     }
 
+    /// The first time stamp record, of kind 5.
     pub fn stamp(&self) -> Option<Stamp>
         ensures { result ≡ stamp_of self.now }
     {

@@ -49,6 +49,7 @@ impl Image {
         })
     }
 
+    /// How many bits a pixel has, 1 to 16.
     pub fn bits(&self) -> u8
         ensures value { result ≡ self.now.bits }
         ensures picture { IsPicture self.now }
@@ -56,12 +57,14 @@ impl Image {
         self.bits
     }
 
+    /// How many pixels a line has.
     pub fn columns(&self) -> u32
         ensures { result ≡ self.now.columns }
     {
         self.columns
     }
 
+    /// How many lines the image has.
     pub fn lines(&self) -> u32
         ensures { result ≡ self.now.lines }
     {

@@ -148,6 +148,7 @@ impl MemSink {
         })
     }
 
+    /// The bytes that were put.
     pub fn as_slice(&self) -> &[u8]
         ensures { result.now ≡ held_by self.now }
     {
@@ -226,6 +227,7 @@ impl Sink for MemSink {
 pub struct SureSink;
 
 impl SureSink {
+    /// A sink that takes all bytes and keeps none.
     pub fn new() -> Self {
         SureSink
     }

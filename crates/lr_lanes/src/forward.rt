@@ -9,7 +9,7 @@ use lr_trellis::{MOST_STEPS, pair_costs, start_costs};
 use std::simd::prelude::*;
 
 /// The lanes of the lower states and of the upper ones, from the costs of the 64 states.
-fn lanes_of(costs: &[u32; 64]) -> (u32x32, u32x32)
+pub(crate) fn lanes_of(costs: &[u32; 64]) -> (u32x32, u32x32)
     ensures low_size { length result.0 ≡ 32 }
     ensures high_size { length result.1 ≡ 32 }
     ensures value { result.0 ++ result.1 ≡ costs.now }
@@ -21,7 +21,7 @@ fn lanes_of(costs: &[u32; 64]) -> (u32x32, u32x32)
 }
 
 /// The costs of the 64 states, from the lanes of the lower and the upper ones.
-fn all_costs(low: u32x32, high: u32x32) -> [u32; 64]
+pub(crate) fn all_costs(low: u32x32, high: u32x32) -> [u32; 64]
     requires low { length low ≡ 32 }
     requires high { length high ≡ 32 }
     ensures { (s : ℕ) → s < 64 → slice_index result s ≡ slice_index (low ++ high) s }

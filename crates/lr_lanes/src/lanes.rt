@@ -7,6 +7,19 @@ ghost use Rattle.lr_trellis.specs.Words.{branch_by};
 
 use std::simd::prelude::*;
 
+/// The most that a step costs: 254 for each of its two symbols.
+pub(crate) const STEP_COST: u16 = 508;
+
+/// The pairs of symbols of the steps with the level 0 from the states 0 to 31.
+pub(crate) const LEVEL_0_PAIRS: [usize; 32] = [
+    1, 3, 2, 0, 2, 0, 1, 3, 1, 3, 2, 0, 2, 0, 1, 3, 0, 2, 3, 1, 3, 1, 0, 2, 0, 2, 3, 1, 3, 1, 0, 2,
+];
+
+/// The pairs of their steps with the level 1.
+pub(crate) const LEVEL_1_PAIRS: [usize; 32] = [
+    2, 0, 1, 3, 1, 3, 2, 0, 2, 0, 1, 3, 1, 3, 2, 0, 3, 1, 0, 2, 0, 2, 3, 1, 3, 1, 0, 2, 0, 2, 3, 1,
+];
+
 /// What the steps with the level 0 from the states 0 to 31 cost, by the costs of the four pairs of symbols.
 #[inline(always)]
 pub(crate) fn level_0_costs(costs: u32x4) -> u32x32
@@ -14,10 +27,7 @@ pub(crate) fn level_0_costs(costs: u32x4) -> u32x32
     ensures size { length result ≡ 32 }
     ensures value { (k : ℕ) → k < 32 → slice_index result k ≡ branch_by costs (2 * k) }
 {
-    costs.swizzle([
-        1, 3, 2, 0, 2, 0, 1, 3, 1, 3, 2, 0, 2, 0, 1, 3, 0, 2, 3, 1, 3, 1, 0, 2, 0, 2, 3, 1, 3, 1,
-        0, 2,
-    ])
+    costs.swizzle(LEVEL_0_PAIRS)
 }
 
 /// What their steps with the level 1 cost: those of the complements.
@@ -27,10 +37,7 @@ pub(crate) fn level_1_costs(costs: u32x4) -> u32x32
     ensures size { length result ≡ 32 }
     ensures value { (k : ℕ) → k < 32 → slice_index result k ≡ branch_by costs (2 * k + 1) }
 {
-    costs.swizzle([
-        2, 0, 1, 3, 1, 3, 2, 0, 2, 0, 1, 3, 1, 3, 2, 0, 3, 1, 0, 2, 0, 2, 3, 1, 3, 1, 0, 2, 0, 2,
-        3, 1,
-    ])
+    costs.swizzle(LEVEL_1_PAIRS)
 }
 
 /// The costs of paths with one step more.
@@ -38,8 +45,8 @@ pub(crate) fn level_1_costs(costs: u32x4) -> u32x32
 pub(crate) fn path_costs(old: u32x32, costs: u32x32) -> u32x32
     requires sizes { length old ≡ 32 }
     requires costs_size { length costs ≡ 32 }
-    requires old { (k : ℕ) → k < 32 → slice_index old k + 508 < 2 ^ 32 }
-    requires costs { (k : ℕ) → k < 32 → slice_index costs k ≤ 508 }
+    requires old { (k : ℕ) → k < 32 → slice_index old k + STEP_COST < 2 ^ 32 }
+    requires costs { (k : ℕ) → k < 32 → slice_index costs k ≤ STEP_COST }
     ensures size { length result ≡ 32 }
     ensures value { (k : ℕ) → k < 32 → slice_index result k ≡ slice_index old k + slice_index costs k }
 {
@@ -62,13 +69,13 @@ pub(crate) fn lesser_of(first: u32x32, second: u32x32) -> (u32x32, u64)
 }
 
 /// Where the states 0 to 31 stand among the even states and, after these, the odd ones.
-const LOW_PLACES: [usize; 32] = [
+pub(crate) const LOW_PLACES: [usize; 32] = [
     0, 32, 1, 33, 2, 34, 3, 35, 4, 36, 5, 37, 6, 38, 7, 39, 8, 40, 9, 41, 10, 42, 11, 43, 12, 44,
     13, 45, 14, 46, 15, 47,
 ];
 
 /// Where the states 32 to 63 stand there.
-const HIGH_PLACES: [usize; 32] = [
+pub(crate) const HIGH_PLACES: [usize; 32] = [
     16, 48, 17, 49, 18, 50, 19, 51, 20, 52, 21, 53, 22, 54, 23, 55, 24, 56, 25, 57, 26, 58, 27, 59,
     28, 60, 29, 61, 30, 62, 31, 63,
 ];

@@ -6,14 +6,25 @@
 //! step leads to stands in two vectors at first, the even states and the odd ones, and one fixed permutation brings
 //! them back into the order of their numbers. The way back is that of `lr_trellis`.
 //!
-//! A path of 8,166 steps costs at most 4,148,328, so no sum passes 2^24.
+//! `nearest_lanes` has lanes of 32 bits. A path of 8,166 steps costs at most 4,148,328, so no sum passes 2^24.
+//!
+//! `nearest_narrow_lanes` has lanes of sixteen bits, so a vector has twice as many states, and it is the faster one.
+//! Its first six steps are those of `nearest_lanes`. After them every state has been reached from every other one, so
+//! the costs of two states differ by at most 3,048. From there on a lane holds the cost of its state less a number that
+//! is the same for all lanes, so a comparison of two lanes is that of their costs. Where the first lane is near the end
+//! of its sixteen bits, all lanes are lowered, and the number grows by as much.
+//!
+//! The two have one contract. The first is the plainer text, and what it answers is compared with the second's.
 #![tactic(auto)]
 
 mod decode;
 mod forward;
 mod lanes;
+mod narrow_forward;
+mod narrow_lanes;
+mod narrow_step;
 mod scratch;
 mod step;
 
-pub use decode::nearest_lanes;
+pub use decode::{nearest_lanes, nearest_narrow_lanes};
 pub use scratch::LaneScratch;

@@ -5,6 +5,7 @@ ghost use Rattle.lr_trellis.specs.Words.{IsDecided};
 ghost use Rattle.lr_trellis.specs.declared.scratch.TheConstants.{MOST_STEPS};
 
 use crate::forward::forward;
+use crate::narrow_forward::narrow_forward;
 use lr_bits::{NoMemory, WINDOW_SYMBOLS};
 use lr_conv::LineCode;
 use lr_trellis::MOST_STEPS;
@@ -31,5 +32,13 @@ impl LaneScratch {
         ensures { IsDecided line window.now MOST_STEPS self.new.words.items result }
     {
         forward(line, window, MOST_STEPS, &mut self.words)
+    }
+
+    /// Keeps the same decisions and answers the same costs, by lanes of sixteen bits.
+    pub(crate) fn decide_by_narrow_lanes(&mut self, line: LineCode, window: &[i8]) -> [u32; 64]
+        requires { length window.now ≡ WINDOW_SYMBOLS }
+        ensures { IsDecided line window.now MOST_STEPS self.new.words.items result }
+    {
+        narrow_forward(line, window, MOST_STEPS, &mut self.words)
     }
 }

@@ -1,7 +1,9 @@
 ghost use Rattle.std.specs.Prelude.{◌≡◌, ◌+◌, ◌/◌, ◌^◌, ◌<◌, ◌≤◌, ◌++◌, ℕ, min, nat_lt, length, slice_index};
 ghost use Rattle.lr_trellis.specs.Words.{branch_by, decision_of};
 
-use crate::lanes::{lesser_of, level_0_costs, level_1_costs, path_costs, states_in_order};
+use crate::lanes::{
+    STEP_COST, lesser_of, level_0_costs, level_1_costs, path_costs, states_in_order,
+};
 use lr_trellis::decision_word;
 use std::simd::prelude::*;
 
@@ -16,10 +18,10 @@ pub(crate) struct StepResult {
 /// One step of all paths.
 #[inline(always)]
 pub(crate) fn step(costs: &[u32; 4], low: u32x32, high: u32x32) -> StepResult
-    requires costs { (m : ℕ) → branch_by costs.now m ≤ 508 }
+    requires costs { (m : ℕ) → branch_by costs.now m ≤ STEP_COST }
     requires low { length low ≡ 32 }
     requires high { length high ≡ 32 }
-    requires old { (s : ℕ) → s < 64 → slice_index (low ++ high) s + 508 < 2 ^ 32 }
+    requires old { (s : ℕ) → s < 64 → slice_index (low ++ high) s + STEP_COST < 2 ^ 32 }
     ensures low_size { length result.low ≡ 32 }
     ensures high_size { length result.high ≡ 32 }
     ensures least { (s : ℕ) → s < 64 → slice_index (result.low ++ result.high) s ≡

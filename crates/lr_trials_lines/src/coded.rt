@@ -62,7 +62,7 @@ fn turn_some(window: &mut [i8], apart: usize) {
     }
 }
 
-/// Whether both kernels read a block back from its window, of which one symbol in every `apart` is turned.
+/// Whether all kernels read a block back from its window, of which one symbol in every `apart` is turned.
 fn comes_back(
     alloc: Global,
     kernels: &mut Kernels,

@@ -1,16 +1,16 @@
-//! Both kernels beside one another.
+//! The kernels beside one another.
 
 ghost use Rattle.std.specs.Prelude.{◌≡◌, length};
 
 use crate::windows::{LINES, drawn_window};
 use lr_bits::{BLOCK_BYTES, NoMemory, WINDOW_SYMBOLS};
 use lr_conv::LineCode;
-use lr_lanes::{LaneScratch, nearest_lanes};
+use lr_lanes::{LaneScratch, nearest_lanes, nearest_narrow_lanes};
 use lr_trellis::{TrellisScratch, nearest};
 use std::alloc::{AllocError, Global};
 use std::test::Fail;
 
-/// Room for both kernels.
+/// Room for the kernels.
 #[derive(Drop)]
 pub(crate) struct Kernels {
     plain: TrellisScratch,
@@ -24,19 +24,32 @@ impl Kernels {
         Ok(Kernels { plain, lanes })
     }
 
-    /// The bytes that both kernels give for a window, where they give the same.
-    pub(crate) fn bytes_of(&mut self, line: LineCode, window: &[i8]) -> Option<[u8; BLOCK_BYTES]>
+    /// The bytes that the lanes of 32 and of sixteen bits give for a window, where they give the same.
+    fn lane_bytes(&mut self, line: LineCode, window: &[i8]) -> Option<[u8; BLOCK_BYTES]>
         requires { length window.now ≡ WINDOW_SYMBOLS }
     {
         let mut bytes = [1; BLOCK_BYTES];
         let mut others = [2; BLOCK_BYTES];
-        nearest(line, window, &mut self.plain, &mut bytes);
-        nearest_lanes(line, window, &mut self.lanes, &mut others);
+        nearest_lanes(line, window, &mut self.lanes, &mut bytes);
+        nearest_narrow_lanes(line, window, &mut self.lanes, &mut others);
         if bytes == others { Some(bytes) } else { None }
+    }
+
+    /// The bytes that all kernels give for a window, where they give the same.
+    pub(crate) fn bytes_of(&mut self, line: LineCode, window: &[i8]) -> Option<[u8; BLOCK_BYTES]>
+        requires { length window.now ≡ WINDOW_SYMBOLS }
+    {
+        let mut bytes = [1; BLOCK_BYTES];
+        nearest(line, window, &mut self.plain, &mut bytes);
+        if self.lane_bytes(line, window) == Some(bytes) {
+            Some(bytes)
+        } else {
+            None
+        }
     }
 }
 
-/// Whether both kernels give the same bytes for a window under each line code.
+/// Whether all kernels give the same bytes for a window under each line code.
 fn agree(kernels: &mut Kernels, window: &[i8]) -> bool
     requires { length window.now ≡ WINDOW_SYMBOLS }
 {
@@ -48,8 +61,40 @@ fn agree(kernels: &mut Kernels, window: &[i8]) -> bool
     true
 }
 
+/// Whether the lanes of both widths give the same bytes for a window under each line code.
+fn lanes_agree(kernels: &mut Kernels, window: &[i8]) -> bool
+    requires { length window.now ≡ WINDOW_SYMBOLS }
+{
+    for line in LINES {
+        if kernels.lane_bytes(line, window).is_none() {
+            return false;
+        }
+    }
+    true
+}
+
 #[test]
-fn both_kernels_agree_on_drawn_windows(rt: HostRuntime) -> Result<(), Fail> {
+fn lanes_of_both_widths_agree_on_drawn_windows(rt: HostRuntime) -> Result<(), Fail> {
+    let mut kernels = Kernels::new(rt.alloc())?;
+    for start in 1..=1_000u64 {
+        let window = drawn_window(rt.alloc(), start)?;
+        assert!(rt; lanes_agree(&mut kernels, &window));
+    }
+    Ok(())
+}
+
+#[test]
+fn kernels_agree_on_windows_of_one_value(rt: HostRuntime) -> Result<(), Fail> {
+    let mut kernels = Kernels::new(rt.alloc())?;
+    for value in [-128i8, -127, 0, 127] {
+        let window = vec![in rt.alloc(); value; WINDOW_SYMBOLS]?;
+        assert!(rt; agree(&mut kernels, &window));
+    }
+    Ok(())
+}
+
+#[test]
+fn kernels_agree_on_drawn_windows(rt: HostRuntime) -> Result<(), Fail> {
     let mut kernels = Kernels::new(rt.alloc())?;
     for start in 1..=32u64 {
         let window = drawn_window(rt.alloc(), start)?;
@@ -58,7 +103,7 @@ fn both_kernels_agree_on_drawn_windows(rt: HostRuntime) -> Result<(), Fail> {
     Ok(())
 }
 
-/// Whether both kernels give this first byte and zeros for a window of zeros, in which all paths tie.
+/// Whether the kernels give this first byte and zeros for a window of zeros, in which all paths tie.
 fn zeros_give(
     alloc: Global,
     kernels: &mut Kernels,

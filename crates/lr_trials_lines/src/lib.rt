@@ -1,4 +1,4 @@
-//! Trials of the line codes and of both kernels. The expected bits come from reference/line_codes.py, a program of
+//! Trials of the line codes and of the kernels. The expected bits come from reference/line_codes.py, a program of
 //! its own that tries every list of bits, and the tails and the windows of zeros from the definitions by hand.
 #![tactic(auto)]
 

@@ -13,6 +13,7 @@ pub struct ShortSource {
 }
 
 impl ShortSource {
+    /// The source, of which each read gives at most `most` bytes, and at least one where some are left.
     pub fn of(source: MemSource, most: usize) -> Self {
         ShortSource {
             source,

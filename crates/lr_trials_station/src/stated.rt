@@ -65,6 +65,7 @@ pub fn file_7(alloc: Global) -> Result<Vec<u8>, AllocError> {
     with_file(alloc, 0, 7, [0x90, 0xB4])
 }
 
+/// A frame with the file of counter 8.
 pub fn file_8(alloc: Global) -> Result<Vec<u8>, AllocError> {
     with_file(alloc, 1, 8, [0x55, 0x7B])
 }

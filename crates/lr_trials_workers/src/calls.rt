@@ -50,6 +50,7 @@ impl Printed {
     }
 }
 
+/// The words of a line, which stand one space apart.
 pub fn words_of(alloc: Global, line: &str) -> Result<Vec<String>, AllocError> {
     let mut words = Vec::new(alloc);
     for word in line.split(' ') {
@@ -58,16 +59,19 @@ pub fn words_of(alloc: Global, line: &str) -> Result<Vec<String>, AllocError> {
     Ok(words)
 }
 
+/// A source of the given bytes, in short reads, that fails once at the given place.
 pub fn source_of(alloc: Global, given: &Given<'_>) -> Result<ShortSource, Fail> {
     let fault = vec![in alloc; given.source_fault]?;
     let bytes = MemSource::of(given.bytes.to_vec(alloc)?, Vec::new(alloc), fault);
     Ok(ShortSource::of(bytes, given.reads))
 }
 
+/// An output of 20,000 bytes that fails once at the given place.
 pub fn out_of(alloc: Global, given: &Given<'_>) -> Result<MemSink, Fail> {
     Ok(MemSink::of(alloc, vec![in alloc; given.out_fault]?, 20_000)?)
 }
 
+/// An output of 100 bytes for the line of a status.
 pub fn err_of(alloc: Global) -> Result<MemSink, Fail> {
     Ok(MemSink::of(alloc, Vec::new(alloc), 100)?)
 }
@@ -113,6 +117,7 @@ pub fn shelf_of_calls(alloc: Global, calls: u64) -> Result<MemDisk, Fail> {
     }
 }
 
+/// An empty shelf on a disk that allows 10,000 calls.
 pub fn empty_shelf(alloc: Global) -> Result<MemDisk, Fail> {
     shelf_of_calls(alloc, 10_000)
 }

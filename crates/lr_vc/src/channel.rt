@@ -206,6 +206,7 @@ impl Model for Channel {
 }
 
 impl Channel {
+    /// A channel of which no frame came.
     pub fn new() -> Self
         ensures { result ≡ nothing_kept }
     {

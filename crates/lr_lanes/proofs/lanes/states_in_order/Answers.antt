@@ -1,37 +1,10 @@
-use Rattle.std.proofs.Common.{arith, ap, ◌∙◌, ◌≡◌, ◌+◌, ◌-◌, ◌*◌, ◌/◌, ◌%◌, ◌<◌, ◌++◌, ℕ, List, length, get_or}
-use Rattle.std.proofs.Math.ListN.{get_or-append}
-use Rattle.std.proofs.Math.Seq.{get_or-append_right}
-use Rattle.lr_lanes.proofs.Placed.{placed}
+use Rattle.lr_lanes.proofs.InOrder.{in_order, evens_placed, odds_placed}
 use Rattle.lr_lanes.proofs.lanes.states_in_order.Goals as goal
 
--- where the state s stands in the even states and then the odd ones
-place : ℕ → ℕ
-place s = s / 2 + 32 * (s % 2)
-
-even_at : (evens odds : List ℕ) (k : ℕ) → length evens ≡ 32 → k < 32 →
-    get_or (evens ++ odds) (place (2 * k)) 0 ≡ get_or evens k 0
-unfolding place
-even_at evens odds k size l =
-    let at : 2 * k / 2 + 32 * (2 * k % 2) ≡ k = omega arith in
-    ap (λ p. get_or (evens ++ odds) p 0) at ∙ get_or-append evens odds 0 k (omega arith)
-
-odd_at : (evens odds : List ℕ) (k : ℕ) → length evens ≡ 32 → k < 32 →
-    get_or (evens ++ odds) (place (2 * k + 1)) 0 ≡ get_or odds k 0
-unfolding place
-odd_at evens odds k size l =
-    let at : (2 * k + 1) / 2 + 32 * ((2 * k + 1) % 2) ≡ k + 32 = omega arith in
-    let behind : k + 32 - length evens ≡ k = omega arith in
-    ap (λ p. get_or (evens ++ odds) p 0) at ∙ get_or-append_right evens odds (k + 32) 0 (omega arith)
-    ∙ ap (λ p. get_or odds p 0) behind
-
 pub returns-clause-even : goal.returns-clause-even
-unfolding place
-returns-clause-even c = λ k l.
-    placed (λ s. get_or (c.args.evens ++ c.args.odds) (s / 2 + 32 * (s % 2)) 0) 64 (2 * k) (omega arith)
-    ∙ even_at c.args.evens c.args.odds k c.requires.evens l
+unfolding in_order
+returns-clause-even c = evens_placed c.args.evens c.args.odds c.requires.evens
 
 pub returns-clause-odd : goal.returns-clause-odd
-unfolding place
-returns-clause-odd c = λ k l.
-    placed (λ s. get_or (c.args.evens ++ c.args.odds) (s / 2 + 32 * (s % 2)) 0) 64 (2 * k + 1) (omega arith)
-    ∙ odd_at c.args.evens c.args.odds k c.requires.evens l
+unfolding in_order
+returns-clause-odd c = odds_placed c.args.evens c.args.odds c.requires.evens

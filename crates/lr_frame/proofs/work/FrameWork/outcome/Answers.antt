@@ -9,6 +9,6 @@ pub returns : goal.returns
 unfolding outcome_of_window
 returns c =
     c.outcome_of.ensures.value
-    ∙ ap outcome_of_block (c.nearest_lanes.ensures ∙ ap (λ (k : LineCode).
+    ∙ ap outcome_of_block (c.nearest_narrow_lanes.ensures ∙ ap (λ (k : LineCode).
     bytes_of (nearest_path k c.symbols.result.now)) c.line.ensures
     ∙ ap (λ (w : List ℤ). bytes_of (nearest_path c.args.window.now.line w)) c.symbols.ensures.symbols)

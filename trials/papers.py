@@ -1,0 +1,161 @@
+"""What `papers.sh` looks at; its head says what. Usage: papers.py TOP."""
+
+import glob
+import os
+import re
+import sys
+
+top = sys.argv[1]
+os.chdir(top)
+faults = []
+
+DOCUMENTS = ["README.md", "CHANGELOG.md", *sorted(glob.glob("docs/*.md")), "trials/README.md", "bench/README.md"]
+DOCUMENTS = [it for it in DOCUMENTS if os.path.exists(it)]
+# What stands in documents and in no source: programs of others, and words of systemd and of the toolchain.
+OTHERS = set(
+    """satdump cpu goes_hrit goes_lrit baseband samplerate baseband_format s16 cadu perf stat gcc std clap byteorder jiff itoa atomic_table
+    tail head pv nc netcat systemctl enable now journalctl daemon reload install usr local bin cmp pnmsplit pnmtopng pnmfile netpbm
+    libfec libaec aec valgrind Restart RestartPreventExitStatus RuntimeMaxSec ExecStart mkfifo tee losetup strace rattle kit 13f
+    rt must fail plant fmt tidy check anew jiff_core jiff_fmt stage times incremental Clock Recovery Symbol Sync Costas Loop Complex
+    Real Float Char File Sink simd""".split()
+)
+
+
+def text_of(path):
+    with open(path, encoding="utf-8", errors="replace") as it:
+        return it.read()
+
+
+def sources():
+    for root, folders, names in os.walk("."):
+        folders[:] = [it for it in folders if it not in ("out", ".git", "docs")]
+        for name in names:
+            if name.endswith((".rt", ".antt", ".sh", ".py", ".c", ".rs", ".edit", ".service", ".txt")) or name in ("lritstation", "HANDLES", "run", "args"):
+                yield os.path.join(root, name)[2:]
+
+
+FILES = list(sources())
+WORDS, SPECS = set(), {}
+for path in FILES:
+    text = text_of(path)
+    WORDS.update(re.findall(r"[A-Za-z_][A-Za-z0-9_]*", text))
+    if "/specs/" in path:
+        SPECS.setdefault(os.path.basename(path)[:-5], []).append(text)
+WORDS.update(os.path.basename(it).rsplit(".", 1)[0] for it in FILES)
+PARTS = {it for path in FILES for it in path.split("/")}
+
+
+def is_path(token):
+    """A name with a slash or with the ending of a file."""
+    return re.fullmatch(r"[\w./*-]*/[\w./*-]*|[\w-]+\.(sh|py|md|rt|antt|c|rs|txt|edit|service)", token) is not None
+
+
+def stands(token):
+    """Whether a file or folder of this name is there: from the top, beside the documents, or in a crate."""
+    token = token.rstrip("/")
+    for start in ("", "docs/", "crates/", "crates/*/", "crates/*/src/", "crates/*/specs/", "crates/*/proofs/", "trials/", "bench/", "reference/", "examples/"):
+        for end in ("", ".antt", ".rt"):
+            if glob.glob(start + token + end):
+                return True
+    # (what is made, what lies elsewhere, and names with a word in capitals, which stands for others)
+    return token.startswith(("/", "..")) or "out/" in token or re.search(r"\b[A-Z]{4,}\b", token.replace("README", "")) is not None
+
+
+def is_defined(module, name):
+    """Whether a file of specs/ with the module's name defines the name."""
+    shape = rf"(?m)(\b(record|data)\s+{re.escape(name)}\b|^\s*(abbrev |pub |unfoldable )*{re.escape(name)}\s*:)"
+    return any(re.search(shape, it) for it in SPECS.get(module, []))
+
+
+def look_at(document):
+    text = re.sub(r"(?s)```.*?```", "", text_of(document))
+    text = re.sub(r"(?m)^    .*$", "", text)
+    for token in re.findall(r"`([^`\n]+)`", text):
+        place = f"{document}: `{token}`"
+        defined = re.fullmatch(r"([A-Z]\w*)\.([A-Za-z_][\w-]*)", token)
+        if is_path(token):
+            if not stands(token):
+                faults.append(f"{place} is no file here")
+        elif defined and defined[1] in SPECS:
+            if not is_defined(defined[1], defined[2]):
+                faults.append(f"{place}: {defined[2]} is defined in no specs/{defined[1]}")
+        else:
+            for word in re.findall(r"[A-Za-z_][A-Za-z0-9_]*", re.sub(r"\\x\w\w", "", token)):
+                # (`.._of` stands for each name that ends so)
+                if word.startswith("_") and any(it.endswith(word) for it in WORDS):
+                    continue
+                if len(word) > 2 and word != word.upper() and word not in WORDS and word not in OTHERS and word not in PARTS:
+                    faults.append(f"{place}: nothing is called {word}")
+
+
+def crates():
+    """The crates with what each stands on, as crates.txt has them."""
+    found = {}
+    for line in text_of("crates.txt").splitlines():
+        if line and not line.startswith("#"):
+            name, libraries = line.split(":")
+            found[name.split()[0]] = libraries.split()
+    return found
+
+
+def look_at_table(found):
+    for row in re.findall(r"(?m)^\| (`lr_[^|]*) \|[^|]*\| ([^|]*)\|", text_of("docs/ARCHITECTURE.md")):
+        names = re.findall(r"`(lr_\w+)`", row[0])
+        for name in names:
+            if name not in found:
+                faults.append(f"docs/ARCHITECTURE.md: the crate {name} isn't in crates.txt")
+        if len(names) == 1 and not names[0].startswith("lr_trials"):
+            told, true = set(re.findall(r"`(\w+)`", row[1])), set(found.get(names[0], []))
+            for word, which in (("names", told - true), ("doesn't name", true - told)):
+                if which:
+                    faults.append(f"docs/ARCHITECTURE.md: the row of {names[0]} {word} {' '.join(sorted(which))}")
+    tables = text_of("docs/ARCHITECTURE.md")
+    for name in found:
+        if f"`{name}`" not in tables:
+            faults.append(f"docs/ARCHITECTURE.md: no row has the crate {name}")
+
+
+def below(name, found, seen):
+    for it in found.get(name, []):
+        if it in found and it not in seen:
+            seen.add(it)
+            below(it, found, seen)
+    return seen
+
+
+def look_at_numbers(found):
+    needed = len(below("lr_program", found, {"lr_program"}))
+    for document, shape, true, what in (
+        ("README.md", r"proves (\d+) crates", needed, "the crates of the program"),
+        ("docs/GATE.md", r"(\d+) crates of the program", needed, "the crates of the program"),
+        ("docs/GATE.md", r"(\d+) edits", len(glob.glob("crates/*/must-fail/*.edit")), "the edits"),
+        ("docs/CLAIMS.md", r"(\d+) edits", len(glob.glob("crates/*/must-fail/*.edit")), "the edits"),
+    ):
+        for told in re.findall(shape, text_of(document) if os.path.exists(document) else ""):
+            if int(told) != true:
+                faults.append(f"{document}: {what} are {true}, not {told}")
+
+
+def look_at_comments():
+    for path in FILES:
+        if not re.fullmatch(r"crates/\w+/src/.*\.rt", path):
+            continue
+        lines = text_of(path).splitlines()
+        for number, line in enumerate(lines):
+            if re.match(r"\s*pub (const )?fn ", line):
+                above = number - 1
+                while above >= 0 and re.match(r"\s*(#\[|ghost )", lines[above]):
+                    above -= 1
+                if above < 0 or not lines[above].strip().startswith("///"):
+                    faults.append(f"{path}:{number + 1}: a public function without a doc comment")
+
+
+for document in DOCUMENTS:
+    look_at(document)
+look_at_table(crates())
+look_at_numbers(crates())
+look_at_comments()
+for it in faults:
+    print(f"trials/papers.sh: {it}")
+print(f"trials/papers.sh: {len(DOCUMENTS)} documents, {len(faults)} faults")
+sys.exit(1 if faults else 0)
