@@ -1,3 +1,4 @@
+pub mod First
 pub mod Init
 pub mod Inputs
 pub mod Made
