@@ -8,4 +8,5 @@ pub mod Reception
 pub mod Shelved
 pub mod ShelverTaken
 pub mod Shelving
+pub mod Sure
 pub mod Trial

@@ -7,16 +7,17 @@ ghost use Rattle.lr_make.specs.Blocks.{block_at};
 ghost use Rattle.lr_make.specs.Frames.{frame_at};
 ghost use Rattle.lr_make.specs.Received.{IsReceivedAs};
 ghost use Rattle.lr_causes.specs.Causes.{IsCaused, counts};
-ghost use Rattle.lr_layers.specs.Standing.{StandsFor, numbers};
 ghost use Rattle.lr_receiving.specs.First.{IsFirst};
 ghost use Rattle.lr_receiving.specs.Inputs.{files_of_bytes};
 ghost use Rattle.lr_receiving.specs.Made.{made_bytes};
 ghost use Rattle.lr_receiving.specs.Receive.{receive_last};
 ghost use Rattle.lr_receiving.specs.Reception.{sums_line};
 ghost use Rattle.lr_reading.specs.Leading.{MayLead, Leads};
+ghost use Rattle.lr_reading.specs.Runs.{IsLed};
 ghost use Rattle.lr_receiving.specs.Shelved.{StopsTrial};
 ghost use Rattle.lr_receiving.specs.ShelverTaken.{ShelverTook, ShelverStopped};
 ghost use Rattle.lr_receiving.specs.Shelving.{with_files};
+ghost use Rattle.lr_receiving.specs.Sure.{sure_source, sure_sink};
 ghost use Rattle.lr_receiving.specs.Trial.{trial_capacity, LeavesDisk, TrialRun};
 ghost use Rattle.lr_forms.specs.declared.forms.Input.TheVariants.{Symbols};
 ghost use Rattle.lr_forms.specs.declared.forms.TheConstants.{MOST_BYTES as most_bytes};
@@ -74,9 +75,9 @@ fn shelve_stream<
     disk: &mut D,
     read: F,
 ) -> Result<Sums, Cause>
-    requires ready { MayLead (F.pre read) (ShelverTook D.Disk ⟦<SureSink as Sink>⟧) }
-    requires leads { Leads (F.post read) ⟦<SureSource as Source>⟧ (ShelverTook D.Disk ⟦<SureSink as Sink>⟧)
-        (ShelverStopped D.Disk ⟦<SureSink as Sink>⟧) (Symbols standard) most_bytes }
+    requires ready { MayLead (F.pre read) (ShelverTook D.Disk sure_sink) }
+    requires leads { Leads (F.post read) sure_source (ShelverTook D.Disk sure_sink)
+        (ShelverStopped D.Disk sure_sink) (Symbols standard) most_bytes }
     requires few { length symbols.items < most_bytes }
     requires fit { end_of (with_files [] (files_of_bytes (Symbols standard) symbols.items)) ≤ trial_capacity }
     ensures cause { IfErr result (λ cause. IsFirst cause (counts 0 (D.faults disk.old) 0)
@@ -112,9 +113,9 @@ fn trial_with<
 ) -> Cause
     requires few { frames ≤ 1024 }
     requires wrong { wrong ≤ 16 }
-    requires ready { MayLead (F.pre read) (ShelverTook D.Disk ⟦<SureSink as Sink>⟧) }
-    requires leads { Leads (F.post read) ⟦<SureSource as Source>⟧ (ShelverTook D.Disk ⟦<SureSink as Sink>⟧)
-        (ShelverStopped D.Disk ⟦<SureSink as Sink>⟧) (Symbols standard) most_bytes }
+    requires ready { MayLead (F.pre read) (ShelverTook D.Disk sure_sink) }
+    requires leads { Leads (F.post read) sure_source (ShelverTook D.Disk sure_sink)
+        (ShelverStopped D.Disk sure_sink) (Symbols standard) most_bytes }
     ensures cause { IsCaused result (counts 0 (D.faults disk.old) (O.faults out.old))
         (counts 0 (D.faults disk.new) (O.faults out.new)) }
     ensures told_by_disk { D.tells disk.old → D.tells disk.new }
@@ -161,9 +162,12 @@ pub fn trial<D: Disk, O: Sink>(
         Ok(reader) => reader,
         Err(NoMemory) => return Cause::NoMemory,
     };
-    trial_with(alloc, start, frames, wrong, disk, out, |source, shelver| {
-        reader.read_alone(source, shelver)
-    })
+    trial_with(alloc, start, frames, wrong, disk, out, |source, shelver| -> Result<Totals, Cause>
+        requires { ((reader.workers ≡ 1) × (reader.most ≤ 2 ^ 48))
+            × ((first : _) × ShelverTook D.Disk sure_sink first [] shelver.old) }
+        ensures { IsLed sure_source (ShelverTook D.Disk sure_sink) reader.input reader.most
+            (ShelverStopped D.Disk sure_sink) result source.old source.new shelver.old shelver.new }
+    { reader.read_alone(source, shelver) })
 }
 
 /// What `trial` does, where this many work on windows, the caller among them.
@@ -194,7 +198,8 @@ pub fn trial_by_team<R: Threads + Wait + Sync, H: Hand, D: Disk, O: Sink>(
         Err(NoMemory) => return Cause::NoMemory,
     };
     trial_with(alloc, start, frames, wrong, disk, out, |source, shelver| -> Result<Totals, Cause>
-        requires { (reader.most ≤ 2 ^ 48) × StandsFor shelver.old.layers.now []
-            × (numbers shelver.old.counts ≡ shelver.old.layers.now.numbers) }
+        requires { (reader.most ≤ 2 ^ 48) × ((first : _) × ShelverTook D.Disk sure_sink first [] shelver.old) }
+        ensures { IsLed sure_source (ShelverTook D.Disk sure_sink) reader.input reader.most
+            (ShelverStopped D.Disk sure_sink) result source.old source.new shelver.old shelver.new }
     { reader.read(rt, source, shelver) })
 }
