@@ -23,5 +23,4 @@ pub use frames::frame_line;
 pub use outcomes::{block_line, window_line};
 pub use packets::packet_line;
 pub use records::{header_lines, record_line};
-pub use stop::Stop;
 pub use summary::{Summary, summary_line};
