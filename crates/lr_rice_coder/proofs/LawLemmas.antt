@@ -1,5 +1,6 @@
 -- The shortest string codes the line, and is read as it.
-use Rattle.std.proofs.Common.{◌≡◌, ℕ, suc, ◌+◌, ◌-◌, ◌*◌, ◌%◌, ◌<◌, ◌≤◌, List, [], ◌∷◌, ◌++◌, length, get_or, take, drop, replicate, refl, sym, ap, ◌∙◌, subst, arith, inl, inr}
+use Rattle.std.proofs.Common.{◌≡◌, ℕ, suc, ◌+◌, ◌-◌, ◌*◌, ◌%◌, ◌<◌, ◌≤◌, List, [], ◌∷◌, ◌++◌, length, get_or, take}
+use Rattle.std.proofs.Common.{drop, replicate, refl, sym, ap, ◌∙◌, subst, arith, inl, inr}
 use Rattle.std.proofs.Common.{All, length-append}
 use Rattle.std.proofs.lemmas.List.{append-nil, drop_at, take_at, get_or-drop, length-replicate}
 use Rattle.lr_bits.specs.Bits.{bits_of, number_bits}
@@ -9,11 +10,14 @@ use Rattle.std.specs.Int.{bit_at}
 use Rattle.std.proofs.lemmas.Nat.Bits.{same_from_bits_below}
 use Rattle.std.proofs.lemmas.Nat.{pow_pos}
 use Rattle.lr_rice.specs.CodedLines.{AreLines, Codes, Form, IsLine, block_count, greatest, mapped_value}
+use Rattle.lr_rice.specs.Laws.{IsForm}
 use Rattle.lr_rice.specs.Samples.{samples_from, sample_after}
 use Rattle.lr_rice.proofs.LineLemmas.{block_count-pos, places-values}
-use Rattle.lr_rice.proofs.SampleLemmas.{HaveValues-samples_from, sample_of-mapped_value, samples_from-append, samples_from-cons}
+use Rattle.lr_rice.proofs.ReadingLines.{lines_are_one}
+use Rattle.lr_rice.proofs.SampleLemmas.{HaveValues-samples_from, sample_of-mapped_value, samples_from-append}
+use Rattle.lr_rice.proofs.SampleLemmas.{samples_from-cons}
 use Rattle.lr_rice_coder.specs.Coded.{IsCodable}
-use Rattle.lr_rice_coder.specs.Laws.{CodedIsDecoded, CodedLinesAreOne, FillingsAreWhole, IsRow}
+use Rattle.lr_rice_coder.specs.Laws.{CodedIsDecoded, CodedLinesAreOne, DecodingGivesTheLine, FillingsAreWhole, IsRow}
 use Rattle.lr_rice_coder.specs.Laws.{ShortestCodesLine, line_values}
 use Rattle.lr_rice_coder.specs.Shortest.{line_places, mapped_from, parts_from, places_past, shortest_string}
 use Rattle.lr_rice_coder.specs.Writing.{ArePlaces}
@@ -38,10 +42,12 @@ block-even form is = elim is.block [
   | inr f ↦ elim f [ inl e ↦ omega (arith, e) | inr g ↦ elim g [ inl e ↦ omega (arith, e) | inr e ↦ omega (arith, e) ] ]
 ]
 
-row-small : (form : Form) (samples : List ℕ) → IsRow form samples → (k : ℕ) → k < length samples → get_or samples k 0 ≤ greatest form.bits
+row-small : (form : Form) (samples : List ℕ) → IsRow form samples → (k : ℕ) → k < length samples
+    → get_or samples k 0 ≤ greatest form.bits
 row-small form samples row k inside = omega (arith, row.small k 0 inside, pow_pos form.bits)
 
-pub row_places : (form : Form) (reference : ℕ) (samples : List ℕ) → IsRow form (reference ∷ samples) → ArePlaces form (line_places form (reference ∷ samples))
+pub row_places : (form : Form) (reference : ℕ) (samples : List ℕ) → IsRow form (reference ∷ samples)
+    → ArePlaces form (line_places form (reference ∷ samples))
 row_places form reference samples row =
     let wide = block-wide form row.codable in
     record {
@@ -63,13 +69,16 @@ places_are form (reference ∷ samples) places row some is =
     subst (ArePlaces form) (sym is) (row_places form reference samples row)
 
 -- mapped values lead back to their samples
-samples_from-mapped : (most p : ℕ) (samples : List ℕ) → p ≤ most → ((k : ℕ) → k < length samples → get_or samples k 0 ≤ most) → samples_from most p (mapped_from most p samples) ≡ samples
+samples_from-mapped : (most p : ℕ) (samples : List ℕ) → p ≤ most
+    → ((k : ℕ) → k < length samples → get_or samples k 0 ≤ most)
+    → samples_from most p (mapped_from most p samples) ≡ samples
 samples_from-mapped most p [] in_range small = samples_from-nil most p
 samples_from-mapped most p (sample ∷ samples) in_range small =
     let here = sample_of-mapped_value most p sample in_range (small 0 (omega arith)) in
     samples_from-cons most p (mapped_value most p sample) (mapped_from most sample samples)
     ∙ ap (λ s. s ∷ samples_from most s (mapped_from most sample samples)) here
-    ∙ ap (λ l. sample ∷ l) (samples_from-mapped most sample samples (small 0 (omega arith)) (λ k inside. small (suc k) (omega arith)))
+    ∙ ap (λ l. sample ∷ l) (samples_from-mapped most sample samples (small 0 (omega arith))
+    (λ k inside. small (suc k) (omega arith)))
 
 pub shortest_codes : (form : Form) (reference : ℕ) (samples : List ℕ) → IsRow form (reference ∷ samples) →
     Codes form reference (line_values form (reference ∷ samples)) (shortest_string form (reference ∷ samples))
@@ -141,6 +150,26 @@ coded_is_decoded form reference samples bytes row fills =
       is_string = fills.whole;
     }
 
+form_is : (form : Form) (samples : List ℕ) → IsRow form samples → 1 ≤ length samples → IsForm form
+form_is form samples row some =
+    let wide = block-wide form row.codable in
+    record {
+      least_bits = row.codable.least_bits;
+      most_bits = row.codable.most_bits;
+      least_block = omega (arith, wide);
+      most_block = block-most form row.codable;
+      even = block-even form row.codable;
+      some = omega (arith, row.columns, some);
+    }
+
+pub decoding_gives_the_line : DecodingGivesTheLine
+decoding_gives_the_line form reference samples bytes old new row fills grows =
+    let mine = coded_is_decoded form reference samples bytes row fills in
+    let both = lines_are_one form (form_is form (reference ∷ samples) row (omega arith)) 1 grows.samples
+    (reference ∷ samples) grows.begins.coding mine.coding grows.begins.rest mine.rest grows.begins.lines mine.lines
+    (sym grows.begins.is_string ∙ mine.is_string) in
+    grows.grown ∙ ap (λ l. old ++ l) both.0
+
 -- ---- fillings
 
 pub fillings_are_whole : FillingsAreWhole
@@ -165,8 +194,10 @@ same_byte a b fa fb same =
 same_bytes : (bytes others : List ℕ) → All (λ byte. byte < 256) bytes → All (λ byte. byte < 256) others
     → bits_of bytes ≡ bits_of others → bytes ≡ others
 same_bytes [] [] small also same = refl
-same_bytes [] (b ∷ others) small also same = absurd (omega (arith, ap length same, length-bits_of [], length-bits_of (b ∷ others)))
-same_bytes (a ∷ bytes) [] small also same = absurd (omega (arith, ap length same, length-bits_of [], length-bits_of (a ∷ bytes)))
+same_bytes [] (b ∷ others) small also same =
+    absurd (omega (arith, ap length same, length-bits_of [], length-bits_of (b ∷ others)))
+same_bytes (a ∷ bytes) [] small also same =
+    absurd (omega (arith, ap length same, length-bits_of [], length-bits_of (a ∷ bytes)))
 same_bytes (a ∷ bytes) (b ∷ others) small also same =
     let split : number_bits 8 a ++ bits_of bytes ≡ number_bits 8 b ++ bits_of others =
     sym (bits_of-cons a bytes) ∙ same ∙ bits_of-cons b others in

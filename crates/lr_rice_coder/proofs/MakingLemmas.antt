@@ -14,7 +14,8 @@ use Rattle.lr_rice.specs.CodedLines.{Form, form_of}
 use Rattle.lr_image.specs.Pgm.{line_pixels}
 use Rattle.lr_image.specs.Picture.{Picture}
 use Rattle.lr_rice_coder.specs.Coded.{IsCodedLine, IsLong, byte_count}
-use Rattle.lr_rice_coder.specs.Fronts.{AppendsRow, file_with, front_with, picture_with}
+use Rattle.lr_rice_coder.specs.Fronts.{AppendsLines, AppendsRow, HoldsLines, file_with, front_with, picture_with}
+use Rattle.lr_rice_coder.specs.declared.files.LineBytes.{LineBytes}
 use Rattle.lr_rice_coder.specs.Refusals.{AreShort, IsLongAt}
 use Rattle.lr_rice_coder.specs.Repacked.{AreCodedLines, form_with, line_size, rows_of}
 use Rattle.lr_rice_coder.specs.Shortest.{shortest_string}
@@ -50,12 +51,14 @@ AllZip-partner R f from (suc n) (suc k) (y ∷ ys) inside all =
 
 -- ---- lines
 
--- the first `count` lines are appended
-pub record LinesSoFar (picture : Picture) (block count : ℕ) (old_lengths new_lengths old new : List ℕ) : Type 0 where
+-- the first `count` lines are coded, and held as long as there is room for them
+pub record LinesSoFar (picture : Picture) (block room count : ℕ) (old new : LineBytes) : Type 0 where
   pub lines : List (List ℕ)
   pub coded : AllZip (IsCodedLine (form_with picture block)) (map (line_pixels picture) (range_with_len 0 count)) lines
-  pub lengths : new_lengths ≡ old_lengths ++ map length lines
-  pub bytes : new ≡ old ++ concat lines
+  pub size_is : new.size ≡ length (concat lines)
+  pub lengths : new.size ≤ room → new.lengths ≡ old.lengths ++ map length lines
+  pub bytes : new.size ≤ room → new.bytes ≡ concat lines
+  pub few : new.size ≤ 65535 * count
 
 -- a line as the code cuts it out
 pub row_cut : (pixels : List ℕ) (columns wide line start : ℕ) → wide ≡ columns → start ≡ line * wide
@@ -79,36 +82,61 @@ long_at picture block line row is size long =
     subst (λ (l : List ℕ). IsLong (form_with picture block) l) is
     (subst (λ (n : ℕ). IsLong (form_of picture.bits block n) row) size long)
 
-pub lines_more : (picture : Picture) (block count size : ℕ) (row old_lengths lengths longer old now new : List ℕ)
-    → LinesSoFar picture block count old_lengths lengths old now → row ≡ line_pixels picture count
-    → length row ≡ picture.columns → AppendsRow (form_of picture.bits block (length row)) row now new size
-    → longer ≡ lengths ++ size ∷ [] → LinesSoFar picture block (count + 1) old_lengths longer old new
-lines_more picture block count size row old_lengths lengths longer old now new so_far is wide appends pushed =
+pub lines_more : (picture : Picture) (block room count size : ℕ) (row appended : List ℕ) (old now new : LineBytes)
+    → LinesSoFar picture block room count old now → row ≡ line_pixels picture count → length row ≡ picture.columns
+    → AppendsRow (form_of picture.bits block (length row)) row now.bytes appended size → new.size ≡ now.size + size
+    → (new.size ≤ room → new.lengths ≡ now.lengths ++ size ∷ []) → (new.size ≤ room → new.bytes ≡ appended)
+    → LinesSoFar picture block room (count + 1) old new
+lines_more picture block room count size row appended old now new so_far is wide appends counted held kept =
     let rows = map (line_pixels picture) (range_with_len 0 count) in
     let lines = so_far.lines in
     let bytes = appends.bytes in
     let coded : IsCodedLine (form_with picture block) (line_pixels picture count) bytes =
     subst (λ (l : List ℕ). IsCodedLine (form_with picture block) l bytes) is
     (subst (λ (n : ℕ). IsCodedLine (form_of picture.bits block n) row bytes) wide appends.coded) in
+    let longer : concat (lines ++ bytes ∷ []) ≡ concat lines ++ bytes =
+    concat-append lines (bytes ∷ []) ∙ ap (λ (l : List ℕ). concat lines ++ l) (append-nil bytes) in
     record {
       lines = lines ++ bytes ∷ [];
       coded = subst (λ (l : List (List ℕ)). AllZip (IsCodedLine (form_with picture block)) l (lines ++ bytes ∷ []))
           (sym (map-range_with_len_more (line_pixels picture) 0 count count (omega arith)))
           (AllZip-push (IsCodedLine (form_with picture block)) rows lines (line_pixels picture count) bytes
           so_far.coded coded);
-      lengths = pushed ∙ ap (λ (n : ℕ). lengths ++ n ∷ []) appends.size_is
-          ∙ ap (λ (l : List ℕ). l ++ length bytes ∷ []) so_far.lengths
-          ∙ append_assoc old_lengths (map length lines) (length bytes ∷ [])
-          ∙ ap (λ (l : List ℕ). old_lengths ++ l) (sym (map-push lines bytes));
-      bytes = appends.appended ∙ ap (λ (l : List ℕ). l ++ bytes) so_far.bytes
-          ∙ append_assoc old (concat lines) bytes
-          ∙ ap (λ (l : List ℕ). old ++ l) (sym (concat-append lines (bytes ∷ [])
-          ∙ ap (λ (l : List ℕ). concat lines ++ l) (append-nil bytes)));
+      size_is = omega (
+        arith,
+        counted,
+        so_far.size_is,
+        appends.size_is,
+        ap length longer,
+        length-append (concat lines) bytes,
+      );
+      lengths = λ fits. held fits ∙ ap (λ (n : ℕ). now.lengths ++ n ∷ []) appends.size_is
+          ∙ ap (λ (l : List ℕ). l ++ length bytes ∷ []) (so_far.lengths (omega (arith, counted, fits)))
+          ∙ append_assoc old.lengths (map length lines) (length bytes ∷ [])
+          ∙ ap (λ (l : List ℕ). old.lengths ++ l) (sym (map-push lines bytes));
+      bytes = λ fits. kept fits ∙ appends.appended
+          ∙ ap (λ (l : List ℕ). l ++ bytes) (so_far.bytes (omega (arith, counted, fits))) ∙ sym longer;
+      few = omega (arith, counted, so_far.few, appends.size_is, appends.coded.short);
     }
   where
-    map-push : (lines : List (List ℕ)) (bytes : List ℕ) → map length (lines ++ bytes ∷ []) ≡ map length lines ++ length bytes ∷ []
+    map-push : (lines : List (List ℕ)) (bytes : List ℕ)
+        → map length (lines ++ bytes ∷ []) ≡ map length lines ++ length bytes ∷ []
     map-push [] bytes = refl
     map-push (l ∷ lines) bytes = ap (λ (x : List ℕ). length l ∷ x) (map-push lines bytes)
+
+-- after the last line, with the lengths that were there before it
+pub all_held : (picture : Picture) (block first room : ℕ) (old new : LineBytes)
+    → AppendsLines picture block room old new → (first ≤ 65534 → old.lengths ≡ first ∷ [])
+    → (first ≤ 65534 → first + room ≡ 67108864) → picture.lines < 65536 → HoldsLines picture block first new
+all_held picture block first room old new made before whole low = record {
+  lines = made.lines;
+  coded = made.coded;
+  size_is = made.size_is;
+  lengths = λ short fits. made.lengths (omega (arith, whole short, fits))
+      ∙ ap (λ (l : List ℕ). l ++ map length made.lines) (before short);
+  bytes = λ short fits. made.bytes (omega (arith, whole short, fits));
+  few = omega (arith, made.few, low);
+}
 
 coded_short : (form : Form) (row bytes : List ℕ) → IsCodedLine form row bytes → IsLong form row → ⊥
 coded_short form row bytes coded long =
@@ -118,7 +146,8 @@ pub short_so_far : (picture : Picture) (block count : ℕ) (lines : List (List �
     → AllZip (IsCodedLine (form_with picture block)) (map (line_pixels picture) (range_with_len 0 count)) lines
     → AreShort picture block count
 short_so_far picture block count lines coded line inside long =
-    let found = AllZip-partner (IsCodedLine (form_with picture block)) (line_pixels picture) 0 count line lines inside coded in
+    let found = AllZip-partner (IsCodedLine (form_with picture block))
+    (line_pixels picture) 0 count line lines inside coded in
     let here : 0 + line ≡ line = omega arith in
     coded_short (form_with picture block) (line_pixels picture line) found.0
     (subst (λ (i : ℕ). IsCodedLine (form_with picture block) (line_pixels picture i) found.0) here found.1) long
@@ -215,7 +244,8 @@ is_made file s pixels others block lines lengths bytes all vc apid counter coded
           (subst (λ (a : ℕ). MakeFile file.vc a lengths bytes) (sym apid_is)
           (subst (λ (l : List ℕ). MakeFile file.vc file.apid l bytes) sizes
           (subst (λ (b : List ℕ). MakeFile file.vc file.apid (map length whole.bodies) b) joined makes)));
-      same = ap (λ (v : ℕ). file_of v apid lengths bytes) vc_is ∙ ap (λ (a : ℕ). file_of file.vc a lengths bytes) apid_is
+      same = ap (λ (v : ℕ). file_of v apid lengths bytes) vc_is
+          ∙ ap (λ (a : ℕ). file_of file.vc a lengths bytes) apid_is
           ∙ ap (λ (l : List ℕ). file_of file.vc file.apid l bytes) (sym sizes)
           ∙ ap (λ (b : List ℕ). file_of file.vc file.apid (map length whole.bodies) b) (sym joined)
           ∙ file_of-parts whole;

@@ -48,7 +48,8 @@ new_header header picture block data_bits = record {
   entries = primary ∷ structure ∷ lossless ∷ moved 32 (others_of header.entries);
 }
 
-front_size : (header : Header) (picture : Picture) (block data_bits : ℕ) → length (new_front header picture block data_bits) ≡ 32
+front_size : (header : Header) (picture : Picture) (block data_bits : ℕ)
+    → length (new_front header picture block data_bits) ≡ 32
 front_size header picture block data_bits = refl
 
 pub new_size : (header : Header) (picture : Picture) (block data_bits : ℕ)
@@ -59,7 +60,8 @@ new_size header picture block data_bits =
 pub others_stand : (header : Header) → IsTiled header → AllStand header.bytes (others_of header.entries)
 others_stand header tiled = by_front header.bytes header.entries (length header.bytes) tiled.front
   where
-    by_front : (bytes : List ℕ) (entries : List Entry) (to : ℕ) → IsFront bytes entries to → AllStand bytes (others_of entries)
+    by_front : (bytes : List ℕ) (entries : List Entry) (to : ℕ) → IsFront bytes entries to
+        → AllStand bytes (others_of entries)
     by_front bytes [] to front = tt
     by_front bytes (first ∷ entries) to front = filter_stands bytes entries (tiling_stands bytes 16 entries to front.1)
 

@@ -1,10 +1,12 @@
 -- The header of a file that is coded anew: its records tile its bytes, and what they say.
 use Rattle.std.proofs.Common.{◌≡◌, ℕ, suc, ◌+◌, ◌-◌, ◌*◌, ◌<◌, ◌≤◌, Bool, true, false, not, ◌&&◌, ◌||◌}
-use Rattle.std.proofs.Common.{eqb, ltb, cond, Option, Some, None, List, [], ◌∷◌, ◌++◌, length, get_or, take, drop, filter}
+use Rattle.std.proofs.Common.{eqb, ltb, cond, Option, Some, None, List, [], ◌∷◌, ◌++◌, length, get_or, take, drop}
+use Rattle.std.proofs.Common.{filter}
 use Rattle.std.proofs.Common.{refl, sym, ap, ◌∙◌, subst, arith, length-append}
 use Rattle.std.specs.List.{flat_map, list_any}
 use Rattle.std.proofs.lemmas.Bool.{lt-leb}
-use Rattle.std.proofs.lemmas.List.{append_assoc, append-nil, drop-drop, drop-take, drop_at, get_or_append_left, get_or-append_right}
+use Rattle.std.proofs.lemmas.List.{append_assoc, append-nil, drop-drop, drop-take, drop_at, get_or_append_left}
+use Rattle.std.proofs.lemmas.List.{get_or-append_right}
 use Rattle.std.proofs.lemmas.List.{get_or-drop, get_or-take, length-take-le, length-drop, take_at}
 use Rattle.lr_headers.specs.Fields.{contents_of, is_key}
 use Rattle.lr_headers.specs.Tiling.{IsRecord, IsTiling, fault_at, has_wrong_length, kind_at, length_at}
@@ -20,7 +22,8 @@ pub past : (b : Bool) (fault : HeaderFault) (rest : Option HeaderFault) → b �
     → cond b (Some fault) rest ≡ None
 past b fault rest isnt none = ap (λ c. cond c (Some fault) rest) isnt ∙ none
 
-pub sound_record : (bytes : List ℕ) (place : ℕ) → place + length_at place bytes ≤ length bytes → 3 ≤ length_at place bytes
+pub sound_record : (bytes : List ℕ) (place : ℕ) → place + length_at place bytes ≤ length bytes
+    → 3 ≤ length_at place bytes
     → has_wrong_length (kind_at place bytes) (length_at place bytes) ≡ false → fault_at bytes place ≡ None
 sound_record bytes place ends long right =
     past (ltb (length bytes) (place + 3)) _ _ (lt-leb (suc (length bytes)) (place + 3) (omega arith))
@@ -56,9 +59,13 @@ record_stands bytes place e r =
           ∙ ap (λ (n : ℕ). has_wrong_length (kind_at place bytes) n) r.size ∙ ends.2;
     }
 
-pub tiling_stands : (bytes : List ℕ) (from : ℕ) (es : List Entry) (to : ℕ) → IsTiling bytes from es to → AllStand bytes es
+pub tiling_stands : (bytes : List ℕ) (from : ℕ) (es : List Entry) (to : ℕ) → IsTiling bytes from es to
+    → AllStand bytes es
 tiling_stands bytes from [] to h = tt
-tiling_stands bytes from (e ∷ es) to h = (record_stands bytes from e h.0, tiling_stands bytes (from + e.length) es to h.1)
+tiling_stands bytes from (e ∷ es) to h = (
+  record_stands bytes from e h.0,
+  tiling_stands bytes (from + e.length) es to h.1,
+)
 
 kept : (bytes : List ℕ) (e : Entry) (es : List Entry) (b : Bool) → Stands bytes e → AllStand bytes es
     → AllStand bytes (cond b (e ∷ es) es)
@@ -156,7 +163,8 @@ moved_tiling front bytes (e ∷ es) all =
     let later = moved_tiling (front ++ here) bytes es all.1 in (
       moved_record front bytes rest e all.0,
       subst (λ (w : List ℕ). IsTiling w (length front + e.length) (moved (length front + e.length) es) (length w)) both
-          (subst (λ (n : ℕ). IsTiling ((front ++ here) ++ rest) n (moved n es) (length ((front ++ here) ++ rest))) size later),
+          (subst (λ (n : ℕ). IsTiling ((front ++ here) ++ rest) n (moved n es) (length ((front ++ here) ++ rest)))
+          size later),
     )
 
 -- ---- keys
@@ -196,7 +204,8 @@ moved_keys front bytes (e ∷ es) all =
     || list_any (is_key whole) (moved (length front + e.length) es)) (moved_contents front bytes rest e all.0)
     ∙ ap (λ (b : Bool). is_key bytes e || b)
     (subst (λ (w : List ℕ). list_any (is_key w) (moved (length front + e.length) es) ≡ list_any (is_key bytes) es) both
-    (subst (λ (n : ℕ). list_any (is_key ((front ++ here) ++ rest)) (moved n es) ≡ list_any (is_key bytes) es) size later))
+    (subst (λ (n : ℕ). list_any (is_key ((front ++ here) ++ rest)) (moved n es)
+    ≡ list_any (is_key bytes) es) size later))
 
 neither : (a b : Bool) → (a || b) ≡ false → (a ≡ false) × (b ≡ false)
 neither true b is = absurd (cc)

@@ -1,6 +1,7 @@
 -- A file that is coded anew has the image of the old one.
 use Rattle.std.proofs.Common.{◌≡◌, ℕ, zero, suc, ◌+◌, ◌-◌, ◌*◌, ◌^◌, ◌<◌, ◌≤◌, Bool, true, false, not, ◌||◌, min}
-use Rattle.std.proofs.Common.{All, eqb, cond, Option, Some, None, Result, Ok, Err, List, [], ◌∷◌, ◌++◌, length, map, take}
+use Rattle.std.proofs.Common.{All, eqb, cond, Option, Some, None, Result, Ok, Err, List, [], ◌∷◌, ◌++◌, length, map}
+use Rattle.std.proofs.Common.{take}
 use Rattle.std.proofs.Common.{get_or, drop, refl, sym, ap, ◌∙◌, subst, arith, inl, inr, length-append}
 use Rattle.std.specs.List.{AllZip, concat, list_any, range_with_len}
 use Rattle.std.proofs.Math.Seq.{take-add}
@@ -20,7 +21,8 @@ use Rattle.lr_headers.proofs.Tilings.{headers_are_one}
 use Rattle.lr_rice.specs.declared.choice.BlockOption.{BlockOption}
 use Rattle.lr_rice.specs.declared.choice.BlockOption.TheVariants.{ZeroBlock, SecondExtension, Split, Uncoded}
 use Rattle.lr_rice.specs.CodedLines.{BeginsWithLines, Form, block_count, body_string, greatest, head_string}
-use Rattle.lr_rice.specs.CodedLines.{identifier, left_in_segment, option_of, part_string, short_width, span_of, string_from}
+use Rattle.lr_rice.specs.CodedLines.{identifier, left_in_segment, option_of, part_string, short_width, span_of}
+use Rattle.lr_rice.specs.CodedLines.{string_from}
 use Rattle.lr_rice.proofs.LineLemmas.{block_count-pos}
 use Rattle.lr_image.specs.Pgm.{line_pixels}
 use Rattle.lr_image.specs.Picture.{Picture, IsPicture}
@@ -199,7 +201,8 @@ first_passed : (first : List ℕ) (lines : List (List ℕ)) (skipped : ℕ) → 
     → pieces_after skipped (first ∷ lines) ≡ pieces_after 0 lines
 first_passed first lines skipped size =
     let none : skipped - length first ≡ 0 = omega arith in
-    ap (λ (l : List ℕ). piece_with l (pieces_after (skipped - length first) lines)) (drop_all skipped first (omega arith))
+    ap (λ (l : List ℕ). piece_with l (pieces_after (skipped - length first) lines))
+    (drop_all skipped first (omega arith))
     ∙ ap (λ (k : ℕ). pieces_after k lines) none
 
 -- ---- what the old header says
@@ -209,7 +212,8 @@ record IsShown (header : Header) (s : Structure) : Type 0 where
   says : structure_of header ≡ Some s
   shown : is_encrypted header ≡ false
 
-from_unless : (o : Option ImageFault) (r : Result Shape ImageFault) (shape : Shape) → unless o r ≡ Ok shape → r ≡ Ok shape
+from_unless : (o : Option ImageFault) (r : Result Shape ImageFault) (shape : Shape) → unless o r ≡ Ok shape
+    → r ≡ Ok shape
 from_unless (Some fault) r shape e = absurd (cc)
 from_unless None r shape e = e
 
@@ -220,7 +224,8 @@ made_of s l shape e =
     let same : made ≡ shape = cc in
     ap (λ (x : Shape). x.structure) same
 
-lossless_of_it : (s : Structure) (o : Option Lossless) (shape : Shape) → lossless_shape s o ≡ Ok shape → s ≡ shape.structure
+lossless_of_it : (s : Structure) (o : Option Lossless) (shape : Shape) → lossless_shape s o ≡ Ok shape
+    → s ≡ shape.structure
 lossless_of_it s None shape e = absurd (cc)
 lossless_of_it s (Some l) shape e =
     made_of s (Some l) shape (from_unless (lossless_fault l) _ shape (from_unless (size_fault 5 s) _ shape e))
@@ -321,7 +326,8 @@ known file picture header image is_header =
     )
 
 -- keys among the records that stay
-keys_of : (header : Header) → is_encrypted header ≡ false → list_any (is_key header.bytes) (others_of header.entries) ≡ false
+keys_of : (header : Header) → is_encrypted header ≡ false
+    → list_any (is_key header.bytes) (others_of header.entries) ≡ false
 keys_of header none = by_entries header.bytes header.entries none
   where
     by_entries : (bytes : List ℕ) (entries : List Entry) → list_any (is_key bytes) entries ≡ false
@@ -398,7 +404,8 @@ repacked_keeps_name file new block re =
     record {
       channel = ap (λ (f : File). f.vc) re.is_new;
       application = ap (λ (f : File). f.apid) re.is_new;
-      counter = ap (λ (f : File). counter_of f) re.is_new ∙ big_number-reads_back 2 (counter_of file) rest re.narrow.counter;
+      counter = ap (λ (f : File). counter_of f) re.is_new
+          ∙ big_number-reads_back 2 (counter_of file) rest re.narrow.counter;
     }
 
 -- ---- the lengths that the new file tells
@@ -428,11 +435,13 @@ repacked_tells_lengths file new block re =
     ∙ ap (λ (n : ℕ). 8 * n) (sym whole) ∙ ap (λ (f : File). real_bits_of f) (sym re.is_new) in
     let stand = others_stand header re.source.is_header.tiled in
     let short = is_file.short 0 [] (omega arith) in
-    let read = new_header_is header picture block (8 * size) (concat re.lines) stand (omega (arith, short, body_size)) in
+    let read = new_header_is header picture block (8 * size) (concat re.lines) stand
+    (omega (arith, short, body_size)) in
     record {
       proper = proper;
       header = new_header header picture block (8 * size);
-      is_header = subst (λ (f : File). IsHeaderOf (proper_of f) (new_header header picture block (8 * size))) (sym re.is_new) read;
+      is_header = subst (λ (f : File). IsHeaderOf (proper_of f) (new_header header picture block (8 * size)))
+          (sym re.is_new) read;
       field = new_data_bits header picture block (8 * size) (omega (arith, few))
           ∙ ap (λ (l : List ℕ). 8 * length l) (sym (drop_at bytes (concat re.lines) (length bytes) refl))
           ∙ ap (λ (f : File). 8 * length (drop (length bytes) (proper_of f))) (sym re.is_new);

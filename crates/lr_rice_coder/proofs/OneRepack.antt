@@ -14,7 +14,8 @@ use Rattle.lr_image.proofs.OneReading.{outcomes_are_one}
 use Rattle.lr_rice_coder.specs.Coded.{IsCodedLine}
 use Rattle.lr_rice_coder.specs.Laws.{RepacksAreOne}
 use Rattle.lr_rice_coder.specs.Refusals.{AreShort, HasLongLine, HasRepackFault}
-use Rattle.lr_rice_coder.specs.Repacked.{AreCodedLines, IsRepacked, IsSource, file_size, first_body, first_size, form_with}
+use Rattle.lr_rice_coder.specs.Repacked.{AreCodedLines, IsRepacked, IsSource, file_size, first_body, first_size}
+use Rattle.lr_rice_coder.specs.Repacked.{form_with}
 use Rattle.lr_rice_coder.specs.Repacked.{new_records, records_size, repacked_file, rows_of, transport_header}
 use Rattle.lr_rice_coder.specs.declared.fault.RepackFault.{RepackFault}
 use Rattle.lr_rice_coder.specs.declared.fault.RepackFault.TheVariants as fault
@@ -48,7 +49,8 @@ lines_one form (row ∷ rows) (a ∷ lines) (b ∷ others) one other =
     ∙ ap (λ (l : List (List ℕ)). b ∷ l) (lines_one form rows lines others one.1 other.1)
 
 -- the first long line is one
-first_long : (picture : Picture) (block line other : ℕ) → HasLongLine picture block line → HasLongLine picture block other
+first_long : (picture : Picture) (block line other : ℕ) → HasLongLine picture block line
+    → HasLongLine picture block other
     → line ≡ other
 first_long picture block line other one two =
     elim (cases_lt line other) [
@@ -82,7 +84,8 @@ no_long_line file block line p q h k is source has =
 same_header : (file : File) (p q : Picture) (h k : Header) → IsSource file p h → IsSource file q k → h ≡ k
 same_header file p q h k one other = headers_are_one (proper_of file) h k one.is_header other.is_header
 
-deep_enough : {A : Type 0} (file : File) (p q : Picture) → IsImageOf file p → 5 ≤ p.bits → IsImageOf file q → q.bits < 5 → A
+deep_enough : {A : Type 0} (file : File) (p q : Picture) → IsImageOf file p → 5 ≤ p.bits → IsImageOf file q
+    → q.bits < 5 → A
 deep_enough file p q one deep other few =
     absurd (omega (arith, ap (λ (x : Picture). x.bits) (pictures_one file p q one other), deep, few))
 
@@ -103,7 +106,8 @@ fits_body file new block re =
     let short = is_file.short 0 [] (omega arith) in
     omega (arith, short, body_size file re.header re.picture block (length (concat re.lines)))
 
-fits_file : (file new : File) (block : ℕ) (re : IsRepacked file block new) → file_size re.header re.picture block ≤ 67108864
+fits_file : (file new : File) (block : ℕ) (re : IsRepacked file block new)
+    → file_size re.header re.picture block ≤ 67108864
 fits_file file new block re =
     let is_file = subst IsFile re.is_new re.is_file in
     let body = first_body file re.header re.picture block (length (concat re.lines)) in
@@ -123,7 +127,8 @@ news_one file new other block re also =
     let q = also.picture in
     let same = pictures_one file p q re.source.is_image also.source.is_image in
     let header = same_header file p q re.header also.header re.source also.source in
-    let coded : AreCodedLines q block re.lines = subst (λ (x : Picture). AreCodedLines x block re.lines) same re.coded in
+    let coded : AreCodedLines q block re.lines =
+    subst (λ (x : Picture). AreCodedLines x block re.lines) same re.coded in
     let lines = lines_one (form_with q block) (rows_of q) re.lines also.lines coded also.coded in
     re.is_new ∙ ap (λ (h : Header). repacked_file file h p block re.lines) header
     ∙ ap (λ (x : Picture). repacked_file file also.header x block re.lines) same
@@ -136,7 +141,8 @@ not_both file new block (fault.Image cause) re has = no_fault file re.picture ca
 not_both file new block (fault.Depth bits) re has =
     deep_enough file re.picture has.picture re.source.is_image re.source.deep has.is_image has.few
 not_both file new block (fault.Line line) re has =
-    no_long_line file block line re.picture has.picture re.header has.header (lined file new block re) has.source has.has
+    no_long_line file block line re.picture has.picture re.header has.header
+    (lined file new block re) has.source has.has
 not_both file new block (fault.Header size) re has =
     let same = same_header file re.picture has.picture re.header has.header re.source has.source in
     absurd (omega (arith, fits_body file new block re, has.long, has.size_is, ap first_size same))
@@ -170,7 +176,8 @@ refusals_one file block (fault.Line a) (fault.Image b) h k = no_fault file h.pic
 refusals_one file block (fault.Header a) (fault.Image b) h k = no_fault file h.picture b h.source.is_image k
 refusals_one file block (fault.File a) (fault.Image b) h k = no_fault file h.picture b h.source.is_image k
 refusals_one file block (fault.Depth a) (fault.Depth b) h k =
-    ap fault.Depth (h.are_bits ∙ ap (λ (x : Picture). x.bits) (pictures_one file h.picture k.picture h.is_image k.is_image)
+    ap fault.Depth (h.are_bits
+    ∙ ap (λ (x : Picture). x.bits) (pictures_one file h.picture k.picture h.is_image k.is_image)
     ∙ sym k.are_bits)
 refusals_one file block (fault.Depth a) (fault.Line b) h k =
     deep_enough file k.picture h.picture k.source.is_image k.source.deep h.is_image h.few
@@ -188,16 +195,32 @@ refusals_one file block (fault.Line a) (fault.Line b) h k =
     let same = pictures_one file h.picture k.picture h.source.is_image k.source.is_image in
     ap fault.Line (first_long k.picture block a b (subst (λ (x : Picture). HasLongLine x block a) same h.has) k.has)
 refusals_one file block (fault.Line a) (fault.Header b) h k =
-    no_long_line file block a k.picture h.picture k.header h.header (record { source = k.source; short = k.short }) h.source
+    no_long_line file block a k.picture h.picture k.header h.header (record {
+      source = k.source;
+      short =
+          k.short;
+    }) h.source
     h.has
 refusals_one file block (fault.Line a) (fault.File b) h k =
-    no_long_line file block a k.picture h.picture k.header h.header (record { source = k.source; short = k.short }) h.source
+    no_long_line file block a k.picture h.picture k.header h.header (record {
+      source = k.source;
+      short =
+          k.short;
+    }) h.source
     h.has
 refusals_one file block (fault.Header a) (fault.Line b) h k =
-    no_long_line file block b h.picture k.picture h.header k.header (record { source = h.source; short = h.short }) k.source
+    no_long_line file block b h.picture k.picture h.header k.header (record {
+      source = h.source;
+      short =
+          h.short;
+    }) k.source
     k.has
 refusals_one file block (fault.File a) (fault.Line b) h k =
-    no_long_line file block b h.picture k.picture h.header k.header (record { source = h.source; short = h.short }) k.source
+    no_long_line file block b h.picture k.picture h.header k.header (record {
+      source = h.source;
+      short =
+          h.short;
+    }) k.source
     k.has
 refusals_one file block (fault.Header a) (fault.Header b) h k =
     let same = same_header file h.picture k.picture h.header k.header h.source k.source in

@@ -1,5 +1,6 @@
 -- The records that stay, one after another.
-use Rattle.std.proofs.Common.{◌≡◌, ℕ, zero, suc, ◌+◌, ◌<◌, ◌≤◌, Bool, true, false, cond, Some, List, [], ◌∷◌, ◌++◌, length}
+use Rattle.std.proofs.Common.{◌≡◌, ℕ, zero, suc, ◌+◌, ◌<◌, ◌≤◌, Bool, true, false, cond, Some, List, [], ◌∷◌, ◌++◌}
+use Rattle.std.proofs.Common.{length}
 use Rattle.std.proofs.Common.{get_or, take, drop, filter, sym, ap, ◌∙◌, arith, inl, inr}
 use Rattle.std.specs.List.{flat_map, slice_get}
 use Rattle.std.proofs.lemmas.Bool.{cases_lt}
@@ -15,7 +16,8 @@ got (x ∷ es) zero d e h = cc
 got (x ∷ es) (suc k) d e h = got es k d e h
 
 -- the header as the code cuts it out
-header_cut : (proper bytes : List ℕ) (long size : ℕ) → bytes ≡ take long proper → size ≡ length bytes → take size proper ≡ bytes
+header_cut : (proper bytes : List ℕ) (long size : ℕ) → bytes ≡ take long proper → size ≡ length bytes
+    → take size proper ≡ bytes
 header_cut proper bytes long size is same =
     elim (cases_lt (length proper) long) [
       | inl past ↦
@@ -51,7 +53,8 @@ other_more bytes es others all place e so_far inside there is =
     let rest = filter is_other (drop (place + 1) es) in
     append_assoc others (record_bytes bytes e) (flat_map (record_bytes bytes) rest)
     ∙ ap (λ (b : Bool). others ++ flat_map (record_bytes bytes) (cond b (e ∷ rest) rest)) (sym is)
-    ∙ ap (λ (l : List Entry). others ++ flat_map (record_bytes bytes) (filter is_other l)) (sym (next_entry es place e inside there))
+    ∙ ap (λ (l : List Entry). others ++ flat_map (record_bytes bytes) (filter is_other l))
+    (sym (next_entry es place e inside there))
     ∙ so_far
 
 pub other_less : (bytes : List ℕ) (es : List Entry) (others all : List ℕ) (place : ℕ) (e : Entry)
@@ -61,5 +64,6 @@ pub other_less : (bytes : List ℕ) (es : List Entry) (others all : List ℕ) (p
 other_less bytes es others all place e so_far inside there isnt =
     let rest = filter is_other (drop (place + 1) es) in
     ap (λ (b : Bool). others ++ flat_map (record_bytes bytes) (cond b (e ∷ rest) rest)) (sym isnt)
-    ∙ ap (λ (l : List Entry). others ++ flat_map (record_bytes bytes) (filter is_other l)) (sym (next_entry es place e inside there))
+    ∙ ap (λ (l : List Entry). others ++ flat_map (record_bytes bytes) (filter is_other l))
+    (sym (next_entry es place e inside there))
     ∙ so_far

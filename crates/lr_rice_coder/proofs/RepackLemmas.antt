@@ -16,7 +16,8 @@ use Rattle.lr_rice_coder.specs.declared.fault.RepackFault.TheVariants as fault
 use Rattle.lr_rice_coder.proofs.NewImages.{known}
 
 -- what is known of the file where its image is coded
-pub record IsReadFile (file : File) (picture : Picture) (header : Header) (s : Structure) (pixels others : List ℕ) : Type 0 where
+pub record IsReadFile (file : File) (picture : Picture) (header : Header) (s : Structure)
+    (pixels others : List ℕ) : Type 0 where
   pub image : IsImageOf file picture
   pub deep : 5 ≤ picture.bits
   pub is_header : IsHeaderOf (proper_of file) header
@@ -51,7 +52,8 @@ picture_said file picture header s pixels others is =
         (record { bits = x; columns = y; lines = z; pixels = p })
     picture_from e f g = rw (e, f, g) refl
 
-pub can_be_coded : (file : File) (picture : Picture) (header : Header) (s : Structure) (pixels others : List ℕ) (block : ℕ)
+pub can_be_coded : (file : File) (picture : Picture) (header : Header) (s : Structure) (pixels others : List ℕ)
+    (block : ℕ)
     → IsReadFile file picture header s pixels others → IsBlock block → IsCodedImage s pixels block
 can_be_coded file picture header s pixels others block is is_block =
     let same = picture_said file picture header s pixels others is in

@@ -15,9 +15,9 @@ use Rattle.lr_rice.specs.CodedLines.{pair_number, pairs_string, short_width}
 use Rattle.lr_rice.proofs.ItemLemmas.{length-flat_map_numbers}
 use Rattle.lr_rice_coder.specs.Costs.{IsShortestSplit, highs_sum}
 use Rattle.lr_rice_coder.specs.Shortest.{block_values, cost_of, most_split, shorter_option, shortest_option}
-use Rattle.lr_rice_coder.specs.Shortest.{shortest_split}
-use Rattle.lr_rice_coder.proofs.CostLemmas.{lead_back, length-zeros_and_one, shortest_option-is, shortest_split-first}
-use Rattle.lr_rice_coder.proofs.CostLemmas.{shortest_split-next}
+use Rattle.lr_rice_coder.specs.Shortest.{shortest_up_to}
+use Rattle.lr_rice_coder.proofs.CostLemmas.{lead_back, length-zeros_and_one, shortest_option-is, shortest_up_to-first}
+use Rattle.lr_rice_coder.proofs.CostLemmas.{shortest_up_to-next}
 use Rattle.lr_rice_coder.proofs.OptionLemmas.{shorter_option-least}
 
 -- ---- sums of high parts
@@ -42,7 +42,8 @@ highs_sum-halves k (value ∷ values) =
     )
 
 highs_sum-falls : (j d : ℕ) (values : List ℕ) → highs_sum (j + d) values ≤ highs_sum j values
-highs_sum-falls j zero values = let none : j + 0 ≡ j = omega arith in omega (arith, ap (λ (k : ℕ). highs_sum k values) none)
+highs_sum-falls j zero values = let none : j + 0 ≡ j = omega arith in
+    omega (arith, ap (λ (k : ℕ). highs_sum k values) none)
 highs_sum-falls j (suc d) values =
     let next : j + suc d ≡ j + d + 1 = omega arith in
     omega (
@@ -258,12 +259,12 @@ takes bits first places one other less =
 -- where the second extension is no longer than any of the splits
 no_split : (bits : ℕ) (first : Bool) (places : List ℕ) (most : ℕ)
     → ((j : ℕ) → j ≤ most → cost_of bits first places SecondExtension ≤ cost_of bits first places (Split j))
-    → shortest_split bits first places most ≡ SecondExtension
+    → shortest_up_to bits first places most ≡ SecondExtension
 no_split bits first places zero least =
-    shortest_split-first bits first places
+    shortest_up_to-first bits first places
     ∙ keeps bits first places SecondExtension (Split 0) (least 0 (omega arith))
 no_split bits first places (suc most) least =
-    shortest_split-next bits first places most
+    shortest_up_to-next bits first places most
     ∙ ap (λ o. shorter_option bits first places o (Split (suc most)))
     (no_split bits first places most (λ j inside. least j (omega arith)))
     ∙ keeps bits first places SecondExtension (Split (suc most)) (least (suc most) (omega arith))
@@ -282,41 +283,43 @@ over_either bits first places bound one other p q =
 over : (bits : ℕ) (first : Bool) (places : List ℕ) (bound most : ℕ)
     → bound < cost_of bits first places SecondExtension
     → ((j : ℕ) → j ≤ most → bound < cost_of bits first places (Split j))
-    → bound < cost_of bits first places (shortest_split bits first places most)
+    → bound < cost_of bits first places (shortest_up_to bits first places most)
 over bits first places bound zero pairs splits =
-    subst (λ o. bound < cost_of bits first places o) (sym (shortest_split-first bits first places))
+    subst (λ o. bound < cost_of bits first places o) (sym (shortest_up_to-first bits first places))
     (over_either bits first places bound SecondExtension (Split 0) pairs (splits 0 (omega arith)))
 over bits first places bound (suc most) pairs splits =
-    subst (λ o. bound < cost_of bits first places o) (sym (shortest_split-next bits first places most))
-    (over_either bits first places bound (shortest_split bits first places most) (Split (suc most))
+    subst (λ o. bound < cost_of bits first places o) (sym (shortest_up_to-next bits first places most))
+    (over_either bits first places bound (shortest_up_to bits first places most) (Split (suc most))
     (over bits first places bound most pairs (λ j inside. splits j (omega arith))) (splits (suc most) (omega arith)))
 
 -- a split that all others come to is the one that is compared with the second extension
 search : (bits : ℕ) (first : Bool) (places : List ℕ) (most k : ℕ) → k ≤ most
     → ((j : ℕ) → j < k → cost_of bits first places (Split k) < cost_of bits first places (Split j))
     → ((j : ℕ) → j ≤ most → cost_of bits first places (Split k) ≤ cost_of bits first places (Split j))
-    → shortest_split bits first places most ≡ shorter_option bits first places SecondExtension (Split k)
+    → shortest_up_to bits first places most ≡ shorter_option bits first places SecondExtension (Split k)
 search bits first places zero k inside before least =
     let here : 0 ≡ k = omega arith in
-    shortest_split-first bits first places ∙ ap (λ (i : ℕ). shorter_option bits first places SecondExtension (Split i)) here
+    shortest_up_to-first bits first places
+    ∙ ap (λ (i : ℕ). shorter_option bits first places SecondExtension (Split i)) here
 search bits first places (suc most) k inside before least =
     let cost = cost_of bits first places in
     elim (cases_lt k (suc most)) [
       | inl earlier ↦
           let found = search bits first places most k (omega arith) before (λ j below. least j (omega arith)) in
           let chosen = shorter_option bits first places SecondExtension (Split k) in
-          let few : cost chosen ≤ cost (Split k) = (shorter_option-least bits first places SecondExtension (Split k)).1 in
-          shortest_split-next bits first places most
+          let few : cost chosen ≤ cost (Split k) =
+          (shorter_option-least bits first places SecondExtension (Split k)).1 in
+          shortest_up_to-next bits first places most
           ∙ ap (λ o. shorter_option bits first places o (Split (suc most))) found
           ∙ keeps bits first places chosen (Split (suc most)) (omega (arith, few, least (suc most) (omega arith)))
       | inr last ↦
           let here : suc most ≡ k = omega arith in
-          shortest_split-next bits first places most
-          ∙ ap (λ (i : ℕ). shorter_option bits first places (shortest_split bits first places most) (Split i)) here
+          shortest_up_to-next bits first places most
+          ∙ ap (λ (i : ℕ). shorter_option bits first places (shortest_up_to bits first places most) (Split i)) here
           ∙ elim (cases_lt (cost (Split k)) (cost SecondExtension)) [
             | inl less ↦
                 let more = over bits first places (cost (Split k)) most less (λ j below. before j (omega arith)) in
-                takes bits first places (shortest_split bits first places most) (Split k) more
+                takes bits first places (shortest_up_to bits first places most) (Split k) more
                 ∙ sym (takes bits first places SecondExtension (Split k) less)
             | inr pairs ↦ ap (λ o. shorter_option bits first places o (Split k))
                 (no_split bits first places most (λ j below. omega (arith, pairs, before j (omega arith))))
@@ -375,13 +378,23 @@ pub record IsSearched (bits : ℕ) (first : Bool) (places : List ℕ) (k : ℕ) 
   pub shortest : IsShortestSplit (most_split bits) (block_values first places) k
 
 searched : (bits : ℕ) (first : Bool) (places : List ℕ) (k : ℕ) → IsSearched bits first places k
-    → shortest_split bits first places (most_split bits) ≡ shorter_option bits first places SecondExtension (Split k)
+    → shortest_up_to bits first places (most_split bits) ≡ shorter_option bits first places SecondExtension (Split k)
 searched bits first places k is =
     let values = block_values first places in
     let here = cost-split bits first places k in
     search bits first places (most_split bits) k is.shortest.inside
-    (λ j below. omega (arith, here, cost-split bits first places j, split-first (most_split bits) values k is.shortest j below))
-    (λ j below. omega (arith, here, cost-split bits first places j, split-least (most_split bits) values k is.shortest j below))
+    (λ j below. omega (
+      arith,
+      here,
+      cost-split bits first places j,
+      split-first (most_split bits) values k is.shortest j below,
+    ))
+    (λ j below. omega (
+      arith,
+      here,
+      cost-split bits first places j,
+      split-least (most_split bits) values k is.shortest j below,
+    ))
 
 -- the three outcomes of the search
 pub pairs_are_shortest : (bits : ℕ) (first : Bool) (places : List ℕ) (k : ℕ) → IsSearched bits first places k

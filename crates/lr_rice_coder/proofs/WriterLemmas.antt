@@ -41,7 +41,8 @@ pending_fits count pending width number few fits =
       mul-add-lt pending (2 ^ width) number (2 ^ count) few fits,
     )
 
-byte_first : (high word : ℕ) → number_bits (8 + high) word ≡ number_bits 8 (word / 2 ^ high % 256) ++ number_bits high word
+byte_first : (high word : ℕ) → number_bits (8 + high) word
+    ≡ number_bits 8 (word / 2 ^ high % 256) ++ number_bits high word
 byte_first high word =
     number_bits_split 8 high word ∙ ap (λ l. l ++ number_bits high word) (number_bits-mod 8 (word / 2 ^ high))
 
@@ -99,12 +100,14 @@ zeros_before (suc m) n =
 
 -- ---- runs
 
-pub zero_run-stop : (block : ℕ) (places : List ℕ) (n at : ℕ) → all_zero (block_at block places at) ≡ false → zero_run block places n at ≡ 0
+pub zero_run-stop : (block : ℕ) (places : List ℕ) (n at : ℕ) → all_zero (block_at block places at) ≡ false
+    → zero_run block places n at ≡ 0
 unfolding zero_run
 zero_run-stop block places zero at isnt = refl
 zero_run-stop block places (suc n) at isnt = ap (λ b. if b then suc (zero_run block places n (at + 1)) else 0) isnt
 
-pub zero_run-more : (block : ℕ) (places : List ℕ) (n at : ℕ) → all_zero (block_at block places at) ≡ true → zero_run block places (suc n) at ≡ suc (zero_run block places n (at + 1))
+pub zero_run-more : (block : ℕ) (places : List ℕ) (n at : ℕ) → all_zero (block_at block places at) ≡ true
+    → zero_run block places (suc n) at ≡ suc (zero_run block places n (at + 1))
 unfolding zero_run
 zero_run-more block places n at is = ap (λ b. if b then suc (zero_run block places n (at + 1)) else 0) is
 

@@ -6,7 +6,8 @@ use Rattle.std.specs.List.{sum_by}
 abbrev pub highs_sum : ℕ → List ℕ → ℕ
 highs_sum k values = sum_by (λ value. value / 2 ^ k) values
 
--- Of the splits by at most `most` bits that by k bits is the first of the shortest: the one by a bit less is longer, and
+-- Of the splits by at most `most` bits that by k bits is the first of the shortest: the one by a bit less is longer,
+-- and
 -- the one by a bit more isn't shorter.
 pub record IsShortestSplit (most : ℕ) (values : List ℕ) (k : ℕ) : Type 0 where
   pub inside : k ≤ most

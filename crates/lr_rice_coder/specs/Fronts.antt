@@ -1,7 +1,6 @@
 -- What the steps of coding a file anew do.
-use Rattle.std.specs.Prelude.{◌≡◌, ◌<◌, ◌≤◌, ◌+◌, ◌*◌, ℕ, List, [], ◌∷◌, ◌++◌, length, map}
-use Rattle.std.specs.List.{sum_by}
-use Rattle.std.specs.List.{concat}
+use Rattle.std.specs.Prelude.{◌≡◌, ◌<◌, ◌≤◌, ◌+◌, ◌*◌, ◌^◌, ℕ, List, [], ◌∷◌, ◌++◌, length, map}
+use Rattle.std.specs.List.{concat, sum_by}
 use Rattle.lr_bits.specs.File.{File, IsFile, counter_of}
 use Rattle.lr_headers.specs.declared.fields.Structure.{Structure}
 use Rattle.lr_rice.specs.CodedLines.{Form}
@@ -10,6 +9,7 @@ use Rattle.lr_rice_coder.specs.Coded.{IsBlock, IsCodedLine}
 use Rattle.lr_rice_coder.specs.Repacked.{AreCodedLines, lossless_record, primary_record, structure_record}
 use Rattle.lr_rice_coder.specs.Repacked.{line_size, rows_of, transport_header}
 use Rattle.lr_rice_coder.specs.Refusals.{AreShort, HasLongLine}
+use Rattle.lr_rice_coder.specs.declared.files.LineBytes.{LineBytes}
 use Rattle.lr_rice_coder.specs.declared.fault.RepackFault.{RepackFault}
 use Rattle.lr_rice_coder.specs.declared.fault.RepackFault.TheVariants as fault
 
@@ -48,15 +48,28 @@ pub record AppendsRow (form : Form) (row old new : List ℕ) (size : ℕ) : Type
   pub appended : new ≡ old ++ bytes
   pub size_is : size ≡ length bytes
 
--- the bytes of all lines were appended, and the number of bytes of each
-pub record AppendsLines (picture : Picture) (block : ℕ) (old_lengths new_lengths old new : List ℕ) : Type 0 where
+-- All lines were coded. Their lengths and bytes were appended as long as all of them are no more than there is room
+-- for; how many bytes they have is known anyway.
+pub record AppendsLines (picture : Picture) (block room : ℕ) (old new : LineBytes) : Type 0 where
   pub lines : List (List ℕ)
   pub coded : AreCodedLines picture block lines
-  pub lengths : new_lengths ≡ old_lengths ++ map length lines
-  pub bytes : new ≡ old ++ concat lines
+  pub size_is : new.size ≡ length (concat lines)
+  pub lengths : new.size ≤ room → new.lengths ≡ old.lengths ++ map length lines
+  pub bytes : new.size ≤ room → new.bytes ≡ concat lines
+  pub few : new.size ≤ 65535 * picture.lines
+
+-- All lines are coded, after a first body of `first` bytes. Where a file has room for them, lengths and bytes are held.
+pub record HoldsLines (picture : Picture) (block first : ℕ) (held : LineBytes) : Type 0 where
+  pub lines : List (List ℕ)
+  pub coded : AreCodedLines picture block lines
+  pub size_is : held.size ≡ length (concat lines)
+  pub lengths : first ≤ 65534 → first + held.size ≤ 67108864 → held.lengths ≡ first ∷ map length lines
+  pub bytes : first ≤ 65534 → first + held.size ≤ 67108864 → held.bytes ≡ concat lines
+  pub few : held.size < 2 ^ 32
 
 -- the file was made of the image's lines
-pub record MakesFile (file : File) (s : Structure) (pixels : List ℕ) (block : ℕ) (others : List ℕ) (new : File) : Type 0 where
+pub record MakesFile (file : File) (s : Structure) (pixels : List ℕ) (block : ℕ) (others : List ℕ)
+    (new : File) : Type 0 where
   pub counter : counter_of file < 65536
   pub lines : List (List ℕ)
   pub coded : AreCodedLines (picture_with s pixels) block lines

@@ -1,9 +1,9 @@
 -- What holds of all coded lines, and of all files that are coded anew.
-use Rattle.std.specs.Prelude.{◌≡◌, ◌≤◌, ◌^◌, ◌<◌, ℕ, List, ◌∷◌, length, drop, Result}
+use Rattle.std.specs.Prelude.{◌≡◌, ◌≤◌, ◌^◌, ◌<◌, ℕ, List, ◌∷◌, ◌++◌, length, drop, Result}
 use Rattle.std.specs.List.{All}
 use Rattle.lr_bits.specs.Bits.{bits_of}
 use Rattle.lr_bits.specs.File.{File}
-use Rattle.lr_rice.specs.CodedLines.{BeginsWithLines, Codes, Form, IsLine}
+use Rattle.lr_rice.specs.CodedLines.{BeginsWithLines, Codes, Form, GrowsByLines, IsLine}
 use Rattle.lr_rice_coder.specs.Coded.{Fills, IsBlock, IsCodable, IsCodedLine, byte_count}
 use Rattle.lr_rice_coder.specs.Refusals.{HasOutcome}
 use Rattle.lr_rice_coder.specs.Repacked.{HaveOneImage, IsRepacked, KeepsName, TellsLengths}
@@ -30,11 +30,11 @@ ShortestCodesLine =
     (form : Form) (reference : ℕ) (samples : List ℕ) → IsRow form (reference ∷ samples)
     → CodesLine form reference samples (shortest_string form (reference ∷ samples))
 
--- no coding of the same mapped values is shorter
+-- no coding of the same mapped values is shorter, whichever number stands in it as the reference
 abbrev pub NoCodingIsShorter : Type 0
 NoCodingIsShorter =
     (form : Form) (reference : ℕ) (samples : List ℕ) → IsRow form (reference ∷ samples)
-    → (other : List ℕ) → Codes form reference (line_values form (reference ∷ samples)) other
+    → (another : ℕ) (other : List ℕ) → Codes form another (line_values form (reference ∷ samples)) other
     → length (shortest_string form (reference ∷ samples)) ≤ length other
 
 -- the bytes that the string fills begin with a coding of this line
@@ -43,6 +43,13 @@ CodedIsDecoded =
     (form : Form) (reference : ℕ) (samples bytes : List ℕ) → IsRow form (reference ∷ samples)
     → Fills bytes (shortest_string form (reference ∷ samples))
     → BeginsWithLines form 1 (reference ∷ samples) (bits_of bytes)
+
+-- decoding one line of such bytes gives the samples of the line, and no others
+abbrev pub DecodingGivesTheLine : Type 0
+DecodingGivesTheLine =
+    (form : Form) (reference : ℕ) (samples bytes old new : List ℕ) → IsRow form (reference ∷ samples)
+    → Fills bytes (shortest_string form (reference ∷ samples)) → GrowsByLines form 1 (bits_of bytes) old new
+    → new ≡ old ++ (reference ∷ samples)
 
 -- a line has one list of bytes
 abbrev pub CodedLinesAreOne : Type 0

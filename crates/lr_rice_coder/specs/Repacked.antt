@@ -51,7 +51,8 @@ others_of (first ∷ entries) = filter is_other entries
 abbrev pub other_records : Header → List ℕ
 other_records header = flat_map (record_bytes header.bytes) (others_of header.entries)
 
--- The primary record: kind 0 and 16 bytes, the file type 0 of images, how many bytes all records have, and how many bits
+-- The primary record: kind 0 and 16 bytes, the file type 0 of images, how many bytes all records have, and how many
+-- bits
 -- the data field has.
 abbrev pub primary_record : ℕ → ℕ → List ℕ
 primary_record size data_bits = 0 ∷ big_bytes 2 16 ++ 0 ∷ big_bytes 4 size ++ big_bytes 8 data_bits
@@ -108,7 +109,8 @@ pub record IsSource (file : File) (picture : Picture) (header : Header) : Type 0
   pub deep : 5 ≤ picture.bits
   pub is_header : IsHeaderOf (proper_of file) header
 
--- the file counter, and the size of the image, fit two bytes each
+-- The file counter, and the size of the image, fit two bytes each. They do in every file of a program, whose bytes are
+-- numbers below 256; a file is a list of numbers here, so it is said.
 pub record IsNarrow (file : File) (picture : Picture) : Type 0 where
   pub counter : counter_of file < 65536
   pub columns : picture.columns < 65536
@@ -139,7 +141,8 @@ pub record KeepsName (old new : File) : Type 0 where
   pub application : new.apid ≡ old.apid
   pub counter : counter_of new ≡ counter_of old
 
--- both lengths in bits are the real ones: in the transport header that of the file proper, and in the primary record that
+-- both lengths in bits are the real ones: in the transport header that of the file proper, and in the primary record
+-- that
 -- of the data field
 pub record TellsLengths (file : File) : Type 0 where
   pub proper : declared_bits_of file ≡ real_bits_of file

@@ -70,10 +70,10 @@ shorter_option bits first places one other =
     if nat_lt (cost_of bits first places other) (cost_of bits first places one) then other else one
 
 -- the shortest of the second extension and the splits by at most k bits
-unfoldable pub shortest_split : ℕ → Bool → List ℕ → ℕ → BlockOption
-shortest_split bits first places zero = shorter_option bits first places SecondExtension (Split 0)
-shortest_split bits first places (suc k) =
-    shorter_option bits first places (shortest_split bits first places k) (Split (suc k))
+unfoldable pub shortest_up_to : ℕ → Bool → List ℕ → ℕ → BlockOption
+shortest_up_to bits first places zero = shorter_option bits first places SecondExtension (Split 0)
+shortest_up_to bits first places (suc k) =
+    shorter_option bits first places (shortest_up_to bits first places k) (Split (suc k))
 
 -- by how many bits values are split at most: 5 or 13
 abbrev pub most_split : ℕ → ℕ
@@ -82,7 +82,7 @@ most_split bits = 2 ^ short_width bits - 3
 -- the shortest of all options but the zero block
 unfoldable pub shortest_option : ℕ → Bool → List ℕ → BlockOption
 shortest_option bits first places =
-    shorter_option bits first places (shortest_split bits first places (most_split bits)) Uncoded
+    shorter_option bits first places (shortest_up_to bits first places (most_split bits)) Uncoded
 
 -- ---- parts
 

@@ -1,7 +1,7 @@
 //! How many bits a block takes in each option, and which one is the shortest.
 //!
-//! Where values are split by one bit more, the sum of their high parts at least halves. So the lengths of the splits fall
-//! up to the first shortest one and don't fall after it, and the search looks at two or three of them.
+//! Where values are split by one bit more, the sum of their high parts at least halves. So the lengths of the splits
+//! fall up to the first shortest one and don't fall after it, and the search looks at two or three of them.
 
 ghost use Rattle.std.specs.Prelude.{◌≡◌, ◌↔◌, ◌<◌, ◌≤◌, ◌*◌, ◌+◌, ◌-◌, ◌/◌, ◌%◌, ◌^◌, true, All, IsTrue, length};
 ghost use Rattle.std.specs.Prelude.{slice_index};

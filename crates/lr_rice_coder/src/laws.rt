@@ -1,6 +1,7 @@
 //! What holds of all codings.
 
-ghost use Rattle.lr_rice_coder.specs.Laws.{CodedIsDecoded, CodedLinesAreOne, FillingsAreWhole, NoCodingIsShorter};
+ghost use Rattle.lr_rice_coder.specs.Laws.{CodedIsDecoded, CodedLinesAreOne, DecodingGivesTheLine, FillingsAreWhole};
+ghost use Rattle.lr_rice_coder.specs.Laws.{NoCodingIsShorter};
 ghost use Rattle.lr_rice_coder.specs.Laws.{RepackedKeepsImage, RepackedKeepsName, RepackedTellsLengths};
 ghost use Rattle.lr_rice_coder.specs.Laws.{RepacksAreOne, ShortestCodesLine};
 
@@ -9,7 +10,7 @@ pub fn shortest_codes_line()
     ensures { ShortestCodesLine }
 {}
 
-/// No coding of the same mapped values is shorter.
+/// No coding of the same mapped values is shorter, whichever number stands in it as the reference.
 pub fn no_coding_is_shorter()
     ensures { NoCodingIsShorter }
 {}
@@ -17,6 +18,11 @@ pub fn no_coding_is_shorter()
 /// What `code_line` appends begins with a coding of this line, so that decoding gives the line back.
 pub fn coded_is_decoded()
     ensures { CodedIsDecoded }
+{}
+
+/// Decoding one line of what `code_line` appends gives the samples of the line.
+pub fn decoding_gives_the_line()
+    ensures { DecodingGivesTheLine }
 {}
 
 /// A line has one list of bytes.

@@ -20,11 +20,11 @@ use std::alloc::Global;
 /// The blocks of a segment.
 const SEGMENT: usize = 64;
 
-/// The most bytes that a coded line has, which are those of a packet's body.
-const MOST_BYTES: usize = 65_534;
+/// The most bytes of a packet's body, and so of a coded line.
+pub(crate) const MOST_BODY_BYTES: usize = 65_534;
 
-/// Appends the shortest coding of a line of these samples, filled with zeros to whole bytes. A block has 8, 16, 32 or 64
-/// samples. A refusal leaves the bytes as they were.
+/// Appends the shortest coding of a line of these samples, filled with zeros to whole bytes. A block has 8, 16, 32 or
+/// 64 samples. A refusal leaves the bytes as they were.
 pub fn code_line(
     alloc: Global,
     samples: &[u16],
@@ -55,7 +55,7 @@ fn append(bytes: &[u8], out: &mut Bytes) -> Result<(), CodeFault>
     ensures long { result ≡ Err Long → 65534 < length bytes.now }
     ensures err { OnErr result (out.new ≡ out.old) }
 {
-    if bytes.len() > MOST_BYTES {
+    if bytes.len() > MOST_BODY_BYTES {
         return Err(CodeFault::Long);
     }
     let Ok(()) = out.extend(bytes) else {

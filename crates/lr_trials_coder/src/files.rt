@@ -50,6 +50,43 @@ fn file_of(alloc: Global, body: &[u8]) -> Result<Option<MissionFile>, NoMemory> 
     Ok(MissionFile::build(3, 100, lengths, bytes))
 }
 
+/// How many bytes each body of a long file has, but for the first one.
+const PIECE: usize = 33_000;
+
+/// The file of a first body, and of these bytes after it in bodies of 33,000 bytes.
+fn long_file(alloc: Global, front: &[u8], rest: &[u8]) -> Result<Option<MissionFile>, NoMemory> {
+    let mut lengths = Lengths::new(alloc);
+    let mut bytes = Bytes::new(alloc);
+    lengths.push((front.len() % 65_535) as u16)?;
+    bytes.extend(front)?;
+    let mut at = 0;
+    for _ in 0..rest.len() / PIECE + 1 {
+        let size = PIECE.min(rest.len() - at.min(rest.len()));
+        lengths.push(size as u16)?;
+        at += size;
+    }
+    bytes.extend(rest)?;
+    Ok(MissionFile::build(3, 100, lengths, bytes))
+}
+
+/// The refusal of such a file, coded anew in blocks of 64.
+fn long_refusal(alloc: Global, front: &[u8], rest: &[u8]) -> Result<Option<RepackFault>, NoMemory> {
+    let Some(file) = long_file(alloc, front, rest)? else {
+        return Ok(None);
+    };
+    Ok(repack(alloc, &file, 64).err())
+}
+
+/// This many bytes of 0, and after them as many more, in turn two of 0 and two of 255.
+fn rough_after_flat(alloc: Global, count: usize) -> Result<Vec<u8>, NoMemory> {
+    let mut bytes = Vec::new(alloc);
+    bytes.resize(count, 0)?;
+    for _ in 0..count / 4 {
+        bytes.extend_from_slice(&[0, 0, 255, 255])?;
+    }
+    Ok(bytes)
+}
+
 /// Whether the file of one body is coded anew as a file of these bytes, in bodies of these lengths, with the image of
 /// the old one.
 fn gives(
@@ -126,6 +163,38 @@ fn other_records_stay(rt: HostRuntime) -> Result<(), Fail> {
 fn four_bits_are_refused(rt: HostRuntime) -> Result<(), Fail> {
     let refusal = refusal_of(rt.alloc(), &NIBBLES)?;
     assert!(rt; matches!(refusal, Some(RepackFault::Depth { bits: 4 })));
+    Ok(())
+}
+
+/// The first body of an image of 16 bits, 33,000 columns and 2 lines.
+static WIDE: [u8; 35] = [
+    0, 7, 0, 0, 0, 0, 0, 0, 0, 1, 0x00, 0x00, 0x10, 0x00, 0x00, 0x00, 0x00, 0x19, 0, 0, 0, 0, 0, 0,
+    0, 2, 0x01, 0x00, 0x09, 16, 0x80, 0xE8, 0, 2, 0,
+];
+
+/// The first body of an image of 8 bits and one pixel, with a text of 65,502 bytes, of which it has none.
+static TEXT: [u8; 38] = [
+    0, 7, 0, 0, 0, 0, 0, 0, 0, 1, 0x00, 0x00, 0x10, 0x00, 0x00, 0x00, 0xFF, 0xFA, 0, 0, 0, 0, 0, 0,
+    0, 2, 0x01, 0x00, 0x09, 8, 0, 1, 0, 1, 0, 0x04, 0xFF, 0xE1,
+];
+
+#[test]
+fn the_first_long_line_is_told(rt: HostRuntime) -> Result<(), Fail> {
+    let alloc = rt.alloc();
+    let pixels = rough_after_flat(alloc, 66_000)?;
+    let refusal = long_refusal(alloc, &WIDE, pixels.as_slice())?;
+    assert!(rt; matches!(refusal, Some(RepackFault::Line { line: 1 })));
+    Ok(())
+}
+
+#[test]
+fn a_long_header_is_refused(rt: HostRuntime) -> Result<(), Fail> {
+    let alloc = rt.alloc();
+    let mut text = Vec::new(alloc);
+    // The text, and the pixel.
+    text.resize(65_503, b'x')?;
+    let refusal = long_refusal(alloc, &TEXT, text.as_slice())?;
+    assert!(rt; matches!(refusal, Some(RepackFault::Header { length: 65_547 })));
     Ok(())
 }
 

@@ -126,6 +126,53 @@ fn small_differences_are_sequences_or_pairs(rt: HostRuntime) -> Result<(), Fail>
 }
 
 #[test]
+fn pairs_win_in_a_first_block(rt: HostRuntime) -> Result<(), Fail> {
+    let alloc = rt.alloc();
+    // A zero stands in place of the reference, so the values 0, 0, 0, 0, 0, 0, 0 and 1 are four pairs.
+    let samples = [5, 5, 5, 5, 5, 5, 5, 4];
+    assert!(rt; codes(alloc, &samples, 8, "0001 00000101 1 1 1 001")?);
+    Ok(())
+}
+
+#[test]
+fn values_are_split(rt: HostRuntime) -> Result<(), Fail> {
+    let alloc = rt.alloc();
+    // The values 8, 9, 16, 11, 18, 13 and 18 are split by 3 bits.
+    let samples = [100, 104, 99, 107, 101, 110, 103, 112];
+    let text = "100 01100100 01 01 001 01 001 01 001 000 001 000 011 010 101 010";
+    assert!(rt; codes(alloc, &samples, 8, text)?);
+    // At 12 bits the values 20, 39, 60, 69, 90, 119 and 62 are split by 5.
+    let deep = [1000, 1010, 990, 1020, 985, 1030, 970, 1001];
+    let text =
+        "0110 001111101000 1 01 01 001 001 0001 01 10100 00111 11100 00101 11010 10111 11110";
+    assert!(rt; codes(alloc, &deep, 12, text)?);
+    Ok(())
+}
+
+#[test]
+fn identifiers_have_four_bits_from_nine_on(rt: HostRuntime) -> Result<(), Fail> {
+    let alloc = rt.alloc();
+    assert!(rt; codes(alloc, &[300; 8], 9, "00000 100101100 1")?);
+    let pairs = [300, 300, 300, 300, 300, 300, 300, 299];
+    assert!(rt; codes(alloc, &pairs, 10, "00001 0100101100 1 1 1 001")?);
+    let steps = [0, 511, 0, 511, 0, 511, 0, 511];
+    let text =
+        "1111 000000000 111111111 111111111 111111111 111111111 111111111 111111111 111111111";
+    assert!(rt; codes(alloc, &steps, 9, text)?);
+    let mut flat = [20; 16];
+    flat[9] = 21;
+    assert!(rt;
+        codes(
+            alloc,
+            &flat,
+            16,
+            "00000 0000000000010100 1 00001 000001 01 1 1"
+        )?
+    );
+    Ok(())
+}
+
+#[test]
 fn great_differences_are_uncoded(rt: HostRuntime) -> Result<(), Fail> {
     let alloc = rt.alloc();
     let steps = [0, 31, 0, 31, 0, 31, 0, 31];

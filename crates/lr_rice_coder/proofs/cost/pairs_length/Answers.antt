@@ -10,6 +10,13 @@ loop-i-preserved c =
     let i = c.loop-i.i in
     let number = pair_number (get_or places (2 * i) 0) (get_or places (2 * i + 1) 0) in
     let front = pairs_string (take (2 * i) places) in (
-      omega (arith, ap length (pairs-next places i (omega arith)), length-append front (zeros_and_one number), length-zeros_and_one number, c.number_of.ensures.value, c.loop-i.invariant.0),
+      omega (
+        arith,
+        ap length (pairs-next places i (omega arith)),
+        length-append front (zeros_and_one number),
+        length-zeros_and_one number,
+        c.number_of.ensures.value,
+        c.loop-i.invariant.0,
+      ),
       omega (arith, c.number_of.ensures.fits, c.loop-i.invariant.1),
     )

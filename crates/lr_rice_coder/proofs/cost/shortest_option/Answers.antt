@@ -71,8 +71,10 @@ returns-then-count-bits-clause-value c =
     c.shortest_split-split.ensures.shortest in
     let size = length_is c.args.first places c.from.result split.low_bits split.highs c.from.ensures
     c.shortest_split-split.ensures.highs in
-    let longer = no_pairs _ (length (pairs_string places)) _ c.if-has_shorter_pairs.false c.has_shorter_pairs.ensures.1 in
-    let values = ap (λ (l : List ℕ). length l * c.args.bits) (values_slice c.args.first places c.from.result c.from.ensures) in
+    let longer = no_pairs _ (length (pairs_string places)) _ c.if-has_shorter_pairs.false
+    c.has_shorter_pairs.ensures.1 in
+    let values = ap (λ (l : List ℕ). length l * c.args.bits)
+    (values_slice c.args.first places c.from.result c.from.ensures) in
     sym (uncoded_is_shortest c.args.bits c.args.first places split.low_bits is (omega (arith, size, longer))
     (omega (arith, size, values, c.if-count-bits.true)))
 
@@ -85,7 +87,9 @@ returns-clause-value c =
     c.shortest_split-split.ensures.shortest in
     let size = length_is c.args.first places c.from.result split.low_bits split.highs c.from.ensures
     c.shortest_split-split.ensures.highs in
-    let longer = no_pairs _ (length (pairs_string places)) _ c.if-has_shorter_pairs.false c.has_shorter_pairs.ensures.1 in
-    let values = ap (λ (l : List ℕ). length l * c.args.bits) (values_slice c.args.first places c.from.result c.from.ensures) in
+    let longer = no_pairs _ (length (pairs_string places)) _ c.if-has_shorter_pairs.false
+    c.has_shorter_pairs.ensures.1 in
+    let values = ap (λ (l : List ℕ). length l * c.args.bits)
+    (values_slice c.args.first places c.from.result c.from.ensures) in
     sym (split_is_shortest c.args.bits c.args.first places split.low_bits is (omega (arith, size, longer))
     (omega (arith, size, values, c.if-count-bits.false)))

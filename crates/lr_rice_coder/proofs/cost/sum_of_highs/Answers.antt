@@ -9,6 +9,15 @@ loop-value-preserved c =
     let i = c.loop-value.value-index in
     let k = c.args.low_bits in
     record {
-      sum_is = omega (arith, sum_by_more (λ (v : ℕ). v / 2 ^ k) values i 0 (omega arith), c.loop-value.invariant.sum_is);
-      fits = omega (arith, shr_le (get_or values i 0) k, c.requires.small i 0 (omega arith), c.loop-value.invariant.fits);
+      sum_is = omega (
+        arith,
+        sum_by_more (λ (v : ℕ). v / 2 ^ k) values i 0 (omega arith),
+        c.loop-value.invariant.sum_is,
+      );
+      fits = omega (
+        arith,
+        shr_le (get_or values i 0) k,
+        c.requires.small i 0 (omega arith),
+        c.loop-value.invariant.fits,
+      );
     }

@@ -1,4 +1,4 @@
-use Rattle.std.proofs.Common.{◌≡◌, ◌<◌, ℕ, List, sym, ◌∙◌, subst, arith, rules}
+use Rattle.std.proofs.Common.{◌≡◌, ◌<◌, ℕ, List, sym, ◌∙◌, refl, subst, arith, rules}
 use Rattle.std.specs.Prelude.{Result, Ok, Err, IfErr, IfOk}
 use Rattle.lr_bits.specs.File.{File, proper_of}
 use Rattle.lr_headers.specs.Tiling.{Header, IsHeaderOf}
@@ -28,18 +28,19 @@ pub code_image-requires : goal.code_image-requires
 code_image-requires c =
     let columns : c.in-Some.structure.columns < 65536 = search rules in
     let lines : c.in-Some.structure.lines < 65536 = search rules in
-    let is : IsReadFile c.args.file.now c.in-Ok.image c.in-Ok-read.records c.in-Some.structure c.pixels.result.now
+    let is : IsReadFile c.args.file.now c.in-Ok.image c.in-Ok-read.records c.in-Some.structure c.in-Ok.image.pixels
     c.as_slice.result.now = record {
       image = c.in-Ok.ensures.ok;
       deep = omega (arith, c.bits-bits.ensures.value, c.if-bits-lt-LEAST_BITS.false);
-      is_header = header_of c.args.file.now c.in-Ok-read.records c.proper.result.now c.proper.ensures.value c.in-Ok-read.ensures.ok;
+      is_header = header_of c.args.file.now c.in-Ok-read.records c.proper.result.now c.proper.ensures.value
+          c.in-Ok-read.ensures.ok;
       says = sym c.structure.ensures ∙ c.in-Some.is;
-      pixels_are = c.pixels.ensures.value;
+      pixels_are = refl;
       others_are = c.as_slice.ensures ∙ c.in-Ok-other_records.ensures;
       columns = columns;
       lines = lines;
     } in
-    can_be_coded c.args.file.now c.in-Ok.image c.in-Ok-read.records c.in-Some.structure c.pixels.result.now
+    can_be_coded c.args.file.now c.in-Ok.image c.in-Ok-read.records c.in-Some.structure c.in-Ok.image.pixels
     c.as_slice.result.now c.args.block is c.requires
 
 -- the outcome of the last step
@@ -71,36 +72,38 @@ pub returns-clause-ok : goal.returns-clause-ok
 returns-clause-ok c =
     let columns : c.in-Some.structure.columns < 65536 = search rules in
     let lines : c.in-Some.structure.lines < 65536 = search rules in
-    let is : IsReadFile c.args.file.now c.in-Ok.image c.in-Ok-read.records c.in-Some.structure c.pixels.result.now
+    let is : IsReadFile c.args.file.now c.in-Ok.image c.in-Ok-read.records c.in-Some.structure c.in-Ok.image.pixels
     c.as_slice.result.now = record {
       image = c.in-Ok.ensures.ok;
       deep = omega (arith, c.bits-bits.ensures.value, c.if-bits-lt-LEAST_BITS.false);
-      is_header = header_of c.args.file.now c.in-Ok-read.records c.proper.result.now c.proper.ensures.value c.in-Ok-read.ensures.ok;
+      is_header = header_of c.args.file.now c.in-Ok-read.records c.proper.result.now c.proper.ensures.value
+          c.in-Ok-read.ensures.ok;
       says = sym c.structure.ensures ∙ c.in-Some.is;
-      pixels_are = c.pixels.ensures.value;
+      pixels_are = refl;
       others_are = c.as_slice.ensures ∙ c.in-Ok-other_records.ensures;
       columns = columns;
       lines = lines;
     } in
-    ok_of c.args.file.now c.args.block c.in-Some.structure c.pixels.result.now c.as_slice.result.now c.in-Ok.image
+    ok_of c.args.file.now c.args.block c.in-Some.structure c.in-Ok.image.pixels c.as_slice.result.now c.in-Ok.image
     c.in-Ok-read.records c.code_image.result is c.code_image.ensures.ok
 
 pub returns-clause-err : goal.returns-clause-err
 returns-clause-err c =
     let columns : c.in-Some.structure.columns < 65536 = search rules in
     let lines : c.in-Some.structure.lines < 65536 = search rules in
-    let is : IsReadFile c.args.file.now c.in-Ok.image c.in-Ok-read.records c.in-Some.structure c.pixels.result.now
+    let is : IsReadFile c.args.file.now c.in-Ok.image c.in-Ok-read.records c.in-Some.structure c.in-Ok.image.pixels
     c.as_slice.result.now = record {
       image = c.in-Ok.ensures.ok;
       deep = omega (arith, c.bits-bits.ensures.value, c.if-bits-lt-LEAST_BITS.false);
-      is_header = header_of c.args.file.now c.in-Ok-read.records c.proper.result.now c.proper.ensures.value c.in-Ok-read.ensures.ok;
+      is_header = header_of c.args.file.now c.in-Ok-read.records c.proper.result.now c.proper.ensures.value
+          c.in-Ok-read.ensures.ok;
       says = sym c.structure.ensures ∙ c.in-Some.is;
-      pixels_are = c.pixels.ensures.value;
+      pixels_are = refl;
       others_are = c.as_slice.ensures ∙ c.in-Ok-other_records.ensures;
       columns = columns;
       lines = lines;
     } in
-    err_of c.args.file.now c.args.block c.in-Some.structure c.pixels.result.now c.as_slice.result.now c.in-Ok.image
+    err_of c.args.file.now c.args.block c.in-Some.structure c.in-Ok.image.pixels c.as_slice.result.now c.in-Ok.image
     c.in-Ok-read.records c.code_image.result is c.code_image.ensures.err
 
 pub returns-clause-image : goal.returns-clause-image

@@ -81,7 +81,8 @@ returns c =
     let body = body_string form.bits first part in
     record {
       whole = c.in_ok-write_block.ensures
-          ∙ ap (λ l. c.write_head-2.new.writer ++ body_string form.bits first (block_in option (block_values first l))) cut
+          ∙ ap (λ l. c.write_head-2.new.writer ++ body_string form.bits first
+          (block_in option (block_values first l))) cut
           ∙ ap (λ l. l ++ body) c.in_ok-write_head-2.ensures ∙ append_assoc c.args.writer.now head body
           ∙ ap (λ o. c.args.writer.now ++ (head_string form.bits first line.reference o ++ body))
           (sym (option_of-block_in option values c.shortest_option-option.ensures.single))

@@ -1,4 +1,5 @@
-use Rattle.std.proofs.Common.{◌≡◌, ◌+◌, ◌-◌, ◌<◌, ◌∷◌, ◌++◌, [], ℕ, suc, length, get_or, take, drop, set, replicate, ap, sym, ◌∙◌, arith}
+use Rattle.std.proofs.Common.{◌≡◌, ◌+◌, ◌-◌, ◌<◌, ◌∷◌, ◌++◌, [], ℕ, suc, length, get_or, take, drop, set, replicate}
+use Rattle.std.proofs.Common.{ap, sym, ◌∙◌, arith}
 use Rattle.std.proofs.lemmas.List.{append_assoc, drop-drop, drop-replicate, drop-set-lt, drop_more, length-set}
 use Rattle.std.proofs.Math.Seq.{take-suc-set}
 use Rattle.lr_rice.specs.CodedLines.{mapped_value}
@@ -22,7 +23,8 @@ loop-i-preserved c =
     c.mapped.ensures.value ∙ ap (λ (a : ℕ). mapped_value most a c.from-in-loop-i.result) c.from.ensures
     ∙ ap (λ (b : ℕ). mapped_value most p b) c.from-in-loop-i.ensures in
     record {
-      made = ap (λ (k : ℕ). take (i + 1) (set places i value) ++ mapped_from most (get_or samples k 0) (drop (i + 1) samples)) back
+      made = ap (λ (k : ℕ). take (i + 1) (set places i value)
+          ++ mapped_from most (get_or samples k 0) (drop (i + 1) samples)) back
           ∙ ap (λ l. l ++ later) (ap (λ (k : ℕ). take k (set places i value)) next ∙ take-suc-set places i value there)
           ∙ append_assoc (take i places) (value ∷ []) later
           ∙ ap (λ (v : ℕ). take i places ++ v ∷ later) is

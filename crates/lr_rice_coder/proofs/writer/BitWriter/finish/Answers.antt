@@ -9,9 +9,15 @@ use Rattle.lr_rice_coder.proofs.WriterLemmas.{byte_put, number_bits-none, number
 use Rattle.lr_rice_coder.proofs.writer.BitWriter.finish.Goals as goal
 
 -- the bits of bytes and of a number
-bit_count : (bytes : List ℕ) (count pending : ℕ) → length (bits_of bytes ++ number_bits count pending) ≡ 8 * length bytes + count
+bit_count : (bytes : List ℕ) (count pending : ℕ) → length (bits_of bytes ++ number_bits count pending)
+    ≡ 8 * length bytes + count
 bit_count bytes count pending =
-    omega (arith, length-append (bits_of bytes) (number_bits count pending), length-bits_of bytes, length-number_bits count pending)
+    omega (
+      arith,
+      length-append (bits_of bytes) (number_bits count pending),
+      length-bits_of bytes,
+      length-number_bits count pending,
+    )
 
 pub loop-count-init : goal.loop-count-init
 loop-count-init c =
@@ -58,6 +64,8 @@ returns c =
     record {
       zeros = zeros;
       few = omega arith;
-      whole = sym (append-nil (bits_of bytes.items)) ∙ ap (λ l. bits_of bytes.items ++ l) (sym (ap (λ (n : ℕ). number_bits n c.self-2.inside.pending) none ∙ number_bits-none c.self-2.inside.pending))
+      whole = sym (append-nil (bits_of bytes.items))
+          ∙ ap (λ l. bits_of bytes.items ++ l) (sym (ap (λ (n : ℕ). number_bits n c.self-2.inside.pending) none
+          ∙ number_bits-none c.self-2.inside.pending))
           ∙ c.loop-count.invariant.bits_are ∙ ap (λ l. c.args.self ++ l) (number_bits-zeros zeros);
     }

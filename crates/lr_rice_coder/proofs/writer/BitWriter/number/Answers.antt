@@ -10,7 +10,12 @@ invariant_of-self c =
     let w = c.self.inside in
     let whole = shl_whole w.pending w.count c.args.width 64 c.self.invariant.1 (omega (arith, c.self.invariant.0)) in (
       c.if-count-lt-WORD_BITS.true,
-      omega (arith, whole, pending_fits w.count w.pending c.args.width c.args.number c.self.invariant.1 c.requires.fits),
+      omega (
+        arith,
+        whole,
+        pending_fits w.count w.pending c.args.width c.args.number c.self.invariant.1
+            c.requires.fits,
+      ),
     )
 
 pub returns-then-count-lt-WORD_BITS : goal.returns-then-count-lt-WORD_BITS
@@ -45,9 +50,11 @@ returns c =
     let pending = w.pending * 2 ^ c.args.width % 2 ^ 64 + c.args.number in
     let one : 1 * 2 ^ rest % 2 ^ 64 ≡ 2 ^ rest = one_shl rest 64 (omega (arith, c.self.invariant.0)) in
     let size : 32 + rest ≡ w.count + c.args.width = omega (arith, c.if-count-lt-WORD_BITS.false) in
-    ap (λ (l : List ℕ). bits_of l ++ number_bits rest (pending % (1 * 2 ^ rest % 2 ^ 64))) (c.in_ok-extend_from_slice.ensures.items
+    ap (λ (l : List ℕ). bits_of l ++ number_bits rest (pending % (1 * 2 ^ rest % 2 ^ 64)))
+    (c.in_ok-extend_from_slice.ensures.items
     ∙ ap (λ (l : List ℕ). w.bytes.items ++ l) c.to_be_bytes.ensures)
-    ∙ ap (λ (n : ℕ). bits_of (w.bytes.items ++ to_be_bytes w32 (pending / 2 ^ rest)) ++ number_bits rest (pending % n)) one
+    ∙ ap (λ (n : ℕ). bits_of (w.bytes.items ++ to_be_bytes w32 (pending / 2 ^ rest))
+    ++ number_bits rest (pending % n)) one
     ∙ word_put w.bytes.items rest pending
     ∙ ap (λ (n : ℕ). bits_of w.bytes.items ++ number_bits n pending) size
     ∙ ap (λ (n : ℕ). bits_of w.bytes.items ++ number_bits (w.count + c.args.width) (n + c.args.number)) whole
