@@ -1,0 +1,15 @@
+pub mod CodingLemmas
+pub mod CostLemmas
+pub mod LawLemmas
+pub mod LeastLemmas
+pub mod MakingLemmas
+pub mod NewFiles
+pub mod NewHeaders
+pub mod NewImages
+pub mod OneRepack
+pub mod OptionLemmas
+pub mod PartLemmas
+pub mod RecordLemmas
+pub mod RepackLemmas
+pub mod SearchLemmas
+pub mod WriterLemmas

@@ -1,0 +1,8 @@
+use Rattle.std.proofs.Common.{◌≡◌, ◌++◌, take}
+use Rattle.std.specs.List.{flat_map}
+use Rattle.lr_bits.specs.Bits.{number_bits}
+use Rattle.lr_rice_coder.proofs.block.write_lows.Given as goal
+
+-- the values so far
+abbrev pub invariant-loop-value : goal.invariant-loop-value
+invariant-loop-value l = l.writer ≡ l.fn.writer ++ flat_map (number_bits l.low_bits) (take l.value-index l.values)

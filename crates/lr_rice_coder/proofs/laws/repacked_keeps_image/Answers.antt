@@ -1,0 +1,5 @@
+use Rattle.lr_rice_coder.proofs.NewImages.{repacked_keeps_image}
+use Rattle.lr_rice_coder.proofs.laws.repacked_keeps_image.Goals as goal
+
+pub returns : goal.returns
+returns c = repacked_keeps_image

@@ -1,0 +1,211 @@
+//! Files whose images are coded anew.
+
+use lr_bits::{Bytes, Lengths, MissionFile, NoMemory};
+use lr_image::{ImageFault, image_of};
+use lr_rice_coder::{RepackFault, repack};
+use std::alloc::Global;
+use std::test::Fail;
+
+/// An image of 8 bits, 8 columns and 2 lines that isn't compressed, in one body: file counter 7, and both lengths in
+/// bits told wrongly.
+static PLAIN: [u8; 51] = [
+    0, 7, 0, 0, 0, 0, 0, 0, 0, 1, 0x00, 0x00, 0x10, 0x00, 0x00, 0x00, 0x00, 0x19, 0, 0, 0, 0, 0, 0,
+    0, 2, 0x01, 0x00, 0x09, 8, 0, 8, 0, 2, 0, 5, 5, 5, 5, 5, 5, 5, 5, 5, 6, 4, 5, 5, 5, 5, 5,
+];
+
+/// The same coded in blocks of 8: 38 bytes of 8 bits after the transport header, and 6 of them after the header.
+static CODED: [u8; 48] = [
+    0, 7, 0, 0, 0, 0, 0, 0, 1, 48, 0x00, 0x00, 0x10, 0x00, 0x00, 0x00, 0x00, 0x20, 0, 0, 0, 0, 0,
+    0, 0, 48, 0x01, 0x00, 0x09, 8, 0, 8, 0, 2, 1, 0x83, 0x00, 0x07, 0, 49, 8, 1, 0x00, 0x58, 0x20,
+    0xA4, 0x4F, 0x80,
+];
+
+/// An image of 4 bits, 2 columns and 1 line.
+static NIBBLES: [u8; 36] = [
+    0, 7, 0, 0, 0, 0, 0, 0, 0, 1, 0x00, 0x00, 0x10, 0x00, 0x00, 0x00, 0x00, 0x19, 0, 0, 0, 0, 0, 0,
+    0, 2, 0x01, 0x00, 0x09, 4, 0, 2, 0, 1, 0, 0x12,
+];
+
+/// An image of one pixel with a text, a second image structure record, a record of kind 131 that isn't read, and an
+/// empty key.
+static RECORDS: [u8; 58] = [
+    0, 7, 0, 0, 0, 0, 0, 0, 0, 1, 0x00, 0x00, 0x10, 0x00, 0x00, 0x00, 0x00, 0x2F, 0, 0, 0, 0, 0, 0,
+    0, 2, 0x01, 0x00, 0x09, 8, 0, 1, 0, 1, 0, 0x04, 0x00, 0x05, b'h', b'i', 0x01, 0x00, 0x09, 9, 0,
+    9, 0, 9, 9, 0x83, 0x00, 0x05, 1, 2, 0x07, 0x00, 0x03, 200,
+];
+
+/// What comes before the line of it: the text and the key stay, in their order.
+static RECORDS_FRONT: [u8; 50] = [
+    0, 7, 0, 0, 0, 0, 0, 0, 1, 80, 0x00, 0x00, 0x10, 0x00, 0x00, 0x00, 0x00, 0x28, 0, 0, 0, 0, 0,
+    0, 0, 16, 0x01, 0x00, 0x09, 8, 0, 1, 0, 1, 1, 0x83, 0x00, 0x07, 0, 49, 16, 1, 0x04, 0x00, 0x05,
+    b'h', b'i', 0x07, 0x00, 0x03,
+];
+
+/// The file of channel 3 and application 100 with one body.
+fn file_of(alloc: Global, body: &[u8]) -> Result<Option<MissionFile>, NoMemory> {
+    let mut lengths = Lengths::new(alloc);
+    let mut bytes = Bytes::new(alloc);
+    lengths.push((body.len() % 65_535) as u16)?;
+    bytes.extend(body)?;
+    Ok(MissionFile::build(3, 100, lengths, bytes))
+}
+
+/// How many bytes each body of a long file has, but for the first one.
+const PIECE: usize = 33_000;
+
+/// The file of a first body, and of these bytes after it in bodies of 33,000 bytes.
+fn long_file(alloc: Global, front: &[u8], rest: &[u8]) -> Result<Option<MissionFile>, NoMemory> {
+    let mut lengths = Lengths::new(alloc);
+    let mut bytes = Bytes::new(alloc);
+    lengths.push((front.len() % 65_535) as u16)?;
+    bytes.extend(front)?;
+    let mut at = 0;
+    for _ in 0..rest.len() / PIECE + 1 {
+        let size = PIECE.min(rest.len() - at.min(rest.len()));
+        lengths.push(size as u16)?;
+        at += size;
+    }
+    bytes.extend(rest)?;
+    Ok(MissionFile::build(3, 100, lengths, bytes))
+}
+
+/// The refusal of such a file, coded anew in blocks of 64.
+fn long_refusal(alloc: Global, front: &[u8], rest: &[u8]) -> Result<Option<RepackFault>, NoMemory> {
+    let Some(file) = long_file(alloc, front, rest)? else {
+        return Ok(None);
+    };
+    Ok(repack(alloc, &file, 64).err())
+}
+
+/// This many bytes of 0, and after them as many more, in turn two of 0 and two of 255.
+fn rough_after_flat(alloc: Global, count: usize) -> Result<Vec<u8>, NoMemory> {
+    let mut bytes = Vec::new(alloc);
+    bytes.resize(count, 0)?;
+    for _ in 0..count / 4 {
+        bytes.extend_from_slice(&[0, 0, 255, 255])?;
+    }
+    Ok(bytes)
+}
+
+/// Whether the file of one body is coded anew as a file of these bytes, in bodies of these lengths, with the image of
+/// the old one.
+fn gives(
+    alloc: Global,
+    body: &[u8],
+    block: u32,
+    lengths: &[u16],
+    bytes: &[u8],
+) -> Result<bool, NoMemory> {
+    if block != 8 && block != 16 {
+        return Ok(false);
+    }
+    let Some(file) = file_of(alloc, body)? else {
+        return Ok(false);
+    };
+    let Ok(new) = repack(alloc, &file, block) else {
+        return Ok(false);
+    };
+    let right = *new.lengths() == *lengths && *new.bytes() == *bytes;
+    Ok(right && new.vc() == 3 && new.apid() == 100 && has_one_image(alloc, &file, &new))
+}
+
+/// Whether both files have an image of the same pixels.
+fn has_one_image(alloc: Global, one: &MissionFile, other: &MissionFile) -> bool {
+    match (image_of(alloc, one), image_of(alloc, other)) {
+        (Ok(image), Ok(new)) => *image.pixels() == *new.pixels(),
+        _ => false,
+    }
+}
+
+/// The refusal of a file of one body.
+fn refusal_of(alloc: Global, body: &[u8]) -> Result<Option<RepackFault>, NoMemory> {
+    let Some(file) = file_of(alloc, body)? else {
+        return Ok(None);
+    };
+    Ok(repack(alloc, &file, 8).err())
+}
+
+#[test]
+fn each_line_is_a_body(rt: HostRuntime) -> Result<(), Fail> {
+    let alloc = rt.alloc();
+    assert!(rt; gives(alloc, &PLAIN, 8, &[42, 2, 4], &CODED)?);
+    Ok(())
+}
+
+#[test]
+fn a_file_that_is_coded_so_stays(rt: HostRuntime) -> Result<(), Fail> {
+    let alloc = rt.alloc();
+    let Some(file) = file_of(alloc, &PLAIN)? else {
+        return Err(Fail::from("no file"));
+    };
+    let Ok(new) = repack(alloc, &file, 8) else {
+        return Err(Fail::from("refused"));
+    };
+    let Ok(again) = repack(alloc, &new, 8) else {
+        return Err(Fail::from("refused"));
+    };
+    assert!(rt; *again.bytes() == *new.bytes() && *again.lengths() == *new.lengths());
+    Ok(())
+}
+
+#[test]
+fn other_records_stay(rt: HostRuntime) -> Result<(), Fail> {
+    let alloc = rt.alloc();
+    let mut bytes = [0; 52];
+    bytes[..50].copy_from_slice(&RECORDS_FRONT);
+    // A zero block with the reference 200.
+    bytes[50..].copy_from_slice(&[0x0C, 0x88]);
+    assert!(rt; gives(alloc, &RECORDS, 16, &[50, 2], &bytes)?);
+    Ok(())
+}
+
+#[test]
+fn four_bits_are_refused(rt: HostRuntime) -> Result<(), Fail> {
+    let refusal = refusal_of(rt.alloc(), &NIBBLES)?;
+    assert!(rt; matches!(refusal, Some(RepackFault::Depth { bits: 4 })));
+    Ok(())
+}
+
+/// The first body of an image of 16 bits, 33,000 columns and 2 lines.
+static WIDE: [u8; 35] = [
+    0, 7, 0, 0, 0, 0, 0, 0, 0, 1, 0x00, 0x00, 0x10, 0x00, 0x00, 0x00, 0x00, 0x19, 0, 0, 0, 0, 0, 0,
+    0, 2, 0x01, 0x00, 0x09, 16, 0x80, 0xE8, 0, 2, 0,
+];
+
+/// The first body of an image of 8 bits and one pixel, with a text of 65,502 bytes, of which it has none.
+static TEXT: [u8; 38] = [
+    0, 7, 0, 0, 0, 0, 0, 0, 0, 1, 0x00, 0x00, 0x10, 0x00, 0x00, 0x00, 0xFF, 0xFA, 0, 0, 0, 0, 0, 0,
+    0, 2, 0x01, 0x00, 0x09, 8, 0, 1, 0, 1, 0, 0x04, 0xFF, 0xE1,
+];
+
+#[test]
+fn the_first_long_line_is_told(rt: HostRuntime) -> Result<(), Fail> {
+    let alloc = rt.alloc();
+    let pixels = rough_after_flat(alloc, 66_000)?;
+    let refusal = long_refusal(alloc, &WIDE, pixels.as_slice())?;
+    assert!(rt; matches!(refusal, Some(RepackFault::Line { line: 1 })));
+    Ok(())
+}
+
+#[test]
+fn a_long_header_is_refused(rt: HostRuntime) -> Result<(), Fail> {
+    let alloc = rt.alloc();
+    let mut text = Vec::new(alloc);
+    // The text, and the pixel.
+    text.resize(65_503, b'x')?;
+    let refusal = long_refusal(alloc, &TEXT, text.as_slice())?;
+    assert!(rt; matches!(refusal, Some(RepackFault::Header { length: 65_547 })));
+    Ok(())
+}
+
+#[test]
+fn a_file_without_an_image_is_refused(rt: HostRuntime) -> Result<(), Fail> {
+    let refusal = refusal_of(rt.alloc(), &PLAIN[..50])?;
+    assert!(rt;
+        matches!(
+            refusal,
+            Some(RepackFault::Image(ImageFault::Short { pixels: 15 }))
+        )
+    );
+    Ok(())
+}
