@@ -47,7 +47,8 @@ use Rattle.lr_forms.specs.declared.forms.Input.TheVariants.{Symbols}
 use Rattle.lr_forms.specs.declared.forms.Output.TheVariants.{Symbols as AsSymbols}
 use Rattle.lr_reading.specs.Inputs.{outcomes_of_bytes}
 use Rattle.lr_receiving.specs.Inputs.{files_of_bytes}
-use Rattle.lr_receiving.specs.Made.{bytes_of_symbols, made_bytes}
+use Rattle.lr_make.specs.Symbols.{bytes_of_symbols}
+use Rattle.lr_receiving.specs.Made.{made_bytes}
 use Rattle.lr_receiving.specs.Shelving.{with_files}
 use Rattle.lr_receiving.specs.Trial.{trial_capacity}
 

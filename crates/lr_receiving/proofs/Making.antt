@@ -39,7 +39,8 @@ use Rattle.lr_causes.specs.declared.cause.Cause.{Cause}
 use Rattle.lr_causes.specs.declared.cause.Cause.TheVariants.{Done, Failed}
 use Rattle.lr_causes.specs.declared.cause.Party.TheVariants.{Output}
 use Rattle.lr_causes.specs.Causes.{counts, IsCaused}
-use Rattle.lr_receiving.specs.Made.{bytes_of_symbols, MakeEnds}
+use Rattle.lr_make.specs.Symbols.{bytes_of_symbols}
+use Rattle.lr_receiving.specs.Made.{MakeEnds}
 use Rattle.lr_causes.specs.Puts.{Puts, PutFails}
 use Rattle.lr_causes.proofs.Joining.{puts_both}
 

@@ -1,19 +1,15 @@
 -- What `make` writes, and what it does to the outside.
-use Rattle.std.specs.Prelude.{◌≡◌, ◌++◌, ℕ, ℤ, List, map}
-use Rattle.std.specs.Int.{cast_unsigned, w8}
+use Rattle.std.specs.Prelude.{◌≡◌, ◌++◌, ℕ, List}
 use Rattle.lr_io.specs.declared.sink.Sink.{Ghosts as SinkOf}
 use Rattle.lr_io.specs.Pieces.{PutsPart}
 use Rattle.lr_make.specs.Stream.{frame_stream, block_stream, symbol_stream}
+use Rattle.lr_make.specs.Symbols.{bytes_of_symbols}
 use Rattle.lr_causes.specs.declared.cause.Cause.{Cause}
 use Rattle.lr_causes.specs.declared.cause.Cause.TheVariants.{Done, Failed}
 use Rattle.lr_causes.specs.declared.cause.Party.TheVariants.{Output}
 use Rattle.lr_forms.specs.declared.forms.Output.{Output as Form}
 use Rattle.lr_forms.specs.declared.forms.Output.TheVariants.{Symbols, Units}
 use Rattle.lr_forms.specs.declared.forms.UnitForm.TheVariants.{Blocks, Frames}
-
--- each symbol in one byte
-abbrev pub bytes_of_symbols : List ℤ → List ℕ
-bytes_of_symbols symbols = map (cast_unsigned w8) symbols
 
 -- the first frames of the test stream of this start, in each form; frames have no wrong bytes
 unfoldable pub made_bytes : Form → ℕ → ℕ → ℕ → List ℕ

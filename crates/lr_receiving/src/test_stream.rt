@@ -1,26 +1,17 @@
 //! `make`: the test stream.
-ghost use Rattle.std.specs.Prelude.{◌≡◌, ◌≤◌, ◌<◌, IfOk, IfErr, OnOk, OnErr, map};
-ghost use Rattle.std.specs.Int.{cast_unsigned, w8};
+ghost use Rattle.std.specs.Prelude.{◌≡◌, ◌≤◌, ◌<◌, IfOk, IfErr, OnOk, OnErr};
 ghost use Rattle.lr_make.specs.Stream.{frame_stream, block_stream, symbol_stream};
+ghost use Rattle.lr_make.specs.Symbols.{bytes_of_symbols};
 ghost use Rattle.lr_causes.specs.declared.cause.Party.TheVariants.{Output as OutputParty};
 ghost use Rattle.lr_causes.specs.Causes.{IsCaused, counts};
-ghost use Rattle.lr_receiving.specs.Made.{bytes_of_symbols, made_bytes, MakeEnds};
+ghost use Rattle.lr_receiving.specs.Made.{made_bytes, MakeEnds};
 ghost use Rattle.lr_causes.specs.Puts.{Puts, PutFails};
 
 use lr_bits::{BLOCK_BYTES, FRAME_BYTES, FRAME_SYMBOLS};
 use lr_causes::{Cause, put_text};
 use lr_forms::{Output, UnitForm};
 use lr_io::Sink;
-use lr_make::Maker;
-
-/// Each symbol in a byte.
-pub(crate) fn put_bytes(symbols: &[i8; FRAME_SYMBOLS], bytes: &mut [u8; FRAME_SYMBOLS])
-    ensures { bytes.new ≡ map (cast_unsigned w8) symbols.now }
-{
-    for i in 0..FRAME_SYMBOLS {
-        bytes[i] = symbols[i].cast_unsigned();
-    }
-}
+use lr_make::{Maker, put_bytes};
 
 fn make_frames<O: Sink>(start: u64, frames: u64, out: &mut O) -> Result<(), Cause>
     ensures put { IfOk result (λ _. Puts O.Sink (frame_stream start frames) out.old out.new) }

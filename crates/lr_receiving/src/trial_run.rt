@@ -25,7 +25,6 @@ ghost use Rattle.lr_forms.specs.declared.forms.TheConstants.{MOST_BYTES as most_
 use crate::reception::{put_last, receive_all};
 use crate::shelver::Shelver;
 use crate::sums::Sums;
-use crate::test_stream::put_bytes;
 use lr_bits::{FRAME_SYMBOLS, NoMemory};
 use lr_causes::Cause;
 use lr_conv::STANDARD;
@@ -33,7 +32,7 @@ use lr_disk::Disk;
 use lr_forms::{Input, MOST_BYTES, Output};
 use lr_frame::{FrameWork, Hand};
 use lr_io::{Sink, Source, SureSink, SureSource};
-use lr_make::Maker;
+use lr_make::{Maker, put_bytes};
 use lr_reading::{Reader, Totals};
 use lr_shelf::Shelf;
 use std::alloc::Global;

@@ -36,6 +36,7 @@ use Rattle.lr_words.specs.Commands.{
   verify_of,
   export_of,
   assemble_of,
+  transmit_of,
   discard_of,
   make_of,
   trial_of,
@@ -56,11 +57,12 @@ pub other_name : (name : Text) (words : List Text)
     → (name ≡ codes "verify" → ⊥)
     → (name ≡ codes "export" → ⊥)
     → (name ≡ codes "assemble" → ⊥)
+    → (name ≡ codes "transmit" → ⊥)
     → (name ≡ codes "discard" → ⊥)
     → (name ≡ codes "make" → ⊥)
     → (name ≡ codes "trial" → ⊥)
     → None ≡ command_named name words
-other_name name words h0 h1 h2 h3 h4 h5 h6 h7 h8 h9 h10 h11 h12 h13 =
+other_name name words h0 h1 h2 h3 h4 h5 h6 h7 h8 h9 h10 h11 h12 h13 h14 =
     rw (
       differs _ _ h0,
       differs _ _ h1,
@@ -76,6 +78,7 @@ other_name name words h0 h1 h2 h3 h4 h5 h6 h7 h8 h9 h10 h11 h12 h13 =
       differs _ _ h11,
       differs _ _ h12,
       differs _ _ h13,
+      differs _ _ h14,
     ) refl
 
 first_named : (words : List (String Global)) (name : String Global) → Some name ≡ slice_get words 0
@@ -129,6 +132,10 @@ at_export name words e = rw e refl
 pub at_assemble : (name : Text) (words : List Text) → name ≡ codes "assemble"
     → assemble_of words ≡ command_named name words
 at_assemble name words e = rw e refl
+
+pub at_transmit : (name : Text) (words : List Text) → name ≡ codes "transmit"
+    → transmit_of words ≡ command_named name words
+at_transmit name words e = rw e refl
 
 pub at_discard : (name : Text) (words : List Text) → name ≡ codes "discard"
     → discard_of words ≡ command_named name words

@@ -39,6 +39,7 @@ use Rattle.lr_words.specs.declared.command.Command.TheVariants.{
   Verify,
   Export,
   Assemble,
+  Transmit,
   Discard,
   Make,
   Trial,
@@ -157,6 +158,20 @@ assemble_of words = if is_taken assemble_app words
     (number_given 0 most_u64 (value_of assemble_app words (codes "from")))
     else None
 
+-- `transmit FROM TO WRONG [--line nrz-l|nrz-m] [--g2 inverted|plain]`
+unfoldable pub transmit_app : App
+transmit_app = with_rule (with_rule (with_rule (with_rule (with_rule (new_app (codes "transmit"))
+    (place (codes "from"))) (place (codes "to"))) (place (codes "wrong"))) (option (codes "line"))) (option (codes "g2"))
+
+abbrev pub transmit_of : List Text → Option Command
+transmit_of words = if is_taken transmit_app words
+    then option_and_then (λ f. option_and_then (λ t. option_and_then (λ w. option_map (λ line. Transmit f t w line)
+    (line_of (value_of transmit_app words (codes "line")) (value_of transmit_app words (codes "g2"))))
+    (number_given 0 16 (value_of transmit_app words (codes "wrong"))))
+    (number_given 0 most_u64 (value_of transmit_app words (codes "to"))))
+    (number_given 0 most_u64 (value_of transmit_app words (codes "from")))
+    else None
+
 -- `discard NUMBER`
 abbrev pub discard_app : App
 discard_app = number_app (codes "discard")
@@ -206,6 +221,7 @@ command_named name words =
     else if bytes_eq name (codes "verify") then verify_of words
     else if bytes_eq name (codes "export") then export_of words
     else if bytes_eq name (codes "assemble") then assemble_of words
+    else if bytes_eq name (codes "transmit") then transmit_of words
     else if bytes_eq name (codes "discard") then discard_of words
     else if bytes_eq name (codes "make") then make_of words
     else if bytes_eq name (codes "trial") then trial_of words
@@ -236,6 +252,7 @@ IsInRange (Some (Packets most)) = most ≤ 2 ^ 48
 IsInRange (Some (Decode input workers most)) = (most ≤ 2 ^ 48) × IsCrew workers
 IsInRange (Some (Receive input workers most)) = (most ≤ 2 ^ 48) × IsCrew workers
 IsInRange (Some (Assemble from to apid image)) = (apid ≤ 2046) × (image ≤ 65535)
+IsInRange (Some (Transmit from to wrong line)) = wrong ≤ 16
 IsInRange (Some (Make start frames wrong form)) = (frames ≤ 65536) × (wrong ≤ 16)
 IsInRange (Some (Trial start frames wrong workers)) = ((frames ≤ 1024) × (wrong ≤ 16)) × IsCrew workers
 IsInRange _ = Unit {0}

@@ -1,3 +1,4 @@
+use lr_conv::LineCode;
 use lr_forms::{Input, Output};
 
 /// A command with what its words say.
@@ -52,6 +53,14 @@ pub enum Command {
         to: u64,
         apid: u16,
         image: u16,
+    },
+    /// The symbols of the files of the entries from one number up to another, with `wrong` wrong bytes in each word, under
+    /// this line code.
+    Transmit {
+        from: u64,
+        to: u64,
+        wrong: u8,
+        line: LineCode,
     },
     /// Closes the entry of this number.
     Discard {

@@ -23,6 +23,7 @@ mod parsing;
 mod read;
 mod receive;
 mod show;
+mod transmit;
 mod trial;
 mod values;
 mod verify;

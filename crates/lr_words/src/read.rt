@@ -15,6 +15,7 @@ use crate::make::read_make;
 use crate::packets::read_packets;
 use crate::receive::read_receive;
 use crate::show::read_show;
+use crate::transmit::read_transmit;
 use crate::trial::read_trial;
 use crate::verify::read_verify;
 use lr_bits::NoMemory;
@@ -42,6 +43,7 @@ pub fn read_words(alloc: Global, words: &[String]) -> Result<Option<Command>, No
         "verify" => read_verify(alloc, words),
         "export" => read_export(alloc, words),
         "assemble" => read_assemble(alloc, words),
+        "transmit" => read_transmit(alloc, words),
         "discard" => read_discard(alloc, words),
         "make" => read_make(alloc, words),
         "trial" => read_trial(alloc, words),

@@ -2,7 +2,8 @@ use Rattle.std.proofs.Common.{sym, subst}
 use Rattle.lr_make.specs.Stream.{symbol_stream}
 use Rattle.lr_forms.specs.declared.forms.Output.{Output}
 use Rattle.lr_forms.specs.declared.forms.Output.TheVariants.{Units}
-use Rattle.lr_receiving.specs.Made.{bytes_of_symbols, made_bytes, MakeEnds}
+use Rattle.lr_make.specs.Symbols.{bytes_of_symbols}
+use Rattle.lr_receiving.specs.Made.{made_bytes, MakeEnds}
 use Rattle.lr_receiving.proofs.Making.{make_ends}
 use Rattle.lr_receiving.proofs.test_stream.make.Goals as goal
 

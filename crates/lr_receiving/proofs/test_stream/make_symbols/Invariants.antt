@@ -1,7 +1,7 @@
 use Rattle.std.proofs.Common.{◌-◌, ◌≤◌}
 use Rattle.lr_make.specs.Standing.{StandsFor}
 use Rattle.lr_make.specs.Stream.{symbol_stream}
-use Rattle.lr_receiving.specs.Made.{bytes_of_symbols}
+use Rattle.lr_make.specs.Symbols.{bytes_of_symbols}
 use Rattle.lr_causes.specs.Puts.{Puts}
 use Rattle.lr_receiving.proofs.test_stream.make_symbols.Given as goal
 

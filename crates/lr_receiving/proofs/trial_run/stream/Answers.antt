@@ -4,7 +4,8 @@ use Rattle.lr_make.specs.Blocks.{block_at}
 use Rattle.lr_make.specs.Frames.{frame_at}
 use Rattle.lr_make.specs.Received.{IsReceivedAs}
 use Rattle.lr_make.specs.Stream.{symbol_stream}
-use Rattle.lr_receiving.specs.Made.{bytes_of_symbols, made_bytes}
+use Rattle.lr_make.specs.Symbols.{bytes_of_symbols}
+use Rattle.lr_receiving.specs.Made.{made_bytes}
 use Rattle.lr_receiving.proofs.Making.{symbols_more}
 use Rattle.lr_receiving.proofs.trial_run.stream.Goals as goal
 

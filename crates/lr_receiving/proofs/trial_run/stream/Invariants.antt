@@ -4,7 +4,7 @@ use Rattle.lr_make.specs.Frames.{frame_at}
 use Rattle.lr_make.specs.Received.{IsReceivedAs}
 use Rattle.lr_make.specs.Standing.{StandsFor}
 use Rattle.lr_make.specs.Stream.{symbol_stream}
-use Rattle.lr_receiving.specs.Made.{bytes_of_symbols}
+use Rattle.lr_make.specs.Symbols.{bytes_of_symbols}
 use Rattle.lr_receiving.proofs.trial_run.stream.Given as goal
 
 abbrev pub invariant-frames : goal.invariant-frames

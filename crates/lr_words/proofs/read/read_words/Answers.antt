@@ -15,6 +15,7 @@ use Rattle.lr_words.proofs.Dispatch.{
   at_verify,
   at_export,
   at_assemble,
+  at_transmit,
   at_discard,
   at_make,
   at_trial,
@@ -95,6 +96,13 @@ returns-in-assemble-clause-gives c =
     IfOk-weaker c.read_assemble.result _ _ (λ r e. e ∙ at_assemble _ _ c.in-assemble.is ∙ first)
     c.read_assemble.ensures.gives
 
+pub returns-in-transmit-clause-gives : goal.returns-in-transmit-clause-gives
+returns-in-transmit-clause-gives c =
+    let first = is_first c.args.words.now c.in-Some.name.now c.as_str.result.now c.as_str.ensures.value
+    c.in-Some.ensures.value in
+    IfOk-weaker c.read_transmit.result _ _ (λ r e. e ∙ at_transmit _ _ c.in-transmit.is ∙ first)
+    c.read_transmit.ensures.gives
+
 pub returns-in-discard-clause-gives : goal.returns-in-discard-clause-gives
 returns-in-discard-clause-gives c =
     let first = is_first c.args.words.now c.in-Some.name.now c.as_str.result.now c.as_str.ensures.value
@@ -118,6 +126,6 @@ pub returns-in_default-as_str-clause-gives : goal.returns-in_default-as_str-clau
 returns-in_default-as_str-clause-gives c =
     let not = c.in_default-as_str in
     other_name c.as_str.result.now _ not.not-init not.not-frames not.not-packets not.not-decode not.not-receive
-    not.not-extract not.not-list not.not-show not.not-verify not.not-export not.not-assemble not.not-discard
-    not.not-make not.not-trial
+    not.not-extract not.not-list not.not-show not.not-verify not.not-export not.not-assemble not.not-transmit
+    not.not-discard not.not-make not.not-trial
     ∙ is_first c.args.words.now c.in-Some.name.now c.as_str.result.now c.as_str.ensures.value c.in-Some.ensures.value
