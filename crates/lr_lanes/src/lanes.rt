@@ -64,8 +64,8 @@ pub(crate) fn lesser_of(first: u32x32, second: u32x32) -> (u32x32, u64)
         (bit_at result.1 k == 1) ≡ nat_lt (slice_index second k) (slice_index first k) }
     ensures small { result.1 < 2 ^ 32 }
 {
-    let is_second = second.simd_lt(first);
-    (is_second.select(second, first), is_second.to_bitmask())
+    let is_first = first.simd_le(second);
+    (is_first.select(first, second), (!is_first).to_bitmask())
 }
 
 /// Where the states 0 to 31 stand among the even states and, after these, the odd ones.

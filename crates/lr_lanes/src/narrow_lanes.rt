@@ -52,8 +52,8 @@ pub(crate) fn lesser_of(first: u16x32, second: u16x32) -> (u16x32, u64)
         (bit_at result.1 k == 1) ≡ nat_lt (slice_index second k) (slice_index first k) }
     ensures small { result.1 < 2 ^ 32 }
 {
-    let is_second = second.simd_lt(first);
-    (is_second.select(second, first), is_second.to_bitmask())
+    let is_first = first.simd_le(second);
+    (is_first.select(first, second), (!is_first).to_bitmask())
 }
 
 /// The even states and the odd ones, interleaved: all states in the order of their numbers.

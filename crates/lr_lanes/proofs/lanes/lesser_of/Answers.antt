@@ -1,5 +1,5 @@
 use mir.Syntax.{w32}
-use Rattle.lr_lanes.proofs.Lesser.{size_is, least_is, later_is, bound_is}
+use Rattle.lr_lanes.proofs.Lesser.{size_is, least_is, second_is, bound_is}
 use Rattle.lr_lanes.proofs.lanes.lesser_of.Goals as goal
 
 pub returns-clause-size : goal.returns-clause-size
@@ -9,7 +9,7 @@ pub returns-clause-least : goal.returns-clause-least
 returns-clause-least c = least_is w32 c.args.first c.args.second c.requires.first c.requires.second
 
 pub returns-clause-seconds : goal.returns-clause-seconds
-returns-clause-seconds c = later_is w32 c.args.first c.args.second c.requires.first c.requires.second
+returns-clause-seconds c = second_is w32 c.args.first c.args.second c.requires.first c.requires.second
 
 pub returns-clause-small : goal.returns-clause-small
 returns-clause-small c = bound_is w32 c.args.first c.args.second c.requires.first c.requires.second
