@@ -110,21 +110,22 @@ state_costs-requires-2-clause-base c =
 
 pub returns : goal.returns
 returns c =
+    let low = c.loop-i.low in
+    let high = c.loop-i.high in
+    let base = c.loop-i.base in
+    let held = c.loop-i.invariant in
     let decided =
-    all c.args.line c.args.window.now c.loop-i.i c.args.steps (costs_from c.loop-i.base (c.loop-i.low ++ c.loop-i.high))
-    c.loop-i.words (omega arith) c.loop-i.invariant.steps in
+    all c.args.line c.args.window.now c.loop-i.i c.args.steps (costs_from base (low ++ high)) c.loop-i.words
+    (omega arith) held.steps in
     record {
       decided = decided.decided;
       least = λ s l. c.all_costs.ensures s l
           ∙ omega (
             arith,
-            both_from c.loop-i.base c.state_costs.result c.state_costs-2.result c.loop-i.low c.loop-i.high
-                c.state_costs.ensures.size c.loop-i.invariant.low_size c.state_costs.ensures.value c.state_costs-2.ensures.value s l,
-            slice_index-costs_from c.loop-i.base (c.loop-i.low ++ c.loop-i.high) s (omega (
-              arith,
-              l,
-              both_size c.loop-i.low c.loop-i.high c.loop-i.invariant.low_size c.loop-i.invariant.high_size,
-            )),
+            both_from base c.state_costs.result c.state_costs-2.result low high c.state_costs.ensures.size
+                held.low_size c.state_costs.ensures.value c.state_costs-2.ensures.value s l,
+            slice_index-costs_from base (low ++ high) s
+                (omega (arith, l, both_size low high held.low_size held.high_size)),
           )
           ∙ decided.least s l;
       most = decided.most;
