@@ -1,13 +1,17 @@
 -- What `transmit` put once it is done, and what a receiver makes of it.
-use Rattle.std.specs.Prelude.{◌≡◌, ◌<◌, ◌+◌, ◌-◌, ℕ, Some, List, length, slice_get}
+use Rattle.std.specs.Prelude.{◌≡◌, ◌<◌, ◌+◌, ◌-◌, ◌++◌, ℕ, Some, List, length, slice_get}
 use Rattle.lr_bits.specs.File.{File}
 use Rattle.lr_conv.specs.declared.line.LineCode.{LineCode}
+use Rattle.lr_disk.specs.declared.disk.Disk.{Ghosts as DiskOf}
 use Rattle.lr_frame.specs.Outcomes.{outcomes_of_symbols}
+use Rattle.lr_io.specs.declared.sink.Sink.{Ghosts as SinkOf}
 use Rattle.lr_shelf_format.specs.Way.{Way, IsWay}
 use Rattle.lr_uplink.specs.Received.{AreFilesOf}
 use Rattle.lr_uplink.specs.Sent.{sent}
+use Rattle.lr_causes.specs.declared.cause.Cause.{Cause}
 use Rattle.lr_commands.specs.Asked.{IsSeen, Seen, Wrong, entry_at}
 use Rattle.lr_commands.specs.Files.{files_of, no_image}
+use Rattle.lr_commands.specs.Read.{IsDone}
 use Rattle.lr_sending.specs.Transmit.{files_read, sent_bytes, symbols_for}
 
 -- these are the files of the entries from one number up to another, without those that are gone; each one is sound
@@ -26,3 +30,10 @@ pub record IsTransmitted (line : LineCode) (from to wrong : ℕ) (bytes put : Li
   pub are : AreFilesBetween bytes way from to files
   pub sent_as : put ≡ sent_bytes line wrong files
   pub received : AreFilesOf (outcomes_of_symbols line (symbols_for line wrong (sent files))) files
+
+-- Where the call is done, this is what it put.
+module _ {D O : Type 0} (disk : DiskOf D) (out : SinkOf O) (line : LineCode) (from to wrong : ℕ) where
+  abbrev pub Transmits : Cause → D → O → O → Type 0
+  Transmits cause d o o' = IsDone cause → disk.tells d → out.tells o → (put : List ℕ)
+      × (out.contents o' ≡ out.contents o ++ put)
+      × IsTransmitted line from to wrong (disk.contents d) put

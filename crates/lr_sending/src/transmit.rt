@@ -3,10 +3,9 @@ ghost use Rattle.std.specs.Prelude.{◌≡◌, ◌<◌, ◌≤◌, ◌++◌, ◌
 ghost use Rattle.lr_bits.specs.File.{File};
 ghost use Rattle.lr_conv.specs.declared.line.LineCode.{LineCode as LineCode'};
 ghost use Rattle.lr_causes.specs.Puts.{Puts, PutFails};
-ghost use Rattle.lr_commands.specs.Read.{IsDone};
 ghost use Rattle.lr_commands.specs.Runs.{RunsOver};
 ghost use Rattle.lr_commands.specs.Steps.{PutsText, TextStops};
-ghost use Rattle.lr_sending.specs.Received.{IsTransmitted};
+ghost use Rattle.lr_sending.specs.Received.{Transmits};
 ghost use Rattle.lr_sending.specs.Standing.{HasSent, IsAt, rest_bytes};
 ghost use Rattle.lr_sending.specs.Transmit.{becomes_sent, transmit_asked};
 
@@ -135,8 +134,8 @@ impl ReadsEntries for TransmitRange {
 
 /// Puts the symbols of the files of the entries from one number up to another, without those that are gone, each in a
 /// byte: 100 for 1 and -100 for 0. In each word of a frame's block `wrong` bytes are wrong. Symbols go out a frame at a
-/// time. Where it is done, a receiver of the symbols finds these files. Refused, in this order: no shelf, a number that isn't allowed, and at each file no item, a wrong checksum, the
-/// channel of fill.
+/// time. Where it is done, a receiver of the symbols finds these files. Refused, in this order: no shelf, a number that
+/// isn't allowed, and at each file no item, a wrong checksum, the channel of fill.
 pub fn transmit<D: Disk, O: Sink>(
     alloc: Global,
     from: u64,
@@ -149,9 +148,7 @@ pub fn transmit<D: Disk, O: Sink>(
     requires { wrong ≤ 16 }
     ensures runs { RunsOver D.Disk O.Sink (transmit_asked from to wrong line) result
         disk.old disk.new out.old out.new }
-    ensures sent { IsDone result → D.tells disk.old → O.tells out.old → (put : List ℕ)
-        × (O.contents out.new ≡ O.contents out.old ++ put)
-        × IsTransmitted line from to wrong (D.contents disk.old) put }
+    ensures sent { Transmits D.Disk O.Sink line from to wrong result disk.old out.old out.new }
 {
     let command = TransmitRange {
         from,

@@ -14,6 +14,7 @@ use Rattle.lr_printing.specs.Decode.{decode_text, decode_last}
 use Rattle.lr_printing.specs.Frames.{frames_text, frames_last}
 use Rattle.lr_printing.specs.Packets.{packets_text, packets_last}
 use Rattle.lr_receiving.specs.Made.{made_bytes}
+use Rattle.lr_conv.specs.declared.line.LineCode.{LineCode}
 use Rattle.lr_words.specs.declared.command.Command.{Command}
 use Rattle.lr_words.specs.declared.command.Command.TheVariants.{
   Init,
@@ -27,6 +28,7 @@ use Rattle.lr_words.specs.declared.command.Command.TheVariants.{
   Verify,
   Export,
   Assemble,
+  Transmit,
   Discard,
   Make,
   Trial,
@@ -41,6 +43,8 @@ pub data Deed : Type 0 where
   Shelves : (input : Input) (most : ℕ) → Deed
   -- this is asked of the entries of the shelf
   Asks : (asked : Asked) → Deed
+  -- the files of these entries are put as symbols
+  Sends : (from to wrong : ℕ) (line : LineCode) → Deed
   -- the entry of this number is closed
   Closes : (number : ℕ) → Deed
   -- these bytes are put
@@ -61,6 +65,7 @@ deed_of (Show number) = Asks (show_asked number)
 deed_of Verify = Asks verify_asked
 deed_of (Export number) = Asks (export_asked number)
 deed_of (Assemble from to apid image) = Asks (assemble_asked from to apid image)
+deed_of (Transmit from to wrong line) = Sends from to wrong line
 deed_of (Discard number) = Closes number
 deed_of (Make start frames wrong form) = PutsBytes (made_bytes form start wrong frames)
 deed_of (Trial start frames wrong workers) = Tries (made_bytes Symbols start wrong frames)
