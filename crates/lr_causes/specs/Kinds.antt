@@ -9,6 +9,7 @@ use Rattle.lr_causes.specs.declared.cause.Refusal.TheVariants.{
   BadChecksum,
   Discarded,
   CannotExport,
+  CannotRepack,
 }
 use Rattle.lr_causes.specs.declared.cause.Cause.{Cause}
 use Rattle.lr_causes.specs.declared.cause.Cause.TheVariants.{Done, DoneWith, Usage, Failed, NoMemory, Refused}
@@ -27,6 +28,7 @@ pub data Kind : Type 0 where
   IsBadChecksum : Kind
   IsDiscarded : Kind
   IsNoExport : Kind
+  IsNoRepack : Kind
 
 abbrev pub kind_of : Cause → Kind
 kind_of Done = IsDone
@@ -41,6 +43,7 @@ kind_of (Refused (NotEmpty size)) = IsNotEmpty
 kind_of (Refused BadChecksum) = IsBadChecksum
 kind_of (Refused Discarded) = IsDiscarded
 kind_of (Refused (CannotExport fault)) = IsNoExport
+kind_of (Refused (CannotRepack fault)) = IsNoRepack
 
 -- equal statuses mean equal kinds
 abbrev pub HasOneKind : Type 0

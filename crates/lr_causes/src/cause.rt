@@ -1,5 +1,5 @@
 //! Why a call ends, and the status that it answers.
-use crate::fault::ExportFault;
+use crate::fault::{CodingFault, ExportFault};
 use crate::note::Note;
 use lr_bits::NoMemory;
 use lr_image::ImageFault;
@@ -31,6 +31,8 @@ pub enum Refusal {
     Discarded,
     /// What was found gives no PGM.
     CannotExport(ExportFault),
+    /// The image that was found isn't coded anew.
+    CannotRepack(CodingFault),
 }
 
 /// Why a call ended.
@@ -68,6 +70,7 @@ impl Cause {
             Cause::Refused(Refusal::NotEmpty { .. }) => 11,
             Cause::Refused(Refusal::BadChecksum) => 12,
             Cause::Refused(Refusal::Discarded) => 13,
+            Cause::Refused(Refusal::CannotRepack(_)) => 16,
         }
     }
 

@@ -1,3 +1,4 @@
+pub mod Adding
 pub mod Asked
 pub mod Assemble
 pub mod Discard
@@ -7,6 +8,7 @@ pub mod Files
 pub mod Gathered
 pub mod Laws
 pub mod List
+pub mod Repack
 pub mod Runs
 pub mod Show
 pub mod Steps
