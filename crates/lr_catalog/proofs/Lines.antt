@@ -3,7 +3,7 @@ use Rattle.std.proofs.Common.{◌≡◌, ◌<◌, ◌+◌, ℕ, zero, suc, List,
 use Rattle.std.proofs.Common.{get_or, take, refl, ap, sym, ◌∙◌, append_assoc, append-nil, codes, arith}
 use Rattle.std.proofs.lemmas.Grind.{flat_map-append}
 use Rattle.std.proofs.lemmas.List.{take_more}
-use Rattle.std.specs.List.{flat_map, slice_get}
+use Rattle.std.specs.List.{concat, flat_map, slice_get}
 use Rattle.lr_headers.specs.declared.contents.Content.{Content}
 use Rattle.lr_headers.specs.declared.entry.Entry.{Entry}
 use Rattle.lr_headers.specs.declared.fault.HeaderFault.{HeaderFault}
@@ -32,10 +32,18 @@ module _ {T E : Type 0} where
       ∙ append_assoc old (codes " stamp ") (stamp_text stamp)
   put_stamp (Err x) stamp old middle new is put = put
 
-  pub put_three : (r : Result T E) (old a b c first second last new : List ℕ) → first ≡ old ++ a
-      → second ≡ first ++ b → last ≡ c → OnOk r (new ≡ second ++ last) → OnOk r (new ≡ old ++ (a ++ b ++ c))
-  put_three (Ok x) old a b c first second last new e0 e1 e2 put = put ∙ rw (e1, e0, e2) (simp append_assoc)
-  put_three (Err x) old a b c first second last new e0 e1 e2 put = put
+  pub put_three : (r : Result T E) (old a b c first second new : List ℕ) → first ≡ old ++ a → second ≡ first ++ b
+      → OnOk r (new ≡ second ++ c) → OnOk r (new ≡ old ++ (a ++ b ++ c))
+  put_three (Ok x) old a b c first second new e0 e1 put = put ∙ rw (e1, e0) (simp append_assoc)
+  put_three (Err x) old a b c first second new e0 e1 put = put
+
+  pub put_line : (r : Result T E) (old key size bits middle kind origin t0 t1 t2 t3 t4 t5 new : List ℕ)
+      → t0 ≡ old ++ key → t1 ≡ t0 ++ size → t2 ≡ t1 ++ bits → t3 ≡ t2 ++ middle → t4 ≡ t3 ++ kind → t5 ≡ t4 ++ origin
+      → OnOk r (new ≡ t5 ++ codes "\n")
+      → OnOk r (new ≡ old ++ concat (key ∷ size ∷ bits ∷ middle ∷ kind ∷ origin ∷ codes "\n" ∷ []))
+  put_line (Ok x) old key size bits middle kind origin t0 t1 t2 t3 t4 t5 new e0 e1 e2 e3 e4 e5 put =
+      put ∙ rw (e5, e4, e3, e2, e1, e0) (simp (append_assoc, append-nil))
+  put_line (Err x) old key size bits middle kind origin t0 t1 t2 t3 t4 t5 new e0 e1 e2 e3 e4 e5 put = put
 
   pub put_fault : (r : Result T E) (proper : List ℕ) (fault : HeaderFault) (old new : List ℕ)
       → HasFaultOrMemory proper fault → OnOk r (new ≡ old ++ fault_line fault) → OnOk r (fault ≡ NoMemory → ⊥)
@@ -45,13 +53,15 @@ module _ {T E : Type 0} where
   put_fault (Err x) proper fault old new has put not = put
 
 -- the text of a record's line
-pub line_is : (header : Header) (e entry : Entry) (content : Content) (contents line words first second third : List ℕ)
-    → entry ≡ e → content ≡ content_of header e → contents ≡ contents_of header.bytes e → line ≡ []
-    → words ≡ record_words entry → first ≡ line ++ words → second ≡ first ++ content_words content contents
-    → third ≡ second ++ codes "\n" → third ≡ record_line header e
+pub record_is : {T E : Type 0} (r : Result T E) (header : Header) (e entry : Entry) (content : Content)
+    (contents old first second new : List ℕ) → entry ≡ e → content ≡ content_of header e
+    → contents ≡ contents_of header.bytes e → first ≡ old ++ record_words entry
+    → second ≡ first ++ content_words content contents → OnOk r (new ≡ second ++ codes "\n")
+    → OnOk r (new ≡ old ++ record_line header e)
 unfolding record_line
-line_is header e entry content contents line words first second third same says holds none is e1 e2 e3 =
-    rw (e3, e2, e1, none, is, same, says, holds) refl
+record_is r header e entry content contents old first second new same says holds e0 e1 put =
+    put_three r old (record_words e) (content_words (content_of header e) (contents_of header.bytes e)) (codes "\n")
+    first second new (rw (← same) e0) (rw (← says, ← holds) e1) put
 
 there : (es : List Entry) (place : ℕ) (d : Entry) → place < length es → slice_get es place ≡ Some (get_or es place d)
 there [] place d inside = absurd (omega arith)

@@ -2,6 +2,7 @@
 ghost use Rattle.std.specs.Prelude.{◌≡◌, ◌++◌, IfOk, OnOk, OnErr, string_bytes};
 ghost use Rattle.lr_catalog.specs.Discards.{gone_line, discard_line};
 
+use crate::texts::put_words;
 use lr_bits::{Bytes, NoMemory};
 use std::alloc::{AllocError, Global};
 
@@ -17,8 +18,7 @@ pub fn gone_line(alloc: Global, number: u64, out: &mut Bytes) -> Result<(), NoMe
     ensures ok { OnOk result (out.new ≡ out.old ++ gone_line number) }
     ensures err { OnErr result (out.new ≡ out.old) }
 {
-    let line = gone_text(alloc, number)?;
-    out.extend(line.as_bytes())
+    put_words(gone_text(alloc, number), out)
 }
 
 #[tactic(auto, unfolding(crate::specs::Discards::discard_line))]
@@ -33,6 +33,5 @@ pub fn discard_line(alloc: Global, number: u64, out: &mut Bytes) -> Result<(), N
     ensures ok { OnOk result (out.new ≡ out.old ++ discard_line number) }
     ensures err { OnErr result (out.new ≡ out.old) }
 {
-    let line = discard_text(alloc, number)?;
-    out.extend(line.as_bytes())
+    put_words(discard_text(alloc, number), out)
 }

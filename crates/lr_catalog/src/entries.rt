@@ -1,6 +1,6 @@
 //! The lines of `list`: one for each file of a shelf, and the last one.
 
-ghost use Rattle.std.specs.Prelude.{◌≡◌, ◌++◌, ◌==◌, IfOk, OnOk, OnErr, string_bytes};
+ghost use Rattle.std.specs.Prelude.{◌≡◌, ◌++◌, ◌==◌, IfOk, OnOk, OnErr, string_bytes, decimal};
 ghost use Rattle.lr_bits.specs.File.{declared_bits_of, real_bits_of};
 ghost use Rattle.lr_headers.specs.Reading.{header_of};
 ghost use Rattle.lr_catalog.specs.Entries.{
@@ -10,11 +10,11 @@ ghost use Rattle.lr_catalog.specs.Entries.{
   bits_words,
   type_word,
   origin_words,
-  file_words,
   file_line,
   shelf_line,
 };
 
+use crate::texts::put_words;
 use lr_bits::{Bytes, MissionFile, NoMemory, Origin};
 use lr_headers::{HeaderFault, Records};
 use std::alloc::{AllocError, Global};
@@ -50,18 +50,21 @@ fn bits_words(alloc: Global, declared: u64, real: u64) -> Result<String, AllocEr
     format!(in alloc; " declared {declared} real {real} {same}")
 }
 
-/// The file type that the header tells, or that there is a fault in it.
-fn type_word(alloc: Global, proper: &[u8]) -> Result<String, NoMemory>
-    ensures { IfOk result (λ word. string_bytes word ≡ type_word (header_of proper.now)) }
+fn kind_word(alloc: Global, kind: u8) -> Result<String, AllocError>
+    ensures { IfOk result (λ word. string_bytes word ≡ decimal kind) }
+{
+    format!(in alloc; "{kind}")
+}
+
+/// Appends the file type that the header tells, or that there is a fault in it.
+fn put_type(alloc: Global, proper: &[u8], out: &mut Bytes) -> Result<(), NoMemory>
+    ensures { OnOk result (out.new ≡ out.old ++ type_word (header_of proper.now)) }
 {
     match Records::read(alloc, proper) {
-        Ok(records) => {
-            let kind = records.file_type();
-            Ok(format!(in alloc; "{kind}")?)
-        }
+        Ok(records) => put_words(kind_word(alloc, records.file_type()), out),
         Err(fault) => match fault {
             HeaderFault::NoMemory => Err(NoMemory),
-            _ => Ok(String::from_str(alloc, "fault")?),
+            _ => out.extend(b"fault"),
         },
     }
 }
@@ -82,41 +85,26 @@ fn origin_words(alloc: Global, origin: Option<Origin>) -> Result<String, AllocEr
     }
 }
 
-#[tactic(auto, unfolding(crate::specs::Entries::file_words))]
-fn file_words(
-    alloc: Global,
-    key: &str,
-    size: &str,
-    bits: &str,
-    kind: &str,
-    origin: &str,
-) -> Result<String, AllocError>
-    ensures { IfOk result (λ line. string_bytes line ≡ file_words key.now size.now bits.now kind.now origin.now) }
-{
-    format!(in alloc; "{key}{size}{bits} type {kind}{origin}\n")
-}
-
-fn file_text(
+/// Appends the line of a file of a shelf.
+fn put_file(
     alloc: Global,
     number: u64,
     file: &MissionFile,
     origin: Option<Origin>,
-) -> Result<String, NoMemory>
-    ensures { IfOk result (λ line. string_bytes line ≡ file_line number file.now origin) }
+    out: &mut Bytes,
+) -> Result<(), NoMemory>
+    ensures { OnOk result (out.new ≡ out.old ++ file_line number file.now origin) }
 {
-    let key = key_words(alloc, number, file)?;
-    let size = size_words(alloc, file)?;
-    let bits = bits_words(alloc, file.declared_bits(), file.real_bits())?;
-    let kind = type_word(alloc, file.proper())?;
-    let origin = origin_words(alloc, origin)?;
-    Ok(file_words(
-        alloc,
-        key.as_str(),
-        size.as_str(),
-        bits.as_str(),
-        kind.as_str(),
-        origin.as_str(),
-    )?)
+    put_words(key_words(alloc, number, file), out)?;
+    put_words(size_words(alloc, file), out)?;
+    put_words(
+        bits_words(alloc, file.declared_bits(), file.real_bits()),
+        out,
+    )?;
+    out.extend(b" type ")?;
+    put_type(alloc, file.proper(), out)?;
+    put_words(origin_words(alloc, origin), out)?;
+    out.extend(b"\n")
 }
 
 /// Appends the line of a file of a shelf, or nothing: what its packets and its headers say of it, and where it came
@@ -131,8 +119,9 @@ pub fn file_line(
     ensures ok { OnOk result (out.new ≡ out.old ++ file_line number file.now origin) }
     ensures err { OnErr result (out.new ≡ out.old) }
 {
-    let line = file_text(alloc, number, file, origin)?;
-    out.extend(line.as_bytes())
+    let mut line = Bytes::new(alloc);
+    put_file(alloc, number, file, origin, &mut line)?;
+    out.extend(line.as_slice())
 }
 
 #[tactic(auto, unfolding(crate::specs::Entries::shelf_line))]
@@ -154,6 +143,5 @@ pub fn shelf_line(
     ensures ok { OnOk result (out.new ≡ out.old ++ shelf_line count used capacity) }
     ensures err { OnErr result (out.new ≡ out.old) }
 {
-    let line = shelf_text(alloc, count, used, capacity)?;
-    out.extend(line.as_bytes())
+    put_words(shelf_text(alloc, count, used, capacity), out)
 }

@@ -2,6 +2,7 @@ ghost use Rattle.std.specs.Prelude.{◌≡◌, ◌++◌, IfOk, OnOk, OnErr, stri
 ghost use Rattle.lr_catalog.specs.Files.{shelved_line, ok_line, bad_line, check_line};
 
 use crate::hex::hex_word;
+use crate::texts::put_words;
 use lr_bits::{Bytes, MissionFile, NoMemory};
 use std::alloc::{AllocError, Global};
 
@@ -28,8 +29,7 @@ pub fn shelved_line(
     ensures ok { OnOk result (out.new ≡ out.old ++ shelved_line number file.now) }
     ensures err { OnErr result (out.new ≡ out.old) }
 {
-    let line = shelved_text(alloc, number, file)?;
-    out.extend(line.as_bytes())
+    put_words(shelved_text(alloc, number, file), out)
 }
 
 #[tactic(auto, unfolding(crate::specs::Files::ok_line))]
@@ -59,9 +59,8 @@ pub fn check_line(
     ensures ok { OnOk result (out.new ≡ out.old ++ check_line number bad) }
     ensures err { OnErr result (out.new ≡ out.old) }
 {
-    let line = match bad {
-        None => ok_line(alloc, number)?,
-        Some((stored, computed)) => bad_line(alloc, number, stored, computed)?,
-    };
-    out.extend(line.as_bytes())
+    match bad {
+        None => put_words(ok_line(alloc, number), out),
+        Some((stored, computed)) => put_words(bad_line(alloc, number, stored, computed), out),
+    }
 }

@@ -20,7 +20,7 @@ ghost use Rattle.lr_catalog.specs.Records.{
   header_lines,
 };
 
-use crate::texts::{put_escaped, trim_end};
+use crate::texts::{put_escaped, put_words, trim_end};
 use lr_bits::{Bytes, NoMemory};
 use lr_headers::{
     Content, Entry, HeaderFault, Lossless, Navigation, Records, Segment, Structure, stamp_text,
@@ -69,8 +69,7 @@ fn put_navigation(alloc: Global, navigation: &Navigation, out: &mut Bytes) -> Re
 {
     out.extend(b" navigation ")?;
     put_escaped(trim_end(&navigation.name), out)?;
-    let words = projection_words(alloc, navigation)?;
-    out.extend(words.as_bytes())
+    put_words(projection_words(alloc, navigation), out)
 }
 
 #[tactic(auto, unfolding(crate::specs::Records::segment_words))]
@@ -117,10 +116,11 @@ fn put_content(
             file_type,
             header_length,
             data_bits,
-        } => out.extend(primary_words(alloc, file_type, header_length, data_bits)?.as_bytes()),
-        Content::Structure(structure) => {
-            out.extend(structure_words(alloc, &structure)?.as_bytes())
-        }
+        } => put_words(
+            primary_words(alloc, file_type, header_length, data_bits),
+            out,
+        ),
+        Content::Structure(structure) => put_words(structure_words(alloc, &structure), out),
         Content::Navigation(navigation) => put_navigation(alloc, &navigation, out),
         Content::Text => {
             out.extend(b" text ")?;
@@ -131,8 +131,8 @@ fn put_content(
             stamp_text(alloc, &stamp, out)
         }
         Content::Key => out.extend(b" key"),
-        Content::Segment(segment) => out.extend(segment_words(alloc, &segment)?.as_bytes()),
-        Content::Lossless(lossless) => out.extend(lossless_words(alloc, &lossless)?.as_bytes()),
+        Content::Segment(segment) => put_words(segment_words(alloc, &segment), out),
+        Content::Lossless(lossless) => put_words(lossless_words(alloc, &lossless), out),
         Content::Other => out.extend(b" other"),
     }
 }
@@ -144,6 +144,27 @@ fn record_words(alloc: Global, entry: Entry) -> Result<String, AllocError>
     let kind = entry.kind;
     let length = entry.length;
     format!(in alloc; "record {kind} length {length}")
+}
+
+/// Appends the line of the record at a place of a header.
+fn put_record(
+    alloc: Global,
+    records: &Records<'_>,
+    place: usize,
+    out: &mut Bytes,
+) -> Result<(), NoMemory>
+    requires { place < length records.now.entries }
+    ensures { (e : Entry) → slice_get records.now.entries place ≡ Some e
+        → OnOk result (out.new ≡ out.old ++ record_line records.now e) }
+{
+    put_words(record_words(alloc, records.entry(place)), out)?;
+    put_content(
+        alloc,
+        records.content(place),
+        records.contents_at(place),
+        out,
+    )?;
+    out.extend(b"\n")
 }
 
 /// Appends the line of the record at a place of a header, or nothing. Places count from 0.
@@ -159,14 +180,7 @@ pub fn record_line(
     ensures err { OnErr result (out.new ≡ out.old) }
 {
     let mut line = Bytes::new(alloc);
-    line.extend(record_words(alloc, records.entry(place))?.as_bytes())?;
-    put_content(
-        alloc,
-        records.content(place),
-        records.contents_at(place),
-        &mut line,
-    )?;
-    line.extend(b"\n")?;
+    put_record(alloc, records, place, &mut line)?;
     out.extend(line.as_slice())
 }
 
@@ -231,10 +245,7 @@ fn put_fault(alloc: Global, fault: HeaderFault, out: &mut Bytes) -> Result<(), N
 {
     match fault {
         HeaderFault::NoMemory => Err(NoMemory),
-        fault => {
-            let line = fault_line(alloc, fault)?;
-            out.extend(line.as_bytes())
-        }
+        fault => put_words(fault_line(alloc, fault), out),
     }
 }
 

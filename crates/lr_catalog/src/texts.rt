@@ -1,9 +1,19 @@
-//! Bytes of any value in print.
+//! Words after a text, and bytes of any value in print.
 
-ghost use Rattle.std.specs.Prelude.{◌≡◌, ◌<◌, ◌++◌, OnOk};
+ghost use Rattle.std.specs.Prelude.{◌≡◌, ◌<◌, ◌++◌, ℕ, List, IfOk, OnOk, OnErr, string_bytes};
 ghost use Rattle.lr_catalog.specs.Texts.{escaped_text, escaped_byte, hex_digit, is_blank, is_plain, trimmed_text};
 
 use lr_bits::{Bytes, NoMemory};
+use std::alloc::AllocError;
+
+/// Appends words that were composed, or nothing. Where memory was refused for them, it is refused here.
+pub(crate) fn put_words(words: Result<String, AllocError>, out: &mut Bytes) -> Result<(), NoMemory>
+    ensures ok { (text : List ℕ) → IfOk words (λ words. string_bytes words ≡ text)
+        → OnOk result (out.new ≡ out.old ++ text) }
+    ensures err { OnErr result (out.new ≡ out.old) }
+{
+    out.extend(words?.as_bytes())
+}
 
 /// Appends the text, in which each byte that isn't printed as itself is a backslash, `x` and two digits.
 pub(crate) fn put_escaped(text: &[u8], out: &mut Bytes) -> Result<(), NoMemory>

@@ -3,7 +3,7 @@ ghost use Rattle.std.specs.Prelude.{◌≡◌};
 ghost use Rattle.lr_causes.specs.Causes.{cause_at};
 
 use crate::cause::{Cause, Party};
-use lr_catalog::Stop;
+use lr_forms::Stop;
 
 /// The cause of a run that put its last line.
 pub fn cause_at(stop: Stop) -> Cause

@@ -23,6 +23,14 @@ pub enum Input {
     Units(UnitForm),
 }
 
+/// Why no more of the input is taken: at its end, at the stated limit, or at a fault of the source.
+#[derive(Clone, Copy)]
+pub enum Stop {
+    End,
+    Limit,
+    Fault,
+}
+
 /// The form in which the test stream is written.
 #[derive(Clone, Copy)]
 pub enum Output {

@@ -4,4 +4,4 @@
 
 mod forms;
 
-pub use forms::{Input, MOST_BYTES, MOST_WORKERS, Output, UnitForm};
+pub use forms::{Input, MOST_BYTES, MOST_WORKERS, Output, Stop, UnitForm};

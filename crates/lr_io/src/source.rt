@@ -17,6 +17,10 @@ pub trait Source {
     /// The bytes that are left, where it tells them.
     ghost left: { Self → List ℕ };
 
+    /// Whether one call may make the second of the first. A kind of source may say more by it than that there was a
+    /// call, and then a reader of a contract knows which call was the last one.
+    ghost asked: { Self → Self → Type 0 } = { λ _ _. Unit {0} };
+
     /// Moves the next bytes to the front of `into`, and answers how many. A source that tells its bytes moves none only
     /// at its end. Where it fails nothing was taken.
     fn take(&mut self, into: &mut [u8]) -> Result<usize, Failed>
@@ -27,7 +31,8 @@ pub trait Source {
         ensures untold { tells self.new → tells self.old }
         ensures moved { tells self.old → IfOk result (λ n. left self.old ≡ take n into.new ++ left self.new) }
         ensures ended { tells self.old → IfOk result (λ n. (n ≡ 0) ↔ (left self.old ≡ [])) }
-        ensures failed { tells self.old → OnErr result (left self.new ≡ left self.old) };
+        ensures failed { tells self.old → OnErr result (left self.new ≡ left self.old) }
+        ensures asked { asked self.old self.new };
 }
 
 /// A reader of std as a source. It tells what is left where each reader of its type does, and counts each `Err`.

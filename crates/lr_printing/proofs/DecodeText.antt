@@ -151,6 +151,10 @@ module _ {O : Type 0} (out : SinkOf O) where
         (puts_none out lines.out.now);
   }
 
+  pub outcomes_ready : (lines : OutcomeLines O) → lines.outcomes ≡ 0 → lines.restored ≡ 0
+      → (first : OutcomeLines O) × OutcomesTook out first [] lines
+  outcomes_ready lines none none_restored = (lines, outcomes_begun lines none none_restored)
+
   module _ {before now : OutcomeLines O} {arrivals : List Arrival} (took : OutcomesTook out before arrivals now)
       (arrival : Arrival) (o' : O) where
     -- one line more was put

@@ -21,7 +21,9 @@ use Rattle.std.proofs.Common.{
 use Rattle.lr_bits.specs.Faults.{Rose}
 use Rattle.lr_io.specs.declared.source.Source.{Ghosts as SourceOf}
 use Rattle.lr_io.specs.declared.sink.Sink.{Ghosts as SinkOf}
-use Rattle.lr_catalog.specs.declared.stop.Stop.{Stop}
+use Rattle.lr_forms.specs.declared.forms.Stop.{Stop}
+use Rattle.lr_forms.specs.declared.forms.Stop.TheVariants.{End, Limit, Fault}
+use Rattle.lr_causes.specs.Causes.{cause_at}
 use Rattle.lr_causes.specs.declared.cause.Cause.{Cause}
 use Rattle.lr_causes.specs.declared.cause.Cause.TheVariants.{Failed, NoMemory}
 use Rattle.lr_causes.specs.declared.cause.Party.TheVariants.{Output}
@@ -55,11 +57,18 @@ lines_stop out front line o p o' put _ stop = absurd stop
 
 module _ {S O : Type 0} (source : SourceOf S) (out : SinkOf O) (lines : List ℕ → List ℕ) (last : List ℕ → Stop
     → List ℕ) (limit : ℕ) where
+  -- the last line was put, whatever the input ended for
+  pub printed : (stop : Stop) (s s' : S) (o o' : O) → PrintsAll source out lines last limit stop s s' o o'
+      → Prints source out lines last limit (cause_at stop) s s' o o'
+  printed End s s' o o' all = inl all
+  printed Limit s s' o o' all = inr all
+  printed Fault s s' o o' all = all
+
   -- memory was refused before anything was read
   pub none_read : (s : S) (o : O) → Prints source out lines last limit NoMemory s s o o
   none_read s o = record {
     bytes = [];
-    read = record { told = λ t. t; moved = λ t. refl; few = omega arith };
+    read = record { told = λ t. t; moved = λ t. refl; few = omega arith; asked = inl refl };
     told = λ t. t;
     front = λ t. record { front = []; rest = lines []; split = refl; put = sym (append-nil (out.contents o)) };
   }

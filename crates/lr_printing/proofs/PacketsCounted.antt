@@ -4,7 +4,7 @@ use Rattle.lr_bits.specs.Packet.{Packet}
 use Rattle.lr_vc.specs.Standing.{Kept, StandsFor}
 use Rattle.lr_packet.specs.Verdict.{good_packets}
 use Rattle.lr_packet.proofs.VerdictLemmas.{good_packets-append}
-use Rattle.lr_catalog.specs.declared.stop.Stop.{Stop}
+use Rattle.lr_forms.specs.declared.forms.Stop.{Stop}
 use Rattle.lr_catalog.specs.declared.summary.Summary.TheVariants.{Packets}
 use Rattle.lr_catalog.specs.Summaries.{summary_line}
 use Rattle.lr_io.specs.declared.source.Source.{Ghosts as SourceOf}

@@ -2,7 +2,7 @@
 use Rattle.std.specs.Prelude.{ℕ, ◌/◌, ◌%◌, List, length}
 use Rattle.lr_bits.specs.declared.sizes.TheConstants.{FRAME_BYTES}
 use Rattle.lr_vc.specs.Frame.{frame_of}
-use Rattle.lr_catalog.specs.declared.stop.Stop.{Stop}
+use Rattle.lr_forms.specs.declared.forms.Stop.{Stop}
 use Rattle.lr_catalog.specs.declared.summary.Summary.TheVariants.{Frames}
 use Rattle.lr_catalog.specs.Frames.{frame_line}
 use Rattle.lr_catalog.specs.Summaries.{summary_line}

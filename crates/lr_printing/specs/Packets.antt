@@ -7,7 +7,7 @@ use Rattle.lr_bits.specs.Packet.{Packet}
 use Rattle.lr_vc.specs.Frame.{Fields, frame_of}
 use Rattle.lr_vc.specs.Packets.{packets_of}
 use Rattle.lr_packet.specs.Verdict.{good_packets}
-use Rattle.lr_catalog.specs.declared.stop.Stop.{Stop}
+use Rattle.lr_forms.specs.declared.forms.Stop.{Stop}
 use Rattle.lr_catalog.specs.declared.summary.Summary.TheVariants.{Packets}
 use Rattle.lr_catalog.specs.Packets.{packet_line}
 use Rattle.lr_catalog.specs.Summaries.{summary_line}

@@ -10,9 +10,10 @@ ghost use Rattle.lr_printing.specs.Printing.{Prints, PrintsAll};
 ghost use Rattle.lr_causes.specs.Puts.{Puts, PutStops};
 
 use lr_bits::{Bytes, Outcome};
-use lr_catalog::{Stop, Summary, frame_line, summary_line};
+use lr_catalog::{Summary, frame_line, summary_line};
 use lr_causes::{Cause, cause_at, put_text};
-use lr_forms::{Input, UnitForm};
+use lr_forms::{Input, Stop, UnitForm};
+use lr_frame::FrameWork;
 use lr_io::{Sink, Source};
 use lr_reading::{Arrival, Consumer, Reader, Totals};
 use lr_vc::TransferFrame;
@@ -72,11 +73,12 @@ fn put_frame<O: Sink>(
 
 fn put_each_frame<S: Source, O: Sink>(
     alloc: Global,
-    reader: Reader,
+    reader: Reader<FrameWork>,
     source: &mut S,
     out: &mut O,
 ) -> Result<Totals, Cause>
     requires input { reader.input ≡ Units Frames }
+    requires alone { reader.workers ≡ 1 }
     requires few { reader.most < 2 ^ 64 }
     ensures all { IfOk result (λ totals. (bytes : List ℕ)
         × ReadsInput S.Source (Units Frames) reader.most totals bytes source.old source.new
@@ -89,7 +91,7 @@ fn put_each_frame<S: Source, O: Sink>(
         frames: 0,
         out,
     };
-    let totals = reader.read(source, &mut lines)?;
+    let totals = reader.read_alone(source, &mut lines)?;
     Ok(totals)
 }
 
@@ -120,7 +122,8 @@ fn put_frames<S: Source, O: Sink>(
     ensures stopped { IfErr result
         (λ cause. Prints S.Source O.Sink frames_text frames_last most cause source.old source.new out.old out.new) }
 {
-    let reader = Reader::new(alloc, Input::Units(UnitForm::Frames), most)?;
+    let input = Input::Units(UnitForm::Frames);
+    let reader = Reader::<FrameWork>::new(alloc, input, 1, most, &())?;
     let totals = put_each_frame(alloc, reader, source, out)?;
     put_last(alloc, &totals, out)?;
     Ok(totals.stop)

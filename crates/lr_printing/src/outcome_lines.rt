@@ -1,21 +1,26 @@
 //! `decode`: a line for what became of each window or block.
-ghost use Rattle.std.specs.Prelude.{◌≡◌, ◌≤◌, ◌<◌, ◌+◌, ◌-◌, ◌^◌, ◌++◌, List, ℕ, IfOk, IfErr, OnOk, count_by, cond};
+ghost use Rattle.std.specs.Prelude.{◌≡◌, ◌≤◌, ◌<◌, ◌+◌, ◌-◌, ◌^◌, ◌++◌, List, [], ℕ, IfOk, IfErr, OnOk, count_by, cond};
 ghost use Rattle.lr_layers.specs.Layers.{is_restored};
 ghost use Rattle.lr_catalog.specs.Summaries.{summary_line};
 ghost use Rattle.lr_reading.specs.Inputs.{outcomes_of_bytes};
-ghost use Rattle.lr_reading.specs.Runs.{ReadsInput};
+ghost use Rattle.lr_reading.specs.Leading.{MayLead, Leads};
+ghost use Rattle.lr_reading.specs.Runs.{ReadsInput, IsLed};
 ghost use Rattle.lr_printing.specs.Decode.{decode_text, decode_last};
+ghost use Rattle.lr_printing.specs.DecodeTaken.{OutcomesTook, OutcomesStopped};
 ghost use Rattle.lr_printing.specs.OutcomeLines.{outcome_text};
-ghost use Rattle.lr_printing.specs.Printing.{Prints, PrintsAll};
+ghost use Rattle.lr_printing.specs.Printing.{Prints};
 ghost use Rattle.lr_causes.specs.Puts.{Puts, PutStops};
 
 use lr_bits::{Bytes, NoMemory, Outcome};
-use lr_catalog::{Stop, Summary, block_line, summary_line, window_line};
+use lr_catalog::{Summary, block_line, summary_line, window_line};
 use lr_causes::{Cause, cause_at, put_text};
 use lr_forms::Input;
+use lr_frame::{FrameWork, Hand};
 use lr_io::{Sink, Source};
 use lr_reading::{Arrival, Consumer, Reader, Totals};
 use std::alloc::Global;
+use std::sync::Wait;
+use std::thread::Threads;
 
 /// Puts a line for each outcome, of which it took this many, and counts those that are restored.
 #[derive(Drop)]
@@ -95,20 +100,27 @@ fn put_outcome<O: Sink>(
     put_text(line.as_slice(), out)
 }
 
-/// Puts all lines, and answers how many outcomes are restored.
-fn put_each_outcome<S: Source, O: Sink>(
+/// Puts the lines of all outcomes of this input, through which the call `read` leads, and answers how many are restored.
+fn put_each_outcome<
+    S: Source,
+    O: Sink,
+    F: FnOnce(&mut S, &mut OutcomeLines<'_, O>) -> Result<Totals, Cause>,
+>(
     alloc: Global,
-    reader: Reader,
+    input: Input,
+    most: u64,
     source: &mut S,
     out: &mut O,
+    read: F,
 ) -> Result<(Totals, u64), Cause>
-    requires few { reader.most ≤ 2 ^ 48 }
+    requires ready { MayLead (F.pre read) (OutcomesTook O.Sink) }
+    requires leads { Leads (F.post read) S.Source (OutcomesTook O.Sink) (OutcomesStopped O.Sink) input most }
     ensures all { IfOk result (λ sums. (bytes : List ℕ)
-        × ReadsInput S.Source reader.input reader.most sums.0 bytes source.old source.new
-        × (sums.1 ≡ count_by is_restored (outcomes_of_bytes reader.input bytes))
-        × Puts O.Sink (decode_text reader.input bytes) out.old out.new) }
-    ensures stopped { IfErr result (λ cause. Prints S.Source O.Sink (decode_text reader.input)
-        (decode_last reader.input) reader.most cause source.old source.new out.old out.new) }
+        × ReadsInput S.Source input most sums.0 bytes source.old source.new
+        × (sums.1 ≡ count_by is_restored (outcomes_of_bytes input bytes))
+        × Puts O.Sink (decode_text input bytes) out.old out.new) }
+    ensures stopped { IfErr result (λ cause. Prints S.Source O.Sink (decode_text input)
+        (decode_last input) most cause source.old source.new out.old out.new) }
 {
     let mut lines = OutcomeLines {
         alloc,
@@ -116,12 +128,12 @@ fn put_each_outcome<S: Source, O: Sink>(
         restored: 0,
         out,
     };
-    let totals = reader.read(source, &mut lines)?;
+    let totals = read(source, &mut lines)?;
     Ok((totals, lines.restored))
 }
 
 /// The last line.
-pub(crate) fn put_last<O: Sink>(
+fn put_last<O: Sink>(
     alloc: Global,
     totals: &Totals,
     restored: u64,
@@ -148,23 +160,32 @@ pub(crate) fn put_last<O: Sink>(
     put_text(line.as_slice(), out)
 }
 
-fn put_outcomes<S: Source, O: Sink>(
+/// What `decode` does, where the call `read` leads through this input.
+fn decode_with<
+    S: Source,
+    O: Sink,
+    F: FnOnce(&mut S, &mut OutcomeLines<'_, O>) -> Result<Totals, Cause>,
+>(
     alloc: Global,
     input: Input,
     most: u64,
     source: &mut S,
     out: &mut O,
-) -> Result<Stop, Cause>
-    requires few { most ≤ 2 ^ 48 }
-    ensures all { IfOk result (λ stop. PrintsAll S.Source O.Sink (decode_text input) (decode_last input) most stop
-        source.old source.new out.old out.new) }
-    ensures stopped { IfErr result (λ cause. Prints S.Source O.Sink (decode_text input) (decode_last input) most
-        cause source.old source.new out.old out.new) }
+    read: F,
+) -> Cause
+    requires ready { MayLead (F.pre read) (OutcomesTook O.Sink) }
+    requires leads { Leads (F.post read) S.Source (OutcomesTook O.Sink) (OutcomesStopped O.Sink) input most }
+    ensures { Prints S.Source O.Sink (decode_text input) (decode_last input) most result source.old source.new
+        out.old out.new }
 {
-    let reader = Reader::new(alloc, input, most)?;
-    let (totals, restored) = put_each_outcome(alloc, reader, source, out)?;
-    put_last(alloc, &totals, restored, out)?;
-    Ok(totals.stop)
+    let (totals, restored) = match put_each_outcome(alloc, input, most, source, out, read) {
+        Ok(sums) => sums,
+        Err(cause) => return cause,
+    };
+    match put_last(alloc, &totals, restored, out) {
+        Ok(()) => cause_at(totals.stop),
+        Err(cause) => cause,
+    }
 }
 
 /// A line for what became of each window or block of the source, and a last line. At most `most` bytes are
@@ -180,8 +201,41 @@ pub fn decode<S: Source, O: Sink>(
     ensures { Prints S.Source O.Sink (decode_text input) (decode_last input) most result source.old source.new
         out.old out.new }
 {
-    match put_outcomes(alloc, input, most, source, out) {
-        Ok(stop) => cause_at(stop),
-        Err(cause) => cause,
-    }
+    let reader = match Reader::<FrameWork>::new(alloc, input, 1, most, &()) {
+        Ok(reader) => reader,
+        Err(NoMemory) => return Cause::NoMemory,
+    };
+    decode_with(alloc, input, most, source, out, |source, lines| -> Result<Totals, Cause>
+        requires { ((reader.workers ≡ 1) × (reader.most ≤ 2 ^ 48))
+            × ((first : _) × OutcomesTook O.Sink first [] lines.old) }
+        ensures { IsLed S.Source (OutcomesTook O.Sink) reader.input reader.most (OutcomesStopped O.Sink) result
+            source.old source.new lines.old lines.new }
+    { reader.read_alone(source, lines) })
+}
+
+/// What `decode` does, where this many work on windows of symbols, the caller among them.
+pub fn decode_by_team<R: Threads + Wait + Sync, H: Hand, S: Source, O: Sink>(
+    rt: &R,
+    alloc: Global,
+    tools: &H::Tools,
+    input: Input,
+    workers: u32,
+    most: u64,
+    source: &mut S,
+    out: &mut O,
+) -> Cause
+    requires few { most ≤ 2 ^ 48 }
+    requires workers { (1 ≤ workers) × (workers ≤ 64) }
+    ensures { Prints S.Source O.Sink (decode_text input) (decode_last input) most result source.old source.new
+        out.old out.new }
+{
+    let reader = match Reader::<H>::new(alloc, input, workers, most, tools) {
+        Ok(reader) => reader,
+        Err(NoMemory) => return Cause::NoMemory,
+    };
+    decode_with(alloc, input, most, source, out, |source, lines| -> Result<Totals, Cause>
+        requires { (reader.most ≤ 2 ^ 48) × ((first : _) × OutcomesTook O.Sink first [] lines.old) }
+        ensures { IsLed S.Source (OutcomesTook O.Sink) reader.input reader.most (OutcomesStopped O.Sink) result
+            source.old source.new lines.old lines.new }
+    { reader.read(rt, source, lines) })
 }

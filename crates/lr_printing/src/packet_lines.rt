@@ -39,9 +39,10 @@ ghost use Rattle.lr_causes.specs.Puts.{Puts, PutStops};
 
 use crate::packet_count::PacketCount;
 use lr_bits::{Bytes, FRAME_BYTES, NoMemory, Outcome, RawPacket};
-use lr_catalog::{Stop, Summary, packet_line, summary_line};
+use lr_catalog::{Summary, packet_line, summary_line};
 use lr_causes::{Cause, cause_at, put_text};
-use lr_forms::{Input, UnitForm};
+use lr_forms::{Input, Stop, UnitForm};
+use lr_frame::FrameWork;
 use lr_io::{Sink, Source};
 use lr_packet::check;
 use lr_reading::{Arrival, Consumer, Reader, Totals};
@@ -179,11 +180,12 @@ fn put_frame<O: Sink>(
 /// Puts all lines, and answers how many packets there are.
 fn put_each_packet<S: Source, O: Sink>(
     alloc: Global,
-    reader: Reader,
+    reader: Reader<FrameWork>,
     source: &mut S,
     out: &mut O,
 ) -> Result<(Totals, PacketCount), Cause>
     requires input { reader.input ≡ Units Frames }
+    requires alone { reader.workers ≡ 1 }
     requires few { reader.most < 2 ^ 64 }
     ensures all { IfOk result (λ sums. (bytes : List ℕ)
         × ReadsInput S.Source (Units Frames) reader.most sums.0 bytes source.old source.new
@@ -203,7 +205,7 @@ fn put_each_packet<S: Source, O: Sink>(
         },
         out,
     };
-    let totals = reader.read(source, &mut lines)?;
+    let totals = reader.read_alone(source, &mut lines)?;
     Ok((totals, lines.counted))
 }
 
@@ -242,7 +244,8 @@ fn put_packets<S: Source, O: Sink>(
     ensures stopped { IfErr result
         (λ cause. Prints S.Source O.Sink packets_text packets_last most cause source.old source.new out.old out.new) }
 {
-    let reader = Reader::new(alloc, Input::Units(UnitForm::Frames), most)?;
+    let input = Input::Units(UnitForm::Frames);
+    let reader = Reader::<FrameWork>::new(alloc, input, 1, most, &())?;
     let (totals, counted) = put_each_packet(alloc, reader, source, out)?;
     put_last(alloc, &totals, counted, out)?;
     Ok(totals.stop)

@@ -16,6 +16,7 @@ use Rattle.std.proofs.Common.{
   ap,
   ◌∙◌,
   subst,
+  inl,
   arith,
 }
 use Rattle.std.proofs.Math.Seq.{drop-nil}
@@ -44,6 +45,7 @@ fed_begun source line limit now is fresh s = record {
   passed = omega (arith, fresh.taken, ap length fresh.stands.rest, ap length (drop-nil {A = ℤ} now.lock.place));
   told = λ t. t;
   moved = λ t. refl;
+  asked = inl refl;
   going_on = λ e. refl;
   ended = λ e. absurd cc;
 }

@@ -40,9 +40,10 @@ use Rattle.lr_frame.specs.Outcomes.{outcome_in}
 use Rattle.lr_frame.proofs.Given.{outcomes_stay}
 use Rattle.lr_reading.specs.declared.arrival.Arrival.{Arrival}
 use Rattle.lr_reading.specs.Arrivals.{arrival_in}
-use Rattle.lr_catalog.specs.declared.stop.Stop.{Stop}
-use Rattle.lr_catalog.specs.declared.stop.Stop.TheVariants.{End, Limit, Fault}
+use Rattle.lr_forms.specs.declared.forms.Stop.{Stop}
+use Rattle.lr_forms.specs.declared.forms.Stop.TheVariants.{End, Limit, Fault}
 use Rattle.lr_reading.specs.Reading.{EndsFor}
+use Rattle.lr_reading.proofs.Asking.{asked_on}
 use Rattle.lr_reading.specs.Feeding.{
   FeedState,
   arrivals_given,
@@ -117,6 +118,7 @@ module _ {S : Type 0} (source : SourceOf S) (line : LineCode) where
       told = λ told. fed.told (so.told told);
       moved = λ told. so.moved told ∙ ap (λ (l : List ℕ). bytes ++ l) (fed.moved (so.told told))
           ∙ sym (append_assoc bytes fed.piece (source.left s'));
+      asked = asked_on source s t s' so.asked (so.going_on unfinished) fed.asked;
       going_on = λ e. fed.kept ∙ so.going_on unfinished;
       ended = λ e. absurd (open_still e);
     };
@@ -158,6 +160,7 @@ module _ {S : Type 0} (source : SourceOf S) (line : LineCode) where
       );
       told = λ told. fed.told (so.told told);
       moved = λ told. so.moved told ∙ ap (λ (l : List ℕ). bytes ++ l) (sym (fed.moved (so.told told)));
+      asked = asked_on source s t s' so.asked (so.going_on unfinished) fed.asked;
       going_on = λ e. absurd cc;
       ended = λ e. subst (λ (n : FeedState). EndsFor source stop n.most bytes s s') (sym fed.same)
           (reason stop bytes given before s t s' so unfinished fed.why);
@@ -179,6 +182,7 @@ module _ {S : Type 0} (source : SourceOf S) (line : LineCode) where
     passed = omega (arith, passed, so.passed);
     told = so.told;
     moved = so.moved;
+    asked = so.asked;
     going_on = λ e. so.going_on (sym finished ∙ e);
     ended = λ e. so.ended (sym finished ∙ e);
   }

@@ -48,7 +48,7 @@ use Rattle.lr_gate.specs.Seats.{put_count, TakesNothing, Helps}
 use Rattle.lr_gate.specs.Shows.{count_of}
 use Rattle.lr_gate.specs.Steps.{after_put}
 use Rattle.lr_gate.specs.declared.view.View.{View}
-use Rattle.lr_catalog.specs.declared.stop.Stop.{Stop}
+use Rattle.lr_forms.specs.declared.forms.Stop.{Stop}
 use Rattle.lr_reading.specs.Feeding.{FeedState, symbols_left, arrivals_given}
 use Rattle.lr_reading.specs.Rounds.{arrival_of_window, AreOfLine, HasJobs, first_arrivals, feeding_left, rounds_left}
 use Rattle.lr_reading.specs.declared.arrival.Arrival.{Arrival}

@@ -50,8 +50,8 @@ use Rattle.lr_gate.specs.Steps.{after_put}
 use Rattle.lr_gate.specs.declared.gate.Conductor.{Conductor}
 use Rattle.lr_gate.specs.declared.gate.Gate.{Gate}
 use Rattle.lr_gate.specs.declared.view.View.{View}
-use Rattle.lr_catalog.specs.declared.stop.Stop.{Stop}
-use Rattle.lr_catalog.specs.declared.stop.Stop.TheVariants.{End, Limit, Fault}
+use Rattle.lr_forms.specs.declared.forms.Stop.{Stop}
+use Rattle.lr_forms.specs.declared.forms.Stop.TheVariants.{End, Limit, Fault}
 use Rattle.lr_reading.specs.Arrivals.{arrival_in, arrivals_of}
 use Rattle.lr_reading.specs.Feeding.{FeedState, arrivals_given, FedSoFar, GivesFrame, EndsFrames}
 use Rattle.lr_reading.specs.Reading.{EndsFor}
@@ -424,6 +424,7 @@ module _ {S C W D : Type 0} (source : SourceOf S) (took : C → List Arrival →
           told = may.led.is_put.feeds.told;
           moved = may.led.is_put.feeds.moved;
           few = few_bytes;
+          asked = may.led.is_put.feeds.asked;
         };
         passed = take n (arrivals_given line may.led.bytes may.led.given);
         rest = split.0;
@@ -445,6 +446,7 @@ module _ {S C W D : Type 0} (source : SourceOf S) (took : C → List Arrival →
         told = may.led.is_put.feeds.told;
         moved = may.led.is_put.feeds.moved;
         few = few_bytes;
+        asked = may.led.is_put.feeds.asked;
       };
       reason =
           subst (λ (x : Stop). EndsFor source x limit may.led.bytes s s') (over.stop_is ∙ sym stops)

@@ -1,3 +1,4 @@
+pub mod Asking
 pub mod Beginning
 pub mod Coming
 pub mod Feeding
@@ -5,6 +6,7 @@ pub mod Gathering
 pub mod Jobs
 pub mod Joining
 pub mod Leading
+pub mod Led
 pub mod Numbered
 pub mod Outcomes
 pub mod Refusing

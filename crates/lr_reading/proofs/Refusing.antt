@@ -1,5 +1,5 @@
 -- Memory for reading was refused.
-use Rattle.std.proofs.Common.{ℕ, List, [], ◌++◌, refl, arith}
+use Rattle.std.proofs.Common.{ℕ, List, [], ◌++◌, refl, inl, arith}
 use Rattle.lr_io.specs.declared.source.Source.{Ghosts as SourceOf}
 use Rattle.lr_reading.specs.Arrivals.{arrivals_of}
 use Rattle.lr_reading.specs.Runs.{TakesSome}
@@ -13,7 +13,7 @@ pub stops_at_once : {S C Cause : Type 0} (source : SourceOf S) (took : C → Lis
     → TakesSome source took input limit stopped cause s s now now
 stops_at_once source took input limit stopped cause s now stops = record {
   bytes = [];
-  read = record { told = λ t. t; moved = λ t. refl; few = omega arith };
+  read = record { told = λ t. t; moved = λ t. refl; few = omega arith; asked = inl refl };
   passed = [];
   rest = arrivals_of input [];
   split = refl;

@@ -24,7 +24,7 @@ use Rattle.std.proofs.Common.{
 use Rattle.std.specs.List.{concat}
 use Rattle.std.proofs.lemmas.List.Elements.{All-push}
 use Rattle.lr_io.specs.declared.source.Source.{Ghosts as SourceOf}
-use Rattle.lr_catalog.specs.declared.stop.Stop.{Stop}
+use Rattle.lr_forms.specs.declared.forms.Stop.{Stop}
 use Rattle.lr_reading.specs.Arrivals.{arrival_of, arrivals_of_units, arrivals_of}
 use Rattle.lr_reading.specs.Gathering.{UnitState, Gathers, GathersFor, ReadsUnits, EndsUnits}
 use Rattle.lr_reading.specs.Inputs.{unit_bytes, outcome_of_unit}
@@ -136,6 +136,7 @@ module _ {S C : Type 0} (source : SourceOf S) (took : C → List Arrival → C �
           told = reads_now.told;
           moved = reads_now.moved;
           few = omega (arith, reads_now.few, reads_now.taken);
+          asked = reads_now.asked;
         };
         passed = arrivals_of_units form so.units ++ arrival ∷ [];
         rest = [];

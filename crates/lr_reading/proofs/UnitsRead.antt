@@ -1,6 +1,7 @@
 -- Units that were read, one after another.
 use Rattle.std.proofs.Common.{
   ◌≡◌,
+  inl,
   ℕ,
   ◌+◌,
   ◌<◌,
@@ -25,11 +26,12 @@ use Rattle.std.proofs.lemmas.List.Folds.{concat-append}
 use Rattle.std.proofs.lemmas.List.Elements.{All-nil, All-push}
 use Rattle.lr_bits.specs.Faults.{Rose}
 use Rattle.lr_io.specs.declared.source.Source.{Ghosts as SourceOf}
-use Rattle.lr_catalog.specs.declared.stop.Stop.{Stop}
-use Rattle.lr_catalog.specs.declared.stop.Stop.TheVariants.{End, Limit, Fault}
+use Rattle.lr_forms.specs.declared.forms.Stop.{Stop}
+use Rattle.lr_forms.specs.declared.forms.Stop.TheVariants.{End, Limit, Fault}
 use Rattle.lr_reading.specs.declared.next.Next.TheVariants.{Ended}
 use Rattle.lr_reading.specs.Gathering.{UnitState, Gathers, GathersFor, ReadsUnits, EndsUnits}
 use Rattle.lr_reading.specs.Reading.{IsRead, EndsFor}
+use Rattle.lr_reading.proofs.Asking.{asked_on}
 
 -- the bytes of one unit more
 pub concat-push : (units : List (List ℕ)) (unit : List ℕ) → concat (units ++ unit ∷ []) ++ [] ≡ concat units ++ unit
@@ -47,6 +49,7 @@ module _ {S : Type 0} (source : SourceOf S) (n limit : ℕ) where
     told = λ t. t;
     moved = λ t. refl;
     kept = refl;
+    asked = inl refl;
   }
 
   -- more of a unit was gathered, and the source didn't fail
@@ -66,6 +69,7 @@ module _ {S : Type 0} (source : SourceOf S) (n limit : ℕ) where
         ∙ ap (λ l. l ++ source.left s') (append_assoc (concat units) before.held more.piece
         ∙ ap (λ l. concat units ++ l) (sym more.held));
     kept = kept ∙ reads.kept;
+    asked = asked_on source s t s' reads.asked reads.kept more.asked;
   }
 
   -- a whole unit is handed on
@@ -81,6 +85,7 @@ module _ {S : Type 0} (source : SourceOf S) (n limit : ℕ) where
     told = reads.told;
     moved = λ tells. reads.moved tells ∙ ap (λ l. l ++ source.left s') (sym (concat-push units now.held));
     kept = reads.kept;
+    asked = reads.asked;
   }
 
   -- the reading ended with a rest
@@ -103,6 +108,7 @@ module _ {S : Type 0} (source : SourceOf S) (n limit : ℕ) where
             ∙ sym (append_assoc (concat units ++ before.held) more.piece (source.left s'))
             ∙ ap (λ l. l ++ source.left s') same;
         few = few;
+        asked = asked_on source s t s' reads.asked reads.kept more.asked;
       } in
       let short : length now.held < n = short_of stop why in
       record {

@@ -30,12 +30,12 @@ use Rattle.lr_lock.specs.Frames.{AreFrames}
 use Rattle.lr_lock.specs.Standing.{LockState, StandsFor}
 use Rattle.lr_lock.specs.Symbols.{symbols_of}
 use Rattle.lr_lock.specs.Windows.{WindowView, window_view}
-use Rattle.lr_catalog.specs.declared.stop.Stop.{Stop}
-use Rattle.lr_catalog.specs.declared.stop.Stop.TheVariants.{End, Limit, Fault}
+use Rattle.lr_forms.specs.declared.forms.Stop.{Stop}
+use Rattle.lr_forms.specs.declared.forms.Stop.TheVariants.{End, Limit, Fault}
 use Rattle.lr_reading.specs.declared.next.Next.{Next}
 use Rattle.lr_reading.specs.declared.next.Next.TheVariants.{Whole, Ended}
 use Rattle.lr_reading.specs.Arrivals.{arrival_in}
-use Rattle.lr_reading.specs.Reading.{EndsFor}
+use Rattle.lr_reading.specs.Reading.{StopsAtFault, EndsFor}
 use Rattle.lr_reading.specs.declared.arrival.Arrival.{Arrival}
 
 -- the lock, how many bytes were taken and the most that may be, and why no more are taken
@@ -82,6 +82,7 @@ module _ {S : Type 0} (source : SourceOf S) where
     pub told : source.tells s → source.tells s'
     pub moved : source.tells s → source.left s ≡ piece ++ source.left s'
     pub kept : source.faults s' ≡ source.faults s
+    pub asked : StopsAtFault source s s'
 
   -- why nothing was fed
   abbrev pub FeedsNoneFor : Stop → FeedState → S → S → Type 0
@@ -96,6 +97,7 @@ module _ {S : Type 0} (source : SourceOf S) where
     pub told : source.tells s → source.tells s'
     pub moved : source.tells s → source.left s' ≡ source.left s
     pub why : FeedsNoneFor stop before s s'
+    pub asked : StopsAtFault source s s'
 
   abbrev pub Takes : Option Stop → FeedState → FeedState → S → S → Type 0
   Takes None before now s s' = FeedsPiece before now s s'
@@ -112,6 +114,7 @@ module _ {S : Type 0} (source : SourceOf S) (line : LineCode) where
     pub passed : 16384 * length given + length now.lock.kept ≤ now.taken
     pub told : source.tells s → source.tells s'
     pub moved : source.tells s → source.left s ≡ bytes ++ source.left s'
+    pub asked : StopsAtFault source s s'
     pub going_on : now.lock.finished ≡ false → source.faults s' ≡ source.faults s
     pub ended : now.lock.finished ≡ true → EndsFor source now.stop now.most bytes s s'
 

@@ -3,11 +3,11 @@ use Rattle.std.specs.Prelude.{◌≡◌, ◌<◌, ◌≤◌, ◌+◌, ℕ, List,
 use Rattle.std.specs.List.{concat}
 use Rattle.lr_bits.specs.Faults.{Rose}
 use Rattle.lr_io.specs.declared.source.Source.{Ghosts as SourceOf}
-use Rattle.lr_catalog.specs.declared.stop.Stop.{Stop}
-use Rattle.lr_catalog.specs.declared.stop.Stop.TheVariants.{End, Limit, Fault}
+use Rattle.lr_forms.specs.declared.forms.Stop.{Stop}
+use Rattle.lr_forms.specs.declared.forms.Stop.TheVariants.{End, Limit, Fault}
 use Rattle.lr_reading.specs.declared.next.Next.{Next}
 use Rattle.lr_reading.specs.declared.next.Next.TheVariants.{Whole, Ended}
-use Rattle.lr_reading.specs.Reading.{IsRead, EndsFor}
+use Rattle.lr_reading.specs.Reading.{StopsAtFault, IsRead, EndsFor}
 
 -- the bytes of the unit so far, how many bytes were taken in all, and the most that may be
 pub record UnitState : Type 0 where
@@ -36,6 +36,7 @@ module _ {S : Type 0} (source : SourceOf S) where
     pub few : now.taken ≤ now.most
     pub told : source.tells s → source.tells s'
     pub moved : source.tells s → source.left s ≡ piece ++ source.left s'
+    pub asked : StopsAtFault source s s'
 
   -- these units of n bytes were read, and then what is held
   pub record ReadsUnits (n limit : ℕ) (units : List (List ℕ)) (now : UnitState) (s s' : S) : Type 0 where
@@ -46,6 +47,7 @@ module _ {S : Type 0} (source : SourceOf S) where
     pub told : source.tells s → source.tells s'
     pub moved : source.tells s → source.left s ≡ (concat units ++ now.held) ++ source.left s'
     pub kept : source.faults s' ≡ source.faults s
+    pub asked : StopsAtFault source s s'
 
   -- these units were read, and then a rest that is none
   pub record EndsUnits (n limit : ℕ) (units : List (List ℕ)) (rest : ℕ) (stop : Stop) (s s' : S) : Type 0 where

@@ -3,6 +3,7 @@ pub mod Desks
 pub mod Feeding
 pub mod Gathering
 pub mod Inputs
+pub mod Leading
 pub mod Lines
 pub mod Readers
 pub mod Pools

@@ -1,17 +1,22 @@
 -- The bytes that a call read, and why it read no more of them.
-use Rattle.std.specs.Prelude.{◌≡◌, ◌<◌, ◌≤◌, ◌*◌, ◌/◌, ℕ, List, [], ◌++◌, length, take, drop, map}
+use Rattle.std.specs.Prelude.{◌≡◌, ◌⊎◌, ◌<◌, ◌≤◌, ◌*◌, ◌/◌, ℕ, List, [], ◌++◌, length, take, drop, map}
 use Rattle.std.specs.List.{range_with_len}
 use Rattle.lr_bits.specs.Faults.{Rose}
 use Rattle.lr_io.specs.declared.source.Source.{Ghosts as SourceOf}
-use Rattle.lr_catalog.specs.declared.stop.Stop.{Stop}
-use Rattle.lr_catalog.specs.declared.stop.Stop.TheVariants.{End, Limit, Fault}
+use Rattle.lr_forms.specs.declared.forms.Stop.{Stop}
+use Rattle.lr_forms.specs.declared.forms.Stop.TheVariants.{End, Limit, Fault}
 
 module _ {S : Type 0} (source : SourceOf S) where
-  -- these bytes were taken, at most this many
+  -- the source wasn't asked, or its count had not risen as the last call on it began: none follows one that failed
+  abbrev pub StopsAtFault : S → S → Type 0
+  StopsAtFault s s' = (s' ≡ s) ⊎ ((last : S) × (source.faults last ≡ source.faults s) × source.asked last s')
+
+  -- these bytes were taken, at most this many, up to the first fault
   pub record IsRead (limit : ℕ) (bytes : List ℕ) (s s' : S) : Type 0 where
     pub told : source.tells s → source.tells s'
     pub moved : source.tells s → source.left s ≡ bytes ++ source.left s'
     pub few : length bytes ≤ limit
+    pub asked : StopsAtFault s s'
 
   -- why no more of them were taken: nothing was left, or the limit was reached, or the source failed
   abbrev pub EndsFor : Stop → ℕ → List ℕ → S → S → Type 0

@@ -37,7 +37,7 @@ use Rattle.lr_gate.specs.Seats.{cells_of, IsConductorOf, view_of, put_count}
 use Rattle.lr_gate.specs.declared.gate.Conductor.{Conductor}
 use Rattle.lr_gate.specs.declared.gate.Gate.{Gate}
 use Rattle.lr_gate.specs.declared.view.View.{View}
-use Rattle.lr_catalog.specs.declared.stop.Stop.{Stop}
+use Rattle.lr_forms.specs.declared.forms.Stop.{Stop}
 use Rattle.lr_reading.specs.Feeding.{FeedState, symbols_left, arrivals_given, FedSoFar}
 use Rattle.lr_reading.specs.declared.arrival.Arrival.{Arrival}
 use Rattle.lr_reading.specs.declared.intake.Intake.{Intake}

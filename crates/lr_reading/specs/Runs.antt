@@ -1,5 +1,5 @@
 -- How far a consumer was led through what comes of the input.
-use Rattle.std.specs.Prelude.{◌≡◌, ◌<◌, ℕ, List, [], ◌++◌, length}
+use Rattle.std.specs.Prelude.{◌≡◌, ◌<◌, ℕ, List, [], ◌++◌, length, Result, Ok, Err}
 use Rattle.lr_bits.specs.Faults.{Rose}
 use Rattle.lr_conv.specs.declared.line.LineCode.{LineCode}
 use Rattle.lr_io.specs.declared.source.Source.{Ghosts as SourceOf}
@@ -41,3 +41,9 @@ module _ {S C : Type 0} (source : SourceOf S) (took : C → List Arrival → C �
     pub first : (line : LineCode) → input ≡ Symbols line → source.tells s → length bytes < limit
         → (Rose (source.faults s) (source.faults s') → ⊥)
         → (later : List Arrival) × (arrivals_of input (bytes ++ source.left s') ≡ passed ++ later)
+
+  -- how far it was led, whoever led it
+  abbrev pub IsLed : {Cause : Type 0} → (C → List Arrival → Cause → C → Type 0) → Result Totals Cause → S → S → C → C
+      → Type 0
+  IsLed stopped (Ok totals) s s' before now = TakesAll totals s s' before now
+  IsLed stopped (Err cause) s s' before now = TakesSome stopped cause s s' before now

@@ -1,5 +1,5 @@
 -- What reads the input, by its form. No clause of a public call cites this.
-use Rattle.std.specs.Prelude.{◌≡◌, ℕ}
+use Rattle.std.specs.Prelude.{◌≡◌, ◌+◌, ℕ}
 use Rattle.lr_forms.specs.declared.forms.Input.{Input}
 use Rattle.lr_forms.specs.declared.forms.Input.TheVariants.{Symbols as Symbols', Units as Units'}
 use Rattle.lr_reading.specs.declared.way.Way.{Way}
@@ -8,11 +8,11 @@ use Rattle.lr_gate.specs.Seats.{workers_of}
 use Rattle.lr_reading.specs.Desks.{IsFreshDesk}
 
 -- the form of the input that it reads
-abbrev pub input_of : Way → Input
+abbrev pub input_of : {H T : Type 0} → Way H T → Input
 input_of (Symbols desk) = Symbols' desk.intake.feed.lock.line
 input_of (Units form) = Units' form
 
--- nothing was taken, and at most this many bytes will be
-abbrev pub IsReadyFor : ℕ → Way → Type 0
-IsReadyFor most (Symbols desk) = IsFreshDesk most desk × (workers_of desk.gate ≡ 0)
-IsReadyFor most (Units form) = Unit {0}
+-- nothing was taken, and at most this many bytes will be; of symbols, this many work on windows, the caller among them
+abbrev pub IsReadyFor : {H T : Type 0} → ℕ → ℕ → Way H T → Type 0
+IsReadyFor workers most (Symbols desk) = IsFreshDesk most desk × (workers_of desk.gate + 1 ≡ workers)
+IsReadyFor workers most (Units form) = Unit {0}

@@ -13,7 +13,7 @@ use crate::intake::Intake;
 use crate::round::{Round, next_round};
 use crate::totals::Totals;
 use crate::unread::Unread;
-use crate::window_loop::totals_of;
+use crate::window_loop::{read_windows, totals_of};
 use lr_frame::{FrameDone, Hand, Hired};
 use lr_gate::{Conductor, Gate};
 use lr_gatecore::Work;
@@ -187,5 +187,30 @@ pub(crate) fn read_beside<R: Threads + Wait + Sync, H: Hand, S: Source, C: Consu
             take_back(consumer);
             Err(Unread::NoMemory)
         }
+    }
+}
+
+/// Leads the consumer through what becomes of the window of each frame, by all workers of the desk.
+pub(crate) fn read_by_all<R: Threads + Wait + Sync, H: Hand, S: Source, C: Consumer>(
+    rt: &R,
+    desk: Desk<H>,
+    source: &mut S,
+    consumer: &mut C,
+) -> Result<Totals, C::Cause>
+    requires fresh { IsFreshDesk desk.intake.feed.most desk }
+    requires few { desk.intake.feed.most ≤ C.most }
+    requires ready { (c : C) × C.took c [] consumer.old }
+    ensures all { IfOk result (λ totals. TakesAll S.Source C.took (Symbols desk.intake.feed.lock.line)
+        desk.intake.feed.most totals source.old source.new consumer.old consumer.new) }
+    ensures some { IfErr result (λ cause. TakesSome S.Source C.took (Symbols desk.intake.feed.lock.line)
+        desk.intake.feed.most C.stopped cause source.old source.new consumer.old consumer.new) }
+{
+    if desk.seats.is_empty() {
+        return read_windows(desk, source, consumer);
+    }
+    match read_beside(rt, desk, source, consumer) {
+        Ok(totals) => Ok(totals),
+        Err(Unread::Stopped(cause)) => Err(cause),
+        Err(Unread::NoMemory) => Err(consumer.no_memory()),
     }
 }

@@ -1,14 +1,11 @@
 //! The memory that reading symbols takes.
-ghost use Rattle.std.specs.Prelude.{◌≡◌, ◌≤◌, ◌^◌, All, IfOk, vec_len, vec_capacity};
-ghost use Rattle.lr_reading.specs.Rounds.{AreOfLine};
+ghost use Rattle.std.specs.Prelude.{◌≡◌, IfOk, vec_len};
 
 use crate::intake::Intake;
-use crate::symbols::SymbolFeed;
 use lr_bits::NoMemory;
 use lr_conv::LineCode;
 use lr_frame::{Hand, Hired};
 use lr_gate::{Conductor, Gate, WorkerSeat};
-use lr_lock::Window;
 use std::alloc::Global;
 
 /// A ring that windows are led through, what fills them, and the hands of the workers and of the caller.
@@ -20,18 +17,6 @@ pub(crate) struct Desk<H: Hand> {
     pub seats: Vec<WorkerSeat<Hired<H>>>,
     pub works: Vec<Hired<H>>,
     pub own: Hired<H>,
-}
-
-/// This many windows.
-fn new_windows(alloc: Global, line: LineCode, count: usize) -> Result<Vec<Window>, NoMemory>
-    ensures lines { IfOk result (λ windows. AreOfLine line windows.items) }
-    ensures all { IfOk result (λ windows. (vec_len windows ≡ count) × (vec_capacity windows ≡ count)) }
-{
-    let mut windows = Vec::with_capacity(alloc, count)?;
-    for _ in 0..count {
-        windows.push_reserved(Window::new(alloc, line)?);
-    }
-    Ok(windows)
 }
 
 /// This many hands.
@@ -71,17 +56,10 @@ impl<H: Hand> Desk<H> {
     {
         let cells = 2 * (workers + 1) + 2;
         let windows = if workers == 0 { 1 } else { cells };
-        let spare = new_windows(alloc, line, windows as usize)?;
+        let intake = Intake::new(alloc, line, most, windows as usize)?;
         let works = hire_all::<H>(alloc, tools, workers as usize)?;
         let own = Hired(H::hire(alloc, tools)?);
-        let feed = SymbolFeed::new(alloc, line, most)?;
         let (gate, conductor, seats) = Gate::<Hired<H>>::build(alloc, cells, workers)?;
-        let intake = Intake {
-            feed,
-            spare,
-            frames: 0,
-            ended: None,
-        };
         Ok(Desk {
             intake,
             gate,

@@ -1,6 +1,12 @@
+ghost use Rattle.std.specs.Prelude.{◌≡◌, IfOk, vec_len, vec_capacity};
+ghost use Rattle.lr_reading.specs.Rounds.{AreOfLine};
+
 use crate::symbols::SymbolFeed;
-use lr_catalog::Stop;
+use lr_bits::NoMemory;
+use lr_conv::LineCode;
+use lr_forms::Stop;
 use lr_lock::Window;
+use std::alloc::Global;
 
 /// What fills windows, and how far it has come.
 #[derive(Drop)]
@@ -12,4 +18,46 @@ pub(crate) struct Intake {
     pub frames: u64,
     /// Why no window is filled any more, once that is so.
     pub ended: Option<Stop>,
+}
+
+/// This many windows.
+fn new_windows(alloc: Global, line: LineCode, count: usize) -> Result<Vec<Window>, NoMemory>
+    ensures lines { IfOk result (λ windows. AreOfLine line windows.items) }
+    ensures all { IfOk result (λ windows. (vec_len windows ≡ count) × (vec_capacity windows ≡ count)) }
+{
+    let mut windows = Vec::with_capacity(alloc, count)?;
+    for _ in 0..count {
+        windows.push_reserved(Window::new(alloc, line)?);
+    }
+    Ok(windows)
+}
+
+impl Intake {
+    ghost use Rattle.std.specs.Prelude.{◌≡◌, ◌≤◌, ◌^◌, None, IfOk, vec_len, vec_capacity};
+    ghost use Rattle.lr_reading.specs.Feeding.{IsFresh};
+    ghost use Rattle.lr_reading.specs.Rounds.{AreOfLine};
+
+    /// This many windows, and the memory that filling them takes. At most `most` bytes will be taken.
+    pub(crate) fn new(
+        alloc: Global,
+        line: LineCode,
+        most: u64,
+        count: usize,
+    ) -> Result<Intake, NoMemory>
+        requires { most ≤ 2 ^ 61 }
+        ensures fresh { IfOk result (λ intake. IsFresh most intake.feed) }
+        ensures line { IfOk result (λ intake. intake.feed.lock.line ≡ line) }
+        ensures lines { IfOk result (λ intake. AreOfLine line intake.spare.items) }
+        ensures all { IfOk result (λ intake. (vec_len intake.spare ≡ count) × (vec_capacity intake.spare ≡ count)) }
+        ensures none { IfOk result (λ intake. (intake.frames ≡ 0) × (intake.ended ≡ None)) }
+    {
+        let spare = new_windows(alloc, line, count)?;
+        let feed = SymbolFeed::new(alloc, line, most)?;
+        Ok(Intake {
+            feed,
+            spare,
+            frames: 0,
+            ended: None,
+        })
+    }
 }

@@ -1,4 +1,4 @@
-use lr_catalog::Stop;
+use lr_forms::Stop;
 
 /// What came of looking for the next window or unit.
 #[derive(Clone, Copy)]

@@ -1,81 +1,112 @@
 //! What reads the input, with the memory that it takes.
+use crate::beside::read_by_all;
 use crate::consumer::Consumer;
 use crate::desk::Desk;
 use crate::totals::Totals;
-use crate::unit_loop::read_units;
+use crate::unit_loop::read_form;
 use crate::way::Way;
 use crate::window_loop::read_windows;
-use lr_bits::{BLOCK_BYTES, FRAME_BYTES, NoMemory};
-use lr_forms::{Input, UnitForm};
-use lr_frame::FrameWork;
+use lr_bits::NoMemory;
+use lr_forms::Input;
+use lr_frame::Hand;
 use lr_io::Source;
 use std::alloc::Global;
 use std::marker::Model;
+use std::sync::Wait;
+use std::thread::Threads;
 
-/// Reads the input once, with all memory that this takes.
+/// Reads the input once, with all memory that this takes. Of symbols, some work on windows with a hand each: the
+/// caller, and a thread for each other worker.
 #[derive(Drop)]
-pub struct Reader {
-    way: Way,
+pub struct Reader<H: Hand> {
+    way: Way<H>,
+    workers: u32,
     most: u64,
 }
 
-impl Model for Reader {
+impl<H: Hand> Model for Reader<H> {
     ghost use Rattle.lr_reading.specs.Readers.{ReaderView};
 
     ghost Value = { ReaderView };
 
     ghost use Rattle.lr_reading.specs.Ways.{input_of, IsReadyFor};
 
-    ghost view = { λ r. record { input = input_of r.way; most = r.most } };
+    ghost view = { λ r. record { input = input_of r.way; workers = r.workers; most = r.most } };
 
-    ghost invariant = { λ r. IsReadyFor r.most r.way };
+    ghost invariant = { λ r. IsReadyFor r.workers r.most r.way };
 }
 
-impl Reader {
-    ghost use Rattle.std.specs.Prelude.{◌≡◌, ◌≤◌, [], IfOk, IfErr};
+impl<H: Hand> Reader<H> {
+    ghost use Rattle.std.specs.Prelude.{◌≡◌, ◌≤◌, [], IfOk};
     ghost use Rattle.lr_reading.specs.Inputs.{MayTake};
-    ghost use Rattle.lr_reading.specs.Runs.{TakesAll, TakesSome};
+    ghost use Rattle.lr_reading.specs.Runs.{IsLed};
 
-    /// All memory that reading this input takes. At most `most` bytes will be taken.
-    pub fn new(alloc: Global, input: Input, most: u64) -> Result<Reader, NoMemory>
-        requires { MayTake input most }
-        ensures { IfOk result (λ reader. reader ≡ record { input = input; most = most }) }
+    /// All memory that reading this input takes. At most `most` bytes will be taken. This many work on windows, the
+    /// caller among them; each has a hand that is made with these tools.
+    pub fn new(
+        alloc: Global,
+        input: Input,
+        workers: u32,
+        most: u64,
+        tools: &H::Tools,
+    ) -> Result<Reader<H>, NoMemory>
+        requires workers { (1 ≤ workers) × (workers ≤ 64) }
+        requires most { MayTake input most }
+        ensures { IfOk result (λ reader. reader ≡ record { input = input; workers = workers; most = most }) }
     {
         let way = match input {
-            Input::Symbols(line) => Way::Symbols(Desk::<FrameWork>::new(
-                alloc,
-                line,
-                most,
-                0,
-                &(),
-            )?),
+            Input::Symbols(line) => {
+                Way::Symbols(Desk::<H>::new(alloc, line, most, workers - 1, tools)?)
+            }
             Input::Units(form) => Way::Units(form),
         };
-        Ok(Reader { way, most })
+        Ok(Reader { way, workers, most })
     }
 
-    /// Leads the consumer through all that comes of the input. It takes no memory.
-    pub fn read<S: Source, C: Consumer>(
+    /// Leads the consumer through all that comes of the input, on the caller's thread. It takes no memory.
+    pub fn read_alone<S: Source, C: Consumer>(
         self,
+        source: &mut S,
+        consumer: &mut C,
+    ) -> Result<Totals, C::Cause>
+        requires alone { self.workers ≡ 1 }
+        requires few { self.most ≤ C.most }
+        requires ready { (c : C) × C.took c [] consumer.old }
+        ensures { IsLed S.Source C.took self.input self.most C.stopped result source.old source.new
+            consumer.old consumer.new }
+    {
+        let Reader {
+            way,
+            workers: _,
+            most,
+        } = self;
+        match way {
+            Way::Symbols(desk) => read_windows(desk, source, consumer),
+            Way::Units(form) => read_form(form, most, source, consumer),
+        }
+    }
+
+    /// Does what `read_alone` does, where more may work. A thread is started for each worker but the caller. Where
+    /// there is no other worker, and of units, none is.
+    pub fn read<R: Threads + Wait + Sync, S: Source, C: Consumer>(
+        self,
+        rt: &R,
         source: &mut S,
         consumer: &mut C,
     ) -> Result<Totals, C::Cause>
         requires few { self.most ≤ C.most }
         requires ready { (c : C) × C.took c [] consumer.old }
-        ensures all { IfOk result (λ totals. TakesAll S.Source C.took self.input self.most totals
-            source.old source.new consumer.old consumer.new) }
-        ensures some { IfErr result (λ cause. TakesSome S.Source C.took self.input self.most C.stopped cause
-            source.old source.new consumer.old consumer.new) }
+        ensures { IsLed S.Source C.took self.input self.most C.stopped result source.old source.new
+            consumer.old consumer.new }
     {
-        let Reader { way, most } = self;
+        let Reader {
+            way,
+            workers: _,
+            most,
+        } = self;
         match way {
-            Way::Symbols(desk) => read_windows(desk, source, consumer),
-            Way::Units(UnitForm::Blocks) => {
-                read_units::<BLOCK_BYTES, S, C>(UnitForm::Blocks, most, source, consumer)
-            }
-            Way::Units(UnitForm::Frames) => {
-                read_units::<FRAME_BYTES, S, C>(UnitForm::Frames, most, source, consumer)
-            }
+            Way::Symbols(desk) => read_by_all(rt, desk, source, consumer),
+            Way::Units(form) => read_form(form, most, source, consumer),
         }
     }
 }

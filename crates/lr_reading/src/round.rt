@@ -13,7 +13,7 @@ use crate::arrival::{Arrival, Position};
 use crate::consumer::Consumer;
 use crate::intake::Intake;
 use crate::next::Next;
-use lr_catalog::Stop;
+use lr_forms::Stop;
 use lr_frame::FrameDone;
 use lr_gate::{Conductor, Gate, RingFull};
 use lr_gatecore::Work;

@@ -1,11 +1,12 @@
 //! The symbols of the input are taken to the windows of its frames, however its reads are cut.
 ghost use Rattle.std.specs.Prelude.{◌≡◌, ◌↔◌, ◌<◌, ◌≤◌, ◌++◌, [], length, take, IfOk, OnErr};
 ghost use Rattle.lr_bits.specs.Faults.{HasCause};
+ghost use Rattle.lr_reading.specs.Reading.{StopsAtFault};
 
 use crate::next::Next;
 use lr_bits::{Failed, NoMemory};
-use lr_catalog::Stop;
 use lr_conv::LineCode;
+use lr_forms::Stop;
 use lr_io::Source;
 use lr_lock::{Lock, Step, Window};
 use std::alloc::Global;
@@ -39,6 +40,7 @@ fn take_within<S: Source>(source: &mut S, into: &mut [u8], size: usize) -> Resul
     ensures moved { S.tells source.old → IfOk result (λ n. S.left source.old ≡ take n into.new ++ S.left source.new) }
     ensures ended { S.tells source.old → IfOk result (λ n. (n ≡ 0) ↔ (S.left source.old ≡ [])) }
     ensures failed { S.tells source.old → OnErr result (S.left source.new ≡ S.left source.old) }
+    ensures asked { StopsAtFault S.Source source.old source.new }
     ensures stays { length into.new ≡ length into.old }
 {
     source.take(&mut into[..size])

@@ -1,4 +1,4 @@
-use lr_catalog::Stop;
+use lr_forms::Stop;
 
 /// What was read: how many bytes were taken, how many windows or units came of them, how many bytes are left that are
 /// no whole unit, and why no more were taken.

@@ -10,6 +10,7 @@ use crate::next::Next;
 use crate::outcome::unit_outcome;
 use crate::totals::Totals;
 use crate::units::UnitFeed;
+use lr_bits::{BLOCK_BYTES, FRAME_BYTES};
 use lr_forms::UnitForm;
 use lr_io::Source;
 use lr_rs::RsScratch;
@@ -53,5 +54,25 @@ pub(crate) fn read_units<const N: usize, S: Source, C: Consumer>(
                 frames += 1;
             }
         }
+    }
+}
+
+/// Leads the consumer through what becomes of each unit of this form.
+pub(crate) fn read_form<S: Source, C: Consumer>(
+    form: UnitForm,
+    most: u64,
+    source: &mut S,
+    consumer: &mut C,
+) -> Result<Totals, C::Cause>
+    requires few { most ≤ C.most }
+    requires ready { (c : C) × C.took c [] consumer.old }
+    ensures all { IfOk result (λ totals. TakesAll S.Source C.took (Units form) most totals
+        source.old source.new consumer.old consumer.new) }
+    ensures some { IfErr result (λ cause. TakesSome S.Source C.took (Units form) most C.stopped cause
+        source.old source.new consumer.old consumer.new) }
+{
+    match form {
+        UnitForm::Blocks => read_units::<BLOCK_BYTES, S, C>(form, most, source, consumer),
+        UnitForm::Frames => read_units::<FRAME_BYTES, S, C>(form, most, source, consumer),
     }
 }

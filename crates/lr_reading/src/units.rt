@@ -3,7 +3,7 @@ ghost use Rattle.lr_bits.specs.Faults.{HasCause};
 
 use crate::next::Next;
 use lr_bits::Failed;
-use lr_catalog::Stop;
+use lr_forms::Stop;
 use lr_io::Source;
 use std::marker::Model;
 

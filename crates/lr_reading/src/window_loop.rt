@@ -11,7 +11,7 @@ use crate::desk::Desk;
 use crate::intake::Intake;
 use crate::round::{Round, next_round};
 use crate::totals::Totals;
-use lr_catalog::Stop;
+use lr_forms::Stop;
 use lr_frame::{FrameDone, Hand};
 use lr_gate::{Conductor, Gate};
 use lr_gatecore::Work;

@@ -21,13 +21,15 @@ use Rattle.lr_shelf.specs.declared.error.ShelfError.TheVariants.{
   NotAShelf as NotAShelf',
   NoMemory as NoMemory',
 }
-use Rattle.lr_catalog.specs.declared.stop.Stop.{Stop}
-use Rattle.lr_catalog.specs.declared.stop.Stop.TheVariants.{End, Limit, Fault}
+use Rattle.lr_forms.specs.declared.forms.Stop.{Stop}
+use Rattle.lr_forms.specs.declared.forms.Stop.TheVariants.{End, Limit, Fault}
 use Rattle.lr_causes.specs.declared.cause.Cause.{Cause}
 use Rattle.lr_causes.specs.declared.cause.Cause.TheVariants.{Failed, NoMemory, Refused}
 use Rattle.lr_causes.specs.declared.cause.Party.TheVariants.{Disk, Output}
 use Rattle.lr_causes.specs.declared.cause.Refusal.TheVariants.{NotAShelf, Capacity}
-use Rattle.lr_causes.specs.Causes.{cause_of, cause_at}
+use Rattle.lr_causes.specs.Causes.{cause_of, cause_at, counts}
+use Rattle.lr_receiving.specs.First.{IsFirst}
+use Rattle.lr_receiving.proofs.Causing.{first_later, first_refused}
 use Rattle.lr_forms.specs.declared.forms.Input.{Input}
 use Rattle.lr_receiving.specs.Inputs.{files_of_bytes}
 use Rattle.lr_reading.specs.Reading.{IsRead}
@@ -111,8 +113,9 @@ module _ {S D O : Type 0} (source : SourceOf S) (disk : DiskOf D)
   pub not_made : ReceiveRun source disk out input limit NoMemory s s d d o o
   not_made = record {
     causes = tt;
+    first = (refl, refl);
     bytes = [];
-    read = record { told = λ t. t; moved = λ t. refl; few = omega arith };
+    read = record { told = λ t. t; moved = λ t. refl; few = omega arith; asked = inl refl };
     onto_shelf = λ capacity before told durable.
         receives source disk out input capacity before limit [] s s d d o o NoMemory
         (subst (λ (l : List Placed). LeavesFronts disk capacity before l d d) (sym (no_bytes input))
@@ -215,8 +218,10 @@ module _ {S D O : Type 0} (source : SourceOf S) (disk : DiskOf D) (out : SinkOf 
       → ReceiveRun source disk out input limit (cause_of e) s s d d1 o o
   not_loaded e is refusal = record {
     causes = load_cause disk d e refusal;
+    first = first_refused e result (source.faults s) (source.faults s) (disk.faults d) (disk.faults d1) (out.faults o)
+        is (λ failed. subst (λ (x : ShelfError). IsLoadRefusal disk d x) failed refusal) loads.calls.counted;
     bytes = [];
-    read = record { told = λ t. t; moved = λ t. refl; few = omega arith };
+    read = record { told = λ t. t; moved = λ t. refl; few = omega arith; asked = inl refl };
     onto_shelf = λ capacity before told durable. nothing capacity before told durable e is refusal;
     refused = λ at named. (refused e at refusal named, only_read);
     broken = λ at told no. (ended_before e at (may_refuse at result e is (loads.broken at told no)), only_read);
@@ -249,10 +254,22 @@ module _ {S D O : Type 0} (source : SourceOf S) (disk : DiskOf D) (out : SinkOf 
         subst (λ (l : List ℕ). IsWay l (kept_by shelf).way) (loads.unwritten told).contents
         (if_ok (KeepsWay (disk.contents d1)) (loads.way told))
 
+    -- what came first after it came first of all
+    pub loaded_first : IsFirst cause (counts (source.faults s) (disk.faults d1) (out.faults o))
+        (counts (source.faults s') (disk.faults d') (out.faults o'))
+        → IsFirst cause (counts (source.faults s) (disk.faults d) (out.faults o))
+        (counts (source.faults s') (disk.faults d') (out.faults o'))
+    loaded_first first =
+        first_later cause (source.faults s) (source.faults s') (disk.faults d) (disk.faults d1) (disk.faults d')
+        (out.faults o) (out.faults o) (out.faults o') (same_of disk d d1 result shelf is loads.calls.counted) refl first
+
     pub loaded_run : IsReceiveCause cause → ((at : ℕ) → cause ≡ Refused (NotAShelf at) → ⊥)
+        → IsFirst cause (counts (source.faults s) (disk.faults d1) (out.faults o))
+        (counts (source.faults s') (disk.faults d') (out.faults o'))
         → ReceiveRun source disk out input limit cause s s' d d' o o'
-    loaded_run causes kind = record {
+    loaded_run causes kind first = record {
       causes = causes;
+      first = loaded_first first;
       bytes = run.bytes;
       read = run.read;
       onto_shelf = onto_shelf;

@@ -38,9 +38,9 @@ use Rattle.lr_layers.specs.Standing.{StandsFor, numbers}
 use Rattle.lr_layers.proofs.GoingOn.{go_on}
 use Rattle.lr_shelf_format.specs.Items.{Item}
 use Rattle.lr_shelf.specs.Kept.{kept_by}
-use Rattle.lr_catalog.specs.declared.stop.Stop.{Stop}
-use Rattle.lr_catalog.specs.declared.stop.Stop.TheVariants.{End, Limit, Fault}
-use Rattle.lr_causes.specs.Causes.{IsCaused, cause_at, counts}
+use Rattle.lr_forms.specs.declared.forms.Stop.{Stop}
+use Rattle.lr_forms.specs.declared.forms.Stop.TheVariants.{End, Limit, Fault}
+use Rattle.lr_causes.specs.Causes.{counts}
 use Rattle.lr_causes.specs.declared.cause.Cause.{Cause}
 use Rattle.lr_causes.specs.declared.cause.Cause.TheVariants.{NoMemory}
 use Rattle.lr_reading.specs.Arrivals.{HasWholeFrame, arrivals_of, outcomes_of_arrivals}
@@ -59,7 +59,8 @@ use Rattle.lr_receiving.specs.Shelved.{MayStop, ShelvesSoFar, Grows, GrowsNoMore
 use Rattle.lr_receiving.specs.ShelverTaken.{IsOnSame, ShelverTook, ShelverStopped}
 use Rattle.lr_receiving.specs.Shelving.{Stops}
 use Rattle.lr_reading.proofs.Outcomes.{both_kinds}
-use Rattle.lr_receiving.proofs.Causing.{caused_later}
+use Rattle.lr_receiving.proofs.Causing.{first_later}
+use Rattle.lr_receiving.specs.First.{IsFirst}
 use Rattle.lr_receiving.proofs.Growing.{grows_none, grows_on, stops_after, stops_before, stops_for_memory}
 use Rattle.lr_receiving.proofs.Shelving.{out_of_memory, stops_more}
 use Rattle.lr_receiving.proofs.WholeFrames.{with_outcome}
@@ -141,6 +142,11 @@ module _ {D O : Type 0} (disk : DiskOf D) (out : SinkOf O) where
         (grows_none shelver.shelf.now shelver.disk.now shelver.out.now);
   }
 
+  pub shelver_ready : (shelver : Shelver D O) → StandsFor shelver.layers.now []
+      → numbers shelver.counts ≡ shelver.layers.now.numbers
+      → (first : Shelver D O) × ShelverTook disk out first [] shelver
+  shelver_ready shelver stands counted = (shelver, shelver_begun shelver stands counted)
+
   module _ {before now : Shelver D O} {arrivals : List Arrival} (took : ShelverTook disk out before arrivals now) where
     -- the layers may take one more
     pub few : 892 * (length arrivals + 1) ≤ 2 ^ 48
@@ -163,7 +169,7 @@ module _ {D O : Type 0} (disk : DiskOf D) (out : SinkOf O) where
           kind = tt;
           told_by_disk = took.told_by_disk;
           told_by_out = took.told_by_out;
-          caused = λ works. tt;
+          caused = λ works. (took.disk_count, took.out_count);
           stops = λ capacity items d o so_far.
               subst (λ (l : List Placed). Stops disk out capacity items NoMemory l d now.disk.now o now.out.now)
               (append-nil files)
@@ -223,7 +229,7 @@ module _ {D O : Type 0} (disk : DiskOf D) (out : SinkOf O) where
       -- they were not
       pub shelver_stopped : (cause : Cause) → MayStop cause
           → (disk.tells now.disk.now → disk.tells now'.disk.now) → (out.tells now.out.now → out.tells now'.out.now)
-          → ((kept_by now.shelf.now).failed ≡ false → IsCaused cause
+          → ((kept_by now.shelf.now).failed ≡ false → IsFirst cause
           (counts 0 (disk.faults now.disk.now) (out.faults now.out.now))
           (counts 0 (disk.faults now'.disk.now) (out.faults now'.out.now)))
           → ((capacity : ℕ) (items : List Item) (d : D) (o : O)
@@ -238,7 +244,7 @@ module _ {D O : Type 0} (disk : DiskOf D) (out : SinkOf O) where
         kind = may;
         told_by_disk = λ t. tell_disk (took.told_by_disk t);
         told_by_out = λ t. tell_out (took.told_by_out t);
-        caused = λ works. caused_later cause 0 0 (disk.faults before.disk.now) (disk.faults now.disk.now)
+        caused = λ works. first_later cause 0 0 (disk.faults before.disk.now) (disk.faults now.disk.now)
             (disk.faults now'.disk.now) (out.faults before.out.now) (out.faults now.out.now)
             (out.faults now'.out.now) took.disk_count took.out_count (caused (took.working works));
         stops = λ capacity items d o so_far.
@@ -249,14 +255,6 @@ module _ {D O : Type 0} (disk : DiskOf D) (out : SinkOf O) where
       }
 
 -- ---- the whole input
-
--- why no more was taken is a cause
-pub caused_end : {S : Type 0} (source : SourceOf S) (stop : Stop) (limit : ℕ) (bytes : List ℕ) (s s' : S)
-    → EndsFor source stop limit bytes s s'
-    → IsCaused (cause_at stop) (counts (source.faults s) 0 0) (counts (source.faults s') 0 0)
-caused_end source End limit bytes s s' why = tt
-caused_end source Limit limit bytes s s' why = tt
-caused_end source Fault limit bytes s s' why = why.1
 
 module _ {S D O : Type 0} (source : SourceOf S) (disk : DiskOf D) (out : SinkOf O) (input : Input) (limit : ℕ)
     {s s' : S} {before now : Shelver D O} (begun : ShelverTook disk out before [] before) where

@@ -54,34 +54,35 @@ use Rattle.lr_shelf.specs.declared.error.ShelfError.TheVariants.{
   NoMemory as NoMemory',
 }
 use Rattle.lr_disk.proofs.Moments.{weaker, joined}
-use Rattle.lr_catalog.specs.declared.stop.Stop.{Stop}
-use Rattle.lr_catalog.specs.declared.stop.Stop.TheVariants.{End, Limit, Fault}
+use Rattle.lr_forms.specs.declared.forms.Stop.{Stop}
+use Rattle.lr_forms.specs.declared.forms.Stop.TheVariants.{End, Limit, Fault}
 use Rattle.lr_causes.specs.declared.cause.Cause.{Cause}
 use Rattle.lr_causes.specs.declared.cause.Cause.TheVariants.{Done, Failed, NoMemory, Refused}
-use Rattle.lr_causes.specs.declared.cause.Party.TheVariants.{Disk, Output}
+use Rattle.lr_causes.specs.declared.cause.Party.TheVariants.{Source, Disk, Output}
 use Rattle.lr_causes.specs.declared.cause.Refusal.TheVariants.{NotAShelf, Capacity, NotEmpty}
 use Rattle.lr_receiving.specs.declared.sums.Sums.{Sums}
 use Rattle.lr_conv.specs.declared.line.TheConstants.{STANDARD}
 use Rattle.lr_forms.specs.declared.forms.Input.TheVariants.{Symbols}
-use Rattle.lr_causes.specs.Causes.{cause_of, IsCaused, IsEarlier, counts}
+use Rattle.lr_causes.specs.Causes.{cause_of, IsEarlier, counts}
 use Rattle.lr_receiving.specs.Inputs.{files_of_bytes}
 use Rattle.lr_reading.specs.Reading.{IsRead, EndsFor}
 use Rattle.lr_receiving.specs.Receive.{receive_last}
-use Rattle.lr_receiving.specs.Reception.{sums_line, LastStops, ReadsAll, ReadsSome}
+use Rattle.lr_receiving.specs.Reception.{sums_line, PutsLast, LastStops, ReadsAll, ReadsSome}
 use Rattle.lr_receiving.specs.Shelving.{with_files, StandsForFront, LeavesFronts, StopsBy}
 use Rattle.lr_receiving.specs.Shelved.{MayStop, StopsTrial, ShelvesSoFar}
-use Rattle.lr_receiving.specs.Trial.{trial_capacity, StandsForPart, HoldsPart, DiskEnds, LeavesDisk, TrialRun}
+use Rattle.lr_receiving.specs.Trial.{trial_capacity, StandsForPart, HoldsPart, DiskEnds, LeavesDisk, OutEnds, TrialRun}
 use Rattle.lr_receiving.proofs.Causing.{none_rose}
+use Rattle.lr_receiving.specs.First.{IsFirst}
 use Rattle.lr_receiving.proofs.Headline.{end_of-append}
 use Rattle.lr_receiving.proofs.Taking.{no_bytes}
 use Rattle.lr_receiving.proofs.ReceiveEnding.{last_line, loaded}
 use Rattle.lr_receiving.proofs.Shelving.{with_files-append, same_of}
 
 -- a sink that counts no fault doesn't stop it
-pub stops_trial : (cause : Cause) (s s' d d' : ℕ) → MayStop cause → IsCaused cause (counts s d 0) (counts s' d' 0)
+pub stops_trial : (cause : Cause) (s s' d d' : ℕ) → MayStop cause → IsFirst cause (counts s d 0) (counts s' d' 0)
     → StopsTrial cause
 stops_trial (Failed Disk) s s' d d' may caused = tt
-stops_trial (Failed Output) s s' d d' may caused = absurd (none_rose caused)
+stops_trial (Failed Output) s s' d d' may caused = absurd (none_rose caused.0)
 stops_trial NoMemory s s' d d' may caused = tt
 stops_trial (Refused (Capacity needed most)) s s' d d' may caused = tt
 stops_trial _ s s' d d' may caused = absurd may
@@ -335,7 +336,7 @@ module _ {D : Type 0} (disk : DiskOf D) (symbols : List ℕ) (d d1 : D) where
             → end_of (with_files [] (files_of_bytes (Symbols STANDARD) symbols)) ≤ trial_capacity
             → IfErr answer MayStop → (f f' g g' : ℕ)
             → ((kept_by shelf).failed ≡ false
-            → IfErr answer (λ cause. IsCaused cause (counts f g 0) (counts f' g' 0)))
+            → IfErr answer (λ cause. IsFirst cause (counts f g 0) (counts f' g' 0)))
             → IfErr answer (λ cause. LeavesDisk disk symbols cause d d')
         some_done (Ok sums) some calm fit may f f' g g' caused = tt
         some_done (Err cause) some calm fit may f f' g g' caused =
@@ -382,7 +383,46 @@ module _ {D O : Type 0} (disk : DiskOf D) (out : SinkOf O) (symbols : List ℕ) 
     last_stops (Failed Output) stops = record {
       on_disk = left_by (Failed Output) done.ends.0;
       on_out = λ told. subst (λ (l : List ℕ). PutsPart l (out.contents o) (out.contents o')) line (stops.part told);
+      first = (stops.rose, done.ends.1);
     }
-    last_stops NoMemory stops =
-        record { on_disk = left_by NoMemory (λ told. inr (all_held told)); on_out = stops }
+    last_stops NoMemory stops = record {
+      on_disk = left_by NoMemory (λ told. inr (all_held told));
+      on_out = stops;
+      first = (done.ends.1, ap out.faults stops);
+    }
     last_stops _ stops = absurd stops
+
+    -- it was
+    pub last_put : PutsLast out sums o o' → TrialRun disk out symbols Done d d' o o'
+    last_put puts = record {
+      on_disk = done;
+      on_out = (
+        λ told. subst (λ (l : List ℕ). out.contents o' ≡ out.contents o ++ l) line (puts.put told),
+        puts.kept,
+      );
+      first = (refl, done.ends.1, puts.kept);
+    }
+
+-- it wasn't composed, since the trial stopped before
+module _ {D O : Type 0} (disk : DiskOf D) (out : SinkOf O) (symbols : List ℕ) (d d' : D) (o : O) where
+  silent : (cause : Cause) → StopsTrial cause → OutEnds disk out symbols cause o o
+  silent Done stops = absurd stops
+  silent (Failed Source) stops = absurd stops
+  silent (Failed Output) stops = absurd stops
+  silent (Failed Disk) stops = refl
+  silent _ stops = refl
+
+  pub beside_out : (cause : Cause) → StopsTrial cause
+      → IsFirst cause (counts 0 (disk.faults d) 0) (counts 0 (disk.faults d') 0)
+      → IsFirst cause (counts 0 (disk.faults d) (out.faults o)) (counts 0 (disk.faults d') (out.faults o))
+  beside_out Done stops first = absurd stops
+  beside_out (Failed Source) stops first = absurd stops
+  beside_out (Failed Output) stops first = absurd stops
+  beside_out (Failed Disk) stops first = (first.0, refl)
+  beside_out _ stops first = (first.0, refl)
+
+  pub stream_stops : (cause : Cause) → StopsTrial cause → LeavesDisk disk symbols cause d d'
+      → IsFirst cause (counts 0 (disk.faults d) 0) (counts 0 (disk.faults d') 0)
+      → TrialRun disk out symbols cause d d' o o
+  stream_stops cause stops leaves first =
+      record { on_disk = leaves; on_out = silent cause stops; first = beside_out cause stops first }

@@ -1,3 +1,4 @@
+pub mod First
 pub mod Init
 pub mod Inputs
 pub mod Made
@@ -7,4 +8,5 @@ pub mod Reception
 pub mod Shelved
 pub mod ShelverTaken
 pub mod Shelving
+pub mod Sure
 pub mod Trial

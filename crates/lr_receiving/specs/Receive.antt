@@ -12,8 +12,8 @@ use Rattle.lr_shelf_format.specs.Items.{Item}
 use Rattle.lr_shelf_format.specs.Reading.{end_of}
 use Rattle.lr_shelf_format.specs.Way.{IsNoShelfAt}
 use Rattle.lr_shelf.specs.Shelf.{IsDurable}
-use Rattle.lr_catalog.specs.declared.stop.Stop.{Stop}
-use Rattle.lr_catalog.specs.declared.stop.Stop.TheVariants.{End, Limit, Fault}
+use Rattle.lr_forms.specs.declared.forms.Stop.{Stop}
+use Rattle.lr_forms.specs.declared.forms.Stop.TheVariants.{End, Limit, Fault}
 use Rattle.lr_catalog.specs.declared.summary.Summary.TheVariants.{Receive}
 use Rattle.lr_catalog.specs.Summaries.{summary_line}
 use Rattle.lr_causes.specs.declared.cause.Cause.{Cause}
@@ -21,7 +21,8 @@ use Rattle.lr_causes.specs.declared.cause.Cause.TheVariants.{Done, Failed, NoMem
 use Rattle.lr_causes.specs.declared.cause.Party.TheVariants.{Source, Disk, Output}
 use Rattle.lr_causes.specs.declared.cause.Refusal.TheVariants.{NotAShelf, Capacity}
 use Rattle.lr_forms.specs.declared.forms.Input.{Input}
-use Rattle.lr_causes.specs.Causes.{IsEarlier}
+use Rattle.lr_causes.specs.Causes.{IsEarlier, counts}
+use Rattle.lr_receiving.specs.First.{IsFirst}
 use Rattle.lr_reading.specs.Inputs.{outcomes_of_bytes, left_of}
 use Rattle.lr_receiving.specs.Inputs.{files_of_bytes}
 use Rattle.lr_receiving.specs.Onto.{IsFull, HadRoom}
@@ -143,6 +144,9 @@ module _ {S D O : Type 0} (source : SourceOf S) (disk : DiskOf D) (out : SinkOf 
   -- the whole call, over every disk
   pub record ReceiveRun (input : Input) (limit : ℕ) (cause : Cause) (s s' : S) (d d' : D) (o o' : O) : Type 0 where
     pub causes : IsReceiveCause cause
+    -- the first event decides
+    pub first : IsFirst cause (counts (source.faults s) (disk.faults d) (out.faults o))
+        (counts (source.faults s') (disk.faults d') (out.faults o'))
     -- these bytes were taken
     pub bytes : List ℕ
     pub read : IsRead source limit bytes s s'

@@ -6,10 +6,11 @@ use Rattle.lr_io.specs.declared.sink.Sink.{Ghosts as SinkOf}
 use Rattle.lr_disk.specs.declared.disk.Disk.{Ghosts as DiskOf}
 use Rattle.lr_layers.specs.Origins.{placed_of_outcomes}
 use Rattle.lr_layers.specs.Standing.{StandsFor, numbers}
-use Rattle.lr_causes.specs.Causes.{IsCaused, counts}
+use Rattle.lr_causes.specs.Causes.{counts}
 use Rattle.lr_causes.specs.declared.cause.Cause.{Cause}
 use Rattle.lr_reading.specs.Arrivals.{outcomes_of_arrivals}
 use Rattle.lr_reading.specs.declared.arrival.Arrival.{Arrival}
+use Rattle.lr_receiving.specs.First.{IsFirst}
 use Rattle.lr_receiving.specs.declared.shelver.Shelver.{Shelver}
 use Rattle.lr_receiving.specs.Shelving.{Stops}
 use Rattle.lr_receiving.specs.Shelved.{MayStop, ShelvesSoFar, Grows, GrowsNoMore}
@@ -46,7 +47,7 @@ module _ {D O : Type 0} (disk : DiskOf D) (out : SinkOf O) where
     pub kind : MayStop cause
     pub told_by_disk : disk.tells before.disk.now → disk.tells now.disk.now
     pub told_by_out : out.tells before.out.now → out.tells now.out.now
-    pub caused : (kept_by before.shelf.now).failed ≡ false → IsCaused cause
+    pub caused : (kept_by before.shelf.now).failed ≡ false → IsFirst cause
         (counts 0 (disk.faults before.disk.now) (out.faults before.out.now))
         (counts 0 (disk.faults now.disk.now) (out.faults now.out.now))
     pub stops : (capacity : ℕ) (items : List Item) (d : D) (o : O)

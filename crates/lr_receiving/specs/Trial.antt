@@ -8,13 +8,14 @@ use Rattle.lr_disk.specs.Disk.{Only, LeavesOnly}
 use Rattle.lr_disk.specs.Reads.{IsUnwritten}
 use Rattle.lr_shelf.specs.Init.{IsTaken, IsBlank}
 use Rattle.lr_shelf.specs.Shelf.{IsDurable}
-use Rattle.lr_catalog.specs.declared.stop.Stop.TheVariants.{End}
+use Rattle.lr_forms.specs.declared.forms.Stop.TheVariants.{End}
 use Rattle.lr_causes.specs.declared.cause.Cause.{Cause}
 use Rattle.lr_causes.specs.declared.cause.Cause.TheVariants.{Done, Failed, NoMemory, Refused}
 use Rattle.lr_causes.specs.declared.cause.Party.TheVariants.{Disk, Output}
 use Rattle.lr_causes.specs.declared.cause.Refusal.TheVariants.{NotAShelf, Capacity, NotEmpty}
 use Rattle.lr_forms.specs.declared.forms.Input.TheVariants.{Symbols}
-use Rattle.lr_causes.specs.Causes.{IsEarlier}
+use Rattle.lr_causes.specs.Causes.{IsEarlier, counts}
+use Rattle.lr_receiving.specs.First.{IsFirst}
 use Rattle.lr_receiving.specs.Inputs.{files_of_bytes}
 use Rattle.lr_receiving.specs.Receive.{receive_last}
 use Rattle.lr_receiving.specs.Shelving.{with_files, StandsForFront, Got}
@@ -75,3 +76,5 @@ module _ {D O : Type 0} (disk : DiskOf D) (out : SinkOf O) (symbols : List ℕ) 
   pub record TrialRun (cause : Cause) (d d' : D) (o o' : O) : Type 0 where
     pub on_disk : LeavesDisk disk symbols cause d d'
     pub on_out : OutEnds cause o o'
+    -- the first event decides
+    pub first : IsFirst cause (counts 0 (disk.faults d) (out.faults o)) (counts 0 (disk.faults d') (out.faults o'))

@@ -2,8 +2,8 @@
 //!
 //! `receive` puts the mission files of its input onto the shelf, each acknowledged by its line; its contract is
 //! `ReceiveRun`. It is a `Consumer` of what comes of the input (`lr_reading`).
-//! A `.._by_team` does with symbols what the command of that name does, by a `Team` of several threads; it has the same
-//! contract.
+//! A command reads on the caller's thread, and its `.._by_team` with several; both are its `.._with`, and only the call that
+//! reads differs.
 //! `init` makes an empty shelf (`InitRun`), `make` writes the test stream (`MakeEnds`), and `trial` receives that
 //! stream onto a shelf that it makes (`TrialRun`). Each says for every cause what became of source, disk and `out`.
 #![tactic(auto)]
@@ -13,12 +13,10 @@ mod reception;
 mod shelve;
 mod shelver;
 mod sums;
-mod team_files;
 mod test_stream;
 mod trial_run;
 
 pub use new_shelf::init;
-pub use reception::receive;
-pub use team_files::{receive_by_team, trial_by_team};
+pub use reception::{receive, receive_by_team};
 pub use test_stream::make;
-pub use trial_run::trial;
+pub use trial_run::{trial, trial_by_team};

@@ -1,47 +1,63 @@
 //! `receive`: the mission files of the input go onto the shelf.
-ghost use Rattle.std.specs.Prelude.{◌≡◌, ◌≤◌, ◌^◌, false, IfOk, IfErr, OnOk};
+ghost use Rattle.std.specs.Prelude.{◌≡◌, ◌≤◌, ◌^◌, false, [], IfOk, IfErr, OnOk};
 ghost use Rattle.lr_shelf.specs.Kept.{kept_by};
 ghost use Rattle.lr_causes.specs.Causes.{IsCaused, cause_at, counts};
+ghost use Rattle.lr_reading.specs.Leading.{MayLead, Leads};
+ghost use Rattle.lr_reading.specs.Runs.{IsLed};
+ghost use Rattle.lr_receiving.specs.First.{IsFirst};
 ghost use Rattle.lr_receiving.specs.Receive.{ReceiveRun};
 ghost use Rattle.lr_receiving.specs.Reception.{ReadsAll, ReadsSome, EndsRun, PutsLast, LastStops};
 ghost use Rattle.lr_receiving.specs.Shelved.{MayStop};
+ghost use Rattle.lr_receiving.specs.ShelverTaken.{ShelverTook, ShelverStopped};
 
 use crate::shelver::Shelver;
 use crate::sums::Sums;
 use lr_bits::{Bytes, NoMemory};
-use lr_catalog::{Stop, Summary, summary_line};
+use lr_catalog::{Summary, summary_line};
 use lr_causes::{Cause, cause_at, put_text};
 use lr_disk::Disk;
-use lr_forms::Input;
+use lr_forms::{Input, Stop};
+use lr_frame::{FrameWork, Hand};
 use lr_io::{Sink, Source};
 use lr_layers::Layers;
-use lr_reading::Reader;
+use lr_reading::{Reader, Totals};
 use lr_shelf::Shelf;
 use std::alloc::Global;
+use std::sync::Wait;
+use std::thread::Threads;
 
-/// Shelves all files of the input.
-pub(crate) fn receive_all<S: Source, D: Disk, O: Sink>(
+/// Shelves all files of this input, through which the call `read` leads.
+pub(crate) fn receive_all<
+    S: Source,
+    D: Disk,
+    O: Sink,
+    F: FnOnce(&mut S, &mut Shelver<'_, D, O>) -> Result<Totals, Cause>,
+>(
     alloc: Global,
-    reader: Reader,
+    input: Input,
+    most: u64,
     shelf: &mut Shelf,
     source: &mut S,
     disk: &mut D,
     out: &mut O,
+    read: F,
 ) -> Result<Sums, Cause>
-    requires few { reader.most ≤ 2 ^ 48 }
+    requires ready { MayLead (F.pre read) (ShelverTook D.Disk O.Sink) }
+    requires leads { Leads (F.post read) S.Source (ShelverTook D.Disk O.Sink) (ShelverStopped D.Disk O.Sink) input
+        most }
     ensures counts { OnOk result ((D.faults disk.new ≡ D.faults disk.old) × (O.faults out.new ≡ O.faults out.old)) }
-    ensures reason { IfOk result (λ sums. IsCaused (cause_at sums.totals.stop) (counts (S.faults source.old) 0 0)
+    ensures reason { IfOk result (λ sums. IsFirst (cause_at sums.totals.stop) (counts (S.faults source.old) 0 0)
         (counts (S.faults source.new) 0 0)) }
     ensures told_by_disk { D.tells disk.old → D.tells disk.new }
     ensures told_by_out { O.tells out.old → O.tells out.new }
     ensures kind { IfErr result MayStop }
     ensures cause { (kept_by shelf.old).failed ≡ false
-        → IfErr result (λ cause. IsCaused cause
+        → IfErr result (λ cause. IsFirst cause
         (counts (S.faults source.old) (D.faults disk.old) (O.faults out.old))
         (counts (S.faults source.new) (D.faults disk.new) (O.faults out.new))) }
-    ensures all { IfOk result (λ sums. ReadsAll S.Source D.Disk O.Sink reader.input reader.most sums
+    ensures all { IfOk result (λ sums. ReadsAll S.Source D.Disk O.Sink input most sums
         shelf.old shelf.new source.old source.new disk.old disk.new out.old out.new) }
-    ensures some { IfErr result (λ cause. ReadsSome S.Source D.Disk O.Sink reader.input reader.most cause
+    ensures some { IfErr result (λ cause. ReadsSome S.Source D.Disk O.Sink input most cause
         shelf.old source.old source.new disk.old disk.new out.old out.new) }
 {
     let mut layers = Layers::new(alloc);
@@ -55,7 +71,7 @@ pub(crate) fn receive_all<S: Source, D: Disk, O: Sink>(
         disk,
         out,
     };
-    let totals = reader.read(source, &mut shelver)?;
+    let totals = read(source, &mut shelver)?;
     Ok(Sums {
         totals,
         counts: shelver.counts,
@@ -83,33 +99,79 @@ pub(crate) fn put_last<O: Sink>(alloc: Global, sums: &Sums, out: &mut O) -> Resu
 }
 
 /// Shelves all files of the input onto a shelf that is loaded, and puts the last line.
-fn receive_onto<S: Source, D: Disk, O: Sink>(
+fn receive_onto<
+    S: Source,
+    D: Disk,
+    O: Sink,
+    F: FnOnce(&mut S, &mut Shelver<'_, D, O>) -> Result<Totals, Cause>,
+>(
     alloc: Global,
-    reader: Reader,
+    input: Input,
+    most: u64,
     shelf: &mut Shelf,
     source: &mut S,
     disk: &mut D,
     out: &mut O,
+    read: F,
 ) -> Result<Stop, Cause>
-    requires few { reader.most ≤ 2 ^ 48 }
-    ensures reason { IfOk result (λ stop. IsCaused (cause_at stop) (counts (S.faults source.old) 0 0)
-        (counts (S.faults source.new) 0 0)) }
+    requires ready { MayLead (F.pre read) (ShelverTook D.Disk O.Sink) }
+    requires leads { Leads (F.post read) S.Source (ShelverTook D.Disk O.Sink) (ShelverStopped D.Disk O.Sink) input
+        most }
+    ensures reason { IfOk result (λ stop. IsFirst (cause_at stop)
+        (counts (S.faults source.old) (D.faults disk.old) (O.faults out.old))
+        (counts (S.faults source.new) (D.faults disk.new) (O.faults out.new))) }
     ensures told_by_disk { D.tells disk.old → D.tells disk.new }
     ensures told_by_out { O.tells out.old → O.tells out.new }
     ensures kind { IfErr result MayStop }
     ensures cause { (kept_by shelf.old).failed ≡ false
-        → IfErr result (λ cause. IsCaused cause
+        → IfErr result (λ cause. IsFirst cause
         (counts (S.faults source.old) (D.faults disk.old) (O.faults out.old))
         (counts (S.faults source.new) (D.faults disk.new) (O.faults out.new))) }
-    ensures done { IfOk result (λ stop. EndsRun S.Source D.Disk O.Sink reader.input reader.most
+    ensures done { IfOk result (λ stop. EndsRun S.Source D.Disk O.Sink input most
         (cause_at stop) shelf.old source.old source.new disk.old disk.new out.old out.new) }
     ensures stopped { IfErr result
-        (λ cause. EndsRun S.Source D.Disk O.Sink reader.input reader.most cause shelf.old source.old
+        (λ cause. EndsRun S.Source D.Disk O.Sink input most cause shelf.old source.old
         source.new disk.old disk.new out.old out.new) }
 {
-    let sums = receive_all(alloc, reader, shelf, source, disk, out)?;
+    let sums = receive_all(alloc, input, most, shelf, source, disk, out, read)?;
     put_last(alloc, &sums, out)?;
     Ok(sums.totals.stop)
+}
+
+/// What `receive` does once there is memory for reading: the shelf is loaded, and then the call `read` leads through the
+/// input.
+fn receive_with<
+    S: Source,
+    D: Disk,
+    O: Sink,
+    F: FnOnce(&mut S, &mut Shelver<'_, D, O>) -> Result<Totals, Cause>,
+>(
+    alloc: Global,
+    input: Input,
+    most: u64,
+    source: &mut S,
+    disk: &mut D,
+    out: &mut O,
+    read: F,
+) -> Cause
+    requires ready { MayLead (F.pre read) (ShelverTook D.Disk O.Sink) }
+    requires leads { Leads (F.post read) S.Source (ShelverTook D.Disk O.Sink) (ShelverStopped D.Disk O.Sink) input
+        most }
+    ensures cause { IsCaused result (counts (S.faults source.old) (D.faults disk.old) (O.faults out.old))
+        (counts (S.faults source.new) (D.faults disk.new) (O.faults out.new)) }
+    ensures told_by_disk { D.tells disk.old → D.tells disk.new }
+    ensures told_by_out { O.tells out.old → O.tells out.new }
+    ensures run { ReceiveRun S.Source D.Disk O.Sink input most result source.old source.new disk.old disk.new
+        out.old out.new }
+{
+    let mut shelf = match Shelf::load(alloc, disk) {
+        Ok(shelf) => shelf,
+        Err(error) => return Cause::from(error),
+    };
+    match receive_onto(alloc, input, most, &mut shelf, source, disk, out, read) {
+        Ok(stop) => cause_at(stop),
+        Err(cause) => cause,
+    }
 }
 
 /// Takes at most `most` bytes, and puts their mission files onto the shelf that the disk holds. What reading takes of
@@ -130,16 +192,47 @@ pub fn receive<S: Source, D: Disk, O: Sink>(
     ensures run { ReceiveRun S.Source D.Disk O.Sink input most result source.old source.new disk.old disk.new
         out.old out.new }
 {
-    let reader = match Reader::new(alloc, input, most) {
+    let reader = match Reader::<FrameWork>::new(alloc, input, 1, most, &()) {
         Ok(reader) => reader,
         Err(NoMemory) => return Cause::NoMemory,
     };
-    let mut shelf = match Shelf::load(alloc, disk) {
-        Ok(shelf) => shelf,
-        Err(error) => return Cause::from(error),
+    receive_with(alloc, input, most, source, disk, out, |source, shelver| -> Result<Totals, Cause>
+        requires { ((reader.workers ≡ 1) × (reader.most ≤ 2 ^ 48))
+            × ((first : _) × ShelverTook D.Disk O.Sink first [] shelver.old) }
+        ensures { IsLed S.Source (ShelverTook D.Disk O.Sink) reader.input reader.most
+            (ShelverStopped D.Disk O.Sink) result source.old source.new shelver.old shelver.new }
+    { reader.read_alone(source, shelver) })
+}
+
+/// What `receive` does, where this many work on windows of symbols, the caller among them. The memory for their ring and
+/// their hands is taken with that for reading.
+pub fn receive_by_team<R: Threads + Wait + Sync, H: Hand, S: Source, D: Disk, O: Sink>(
+    rt: &R,
+    alloc: Global,
+    tools: &H::Tools,
+    input: Input,
+    workers: u32,
+    most: u64,
+    source: &mut S,
+    disk: &mut D,
+    out: &mut O,
+) -> Cause
+    requires few { most ≤ 2 ^ 48 }
+    requires workers { (1 ≤ workers) × (workers ≤ 64) }
+    ensures cause { IsCaused result (counts (S.faults source.old) (D.faults disk.old) (O.faults out.old))
+        (counts (S.faults source.new) (D.faults disk.new) (O.faults out.new)) }
+    ensures told_by_disk { D.tells disk.old → D.tells disk.new }
+    ensures told_by_out { O.tells out.old → O.tells out.new }
+    ensures run { ReceiveRun S.Source D.Disk O.Sink input most result source.old source.new disk.old disk.new
+        out.old out.new }
+{
+    let reader = match Reader::<H>::new(alloc, input, workers, most, tools) {
+        Ok(reader) => reader,
+        Err(NoMemory) => return Cause::NoMemory,
     };
-    match receive_onto(alloc, reader, &mut shelf, source, disk, out) {
-        Ok(stop) => cause_at(stop),
-        Err(cause) => cause,
-    }
+    receive_with(alloc, input, most, source, disk, out, |source, shelver| -> Result<Totals, Cause>
+        requires { (reader.most ≤ 2 ^ 48) × ((first : _) × ShelverTook D.Disk O.Sink first [] shelver.old) }
+        ensures { IsLed S.Source (ShelverTook D.Disk O.Sink) reader.input reader.most
+            (ShelverStopped D.Disk O.Sink) result source.old source.new shelver.old shelver.new }
+    { reader.read(rt, source, shelver) })
 }

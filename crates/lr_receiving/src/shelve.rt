@@ -6,7 +6,8 @@ ghost use Rattle.lr_layers.specs.Origins.{placed_of_outcomes};
 ghost use Rattle.lr_layers.specs.Standing.{StandsFor};
 ghost use Rattle.lr_shelf_format.specs.Items.{Item};
 ghost use Rattle.lr_shelf.specs.Kept.{kept_by};
-ghost use Rattle.lr_causes.specs.Causes.{IsCaused, counts};
+ghost use Rattle.lr_causes.specs.Causes.{counts};
+ghost use Rattle.lr_receiving.specs.First.{IsFirst};
 ghost use Rattle.lr_receiving.specs.Shelving.{Stops};
 ghost use Rattle.lr_reading.specs.Arrivals.{HasWholeFrame};
 ghost use Rattle.lr_receiving.specs.Shelved.{
@@ -42,7 +43,7 @@ fn shelve<D: Disk, O: Sink>(
     ensures told_by_out { O.tells out.old → O.tells out.new }
     ensures kind { IfErr result MayStop }
     ensures cause { (kept_by shelf.old).failed ≡ false
-        → IfErr result (λ cause. IsCaused cause (counts 0 (D.faults disk.old) (O.faults out.old))
+        → IfErr result (λ cause. IsFirst cause (counts 0 (D.faults disk.old) (O.faults out.old))
         (counts 0 (D.faults disk.new) (O.faults out.new))) }
 
     // Over a disk that tells its contents and stands for a shelf.
@@ -85,7 +86,7 @@ fn shelve_all<D: Disk, O: Sink>(
     ensures told_by_out { O.tells out.old → O.tells out.new }
     ensures kind { IfErr result MayStop }
     ensures cause { (kept_by shelf.old).failed ≡ false
-        → IfErr result (λ cause. IsCaused cause (counts 0 (D.faults disk.old) (O.faults out.old))
+        → IfErr result (λ cause. IsFirst cause (counts 0 (D.faults disk.old) (O.faults out.old))
         (counts 0 (D.faults disk.new) (O.faults out.new))) }
 
     // Over a disk that tells its contents and stands for a shelf.
@@ -125,7 +126,7 @@ pub(crate) fn shelve_outcome<D: Disk, O: Sink>(
     ensures told_by_out { O.tells out.old → O.tells out.new }
     ensures kind { IfErr result MayStop }
     ensures cause { (kept_by shelf.old).failed ≡ false
-        → IfErr result (λ cause. IsCaused cause (counts 0 (D.faults disk.old) (O.faults out.old))
+        → IfErr result (λ cause. IsFirst cause (counts 0 (D.faults disk.old) (O.faults out.old))
         (counts 0 (D.faults disk.new) (O.faults out.new))) }
     ensures stands { (outcomes : List Outcome') → StandsFor layers.old outcomes
         → OnOk result (StandsFor layers.new (outcomes ++ outcome.now ∷ [])) }

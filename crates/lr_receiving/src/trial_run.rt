@@ -1,23 +1,29 @@
 //! `trial`: the main job on the test stream, without any input.
-ghost use Rattle.std.specs.Prelude.{◌≡◌, ◌≤◌, ◌<◌, ◌++◌, [], ℕ, List, length, IfOk, IfErr, OnOk};
-ghost use Rattle.lr_catalog.specs.declared.stop.Stop.TheVariants.{End};
+ghost use Rattle.std.specs.Prelude.{◌≡◌, ◌≤◌, ◌<◌, ◌^◌, ◌++◌, [], ℕ, List, length, IfOk, IfErr, OnOk};
+ghost use Rattle.lr_forms.specs.declared.forms.Stop.TheVariants.{End};
 ghost use Rattle.lr_conv.specs.declared.line.TheConstants.{STANDARD as standard};
 ghost use Rattle.lr_shelf_format.specs.Reading.{end_of};
 ghost use Rattle.lr_make.specs.Blocks.{block_at};
 ghost use Rattle.lr_make.specs.Frames.{frame_at};
 ghost use Rattle.lr_make.specs.Received.{IsReceivedAs};
 ghost use Rattle.lr_causes.specs.Causes.{IsCaused, counts};
+ghost use Rattle.lr_receiving.specs.First.{IsFirst};
 ghost use Rattle.lr_receiving.specs.Inputs.{files_of_bytes};
 ghost use Rattle.lr_receiving.specs.Made.{made_bytes};
 ghost use Rattle.lr_receiving.specs.Receive.{receive_last};
 ghost use Rattle.lr_receiving.specs.Reception.{sums_line};
+ghost use Rattle.lr_reading.specs.Leading.{MayLead, Leads};
+ghost use Rattle.lr_reading.specs.Runs.{IsLed};
 ghost use Rattle.lr_receiving.specs.Shelved.{StopsTrial};
+ghost use Rattle.lr_receiving.specs.ShelverTaken.{ShelverTook, ShelverStopped};
 ghost use Rattle.lr_receiving.specs.Shelving.{with_files};
+ghost use Rattle.lr_receiving.specs.Sure.{sure_source, sure_sink};
 ghost use Rattle.lr_receiving.specs.Trial.{trial_capacity, LeavesDisk, TrialRun};
 ghost use Rattle.lr_forms.specs.declared.forms.Input.TheVariants.{Symbols};
 ghost use Rattle.lr_forms.specs.declared.forms.TheConstants.{MOST_BYTES as most_bytes};
 
 use crate::reception::{put_last, receive_all};
+use crate::shelver::Shelver;
 use crate::sums::Sums;
 use crate::test_stream::put_bytes;
 use lr_bits::{FRAME_SYMBOLS, NoMemory};
@@ -25,17 +31,20 @@ use lr_causes::Cause;
 use lr_conv::STANDARD;
 use lr_disk::Disk;
 use lr_forms::{Input, MOST_BYTES, Output};
-use lr_io::{Sink, SureSink, SureSource};
+use lr_frame::{FrameWork, Hand};
+use lr_io::{Sink, Source, SureSink, SureSource};
 use lr_make::Maker;
-use lr_reading::Reader;
+use lr_reading::{Reader, Totals};
 use lr_shelf::Shelf;
 use std::alloc::Global;
+use std::sync::Wait;
+use std::thread::Threads;
 
 /// How many bytes the shelf may have.
-pub(crate) const CAPACITY: u64 = 1_048_576;
+const CAPACITY: u64 = 1_048_576;
 
 /// The symbols of this many frames, each in a byte. Each of their blocks is received as its frame.
-pub(crate) fn stream(alloc: Global, start: u64, frames: u64, wrong: u8) -> Result<Vec<u8>, NoMemory>
+fn stream(alloc: Global, start: u64, frames: u64, wrong: u8) -> Result<Vec<u8>, NoMemory>
     requires few { frames ≤ 1024 }
     requires wrong { wrong ≤ 16 }
     ensures bytes { IfOk result (λ bytes. bytes.items ≡ made_bytes Output.Symbols start wrong frames) }
@@ -57,16 +66,21 @@ pub(crate) fn stream(alloc: Global, start: u64, frames: u64, wrong: u8) -> Resul
 }
 
 /// Makes an empty shelf on the disk, and puts the files of these symbols onto it.
-fn shelve_stream<D: Disk>(
+fn shelve_stream<
+    D: Disk,
+    F: FnOnce(&mut SureSource, &mut Shelver<'_, D, SureSink>) -> Result<Totals, Cause>,
+>(
     alloc: Global,
-    reader: Reader,
     symbols: Vec<u8>,
     disk: &mut D,
+    read: F,
 ) -> Result<Sums, Cause>
-    requires input { reader ≡ record { input = Symbols standard; most = most_bytes } }
+    requires ready { MayLead (F.pre read) (ShelverTook D.Disk sure_sink) }
+    requires leads { Leads (F.post read) sure_source (ShelverTook D.Disk sure_sink)
+        (ShelverStopped D.Disk sure_sink) (Symbols standard) most_bytes }
     requires few { length symbols.items < most_bytes }
     requires fit { end_of (with_files [] (files_of_bytes (Symbols standard) symbols.items)) ≤ trial_capacity }
-    ensures cause { IfErr result (λ cause. IsCaused cause (counts 0 (D.faults disk.old) 0)
+    ensures cause { IfErr result (λ cause. IsFirst cause (counts 0 (D.faults disk.old) 0)
         (counts 0 (D.faults disk.new) 0)) }
     ensures told { D.tells disk.old → D.tells disk.new }
     ensures kind { IfErr result StopsTrial }
@@ -78,7 +92,49 @@ fn shelve_stream<D: Disk>(
     let mut shelf = Shelf::load(alloc, disk)?;
     let mut source = SureSource::of(symbols);
     let mut lines = SureSink::new();
-    receive_all(alloc, reader, &mut shelf, &mut source, disk, &mut lines)
+    let input = Input::Symbols(STANDARD);
+    receive_all(alloc, input, MOST_BYTES, &mut shelf, &mut source, disk, &mut lines, read)
+}
+
+/// What `trial` does once there is memory for reading: that for the symbols is taken, and the call `read` leads through
+/// them.
+fn trial_with<
+    D: Disk,
+    O: Sink,
+    F: FnOnce(&mut SureSource, &mut Shelver<'_, D, SureSink>) -> Result<Totals, Cause>,
+>(
+    alloc: Global,
+    start: u64,
+    frames: u64,
+    wrong: u8,
+    disk: &mut D,
+    out: &mut O,
+    read: F,
+) -> Cause
+    requires few { frames ≤ 1024 }
+    requires wrong { wrong ≤ 16 }
+    requires ready { MayLead (F.pre read) (ShelverTook D.Disk sure_sink) }
+    requires leads { Leads (F.post read) sure_source (ShelverTook D.Disk sure_sink)
+        (ShelverStopped D.Disk sure_sink) (Symbols standard) most_bytes }
+    ensures cause { IsCaused result (counts 0 (D.faults disk.old) (O.faults out.old))
+        (counts 0 (D.faults disk.new) (O.faults out.new)) }
+    ensures told_by_disk { D.tells disk.old → D.tells disk.new }
+    ensures told_by_out { O.tells out.old → O.tells out.new }
+    ensures run { TrialRun D.Disk O.Sink (made_bytes Output.Symbols start wrong frames) result disk.old disk.new
+        out.old out.new }
+{
+    let symbols = match stream(alloc, start, frames, wrong) {
+        Ok(symbols) => symbols,
+        Err(NoMemory) => return Cause::NoMemory,
+    };
+    let sums = match shelve_stream(alloc, symbols, disk, read) {
+        Ok(sums) => sums,
+        Err(cause) => return cause,
+    };
+    match put_last(alloc, &sums, out) {
+        Ok(()) => Cause::Done,
+        Err(cause) => cause,
+    }
 }
 
 /// Makes the symbols of this many frames of the test stream, an empty shelf on the disk, and puts the mission files
@@ -101,20 +157,49 @@ pub fn trial<D: Disk, O: Sink>(
     ensures run { TrialRun D.Disk O.Sink (made_bytes Output.Symbols start wrong frames) result disk.old disk.new
         out.old out.new }
 {
-    let symbols = match stream(alloc, start, frames, wrong) {
-        Ok(symbols) => symbols,
-        Err(NoMemory) => return Cause::NoMemory,
-    };
-    let reader = match Reader::new(alloc, Input::Symbols(STANDARD), MOST_BYTES) {
+    let input = Input::Symbols(STANDARD);
+    let reader = match Reader::<FrameWork>::new(alloc, input, 1, MOST_BYTES, &()) {
         Ok(reader) => reader,
         Err(NoMemory) => return Cause::NoMemory,
     };
-    let sums = match shelve_stream(alloc, reader, symbols, disk) {
-        Ok(sums) => sums,
-        Err(cause) => return cause,
+    trial_with(alloc, start, frames, wrong, disk, out, |source, shelver| -> Result<Totals, Cause>
+        requires { ((reader.workers ≡ 1) × (reader.most ≤ 2 ^ 48))
+            × ((first : _) × ShelverTook D.Disk sure_sink first [] shelver.old) }
+        ensures { IsLed sure_source (ShelverTook D.Disk sure_sink) reader.input reader.most
+            (ShelverStopped D.Disk sure_sink) result source.old source.new shelver.old shelver.new }
+    { reader.read_alone(source, shelver) })
+}
+
+/// What `trial` does, where this many work on windows, the caller among them.
+pub fn trial_by_team<R: Threads + Wait + Sync, H: Hand, D: Disk, O: Sink>(
+    rt: &R,
+    alloc: Global,
+    tools: &H::Tools,
+    start: u64,
+    frames: u64,
+    wrong: u8,
+    workers: u32,
+    disk: &mut D,
+    out: &mut O,
+) -> Cause
+    requires few { frames ≤ 1024 }
+    requires wrong { wrong ≤ 16 }
+    requires workers { (1 ≤ workers) × (workers ≤ 64) }
+    ensures cause { IsCaused result (counts 0 (D.faults disk.old) (O.faults out.old))
+        (counts 0 (D.faults disk.new) (O.faults out.new)) }
+    ensures told_by_disk { D.tells disk.old → D.tells disk.new }
+    ensures told_by_out { O.tells out.old → O.tells out.new }
+    ensures run { TrialRun D.Disk O.Sink (made_bytes Output.Symbols start wrong frames) result disk.old disk.new
+        out.old out.new }
+{
+    let input = Input::Symbols(STANDARD);
+    let reader = match Reader::<H>::new(alloc, input, workers, MOST_BYTES, tools) {
+        Ok(reader) => reader,
+        Err(NoMemory) => return Cause::NoMemory,
     };
-    match put_last(alloc, &sums, out) {
-        Ok(()) => Cause::Done,
-        Err(cause) => cause,
-    }
+    trial_with(alloc, start, frames, wrong, disk, out, |source, shelver| -> Result<Totals, Cause>
+        requires { (reader.most ≤ 2 ^ 48) × ((first : _) × ShelverTook D.Disk sure_sink first [] shelver.old) }
+        ensures { IsLed sure_source (ShelverTook D.Disk sure_sink) reader.input reader.most
+            (ShelverStopped D.Disk sure_sink) result source.old source.new shelver.old shelver.new }
+    { reader.read(rt, source, shelver) })
 }

@@ -1,13 +1,14 @@
 //! The words of `assemble`.
-ghost use Rattle.std.specs.Prelude.{◌≡◌, map, IfOk, string_bytes};
-ghost use Rattle.clap.specs.Words.{app_of};
+ghost use Rattle.std.specs.Prelude.{◌≡◌, List, Some, map, IfOk, string_bytes};
+ghost use Rattle.clap.specs.Words.{app_of, Text};
 ghost use Rattle.lr_words.specs.Commands.{assemble_app, assemble_of, IsInRange};
+ghost use Rattle.lr_words.specs.Words.{IsMatched};
 
-use crate::arguments::place;
+use crate::arguments::{place, with_arg};
 use crate::command::Command;
 use crate::numbers::number_given;
-use crate::parsing::matches_of;
-use clap::Command as Parser;
+use crate::parsing::matches_by;
+use clap::{ArgMatches, Command as Parser};
 use lr_bits::NoMemory;
 use std::alloc::{AllocError, Global};
 
@@ -20,11 +21,27 @@ const MOST_IMAGE: u64 = 65_535;
 fn assemble_parser<'a>(alloc: Global) -> Result<Parser<'a>, AllocError>
     ensures { IfOk result (λ c. app_of c ≡ assemble_app) }
 {
-    Parser::new(alloc, "assemble")
-        .arg(place(alloc, "from"))?
-        .arg(place(alloc, "to"))?
-        .arg(place(alloc, "apid"))?
-        .arg(place(alloc, "image"))
+    let parser = Parser::new(alloc, "assemble").arg(place(alloc, "from"));
+    let parser = with_arg(parser, place(alloc, "to"));
+    let parser = with_arg(parser, place(alloc, "apid"));
+    with_arg(parser, place(alloc, "image"))
+}
+
+/// The command that these values give, if they give one.
+fn assemble_given(matches: &ArgMatches) -> Option<Command>
+    ensures gives { (words : List Text) → IsMatched assemble_app words (Some matches.now) → result ≡ assemble_of words }
+    ensures range { IsInRange result }
+{
+    let from = number_given(matches, "from", 0, u64::MAX)?;
+    let to = number_given(matches, "to", 0, u64::MAX)?;
+    let apid = number_given(matches, "apid", 0, MOST_APID)?;
+    let image = number_given(matches, "image", 0, MOST_IMAGE)?;
+    Some(Command::Assemble {
+        from,
+        to,
+        apid: apid as u16,
+        image: image as u16,
+    })
 }
 
 /// The command that words of `assemble` give, if they give one.
@@ -32,25 +49,8 @@ pub(crate) fn read_assemble(alloc: Global, words: &[String]) -> Result<Option<Co
     ensures gives { IfOk result (λ r. r ≡ assemble_of (map string_bytes words.now)) }
     ensures range { IfOk result IsInRange }
 {
-    let Some(matches) = matches_of(assemble_parser(alloc)?, words)? else {
-        return Ok(None);
-    };
-    let Some(from) = number_given(&matches, "from", 0, u64::MAX) else {
-        return Ok(None);
-    };
-    let Some(to) = number_given(&matches, "to", 0, u64::MAX) else {
-        return Ok(None);
-    };
-    let Some(apid) = number_given(&matches, "apid", 0, MOST_APID) else {
-        return Ok(None);
-    };
-    let Some(image) = number_given(&matches, "image", 0, MOST_IMAGE) else {
-        return Ok(None);
-    };
-    Ok(Some(Command::Assemble {
-        from,
-        to,
-        apid: apid as u16,
-        image: image as u16,
-    }))
+    match matches_by(assemble_parser(alloc), words)? {
+        Some(matches) => Ok(assemble_given(&matches)),
+        None => Ok(None),
+    }
 }

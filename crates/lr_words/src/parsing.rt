@@ -1,10 +1,11 @@
 ghost use Rattle.std.specs.Prelude.{◌≡◌, true, map, IfOk, string_bytes};
-ghost use Rattle.clap.specs.Words.{app_of};
+ghost use Rattle.clap.specs.Words.{App, app_of};
 ghost use Rattle.lr_words.specs.Words.{is_covered, IsMatched};
 
 use clap::error::ErrorKind;
 use clap::{ArgMatches, Command as Parser};
 use lr_bits::NoMemory;
+use std::alloc::AllocError;
 
 /// The matches of the words, of which the first is the command's name, or none where the command refuses them.
 pub(crate) fn matches_of<'a>(
@@ -21,4 +22,16 @@ pub(crate) fn matches_of<'a>(
             _ => Ok(None),
         },
     }
+}
+
+/// The same. Where memory was refused for the parser, it is refused here.
+pub(crate) fn matches_by<'a>(
+    parser: Result<Parser<'a>, AllocError>,
+    words: &'a [String],
+) -> Result<Option<ArgMatches<'a>>, NoMemory>
+    requires { IfOk parser (λ c. is_covered (app_of c) ≡ true) }
+    ensures { (app : App) → IfOk parser.entry (λ c. app_of c ≡ app)
+        → IfOk result (IsMatched app (map string_bytes words.entry.now)) }
+{
+    matches_of(parser?, words)
 }

@@ -1,36 +1,39 @@
-ghost use Rattle.std.specs.Prelude.{◌≡◌, map, IfOk, string_bytes};
-ghost use Rattle.lr_words.specs.Commands.{receive_of, IsInRange};
+ghost use Rattle.std.specs.Prelude.{◌≡◌, List, Some, map, IfOk, string_bytes};
+ghost use Rattle.clap.specs.Words.{Text};
+ghost use Rattle.lr_words.specs.Commands.{receive_app, receive_of, IsInRange};
+ghost use Rattle.lr_words.specs.Words.{IsMatched};
 
 use crate::arguments::intake_parser;
 use crate::command::Command;
-use crate::parsing::matches_of;
+use crate::parsing::matches_by;
 use crate::values::{any_input, line_code, most, workers};
+use clap::ArgMatches;
 use lr_bits::NoMemory;
 use std::alloc::Global;
+
+/// The command that these values give, if they give one.
+fn receive_given(matches: &ArgMatches) -> Option<Command>
+    ensures gives { (words : List Text) → IsMatched receive_app words (Some matches.now) → result ≡ receive_of words }
+    ensures range { IsInRange result }
+{
+    let workers = workers(matches)?;
+    let line = line_code(matches)?;
+    let input = any_input(matches, line)?;
+    let most = most(matches)?;
+    Some(Command::Receive {
+        input,
+        workers,
+        most,
+    })
+}
 
 /// The command that words of `receive` give, if they give one.
 pub(crate) fn read_receive(alloc: Global, words: &[String]) -> Result<Option<Command>, NoMemory>
     ensures gives { IfOk result (λ r. r ≡ receive_of (map string_bytes words.now)) }
     ensures range { IfOk result IsInRange }
 {
-    let Some(matches) = matches_of(intake_parser(alloc, "receive")?, words)? else {
-        return Ok(None);
-    };
-    let Some(workers) = workers(&matches) else {
-        return Ok(None);
-    };
-    let Some(line) = line_code(&matches) else {
-        return Ok(None);
-    };
-    let Some(input) = any_input(&matches, line) else {
-        return Ok(None);
-    };
-    let Some(most) = most(&matches) else {
-        return Ok(None);
-    };
-    Ok(Some(Command::Receive {
-        input,
-        workers,
-        most,
-    }))
+    match matches_by(intake_parser(alloc, "receive"), words)? {
+        Some(matches) => Ok(receive_given(&matches)),
+        None => Ok(None),
+    }
 }

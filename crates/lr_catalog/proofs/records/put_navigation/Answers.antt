@@ -9,6 +9,6 @@ returns c =
     let head = c.in_ok-extend.ensures in
     let name = c.in_ok-put_escaped.ensures
     ∙ ap (λ (t : List ℕ). c.extend.new.self ++ escaped_text t) c.trim_end.ensures in
-    put_three c.extend-2.result c.args.out.now (codes " navigation ") _ (projection_words c.args.navigation.now)
-    c.extend.new.self c.put_escaped.new.out c.as_bytes.result.now c.extend-2.new.self head.ok name
-    (c.as_bytes.ensures.value ∙ c.in_ok-words.ensures) c.extend-2.ensures.ok
+    put_three c.put_words.result c.args.out.now (codes " navigation ") _ (projection_words c.args.navigation.now)
+    c.extend.new.self c.put_escaped.new.out c.put_words.new.out head.ok name
+    (c.put_words.ensures.ok _ c.projection_words.ensures)

@@ -3,15 +3,15 @@ use Rattle.std.proofs.lemmas.Result.{err_from_is_err_and}
 use Rattle.lr_printing.proofs.PacketsGoOn.{packets_begun, all_packets, some_packets}
 use Rattle.lr_printing.proofs.packet_lines.put_each_packet.Goals as goal
 
-pub read-requires-clause-ready : goal.read-requires-clause-ready
-read-requires-clause-ready g c = (_, packets_begun g.O.Sink _ c.new-channels.ensures refl refl)
+pub read_alone-requires-clause-ready : goal.read_alone-requires-clause-ready
+read_alone-requires-clause-ready g c κs within = (_, packets_begun g.O.Sink _ c.new-channels.ensures refl refl)
 
 pub returns-in_err-totals-clause-stopped : goal.returns-in_err-totals-clause-stopped
 returns-in_err-totals-clause-stopped g c =
     let p = err_from_is_err_and c.from_residual.result c.from_residual.ensures.1 in
     let t = some_packets g.O.Sink g.S.Source c.args.reader.most
     (packets_begun g.O.Sink _ c.new-channels.ensures refl refl) _
-    (rw c.requires.input at c.in_err-totals.ensures.some) in
+    (rw c.requires.input at c.in_err-totals.ensures) in
     let same = t.0 in
     let stops = t.1 in
     rw (p.1, p.2) (search rules)
@@ -20,7 +20,7 @@ pub returns-clause-all : goal.returns-clause-all
 returns-clause-all g c =
     let t = all_packets g.O.Sink g.S.Source c.args.reader.most
     (packets_begun g.O.Sink _ c.new-channels.ensures refl refl)
-    (rw c.requires.input at c.in_ok-totals.ensures.all) in
+    (rw c.requires.input at c.in_ok-totals.ensures) in
     let same = t.0 in
     let all = t.1 in
     search rules

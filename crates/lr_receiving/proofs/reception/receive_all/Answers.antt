@@ -1,22 +1,25 @@
 use Rattle.std.proofs.Common.{rules, refl}
 use Rattle.std.proofs.lemmas.Result.{err_from_is_err_and}
-use Rattle.lr_receiving.proofs.Causing.{caused_beside, caused_same}
-use Rattle.lr_receiving.proofs.Taking.{shelver_begun, received_all, received_some, caused_end}
+use Rattle.lr_receiving.proofs.Causing.{first_beside, first_same, first_end}
+use Rattle.lr_receiving.proofs.Taking.{shelver_begun, shelver_ready, received_all, received_some}
 use Rattle.lr_receiving.proofs.reception.receive_all.Goals as goal
 
-pub read-requires-clause-ready : goal.read-requires-clause-ready
-read-requires-clause-ready g c =
-    (_, shelver_begun g.D.Disk g.O.Sink _ c.new-layers.ensures c.counts.ensures.value)
+pub read-requires : goal.read-requires
+read-requires g c =
+    let ready = c.requires.ready in
+    let stands = c.new-layers.ensures in
+    let counted = c.counts.ensures.value in
+    search (rules, shelver_ready)
 
 pub returns-in_err-totals-clause-kind : goal.returns-in_err-totals-clause-kind
 returns-in_err-totals-clause-kind g c =
     let p = err_from_is_err_and c.from_residual.result c.from_residual.ensures.1 in
-    rw (p.1, p.2) (c.in_err-totals.ensures.some.stops _
+    rw (p.1, p.2) ((c.requires.leads _ _ _ _ _ c.in_err-totals.ensures).stops _
     (shelver_begun g.D.Disk g.O.Sink _ c.new-layers.ensures c.counts.ensures.value)).kind
 
 pub returns-in_err-totals-clause-told_by_disk : goal.returns-in_err-totals-clause-told_by_disk
 returns-in_err-totals-clause-told_by_disk g c =
-    let stopped = c.in_err-totals.ensures.some.stops _
+    let stopped = (c.requires.leads _ _ _ _ _ c.in_err-totals.ensures).stops _
     (shelver_begun g.D.Disk g.O.Sink _ c.new-layers.ensures c.counts.ensures.value) in
     let same = stopped.on_same.same_disk in
     let told = stopped.told_by_disk in
@@ -24,7 +27,7 @@ returns-in_err-totals-clause-told_by_disk g c =
 
 pub returns-in_err-totals-clause-told_by_out : goal.returns-in_err-totals-clause-told_by_out
 returns-in_err-totals-clause-told_by_out g c =
-    let stopped = c.in_err-totals.ensures.some.stops _
+    let stopped = (c.requires.leads _ _ _ _ _ c.in_err-totals.ensures).stops _
     (shelver_begun g.D.Disk g.O.Sink _ c.new-layers.ensures c.counts.ensures.value) in
     let same = stopped.on_same.same_out in
     let told = stopped.told_by_out in
@@ -33,28 +36,28 @@ returns-in_err-totals-clause-told_by_out g c =
 pub returns-in_err-totals-clause-cause : goal.returns-in_err-totals-clause-cause
 returns-in_err-totals-clause-cause g c = λ works.
     let p = err_from_is_err_and c.from_residual.result c.from_residual.ensures.1 in
-    let stopped = c.in_err-totals.ensures.some.stops _
+    let stopped = (c.requires.leads _ _ _ _ _ c.in_err-totals.ensures).stops _
     (shelver_begun g.D.Disk g.O.Sink _ c.new-layers.ensures c.counts.ensures.value) in
     let same_disk = stopped.on_same.same_disk in
     let same_out = stopped.on_same.same_out in
-    let caused = caused_beside _ _ _ _ _ _ _ (stopped.caused works) in
+    let first = first_beside _ _ _ _ _ _ _ stopped.kind (stopped.caused works) in
     rw (p.1, p.2)
-    (caused_same g.D.Disk g.O.Sink _ _ _ _ _ _ _ _ _ caused (search rules) (search rules))
+    (first_same g.D.Disk g.O.Sink _ _ _ _ _ _ _ _ _ first (search rules) (search rules))
 
 pub returns-in_err-totals-clause-some : goal.returns-in_err-totals-clause-some
 returns-in_err-totals-clause-some g c =
     let p = err_from_is_err_and c.from_residual.result c.from_residual.ensures.1 in
     let begun = shelver_begun g.D.Disk g.O.Sink _ c.new-layers.ensures c.counts.ensures.value in
-    let some = c.in_err-totals.ensures.some in
+    let some = c.requires.leads _ _ _ _ _ c.in_err-totals.ensures in
     let stopped = some.stops _ begun in
     let same_disk = stopped.on_same.same_disk in
     let same_out = stopped.on_same.same_out in
-    let received = received_some g.S.Source g.D.Disk g.O.Sink c.args.reader.input c.args.reader.most begun _ some in
+    let received = received_some g.S.Source g.D.Disk g.O.Sink c.args.input c.args.most begun _ some in
     rw (p.1, p.2) (search rules)
 
 pub returns-clause-counts : goal.returns-clause-counts
 returns-clause-counts g c =
-    let all = c.in_ok-totals.ensures.all in
+    let all = c.requires.leads _ _ _ _ _ c.in_ok-totals.ensures in
     let took = all.taken _ (shelver_begun g.D.Disk g.O.Sink _ c.new-layers.ensures c.counts.ensures.value) in
     let same_disk = took.on_same.same_disk in
     let same_out = took.on_same.same_out in
@@ -64,13 +67,13 @@ returns-clause-counts g c =
 
 pub returns-clause-reason : goal.returns-clause-reason
 returns-clause-reason g c =
-    let all = c.in_ok-totals.ensures.all in
-    caused_end g.S.Source c.in_ok-totals.totals.stop c.args.reader.most all.bytes c.args.source.now c.read.new.source
+    let all = c.requires.leads _ _ _ _ _ c.in_ok-totals.ensures in
+    first_end g.S.Source c.in_ok-totals.totals.stop c.args.most all.bytes c.args.source.now _
     all.ends.reason
 
 pub returns-clause-told_by_disk : goal.returns-clause-told_by_disk
 returns-clause-told_by_disk g c =
-    let took = c.in_ok-totals.ensures.all.taken _
+    let took = (c.requires.leads _ _ _ _ _ c.in_ok-totals.ensures).taken _
     (shelver_begun g.D.Disk g.O.Sink _ c.new-layers.ensures c.counts.ensures.value) in
     let same = took.on_same.same_disk in
     let told = took.told_by_disk in
@@ -78,7 +81,7 @@ returns-clause-told_by_disk g c =
 
 pub returns-clause-told_by_out : goal.returns-clause-told_by_out
 returns-clause-told_by_out g c =
-    let took = c.in_ok-totals.ensures.all.taken _
+    let took = (c.requires.leads _ _ _ _ _ c.in_ok-totals.ensures).taken _
     (shelver_begun g.D.Disk g.O.Sink _ c.new-layers.ensures c.counts.ensures.value) in
     let same = took.on_same.same_out in
     let told = took.told_by_out in
@@ -87,11 +90,11 @@ returns-clause-told_by_out g c =
 pub returns-clause-all : goal.returns-clause-all
 returns-clause-all g c =
     let begun = shelver_begun g.D.Disk g.O.Sink _ c.new-layers.ensures c.counts.ensures.value in
-    let all = c.in_ok-totals.ensures.all in
+    let all = c.requires.leads _ _ _ _ _ c.in_ok-totals.ensures in
     let took = all.taken _ begun in
     let same_shelf = took.on_same.same_shelf in
     let same_disk = took.on_same.same_disk in
     let same_out = took.on_same.same_out in
-    let received = received_all g.S.Source g.D.Disk g.O.Sink c.args.reader.input c.args.reader.most begun
+    let received = received_all g.S.Source g.D.Disk g.O.Sink c.args.input c.args.most begun
     (record { totals = c.in_ok-totals.totals; counts = _ }) all refl in
     search rules

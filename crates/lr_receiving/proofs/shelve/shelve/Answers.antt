@@ -7,6 +7,9 @@ use Rattle.lr_shelf.specs.Append.{item_for}
 use Rattle.lr_shelf.specs.Kept.{kept_by}
 use Rattle.lr_causes.proofs.Results.{if_ok_on, if_err_one}
 use Rattle.lr_receiving.proofs.Shelving.{append_kind, append_stopped, shelved, line_stopped, rose_of, not_appended}
+use Rattle.lr_causes.specs.Causes.{counts}
+use Rattle.lr_receiving.specs.First.{IsFirst}
+use Rattle.lr_receiving.proofs.Causing.{append_works, first_refused}
 use Rattle.lr_receiving.proofs.shelve.shelve.Goals as goal
 
 pub returns-in-Err-clause-kind : goal.returns-in-Err-clause-kind
@@ -57,3 +60,19 @@ returns-in-Err-clause-grown_no_more g c =
 
 pub returns-in-Err-clause-shelved : goal.returns-in-Err-clause-shelved
 returns-in-Err-clause-shelved g c = search (rules, arith)
+
+pub returns-in-Err-clause-cause : goal.returns-in-Err-clause-cause
+returns-in-Err-clause-cause g c works =
+    rw c.from.ensures
+    (first_refused c.in-Err.error c.append.result 0 0 (g.D.Disk.faults c.args.disk.now)
+    (g.D.Disk.faults c.append.new.disk) (g.O.Sink.faults c.args.out.now) c.in-Err.is
+    (append_works (item_for c.args.placed.now) (kept_by c.args.shelf.now) c.in-Err.error c.in-Err.ensures.refused works)
+    c.append.ensures.adds.calls.counted)
+
+pub returns-clause-cause : goal.returns-clause-cause
+returns-clause-cause g c works =
+    if_err_one (λ cause. IsFirst cause
+    (counts 0 (g.D.Disk.faults c.args.disk.now) (g.O.Sink.faults c.args.out.now))
+    (counts 0 (g.D.Disk.faults c.append.new.disk) (g.O.Sink.faults c.put_text.new.out))) (Failed Output)
+    c.put_text.result c.put_text.ensures.cause c.put_text.ensures.failed
+    (λ fails. (fails.rose, c.in-Ok.ensures.adds.calls.counted))

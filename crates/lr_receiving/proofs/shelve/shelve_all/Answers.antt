@@ -1,7 +1,7 @@
 use Rattle.std.proofs.Common.{◌<◌, ◌≤◌, length, arith, ◌∙◌}
 use Rattle.std.proofs.lemmas.Result.{err_from_is_err_and}
 use Rattle.lr_receiving.proofs.Pieces.{all_done, one_stopped, one_more_done, grown_more, grown_stopped}
-use Rattle.lr_receiving.proofs.Causing.{caused_later}
+use Rattle.lr_receiving.proofs.Causing.{first_later}
 use Rattle.lr_receiving.proofs.shelve.shelve_all.Goals as goal
 
 pub returns-in_err-shelve-clause-stopped : goal.returns-in_err-shelve-clause-stopped
@@ -19,7 +19,7 @@ pub returns-in_err-shelve-clause-cause : goal.returns-in_err-shelve-clause-cause
 returns-in_err-shelve-clause-cause g c works =
     let inv = c.loop-placed.invariant in
     let p = err_from_is_err_and c.from_residual.result c.from_residual.ensures.1 in
-    rw (p.1, p.2) (caused_later _ 0 0 _ _ _ _ _ _ inv.disk_count inv.out_count
+    rw (p.1, p.2) (first_later _ 0 0 _ _ _ _ _ _ inv.disk_count inv.out_count
     (c.in_err-shelve.ensures.cause (inv.working works)))
 
 pub loop-placed-preserved : goal.loop-placed-preserved

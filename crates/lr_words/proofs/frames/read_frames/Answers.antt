@@ -1,6 +1,16 @@
-use Rattle.std.proofs.Common.{codes}
+use Rattle.std.proofs.Common.{codes, refl}
+use Rattle.std.proofs.lemmas.Result.{IfOk-weaker}
 use Rattle.lr_words.proofs.Covered.{symbols_covered}
 use Rattle.lr_words.proofs.frames.read_frames.Goals as goal
 
-pub matches_of-requires : goal.matches_of-requires
-matches_of-requires c = rw c.in_ok-symbols_parser.ensures (symbols_covered (codes "frames"))
+pub matches_by-requires : goal.matches_by-requires
+matches_by-requires c =
+    IfOk-weaker c.symbols_parser.result _ _ (λ p is. rw is (symbols_covered (codes "frames")))
+    c.symbols_parser.ensures
+
+pub returns-in-Some-clause-gives : goal.returns-in-Some-clause-gives
+returns-in-Some-clause-gives c =
+    c.frames_given.ensures.gives _ (rw c.in-Some.is at (c.in_ok-matches.ensures _ c.symbols_parser.ensures))
+
+pub returns-in-None-clause-gives : goal.returns-in-None-clause-gives
+returns-in-None-clause-gives c = rw (rw c.in-None.is at (c.in_ok-matches.ensures _ c.symbols_parser.ensures)) refl

@@ -1,5 +1,16 @@
+use Rattle.std.proofs.Common.{refl}
+use Rattle.std.proofs.lemmas.Result.{IfOk-weaker}
 use Rattle.lr_words.proofs.Covered.{init_covered}
 use Rattle.lr_words.proofs.init.read_init.Goals as goal
 
-pub matches_of-requires : goal.matches_of-requires
-matches_of-requires c = rw c.in_ok-init_parser.ensures init_covered
+pub matches_by-requires : goal.matches_by-requires
+matches_by-requires c =
+    IfOk-weaker c.init_parser.result _ _ (λ p is. rw is init_covered)
+    c.init_parser.ensures
+
+pub returns-in-Some-clause-gives : goal.returns-in-Some-clause-gives
+returns-in-Some-clause-gives c =
+    c.init_given.ensures.gives _ (rw c.in-Some.is at (c.in_ok-matches.ensures _ c.init_parser.ensures))
+
+pub returns-in-None-clause-gives : goal.returns-in-None-clause-gives
+returns-in-None-clause-gives c = rw (rw c.in-None.is at (c.in_ok-matches.ensures _ c.init_parser.ensures)) refl

@@ -1,5 +1,16 @@
+use Rattle.std.proofs.Common.{refl}
+use Rattle.std.proofs.lemmas.Result.{IfOk-weaker}
 use Rattle.lr_words.proofs.Covered.{make_covered}
 use Rattle.lr_words.proofs.make.read_make.Goals as goal
 
-pub matches_of-requires : goal.matches_of-requires
-matches_of-requires c = rw c.in_ok-make_parser.ensures make_covered
+pub matches_by-requires : goal.matches_by-requires
+matches_by-requires c =
+    IfOk-weaker c.make_parser.result _ _ (λ p is. rw is make_covered)
+    c.make_parser.ensures
+
+pub returns-in-Some-clause-gives : goal.returns-in-Some-clause-gives
+returns-in-Some-clause-gives c =
+    c.make_given.ensures.gives _ (rw c.in-Some.is at (c.in_ok-matches.ensures _ c.make_parser.ensures))
+
+pub returns-in-None-clause-gives : goal.returns-in-None-clause-gives
+returns-in-None-clause-gives c = rw (rw c.in-None.is at (c.in_ok-matches.ensures _ c.make_parser.ensures)) refl

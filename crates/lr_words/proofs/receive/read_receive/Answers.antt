@@ -1,9 +1,16 @@
-use Rattle.std.proofs.Common.{codes, rules, arith}
+use Rattle.std.proofs.Common.{codes, refl}
+use Rattle.std.proofs.lemmas.Result.{IfOk-weaker}
 use Rattle.lr_words.proofs.Covered.{intake_covered}
 use Rattle.lr_words.proofs.receive.read_receive.Goals as goal
 
-pub matches_of-requires : goal.matches_of-requires
-matches_of-requires c = rw c.in_ok-intake_parser.ensures (intake_covered (codes "receive"))
+pub matches_by-requires : goal.matches_by-requires
+matches_by-requires c =
+    IfOk-weaker c.intake_parser.result _ _ (λ p is. rw is (intake_covered (codes "receive")))
+    c.intake_parser.ensures
 
-pub returns-clause-gives : goal.returns-clause-gives
-returns-clause-gives c = search (rules, arith)
+pub returns-in-Some-clause-gives : goal.returns-in-Some-clause-gives
+returns-in-Some-clause-gives c =
+    c.receive_given.ensures.gives _ (rw c.in-Some.is at (c.in_ok-matches.ensures _ c.intake_parser.ensures))
+
+pub returns-in-None-clause-gives : goal.returns-in-None-clause-gives
+returns-in-None-clause-gives c = rw (rw c.in-None.is at (c.in_ok-matches.ensures _ c.intake_parser.ensures)) refl

@@ -1,5 +1,6 @@
-use Rattle.std.proofs.Common.{rules, ◌≤◌, ◌+◌, ◌-◌, length}
-use Rattle.lr_reading.proofs.Gathering.{piece_taken}
+use Rattle.std.proofs.Common.{rules, sym, ◌≤◌, ◌+◌, ◌-◌, length}
+use Rattle.lr_reading.proofs.Asking.{asked_once}
+use Rattle.lr_reading.proofs.Gathering.{none_taken, piece_taken}
 use Rattle.lr_reading.proofs.units.UnitFeed.take.Goals as goal
 
 pub returns-clause-gathered : goal.returns-clause-gathered
@@ -11,4 +12,16 @@ returns-clause-gathered g c =
     let few : inside.taken + c.in_ok-count.count ≤ inside.most = search rules in
     piece_taken g.S.Source c.args.source.now c.take.new.self c.args.self.now inside.buffer c.take.new.into
     inside.filled room c.in_ok-count.count inside.taken inside.most filled enough few
-    c.in_ok-count.ensures.told c.in_ok-count.ensures.moved c.self.view_is
+    c.in_ok-count.ensures.told c.in_ok-count.ensures.moved
+    (asked_once g.S.Source c.args.source.now c.take.new.self c.in_ok-count.ensures.asked) c.self.view_is
+
+pub returns-in_err-count-clause-gathered : goal.returns-in_err-count-clause-gathered
+returns-in_err-count-clause-gathered g c =
+    let inside = c.self.inside in
+    let room = inside.filled + c.if-left-room.most - inside.filled in
+    let filled : inside.filled ≤ length inside.buffer = search rules in
+    let few : inside.taken ≤ inside.most = search rules in
+    none_taken g.S.Source c.args.source.now c.take.new.self c.args.self.now inside.buffer c.take.new.into
+    inside.filled room inside.taken inside.most filled few c.in_err-count.ensures.told
+    (λ tells. sym (c.in_err-count.ensures.failed tells))
+    (asked_once g.S.Source c.args.source.now c.take.new.self c.in_err-count.ensures.asked) c.self.view_is

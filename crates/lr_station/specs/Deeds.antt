@@ -1,0 +1,66 @@
+-- What a command does to the outside. Several commands do the same, with other texts.
+use Rattle.std.specs.Prelude.{ℕ, List}
+use Rattle.lr_forms.specs.declared.forms.Stop.{Stop}
+use Rattle.lr_commands.specs.Asked.{Asked}
+use Rattle.lr_commands.specs.Assemble.{assemble_asked}
+use Rattle.lr_commands.specs.Export.{export_asked}
+use Rattle.lr_commands.specs.Extract.{extract_asked}
+use Rattle.lr_commands.specs.List.{list_asked}
+use Rattle.lr_commands.specs.Show.{show_asked}
+use Rattle.lr_commands.specs.Verify.{verify_asked}
+use Rattle.lr_forms.specs.declared.forms.Input.{Input}
+use Rattle.lr_forms.specs.declared.forms.Output.TheVariants.{Symbols}
+use Rattle.lr_printing.specs.Decode.{decode_text, decode_last}
+use Rattle.lr_printing.specs.Frames.{frames_text, frames_last}
+use Rattle.lr_printing.specs.Packets.{packets_text, packets_last}
+use Rattle.lr_receiving.specs.Made.{made_bytes}
+use Rattle.lr_words.specs.declared.command.Command.{Command}
+use Rattle.lr_words.specs.declared.command.Command.TheVariants.{
+  Init,
+  Frames,
+  Packets,
+  Decode,
+  Receive,
+  Extract,
+  List as ListAll,
+  Show,
+  Verify,
+  Export,
+  Assemble,
+  Discard,
+  Make,
+  Trial,
+}
+
+pub data Deed : Type 0 where
+  -- an empty shelf of this many bytes is made
+  MakesShelf : (capacity : ℕ) → Deed
+  -- these lines of the bytes read are put, and this last line; at most `most` bytes are taken
+  PutsLines : (lines : List ℕ → List ℕ) (last : List ℕ → Stop → List ℕ) (most : ℕ) → Deed
+  -- the mission files of the bytes read come onto the shelf
+  Shelves : (input : Input) (most : ℕ) → Deed
+  -- this is asked of the entries of the shelf
+  Asks : (asked : Asked) → Deed
+  -- the entry of this number is closed
+  Closes : (number : ℕ) → Deed
+  -- these bytes are put
+  PutsBytes : (bytes : List ℕ) → Deed
+  -- the files of these symbols come onto a shelf that is made for them
+  Tries : (symbols : List ℕ) → Deed
+
+-- How many work on windows changes nothing of what is said.
+abbrev pub deed_of : Command → Deed
+deed_of (Init capacity) = MakesShelf capacity
+deed_of (Frames most) = PutsLines frames_text frames_last most
+deed_of (Packets most) = PutsLines packets_text packets_last most
+deed_of (Decode input workers most) = PutsLines (decode_text input) (decode_last input) most
+deed_of (Receive input workers most) = Shelves input most
+deed_of (Extract number) = Asks (extract_asked number)
+deed_of ListAll = Asks list_asked
+deed_of (Show number) = Asks (show_asked number)
+deed_of Verify = Asks verify_asked
+deed_of (Export number) = Asks (export_asked number)
+deed_of (Assemble from to apid image) = Asks (assemble_asked from to apid image)
+deed_of (Discard number) = Closes number
+deed_of (Make start frames wrong form) = PutsBytes (made_bytes form start wrong frames)
+deed_of (Trial start frames wrong workers) = Tries (made_bytes Symbols start wrong frames)
