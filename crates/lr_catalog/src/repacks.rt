@@ -2,6 +2,7 @@
 ghost use Rattle.std.specs.Prelude.{◌≡◌, ◌++◌, IfOk, OnOk, OnErr, string_bytes};
 ghost use Rattle.lr_catalog.specs.Repacks.{repack_line};
 
+use crate::texts::put_words;
 use lr_bits::{Bytes, NoMemory};
 use std::alloc::{AllocError, Global};
 
@@ -31,6 +32,5 @@ pub fn repack_line(
     ensures ok { OnOk result (out.new ≡ out.old ++ repack_line number new before after) }
     ensures err { OnErr result (out.new ≡ out.old) }
 {
-    let line = repack_text(alloc, number, new, before, after)?;
-    out.extend(line.as_bytes())
+    put_words(repack_text(alloc, number, new, before, after), out)
 }

@@ -230,6 +230,7 @@ module _ {D O : Type 0} (disk : DiskOf D) (out : SinkOf O) (makes : Addition →
       may = tt;
       counted = counted;
       told = told;
+      told_by_out = λ t. t;
       leaves = inl (record { silent = refl; unwritten = unwritten });
       refused = λ refusal same t. cc (same);
       refuses = λ refusal t refused. inr tt;
@@ -241,6 +242,7 @@ module _ {D O : Type 0} (disk : DiskOf D) (out : SinkOf O) (makes : Addition →
       may = tt;
       counted = counted;
       told = told;
+      told_by_out = λ t. t;
       leaves = record { silent = refl; unwritten = unwritten };
       refused = λ refusal same t. cc (same);
       refuses = λ refusal t refused. inr tt;
@@ -257,6 +259,7 @@ module _ {D O : Type 0} (disk : DiskOf D) (out : SinkOf O) (makes : Addition →
       may = may;
       counted = same_counts disk out d d' o o count refl;
       told = told;
+      told_by_out = λ t. t;
       leaves = record { silent = refl; unwritten = unwritten };
       refused = λ r same t.
           subst (IsRefusedOver decides (disk.contents d)) (refused_is refusal r same) (over t);
@@ -394,6 +397,7 @@ module _ {D O : Type 0} (disk : DiskOf D) (out : SinkOf O) (makes : Addition →
           (subst (λ (r : Result A ShelfError). IsCounted (disk.faults d1) (disk.faults d2) r) is
           adding.calls.counted));
       told = told_both;
+      told_by_out = λ t. t;
       leaves = inr (
         refl,
         record {
@@ -454,6 +458,7 @@ module _ {D O : Type 0} (disk : DiskOf D) (out : SinkOf O) (makes : Addition →
         may = tt;
         counted = same_counts disk out d d2 o o2 count_both puts.kept;
         told = told_both;
+        told_by_out = puts.told;
         leaves = adds_item (Puts out) o2 puts;
         refused = λ r same t. cc (same);
         refuses = λ r t is. absurd (over_none (disk.contents d) r addition is (may_add fits t));
@@ -469,6 +474,7 @@ module _ {D O : Type 0} (disk : DiskOf D) (out : SinkOf O) (makes : Addition →
         may = tt;
         counted = (fails.rose, refl, count_both);
         told = told_both;
+        told_by_out = fails.told;
         leaves = adds_item (PutFails out) o2 fails;
         refused = λ r same t. cc (same);
         refuses = λ r t is. absurd (over_none (disk.contents d) r addition is (may_add fits t));

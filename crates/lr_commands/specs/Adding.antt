@@ -133,6 +133,7 @@ module _ {D O : Type 0} (disk : DiskOf D) (out : SinkOf O) (makes : Addition →
     pub may : MayEnd cause
     pub counted : Counted cause (counts_of disk out d o) (counts_of disk out d' o')
     pub told : disk.tells d → disk.tells d'
+    pub told_by_out : out.tells o → out.tells o'
     pub leaves : Leaves cause
     -- a refusal comes exactly where it stands, unless the disk failed or memory was refused; the item is added exactly
     -- where none stands
