@@ -11,9 +11,11 @@
 //! many files and counts the calls of the disk. `export` writes an image of 1,024 columns and lines as PGM, from a
 //! shelf in memory. `all` does `rs`, `path`, `lanes`, `narrow`, `lock`, `frame`, `layers`, `shelf-stream` and
 //! `shelf-memory`. A line for each says the rounds and what came of them, or a checksum of it.
-//! `lines`, `samples` and `export-lossless` have more words, and read coded lines from standard input.
+//! `lines`, `samples` and `export-lossless` have more words, and read coded lines from standard input; `code` and
+//! `coded` read samples, and code their lines.
 #![tactic(auto)]
 
+mod coding;
 mod export;
 mod layers;
 mod lines;
@@ -34,6 +36,9 @@ fn main(rt: HostRuntime) -> Result<(), Trouble> {
     let name = name.as_str();
     if matches!(name, "lines" | "samples") {
         return lines::run(&rt, name, &words[1..]);
+    }
+    if matches!(name, "code" | "coded") {
+        return coding::run(&rt, name, &words[1..]);
     }
     if name == "export-lossless" {
         return export::run_lossless(&rt, &words[1..]);

@@ -11,6 +11,7 @@ use Rattle.lr_causes.specs.declared.cause.Refusal.TheVariants.{
   Discarded,
   CannotExport,
   CannotSend,
+  CannotRepack,
 }
 use Rattle.lr_causes.specs.declared.cause.Cause.{Cause}
 use Rattle.lr_causes.specs.declared.cause.Cause.TheVariants.{Done, DoneWith, Usage, Failed, NoMemory, Refused}
@@ -29,6 +30,7 @@ use Rattle.lr_causes.specs.Kinds.{
   IsDiscarded,
   IsNoExport,
   IsNotSent,
+  IsNoRepack,
   kind_of,
   HasOneKind,
 }
@@ -41,7 +43,7 @@ kind_at n =
     else if n == 5 then HasFailed Output else if n == 6 then IsNotAShelf else if n == 7 then IsNoSuchFile
     else if n == 8 then IsNoExport else if n == 9 then IsNoMemory else if n == 10 then IsCapacity
     else if n == 11 then IsNotEmpty else if n == 12 then IsBadChecksum else if n == 13 then IsDiscarded
-    else IsNotSent
+    else if n == 15 then IsNotSent else IsNoRepack
 
 kind_is : (cause : Cause) → kind_at (status_of cause) ≡ kind_of cause
 kind_is Done = refl
@@ -59,6 +61,7 @@ kind_is (Refused BadChecksum) = refl
 kind_is (Refused Discarded) = refl
 kind_is (Refused (CannotExport fault)) = refl
 kind_is (Refused CannotSend) = refl
+kind_is (Refused (CannotRepack fault)) = refl
 
 pub one_kind : HasOneKind
 one_kind one other same = sym (kind_is one) ∙ ap kind_at same ∙ kind_is other

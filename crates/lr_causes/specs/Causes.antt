@@ -26,13 +26,14 @@ use Rattle.lr_causes.specs.declared.cause.Refusal.TheVariants.{
   Discarded,
   CannotExport,
   CannotSend,
+  CannotRepack,
 }
 use Rattle.lr_causes.specs.declared.cause.Cause.{Cause}
 use Rattle.lr_causes.specs.declared.cause.Cause.TheVariants.{Done, DoneWith, Usage, Failed, NoMemory, Refused}
 use Rattle.lr_causes.specs.declared.fault.ExportFault.{ExportFault}
 use Rattle.lr_causes.specs.declared.note.Note.{Note}
 use Rattle.lr_causes.specs.declared.note.Note.TheVariants.{Assembled}
-use Rattle.lr_causes.specs.Faults.{word_of}
+use Rattle.lr_causes.specs.Faults.{coding_word, word_of}
 
 abbrev pub status_of : Cause → ℕ
 status_of Done = 0
@@ -50,6 +51,7 @@ status_of (Refused (NotEmpty size)) = 11
 status_of (Refused BadChecksum) = 12
 status_of (Refused Discarded) = 13
 status_of (Refused CannotSend) = 15
+status_of (Refused (CannotRepack fault)) = 16
 
 abbrev pub note_line : Note → List ℕ
 note_line (Assembled added skipped uncovered) = codes "assembled " ++ decimal added ++ codes " skipped "
@@ -72,6 +74,7 @@ line_of (Refused BadChecksum) = codes "station: bad checksum\n"
 line_of (Refused Discarded) = codes "station: discarded\n"
 line_of (Refused (CannotExport fault)) = codes "station: cannot export: " ++ word_of fault ++ codes "\n"
 line_of (Refused CannotSend) = codes "station: cannot send: fill\n"
+line_of (Refused (CannotRepack fault)) = codes "station: cannot repack: " ++ coding_word fault ++ codes "\n"
 
 -- the cause of what a call on a shelf answers; a shelf that failed before answers as a disk that fails
 abbrev pub cause_of : ShelfError → Cause

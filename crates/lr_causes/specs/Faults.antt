@@ -25,6 +25,13 @@ use Rattle.lr_segment.specs.declared.fault.AssembleFault.TheVariants.{
   Outside as PastWhole,
   NoMemory as NoMemory',
 }
+use Rattle.lr_causes.specs.declared.fault.CodingFault.{CodingFault}
+use Rattle.lr_causes.specs.declared.fault.CodingFault.TheVariants.{
+  Depth as BelowFive,
+  Line as LongLine,
+  Header as LongHeader,
+  File as LongFile,
+}
 use Rattle.lr_causes.specs.declared.fault.ExportFault.{ExportFault}
 use Rattle.lr_causes.specs.declared.fault.ExportFault.TheVariants.{
   Headers,
@@ -44,6 +51,8 @@ use Rattle.lr_causes.specs.declared.fault.ExportFault.TheVariants.{
   Outside,
   NoSegment,
 }
+
+-- ---- no PGM
 
 -- of an image; want of memory is none
 abbrev pub image_fault : ImageFault → Option ExportFault
@@ -87,3 +96,11 @@ word_of Short = codes "short"
 word_of Depths = codes "depths"
 word_of Outside = codes "outside"
 word_of NoSegment = codes "no-segment"
+
+-- ---- no coding
+
+abbrev pub coding_word : CodingFault → List ℕ
+coding_word BelowFive = codes "depth"
+coding_word LongLine = codes "line"
+coding_word LongHeader = codes "header"
+coding_word LongFile = codes "file"

@@ -10,6 +10,7 @@ use Rattle.lr_causes.specs.declared.cause.Refusal.TheVariants.{
   Discarded,
   CannotExport,
   CannotSend,
+  CannotRepack,
 }
 use Rattle.lr_causes.specs.declared.cause.Cause.{Cause}
 use Rattle.lr_causes.specs.declared.cause.Cause.TheVariants.{Done, DoneWith, Usage, Failed, NoMemory, Refused}
@@ -29,6 +30,7 @@ pub data Kind : Type 0 where
   IsDiscarded : Kind
   IsNoExport : Kind
   IsNotSent : Kind
+  IsNoRepack : Kind
 
 abbrev pub kind_of : Cause → Kind
 kind_of Done = IsDone
@@ -44,6 +46,7 @@ kind_of (Refused BadChecksum) = IsBadChecksum
 kind_of (Refused Discarded) = IsDiscarded
 kind_of (Refused (CannotExport fault)) = IsNoExport
 kind_of (Refused CannotSend) = IsNotSent
+kind_of (Refused (CannotRepack fault)) = IsNoRepack
 
 -- equal statuses mean equal kinds
 abbrev pub HasOneKind : Type 0

@@ -1,5 +1,5 @@
 //! Why a call ends, and the status that it answers.
-use crate::fault::ExportFault;
+use crate::fault::{CodingFault, ExportFault};
 use crate::note::Note;
 use lr_bits::NoMemory;
 use lr_image::ImageFault;
@@ -33,6 +33,8 @@ pub enum Refusal {
     CannotExport(ExportFault),
     /// The next file is of the channel of fill, which no file is sent on.
     CannotSend,
+    /// The image that was found isn't coded anew.
+    CannotRepack(CodingFault),
 }
 
 /// Why a call ended.
@@ -71,6 +73,7 @@ impl Cause {
             Cause::Refused(Refusal::BadChecksum) => 12,
             Cause::Refused(Refusal::Discarded) => 13,
             Cause::Refused(Refusal::CannotSend) => 15,
+            Cause::Refused(Refusal::CannotRepack(_)) => 16,
         }
     }
 

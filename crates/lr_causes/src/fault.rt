@@ -1,4 +1,4 @@
-//! Why no PGM can be put.
+//! Why no PGM can be put, and why an image isn't coded anew.
 use lr_image::ImageFault;
 use lr_segment::AssembleFault;
 
@@ -83,6 +83,32 @@ impl ExportFault {
             ExportFault::Depths => "depths",
             ExportFault::Outside => "outside",
             ExportFault::NoSegment => "no-segment",
+        }
+    }
+}
+
+/// Why an image isn't coded anew: it has fewer than 5 bits a pixel, or a line, the header or the file would be too long.
+#[derive(Clone, Copy)]
+pub enum CodingFault {
+    Depth,
+    Line,
+    Header,
+    File,
+}
+
+impl CodingFault {
+    ghost use Rattle.std.specs.Prelude.{◌≡◌};
+    ghost use Rattle.lr_causes.specs.Faults.{coding_word};
+
+    /// Its word on `err`.
+    pub fn word(self) -> &'static str
+        ensures { result.now ≡ coding_word self }
+    {
+        match self {
+            CodingFault::Depth => "depth",
+            CodingFault::Line => "line",
+            CodingFault::Header => "header",
+            CodingFault::File => "file",
         }
     }
 }

@@ -3,7 +3,7 @@ ghost use Rattle.std.specs.Prelude.{◌≡◌, ◌≤◌, ◌+◌, ◌++◌, ◌
 ghost use Rattle.lr_causes.specs.Causes.{line_of};
 
 use crate::cause::{Cause, Party, Refusal};
-use crate::fault::ExportFault;
+use crate::fault::{CodingFault, ExportFault};
 use crate::note::Note;
 use itoa::Buffer;
 use std::marker::Model;
@@ -101,6 +101,17 @@ fn export_line(fault: ExportFault) -> Line
     line
 }
 
+/// The line of an image that isn't coded anew.
+fn coding_line(fault: CodingFault) -> Line
+    ensures { result ≡ line_of (Cause.Refused (Refusal.CannotRepack fault)) }
+{
+    let mut line = Line::new();
+    line.push(b"station: cannot repack: ");
+    line.push(fault.word().as_bytes());
+    line.push(b"\n");
+    line
+}
+
 /// The line of work that is done.
 fn note_line(note: Note) -> Line
     ensures { result ≡ line_of (Cause.DoneWith note) }
@@ -142,6 +153,7 @@ fn refusal_line(refusal: Refusal) -> Line
         Refusal::Discarded => fixed_line(b"station: discarded\n"),
         Refusal::CannotExport(fault) => export_line(fault),
         Refusal::CannotSend => fixed_line(b"station: cannot send: fill\n"),
+        Refusal::CannotRepack(fault) => coding_line(fault),
     }
 }
 

@@ -68,6 +68,7 @@ use Rattle.lr_causes.specs.declared.cause.Refusal.TheVariants.{
   Discarded,
   CannotExport,
   CannotSend,
+  CannotRepack,
 }
 use Rattle.lr_causes.specs.declared.cause.Cause.{Cause}
 use Rattle.lr_causes.specs.declared.cause.Cause.TheVariants.{Done, DoneWith, Usage, Failed, NoMemory, Refused}
@@ -113,11 +114,13 @@ module _ (number : ℕ) (way : Way) where
   one_refusal BadChecksum other is is' = absurd is
   one_refusal (CannotExport fault) other is is' = absurd is
   one_refusal CannotSend other is is' = absurd is
+  one_refusal (CannotRepack fault) other is is' = absurd is
   one_refusal (NoSuchFile count) (NotAShelf at) is is' = absurd is'
   one_refusal (NoSuchFile count) (NotEmpty size) is is' = absurd is'
   one_refusal (NoSuchFile count) BadChecksum is is' = absurd is'
   one_refusal (NoSuchFile count) (CannotExport fault) is is' = absurd is'
   one_refusal (NoSuchFile count) CannotSend is is' = absurd is'
+  one_refusal (NoSuchFile count) (CannotRepack fault) is is' = absurd is'
   one_refusal (NoSuchFile count) (NoSuchFile count') is is' = ap NoSuchFile (is.1 ∙ sym is'.1)
   one_refusal (NoSuchFile count) Discarded is is' = absurd (omega (arith, is.0, is'.0))
   one_refusal (NoSuchFile count) (Capacity needed most) is is' = absurd (omega (arith, is.0, is'.0.there))
@@ -126,6 +129,7 @@ module _ (number : ℕ) (way : Way) where
   one_refusal Discarded BadChecksum is is' = absurd is'
   one_refusal Discarded (CannotExport fault) is is' = absurd is'
   one_refusal Discarded CannotSend is is' = absurd is'
+  one_refusal Discarded (CannotRepack fault) is is' = absurd is'
   one_refusal Discarded (NoSuchFile count') is is' = absurd (omega (arith, is.0, is'.0))
   one_refusal Discarded Discarded is is' = refl
   one_refusal Discarded (Capacity needed most) is is' = cc (is.1, is'.0.stays)
@@ -134,6 +138,7 @@ module _ (number : ℕ) (way : Way) where
   one_refusal (Capacity needed most) BadChecksum is is' = absurd is'
   one_refusal (Capacity needed most) (CannotExport fault) is is' = absurd is'
   one_refusal (Capacity needed most) CannotSend is is' = absurd is'
+  one_refusal (Capacity needed most) (CannotRepack fault) is is' = absurd is'
   one_refusal (Capacity needed most) (NoSuchFile count') is is' = absurd (omega (arith, is.0.there, is'.0))
   one_refusal (Capacity needed most) Discarded is is' = cc (is.0.stays, is'.1)
   one_refusal (Capacity needed most) (Capacity needed' most') is is' =
@@ -146,6 +151,7 @@ module _ (number : ℕ) (way : Way) where
   not_free BadChecksum is free = absurd is
   not_free (CannotExport fault) is free = absurd is
   not_free CannotSend is free = absurd is
+  not_free (CannotRepack fault) is free = absurd is
   not_free (NoSuchFile count) is free = absurd (omega (arith, is.0, free.may_go.there))
   not_free Discarded is free = cc (is.1, free.may_go.stays)
   not_free (Capacity needed most) is free = absurd (omega (arith, is.1, free.fits))
@@ -164,6 +170,7 @@ on_way number bytes way is (NotEmpty size) refused = absurd refused.2
 on_way number bytes way is BadChecksum refused = absurd refused.2
 on_way number bytes way is (CannotExport fault) refused = absurd refused.2
 on_way number bytes way is CannotSend refused = absurd refused.2
+on_way number bytes way is (CannotRepack fault) refused = absurd refused.2
 on_way number bytes way is Discarded refused =
     subst (λ (w : Way). IsRefusedOn number w Discarded) ((has_one_way bytes).way refused.0 way refused.1 is) refused.2
 
@@ -177,6 +184,7 @@ of_way number bytes way is (NotEmpty size) refused = absurd refused
 of_way number bytes way is BadChecksum refused = absurd refused
 of_way number bytes way is (CannotExport fault) refused = absurd refused
 of_way number bytes way is CannotSend refused = absurd refused
+of_way number bytes way is (CannotRepack fault) refused = absurd refused
 of_way number bytes way is Discarded refused = (way, is, refused)
 
 -- bytes without a shelf have no other refusal
@@ -191,6 +199,7 @@ on_none number bytes at none (NotEmpty size) refused = absurd refused.2
 on_none number bytes at none BadChecksum refused = absurd refused.2
 on_none number bytes at none (CannotExport fault) refused = absurd refused.2
 on_none number bytes at none CannotSend refused = absurd refused.2
+on_none number bytes at none (CannotRepack fault) refused = absurd refused.2
 on_none number bytes at none Discarded refused = absurd ((has_one_way bytes).none refused.0 at refused.1 none)
 
 -- ---- nothing was written

@@ -1,3 +1,4 @@
+pub mod AddingRuns
 pub mod Answering
 pub mod Assembling
 pub mod Discarding
@@ -6,6 +7,7 @@ pub mod Filing
 pub mod Loading
 pub mod Reading
 pub mod Reasons
+pub mod Repacking
 pub mod Seeing
 pub mod Taking
 pub mod Texts

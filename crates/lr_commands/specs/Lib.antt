@@ -1,3 +1,4 @@
+pub mod Adding
 pub mod Asked
 pub mod Assemble
 pub mod Discard
@@ -8,6 +9,7 @@ pub mod Gathered
 pub mod Laws
 pub mod List
 pub mod Read
+pub mod Repack
 pub mod Runs
 pub mod Show
 pub mod Steps

@@ -1,11 +1,12 @@
-//! The commands that read the entries of a shelf, and `discard`.
+//! The commands that read the entries of a shelf, and those that add an item to it: `discard` and `repack`.
 //!
 //! A command that reads the entries of a shelf says what it asks of them, `Asked`: their range, at which images it
 //! looks, what becomes of each, a last text, and what it tells of its work. What it does to `out` and to the disk
 //! follows from that by one definition, `RunsOver` of `specs/Runs`, and one loop, `run_entries`, does it. A command
 //! that reads whole files implements `ReadsFiles` and is run by `Files`, which reads the images; one that looks at the
-//! entries in another way implements `ReadsEntries`. A command that adds an item has a record of its own, as `discard`
-//! has `RunsDiscard`: its refusals, its line, and what becomes of the disk.
+//! entries in another way implements `ReadsEntries`. A command that adds an item says what it decides of the bytes, an
+//! `Addition` or a refusal; what it does to `out` and to the disk follows from that by `RunsAdding` of `specs/Adding`, as
+//! for `repack`. `discard` has a record of its own, `RunsDiscard`.
 #![tactic(auto)]
 
 pub mod assemble;
@@ -21,6 +22,7 @@ mod opened;
 mod pgm;
 mod range;
 mod reads;
+pub mod repack;
 mod run;
 pub mod show;
 pub mod verify;

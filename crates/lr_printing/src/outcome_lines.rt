@@ -165,14 +165,7 @@ fn decode_with<
     S: Source,
     O: Sink,
     F: FnOnce(&mut S, &mut OutcomeLines<'_, O>) -> Result<Totals, Cause>,
->(
-    alloc: Global,
-    input: Input,
-    most: u64,
-    source: &mut S,
-    out: &mut O,
-    read: F,
-) -> Cause
+>(alloc: Global, input: Input, most: u64, source: &mut S, out: &mut O, read: F) -> Cause
     requires ready { MayLead (F.pre read) (OutcomesTook O.Sink) }
     requires leads { Leads (F.post read) S.Source (OutcomesTook O.Sink) (OutcomesStopped O.Sink) input most }
     ensures { Prints S.Source O.Sink (decode_text input) (decode_last input) most result source.old source.new
@@ -205,12 +198,19 @@ pub fn decode<S: Source, O: Sink>(
         Ok(reader) => reader,
         Err(NoMemory) => return Cause::NoMemory,
     };
-    decode_with(alloc, input, most, source, out, |source, lines| -> Result<Totals, Cause>
-        requires { ((reader.workers ≡ 1) × (reader.most ≤ 2 ^ 48))
-            × ((first : _) × OutcomesTook O.Sink first [] lines.old) }
-        ensures { IsLed S.Source (OutcomesTook O.Sink) reader.input reader.most (OutcomesStopped O.Sink) result
-            source.old source.new lines.old lines.new }
-    { reader.read_alone(source, lines) })
+    decode_with(
+        alloc,
+        input,
+        most,
+        source,
+        out,
+        |source, lines| -> Result<Totals, Cause>
+            requires { ((reader.workers ≡ 1) × (reader.most ≤ 2 ^ 48))
+                × ((first : _) × OutcomesTook O.Sink first [] lines.old) }
+            ensures { IsLed S.Source (OutcomesTook O.Sink) reader.input reader.most (OutcomesStopped O.Sink) result
+                source.old source.new lines.old lines.new }
+        { reader.read_alone(source, lines) },
+    )
 }
 
 /// What `decode` does, where this many work on windows of symbols, the caller among them.
@@ -233,9 +233,16 @@ pub fn decode_by_team<R: Threads + Wait + Sync, H: Hand, S: Source, O: Sink>(
         Ok(reader) => reader,
         Err(NoMemory) => return Cause::NoMemory,
     };
-    decode_with(alloc, input, most, source, out, |source, lines| -> Result<Totals, Cause>
-        requires { (reader.most ≤ 2 ^ 48) × ((first : _) × OutcomesTook O.Sink first [] lines.old) }
-        ensures { IsLed S.Source (OutcomesTook O.Sink) reader.input reader.most (OutcomesStopped O.Sink) result
-            source.old source.new lines.old lines.new }
-    { reader.read(rt, source, lines) })
+    decode_with(
+        alloc,
+        input,
+        most,
+        source,
+        out,
+        |source, lines| -> Result<Totals, Cause>
+            requires { (reader.most ≤ 2 ^ 48) × ((first : _) × OutcomesTook O.Sink first [] lines.old) }
+            ensures { IsLed S.Source (OutcomesTook O.Sink) reader.input reader.most (OutcomesStopped O.Sink) result
+                source.old source.new lines.old lines.new }
+        { reader.read(rt, source, lines) },
+    )
 }

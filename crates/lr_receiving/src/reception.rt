@@ -196,12 +196,20 @@ pub fn receive<S: Source, D: Disk, O: Sink>(
         Ok(reader) => reader,
         Err(NoMemory) => return Cause::NoMemory,
     };
-    receive_with(alloc, input, most, source, disk, out, |source, shelver| -> Result<Totals, Cause>
-        requires { ((reader.workers ≡ 1) × (reader.most ≤ 2 ^ 48))
-            × ((first : _) × ShelverTook D.Disk O.Sink first [] shelver.old) }
-        ensures { IsLed S.Source (ShelverTook D.Disk O.Sink) reader.input reader.most
-            (ShelverStopped D.Disk O.Sink) result source.old source.new shelver.old shelver.new }
-    { reader.read_alone(source, shelver) })
+    receive_with(
+        alloc,
+        input,
+        most,
+        source,
+        disk,
+        out,
+        |source, shelver| -> Result<Totals, Cause>
+            requires { ((reader.workers ≡ 1) × (reader.most ≤ 2 ^ 48))
+                × ((first : _) × ShelverTook D.Disk O.Sink first [] shelver.old) }
+            ensures { IsLed S.Source (ShelverTook D.Disk O.Sink) reader.input reader.most
+                (ShelverStopped D.Disk O.Sink) result source.old source.new shelver.old shelver.new }
+        { reader.read_alone(source, shelver) },
+    )
 }
 
 /// What `receive` does, where this many work on windows of symbols, the caller among them. The memory for their ring and
@@ -230,9 +238,17 @@ pub fn receive_by_team<R: Threads + Wait + Sync, H: Hand, S: Source, D: Disk, O:
         Ok(reader) => reader,
         Err(NoMemory) => return Cause::NoMemory,
     };
-    receive_with(alloc, input, most, source, disk, out, |source, shelver| -> Result<Totals, Cause>
-        requires { (reader.most ≤ 2 ^ 48) × ((first : _) × ShelverTook D.Disk O.Sink first [] shelver.old) }
-        ensures { IsLed S.Source (ShelverTook D.Disk O.Sink) reader.input reader.most
-            (ShelverStopped D.Disk O.Sink) result source.old source.new shelver.old shelver.new }
-    { reader.read(rt, source, shelver) })
+    receive_with(
+        alloc,
+        input,
+        most,
+        source,
+        disk,
+        out,
+        |source, shelver| -> Result<Totals, Cause>
+            requires { (reader.most ≤ 2 ^ 48) × ((first : _) × ShelverTook D.Disk O.Sink first [] shelver.old) }
+            ensures { IsLed S.Source (ShelverTook D.Disk O.Sink) reader.input reader.most
+                (ShelverStopped D.Disk O.Sink) result source.old source.new shelver.old shelver.new }
+        { reader.read(rt, source, shelver) },
+    )
 }

@@ -68,12 +68,7 @@ fn stream(alloc: Global, start: u64, frames: u64, wrong: u8) -> Result<Vec<u8>, 
 fn shelve_stream<
     D: Disk,
     F: FnOnce(&mut SureSource, &mut Shelver<'_, D, SureSink>) -> Result<Totals, Cause>,
->(
-    alloc: Global,
-    symbols: Vec<u8>,
-    disk: &mut D,
-    read: F,
-) -> Result<Sums, Cause>
+>(alloc: Global, symbols: Vec<u8>, disk: &mut D, read: F) -> Result<Sums, Cause>
     requires ready { MayLead (F.pre read) (ShelverTook D.Disk sure_sink) }
     requires leads { Leads (F.post read) sure_source (ShelverTook D.Disk sure_sink)
         (ShelverStopped D.Disk sure_sink) (Symbols standard) most_bytes }
@@ -92,7 +87,16 @@ fn shelve_stream<
     let mut source = SureSource::of(symbols);
     let mut lines = SureSink::new();
     let input = Input::Symbols(STANDARD);
-    receive_all(alloc, input, MOST_BYTES, &mut shelf, &mut source, disk, &mut lines, read)
+    receive_all(
+        alloc,
+        input,
+        MOST_BYTES,
+        &mut shelf,
+        &mut source,
+        disk,
+        &mut lines,
+        read,
+    )
 }
 
 /// What `trial` does once there is memory for reading: that for the symbols is taken, and the call `read` leads through
@@ -101,15 +105,7 @@ fn trial_with<
     D: Disk,
     O: Sink,
     F: FnOnce(&mut SureSource, &mut Shelver<'_, D, SureSink>) -> Result<Totals, Cause>,
->(
-    alloc: Global,
-    start: u64,
-    frames: u64,
-    wrong: u8,
-    disk: &mut D,
-    out: &mut O,
-    read: F,
-) -> Cause
+>(alloc: Global, start: u64, frames: u64, wrong: u8, disk: &mut D, out: &mut O, read: F) -> Cause
     requires few { frames ≤ 1024 }
     requires wrong { wrong ≤ 16 }
     requires ready { MayLead (F.pre read) (ShelverTook D.Disk sure_sink) }
@@ -161,12 +157,20 @@ pub fn trial<D: Disk, O: Sink>(
         Ok(reader) => reader,
         Err(NoMemory) => return Cause::NoMemory,
     };
-    trial_with(alloc, start, frames, wrong, disk, out, |source, shelver| -> Result<Totals, Cause>
-        requires { ((reader.workers ≡ 1) × (reader.most ≤ 2 ^ 48))
-            × ((first : _) × ShelverTook D.Disk sure_sink first [] shelver.old) }
-        ensures { IsLed sure_source (ShelverTook D.Disk sure_sink) reader.input reader.most
-            (ShelverStopped D.Disk sure_sink) result source.old source.new shelver.old shelver.new }
-    { reader.read_alone(source, shelver) })
+    trial_with(
+        alloc,
+        start,
+        frames,
+        wrong,
+        disk,
+        out,
+        |source, shelver| -> Result<Totals, Cause>
+            requires { ((reader.workers ≡ 1) × (reader.most ≤ 2 ^ 48))
+                × ((first : _) × ShelverTook D.Disk sure_sink first [] shelver.old) }
+            ensures { IsLed sure_source (ShelverTook D.Disk sure_sink) reader.input reader.most
+                (ShelverStopped D.Disk sure_sink) result source.old source.new shelver.old shelver.new }
+        { reader.read_alone(source, shelver) },
+    )
 }
 
 /// What `trial` does, where this many work on windows, the caller among them.
@@ -196,9 +200,17 @@ pub fn trial_by_team<R: Threads + Wait + Sync, H: Hand, D: Disk, O: Sink>(
         Ok(reader) => reader,
         Err(NoMemory) => return Cause::NoMemory,
     };
-    trial_with(alloc, start, frames, wrong, disk, out, |source, shelver| -> Result<Totals, Cause>
-        requires { (reader.most ≤ 2 ^ 48) × ((first : _) × ShelverTook D.Disk sure_sink first [] shelver.old) }
-        ensures { IsLed sure_source (ShelverTook D.Disk sure_sink) reader.input reader.most
-            (ShelverStopped D.Disk sure_sink) result source.old source.new shelver.old shelver.new }
-    { reader.read(rt, source, shelver) })
+    trial_with(
+        alloc,
+        start,
+        frames,
+        wrong,
+        disk,
+        out,
+        |source, shelver| -> Result<Totals, Cause>
+            requires { (reader.most ≤ 2 ^ 48) × ((first : _) × ShelverTook D.Disk sure_sink first [] shelver.old) }
+            ensures { IsLed sure_source (ShelverTook D.Disk sure_sink) reader.input reader.most
+                (ShelverStopped D.Disk sure_sink) result source.old source.new shelver.old shelver.new }
+        { reader.read(rt, source, shelver) },
+    )
 }

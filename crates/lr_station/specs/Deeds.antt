@@ -30,6 +30,7 @@ use Rattle.lr_words.specs.declared.command.Command.TheVariants.{
   Assemble,
   Transmit,
   Discard,
+  Repack,
   Make,
   Trial,
 }
@@ -47,6 +48,8 @@ pub data Deed : Type 0 where
   Sends : (from to wrong : ℕ) (line : LineCode) → Deed
   -- the entry of this number is closed
   Closes : (number : ℕ) → Deed
+  -- the image of the file of this number is coded anew in blocks of this many samples, and the new file is added
+  Repacks : (number block : ℕ) → Deed
   -- these bytes are put
   PutsBytes : (bytes : List ℕ) → Deed
   -- the files of these symbols come onto a shelf that is made for them
@@ -67,5 +70,6 @@ deed_of (Export number) = Asks (export_asked number)
 deed_of (Assemble from to apid image) = Asks (assemble_asked from to apid image)
 deed_of (Transmit from to wrong line) = Sends from to wrong line
 deed_of (Discard number) = Closes number
+deed_of (Repack number block) = Repacks number block
 deed_of (Make start frames wrong form) = PutsBytes (made_bytes form start wrong frames)
 deed_of (Trial start frames wrong workers) = Tries (made_bytes Symbols start wrong frames)

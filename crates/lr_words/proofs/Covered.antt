@@ -3,7 +3,16 @@ use Rattle.std.proofs.Common.{◌≡◌, true, refl}
 use Rattle.clap.proofs.OnLiterals.{clap_on_literals}
 use Rattle.clap.specs.Words.{Text}
 use Rattle.lr_words.specs.Arguments.{number_app, symbols_app, intake_app, stream_app}
-use Rattle.lr_words.specs.Commands.{init_app, list_app, verify_app, assemble_app, transmit_app, make_app, trial_app}
+use Rattle.lr_words.specs.Commands.{
+  init_app,
+  list_app,
+  verify_app,
+  assemble_app,
+  transmit_app,
+  make_app,
+  repack_app,
+  trial_app,
+}
 use Rattle.lr_words.specs.Words.{is_covered}
 
 pub number_covered : (name : Text) → is_covered (number_app name) ≡ true
@@ -37,6 +46,10 @@ assemble_covered = refl
 pub transmit_covered : is_covered transmit_app ≡ true
 unfolding is_covered transmit_app clap_on_literals
 transmit_covered = refl
+
+pub repack_covered : is_covered repack_app ≡ true
+unfolding is_covered repack_app clap_on_literals
+repack_covered = refl
 
 pub make_covered : is_covered make_app ≡ true
 unfolding is_covered make_app stream_app clap_on_literals

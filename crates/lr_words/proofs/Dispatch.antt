@@ -38,6 +38,7 @@ use Rattle.lr_words.specs.Commands.{
   assemble_of,
   transmit_of,
   discard_of,
+  repack_of,
   make_of,
   trial_of,
 }
@@ -59,10 +60,11 @@ pub other_name : (name : Text) (words : List Text)
     → (name ≡ codes "assemble" → ⊥)
     → (name ≡ codes "transmit" → ⊥)
     → (name ≡ codes "discard" → ⊥)
+    → (name ≡ codes "repack" → ⊥)
     → (name ≡ codes "make" → ⊥)
     → (name ≡ codes "trial" → ⊥)
     → None ≡ command_named name words
-other_name name words h0 h1 h2 h3 h4 h5 h6 h7 h8 h9 h10 h11 h12 h13 h14 =
+other_name name words h0 h1 h2 h3 h4 h5 h6 h7 h8 h9 h10 h11 h12 h13 h14 h15 =
     rw (
       differs _ _ h0,
       differs _ _ h1,
@@ -79,6 +81,7 @@ other_name name words h0 h1 h2 h3 h4 h5 h6 h7 h8 h9 h10 h11 h12 h13 h14 =
       differs _ _ h12,
       differs _ _ h13,
       differs _ _ h14,
+      differs _ _ h15,
     ) refl
 
 first_named : (words : List (String Global)) (name : String Global) → Some name ≡ slice_get words 0
@@ -140,6 +143,9 @@ at_transmit name words e = rw e refl
 pub at_discard : (name : Text) (words : List Text) → name ≡ codes "discard"
     → discard_of words ≡ command_named name words
 at_discard name words e = rw e refl
+
+pub at_repack : (name : Text) (words : List Text) → name ≡ codes "repack" → repack_of words ≡ command_named name words
+at_repack name words e = rw e refl
 
 pub at_make : (name : Text) (words : List Text) → name ≡ codes "make" → make_of words ≡ command_named name words
 at_make name words e = rw e refl

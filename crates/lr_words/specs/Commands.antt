@@ -1,7 +1,10 @@
 -- Which command the words give, if they give one.
 use Rattle.std.specs.Prelude.{
+  ◌≡◌,
+  ◌⊎◌,
   ◌≤◌,
   ◌^◌,
+  ◌==◌,
   ◌||◌,
   ℕ,
   Bool,
@@ -41,6 +44,7 @@ use Rattle.lr_words.specs.declared.command.Command.TheVariants.{
   Assemble,
   Transmit,
   Discard,
+  Repack,
   Make,
   Trial,
 }
@@ -181,6 +185,23 @@ discard_of words = if is_taken discard_app words
     then option_map (λ n. Discard n) (number_given 0 most_u64 (value_of discard_app words (codes "number")))
     else None
 
+-- `repack NUMBER BLOCK`
+unfoldable pub repack_app : App
+repack_app = with_rule (with_rule (new_app (codes "repack")) (place (codes "number"))) (place (codes "block"))
+
+-- a block has 8, 16, 32 or 64 samples
+abbrev pub block_of : ℕ → Option ℕ
+block_of n =
+    if n == 8 then Some 8 else if n == 16 then Some 16 else if n == 32 then Some 32
+    else if n == 64 then Some 64 else None
+
+abbrev pub repack_of : List Text → Option Command
+repack_of words = if is_taken repack_app words
+    then option_and_then (λ n. option_and_then (λ b. option_map (λ block. Repack n block) (block_of b))
+    (number_given 0 most_u64 (value_of repack_app words (codes "block"))))
+    (number_given 0 most_u64 (value_of repack_app words (codes "number")))
+    else None
+
 -- `make START FRAMES WRONG [--output symbols|blocks|frames]`
 unfoldable pub make_app : App
 make_app = with_rule (stream_app (codes "make")) (option (codes "output"))
@@ -223,6 +244,7 @@ command_named name words =
     else if bytes_eq name (codes "assemble") then assemble_of words
     else if bytes_eq name (codes "transmit") then transmit_of words
     else if bytes_eq name (codes "discard") then discard_of words
+    else if bytes_eq name (codes "repack") then repack_of words
     else if bytes_eq name (codes "make") then make_of words
     else if bytes_eq name (codes "trial") then trial_of words
     else None
@@ -234,7 +256,7 @@ command_of (name ∷ rest) = command_named name (name ∷ rest)
 -- whether a command of this name may change the shelf
 abbrev pub is_writing : Text → Bool
 is_writing name = bytes_eq name (codes "init") || bytes_eq name (codes "receive")
-    || bytes_eq name (codes "trial") || bytes_eq name (codes "discard")
+    || bytes_eq name (codes "trial") || bytes_eq name (codes "discard") || bytes_eq name (codes "repack")
 
 abbrev pub writes_shelf : List Text → Bool
 writes_shelf [] = false
@@ -253,6 +275,7 @@ IsInRange (Some (Decode input workers most)) = (most ≤ 2 ^ 48) × IsCrew worke
 IsInRange (Some (Receive input workers most)) = (most ≤ 2 ^ 48) × IsCrew workers
 IsInRange (Some (Assemble from to apid image)) = (apid ≤ 2046) × (image ≤ 65535)
 IsInRange (Some (Transmit from to wrong line)) = wrong ≤ 16
+IsInRange (Some (Repack number block)) = (block ≡ 8) ⊎ ((block ≡ 16) ⊎ ((block ≡ 32) ⊎ (block ≡ 64)))
 IsInRange (Some (Make start frames wrong form)) = (frames ≤ 65536) × (wrong ≤ 16)
 IsInRange (Some (Trial start frames wrong workers)) = ((frames ≤ 1024) × (wrong ≤ 16)) × IsCrew workers
 IsInRange _ = Unit {0}

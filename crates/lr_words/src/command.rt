@@ -66,6 +66,11 @@ pub enum Command {
     Discard {
         number: u64,
     },
+    /// Codes the image of the file of this number anew, in blocks of this many samples, and adds the file.
+    Repack {
+        number: u64,
+        block: u32,
+    },
     /// `frames` frames of the test stream of this start, with `wrong` wrong bytes in each word, in this form.
     Make {
         start: u64,

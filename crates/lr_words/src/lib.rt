@@ -22,6 +22,7 @@ mod packets;
 mod parsing;
 mod read;
 mod receive;
+mod repack;
 mod show;
 mod transmit;
 mod trial;

@@ -14,6 +14,7 @@ use crate::list::read_list;
 use crate::make::read_make;
 use crate::packets::read_packets;
 use crate::receive::read_receive;
+use crate::repack::read_repack;
 use crate::show::read_show;
 use crate::transmit::read_transmit;
 use crate::trial::read_trial;
@@ -45,6 +46,7 @@ pub fn read_words(alloc: Global, words: &[String]) -> Result<Option<Command>, No
         "assemble" => read_assemble(alloc, words),
         "transmit" => read_transmit(alloc, words),
         "discard" => read_discard(alloc, words),
+        "repack" => read_repack(alloc, words),
         "make" => read_make(alloc, words),
         "trial" => read_trial(alloc, words),
         _ => Ok(None),
@@ -55,10 +57,11 @@ pub fn read_words(alloc: Global, words: &[String]) -> Result<Option<Command>, No
 fn is_writing(name: &str) -> bool
     ensures { result ≡ is_writing name.now }
 {
-    name == "init" || name == "receive" || name == "trial" || name == "discard"
+    name == "init" || name == "receive" || name == "trial" || name == "discard" || name == "repack"
 }
 
-/// Whether the first word is that of a command that may change the shelf: `init`, `receive`, `trial` or `discard`.
+/// Whether the first word is that of a command that may change the shelf: `init`, `receive`, `trial`, `discard` or
+/// `repack`.
 pub fn writes_shelf(words: &[String]) -> bool
     ensures { result ≡ writes_shelf (map string_bytes words.now) }
 {

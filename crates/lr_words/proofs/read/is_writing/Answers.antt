@@ -1,5 +1,5 @@
 use Rattle.std.proofs.Common.{rules, arith}
 use Rattle.lr_words.proofs.read.is_writing.Goals as goal
 
-pub returns-else-eq-3 : goal.returns-else-eq-3
-returns-else-eq-3 c = search (rules, arith)
+pub returns-else-eq-4 : goal.returns-else-eq-4
+returns-else-eq-4 c = search (rules, arith)

@@ -17,6 +17,7 @@ use Rattle.lr_words.proofs.Dispatch.{
   at_assemble,
   at_transmit,
   at_discard,
+  at_repack,
   at_make,
   at_trial,
 }
@@ -110,6 +111,12 @@ returns-in-discard-clause-gives c =
     IfOk-weaker c.read_discard.result _ _ (λ r e. e ∙ at_discard _ _ c.in-discard.is ∙ first)
     c.read_discard.ensures.gives
 
+pub returns-in-repack-clause-gives : goal.returns-in-repack-clause-gives
+returns-in-repack-clause-gives c =
+    let first = is_first c.args.words.now c.in-Some.name.now c.as_str.result.now c.as_str.ensures.value
+    c.in-Some.ensures.value in
+    IfOk-weaker c.read_repack.result _ _ (λ r e. e ∙ at_repack _ _ c.in-repack.is ∙ first) c.read_repack.ensures.gives
+
 pub returns-in-make-clause-gives : goal.returns-in-make-clause-gives
 returns-in-make-clause-gives c =
     let first = is_first c.args.words.now c.in-Some.name.now c.as_str.result.now c.as_str.ensures.value
@@ -127,5 +134,5 @@ returns-in_default-as_str-clause-gives c =
     let not = c.in_default-as_str in
     other_name c.as_str.result.now _ not.not-init not.not-frames not.not-packets not.not-decode not.not-receive
     not.not-extract not.not-list not.not-show not.not-verify not.not-export not.not-assemble not.not-transmit
-    not.not-discard not.not-make not.not-trial
+    not.not-discard not.not-repack not.not-make not.not-trial
     ∙ is_first c.args.words.now c.in-Some.name.now c.as_str.result.now c.as_str.ensures.value c.in-Some.ensures.value

@@ -1,0 +1,179 @@
+//! Images of the shelf that are coded anew.
+use crate::shared::{OLD_SHELF, discards, disk, ended_with, sink, verifies, with_room};
+use lr_bits::{Bytes, Lengths, MissionFile, Origin, Placed};
+use lr_causes::Cause;
+use lr_commands::export::export;
+use lr_commands::repack::repack;
+use lr_disk::{Disk, MemDisk};
+use lr_io::{MemSink, Sink};
+use lr_shelf::Shelf;
+use lr_shelf_format::old_header_of;
+use std::alloc::Global;
+use std::test::Fail;
+
+/// What stands after the header of a shelf of version 1 with one file: an image of 8 bits, 8 columns and 2 lines that
+/// isn't compressed, in one body of 51 bytes. The shelf ends at 87.
+static IMAGE: [u8; 68] = [
+    1, 0, 0, 0x64, 0, 0, 0, 1, 0, 0, 0, 0x33, 0, 0x33, 0, 7, 0, 0, 0, 0, 0, 0, 0, 1, 0, 0, 0x10,
+    0, 0, 0, 0, 0x19, 0, 0, 0, 0, 0, 0, 0, 2, 1, 0, 9, 8, 0, 8, 0, 2, 0, 5, 5, 5, 5, 5, 5, 5, 5,
+    5, 6, 4, 5, 5, 5, 5, 5, 0x8E, 0x72, 0,
+];
+
+/// The line of a shelf on which it was coded anew in blocks of 8, and the image of both files.
+static LINE: [u8; 31] = *b"repacked 0 as 1 bytes 51 to 48\n";
+static PICTURE: [u8; 27] = *b"P5\n8 2\n255\n\x05\x05\x05\x05\x05\x05\x05\x05\x05\x06\x04\x05\x05\x05\x05\x05";
+
+/// A shelf of this capacity with the image, with one byte of it changed.
+fn image_shelf(alloc: Global, capacity: u64, place: usize, byte: u8) -> Result<MemDisk, Fail> {
+    let mut bytes = old_header_of(capacity)[..19].to_vec(alloc)?;
+    bytes.extend_from_slice(&IMAGE)?;
+    if let Some(one) = bytes.as_mut_slice().get_mut(place) {
+        *one = byte;
+    }
+    disk(alloc, bytes.as_slice())
+}
+
+/// The run with blocks of 8, over any disk and any sink.
+fn repacks<D: Disk, O: Sink>(alloc: Global, number: u64, disk: &mut D, out: &mut O) -> Cause {
+    repack(alloc, number, 8, disk, out)
+}
+
+/// Whether the run ends with this status, and puts this text.
+fn puts(
+    alloc: Global,
+    number: u64,
+    made: &mut MemDisk,
+    status: u8,
+    text: &[u8],
+) -> Result<bool, Fail> {
+    let mut out = sink(alloc)?;
+    let cause = repacks(alloc, number, made, &mut out);
+    Ok(ended_with(cause, &out, status, text))
+}
+
+/// Whether the shelf has this many good files.
+fn has_files(alloc: Global, made: &mut MemDisk, text: &[u8]) -> Result<bool, Fail> {
+    let mut out = sink(alloc)?;
+    let cause = verifies(alloc, made, &mut out);
+    Ok(ended_with(cause, &out, 0, text))
+}
+
+/// Whether the image of the file of this number is the one.
+fn shows_picture(alloc: Global, made: &mut MemDisk, number: u64) -> Result<bool, Fail> {
+    let mut out = sink(alloc)?;
+    let cause = export(alloc, number, made, &mut out);
+    Ok(ended_with(cause, &out, 0, &PICTURE))
+}
+
+/// Where the file of this number came from.
+fn origin_at(alloc: Global, made: &mut MemDisk, number: u64) -> Result<Option<Origin>, Fail> {
+    let mut shelf = Shelf::load(alloc, made)?;
+    Ok(shelf.get(made, number)?.origin)
+}
+
+/// Whether the run over a disk of which one call fails, counted from the run's first, ends with status 4, puts nothing,
+/// and leaves one file or two.
+fn stops_at(alloc: Global, after: u64) -> Result<bool, Fail> {
+    let mut made = image_shelf(alloc, 1_000, 1_000, 0)?;
+    made.fail_at(after);
+    let stopped = puts(alloc, 0, &mut made, 4, b"")?;
+    let one = has_files(alloc, &mut made, b"file 0 ok\n")?;
+    Ok(stopped && (one || has_files(alloc, &mut made, b"file 0 ok\nfile 1 ok\n")?))
+}
+
+#[test]
+fn the_new_file_has_the_image_of_the_old_one(rt: HostRuntime) -> Result<(), Fail> {
+    let alloc = rt.alloc();
+    let mut made = image_shelf(alloc, 1_000, 1_000, 0)?;
+    assert!(rt; puts(alloc, 0, &mut made, 0, &LINE)?);
+    assert!(rt; has_files(alloc, &mut made, b"file 0 ok\nfile 1 ok\n")?);
+    assert!(rt; shows_picture(alloc, &mut made, 0)? && shows_picture(alloc, &mut made, 1)?);
+    Ok(())
+}
+
+#[test]
+fn the_origin_stays_and_is_zero_for_an_old_file(rt: HostRuntime) -> Result<(), Fail> {
+    let alloc = rt.alloc();
+    let mut made = image_shelf(alloc, 1_000, 1_000, 0)?;
+    assert!(rt; puts(alloc, 0, &mut made, 0, &LINE)?);
+    let zeros = origin_at(alloc, &mut made, 1)?.ok_or("no origin")?;
+    assert!(rt; zeros.first == 0 && zeros.last == 0 && zeros.corrected == 0);
+    let mut shelf = Shelf::load(alloc, &mut made)?;
+    let file = shelf.get(&mut made, 0)?.file;
+    let origin = Origin {
+        first: 3,
+        last: 4,
+        corrected: 5,
+    };
+    let _ = shelf.append(&mut made, &Placed { file, origin })?;
+    assert!(rt; puts(alloc, 2, &mut made, 0, b"repacked 2 as 3 bytes 51 to 48\n")?);
+    let kept = origin_at(alloc, &mut made, 3)?.ok_or("no origin")?;
+    assert!(rt; kept.first == 3 && kept.last == 4 && kept.corrected == 5);
+    Ok(())
+}
+
+#[test]
+fn what_is_refused_leaves_the_shelf(rt: HostRuntime) -> Result<(), Fail> {
+    let alloc = rt.alloc();
+    let mut made = image_shelf(alloc, 1_000, 1_000, 0)?;
+    assert!(rt; puts(alloc, 1, &mut made, 7, b"")?);
+    assert!(rt; puts(alloc, 0, &mut disk(alloc, b"no shelf")?, 6, b"")?);
+    // A text is no image.
+    assert!(rt; puts(alloc, 0, &mut disk(alloc, &OLD_SHELF)?, 8, b"")?);
+    // Another byte of the image has another checksum.
+    assert!(rt; puts(alloc, 0, &mut image_shelf(alloc, 1_000, 80, 9)?, 12, b"")?);
+    assert!(rt; has_files(alloc, &mut made, b"file 0 ok\n")?);
+    let mut out = sink(alloc)?;
+    let _ = discards(alloc, 0, &mut made, &mut out);
+    assert!(rt; puts(alloc, 0, &mut made, 13, b"")?);
+    Ok(())
+}
+
+#[test]
+fn the_new_file_has_to_have_room(rt: HostRuntime) -> Result<(), Fail> {
+    let alloc = rt.alloc();
+    let mut full = image_shelf(alloc, 179, 1_000, 0)?;
+    assert!(rt; puts(alloc, 0, &mut full, 10, b"")? && has_files(alloc, &mut full, b"file 0 ok\n")?);
+    assert!(rt; puts(alloc, 0, &mut image_shelf(alloc, 180, 1_000, 0)?, 0, &LINE)?);
+    Ok(())
+}
+
+/// An image of 4 bits, 2 columns and 1 line.
+static NIBBLES: [u8; 36] = [
+    0, 7, 0, 0, 0, 0, 0, 0, 0, 1, 0x00, 0x00, 0x10, 0x00, 0x00, 0x00, 0x00, 0x19, 0, 0, 0, 0, 0, 0,
+    0, 2, 0x01, 0x00, 0x09, 4, 0, 2, 0, 1, 0, 0x12,
+];
+
+#[test]
+fn four_bits_have_a_status_of_their_own(rt: HostRuntime) -> Result<(), Fail> {
+    let alloc = rt.alloc();
+    let mut made = image_shelf(alloc, 1_000, 1_000, 0)?;
+    let mut lengths = Lengths::new(alloc);
+    let mut bytes = Bytes::new(alloc);
+    lengths.push(36)?;
+    bytes.extend(&NIBBLES)?;
+    let file = MissionFile::build(0, 100, lengths, bytes).ok_or("no file")?;
+    let origin = Origin {
+        first: 0,
+        last: 0,
+        corrected: 0,
+    };
+    let mut shelf = Shelf::load(alloc, &mut made)?;
+    let _ = shelf.append(&mut made, &Placed { file, origin })?;
+    assert!(rt; puts(alloc, 1, &mut made, 16, b"")?);
+    assert!(rt; has_files(alloc, &mut made, b"file 0 ok\nfile 1 ok\n")?);
+    Ok(())
+}
+
+#[test]
+fn an_output_or_a_disk_that_fails_ends_it(rt: HostRuntime) -> Result<(), Fail> {
+    let alloc = rt.alloc();
+    let mut made = image_shelf(alloc, 1_000, 1_000, 0)?;
+    let mut out: MemSink = with_room(alloc, 8)?;
+    let cause = repacks(alloc, 0, &mut made, &mut out);
+    assert!(rt; ended_with(cause, &out, 5, b"repacked"));
+    assert!(rt; has_files(alloc, &mut made, b"file 0 ok\nfile 1 ok\n")?);
+    assert!(rt; stops_at(alloc, 0)? && stops_at(alloc, 5)? && stops_at(alloc, 6)?);
+    assert!(rt; stops_at(alloc, 7)? && stops_at(alloc, 8)? && stops_at(alloc, 9)?);
+    Ok(())
+}
