@@ -65,7 +65,8 @@ JOBS = [
     ("trial 1 10 3 --workers 3", b"", b""),
     ("discard 1", b"", full),
     ("list", b"", full), ("show 7", b"", full), ("extract 7", b"", full), ("verify", b"", full),
-    ("export 7", b"", full), ("assemble 0 8 100 1", b"", full),
+    ("export 7", b"", full), ("assemble 0 8 100 1", b"", full), ("repack 7 16", b"", full),
+    ("transmit 0 8 16 --line nrz-m", b"", full),
     ("frames", frames, full), ("packets", frames, full), ("decode", symbols, full), ("decode --workers 3", symbols, full),
 ]
 
@@ -78,7 +79,7 @@ def is_sound(words, before, status, out, whole_out, whole_shelf):
         return now == before
     if name == "trial":
         return now == before or files() <= 9
-    if name == "discard":
+    if name in ("discard", "repack"):
         return now in (before, whole_shelf)
     if name == "receive":
         return files() == out.count(b"shelved ") and whole_out.startswith(out)

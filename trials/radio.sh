@@ -1,7 +1,6 @@
 #!/bin/sh
-# The symbols of a test stream, sent through a noisy channel and received again by GNU Radio (Debian's package of that
-# name; without it nothing is tried), give the lines of `receive` and `verify` that they give without it, but for the
-# last line's counts.
+# The files of a test stream are sent by `transmit` under each line code, led through a noisy channel and received again by GNU Radio
+# (Debian's package of that name; without it nothing is tried). `receive` of the soft symbols gives each file with its bytes.
 # Usage: trials/radio.sh. Needs rt and python3.
 top=$(cd "$(dirname "$0")/.." && pwd)
 for python in python3 /usr/bin/python3 none; do
@@ -14,15 +13,26 @@ trap 'rm -rf "$scratch"' EXIT
 station=$top/crates/lr_program/out/lr_program
 cd "$scratch" || exit 1
 
-"$station" - make 1 64 0 > sent || exit 1
-"$python" "$top/trials/radio.py" sent soft > radio.log 2>&1 || { cat radio.log; exit 1; }
-for name in sent soft; do
-    "$station" "$name.shelf" init 200000 > "$name.lines" || exit 1
-    "$station" "$name.shelf" receive < "$name" >> "$name.lines" || exit 1
-    "$station" "$name.shelf" verify > "$name.verified" || exit 1
+"$station" sent.shelf trial 1 64 0 || exit 1
+# Sends the 63 files with these options, and compares those that come back.
+send() {
+    "$station" sent.shelf transmit 0 63 0 "$@" > sent || exit 1
+    "$python" "$top/trials/radio.py" sent soft > radio.log 2>&1 || { cat radio.log; exit 1; }
+    rm -f soft.shelf
+    "$station" soft.shelf init 200000 > lines || exit 1
+    "$station" soft.shelf receive "$@" < soft >> lines || exit 1
+    tail -n 1 lines
+    number=0
+    while [ "$number" -lt 63 ]; do
+        "$station" sent.shelf extract "$number" > before || exit 1
+        "$station" soft.shelf extract "$number" > after || exit 1
+        cmp before after || exit 1
+        number=$((number + 1))
+    done
+}
+for line in nrz-l nrz-m; do
+    for g2 in inverted plain; do
+        send --line "$line" --g2 "$g2"
+    done
 done
-tail -n 1 soft.lines
-# (the last line counts the symbols too, of which more were received, and the frames that were found)
-sed '$d' sent.lines > sent.files
-sed '$d' soft.lines > soft.files
-cmp sent.files soft.files && cmp sent.verified soft.verified
+echo "63 files came back under each of 4 line codes"

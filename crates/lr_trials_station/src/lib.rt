@@ -37,6 +37,8 @@ mod streams;
 #[cfg(test)]
 mod symbols;
 #[cfg(test)]
+mod transmit;
+#[cfg(test)]
 mod trial;
 #[cfg(test)]
 mod words;

@@ -45,8 +45,8 @@ fn empty(alloc: Global, room: u64) -> Result<MemDisk, Fail> {
     Ok(MemDisk::of(alloc, Vec::new(alloc), room, 10_000)?)
 }
 
-// The disk that a trial leaves.
-fn tried_disk(alloc: Global) -> Result<MemDisk, Fail> {
+/// The disk that a trial leaves.
+pub fn tried_disk(alloc: Global) -> Result<MemDisk, Fail> {
     let mut disk = empty(alloc, 100_000)?;
     if gives_alone(alloc, &mut disk, &TRIAL, done_with(LINE))? {
         Ok(disk)

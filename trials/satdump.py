@@ -1,0 +1,85 @@
+"""What SatDump made of the files that `satdump.sh` sent, beside what it should have made. Usage: satdump.py STATION PIPELINE, in a
+folder with the shelf `shelf`, its list `listed`, and the folder PIPELINE that SatDump wrote. It has its own reader of PNG."""
+
+import os
+import struct
+import subprocess
+import sys
+import zlib
+
+sys.path.insert(0, os.path.join(os.path.dirname(os.path.abspath(__file__)), "..", "reference"))
+import make
+import uplink
+
+CADU, MARKER, FRAME = 1024, 4, 892
+
+
+def files(packets):
+    """The bodies of each file of these packets."""
+    found = []
+    for packet in map(bytes, packets):
+        flags, body = packet[2] >> 6, packet[6:-2]
+        if flags in (1, 3):
+            found.append([])
+        found[-1].append(body)
+    return found
+
+
+def printed(*words):
+    return subprocess.run([sys.argv[1], "shelf", *words], stdout=subprocess.PIPE, check=True).stdout
+
+
+def pixels_of_png(data):
+    """Columns, lines and the pixels of a PNG of 8 bits a pixel without colours."""
+    place, packed = 8, b""
+    while place < len(data):
+        size, kind = struct.unpack(">I4s", data[place : place + 8])
+        if kind == b"IHDR":
+            columns, lines, bits, colour = struct.unpack(">IIBB", data[place + 8 : place + 18])
+            assert (bits, colour) == (8, 0), (bits, colour)
+        if kind == b"IDAT":
+            packed += data[place + 8 : place + 8 + size]
+        place += size + 12
+    lines_read, before = [], [0] * columns
+    raw = zlib.decompress(packed)
+    for y in range(lines):
+        kind, *line = raw[(columns + 1) * y : (columns + 1) * (y + 1)]
+        for x in range(columns):
+            left, up, corner = (line[x - 1], before[x], before[x - 1]) if x else (0, before[x], 0)
+            guess = left + up - corner
+            paeth = min((left, up, corner), key=lambda value: abs(guess - value))
+            line[x] = (line[x] + [0, left, up, (left + up) // 2, paeth][kind]) % 256
+        lines_read.append(bytes(line))
+        before = line
+    return columns, lines, b"".join(lines_read)
+
+
+def pixels_of_pgm(data):
+    kind, size, most, pixels = data.split(b"\n", 3)
+    assert (kind, most) == (b"P5", b"255")
+    return (*map(int, size.split()), pixels)
+
+
+# a file of the list by its channel and counter
+stream = {0: files(make.image_stream(1, 8 * 4651)), 5: files(make.text_stream(1, 64 * 245))}
+listed = [line.split() for line in open("listed") if line.startswith("file")]
+sender, sent, texts, pictures = uplink.Sender(), [], {}, []
+for words in listed:
+    number, vc, apid, counter = words[1], int(words[3]), int(words[5]), int(words[7])
+    sent += sender.frames(vc, apid, stream[vc][counter])
+    if vc == 5:
+        texts["TEXT%04d" % counter] = printed("extract", number)
+    else:
+        pictures.append(pixels_of_pgm(printed("export", number)))
+
+folder = sys.argv[2]
+cadus = open(f"{folder}/{folder}.cadu", "rb").read()
+theirs = {cadus[place + MARKER : place + MARKER + FRAME] for place in range(0, len(cadus), CADU)}
+frames = sum(frame in theirs for frame in sent)
+same = sum(open(f"{folder}/LRIT/{name}", "rb").read() == text for name, text in texts.items() if os.path.exists(f"{folder}/LRIT/{name}"))
+found = []
+for path, _, names in os.walk(f"{folder}/IMAGES"):
+    found += [pixels_of_png(open(os.path.join(path, name), "rb").read()) for name in names if name.endswith(".png")]
+equal = sum(picture in found for picture in pictures)
+print(f"{folder}: {frames} of {len(sent)} frames, {same} of {len(texts)} text files, {equal} of {len(pictures)} pictures")
+sys.exit((frames, same, equal) != (len(sent), len(texts), len(pictures)) or len(found) != len(pictures))

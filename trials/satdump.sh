@@ -1,0 +1,41 @@
+#!/bin/sh
+# SatDump reads what `transmit` writes. The files of a test stream are sent with 16 wrong bytes in each word, with
+# `--line nrz-m --g2 plain` to its pipeline goes_hrit and with `--g2 plain` to goes_lrit. Each frame that should be sent (by
+# reference/uplink.py) is among its frames, byte for byte; each text file that it writes equals what `extract` writes, and each
+# picture what `export` writes, pixel by pixel.
+# Usage: trials/satdump.sh ROOT. ROOT is a folder with a Debian system that has SatDump, as
+#   mmdebstrap --variant=apt --include=satdump trixie ROOT
+# makes it; chroot enters it, so this runs as root. Without a ROOT nothing is tried. Needs rt and python3.
+top=$(cd "$(dirname "$0")/.." && pwd)
+root=$1
+if [ -z "$root" ]; then
+    echo "trials/satdump.sh: skipped, as no folder with SatDump is named"
+    exit 0
+fi
+scratch=$(mktemp -d "$root/tmp/satdump-trial.XXXXXX") || exit 1
+trap 'rm -rf "$scratch"' EXIT
+"$top/lritstation" - frames < /dev/null > "$scratch/build.log" 2>&1 || { cat "$scratch/build.log"; exit 1; }
+station=$top/crates/lr_program/out/lr_program
+cd "$scratch" || exit 1
+
+# orbits of one satellite, so that SatDump doesn't look for them on the network
+cat > orbits << 'ORBITS'
+TEST
+1 25544U 98067A   24001.50000000  .00016717  00000-0  10270-3 0  9005
+2 25544  51.6400 208.9163 0006317  69.9862  25.2906 15.49560000 10009
+ORBITS
+
+"$station" shelf trial 1 64 0 || exit 1
+"$station" shelf list > listed || exit 1
+# Sends all files with these options, and has SatDump's pipeline of this name read them.
+send() {
+    pipeline=$1
+    shift
+    "$station" shelf transmit 0 63 16 "$@" > symbols || exit 1
+    chroot "$root" sh -c "cd ${scratch#"$root"} && satdump $pipeline soft symbols $pipeline --tle_override orbits \
+        --max_fill_lines 50 --fill_missing false --write_lrit true" > "$pipeline.log" 2>&1 ||
+        { cat "$pipeline.log"; exit 1; }
+    python3 "$top/trials/satdump.py" "$station" "$pipeline" || exit 1
+}
+send goes_hrit --line nrz-m --g2 plain
+send goes_lrit --g2 plain
