@@ -11,8 +11,8 @@ It shares no code with the crates.
 
     uplink.py
 
-prints the checksums (CRC-16, x^16+x^12+x^5+1, from FFFF) of the frames of three files, of those of drawn lists of files, and of
-the symbols of a short file under each line code, with sixteen wrong bytes in each word (a symbol of -100 counts as 9C).
+prints the checksums (CRC-16, x^16+x^12+x^5+1, from FFFF) of the frames of three files, of those of drawn lists of files, of files of
+many sizes, and of the symbols of a short file under each line code, with sixteen wrong bytes in each word (a symbol of -100 counts as 9C).
 """
 
 import blocks
@@ -136,6 +136,14 @@ if __name__ == "__main__":
     for first, lists in ((0, 10), (10, 90), (100, 100)):
         sums = b"".join(drawn_sums(seed) for seed in range(first, first + lists))
         print(f"lists {first} to {first + lists - 1}: {len(sums) // 2} frames {blocks.crc(sums):04X}")
+    sender, sums = Sender(), b""
+    for size in (10, 65534, 876, 875, 874, 873, 872, 871, 870, 869, 877):
+        sums += b"".join(map(checksum, sender.frames(0, 100, [bytes([7] * size)])))
+    print(f"single bodies: {len(sums) // 2} frames {blocks.crc(sums):04X}")
+    sender, sums = Sender(), b""
+    for _ in range(17):
+        sums += b"".join(map(checksum, sender.frames(0, 100, [bytes([7] * 10)] + 999 * [b"\7"])))
+    print(f"17 files of 1,000 bodies: {len(sums) // 2} frames {blocks.crc(sums):04X}")
     (frame,) = Sender().frames(0, 100, [SHORT])
     for marks in (0, 1):
         for inverted in (1, 0):

@@ -7,4 +7,6 @@ mod drawn;
 #[cfg(test)]
 mod files;
 #[cfg(test)]
+mod sizes;
+#[cfg(test)]
 mod symbols;
