@@ -1,16 +1,14 @@
-//! Trials of the station: calls of `station` over sources, disks and sinks in memory, and over real files.
+//! Trials of the station: calls of `station` over sources, disks and sinks in memory, and over real files. `call`, `shelves`,
+//! `short` and `stated` are what other crates of trials share.
 #![tactic(auto)]
 
 #[cfg(test)]
 mod blocks;
-#[cfg(test)]
-mod call;
+pub mod call;
 #[cfg(test)]
 mod discards;
 #[cfg(test)]
 mod frames;
-#[cfg(test)]
-mod images;
 #[cfg(test)]
 mod init;
 #[cfg(test)]
@@ -20,25 +18,13 @@ mod limits;
 #[cfg(test)]
 mod listed;
 #[cfg(test)]
-mod made;
-#[cfg(test)]
 mod packets;
 #[cfg(test)]
 mod receive;
-#[cfg(test)]
-mod recording;
-#[cfg(test)]
-mod shelves;
+pub mod shelves;
 pub mod short;
-#[cfg(test)]
-mod stated;
+pub mod stated;
 #[cfg(test)]
 mod streams;
-#[cfg(test)]
-mod symbols;
-#[cfg(test)]
-mod transmit;
-#[cfg(test)]
-mod trial;
 #[cfg(test)]
 mod words;

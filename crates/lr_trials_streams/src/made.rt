@@ -1,5 +1,5 @@
 // `make`, and what the other commands make of what it writes.
-use crate::call::{
+use lr_trials_station::call::{
     AMPLE, Input, NEVER, Outcome, Room, done_with, ends_on, gives, gives_alone, gives_on,
     refused_with, written_bytes,
 };

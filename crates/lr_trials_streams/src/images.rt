@@ -1,10 +1,10 @@
 // `export` and `assemble`.
-use crate::call::{
+use lr_trials_station::call::{
     AMPLE, Outcome, done_with, gives_alone, printed_on, refused_with, written_bytes, written_on,
 };
 use crate::made::{LINES, reading, shelf};
-use crate::shelves::{FRAMES, TWO_FILES, disk, empty_shelf, with_byte};
-use crate::stated::{FRAME, header, idle};
+use lr_trials_station::shelves::{FRAMES, TWO_FILES, disk, empty_shelf, with_byte};
+use lr_trials_station::stated::{FRAME, header, idle};
 use lr_bits::crc16;
 use lr_disk::MemDisk;
 use std::alloc::Global;

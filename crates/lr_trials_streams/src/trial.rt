@@ -1,9 +1,9 @@
 // `trial`, and the shelf that it leaves.
-use crate::call::{
+use lr_trials_station::call::{
     AMPLE, Input, NEVER, Outcome, Room, done_with, ends_on, gives_alone, gives_on, refused_with,
     written_bytes, written_on,
 };
-use crate::shelves::disk_of_calls;
+use lr_trials_station::shelves::disk_of_calls;
 use lr_disk::MemDisk;
 use std::alloc::Global;
 use std::test::Fail;

@@ -1,9 +1,9 @@
 // `transmit`, and what `receive` makes of its symbols.
-use crate::call::{
+use lr_trials_station::call::{
     AMPLE, Input, NEVER, Outcome, Room, done_with, ends_on, gives_alone, gives_on, refused_with,
     written_on,
 };
-use crate::shelves::{TWO_FILES, disk, empty_shelf, with_byte};
+use lr_trials_station::shelves::{TWO_FILES, disk, empty_shelf, with_byte};
 use crate::trial::tried_disk;
 use lr_bits::{Bytes, Lengths, MissionFile, Origin, Placed};
 use lr_disk::MemDisk;
