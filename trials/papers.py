@@ -53,7 +53,7 @@ def is_path(token):
 def stands(token):
     """Whether a file or folder of this name is there: from the top, beside the documents, or in a crate."""
     token = token.rstrip("/")
-    for start in ("", "docs/", "crates/", "crates/*/", "crates/*/src/", "crates/*/specs/", "crates/*/proofs/", "trials/", "bench/", "reference/", "examples/"):
+    for start in ("", "docs/", "crates/", "crates/*/", "crates/*/src/", "crates/*/specs/", "crates/*/proofs/", "trials/", "bench/", "reference/", "examples/", "crates/*/must-fail/"):
         for end in ("", ".antt", ".rt"):
             if glob.glob(start + token + end):
                 return True
