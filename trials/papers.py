@@ -17,7 +17,7 @@ OTHERS = set(
     tail head pv nc netcat systemctl enable now journalctl daemon reload install usr local bin cmp pnmsplit pnmtopng pnmfile netpbm
     libfec libaec aec valgrind Restart RestartPreventExitStatus RuntimeMaxSec ExecStart mkfifo tee losetup strace rattle kit 13f
     rt must fail plant fmt tidy check anew jiff_core jiff_fmt stage times incremental Clock Recovery Symbol Sync Costas Loop Complex
-    Real Float Char File Sink simd""".split()
+    Real Float Char File Sink simd Lts Tie Proof""".split()
 )
 
 
