@@ -2,12 +2,6 @@
 # Decodes drawn lines that another coder coded (aec, of Debian's libaec-tools; without it nothing is tried), and compares the
 # samples. The lines are drawn by reference/lines.py, whose own codings aec decodes as well.
 # Usage: trials/lines.sh. Needs rt and python3.
-#
-# Another program of the field is SatDump, which receives whole streams. It isn't in Debian 12, so this is untried. It would be
-# compared so: `lritstation - make 1 64 0 > stream.soft` writes the symbols of 64 frames, one signed byte each, in the line code
-# NRZ-L with the second generator inverted. `satdump PIPELINE soft stream.soft out`, with a pipeline for these, leaves a file of
-# 1,024 bytes for each frame. The 892 bytes after the marker of 4 in each have to be those of the same frame in
-# `lritstation - make 1 64 0 --output frames`, and the files under `out` those that `lritstation SHELF extract N` writes.
 set -e
 top=$(cd "$(dirname "$0")/.." && pwd)
 if ! command -v aec > /dev/null; then echo "aec isn't installed: nothing was tried"; exit 0; fi

@@ -17,7 +17,7 @@ OTHERS = set(
     tail head pv nc netcat systemctl enable now journalctl daemon reload install usr local bin cmp pnmsplit pnmtopng pnmfile netpbm
     libfec libaec aec valgrind Restart RestartPreventExitStatus RuntimeMaxSec ExecStart mkfifo tee losetup strace rattle kit 13f
     rt must fail plant fmt tidy check anew jiff_core jiff_fmt stage times incremental Clock Recovery Symbol Sync Costas Loop Complex
-    Real Float Char File Sink simd""".split()
+    Real Float Char File Sink simd Lts Tie Proof""".split()
 )
 
 
@@ -53,7 +53,7 @@ def is_path(token):
 def stands(token):
     """Whether a file or folder of this name is there: from the top, beside the documents, or in a crate."""
     token = token.rstrip("/")
-    for start in ("", "docs/", "crates/", "crates/*/", "crates/*/src/", "crates/*/specs/", "crates/*/proofs/", "trials/", "bench/", "reference/", "examples/"):
+    for start in ("", "docs/", "crates/", "crates/*/", "crates/*/src/", "crates/*/specs/", "crates/*/proofs/", "trials/", "bench/", "reference/", "examples/", "crates/*/must-fail/"):
         for end in ("", ".antt", ".rt"):
             if glob.glob(start + token + end):
                 return True

@@ -1,4 +1,4 @@
--- What `assemble` keeps of the segments so far. Private functions alone cite this.
+-- What `assemble` keeps of the segments so far. No clause of a public call cites this.
 use Rattle.std.specs.Prelude.{◌≡◌, ◌+◌, ℕ, Bool, true, false, Option, Some, None, Result, Err, List, [], ◌∷◌, ◌++◌}
 use Rattle.std.specs.Prelude.{length}
 use Rattle.lr_segment.specs.Canvas.{Canvas, HasSizeOf, Member, StandsFor}

@@ -1,4 +1,4 @@
--- The bytes that a disk in memory would be left with.
+-- The bytes that a disk in memory would be left with. No clause of a public call cites this.
 use Rattle.std.specs.Prelude.{◌≡◌, length}
 use Rattle.lr_disk.specs.Mem.{State}
 use Rattle.lr_disk.specs.Stop.{with_filler}

@@ -1,4 +1,5 @@
 -- A call that is lent a source and a consumer, and leads the consumer through this input, whoever works.
+-- No clause of a public call cites this.
 use Rattle.std.specs.Prelude.{ℕ, List, [], Result}
 use denote.Ref.{MutBor}
 use Rattle.lr_io.specs.declared.source.Source.{Ghosts as SourceOf}

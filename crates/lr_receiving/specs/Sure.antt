@@ -1,4 +1,5 @@
 -- The source and the sink of a trial, which never fail. A closure's clause names them by these words.
+-- No clause of a public call cites this.
 use Rattle.std.specs.Prelude.{[]}
 use Rattle.lr_io.specs.SureSource.{left_of}
 use Rattle.lr_io.specs.declared.sink.Sink.{Ghosts as SinkOf}

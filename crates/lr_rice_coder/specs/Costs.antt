@@ -1,4 +1,4 @@
--- What the search for the shortest option knows on its way.
+-- What the search for the shortest option knows on its way. No clause of a public call cites this.
 use Rattle.std.specs.Prelude.{◌<◌, ◌≤◌, ◌+◌, ◌-◌, ◌/◌, ◌^◌, ℕ, List, length}
 use Rattle.std.specs.List.{sum_by}
 

@@ -1,4 +1,4 @@
--- What the steps of coding a file anew do.
+-- What the steps of coding a file anew do. No clause of a public call cites this.
 use Rattle.std.specs.Prelude.{◌≡◌, ◌<◌, ◌≤◌, ◌+◌, ◌*◌, ◌^◌, ℕ, List, [], ◌∷◌, ◌++◌, length, map}
 use Rattle.std.specs.List.{concat, sum_by}
 use Rattle.lr_bits.specs.File.{File, IsFile, counter_of}

@@ -1,4 +1,4 @@
--- A line as it is written, part by part.
+-- A line as it is written, part by part. No clause of a public call cites this.
 use Rattle.std.specs.Prelude.{◌≡◌, ◌<◌, ◌≤◌, ◌*◌, ◌^◌, ◌==◌, ℕ, List, ◌++◌, length, slice_index}
 use Rattle.lr_rice.specs.CodedLines.{Form, block_count, form_of, greatest, left_in_segment, part_string, span_of}
 use Rattle.lr_rice.specs.CodedLines.{string_from}

@@ -1,4 +1,4 @@
--- What an uplink of `transmit` stands for. Only private functions cite this file.
+-- What an uplink of `transmit` stands for. No clause of a public call cites this.
 use Rattle.std.specs.Prelude.{ℕ, List, length, take, drop}
 use Rattle.lr_bits.specs.File.{File}
 use Rattle.lr_conv.specs.declared.line.LineCode.{LineCode}

@@ -1,5 +1,4 @@
--- The bytes of a packet that is being sent, which are the file's but for its header and its checksum. The contracts of
--- the private functions cite these words.
+-- The bytes of a packet that is being sent, which are the file's but for its header and its checksum.
 use Rattle.std.specs.Prelude.{◌≡◌, ◌<◌, ◌≤◌, ℕ, ◌+◌, ◌++◌, List, length, take, drop, replicate, slice_index_or, []}
 use Rattle.std.specs.Prelude.{Option, MatchOption, Some, ◌==◌, ◌&&◌, if◌then◌else◌}
 use Rattle.std.specs.Int.{bytes_high_first}

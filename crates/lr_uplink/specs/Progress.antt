@@ -1,4 +1,4 @@
--- How far an uplink has come: of a file that is being sent, and of all files. Only private functions cite this file.
+-- How far an uplink has come: of a file that is being sent, and of all files.
 use Rattle.std.specs.Prelude.{◌≡◌, ◌<◌, ℕ, ◌+◌, ◌*◌, ◌%◌, ◌^◌, ◌++◌, ◌==◌, if◌then◌else◌, List, [], ◌∷◌, length}
 use Rattle.std.specs.Prelude.{drop, slice_index, unwrap_or, Option, Some, None}
 use Rattle.std.specs.List.{concat}
