@@ -120,7 +120,7 @@ behind_lead : (first : Bool) (block : ℕ) (values : List ℕ) → length values
 behind_lead true block values size = omega (arith, size)
 behind_lead false block values size = omega (arith, size)
 
--- a block that isn't part of a zero block has four bits or more behind its head
+-- a block that isn't part of a zero block has four bits or more after its head
 single-long : (bits block : ℕ) (first : Bool) (left reference : ℕ) (part : Part) → 8 ≤ block → block % 2 ≡ 0
     → 5 ≤ bits → IsSingle (option_of part) → IsPart bits block first left part →
     short_width bits + extra bits first reference + 4 ≤ length (part_string bits first reference part)

@@ -127,7 +127,7 @@ module _ (vc counter : ℕ) (packets : List (List ℕ)) (channel : vc < 63) (tel
     long : (t : ℕ) → t < total → length (frame t).zone ≡ 884
     long t inside = ap length (reads t).zone_is ∙ zone_long packets t (omega (arith, whole))
 
-    -- behind the last zone nothing is left
+    -- after the last zone nothing is left
     nothing : (back : List (List ℕ)) → Each TellsItsLength back → length (concat back) ≡ 0 → back ≡ []
     nothing [] tells e = refl
     nothing (packet ∷ back) tells e = absurd (omega (arith, length-append packet (concat back), tells.0))

@@ -37,7 +37,7 @@ module _ (sending : Sending) (file : File) (count : ℕ) (rest : List ℕ) (part
       ∙ sym (get_or_append_left (drop sending.sent own) (concat (drop (suc sending.index) packets)) 0 0 within)
       ∙ ap (λ bytes. get_or bytes 0 0) (sym rest_of)
 
-  -- what is left behind it
+  -- what is left after it
   pub behind_byte : sending.sent < size_of sending.packet →
       drop 1 rest ≡ drop (sending.sent + 1) (packet_bytes sending.packet (bytes_of file))
       ++ concat (drop (sending.index + 1) packets)
@@ -49,7 +49,7 @@ module _ (sending : Sending) (file : File) (count : ℕ) (rest : List ℕ) (part
       ∙ drop-append-le 1 (drop sending.sent bytes) (concat (drop (sending.index + 1) packets)) enough
       ∙ ap (λ xs. xs ++ concat (drop (sending.index + 1) packets)) (drop-drop 1 sending.sent bytes)
 
-  -- where all of the packet is sent, what is left is the packets behind it
+  -- where all of the packet is sent, what is left is the packets after it
   pub all_sent : sending.sent ≡ size_of sending.packet → rest ≡ concat (drop (suc sending.index) packets)
   all_sent e =
       rest_of ∙ ap (λ xs. xs ++ concat (drop (suc sending.index) packets))

@@ -22,7 +22,7 @@ use Rattle.lr_uplink.proofs.Zones.{Within, first_pointer, no_start, next_start}
 
 -- ---- lists of lists
 
--- behind some bytes
+-- after some bytes
 pub drop-behind : (xs ys : List ℕ) (k n : ℕ) → n ≡ length xs + k → drop n (xs ++ ys) ≡ drop k ys
 drop-behind xs ys k n e =
     ap (λ m. drop m (xs ++ ys)) e ∙ sym (drop-drop k (length xs) (xs ++ ys))
@@ -61,7 +61,7 @@ one_of (suc i) (x ∷ xs) =
     (length-append x (concat (take i xs))))
     ∙ one_of i xs
 
--- those behind some of them
+-- those after some of them
 pub split_at : (i : ℕ) (xs : List (List ℕ)) → i < length xs → xs ≡ take i xs ++ get_or xs i [] ∷ drop (suc i) xs
 split_at i xs inside =
     sym (take-append-drop i xs) ∙ ap (λ ys. take i xs ++ ys) (drop-cons xs i [] inside)
@@ -147,7 +147,7 @@ file_packets_few count file =
       few_idle left,
     )
 
--- the idle packet, behind those of the bodies
+-- the idle packet, after those of the bodies
 behind_bodies : (packets idle : List (List ℕ)) (bytes : List ℕ) (n : ℕ) (o : Option Packet) → length packets ≡ n →
     IsPacketOf idle bytes 0 o → IsPacketOf (packets ++ idle) bytes n o
 behind_bodies packets idle bytes n None e h = omega (arith, length-append packets idle, h)

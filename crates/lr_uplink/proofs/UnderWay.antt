@@ -232,7 +232,7 @@ module _ (counters : List ℕ) (sending : Sending) (files : List File) (given : 
       ∙ sym (get_or-append-add (sent before) (file_frames before file) way.frames [])
       ∙ ap₂ (λ (fs : List (List ℕ)) n. get_or fs n []) (sym sent_is) (sym way.count)
 
-  -- the counters behind it
+  -- the counters after it
   module _ (wide : length counters ≡ 64) (counter : ℕ) (is : counter ≡ (get_or counters file.vc 0 + 1) %
       4294967296) where
     abbrev later : List ℕ

@@ -1,5 +1,5 @@
 -- Zone after zone of packets that are sent one after another: the packets that end in a zone, and the one that is open
--- behind it.
+-- after it.
 use Rattle.std.proofs.Common.{◌≡◌, ℕ, ◌+◌, ◌-◌, ◌*◌, ◌<◌, ◌≤◌, ◌⊎◌, ◌&&◌, true, false, List, [], ◌∷◌}
 use Rattle.std.proofs.Common.{◌++◌, map, length, take, drop, refl, sym, ap, ap₂, ◌∙◌, subst, arith, append-nil}
 use Rattle.std.proofs.Common.{append_assoc, length-append, length-drop, drop-drop, drop_at, ltb, leb, eqb, lt-ltb}
@@ -158,7 +158,7 @@ module _ (packets : List (List ℕ)) (tell : Each TellsItsLength packets) where
   module _ (t : ℕ) (frame : Fields) (later : List ℕ) (long : length frame.zone ≡ 884)
       (stream : frame.zone ++ later ≡ drop (884 * t) (concat packets)) (pointer : frame.pointer ≡ pointer_at
       packets t) where
-    -- the stream behind the packets that are done
+    -- the stream after the packets that are done
     behind : (done back : List (List ℕ)) → packets ≡ done ++ back → length (concat done) ≡ 884 * t →
         frame.zone ++ later ≡ concat back
     behind done back split size =
