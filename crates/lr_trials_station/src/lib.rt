@@ -28,6 +28,8 @@ mod receive;
 #[cfg(test)]
 mod recording;
 #[cfg(test)]
+mod repacks;
+#[cfg(test)]
 mod shelves;
 pub mod short;
 #[cfg(test)]

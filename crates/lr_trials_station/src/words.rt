@@ -6,7 +6,7 @@ use std::alloc::{AllocError, Global};
 use std::test::Fail;
 
 /// Words with a space between them, and the command that they give.
-const READ: [(&str, &str); 46] = [
+const READ: [(&str, &str); 48] = [
     ("init 100", "init 100"),
     ("init -- 100", "init 100"),
     ("init 00000000000000000100", "init 100"),
@@ -19,6 +19,8 @@ const READ: [(&str, &str); 46] = [
         "extract 18446744073709551615",
     ),
     ("discard 7", "discard 7"),
+    ("repack 7 16", "repack 7 16"),
+    ("repack -- 0 08", "repack 0 8"),
     ("list", "list"),
     ("list --", "list"),
     ("show 7", "show 7"),
@@ -95,7 +97,7 @@ const READ: [(&str, &str); 46] = [
 ];
 
 /// Words of which the arguments don't fit the command.
-const WRONG_ARGUMENTS: [&str; 37] = [
+const WRONG_ARGUMENTS: [&str; 39] = [
     "",
     " ",
     "init",
@@ -109,6 +111,8 @@ const WRONG_ARGUMENTS: [&str; 37] = [
     "extract -- -- 0",
     "extract 0 --symbols 5",
     "discard",
+    "repack 0",
+    "repack 0 8 8",
     "list 0",
     "list -- x",
     "show",
@@ -189,7 +193,11 @@ const NO_COMMAND: [&str; 22] = [
 ];
 
 /// Words of which a value is none.
-const WRONG_VALUES: [&str; 49] = [
+const WRONG_VALUES: [&str; 53] = [
+    "repack 0 10",
+    "repack 0 0",
+    "repack 0 x",
+    "repack x 8",
     "init 19",
     "init 1099511627777",
     "init +100",
@@ -311,6 +319,7 @@ fn text_of(alloc: Global, command: Command) -> Result<String, AllocError> {
             image,
         } => format!(in alloc; "assemble {from} {to} {apid} {image}"),
         Command::Discard { number } => format!(in alloc; "discard {number}"),
+        Command::Repack { number, block } => format!(in alloc; "repack {number} {block}"),
         Command::Make {
             start,
             frames,
@@ -398,7 +407,7 @@ fn words_that_give_no_command_are_refused(rt: HostRuntime) -> Result<(), Fail> {
 #[test]
 fn the_first_word_says_whether_the_shelf_may_change(rt: HostRuntime) -> Result<(), Fail> {
     let alloc = rt.alloc();
-    for line in ["init 20", "receive", "trial", "discard x"] {
+    for line in ["init 20", "receive", "trial", "discard x", "repack"] {
         assert!(rt; may_write(alloc, line)?);
     }
     for line in [
