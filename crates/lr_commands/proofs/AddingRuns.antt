@@ -130,6 +130,35 @@ module _ {D : Type 0} (disk : DiskOf D) where
       synced = λ t c image. ready.synced t c ((since t).images c image) ∙ sym (since t).contents;
     }
 
+-- ---- what adding an item refused
+
+module _ {D : Type 0} (disk : DiskOf D) where
+  pub way_read : (d d1 : D) (shelf : Shelf) → IsReady disk d d1 shelf → disk.tells d
+      → IsWay (disk.contents d) (kept_by shelf).way
+  way_read d d1 shelf ready t =
+      subst (λ (l : List ℕ). IsWay l (kept_by shelf).way) (ready.unwritten t).contents (ready.keeps t)
+
+  module _ {A : Type 0} (d d1 d2 : D) (shelf shelf2 : Shelf) (item : Item) (ready : IsReady disk d d1 shelf)
+      (answer : Result A ShelfError) (adding : Adds disk item shelf shelf2 d1 d2 answer) where
+    pub told_through : disk.tells d → disk.tells d2
+    told_through t = adding.calls.told (ready.told t)
+
+    -- it was refused, and nothing was written
+    module _ (error : ShelfError) (is : answer ≡ Err error) (not_disk : error ≡ Disk' → ⊥) where
+      stays : d2 ≡ d1
+      stays =
+          by (subst (λ (r : Result A ShelfError). IfErr r
+          (λ e. (e ≡ Disk') ⊎ ((d2 ≡ d1) × (kept_by shelf2 ≡ kept_by shelf)))) is adding.untouched) where
+            by : (error ≡ Disk') ⊎ ((d2 ≡ d1) × (kept_by shelf2 ≡ kept_by shelf)) → d2 ≡ d1
+            by (inl failed) = absurd (not_disk failed)
+            by (inr same) = same.0
+
+      pub unwritten_still : disk.tells d → IsUnwritten disk d d2
+      unwritten_still t = subst (λ (x : D). IsUnwritten disk d x) (sym stays) (ready.unwritten t)
+
+      pub count_still : disk.faults d2 ≡ disk.faults d
+      count_still = ap disk.faults stays ∙ ready.count
+
 -- ---- runs
 
 refused_is : (one other : Refusal) → Refused one ≡ Refused other → one ≡ other
@@ -305,10 +334,18 @@ module _ {D O : Type 0} (disk : DiskOf D) (out : SinkOf O) (makes : Addition →
     there = (kept_by shelf).way
 
     way_is : disk.tells d → IsWay (disk.contents d) there
-    way_is t = subst (λ (l : List ℕ). IsWay l there) (ready.unwritten t).contents (ready.keeps t)
+    way_is = way_read disk d d1 shelf ready
 
-    pub told_both : disk.tells d → disk.tells d2
-    told_both t = adding.calls.told (ready.told t)
+    told_both : disk.tells d → disk.tells d2
+    told_both = told_through disk d d1 d2 shelf shelf2 addition.item ready answer adding
+
+    refusal_unwritten : (error : ShelfError) → answer ≡ Err error → (error ≡ Disk' → ⊥) → disk.tells d
+        → IsUnwritten disk d d2
+    refusal_unwritten = unwritten_still disk d d1 d2 shelf shelf2 addition.item ready answer adding
+
+    refusal_counted : (error : ShelfError) → answer ≡ Err error → (error ≡ Disk' → ⊥)
+        → disk.faults d2 ≡ disk.faults d
+    refusal_counted = count_still disk d d1 d2 shelf shelf2 addition.item ready answer adding
 
     may_add : Fits addition.item there → disk.tells d → MayAdd decides (disk.contents d) addition
     may_add fits t = record { way = there; is_way = way_is t; decided = decided t; fits = fits }
@@ -344,31 +381,15 @@ module _ {D O : Type 0} (disk : DiskOf D) (out : SinkOf O) (makes : Addition →
           to c (inr is) =
               inr (addition, may_add fits t, subst (λ (w : Way). IsWay c (way_added addition.item w)) same is)
 
-    -- it was refused, and nothing was written
-    module _ (error : ShelfError) (is : answer ≡ Err error) (not_disk : error ≡ Disk' → ⊥) where
-      stays : d2 ≡ d1
-      stays =
-          by (subst (λ (r : Result A ShelfError). IfErr r
-          (λ e. (e ≡ Disk') ⊎ ((d2 ≡ d1) × (kept_by shelf2 ≡ kept_by shelf)))) is adding.untouched) where
-            by : (error ≡ Disk') ⊎ ((d2 ≡ d1) × (kept_by shelf2 ≡ kept_by shelf)) → d2 ≡ d1
-            by (inl failed) = absurd (not_disk failed)
-            by (inr same) = same.0
-
-      pub unwritten_still : disk.tells d → IsUnwritten disk d d2
-      unwritten_still t = subst (λ (x : D). IsUnwritten disk d x) (sym stays) (ready.unwritten t)
-
-      pub count_still : disk.faults d2 ≡ disk.faults d
-      count_still = ap disk.faults stays ∙ ready.count
-
     -- the shelf is full
     pub full_run : (needed : ℕ) → answer ≡ Err (Capacity' needed there.capacity)
         → there.capacity < (way_added addition.item there).end
         → needed ≡ min (way_added addition.item there).end 18446744073709551615
         → RunsAdding disk out makes decides d d2 o o (Refused (Capacity needed there.capacity))
     full_run needed is over needs =
-        refused_run d d2 o told_both (unwritten_still (Capacity' needed there.capacity) is (λ same. cc (same)))
+        refused_run d d2 o told_both (refusal_unwritten (Capacity' needed there.capacity) is (λ same. cc (same)))
         (Capacity needed there.capacity) tt
-        (count_still (Capacity' needed there.capacity) is (λ same. cc (same)))
+        (refusal_counted (Capacity' needed there.capacity) is (λ same. cc (same)))
         (λ t. inr (
           there,
           way_is t,
@@ -382,8 +403,8 @@ module _ {D O : Type 0} (disk : DiskOf D) (out : SinkOf O) (makes : Addition →
     -- memory was refused
     pub no_memory_run : answer ≡ Err NoMemory' → RunsAdding disk out makes decides d d2 o o NoMemory
     no_memory_run is =
-        earlier_run d d2 o told_both (unwritten_still NoMemory' is (λ same. cc (same))) NoMemory tt
-        (same_counts disk out d d2 o o (count_still NoMemory' is (λ same. cc (same))) refl)
+        earlier_run d d2 o told_both (refusal_unwritten NoMemory' is (λ same. cc (same))) NoMemory tt
+        (same_counts disk out d d2 o o (refusal_counted NoMemory' is (λ same. cc (same))) refl)
 
     -- the disk failed: with the item or without it
     pub failed_run : answer ≡ Err Disk' → Fits addition.item there

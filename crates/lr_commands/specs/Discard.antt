@@ -1,5 +1,5 @@
 -- `discard N`: the entry is discarded on the disk, and then a line says so.
-use Rattle.std.specs.Prelude.{◌≡◌, ◌⊎◌, ◌<◌, ◌≤◌, ℕ, min, true, false, List, [], ◌∷◌, ◌++◌, length}
+use Rattle.std.specs.Prelude.{◌≡◌, ◌⊎◌, ◌<◌, ◌≤◌, ℕ, min, true, false, Result, Ok, Err, List, [], ◌∷◌, ◌++◌, length}
 use Rattle.lr_io.specs.declared.sink.Sink.{Ghosts as SinkOf}
 use Rattle.lr_disk.specs.Disk.{LeavesOnly, Only}
 use Rattle.lr_disk.specs.Reads.{IsUnwritten}
@@ -14,7 +14,9 @@ use Rattle.lr_causes.specs.declared.cause.Refusal.{Refusal}
 use Rattle.lr_causes.specs.declared.cause.Refusal.TheVariants.{NotAShelf, NoSuchFile, Capacity, Discarded}
 use Rattle.lr_causes.specs.declared.cause.Cause.{Cause}
 use Rattle.lr_causes.specs.declared.cause.Cause.TheVariants.{Done, Failed, NoMemory, Refused}
+use Rattle.lr_commands.specs.Adding.{Addition}
 use Rattle.lr_commands.specs.Asked.{entry_at}
+use Rattle.lr_causes.specs.Causes.{IsEarlier}
 use Rattle.lr_causes.specs.Puts.{Puts, PutFails}
 use Rattle.lr_commands.specs.Runs.{Counted, counts_of}
 
@@ -48,6 +50,25 @@ pub record IsFree (number : ℕ) (way : Way) : Type 0 where
   pub may_go : MayGo number way
   pub fits : (way_after number way).end ≤ way.capacity
 
+-- ---- as a command that adds an item
+
+-- what is added: the Discard, and the line that tells it
+abbrev pub discard_addition : ℕ → Addition
+discard_addition number = record { item = discard_item number; text = discard_line number }
+
+-- what is decided of bytes of this way: it is refused, or the Discard is added
+abbrev pub DecidesDiscard : ℕ → List ℕ → Way → Result Addition Refusal → Type 0
+DecidesDiscard number bytes way result =
+    ((length way.entries ≤ number) × (result ≡ Err (NoSuchFile (length way.entries))))
+    ⊎ (((number < length way.entries) × ((entry_at way number).gone ≡ true) × (result ≡ Err Discarded))
+    ⊎ (MayGo number way × (result ≡ Ok (discard_addition number))))
+
+-- and over any disk
+abbrev pub MakesDiscard : ℕ → Addition → Type 0
+MakesDiscard number addition = addition ≡ discard_addition number
+
+-- ---- its causes
+
 -- the causes that it may have, over any disk
 abbrev pub MayEnd : Cause → Type 0
 MayEnd Done = Unit {0}
@@ -59,12 +80,6 @@ MayEnd (Refused (NoSuchFile count)) = Unit {0}
 MayEnd (Refused (Capacity needed capacity)) = Unit {0}
 MayEnd (Refused Discarded) = Unit {0}
 MayEnd _ = ⊥
-
--- an event that comes before a refusal
-abbrev pub IsEarlier : Cause → Type 0
-IsEarlier (Failed Disk) = Unit {0}
-IsEarlier NoMemory = Unit {0}
-IsEarlier _ = ⊥
 
 -- a cause that comes only where the entry was discarded
 abbrev pub IsDiscarded : Cause → Type 0

@@ -6,7 +6,7 @@
 //! that reads whole files implements `ReadsFiles` and is run by `Files`, which reads the images; one that looks at the
 //! entries in another way implements `ReadsEntries`. A command that adds an item says what it decides of the bytes, an
 //! `Addition` or a refusal; what it does to `out` and to the disk follows from that by `RunsAdding` of `specs/Adding`, as
-//! for `repack`. `discard` has a record of its own, `RunsDiscard`.
+//! for `repack`; what `discard` says of itself, `RunsDiscard`, is drawn from it.
 #![tactic(auto)]
 
 pub mod assemble;

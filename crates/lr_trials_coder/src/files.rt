@@ -178,6 +178,36 @@ static TEXT: [u8; 38] = [
     0, 2, 0x01, 0x00, 0x09, 8, 0, 1, 0, 1, 0, 0x04, 0xFF, 0xE1,
 ];
 
+/// Whether an image of this size, each byte of whose pixels is this one, is coded anew in blocks of 64 as a file with the
+/// same image.
+fn stays(alloc: Global, bits: u8, columns: u16, lines: u16, byte: u8) -> Result<bool, NoMemory> {
+    let mut front = WIDE;
+    front[29] = bits;
+    front[30..32].copy_from_slice(&columns.to_be_bytes());
+    front[32..34].copy_from_slice(&lines.to_be_bytes());
+    let size = usize::from(bits) * usize::from(columns) * usize::from(lines) / 8 + 1;
+    let mut pixels = Vec::new(alloc);
+    pixels.resize(size, byte)?;
+    let Some(file) = long_file(alloc, &front, pixels.as_slice())? else {
+        return Ok(false);
+    };
+    match repack(alloc, &file, 64) {
+        Ok(new) => Ok(has_one_image(alloc, &file, &new)),
+        Err(_) => Ok(false),
+    }
+}
+
+#[test]
+fn images_of_each_depth_and_of_great_and_small_sizes_stay(rt: HostRuntime) -> Result<(), Fail> {
+    let alloc = rt.alloc();
+    for bits in 5..17u8 {
+        assert!(rt; stays(alloc, bits, 4_001, 2, 0x5A)?, "{bits} bits");
+    }
+    assert!(rt; stays(alloc, 8, 65_535, 1, 0x5A)? && stays(alloc, 16, 65_535, 1, 7)?);
+    assert!(rt; stays(alloc, 5, 1, 1, 0x35)? && stays(alloc, 13, 1, 300, 0x35)?);
+    Ok(())
+}
+
 #[test]
 fn the_first_long_line_is_told(rt: HostRuntime) -> Result<(), Fail> {
     let alloc = rt.alloc();

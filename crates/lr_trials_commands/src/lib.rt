@@ -10,6 +10,8 @@ mod listed;
 #[cfg(test)]
 mod pictures;
 #[cfg(test)]
+mod repacks;
+#[cfg(test)]
 mod shared;
 #[cfg(test)]
 mod stops;

@@ -14,14 +14,16 @@ use std::test::Fail;
 /// What stands after the header of a shelf of version 1 with one file: an image of 8 bits, 8 columns and 2 lines that
 /// isn't compressed, in one body of 51 bytes. The shelf ends at 87.
 static IMAGE: [u8; 68] = [
-    1, 0, 0, 0x64, 0, 0, 0, 1, 0, 0, 0, 0x33, 0, 0x33, 0, 7, 0, 0, 0, 0, 0, 0, 0, 1, 0, 0, 0x10,
-    0, 0, 0, 0, 0x19, 0, 0, 0, 0, 0, 0, 0, 2, 1, 0, 9, 8, 0, 8, 0, 2, 0, 5, 5, 5, 5, 5, 5, 5, 5,
-    5, 6, 4, 5, 5, 5, 5, 5, 0x8E, 0x72, 0,
+    1, 0, 0, 0x64, 0, 0, 0, 1, 0, 0, 0, 0x33, 0, 0x33, 0, 7, 0, 0, 0, 0, 0, 0, 0, 1, 0, 0, 0x10, 0,
+    0, 0, 0, 0x19, 0, 0, 0, 0, 0, 0, 0, 2, 1, 0, 9, 8, 0, 8, 0, 2, 0, 5, 5, 5, 5, 5, 5, 5, 5, 5, 6,
+    4, 5, 5, 5, 5, 5, 0x8E, 0x72, 0,
 ];
 
 /// The line of a shelf on which it was coded anew in blocks of 8, and the image of both files.
 static LINE: [u8; 31] = *b"repacked 0 as 1 bytes 51 to 48\n";
-static PICTURE: [u8; 27] = *b"P5\n8 2\n255\n\x05\x05\x05\x05\x05\x05\x05\x05\x05\x06\x04\x05\x05\x05\x05\x05";
+
+static PICTURE: [u8; 27] =
+    *b"P5\n8 2\n255\n\x05\x05\x05\x05\x05\x05\x05\x05\x05\x06\x04\x05\x05\x05\x05\x05";
 
 /// A shelf of this capacity with the image, with one byte of it changed.
 fn image_shelf(alloc: Global, capacity: u64, place: usize, byte: u8) -> Result<MemDisk, Fail> {
@@ -133,7 +135,9 @@ fn what_is_refused_leaves_the_shelf(rt: HostRuntime) -> Result<(), Fail> {
 fn the_new_file_has_to_have_room(rt: HostRuntime) -> Result<(), Fail> {
     let alloc = rt.alloc();
     let mut full = image_shelf(alloc, 179, 1_000, 0)?;
-    assert!(rt; puts(alloc, 0, &mut full, 10, b"")? && has_files(alloc, &mut full, b"file 0 ok\n")?);
+    assert!(rt;
+        puts(alloc, 0, &mut full, 10, b"")? && has_files(alloc, &mut full, b"file 0 ok\n")?
+    );
     assert!(rt; puts(alloc, 0, &mut image_shelf(alloc, 180, 1_000, 0)?, 0, &LINE)?);
     Ok(())
 }

@@ -21,6 +21,8 @@ mod listed;
 mod packets;
 #[cfg(test)]
 mod receive;
+#[cfg(test)]
+mod repacks;
 pub mod shelves;
 pub mod short;
 pub mod stated;

@@ -1,0 +1,25 @@
+// `repack` of files that aren't coded anew.
+use crate::call::{done_with, gives_alone, refused_with};
+use crate::shelves::{TWO_FILES, disk};
+use std::alloc::Global;
+use std::test::Fail;
+
+const LEFT: &str = "file 0 ok\nfile 1 ok\n";
+
+// What these words give over a shelf of two texts, which stays as it is.
+fn gives(alloc: Global, words: &[&str], status: u8, line: &str) -> Result<bool, Fail> {
+    let mut shelf = disk(alloc, &TWO_FILES)?;
+    let refused = gives_alone(alloc, &mut shelf, words, refused_with(status, line))?;
+    let verified = gives_alone(alloc, &mut shelf, &["verify"], done_with(LEFT))?;
+    Ok(refused && verified && shelf.as_slice().len() == TWO_FILES.len())
+}
+
+#[test]
+fn a_text_is_not_coded(rt: HostRuntime) -> Result<(), Fail> {
+    let alloc = rt.alloc();
+    let text = "station: cannot export: not-image\n";
+    assert!(rt; gives(alloc, &["repack", "0", "8"], 8, text)?);
+    let usage = "station: usage: SHELF COMMAND [WORDS]\n";
+    assert!(rt; gives(alloc, &["repack", "0", "10"], 2, usage)?);
+    Ok(())
+}
