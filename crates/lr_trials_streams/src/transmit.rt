@@ -41,7 +41,7 @@ fn is_received(alloc: Global, wrong: &str) -> Result<bool, Fail> {
     let mut other = empty_shelf(alloc)?;
     let input = receiving(&["receive"], symbols);
     let received = gives_on(alloc, &mut other, input, AMPLE, done_with(ONE_FILE))?;
-    Ok(one_frame && received && shelf.as_slice() == &TWO_FILES)
+    Ok(one_frame && received && shelf.as_slice() == TWO_FILES.as_slice())
 }
 
 #[test]
