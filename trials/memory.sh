@@ -65,7 +65,7 @@ JOBS = [
     ("trial 1 10 3 --workers 3", b"", b""),
     ("discard 1", b"", full),
     ("list", b"", full), ("show 7", b"", full), ("extract 7", b"", full), ("verify", b"", full),
-    ("export 7", b"", full), ("assemble 0 8 100 1", b"", full),
+    ("export 7", b"", full), ("assemble 0 8 100 1", b"", full), ("repack 7 8", b"", full),
     ("frames", frames, full), ("packets", frames, full), ("decode", symbols, full), ("decode --workers 3", symbols, full),
 ]
 
