@@ -99,7 +99,8 @@ fn files_of_a_trial_are_sent_under_another_line_code(rt: HostRuntime) -> Result<
     let mut other = disk(alloc, &[])?;
     let made = done_with("shelf capacity 9000\n");
     assert!(rt; gives_alone(alloc, &mut other, &["init", "9000"], made)?);
-    let input = receiving(&["receive", line, marks, g2, plain], symbols);
+    let receive = ["receive", line, marks, g2, plain];
+    let input = receiving(&receive, symbols);
     let two = done_with("lost 0 packets 66 files 2 left 0 stop end\n");
     assert!(rt; ends_on(alloc, &mut other, input, AMPLE, two)?);
     for (sent, received) in [("7", "0"), ("8", "1")] {
