@@ -1,9 +1,8 @@
 //! The commands that print lines of what they read.
 //!
-//! `frames`, `packets` and `decode` print lines of the bytes that they read, and a last line of them all; their contract
-//! is `Prints`. Each of them is a `Consumer` of what comes of the input (`lr_reading`).
-//! `decode` reads on the caller's thread and `decode_by_team` with several; both are `decode_with`, and only the call that
-//! reads differs.
+//! `frames`, `packets` and `decode` print lines of the bytes that they read, and a last line of them all; their
+//! contract is `Prints`. Each of them is a `Consumer` of what comes of the input (`lr_reading`). `decode` reads on the
+//! caller's thread and `decode_by_team` with several; both are `decode_with`, and only the call that reads differs.
 #![tactic(auto)]
 
 mod frame_lines;

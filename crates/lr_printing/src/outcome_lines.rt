@@ -100,7 +100,8 @@ fn put_outcome<O: Sink>(
     put_text(line.as_slice(), out)
 }
 
-/// Puts the lines of all outcomes of this input, through which the call `read` leads, and answers how many are restored.
+/// Puts the lines of all outcomes of this input, through which the call `read` leads, and answers how many are
+/// restored.
 fn put_each_outcome<
     S: Source,
     O: Sink,

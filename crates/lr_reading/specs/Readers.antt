@@ -1,5 +1,5 @@
--- What a reader shows: the form of the input that it reads, how many work on its windows, the caller among them, and the
--- most bytes that it takes of it.
+-- What a reader shows: the form of the input that it reads, how many work on its windows, the caller among them, and
+-- the most bytes that it takes of it.
 use Rattle.std.specs.Prelude.{ℕ}
 use Rattle.lr_forms.specs.declared.forms.Input.{Input}
 

@@ -38,14 +38,11 @@ use Rattle.lr_layers.specs.Standing.{StandsFor, numbers}
 use Rattle.lr_layers.proofs.GoingOn.{go_on}
 use Rattle.lr_shelf_format.specs.Items.{Item}
 use Rattle.lr_shelf.specs.Kept.{kept_by}
-use Rattle.lr_forms.specs.declared.forms.Stop.{Stop}
-use Rattle.lr_forms.specs.declared.forms.Stop.TheVariants.{End, Limit, Fault}
 use Rattle.lr_causes.specs.Causes.{counts}
 use Rattle.lr_causes.specs.declared.cause.Cause.{Cause}
 use Rattle.lr_causes.specs.declared.cause.Cause.TheVariants.{NoMemory}
 use Rattle.lr_reading.specs.Arrivals.{HasWholeFrame, arrivals_of, outcomes_of_arrivals}
 use Rattle.lr_reading.specs.Inputs.{outcomes_of_bytes}
-use Rattle.lr_reading.specs.Reading.{EndsFor}
 use Rattle.lr_reading.specs.Runs.{TakesAll, TakesSome}
 use Rattle.lr_reading.specs.declared.arrival.Arrival.{Arrival}
 use Rattle.lr_forms.specs.declared.forms.Input.{Input}

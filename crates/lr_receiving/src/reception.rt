@@ -138,8 +138,8 @@ fn receive_onto<
     Ok(sums.totals.stop)
 }
 
-/// What `receive` does once there is memory for reading: the shelf is loaded, and then the call `read` leads through the
-/// input.
+/// What `receive` does once there is memory for reading: the shelf is loaded, and then the call `read` leads through
+/// the input.
 fn receive_with<
     S: Source,
     D: Disk,
@@ -212,8 +212,8 @@ pub fn receive<S: Source, D: Disk, O: Sink>(
     )
 }
 
-/// What `receive` does, where this many work on windows of symbols, the caller among them. The memory for their ring and
-/// their hands is taken with that for reading.
+/// What `receive` does, where this many work on windows of symbols, the caller among them. The memory for their ring
+/// and their hands is taken with that for reading.
 pub fn receive_by_team<R: Threads + Wait + Sync, H: Hand, S: Source, D: Disk, O: Sink>(
     rt: &R,
     alloc: Global,

@@ -30,10 +30,7 @@ const READ: [(&str, &str); 50] = [
         "assemble 18446744073709551615 00 2046 65535",
         "assemble 18446744073709551615 0 2046 65535",
     ),
-    (
-        "transmit 0 2 16 --g2=plain",
-        "transmit 0 2 16 nrz-l plain",
-    ),
+    ("transmit 0 2 16 --g2=plain", "transmit 0 2 16 nrz-l plain"),
     (
         "transmit --line nrz-m 9 9 0",
         "transmit 9 9 0 nrz-m inverted",

@@ -1,12 +1,12 @@
 // `export` and `assemble`.
+use crate::made::{LINES, reading, shelf};
+use lr_bits::crc16;
+use lr_disk::MemDisk;
 use lr_trials_station::call::{
     AMPLE, Outcome, done_with, gives_alone, printed_on, refused_with, written_bytes, written_on,
 };
-use crate::made::{LINES, reading, shelf};
 use lr_trials_station::shelves::{FRAMES, TWO_FILES, disk, empty_shelf, with_byte};
 use lr_trials_station::stated::{FRAME, header, idle};
-use lr_bits::crc16;
-use lr_disk::MemDisk;
 use std::alloc::Global;
 use std::test::Fail;
 

@@ -1,10 +1,10 @@
 // `make`, and what the other commands make of what it writes.
+use lr_disk::MemDisk;
+use lr_trials_lock::streams::{bytes_of, leave_hits, silence};
 use lr_trials_station::call::{
     AMPLE, Input, NEVER, Outcome, Room, done_with, ends_on, gives, gives_alone, gives_on,
     refused_with, written_bytes,
 };
-use lr_disk::MemDisk;
-use lr_trials_lock::streams::{bytes_of, leave_hits, silence};
 use std::alloc::Global;
 use std::test::Fail;
 

@@ -1,9 +1,9 @@
 //! A recording: what becomes of the same symbols in other reads, levels and line codes, and of the shelf that it fills.
 
-use lr_trials_station::call::{AMPLE, NEVER, Room, printed_on, written_bytes, written_on};
 use crate::made::{LINES, after_silence, reading, shelf};
-use lr_trials_station::shelves::empty_shelf;
 use lr_disk::MemDisk;
+use lr_trials_station::call::{AMPLE, NEVER, Room, printed_on, written_bytes, written_on};
+use lr_trials_station::shelves::empty_shelf;
 use std::alloc::Global;
 use std::test::Fail;
 

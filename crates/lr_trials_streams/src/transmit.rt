@@ -1,13 +1,13 @@
 // `transmit`, and what `receive` makes of its symbols.
+use crate::trial::tried_disk;
+use lr_bits::{Bytes, Lengths, MissionFile, Origin, Placed};
+use lr_disk::MemDisk;
+use lr_shelf::Shelf;
 use lr_trials_station::call::{
     AMPLE, Input, NEVER, Outcome, Room, done_with, ends_on, gives_alone, gives_on, refused_with,
     written_on,
 };
 use lr_trials_station::shelves::{TWO_FILES, disk, empty_shelf, with_byte};
-use crate::trial::tried_disk;
-use lr_bits::{Bytes, Lengths, MissionFile, Origin, Placed};
-use lr_disk::MemDisk;
-use lr_shelf::Shelf;
 use std::alloc::Global;
 use std::test::Fail;
 
@@ -124,7 +124,14 @@ fn a_file_of_the_channel_of_fill_is_refused(rt: HostRuntime) -> Result<(), Fail>
 fn gone_files_are_left_out_and_bad_ones_refused(rt: HostRuntime) -> Result<(), Fail> {
     let alloc = rt.alloc();
     let mut shelf = disk(alloc, &TWO_FILES)?;
-    assert!(rt; gives_alone(alloc, &mut shelf, &["discard", "0"], done_with("discarded 0\n"))?);
+    assert!(rt;
+        gives_alone(
+            alloc,
+            &mut shelf,
+            &["discard", "0"],
+            done_with("discarded 0\n")
+        )?
+    );
     let words = ["transmit", "0", "2", "0"];
     let symbols = written_on(alloc, &mut shelf, &words, MOST_SYMBOLS)?;
     assert!(rt; symbols.len() == FRAME_SYMBOLS);

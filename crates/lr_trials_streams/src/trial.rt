@@ -1,10 +1,10 @@
 // `trial`, and the shelf that it leaves.
+use lr_disk::MemDisk;
 use lr_trials_station::call::{
     AMPLE, Input, NEVER, Outcome, Room, done_with, ends_on, gives_alone, gives_on, refused_with,
     written_bytes, written_on,
 };
 use lr_trials_station::shelves::disk_of_calls;
-use lr_disk::MemDisk;
 use std::alloc::Global;
 use std::test::Fail;
 

@@ -2,7 +2,15 @@ use Rattle.std.proofs.Common.{Result, IfErr, subst}
 use Rattle.lr_shelf.specs.Load.{IsLoadRefusal}
 use Rattle.lr_shelf.specs.declared.shelf.Shelf.{Shelf}
 use Rattle.lr_shelf.specs.declared.error.ShelfError.{ShelfError}
-use Rattle.lr_receiving.proofs.Loading.{not_loaded, loaded_first, loaded_run, done_cause, done_kind, stop_cause, stop_kind}
+use Rattle.lr_receiving.proofs.Loading.{
+  not_loaded,
+  loaded_first,
+  loaded_run,
+  done_cause,
+  done_kind,
+  stop_cause,
+  stop_kind,
+}
 use Rattle.lr_receiving.proofs.Causing.{caused_first}
 use Rattle.lr_receiving.proofs.reception.receive_with.Goals as goal
 

@@ -75,7 +75,8 @@ returns-in_err-shelf-clause-cause g c =
     c.in_err-shelf.was c.load.ensures.refused in
     rw (p.1, p.2)
     (first_later _ 0 0 _ _ _ 0 0 0
-    (same_of g.D.Disk c.args.disk.now c.init.new.disk c.init.result _ c.in_ok-init.was c.init.ensures.calls.counted) refl
+    (same_of g.D.Disk c.args.disk.now c.init.new.disk c.init.result _ c.in_ok-init.was c.init.ensures.calls.counted)
+    refl
     (first_refused c.in_err-shelf.field-0.0 c.load.result 0 0 (g.D.Disk.faults c.init.new.disk)
     (g.D.Disk.faults c.load.new.disk) 0 c.in_err-shelf.was
     (λ failed. subst (λ (x : ShelfError). IsLoadRefusal g.D.Disk c.init.new.disk x) failed refusal)

@@ -1,6 +1,5 @@
-use Rattle.std.proofs.Common.{◌∙◌, ◌<◌, ◌≤◌, ◌+◌, ◌*◌, ap, arith, refl, sym}
+use Rattle.std.proofs.Common.{◌∙◌, ◌<◌, ◌≤◌, ◌+◌, ◌*◌, ap, arith, sym}
 use Rattle.lr_gate.specs.Seats.{opening_view}
-use Rattle.lr_lock.specs.Windows.{WindowView}
 use Rattle.lr_reading.proofs.desk.Desk.new.Goals as goal
 use Rattle.lr_reading.proofs.desk.Desk.new.Goals.{then-workers-eq0, else-workers-eq0}
 
