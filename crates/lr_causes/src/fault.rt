@@ -87,7 +87,8 @@ impl ExportFault {
     }
 }
 
-/// Why an image isn't coded anew: it has fewer than 5 bits a pixel, or a line, the header or the file would be too long.
+/// Why an image isn't coded anew: it has fewer than 5 bits a pixel, or a line, the header or the file would be too
+/// long.
 #[derive(Clone, Copy)]
 pub enum CodingFault {
     Depth,

@@ -305,7 +305,8 @@ module _ {D O : Type 0} (disk : DiskOf D) (out : SinkOf O) (makes : Addition →
       (subst (λ (r : Result Shelf ShelfError). IfErr r (IsLoadRefusal disk d)) is loads.refused) where
         counted : (e : ShelfError) → result ≡ Err e → IsCounted {A = Shelf} (disk.faults d) (disk.faults d') (Err e)
         counted e same =
-            subst (λ (r : Result Shelf ShelfError). IsCounted (disk.faults d) (disk.faults d') r) same loads.calls.counted
+            subst (λ (r : Result Shelf ShelfError). IsCounted (disk.faults d) (disk.faults d') r) same
+            loads.calls.counted
 
         by_error : (e : ShelfError) → result ≡ Err e → IsLoadRefusal disk d e
             → RunsAdding disk out makes decides d d' o o (cause_of e)

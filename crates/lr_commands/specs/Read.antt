@@ -33,7 +33,8 @@ pub record HasGathered {G : Type 0} (asked : Asked) (gathers : G → List Seen �
   pub is : put ≡ concat texts ++ last
 
 -- the same of the shelf that these bytes hold
-pub record GathersOver {G : Type 0} (asked : Asked) (gathers : G → List Seen → Type 0) (bytes put : List ℕ) : Type 0 where
+pub record GathersOver {G : Type 0} (asked : Asked) (gathers : G → List Seen → Type 0)
+    (bytes put : List ℕ) : Type 0 where
   pub way : Way
   pub is_way : IsWay bytes way
   pub has : HasGathered asked gathers bytes way put

@@ -75,8 +75,8 @@ fn code_stored(
 }
 
 /// Codes the image of the file of this number anew, in blocks of 8, 16, 32 or 64 samples, adds the new file with the
-/// origin of the old one, and then puts a line with the numbers and the bytes of both. Refused, in this order: no shelf,
-/// no such file, discarded, no item of a file there, a wrong checksum, no image, no coding, capacity.
+/// origin of the old one, and then puts a line with the numbers and the bytes of both. Refused, in this order: no
+/// shelf, no such file, discarded, no item of a file there, a wrong checksum, no image, no coding, capacity.
 pub fn repack<D: Disk, O: Sink>(
     alloc: Global,
     number: u64,

@@ -45,8 +45,8 @@ fn take_entries<C: ReadsEntries, D: Disk, O: Sink>(
 }
 
 /// Runs a command over the shelf on the disk: takes the memory at opening, loads the shelf, compares the numbers, takes
-/// the entries in order, and puts the last text. The first event decides. Where it is done, what was gathered is that of
-/// all entries that were read.
+/// the entries in order, and puts the last text. The first event decides. Where it is done, what was gathered is that
+/// of all entries that were read.
 pub fn run_entries<C: ReadsEntries, D: Disk, O: Sink>(
     alloc: Global,
     command: &C,

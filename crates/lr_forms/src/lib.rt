@@ -1,5 +1,6 @@
 //! The forms in which symbols, blocks and frames come in and go out, and the greatest numbers of bytes and of workers
-//! that a call takes. Words, reading and the commands share them; what a form means is said where it is read or written.
+//! that a call takes. Words, reading and the commands share them. What a form means is said where it is read or
+//! written.
 #![tactic(auto)]
 
 mod forms;

@@ -32,7 +32,8 @@ use Rattle.lr_uplink.proofs.Receiving.{sent_files_are_received}
 use Rattle.lr_uplink.proofs.UnderWay.{frames_stay, sent-more}
 use Rattle.lr_sending.specs.Received.{IsTransmitted}
 use Rattle.lr_sending.specs.Standing.{HasSent, IsAt, history_at, rest_bytes}
-use Rattle.lr_sending.specs.Transmit.{added_bytes, becomes_sent, block_for, blocks_for, files_read, frame_bytes, sent_bytes, transmit_asked}
+use Rattle.lr_sending.specs.Transmit.{added_bytes, becomes_sent, block_for, blocks_for, files_read, frame_bytes}
+use Rattle.lr_sending.specs.Transmit.{sent_bytes, transmit_asked}
 use Rattle.lr_sending.proofs.Sending.{frames-front}
 
 ok_same : {A B : Type 0} (a b : A) → ◌≡◌ {A = Result A B} (Ok a) (Ok b) → a ≡ b
@@ -83,7 +84,8 @@ module _ (line : LineCode) (wrong : ℕ) (files : List File) (file : File) where
       ap (λ fs. drop (length (frame_bytes line wrong fs)) (sent_bytes line wrong (files ++ file ∷ []))) front
 
   -- what it adds stands after what the files before it are sent as
-  pub adds : sent_bytes line wrong (files ++ file ∷ []) ≡ sent_bytes line wrong files ++ added_bytes line wrong files file
+  pub adds : sent_bytes line wrong (files ++ file ∷ [])
+      ≡ sent_bytes line wrong files ++ added_bytes line wrong files file
   adds =
       let more = frames-front line wrong (sent files) (file_frames files file) in
       let whole : sent_bytes line wrong (files ++ file ∷ []) ≡ sent_bytes line wrong files ++ more.0 =
@@ -115,8 +117,8 @@ module _ (line : LineCode) (wrong : ℕ) (files : List File) (file : File) where
         })
 
 -- both of a refusal
-pub on_stop : {T : Type 0} {P Q : Cause → Type 0} {A B : Type 0} (r : Result T Cause) → ((c : Cause) → P c → A → B → Q c)
-    → IfErr r P → OnErr r A → OnErr r B → IfErr r Q
+pub on_stop : {T : Type 0} {P Q : Cause → Type 0} {A B : Type 0} (r : Result T Cause)
+    → ((c : Cause) → P c → A → B → Q c) → IfErr r P → OnErr r A → OnErr r B → IfErr r Q
 on_stop (Ok v) f p a b = tt
 on_stop (Err c) f p a b = f c p a b
 

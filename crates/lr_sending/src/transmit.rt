@@ -20,8 +20,8 @@ use lr_shelf::{Shelf, ShelfError};
 use lr_uplink::{Uplink, UplinkFault};
 use std::alloc::Global;
 
-/// Puts the symbols of all frames that are left to give, with `wrong` wrong bytes in each word of their blocks. It takes
-/// no memory.
+/// Puts the symbols of all frames that are left to give, with `wrong` wrong bytes in each word of their blocks. It
+/// takes no memory.
 fn put_frames<O: Sink>(uplink: &mut Uplink, wrong: u8, out: &mut O) -> Result<(), Cause>
     requires { wrong ≤ 16 }
     ensures put { (line : LineCode') (files : List File) (given : ℕ) → IsAt line wrong files given uplink.old

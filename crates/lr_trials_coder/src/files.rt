@@ -178,8 +178,8 @@ static TEXT: [u8; 38] = [
     0, 2, 0x01, 0x00, 0x09, 8, 0, 1, 0, 1, 0, 0x04, 0xFF, 0xE1,
 ];
 
-/// Whether an image of this size, each byte of whose pixels is this one, is coded anew in blocks of 64 as a file with the
-/// same image.
+/// Whether an image of this size, each byte of whose pixels is this one, is coded anew in blocks of 64 as a file with
+/// the same image.
 fn stays(alloc: Global, bits: u8, columns: u16, lines: u16, byte: u8) -> Result<bool, NoMemory> {
     let mut front = WIDE;
     front[29] = bits;

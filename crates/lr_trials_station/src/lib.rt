@@ -1,5 +1,5 @@
-//! Trials of the station: calls of `station` over sources, disks and sinks in memory, and over real files. `call`, `shelves`,
-//! `short` and `stated` are what other crates of trials share.
+//! Trials of the station: calls of `station` over sources, disks and sinks in memory, and over real files. `call`,
+//! `shelves`, `short` and `stated` are what other crates of trials share.
 #![tactic(auto)]
 
 #[cfg(test)]

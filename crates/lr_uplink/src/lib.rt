@@ -2,8 +2,8 @@
 //!
 //! An `Uplink` is loaded with one file after another. It gives their frames, of 892 bytes, one by one (`Packets` and
 //! `Sent` in specs/ say what they are), and codes the block that is sent for each frame to 16,384 symbols, each 100 or
-//! -100. Each file begins a new frame of its channel, and an idle packet fills its last zone. The counters of frames and
-//! the counts of packets go on from file to file. `Standing` says what an uplink stands for, and `Received` that a
+//! -100. Each file begins a new frame of its channel, and an idle packet fills its last zone. The counters of frames
+//! and the counts of packets go on from file to file. `Standing` says what an uplink stands for, and `Received` that a
 //! receiver of the symbols finds the files that were loaded, also where up to sixteen bytes in each word of a block are
 //! wrong.
 //!

@@ -165,7 +165,8 @@ assemble_of words = if is_taken assemble_app words
 -- `transmit FROM TO WRONG [--line nrz-l|nrz-m] [--g2 inverted|plain]`
 unfoldable pub transmit_app : App
 transmit_app = with_rule (with_rule (with_rule (with_rule (with_rule (new_app (codes "transmit"))
-    (place (codes "from"))) (place (codes "to"))) (place (codes "wrong"))) (option (codes "line"))) (option (codes "g2"))
+    (place (codes "from"))) (place (codes "to"))) (place (codes "wrong"))) (option (codes "line")))
+    (option (codes "g2"))
 
 abbrev pub transmit_of : List Text → Option Command
 transmit_of words = if is_taken transmit_app words

@@ -54,8 +54,8 @@ pub enum Command {
         apid: u16,
         image: u16,
     },
-    /// The symbols of the files of the entries from one number up to another, with `wrong` wrong bytes in each word, under
-    /// this line code.
+    /// The symbols of the files of the entries from one number up to another, with `wrong` wrong bytes in each word,
+    /// under this line code.
     Transmit {
         from: u64,
         to: u64,
