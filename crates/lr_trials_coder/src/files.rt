@@ -59,12 +59,10 @@ fn long_file(alloc: Global, front: &[u8], rest: &[u8]) -> Result<Option<MissionF
     let mut bytes = Bytes::new(alloc);
     lengths.push((front.len() % 65_535) as u16)?;
     bytes.extend(front)?;
-    let mut at = 0;
-    for _ in 0..rest.len() / PIECE + 1 {
-        let size = PIECE.min(rest.len() - at.min(rest.len()));
-        lengths.push(size as u16)?;
-        at += size;
+    for _ in 0..rest.len() / PIECE {
+        lengths.push(PIECE as u16)?;
     }
+    lengths.push((rest.len() % PIECE) as u16)?;
     bytes.extend(rest)?;
     Ok(MissionFile::build(3, 100, lengths, bytes))
 }
@@ -178,16 +176,15 @@ static TEXT: [u8; 38] = [
     0, 2, 0x01, 0x00, 0x09, 8, 0, 1, 0, 1, 0, 0x04, 0xFF, 0xE1,
 ];
 
-/// Whether an image of this size, each byte of whose pixels is this one, is coded anew in blocks of 64 as a file with
-/// the same image.
-fn stays(alloc: Global, bits: u8, columns: u16, lines: u16, byte: u8) -> Result<bool, NoMemory> {
+/// Whether an image of this size, with `size` bytes of pixels that are all the same, is coded anew in blocks of 64 as a
+/// file with the same image.
+fn stays(alloc: Global, bits: u8, columns: u16, lines: u16, size: usize) -> Result<bool, NoMemory> {
     let mut front = WIDE;
     front[29] = bits;
     front[30..32].copy_from_slice(&columns.to_be_bytes());
     front[32..34].copy_from_slice(&lines.to_be_bytes());
-    let size = usize::from(bits) * usize::from(columns) * usize::from(lines) / 8 + 1;
     let mut pixels = Vec::new(alloc);
-    pixels.resize(size, byte)?;
+    pixels.resize(size, 0x5A)?;
     let Some(file) = long_file(alloc, &front, pixels.as_slice())? else {
         return Ok(false);
     };
@@ -201,10 +198,13 @@ fn stays(alloc: Global, bits: u8, columns: u16, lines: u16, byte: u8) -> Result<
 fn images_of_each_depth_and_of_great_and_small_sizes_stay(rt: HostRuntime) -> Result<(), Fail> {
     let alloc = rt.alloc();
     for bits in 5..17u8 {
-        assert!(rt; stays(alloc, bits, 4_001, 2, 0x5A)?, "{bits} bits");
+        assert!(rt;
+            stays(alloc, bits, 4_001, 2, usize::from(bits) * 1_001)?,
+            "{bits} bits"
+        );
     }
-    assert!(rt; stays(alloc, 8, 65_535, 1, 0x5A)? && stays(alloc, 16, 65_535, 1, 7)?);
-    assert!(rt; stays(alloc, 5, 1, 1, 0x35)? && stays(alloc, 13, 1, 300, 0x35)?);
+    assert!(rt; stays(alloc, 8, 65_535, 1, 65_535)? && stays(alloc, 16, 65_535, 1, 131_070)?);
+    assert!(rt; stays(alloc, 5, 1, 1, 1)? && stays(alloc, 13, 1, 300, 488)?);
     Ok(())
 }
 
