@@ -1,5 +1,6 @@
 """What SatDump made of the files that `satdump.sh` sent, beside what it should have made. Usage: satdump.py STATION PIPELINE, in a
-folder with the shelf `shelf`, its list `listed`, and the folder PIPELINE that SatDump wrote. It has its own reader of PNG."""
+folder with the shelf `shelf`, its list `listed`, and the folder PIPELINE that SatDump wrote; or satdump.py STATION PIPELINE pictures FROM TO,
+which compares the pictures of these files alone. It has its own reader of PNG."""
 
 import os
 import struct
@@ -60,26 +61,49 @@ def pixels_of_pgm(data):
     return (*map(int, size.split()), pixels)
 
 
-# a file of the list by its channel and counter
-stream = {0: files(make.image_stream(1, 8 * 4651)), 5: files(make.text_stream(1, 64 * 245))}
-listed = [line.split() for line in open("listed") if line.startswith("file")]
-sender, sent, texts, pictures = uplink.Sender(), [], {}, []
-for words in listed:
-    number, vc, apid, counter = words[1], int(words[3]), int(words[5]), int(words[7])
-    sent += sender.frames(vc, apid, stream[vc][counter])
-    if vc == 5:
-        texts["TEXT%04d" % counter] = printed("extract", number)
-    else:
-        pictures.append(pixels_of_pgm(printed("export", number)))
+def all_pictures(folder):
+    found = []
+    for path, _, names in os.walk(f"{folder}/IMAGES"):
+        found += [pixels_of_png(open(os.path.join(path, name), "rb").read()) for name in names if name.endswith(".png")]
+    return found
 
-folder = sys.argv[2]
-cadus = open(f"{folder}/{folder}.cadu", "rb").read()
-theirs = {cadus[place + MARKER : place + MARKER + FRAME] for place in range(0, len(cadus), CADU)}
-frames = sum(frame in theirs for frame in sent)
-same = sum(open(f"{folder}/LRIT/{name}", "rb").read() == text for name, text in texts.items() if os.path.exists(f"{folder}/LRIT/{name}"))
-found = []
-for path, _, names in os.walk(f"{folder}/IMAGES"):
-    found += [pixels_of_png(open(os.path.join(path, name), "rb").read()) for name in names if name.endswith(".png")]
-equal = sum(picture in found for picture in pictures)
-print(f"{folder}: {frames} of {len(sent)} frames, {same} of {len(texts)} text files, {equal} of {len(pictures)} pictures")
-sys.exit((frames, same, equal) != (len(sent), len(texts), len(pictures)) or len(found) != len(pictures))
+
+def pictures_of(numbers):
+    return [pixels_of_pgm(printed("export", str(number))) for number in numbers]
+
+
+def compare_pictures(folder, numbers):
+    wanted, found = pictures_of(numbers), all_pictures(folder)
+    equal = sum(picture in found for picture in wanted)
+    print(f"{folder}: {equal} of {len(wanted)} pictures that were coded anew")
+    return equal == len(wanted) == len(found)
+
+
+def compare_all(folder):
+    # a file of the list by its channel and counter
+    stream = {0: files(make.image_stream(1, 8 * 4651)), 5: files(make.text_stream(1, 64 * 245))}
+    listed = [line.split() for line in open("listed") if line.startswith("file ")]
+    sender, sent, texts, pictures = uplink.Sender(), [], {}, []
+    for words in listed:
+        number, vc, apid, counter = words[1], int(words[3]), int(words[5]), int(words[7])
+        sent += sender.frames(vc, apid, stream[vc][counter])
+        if vc == 5:
+            texts["TEXT%04d" % counter] = printed("extract", number)
+        else:
+            pictures.append(number)
+    cadus = open(f"{folder}/{folder}.cadu", "rb").read()
+    theirs = {cadus[place + MARKER : place + MARKER + FRAME] for place in range(0, len(cadus), CADU)}
+    frames = sum(frame in theirs for frame in sent)
+    written = {name: f"{folder}/LRIT/{name}" for name in texts if os.path.exists(f"{folder}/LRIT/{name}")}
+    same = sum(open(path, "rb").read() == texts[name] for name, path in written.items())
+    wanted, found = pictures_of(pictures), all_pictures(folder)
+    equal = sum(picture in found for picture in wanted)
+    print(f"{folder}: {frames} of {len(sent)} frames, {same} of {len(texts)} text files, {equal} of {len(wanted)} pictures")
+    return (frames, same, equal) == (len(sent), len(texts), len(found)) and len(found) == len(wanted)
+
+
+if len(sys.argv) > 3:
+    right = compare_pictures(sys.argv[2], range(int(sys.argv[4]), int(sys.argv[5])))
+else:
+    right = compare_all(sys.argv[2])
+sys.exit(not right)

@@ -2,7 +2,7 @@
 # SatDump reads what `transmit` writes. The files of a test stream are sent with 16 wrong bytes in each word, with
 # `--line nrz-m --g2 plain` to its pipeline goes_hrit and with `--g2 plain` to goes_lrit. Each frame that should be sent (by
 # reference/uplink.py) is among its frames, byte for byte; each text file that it writes equals what `extract` writes, and each
-# picture what `export` writes, pixel by pixel.
+# picture what `export` writes, pixel by pixel. Last, the pictures are coded anew by `repack`, and goes_lrit shows the same ones.
 # Usage: trials/satdump.sh ROOT. ROOT is a folder with a Debian system that has SatDump, as
 #   mmdebstrap --variant=apt --include=satdump trixie ROOT
 # makes it; chroot enters it, so this runs as root. Without a ROOT nothing is tried. Needs rt and python3.
@@ -27,15 +27,30 @@ ORBITS
 
 "$station" shelf trial 1 64 0 || exit 1
 "$station" shelf list > listed || exit 1
+# Has SatDump's pipeline of this name read the symbols.
+receive_by() {
+    chroot "$root" sh -c "cd ${scratch#"$root"} && satdump $1 soft symbols $1 --tle_override orbits \
+        --max_fill_lines 50 --fill_missing false --write_lrit true" > "$1.log" 2>&1 || { cat "$1.log"; exit 1; }
+}
 # Sends all files with these options, and has SatDump's pipeline of this name read them.
 send() {
     pipeline=$1
     shift
     "$station" shelf transmit 0 63 16 "$@" > symbols || exit 1
-    chroot "$root" sh -c "cd ${scratch#"$root"} && satdump $pipeline soft symbols $pipeline --tle_override orbits \
-        --max_fill_lines 50 --fill_missing false --write_lrit true" > "$pipeline.log" 2>&1 ||
-        { cat "$pipeline.log"; exit 1; }
+    receive_by "$pipeline"
     python3 "$top/trials/satdump.py" "$station" "$pipeline" || exit 1
 }
 send goes_hrit --line nrz-m --g2 plain
 send goes_lrit --g2 plain
+
+# the pictures alone, coded anew, which have the numbers from 63 on
+cp listed before
+number=63
+for old in $(sed -n 's/^file \([0-9]*\) vc 0 .*/\1/p' before); do
+    "$station" shelf repack "$old" 16 || exit 1
+    number=$((number + 1))
+done
+"$station" shelf transmit 63 "$number" 0 --g2 plain > symbols || exit 1
+rm -rf goes_lrit
+receive_by goes_lrit
+python3 "$top/trials/satdump.py" "$station" goes_lrit pictures 63 "$number" || exit 1
