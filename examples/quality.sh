@@ -10,7 +10,7 @@ esac
 awk -v rate="$1" '
     function tell() {
         if (frames) printf "minute %d frames %d lost %d corrected %.2f\n", minute, frames, lost,
-            frames > lost ? corrected / (frames - lost) : 0
+            (frames > lost ? corrected / (frames - lost) : 0)
         fflush()
         frames = lost = corrected = 0
     }

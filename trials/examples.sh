@@ -82,8 +82,11 @@ for script in $(sed -n 's,.*/usr/local/share/gomtasil/\([a-z.]*\).*,\1,p' "$top/
 done
 if command -v systemd-analyze > /dev/null; then
     cp "$top/examples/station.service" .
-    systemd-analyze verify "$PWD/station.service" > verified 2>&1 || grep -v 'not executable\|No such file\|Failed to locate' verified | grep -i 'station.service' &&
-        fail "systemd-analyze: $(cat verified)"
+    if ! systemd-analyze verify "$PWD/station.service" > verified 2>&1; then
+        # (that the programs and the user aren't on this machine is no fault of the unit)
+        grep -v 'not executable\|No such file\|Failed to locate' verified | grep -i 'station.service' > faults &&
+            fail "systemd-analyze: $(cat faults)"
+    fi
     cases=$((cases + 1))
 else
     echo "systemd-analyze is missing: the unit was only read"
