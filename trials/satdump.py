@@ -1,6 +1,6 @@
-"""What SatDump made of the files that `satdump.sh` sent, beside what it should have made. Usage: satdump.py STATION PIPELINE, in a
-folder with the shelf `shelf`, its list `listed`, and the folder PIPELINE that SatDump wrote; or satdump.py STATION PIPELINE pictures FROM TO,
-which compares the pictures of these files alone. It has its own reader of PNG."""
+"""What SatDump made of the files that `satdump.sh` sent, beside what it should have made. Usage: satdump.py all STATION PIPELINE, in
+a folder with the shelf `shelf`, its list `listed`, and the folder PIPELINE that SatDump wrote; satdump.py frames, which writes the frames of
+a file with a picture; satdump.py picture STATION PIPELINE, for file 1 of `other.shelf`. It has its own reader of PNG."""
 
 import os
 import struct
@@ -27,7 +27,7 @@ def files(packets):
 
 
 def printed(*words):
-    return subprocess.run([sys.argv[1], "shelf", *words], stdout=subprocess.PIPE, check=True).stdout
+    return subprocess.run([sys.argv[2], *words], stdout=subprocess.PIPE, check=True).stdout
 
 
 def pixels_of_png(data):
@@ -68,15 +68,30 @@ def all_pictures(folder):
     return found
 
 
-def pictures_of(numbers):
-    return [pixels_of_pgm(printed("export", str(number))) for number in numbers]
+def big(count, number):
+    return number.to_bytes(count, "big")
 
 
-def compare_pictures(folder, numbers):
-    wanted, found = pictures_of(numbers), all_pictures(folder)
-    equal = sum(picture in found for picture in wanted)
-    print(f"{folder}: {equal} of {len(wanted)} pictures that were coded anew")
-    return equal == len(wanted) == len(found)
+def record(kind, contents):
+    return bytes([kind]) + big(2, len(contents) + 3) + contents
+
+
+def frames_of_a_picture():
+    """The frames of a file with a smooth picture of 64 columns and lines, and a record of NOAA which says that lines are coded."""
+    pixels = bytes((3 * x * x + 5 * y + x * y // 7) // 9 % 256 for y in range(64) for x in range(64))
+    structure = record(1, bytes([8]) + big(2, 64) + big(2, 64) + bytes([0]))
+    noaa = record(129, b"NOAA" + big(2, 16) + big(2, 1) + big(2, 0) + bytes([1]))
+    length = 16 + len(structure) + len(noaa)
+    proper = record(0, bytes([0]) + big(4, length) + big(8, 8 * len(pixels))) + structure + noaa + pixels
+    whole = big(2, 7) + big(8, 8 * len(proper)) + proper
+    bodies = [whole[:60]] + [whole[place : place + 512] for place in range(60, len(whole), 512)]
+    return b"".join(uplink.Sender().frames(0, 100, bodies))
+
+
+def compare_picture(folder):
+    same = all_pictures(folder) == [pixels_of_pgm(printed("other.shelf", "export", "1"))]
+    print(f"{folder}: the picture that was coded anew is {'the same' if same else 'another one'}")
+    return same
 
 
 def compare_all(folder):
@@ -88,22 +103,22 @@ def compare_all(folder):
         number, vc, apid, counter = words[1], int(words[3]), int(words[5]), int(words[7])
         sent += sender.frames(vc, apid, stream[vc][counter])
         if vc == 5:
-            texts["TEXT%04d" % counter] = printed("extract", number)
+            texts["TEXT%04d" % counter] = printed("shelf", "extract", number)
         else:
-            pictures.append(number)
+            pictures.append(pixels_of_pgm(printed("shelf", "export", number)))
     cadus = open(f"{folder}/{folder}.cadu", "rb").read()
     theirs = {cadus[place + MARKER : place + MARKER + FRAME] for place in range(0, len(cadus), CADU)}
     frames = sum(frame in theirs for frame in sent)
     written = {name: f"{folder}/LRIT/{name}" for name in texts if os.path.exists(f"{folder}/LRIT/{name}")}
     same = sum(open(path, "rb").read() == texts[name] for name, path in written.items())
-    wanted, found = pictures_of(pictures), all_pictures(folder)
-    equal = sum(picture in found for picture in wanted)
-    print(f"{folder}: {frames} of {len(sent)} frames, {same} of {len(texts)} text files, {equal} of {len(wanted)} pictures")
-    return (frames, same, equal) == (len(sent), len(texts), len(found)) and len(found) == len(wanted)
+    found = all_pictures(folder)
+    equal = sum(picture in found for picture in pictures)
+    print(f"{folder}: {frames} of {len(sent)} frames, {same} of {len(texts)} text files, {equal} of {len(pictures)} pictures")
+    return (frames, same, equal) == (len(sent), len(texts), len(pictures)) and len(found) == len(pictures)
 
 
-if len(sys.argv) > 3:
-    right = compare_pictures(sys.argv[2], range(int(sys.argv[4]), int(sys.argv[5])))
-else:
-    right = compare_all(sys.argv[2])
-sys.exit(not right)
+what = sys.argv[1]
+if what == "frames":
+    sys.stdout.buffer.write(frames_of_a_picture())
+elif not (compare_picture if what == "picture" else compare_all)(sys.argv[3]):
+    sys.exit(1)

@@ -2,7 +2,8 @@
 # SatDump reads what `transmit` writes. The files of a test stream are sent with 16 wrong bytes in each word, with
 # `--line nrz-m --g2 plain` to its pipeline goes_hrit and with `--g2 plain` to goes_lrit. Each frame that should be sent (by
 # reference/uplink.py) is among its frames, byte for byte; each text file that it writes equals what `extract` writes, and each
-# picture what `export` writes, pixel by pixel. Last, the pictures are coded anew by `repack`, and goes_lrit shows the same ones.
+# picture what `export` writes, pixel by pixel. Last, goes_lrit shows a picture
+# that `repack` coded anew as `export` writes it.
 # Usage: trials/satdump.sh ROOT. ROOT is a folder with a Debian system that has SatDump, as
 #   mmdebstrap --variant=apt --include=satdump trixie ROOT
 # makes it; chroot enters it, so this runs as root. Without a ROOT nothing is tried. Needs rt and python3.
@@ -38,19 +39,18 @@ send() {
     shift
     "$station" shelf transmit 0 63 16 "$@" > symbols || exit 1
     receive_by "$pipeline"
-    python3 "$top/trials/satdump.py" "$station" "$pipeline" || exit 1
+    python3 "$top/trials/satdump.py" all "$station" "$pipeline" || exit 1
 }
 send goes_hrit --line nrz-m --g2 plain
 send goes_lrit --g2 plain
 
-# the pictures alone, coded anew, which have the numbers from 63 on
-cp listed before
-number=63
-for old in $(sed -n 's/^file \([0-9]*\) vc 0 .*/\1/p' before); do
-    "$station" shelf repack "$old" 16 || exit 1
-    number=$((number + 1))
-done
-"$station" shelf transmit 63 "$number" 0 --g2 plain > symbols || exit 1
+# A picture coded anew. SatDump reads coded lines where NOAA's own record says that they are there, so the file that `repack` gets has one.
+python3 "$top/trials/satdump.py" frames > frames || exit 1
+"$station" other.shelf init 100000 || exit 1
+"$station" other.shelf receive --input frames < frames || exit 1
+"$station" other.shelf repack 0 16 || exit 1
+"$station" other.shelf transmit 1 2 0 --g2 plain > symbols || exit 1
 rm -rf goes_lrit
 receive_by goes_lrit
-python3 "$top/trials/satdump.py" "$station" goes_lrit pictures 63 "$number" || exit 1
+grep -q 'Rice header is present' goes_lrit.log || { echo "SatDump read no coded lines"; exit 1; }
+python3 "$top/trials/satdump.py" picture "$station" goes_lrit || exit 1
