@@ -3,9 +3,8 @@ pub mod Beginning
 pub mod Coming
 pub mod Feeding
 pub mod Gathering
-pub mod Jobs
-pub mod Joining
-pub mod Leading
+pub mod WindowJobs
+pub mod WindowLeading
 pub mod Led
 pub mod Numbered
 pub mod Outcomes

@@ -1,13 +1,12 @@
 pub mod Arrivals
-pub mod Desks
 pub mod Feeding
 pub mod Gathering
 pub mod Inputs
+pub mod Intakes
 pub mod Leading
 pub mod Lines
 pub mod Readers
-pub mod Pools
 pub mod Reading
-pub mod Rounds
 pub mod Runs
 pub mod Ways
+pub mod WindowLeads

@@ -1,22 +1,20 @@
 //! The memory that reading symbols takes.
-ghost use Rattle.std.specs.Prelude.{◌≡◌, IfOk, vec_len};
+ghost use Rattle.std.specs.Prelude.{◌≡◌, ◌≤◌, IfOk, vec_len};
+ghost use Rattle.lr_rounds.specs.Crews.{crew_with};
+ghost use Rattle.lr_reading.specs.Readers.{windows_for};
 
 use crate::intake::Intake;
 use lr_bits::NoMemory;
 use lr_conv::LineCode;
 use lr_frame::{Hand, Hired};
-use lr_gate::{Conductor, Gate, WorkerSeat};
+use lr_rounds::Crew;
 use std::alloc::Global;
 
-/// A ring that windows are led through, what fills them, and the hands of the workers and of the caller.
+/// What fills windows, and who decodes them.
 #[derive(Drop)]
 pub(crate) struct Desk<H: Hand> {
     pub intake: Intake,
-    pub gate: Gate<Hired<H>>,
-    pub conductor: Conductor<Hired<H>>,
-    pub seats: Vec<WorkerSeat<Hired<H>>>,
-    pub works: Vec<Hired<H>>,
-    pub own: Hired<H>,
+    pub crew: Crew<Hired<H>>,
 }
 
 /// This many hands.
@@ -34,13 +32,36 @@ fn hire_all<H: Hand>(
     Ok(works)
 }
 
-impl<H: Hand> Desk<H> {
-    ghost use Rattle.std.specs.Prelude.{◌≡◌, ◌≤◌, ◌^◌, IfOk};
-    ghost use Rattle.lr_gate.specs.Seats.{workers_of};
-    ghost use Rattle.lr_reading.specs.Desks.{IsFreshDesk};
+/// This many hands beside the caller's, and a ring for them.
+fn new_crew<H: Hand>(
+    alloc: Global,
+    tools: &H::Tools,
+    workers: u32,
+) -> Result<Crew<Hired<H>>, NoMemory>
+    requires { workers ≤ 63 }
+    ensures { IfOk result (λ crew. crew ≡ crew_with workers) }
+{
+    let works = hire_all::<H>(alloc, tools, workers as usize)?;
+    let own = Hired(H::hire(alloc, tools)?);
+    Crew::new(alloc, works, own)
+}
 
-    /// All memory that reading symbols of this line code takes, with this many workers beside the caller. At most
-    /// `most` bytes will be taken.
+/// How many windows go through the ring where this many work, the caller among them. On one thread one is enough.
+fn count_windows(workers: u32) -> u32
+    requires { (1 ≤ workers) × (workers ≤ 64) }
+    ensures { result ≡ windows_for workers }
+{
+    if workers == 1 { 1 } else { 2 * workers + 2 }
+}
+
+impl<H: Hand> Desk<H> {
+    ghost use Rattle.std.specs.Prelude.{◌≡◌, ◌-◌, ◌≤◌, ◌^◌, IfOk, vec_capacity};
+    ghost use Rattle.lr_rounds.specs.Crews.{crew_with};
+    ghost use Rattle.lr_reading.specs.Intakes.{IsFreshIntake};
+    ghost use Rattle.lr_reading.specs.Readers.{windows_for};
+
+    /// All memory that reading symbols of this line code takes, where this many work on windows, the caller among
+    /// them. At most `most` bytes will be taken.
     pub(crate) fn new(
         alloc: Global,
         line: LineCode,
@@ -49,24 +70,14 @@ impl<H: Hand> Desk<H> {
         tools: &H::Tools,
     ) -> Result<Desk<H>, NoMemory>
         requires most { most ≤ 2 ^ 61 }
-        requires workers { workers ≤ 63 }
-        ensures fresh { IfOk result (IsFreshDesk most) }
+        requires workers { (1 ≤ workers) × (workers ≤ 64) }
+        ensures fresh { IfOk result (λ desk. IsFreshIntake most desk.intake) }
         ensures line { IfOk result (λ desk. desk.intake.feed.lock.line ≡ line) }
-        ensures workers { IfOk result (λ desk. workers_of desk.gate ≡ workers) }
+        ensures crew { IfOk result (λ desk. desk.crew ≡ crew_with (workers - 1)) }
+        ensures windows { IfOk result (λ desk. vec_capacity desk.intake.spare ≡ windows_for workers) }
     {
-        let cells = 2 * (workers + 1) + 2;
-        let windows = if workers == 0 { 1 } else { cells };
-        let intake = Intake::new(alloc, line, most, windows as usize)?;
-        let works = hire_all::<H>(alloc, tools, workers as usize)?;
-        let own = Hired(H::hire(alloc, tools)?);
-        let (gate, conductor, seats) = Gate::<Hired<H>>::build(alloc, cells, workers)?;
-        Ok(Desk {
-            intake,
-            gate,
-            conductor,
-            seats,
-            works,
-            own,
-        })
+        let intake = Intake::new(alloc, line, most, count_windows(workers) as usize)?;
+        let crew = new_crew::<H>(alloc, tools, workers - 1)?;
+        Ok(Desk { intake, crew })
     }
 }

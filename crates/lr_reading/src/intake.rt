@@ -1,5 +1,5 @@
 ghost use Rattle.std.specs.Prelude.{◌≡◌, IfOk, vec_len, vec_capacity};
-ghost use Rattle.lr_reading.specs.Rounds.{AreOfLine};
+ghost use Rattle.lr_reading.specs.WindowLeads.{AreOfLine};
 
 use crate::symbols::SymbolFeed;
 use lr_bits::NoMemory;
@@ -33,9 +33,8 @@ fn new_windows(alloc: Global, line: LineCode, count: usize) -> Result<Vec<Window
 }
 
 impl Intake {
-    ghost use Rattle.std.specs.Prelude.{◌≡◌, ◌≤◌, ◌^◌, None, IfOk, vec_len, vec_capacity};
-    ghost use Rattle.lr_reading.specs.Feeding.{IsFresh};
-    ghost use Rattle.lr_reading.specs.Rounds.{AreOfLine};
+    ghost use Rattle.std.specs.Prelude.{◌≡◌, ◌<◌, ◌≤◌, ◌^◌, IfOk, vec_capacity};
+    ghost use Rattle.lr_reading.specs.Intakes.{IsFreshIntake};
 
     /// This many windows, and the memory that filling them takes. At most `most` bytes will be taken.
     pub(crate) fn new(
@@ -44,12 +43,11 @@ impl Intake {
         most: u64,
         count: usize,
     ) -> Result<Intake, NoMemory>
-        requires { most ≤ 2 ^ 61 }
-        ensures fresh { IfOk result (λ intake. IsFresh most intake.feed) }
+        requires most { most ≤ 2 ^ 61 }
+        requires some { 0 < count }
+        ensures fresh { IfOk result (IsFreshIntake most) }
         ensures line { IfOk result (λ intake. intake.feed.lock.line ≡ line) }
-        ensures lines { IfOk result (λ intake. AreOfLine line intake.spare.items) }
-        ensures all { IfOk result (λ intake. (vec_len intake.spare ≡ count) × (vec_capacity intake.spare ≡ count)) }
-        ensures none { IfOk result (λ intake. (intake.frames ≡ 0) × (intake.ended ≡ None)) }
+        ensures windows { IfOk result (λ intake. vec_capacity intake.spare ≡ count) }
     {
         let spare = new_windows(alloc, line, count)?;
         let feed = SymbolFeed::new(alloc, line, most)?;

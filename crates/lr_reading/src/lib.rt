@@ -5,15 +5,14 @@
 //! It leads a `Consumer` through the arrivals, however the reads of the source are cut, and takes no byte more than it
 //! was allowed. A consumer knows nothing of how they come; `TakesAll` and `TakesSome` (`Runs`) say how far it was led.
 //!
-//! Windows go through the ring of `lr_gate`. One round hands an arrival to the consumer, or fills a spare window and
-//! puts it, or does a job (`next_round`). What it keeps is `MayGoOn` in `Rounds`: the jobs are the windows of the
-//! frames so far, in their order, and the consumer took what became of the first ones. The order of the arrivals comes
-//! from this alone, and not from who finished first. A loop of rounds on one thread returns (`read_windows`); the same
-//! rounds beside workers (`read_beside`) may wait.
+//! Windows are the jobs of a ring. The rounds that lead them are those of `lr_rounds`; here is the lead, `WindowLead`.
+//! It fills a spare window with the next frame and gives it, and hands what became of a window to the consumer. What it
+//! says of itself is `StandsAt` (`WindowLeads`): the windows given are those of the frames so far, in their order, and
+//! the consumer took what became of the first ones. The order of the arrivals comes from this alone, and not from who
+//! finished first. On one thread reading returns (`read_windows`); beside workers it may wait (`read_by_all`).
 #![tactic(auto)]
 
 mod arrival;
-mod beside;
 mod consumer;
 mod desk;
 mod intake;
@@ -21,14 +20,13 @@ mod laws;
 mod next;
 mod outcome;
 mod reader;
-mod round;
 mod symbols;
 mod totals;
 mod unit_loop;
 mod units;
-mod unread;
 mod way;
-mod window_loop;
+mod window_lead;
+mod windows;
 
 pub use arrival::{Arrival, Position};
 pub use consumer::Consumer;

@@ -1,11 +1,10 @@
 //! What reads the input, with the memory that it takes.
-use crate::beside::read_by_all;
 use crate::consumer::Consumer;
 use crate::desk::Desk;
 use crate::totals::Totals;
 use crate::unit_loop::read_form;
 use crate::way::Way;
-use crate::window_loop::read_windows;
+use crate::windows::{read_by_all, read_windows};
 use lr_bits::NoMemory;
 use lr_forms::Input;
 use lr_frame::Hand;
@@ -29,9 +28,14 @@ impl<H: Hand> Model for Reader<H> {
 
     ghost Value = { ReaderView };
 
-    ghost use Rattle.lr_reading.specs.Ways.{input_of, IsReadyFor};
+    ghost use Rattle.lr_reading.specs.Ways.{input_of, shared_of, IsReadyFor};
 
-    ghost view = { λ r. record { input = input_of r.way; workers = r.workers; most = r.most } };
+    ghost view = { λ r. record {
+      input = input_of r.way;
+      workers = r.workers;
+      most = r.most;
+      shared = shared_of r.way;
+    } };
 
     ghost invariant = { λ r. IsReadyFor r.workers r.most r.way };
 }
@@ -39,6 +43,7 @@ impl<H: Hand> Model for Reader<H> {
 impl<H: Hand> Reader<H> {
     ghost use Rattle.std.specs.Prelude.{◌≡◌, ◌≤◌, [], IfOk};
     ghost use Rattle.lr_reading.specs.Inputs.{MayTake};
+    ghost use Rattle.lr_reading.specs.Readers.{shared_by};
     ghost use Rattle.lr_reading.specs.Runs.{IsLed};
 
     /// All memory that reading this input takes. At most `most` bytes will be taken. This many work on windows, the
@@ -52,11 +57,16 @@ impl<H: Hand> Reader<H> {
     ) -> Result<Reader<H>, NoMemory>
         requires workers { (1 ≤ workers) × (workers ≤ 64) }
         requires most { MayTake input most }
-        ensures { IfOk result (λ reader. reader ≡ record { input = input; workers = workers; most = most }) }
+        ensures { IfOk result (λ reader. reader ≡ record {
+          input = input;
+          workers = workers;
+          most = most;
+          shared = shared_by input workers;
+        }) }
     {
         let way = match input {
             Input::Symbols(line) => {
-                Way::Symbols(Desk::<H>::new(alloc, line, most, workers - 1, tools)?)
+                Way::Symbols(Desk::<H>::new(alloc, line, most, workers, tools)?)
             }
             Input::Units(form) => Way::Units(form),
         };

@@ -1,0 +1,28 @@
+use Rattle.std.proofs.Common.{◌≡◌, None, Some, refl, rules}
+use Rattle.lr_reading.proofs.WindowJobs.{spare_left, spare_again}
+use Rattle.lr_reading.proofs.WindowLeading.{gives_window, ends_input}
+use Rattle.lr_reading.proofs.window_lead.next_window.Goals as goal
+
+pub returns-in-Whole-clause-offers : goal.returns-in-Whole-clause-offers
+returns-in-Whole-clause-offers g c = λ line limit bytes given windows kept s so.
+    let going : c.args.intake.now.ended ≡ None = search rules in
+    gives_window g.S.Source line limit so
+    (record c.args.intake.now { feed = c.next.new.self; spare = c.pop.new.self }) c.next.new.window
+    c.next.new.source (c.in-Whole.ensures.feeds line bytes given s so.feeds) c.in-Whole.ensures.most going refl
+    (spare_left c.args.intake.now.spare.items c.pop.new.self.items c.in-Some.window c.in-Some.ensures.items
+    so.jobs.spare_lines)
+
+pub returns-in-Ended-clause-offers : goal.returns-in-Ended-clause-offers
+returns-in-Ended-clause-offers g c = λ line limit bytes given windows kept s so. (
+  ends_input g.S.Source line limit so
+      (record c.args.intake.now {
+        feed = c.next.new.self;
+        spare = c.push_reserved.new.self;
+        ended = Some c.in-Ended.stop;
+      }) c.in-Ended.stop c.next.new.source (c.in-Ended.ensures.feeds line bytes given s so.feeds)
+      c.in-Ended.ensures.most refl refl
+      (spare_again c.args.intake.now.spare.items c.pop.new.self.items c.in-Some.window c.in-Some.ensures.items
+      so.jobs.spare_lines c.push_reserved.new.self.items c.next.new.window c.push_reserved.ensures.items
+      c.in-Ended.ensures.window_line),
+  refl,
+)

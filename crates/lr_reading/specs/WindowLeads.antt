@@ -1,0 +1,172 @@
+-- How windows are led from a source to a consumer. No clause of a public call cites this.
+use Rattle.std.specs.Prelude.{
+  ◌≡◌,
+  ◌<◌,
+  ◌≤◌,
+  ◌+◌,
+  ◌*◌,
+  ◌^◌,
+  ℕ,
+  true,
+  Option,
+  Some,
+  None,
+  List,
+  [],
+  ◌∷◌,
+  ◌++◌,
+  length,
+  map,
+  take,
+  vec_len,
+  vec_capacity,
+  IsSome,
+  Result,
+}
+use Rattle.std.specs.List.{All}
+use Rattle.lr_conv.specs.Marker.{tail_of}
+use Rattle.lr_conv.specs.declared.line.LineCode.{LineCode}
+use Rattle.lr_io.specs.declared.source.Source.{Ghosts as SourceOf}
+use Rattle.lr_lock.specs.Frames.{AreFrames}
+use Rattle.lr_lock.specs.Symbols.{symbols_of}
+use Rattle.lr_lock.specs.Windows.{WindowView}
+use Rattle.lr_lock.specs.declared.frame.Frame.{Frame}
+use Rattle.lr_frame.specs.Outcomes.{outcome_of_window}
+use Rattle.lr_forms.specs.declared.forms.Input.TheVariants.{Symbols}
+use Rattle.lr_forms.specs.declared.forms.Stop.{Stop}
+use Rattle.lr_rounds.specs.declared.lead.Offer.{Offer}
+use Rattle.lr_rounds.specs.declared.lead.Offer.TheVariants.{Job, Later, Over}
+use Rattle.lr_reading.specs.Feeding.{FeedState, symbols_left, arrivals_given, FedSoFar}
+use Rattle.lr_reading.specs.Runs.{TakesSome, IsLed}
+use Rattle.lr_reading.specs.declared.arrival.Arrival.{Arrival}
+use Rattle.lr_reading.specs.declared.intake.Intake.{Intake}
+use Rattle.lr_reading.specs.declared.totals.Totals.{Totals}
+use Rattle.lr_reading.specs.declared.window_lead.WindowLead.{WindowLead}
+
+-- where the frame of a window stands, and what becomes of it
+abbrev pub arrival_of_window : WindowView → Arrival
+arrival_of_window window = record {
+  position = Some (record { place = window.position; positive = window.positive });
+  outcome = outcome_of_window window.line window.symbols;
+}
+
+-- each window is of this line code
+abbrev pub AreOfLine : LineCode → List WindowView → Type 0
+AreOfLine line windows = All (λ (window : WindowView). window.line ≡ line) windows
+
+-- There are windows. Each is spare, or was given, and what became of it not kept
+pub record HasWindows (given kept : ℕ) (intake : Intake) : Type 0 where
+  pub some : 0 < vec_capacity intake.spare
+  pub all : vec_len intake.spare + given ≡ vec_capacity intake.spare + kept
+
+-- these are the windows of these frames of the bytes, and all windows are of this line code
+pub record HasJobs (line : LineCode) (bytes : List ℕ) (given : List Frame) (windows : List WindowView) (kept : ℕ)
+    (intake : Intake) : Type 0 where
+  pub jobs : map arrival_of_window windows ≡ arrivals_given line bytes given
+  pub job_lines : AreOfLine line windows
+  pub spare_lines : AreOfLine line intake.spare.items
+  pub count : intake.frames ≡ kept
+
+-- no frame comes after these, for this reason
+pub record IsOver (line : LineCode) (bytes : List ℕ) (given : List Frame) (feed : FeedState) (stop : Stop)
+    : Type 0 where
+  pub closed : feed.lock.finished ≡ true
+  pub stop_is : feed.stop ≡ stop
+  pub every : AreFrames (tail_of line) (symbols_of bytes) given
+
+-- the first arrivals, those that were kept
+abbrev pub first_arrivals : LineCode → List ℕ → List Frame → ℕ → List Arrival
+first_arrivals line bytes given kept = take kept (arrivals_given line bytes given)
+
+-- no more windows are to come than this
+abbrev pub left_to_feed : Option Stop → FeedState → ℕ
+left_to_feed None feed = symbols_left feed
+left_to_feed (Some stop) feed = 0
+
+abbrev pub windows_left : Intake → ℕ
+windows_left intake = left_to_feed intake.ended intake.feed
+
+-- ---- the input
+
+module _ {S : Type 0} (source : SourceOf S) (line : LineCode) (limit : ℕ) where
+  -- these bytes were taken, these windows of frames of them given, and what became of the first ones kept
+  pub record IsGiven (bytes : List ℕ) (given : List Frame) (windows : List WindowView) (kept : ℕ) (intake : Intake)
+      (s s' : S) : Type 0 where
+    pub feeds : FedSoFar source line bytes given intake.feed s s'
+    pub limit_is : intake.feed.most ≡ limit
+    pub jobs : HasJobs line bytes given windows kept intake
+    pub over : (stop : Stop) → intake.ended ≡ Some stop → IsOver line bytes given intake.feed stop
+
+  -- more bytes were taken, and these windows are given now; what comes of the earlier ones stays
+  pub record GivesMore (bytes : List ℕ) (given : List Frame) (windows : List WindowView) (kept : ℕ) (intake : Intake)
+      (s s' : S) : Type 0 where
+    pub all : List ℕ
+    pub every : List Frame
+    pub is_given : IsGiven all every windows kept intake s s'
+    pub rest : List Arrival
+    pub grown : arrivals_given line all every ≡ arrivals_given line bytes given ++ rest
+
+  -- the next window; or none while none is spare; or none, as the input ended
+  abbrev pub Offers : Offer WindowView → List ℕ → List Frame → List WindowView → ℕ → Intake → Intake → S → S → S
+      → Type 0
+  Offers (Job window) bytes given windows kept old new s s' s'' =
+      GivesMore bytes given (windows ++ window ∷ []) kept new s s''
+  Offers Later bytes given windows kept old new s s' s'' = (new ≡ old) × (s'' ≡ s') × (vec_len old.spare ≡ 0)
+  Offers Over bytes given windows kept old new s s' s'' =
+      GivesMore bytes given windows kept new s s'' × IsSome new.ended
+
+-- how many windows are spare now, where one was given, and that fewer are left
+abbrev pub OffersLess : Offer WindowView → Intake → Intake → Type 0
+OffersLess (Job window) old new = (vec_len new.spare + 1 ≡ vec_len old.spare)
+    × (vec_capacity new.spare ≡ vec_capacity old.spare) × (windows_left new < windows_left old)
+OffersLess Later old new = new ≡ old
+OffersLess Over old new = (vec_len new.spare ≡ vec_len old.spare)
+    × (vec_capacity new.spare ≡ vec_capacity old.spare) × (windows_left new ≤ windows_left old)
+
+-- ---- the consumer
+
+module _ {C : Type 0} (took : C → List Arrival → C → Type 0) where
+  -- the consumer may be handed one arrival more
+  pub record MayHandOver (most : ℕ) (now : C) : Type 0 where
+    pub first : C
+    pub arrivals : List Arrival
+    pub taken : took first arrivals now
+    pub few : 892 * (length arrivals + 1) ≤ most
+
+-- ---- both
+
+module _ {S C : Type 0} (source : SourceOf S) (took : C → List Arrival → C → Type 0) where
+  -- The lead was the first one and has given these windows, and the consumer took what became of the first `kept` of
+  -- them. It may take what comes of `most` bytes
+  pub record StandsAt (most : ℕ) (start now : WindowLead S C) (windows : List WindowView) (kept : ℕ) : Type 0 where
+    pub same_intake : now.intake.ghost_name ≡ start.intake.ghost_name
+    pub same_source : now.source.ghost_name ≡ start.source.ghost_name
+    pub same_consumer : now.consumer.ghost_name ≡ start.consumer.ghost_name
+    pub few : start.intake.now.feed.most ≤ most
+    pub small : start.intake.now.feed.most ≤ 2 ^ 61
+    pub ready : (c : C) × took c [] start.consumer.now
+    pub has_windows : HasWindows (length windows) kept now.intake.now
+    pub behind : kept ≤ length windows
+    pub bytes : List ℕ
+    pub given : List Frame
+    pub is_given : IsGiven source start.intake.now.feed.lock.line start.intake.now.feed.most bytes given windows kept
+        now.intake.now start.source.now now.source.now
+    pub taken : (c : C) → took c [] start.consumer.now
+        → took c (first_arrivals start.intake.now.feed.lock.line bytes given kept) now.consumer.now
+
+  -- the lead was the first one, and the consumer stopped for this cause
+  pub record StopsAt {Cause : Type 0} (stopped : C → List Arrival → Cause → C → Type 0) (start : WindowLead S C)
+      (cause : Cause) (now : WindowLead S C) : Type 0 where
+    pub same_intake : now.intake.ghost_name ≡ start.intake.ghost_name
+    pub same_source : now.source.ghost_name ≡ start.source.ghost_name
+    pub same_consumer : now.consumer.ghost_name ≡ start.consumer.ghost_name
+    pub some : TakesSome source took (Symbols start.intake.now.feed.lock.line) start.intake.now.feed.most stopped
+        cause start.source.now now.source.now start.consumer.now now.consumer.now
+
+  -- the lead was the first one. It was led to the end of the input, or to where the consumer stopped
+  pub record ComesTo {Cause : Type 0} (stopped : C → List Arrival → Cause → C → Type 0)
+      (came : Result Totals Cause) (start now : WindowLead S C) : Type 0 where
+    pub same_source : now.source.ghost_name ≡ start.source.ghost_name
+    pub same_consumer : now.consumer.ghost_name ≡ start.consumer.ghost_name
+    pub led : IsLed source took (Symbols start.intake.now.feed.lock.line) start.intake.now.feed.most stopped came
+        start.source.now now.source.now start.consumer.now now.consumer.now

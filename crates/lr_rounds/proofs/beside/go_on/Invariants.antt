@@ -1,0 +1,9 @@
+use Rattle.lr_rounds.specs.Rounds.{MayGoOn}
+use Rattle.lr_rounds.proofs.beside.go_on.Given as goal
+
+abbrev pub invariant-loop : goal.invariant-loop
+invariant-loop g l = record {
+  can : (goal.iterator-loop g).can_next l.iterator';
+  ends : (goal.iterator-loop g).is_finite l.iterator';
+  going : MayGoOn g.L.Lead.stands g.L.Lead.is_over l.gate l.conductor l.traffic l.fn.lead l.lead;
+}

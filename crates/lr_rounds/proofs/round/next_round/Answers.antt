@@ -1,0 +1,43 @@
+use Rattle.std.proofs.Common.{refl}
+use Rattle.lr_gate.specs.Seats.{cells_of, view_of}
+use Rattle.lr_rounds.proofs.Left.{helped}
+use Rattle.lr_rounds.proofs.Leading.{goes_on_same, fewer_helped, ends_well}
+use Rattle.lr_rounds.proofs.round.next_round.Goals as goal
+
+pub returns-then-branch-2-clause-goes : goal.returns-then-branch-2-clause-goes
+returns-then-branch-2-clause-goes g c = λ entry may.
+    c.in_ok-put_next.ensures.goes entry (c.in_ok-keep_oldest.ensures.goes entry may)
+
+pub returns-then-help-clause-goes : goal.returns-then-help-clause-goes
+returns-then-help-clause-goes g c = λ entry may.
+    goes_on_same g.L.Lead.stands g.L.Lead.is_over g.L.Lead.left c.args.gate.now
+    (c.in_ok-put_next.ensures.goes entry (c.in_ok-keep_oldest.ensures.goes entry may))
+    c.help.new.self c.put_next.new.traffic c.put_next.new.lead c.help.ensures.mine
+    (helped (cells_of c.args.gate.now) (view_of c.put_next.new.conductor) (view_of c.help.new.self) c.help.result
+    c.help.ensures.helps) refl refl
+
+pub returns-then-help-clause-fewer : goal.returns-then-help-clause-fewer
+returns-then-help-clause-fewer g c = λ did.
+    fewer_helped g.L.Lead.left c.args.gate.now (c.in_ok-keep_oldest.ensures.none c.if-branch.false)
+    (c.in_ok-put_next.ensures.none c.if-branch-2.false) (cells_of c.args.gate.now) c.help.new.self c.help.result
+    c.help.ensures.helps c.if-help.true
+
+pub returns-then-traffic-eq0-clause-goes : goal.returns-then-traffic-eq0-clause-goes
+returns-then-traffic-eq0-clause-goes g c = λ entry may.
+    ends_well g.L.Lead.stands g.L.Lead.is_over g.L.Lead.left c.args.gate.now
+    (c.in_ok-put_next.ensures.goes entry (c.in_ok-keep_oldest.ensures.goes entry may))
+    c.if-traffic.true c.if-traffic-eq0.true
+
+pub returns-clause-goes : goal.returns-clause-goes
+returns-clause-goes g c = λ entry may.
+    goes_on_same g.L.Lead.stands g.L.Lead.is_over g.L.Lead.left c.args.gate.now
+    (c.in_ok-put_next.ensures.goes entry (c.in_ok-keep_oldest.ensures.goes entry may))
+    c.help.new.self c.put_next.new.traffic c.put_next.new.lead c.help.ensures.mine
+    (helped (cells_of c.args.gate.now) (view_of c.put_next.new.conductor) (view_of c.help.new.self) c.help.result
+    c.help.ensures.helps) refl refl
+
+pub keep_oldest-requires-after_bounds : goal.keep_oldest-requires-after_bounds
+keep_oldest-requires-after_bounds g c κs within = c.requires.going
+
+pub returns-clause-fewer : goal.returns-clause-fewer
+returns-clause-fewer g c = λ worked. absurd (cc worked)

@@ -1,0 +1,139 @@
+//! One round of leading jobs through a ring.
+ghost use Rattle.std.specs.Prelude.{◌≡◌, ◌≢◌, ◌<◌, false, true, IfOk, IfErr};
+ghost use Rattle.lr_gate.specs.Seats.{cells_of, workers_of, IsConductorOf, view_of};
+ghost use Rattle.lr_rounds.specs.Rounds.{MayGoOn, Goes, Stops, KeepsNone, PutsNone, rounds_left};
+ghost use Rattle.lr_rounds.specs.declared.round.Round.TheVariants.{Worked, Waits};
+
+use crate::lead::{Lead, Offer};
+use lr_gate::{Conductor, Gate, RingFull};
+use lr_gatecore::Work;
+
+/// How many jobs are in the ring, and whether the lead said that it is over.
+#[derive(Clone, Copy)]
+pub(crate) struct Traffic {
+    /// How many jobs were put and not taken.
+    pub waiting: u32,
+    pub over: bool,
+}
+
+/// What a round came to.
+#[derive(Clone, Copy)]
+pub(crate) enum Round {
+    /// It did something.
+    Worked,
+    /// There is nothing to do until a worker has finished.
+    Waits,
+    /// All that came of the jobs was kept, and there are no more.
+    Ended,
+}
+
+/// Lets the lead keep what came of the oldest job, if that is done. The answer is whether it was.
+fn keep_oldest<W: Work, L: Lead<W>>(
+    gate: &Gate<W>,
+    conductor: &mut Conductor<W>,
+    lead: &mut L,
+    traffic: &mut Traffic,
+) -> Result<bool, L::Cause>
+    requires { (entry : L) × MayGoOn L.stands L.is_over gate.now conductor.old traffic.old entry lead.old }
+    ensures mine { IsConductorOf gate.now conductor.new }
+    ensures running { (view_of conductor.new).stopped ≡ false }
+    ensures goes { (entry : L) → MayGoOn L.stands L.is_over gate.now conductor.old traffic.old entry lead.old
+        → IfOk result (λ _. MayGoOn L.stands L.is_over gate.now conductor.new traffic.new entry lead.new) }
+    ensures stops { (entry : L) → MayGoOn L.stands L.is_over gate.now conductor.old traffic.old entry lead.old
+        → IfErr result (λ cause. Stops L.stands L.stopped cause entry lead.new) }
+    ensures fewer { IfOk result (λ did. did ≡ true
+        → rounds_left L.left conductor.new traffic.new lead.new
+        < rounds_left L.left conductor.old traffic.old lead.old) }
+    ensures none { IfOk result (λ did. did ≡ false
+        → KeepsNone gate.now conductor.old conductor.new traffic.old traffic.new lead.old lead.new) }
+{
+    let Some(done) = conductor.take(gate) else {
+        return Ok(false);
+    };
+    lead.keep(done)?;
+    traffic.waiting -= 1;
+    Ok(true)
+}
+
+/// Puts the next job, where the ring has room for it, or notes that there are no more. The answer is whether it did
+/// either.
+fn put_next<W: Work, L: Lead<W>>(
+    gate: &Gate<W>,
+    conductor: &mut Conductor<W>,
+    cells: u32,
+    lead: &mut L,
+    traffic: &mut Traffic,
+) -> Result<bool, L::Cause>
+    requires going { (entry : L) × MayGoOn L.stands L.is_over gate.now conductor.old traffic.old entry lead.old }
+    requires cells { cells ≡ cells_of gate.now }
+    requires some { 0 < cells }
+    ensures mine { IsConductorOf gate.now conductor.new }
+    ensures running { (view_of conductor.new).stopped ≡ false }
+    ensures goes { (entry : L) → MayGoOn L.stands L.is_over gate.now conductor.old traffic.old entry lead.old
+        → IfOk result (λ _. MayGoOn L.stands L.is_over gate.now conductor.new traffic.new entry lead.new) }
+    ensures stops { (entry : L) → MayGoOn L.stands L.is_over gate.now conductor.old traffic.old entry lead.old
+        → IfErr result (λ cause. Stops L.stands L.stopped cause entry lead.new) }
+    ensures fewer { IfOk result (λ did. did ≡ true
+        → rounds_left L.left conductor.new traffic.new lead.new
+        < rounds_left L.left conductor.old traffic.old lead.old) }
+    ensures none { IfOk result (λ did. did ≡ false
+        → PutsNone L.left conductor.old conductor.new traffic.old traffic.new lead.old lead.new) }
+{
+    if traffic.over || traffic.waiting >= cells {
+        return Ok(false);
+    }
+    match lead.next()? {
+        Offer::Job(job) => {
+            match conductor.put(gate, job) {
+                Ok(()) => {}
+                Err(RingFull(_)) => unreachable!(),
+            }
+            traffic.waiting += 1;
+            Ok(true)
+        }
+        Offer::Later => Ok(false),
+        Offer::Over => {
+            traffic.over = true;
+            Ok(true)
+        }
+    }
+}
+
+/// Keeps what came of a job, or else puts a job, or else does one, whichever can be done first. `cells` is how many
+/// cells the ring has.
+pub(crate) fn next_round<W: Work, L: Lead<W>>(
+    gate: &Gate<W>,
+    conductor: &mut Conductor<W>,
+    own: &mut W,
+    cells: u32,
+    lead: &mut L,
+    traffic: &mut Traffic,
+) -> Result<Round, L::Cause>
+    requires going { (entry : L) × MayGoOn L.stands L.is_over gate.now conductor.old traffic.old entry lead.old }
+    requires cells { cells ≡ cells_of gate.now }
+    requires some { 0 < cells }
+    ensures mine { IsConductorOf gate.now conductor.new }
+    ensures running { (view_of conductor.new).stopped ≡ false }
+    ensures goes { (entry : L) → MayGoOn L.stands L.is_over gate.now conductor.old traffic.old entry lead.old
+        → IfOk result (λ round. Goes L.stands L.is_over gate.now round conductor.new traffic.new entry lead.new) }
+    ensures stops { (entry : L) → MayGoOn L.stands L.is_over gate.now conductor.old traffic.old entry lead.old
+        → IfErr result (λ cause. Stops L.stands L.stopped cause entry lead.new) }
+    ensures fewer { IfOk result (λ round. round ≡ Worked
+        → rounds_left L.left conductor.new traffic.new lead.new
+        < rounds_left L.left conductor.old traffic.old lead.old) }
+    ensures alone { workers_of gate.now ≡ 0 → IfOk result (λ round. round ≢ Waits) }
+{
+    if keep_oldest(gate, conductor, lead, traffic)? {
+        return Ok(Round::Worked);
+    }
+    if put_next(gate, conductor, cells, lead, traffic)? {
+        return Ok(Round::Worked);
+    }
+    if conductor.help(gate, own) {
+        return Ok(Round::Worked);
+    }
+    if traffic.over && traffic.waiting == 0 {
+        return Ok(Round::Ended);
+    }
+    Ok(Round::Waits)
+}

@@ -1,0 +1,52 @@
+// A roll on one thread.
+ghost use Rattle.std.specs.Prelude.{◌≡◌, ◌<◌};
+
+use crate::roll::{Refused, Roll};
+use crate::works::Same;
+use lr_bits::NoMemory;
+use lr_rounds::{Crew, lead_alone};
+use std::alloc::Global;
+use std::test::Fail;
+
+// Whether all numbers come back in order, where at most `at_once` are under way.
+fn comes_back(alloc: Global, limit: u32, at_once: u32) -> Result<bool, NoMemory>
+    requires { 0 < at_once }
+{
+    let crew = Crew::new(alloc, Vec::new(alloc), Same)?;
+    let mut roll = Roll::new(limit, at_once);
+    let led = lead_alone(crew, &mut roll).is_ok();
+    Ok(led && roll.is_complete())
+}
+
+// Why a roll stops, and how many numbers it had kept.
+fn stops(alloc: Global, mut roll: Roll) -> Result<Option<(Refused, u32)>, NoMemory>
+    requires { (roll.given ≡ 0) × (roll.kept ≡ 0) }
+{
+    let crew = Crew::new(alloc, Vec::new(alloc), Same)?;
+    match lead_alone(crew, &mut roll) {
+        Ok(()) => Ok(None),
+        Err(cause) => Ok(Some((cause, roll.kept))),
+    }
+}
+
+#[test]
+fn numbers_come_back_in_order(rt: HostRuntime) -> Result<(), Fail> {
+    let alloc = rt.alloc();
+    assert!(rt; comes_back(alloc, 100, 1)?);
+    assert!(rt; comes_back(alloc, 100, 3)?);
+    assert!(rt; comes_back(alloc, 100, 1_000)?);
+    assert!(rt; comes_back(alloc, 0, 1)?);
+    Ok(())
+}
+
+#[test]
+fn a_refusal_stops_the_rounds(rt: HostRuntime) -> Result<(), Fail> {
+    let alloc = rt.alloc();
+    let mut roll = Roll::new(20, 2);
+    roll.never_given = 7;
+    assert!(rt; matches!(stops(alloc, roll)?, Some((Refused::Give(7), kept)) if kept <= 7));
+    let mut roll = Roll::new(20, 2);
+    roll.never_kept = 5;
+    assert!(rt; matches!(stops(alloc, roll)?, Some((Refused::Keep(5), 5))));
+    Ok(())
+}

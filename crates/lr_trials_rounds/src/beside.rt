@@ -1,0 +1,113 @@
+// A roll with workers beside the caller.
+ghost use Rattle.std.specs.Prelude.{◌≡◌, ◌≤◌, IfOk, vec_len};
+
+use crate::roll::{Refused, Roll};
+use crate::works::{Meeting, Same};
+use lr_bits::NoMemory;
+use lr_rounds::{Crew, Unled, lead_alone, lead_beside, lead_by_all};
+use std::alloc::Global;
+use std::sync::atomic::AtomicBool;
+use std::sync::atomic::Ordering::SeqCst;
+use std::sync::{Arc, Wait};
+use std::test::Fail;
+use std::thread::Threads;
+
+// A crew with this number of seats.
+fn crew_of(alloc: Global, seats: usize) -> Result<Crew<Same>, NoMemory>
+    requires { seats ≤ 63 }
+{
+    let mut works = Vec::with_capacity(alloc, seats)?;
+    for _ in 0..seats {
+        works.push_reserved(Same);
+    }
+    Crew::new(alloc, works, Same)
+}
+
+// Whether all numbers come back in order, by all of a crew with this number of seats.
+fn comes_back<R: Threads + Wait + Sync>(
+    rt: &R,
+    alloc: Global,
+    seats: usize,
+) -> Result<bool, NoMemory>
+    requires { seats ≤ 63 }
+{
+    let crew = crew_of(alloc, seats)?;
+    let mut roll = Roll::new(1_000, 100);
+    let led = lead_by_all(rt, crew, &mut roll).is_ok();
+    Ok(led && roll.is_complete())
+}
+
+// Whether a roll stops at the number that it refuses to keep.
+fn stops<R: Threads + Wait + Sync>(rt: &R, alloc: Global) -> Result<bool, NoMemory> {
+    let crew = crew_of(alloc, 3)?;
+    let mut roll = Roll::new(1_000, 100);
+    roll.never_kept = 500;
+    let led = lead_beside(rt, crew, &mut roll);
+    Ok(matches!(led, Err(Unled::Stopped(Refused::Keep(500)))) && roll.in_order && roll.kept == 500)
+}
+
+// What the works of a crew share.
+#[derive(Drop)]
+struct Flags {
+    met: Arc<AtomicBool, Global>,
+    too_late: Arc<AtomicBool, Global>,
+}
+
+impl Flags {
+    fn new(alloc: Global) -> Result<Flags, NoMemory> {
+        Ok(Flags {
+            met: Arc::new(alloc, AtomicBool::new(false))?,
+            too_late: Arc::new(alloc, AtomicBool::new(false))?,
+        })
+    }
+
+    fn work(&self) -> Result<Meeting, NoMemory> {
+        Ok(Meeting {
+            met: Arc::try_clone(&self.met)?,
+            too_late: Arc::try_clone(&self.too_late)?,
+        })
+    }
+}
+
+// Whether two works meet, of which one is the caller's.
+fn meets<R: Threads + Wait + Sync>(rt: &R, alloc: Global) -> Result<bool, NoMemory> {
+    let flags = Flags::new(alloc)?;
+    let mut works = Vec::with_capacity(alloc, 1)?;
+    works.push_reserved(flags.work()?);
+    let crew = Crew::new(alloc, works, flags.work()?)?;
+    let mut roll = Roll::new(10, 10);
+    let led = lead_by_all(rt, crew, &mut roll).is_ok();
+    Ok(led && roll.is_complete() && !flags.too_late.load(SeqCst))
+}
+
+// Whether a caller who works alone is noticed: what waits for another waits too long.
+fn is_noticed_alone(alloc: Global) -> Result<bool, NoMemory> {
+    let flags = Flags::new(alloc)?;
+    let crew = Crew::new(alloc, Vec::new(alloc), flags.work()?)?;
+    let mut roll = Roll::new(10, 10);
+    let led = lead_alone(crew, &mut roll).is_ok();
+    Ok(led && roll.is_complete() && flags.too_late.load(SeqCst))
+}
+
+#[test]
+fn any_number_of_seats_leads_alike(rt: HostRuntime) -> Result<(), Fail> {
+    let alloc = rt.alloc();
+    assert!(rt; comes_back(&rt, alloc, 0)?);
+    assert!(rt; comes_back(&rt, alloc, 1)?);
+    assert!(rt; comes_back(&rt, alloc, 3)?);
+    assert!(rt; comes_back(&rt, alloc, 63)?);
+    Ok(())
+}
+
+#[test]
+fn a_refusal_stops_all(rt: HostRuntime) -> Result<(), Fail> {
+    assert!(rt; stops(&rt, rt.alloc())?);
+    Ok(())
+}
+
+#[test]
+fn two_works_meet(rt: HostRuntime) -> Result<(), Fail> {
+    assert!(rt; meets(&rt, rt.alloc())?);
+    assert!(rt; is_noticed_alone(rt.alloc())?);
+    Ok(())
+}
