@@ -77,7 +77,7 @@ fails form each all number done lines piece pixels left others pieces fault coun
     inr (part.lacks fault
     (subst (λ (ps : List (List ℕ)). PiecesFail form each number done (all - done) ps fault) (sym first) (inl here)))
 
-no_lines : (form : Form) (each : ℕ) (pieces : List (List ℕ)) → GiveLines form each 0 pieces []
+pub no_lines : (form : Form) (each : ℕ) (pieces : List (List ℕ)) → GiveLines form each 0 pieces []
 no_lines form each [] = (refl, refl)
 no_lines form each (piece ∷ pieces) =
     let none : BeginsWithLines form 0 [] (bits_of piece) =

@@ -17,12 +17,14 @@ use Rattle.lr_rice.specs.Laws.{IsForm}
 use Rattle.lr_rice.proofs.Reading.{take_numbers, take_numbers-is}
 use Rattle.lr_rice.proofs.ReadingLines.{lines_are_one, lines_have_no_fault, faults_are_one}
 use Rattle.lr_image.specs.declared.fault.ImageFault.{ImageFault}
+use Rattle.lr_image.specs.declared.layout.Layout.{Layout}
 use Rattle.lr_image.specs.declared.shape.Shape.{Shape}
 use Rattle.lr_image.specs.Laws.{OutcomesAreOne}
 use Rattle.lr_image.specs.Picture.{Picture}
 use Rattle.lr_image.specs.Pieces.{GiveLines, PiecesFail}
 use Rattle.lr_image.specs.Plain.{BeginsWithPixels, PixelsFail}
-use Rattle.lr_image.specs.Reading.{HasImageFault, HasNoHeader, HasNoPixels, HasNoShape, HasPixels, IsImageOf}
+use Rattle.lr_image.specs.Reading.{HasImageFault, HasLayout, HasNoHeader, HasNoLayout, HasNoPixels, HasNoShape}
+use Rattle.lr_image.specs.Reading.{HasPixels, IsImageOf}
 use Rattle.lr_image.specs.Reading.{LacksPixels}
 use Rattle.lr_image.specs.Reading.{data_field, data_pieces, line_form}
 use Rattle.lr_image.specs.Shapes.{IsShapeOf, shape_of}
@@ -36,21 +38,21 @@ abbrev values_in : Result (List ℕ × List ℕ) Cause → List ℕ
 values_in (Ok read) = read.0
 values_in (Err cause) = []
 
-plain_are_one : (bits n : ℕ) (bytes pixels others : List ℕ) → BeginsWithPixels bits n bytes pixels
-    → BeginsWithPixels bits n bytes others → pixels ≡ others
-plain_are_one bits n bytes pixels others a b =
+pub plain_are_one : (bits n : ℕ) (string pixels others : List ℕ) → BeginsWithPixels bits n string pixels
+    → BeginsWithPixels bits n string others → pixels ≡ others
+plain_are_one bits n string pixels others a b =
     let power : 0 < 2 ^ bits = pow_pos bits in
     let first : take_numbers bits (length pixels) (flat_map (number_bits bits) pixels ++ a.rest) ≡ Ok (pixels, a.rest) =
     take_numbers-is bits pixels a.rest (λ j inside. omega (arith, a.small j 0 inside)) in
     let second : take_numbers bits (length others) (flat_map (number_bits bits) others ++ b.rest) ≡ Ok
     (others, b.rest) =
     take_numbers-is bits others b.rest (λ j inside. omega (arith, b.small j 0 inside)) in
-    let one : take_numbers bits n (bits_of bytes) ≡ Ok (pixels, a.rest) = rw (← a.count, a.written) first in
-    let two : take_numbers bits n (bits_of bytes) ≡ Ok (others, b.rest) = rw (← b.count, b.written) second in
+    let one : take_numbers bits n string ≡ Ok (pixels, a.rest) = rw (← a.count, a.written) first in
+    let two : take_numbers bits n string ≡ Ok (others, b.rest) = rw (← b.count, b.written) second in
     ap values_in (sym one ∙ two)
 
 plain_lacks_none : (bits n : ℕ) (bytes pixels : List ℕ) (fault : ImageFault) → 1 ≤ bits
-    → BeginsWithPixels bits n bytes pixels → PixelsFail bits n bytes fault → ⊥
+    → BeginsWithPixels bits n (bits_of bytes) pixels → PixelsFail bits n bytes fault → ⊥
 plain_lacks_none bits n bytes pixels fault some has fail =
     let front = flat_map (number_bits bits) pixels in
     let size : 8 * length bytes ≡ length front + length has.rest =
@@ -109,7 +111,7 @@ pixels_are_one : (file : File) (size : ℕ) (s : Structure) (lossless : Option L
     → IsShapeOf s lossless → HasPixels file size s lossless pixels → HasPixels file size s lossless others
     → pixels ≡ others
 pixels_are_one file size s None pixels others is a b =
-    plain_are_one s.bits (s.columns * s.lines) (data_field file size) pixels others a b
+    plain_are_one s.bits (s.columns * s.lines) (bits_of (data_field file size)) pixels others a b
 pixels_are_one file size s (Some l) pixels others is a b =
     lines_are (line_form s l) l.lines s.lines (data_pieces file size) pixels others (form_is s l is.0 is.1) a b
 
@@ -135,42 +137,62 @@ picture_from : {a b c p q r : ℕ} {xs ys : List ℕ} → a ≡ p → b ≡ q �
     (record { bits = p; columns = q; lines = r; pixels = ys })
 picture_from e f g h = rw (e, f, g, h) refl
 
+layout_from : {m n : ℕ} {s t : Shape} → m ≡ n → s ≡ t
+    → ◌≡◌ {A = Layout} (record { header_bytes = m; shape = s }) (record { header_bytes = n; shape = t })
+layout_from e f = rw (e, f) refl
+
+layouts_are_one : (file : File) (one other : Layout) → HasLayout file one → HasLayout file other → one ≡ other
+layouts_are_one file one other a b =
+    let header : a.header ≡ b.header = headers_are_one (proper_of file) a.header b.header a.is_header b.is_header in
+    let again : shape_of a.header ≡ Ok other.shape = subst (λ (h : Header). shape_of h ≡ Ok other.shape)
+    (sym header) b.is_shape in
+    let first = a.is_shape in
+    let shape : one.shape ≡ other.shape = cc in
+    layout_from (a.is_size ∙ ap (λ (h : Header). length h.bytes) header ∙ sym b.is_size) shape
+
 images_are_one : (file : File) (picture other : Picture) → IsImageOf file picture → IsImageOf file other
     → picture ≡ other
 images_are_one file picture other a b =
-    let header : a.header ≡ b.header = headers_are_one (proper_of file) a.header b.header a.is_header b.is_header in
-    let again : shape_of a.header ≡ Ok b.shape = subst (λ (h : Header). shape_of h ≡ Ok b.shape)
-    (sym header) b.is_shape in
-    let first = a.is_shape in
-    let shape : b.shape ≡ a.shape = cc in
-    let s = a.shape.structure in
-    let pixels : HasPixels file (length a.header.bytes) s a.shape.lossless other.pixels =
-    subst (λ (sh : Shape). HasPixels file (length a.header.bytes) sh.structure sh.lossless other.pixels) shape
-    (subst (λ (h : Header). HasPixels file (length h.bytes) b.shape.structure b.shape.lossless other.pixels)
-    (sym header) b.pixels) in
-    picture_from (a.bits ∙ ap (λ (sh : Shape). sh.structure.bits) (sym shape) ∙ sym b.bits)
-    (a.columns ∙ ap (λ (sh : Shape). sh.structure.columns) (sym shape) ∙ sym b.columns)
-    (a.lines ∙ ap (λ (sh : Shape). sh.structure.lines) (sym shape) ∙ sym b.lines)
-    (pixels_are_one file (length a.header.bytes) s a.shape.lossless picture.pixels other.pixels
-    (shape_sound a.header a.shape a.is_shape) a.pixels pixels)
+    let same : a.layout ≡ b.layout = layouts_are_one file a.layout b.layout a.has_layout b.has_layout in
+    let one = a.layout in
+    let s = one.shape.structure in
+    let pixels : HasPixels file one.header_bytes s one.shape.lossless other.pixels =
+    subst (λ (l : Layout). HasPixels file l.header_bytes l.shape.structure l.shape.lossless other.pixels)
+    (sym same) b.pixels in
+    picture_from (a.bits ∙ ap (λ (l : Layout). l.shape.structure.bits) same ∙ sym b.bits)
+    (a.columns ∙ ap (λ (l : Layout). l.shape.structure.columns) same ∙ sym b.columns)
+    (a.lines ∙ ap (λ (l : Layout). l.shape.structure.lines) same ∙ sym b.lines)
+    (pixels_are_one file one.header_bytes s one.shape.lossless picture.pixels other.pixels
+    (shape_sound a.has_layout.header one.shape a.has_layout.is_shape) a.pixels pixels)
 
-no_fault : (file : File) (picture : Picture) (fault : ImageFault) → IsImageOf file picture
-    → HasImageFault file fault → ⊥
-no_fault file picture fault a (inl b) = headers_have_no_fault (proper_of file) a.header b.cause a.is_header b.fails
-no_fault file picture fault a (inr (inl b)) =
+-- a header that is an image's has no fault of its own
+no_layout_fault : (file : File) (layout : Layout) (fault : ImageFault) → HasLayout file layout
+    → HasNoLayout file fault → ⊥
+no_layout_fault file layout fault a (inl b) =
+    headers_have_no_fault (proper_of file) a.header b.cause a.is_header b.fails
+no_layout_fault file layout fault a (inr b) =
     let header : b.header ≡ a.header = headers_are_one (proper_of file) b.header a.header b.is_header a.is_header in
     let wrong : shape_of a.header ≡ Err fault = subst (λ (h : Header). shape_of h ≡ Err fault) header b.fails in
     let first = a.is_shape in
     cc
-no_fault file picture fault a (inr (inr b)) =
-    let header : b.header ≡ a.header = headers_are_one (proper_of file) b.header a.header b.is_header a.is_header in
-    let again : shape_of a.header ≡ Ok b.shape = subst (λ (h : Header). shape_of h ≡ Ok b.shape) header b.is_shape in
-    let first = a.is_shape in
-    let shape : b.shape ≡ a.shape = cc in
-    pixels_lack_none file (length a.header.bytes) a.shape.structure a.shape.lossless picture.pixels fault
-    (shape_sound a.header a.shape a.is_shape) a.pixels
-    (subst (λ (sh : Shape). LacksPixels file (length a.header.bytes) sh.structure sh.lossless fault) shape
-    (subst (λ (h : Header). LacksPixels file (length h.bytes) b.shape.structure b.shape.lossless fault) header b.lacks))
+
+no_fault : (file : File) (picture : Picture) (fault : ImageFault) → IsImageOf file picture
+    → HasImageFault file fault → ⊥
+no_fault file picture fault a (inl b) = no_layout_fault file a.layout fault a.has_layout b
+no_fault file picture fault a (inr b) =
+    let same : b.layout ≡ a.layout = layouts_are_one file b.layout a.layout b.has_layout a.has_layout in
+    let one = a.layout in
+    pixels_lack_none file one.header_bytes one.shape.structure one.shape.lossless picture.pixels fault
+    (shape_sound a.has_layout.header one.shape a.has_layout.is_shape) a.pixels
+    (subst (λ (l : Layout). LacksPixels file l.header_bytes l.shape.structure l.shape.lossless fault) same b.lacks)
+
+headers_fail_once : (file : File) (fault other : ImageFault) → HasNoHeader file fault → HasNoHeader file other
+    → fault ≡ other
+headers_fail_once file fault other a b =
+    let same = header_faults_are_one (proper_of file) a.cause b.cause a.fails b.fails in
+    let first = a.is_fault in
+    let second = b.is_fault in
+    cc
 
 -- two faults of a header that is there
 shapes_fail_once : (file : File) (fault other : ImageFault) → HasNoShape file fault → HasNoShape file other
@@ -181,48 +203,30 @@ shapes_fail_once file fault other a b =
     let first = a.fails in
     cc
 
-shape_or_pixels : (file : File) (fault other : ImageFault) → HasNoShape file fault → HasNoPixels file other → ⊥
-shape_or_pixels file fault other a b =
-    let header : b.header ≡ a.header = headers_are_one (proper_of file) b.header a.header b.is_header a.is_header in
-    let again : shape_of a.header ≡ Ok b.shape = subst (λ (h : Header). shape_of h ≡ Ok b.shape) header b.is_shape in
-    let first = a.fails in
-    cc
+layouts_fail_once : (file : File) (fault other : ImageFault) → HasNoLayout file fault → HasNoLayout file other
+    → fault ≡ other
+layouts_fail_once file fault other (inl a) (inl b) = headers_fail_once file fault other a b
+layouts_fail_once file fault other (inl a) (inr b) =
+    absurd (headers_have_no_fault (proper_of file) b.header a.cause b.is_header a.fails)
+layouts_fail_once file fault other (inr a) (inl b) =
+    absurd (headers_have_no_fault (proper_of file) a.header b.cause a.is_header b.fails)
+layouts_fail_once file fault other (inr a) (inr b) = shapes_fail_once file fault other a b
 
 pixels_fail_once : (file : File) (fault other : ImageFault) → HasNoPixels file fault → HasNoPixels file other
     → fault ≡ other
 pixels_fail_once file fault other a b =
-    let header : b.header ≡ a.header = headers_are_one (proper_of file) b.header a.header b.is_header a.is_header in
-    let again : shape_of a.header ≡ Ok b.shape = subst (λ (h : Header). shape_of h ≡ Ok b.shape) header b.is_shape in
-    let first = a.is_shape in
-    let shape : b.shape ≡ a.shape = cc in
-    lacks_once file (length a.header.bytes) a.shape.structure a.shape.lossless fault other
-    (shape_sound a.header a.shape a.is_shape) a.lacks
-    (subst (λ (sh : Shape). LacksPixels file (length a.header.bytes) sh.structure sh.lossless other) shape
-    (subst (λ (h : Header). LacksPixels file (length h.bytes) b.shape.structure b.shape.lossless other) header b.lacks))
-
-headers_fail_once : (file : File) (fault other : ImageFault) → HasNoHeader file fault → HasNoHeader file other
-    → fault ≡ other
-headers_fail_once file fault other a b =
-    let same = header_faults_are_one (proper_of file) a.cause b.cause a.fails b.fails in
-    let first = a.is_fault in
-    let second = b.is_fault in
-    cc
+    let same : b.layout ≡ a.layout = layouts_are_one file b.layout a.layout b.has_layout a.has_layout in
+    let one = a.layout in
+    lacks_once file one.header_bytes one.shape.structure one.shape.lossless fault other
+    (shape_sound a.has_layout.header one.shape a.has_layout.is_shape) a.lacks
+    (subst (λ (l : Layout). LacksPixels file l.header_bytes l.shape.structure l.shape.lossless other) same b.lacks)
 
 faults_are : (file : File) (fault other : ImageFault) → HasImageFault file fault → HasImageFault file other
     → fault ≡ other
-faults_are file fault other (inl a) (inl b) = headers_fail_once file fault other a b
-faults_are file fault other (inl a) (inr (inl b)) =
-    absurd (headers_have_no_fault (proper_of file) b.header a.cause b.is_header a.fails)
-faults_are file fault other (inl a) (inr (inr b)) =
-    absurd (headers_have_no_fault (proper_of file) b.header a.cause b.is_header a.fails)
-faults_are file fault other (inr (inl a)) (inl b) =
-    absurd (headers_have_no_fault (proper_of file) a.header b.cause a.is_header b.fails)
-faults_are file fault other (inr (inl a)) (inr (inl b)) = shapes_fail_once file fault other a b
-faults_are file fault other (inr (inl a)) (inr (inr b)) = absurd (shape_or_pixels file fault other a b)
-faults_are file fault other (inr (inr a)) (inl b) =
-    absurd (headers_have_no_fault (proper_of file) a.header b.cause a.is_header b.fails)
-faults_are file fault other (inr (inr a)) (inr (inl b)) = absurd (shape_or_pixels file other fault b a)
-faults_are file fault other (inr (inr a)) (inr (inr b)) = pixels_fail_once file fault other a b
+faults_are file fault other (inl a) (inl b) = layouts_fail_once file fault other a b
+faults_are file fault other (inl a) (inr b) = absurd (no_layout_fault file b.layout fault b.has_layout a)
+faults_are file fault other (inr a) (inl b) = absurd (no_layout_fault file a.layout other a.has_layout b)
+faults_are file fault other (inr a) (inr b) = pixels_fail_once file fault other a b
 
 pub outcomes_are_one : OutcomesAreOne
 outcomes_are_one file (Ok picture) (Ok other) a b = ap Ok (images_are_one file picture other a b)

@@ -1,36 +1,23 @@
 -- Bodies cut into pieces.
-use Rattle.std.proofs.Common.{◌≡◌, ◌<◌, ◌≤◌, ◌-◌, ◌+◌, ℕ, List, [], ◌∷◌, length, take, drop, refl, sym, ap, ◌∙◌, arith}
-use Rattle.std.specs.List.{sum}
-use Rattle.std.proofs.lemmas.List.{length-drop}
-use Rattle.std.proofs.lemmas.List.Sums.{sum_by-cons}
-use Rattle.lr_bits.specs.File.{pieces_of}
+use Rattle.std.proofs.Common.{◌≡◌, ◌<◌, ◌≤◌, ◌-◌, ◌+◌, ℕ, List, [], ◌∷◌, ◌++◌, length, get_or, map, take, drop, refl}
+use Rattle.std.proofs.Common.{sym, ap, ◌∙◌, arith, length-append}
+use Rattle.std.specs.List.{concat}
+use Rattle.std.proofs.lemmas.List.{drop_all, drop_at, drop_more, get_or-map, length-map}
+use Rattle.std.proofs.lemmas.List.{take-append-drop, take_at, take_more}
+use Rattle.std.proofs.lemmas.List.Folds.{concat-append}
+use Rattle.lr_bits.specs.File.{File, bytes_of}
 use Rattle.lr_image.specs.Pieces.{piece_with, pieces_after}
+use Rattle.lr_image.specs.Places.{IsPlaceIn, pieces_at}
+use Rattle.lr_image.specs.declared.pieces.PiecePlace.{PiecePlace}
 
--- the pieces in these bytes, which are bodies of these lengths
-abbrev pub pieces_in : ℕ → List ℕ → List ℕ → List (List ℕ)
-pieces_in skipped lengths bytes = pieces_after skipped (pieces_of lengths bytes)
+-- the body at a place
+abbrev pub body_at : File → PiecePlace → List ℕ
+body_at file place = get_or file.bodies place.bodies []
 
--- the bodies that are left have these pieces
-pub record AreLeft (skipped : ℕ) (lengths bytes : List ℕ) (pieces : List (List ℕ)) : Type 0 where
-  pub are : pieces_in skipped lengths bytes ≡ pieces
-  pub whole : sum lengths ≡ length bytes
-  pub most : length bytes ≤ 67108864
-
--- the first of these bodies, its piece, and what is left after it
-pub record IsFirst (skipped : ℕ) (lengths bytes body piece : List ℕ) (after : ℕ) (others rest : List ℕ) : Type 0 where
-  pub size : ℕ
-  pub lengths_are : lengths ≡ size ∷ others
-  pub front : body ≡ take size bytes
-  pub back : rest ≡ drop size bytes
-  pub part : piece ≡ drop skipped body
-  pub still : after ≡ skipped - length body
-
-sum_is : (lengths others : List ℕ) (size : ℕ) → lengths ≡ size ∷ others → sum lengths ≡ size + sum others
-sum_is lengths others size are = ap sum are ∙ sum_by-cons (λ x. x) size others
-
-pub body_inside : (lengths others bytes : List ℕ) (size : ℕ) → sum lengths ≡ length bytes
-    → lengths ≡ size ∷ others → size ≤ length bytes
-body_inside lengths others bytes size whole are = omega (arith, sum_is lengths others size are)
+-- the place after it, where it has this many bytes
+abbrev pub place_after : PiecePlace → ℕ → PiecePlace
+place_after place size =
+    record { bodies = place.bodies + 1; bytes = place.bytes + size; skipped = place.skipped - size }
 
 piece_with-some : (piece : List ℕ) (pieces : List (List ℕ)) → 0 < length piece
     → piece_with piece pieces ≡ piece ∷ pieces
@@ -41,48 +28,95 @@ piece_with-none : (piece : List ℕ) (pieces : List (List ℕ)) → length piece
 piece_with-none [] pieces none = refl
 piece_with-none (byte ∷ bytes) pieces none = absurd (omega arith)
 
-first_is : (skipped : ℕ) (lengths bytes body piece : List ℕ) (after : ℕ) (others rest : List ℕ)
-    → IsFirst skipped lengths bytes body piece after others rest
-    → pieces_in skipped lengths bytes ≡ piece_with piece (pieces_in after others rest)
-first_is skipped lengths bytes body piece after others rest first =
-    rw (first.lengths_are, first.part, first.still, first.front, first.back) refl
+-- the length that stands for the body is its own
+pub is_body : (file : File) (place : PiecePlace) (size : ℕ) (lengths : List ℕ) → lengths ≡ map length file.bodies
+    → place.bodies < length lengths → size ≡ get_or lengths place.bodies 0
+    → (place.bodies < length file.bodies) × (size ≡ length (body_at file place))
+is_body file place size lengths are inside is =
+    let within : place.bodies < length file.bodies = omega (arith, ap length are, length-map file.bodies length) in (
+      within,
+      is ∙ ap (λ (l : List ℕ). get_or l place.bodies 0) are ∙ get_or-map length file.bodies place.bodies [] 0 within,
+    )
 
--- what is left after it is whole, and no more than before
-pub rest_is_whole : (skipped : ℕ) (lengths bytes body piece : List ℕ) (after : ℕ) (others rest : List ℕ)
-    → IsFirst skipped lengths bytes body piece after others rest → sum lengths ≡ length bytes → length bytes ≤ 67108864
-    → (sum others ≡ length rest) × (length rest ≤ 67108864)
-rest_is_whole skipped lengths bytes body piece after others rest first whole most =
-    let sums : sum lengths ≡ first.size + sum others = sum_is lengths others first.size first.lengths_are in
-    let size : length rest ≡ length bytes - first.size = ap length first.back ∙ length-drop first.size bytes in
-    (omega arith, omega arith)
+module _ (file : File) (place : PiecePlace) (size : ℕ) (is : IsPlaceIn file place)
+    (inside : place.bodies < length file.bodies) (size_is : size ≡ length (body_at file place)) where
+  -- all bytes are those before the body, its own, and those after it
+  bytes_are : bytes_of file ≡ concat (take place.bodies file.bodies)
+      ++ (body_at file place ++ concat (drop (place.bodies + 1) file.bodies))
+  bytes_are =
+      ap (λ (l : List (List ℕ)). concat l) (sym (take-append-drop place.bodies file.bodies))
+      ∙ concat-append (take place.bodies file.bodies) (drop place.bodies file.bodies)
+      ∙ ap (λ (l : List (List ℕ)). concat (take place.bodies file.bodies) ++ concat l)
+      (drop_more file.bodies place.bodies [] inside)
 
--- the first body has a piece
-pub piece_comes : (skipped : ℕ) (lengths bytes body piece : List ℕ) (after : ℕ) (others rest : List ℕ)
-    (pieces : List (List ℕ))
-    → AreLeft skipped lengths bytes pieces → IsFirst skipped lengths bytes body piece after others rest
-    → 0 < length piece
-    → pieces ≡ piece ∷ pieces_in after others rest
-piece_comes skipped lengths bytes body piece after others rest pieces left first some =
-    sym left.are ∙ first_is skipped lengths bytes body piece after others rest first
-    ∙ piece_with-some piece (pieces_in after others rest) some
+  pub body_inside : place.bytes + size ≤ length (bytes_of file)
+  body_inside =
+      let front = concat (take place.bodies file.bodies) in
+      let rest = concat (drop (place.bodies + 1) file.bodies) in
+      omega (
+        arith,
+        is.bytes,
+        size_is,
+        ap length bytes_are,
+        length-append front (body_at file place ++ rest),
+        length-append (body_at file place) rest,
+      )
 
--- the first body has none
-pub none_comes : (skipped : ℕ) (lengths bytes body piece : List ℕ) (after : ℕ) (others rest : List ℕ)
-    (pieces : List (List ℕ))
-    → AreLeft skipped lengths bytes pieces → IsFirst skipped lengths bytes body piece after others rest
-    → length piece ≡ 0
-    → AreLeft after others rest pieces
-none_comes skipped lengths bytes body piece after others rest pieces left first none =
-    let whole = rest_is_whole skipped lengths bytes body piece after others rest first left.whole left.most in
-    record {
-      are = sym (piece_with-none piece (pieces_in after others rest) none)
-          ∙ sym (first_is skipped lengths bytes body piece after others rest first) ∙ left.are;
-      whole = whole.0;
-      most = whole.1;
-    }
+  pub body_is : take (place.bytes + size - place.bytes) (drop place.bytes (bytes_of file)) ≡ body_at file place
+  body_is =
+      let front = concat (take place.bodies file.bodies) in
+      let rest = concat (drop (place.bodies + 1) file.bodies) in
+      let many : place.bytes + size - place.bytes ≡ size = omega arith in
+      ap (λ (n : ℕ). take n (drop place.bytes (bytes_of file))) many
+      ∙ ap (λ (l : List ℕ). take size (drop place.bytes l)) bytes_are
+      ∙ ap (λ (l : List ℕ). take size l) (drop_at front (body_at file place ++ rest) place.bytes (sym is.bytes))
+      ∙ take_at (body_at file place) rest size (sym size_is)
+
+  -- the next place lies in the file
+  pub passed : IsPlaceIn file (place_after place size)
+  passed =
+      let front = concat (take place.bodies file.bodies) in
+      let body = body_at file place in
+      let more : concat (take (place.bodies + 1) file.bodies) ≡ front ++ (body ++ []) =
+      ap (λ (l : List (List ℕ)). concat l) (take_more file.bodies place.bodies [] inside)
+      ∙ concat-append (take place.bodies file.bodies) (body ∷ []) in
+      record {
+        bodies = omega (arith, inside);
+        bytes = omega (
+          arith,
+          is.bytes,
+          size_is,
+          ap length more,
+          length-append front (body ++ []),
+          length-append body [],
+        );
+      }
+
+  -- the pieces are that of the body, if it has one, and those from the next place on
+  pieces_are : pieces_at file place
+      ≡ piece_with (drop place.skipped (body_at file place)) (pieces_at file (place_after place size))
+  pieces_are =
+      ap (λ (l : List (List ℕ)). pieces_after place.skipped l) (drop_more file.bodies place.bodies [] inside)
+      ∙ ap (λ (n : ℕ). piece_with (drop place.skipped (body_at file place))
+      (pieces_after (place.skipped - n) (drop (place.bodies + 1) file.bodies))) (sym size_is)
+
+  module _ (piece : List ℕ) (is_part : piece ≡ drop place.skipped (body_at file place)) where
+    pieces_with : pieces_at file place ≡ piece_with piece (pieces_at file (place_after place size))
+    pieces_with = pieces_are
+        ∙ ap (λ (l : List ℕ). piece_with l (pieces_at file (place_after place size))) (sym is_part)
+
+    pub piece_comes : 0 < length piece → pieces_at file place ≡ piece ∷ pieces_at file (place_after place size)
+    piece_comes some = pieces_with ∙ piece_with-some piece (pieces_at file (place_after place size)) some
+
+    pub none_comes : length piece ≡ 0 → pieces_at file place ≡ pieces_at file (place_after place size)
+    none_comes none = pieces_with ∙ piece_with-none piece (pieces_at file (place_after place size)) none
 
 -- no body is left
-pub no_pieces : (skipped : ℕ) (lengths bytes : List ℕ) (pieces : List (List ℕ)) → AreLeft skipped lengths bytes pieces
-    → length lengths ≡ 0 → pieces ≡ []
-no_pieces skipped [] bytes pieces left none = sym left.are
-no_pieces skipped (n ∷ lengths) bytes pieces left none = absurd (omega arith)
+pub no_pieces : (file : File) (place : PiecePlace) → length file.bodies ≤ place.bodies → pieces_at file place ≡ []
+no_pieces file place all =
+    ap (λ (l : List (List ℕ)). pieces_after place.skipped l) (drop_all place.bodies file.bodies all)
+
+-- at the first place
+pub first_in : (file : File) (skipped : ℕ)
+    → IsPlaceIn file (record { bodies = 0; bytes = 0; skipped = skipped })
+first_in file skipped = record { bodies = omega arith; bytes = refl }

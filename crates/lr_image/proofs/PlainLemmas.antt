@@ -8,15 +8,14 @@ use Rattle.std.proofs.lemmas.List.Concat.{flat_map-append}
 use Rattle.std.proofs.lemmas.List.Elements.{All-push, All-take}
 use Rattle.std.proofs.Math.Nat.{mul-le-mul_left}
 use Rattle.lr_bits.specs.Bits.{bits_of, number_bits}
-use Rattle.lr_bits.proofs.BitsLemmas.{length-bits_of}
 use Rattle.lr_bits.proofs.ReaderLemmas.{bits_of-append, bits_of-cons, bits_of-nil, length-number_bits}
 use Rattle.lr_image.specs.Plain.{BeginsWithPixels}
 
--- this many pixels were read, and these bits are left
-pub record PixelsRead (bits n : ℕ) (bytes pixels rest : List ℕ) : Type 0 where
+-- this many pixels were read of the string of bits, and these bits are left
+pub record PixelsRead (bits n : ℕ) (string pixels rest : List ℕ) : Type 0 where
   pub count : length pixels ≡ n
   pub small : All (λ pixel. pixel < 2 ^ bits) pixels
-  pub written : bits_of bytes ≡ flat_map (number_bits bits) pixels ++ rest
+  pub written : string ≡ flat_map (number_bits bits) pixels ++ rest
 
 pub length-written : (bits : ℕ) (pixels : List ℕ) → length (flat_map (number_bits bits) pixels) ≡ bits * length pixels
 length-written bits [] = omega arith
@@ -28,13 +27,13 @@ length-written bits (pixel ∷ pixels) =
       length-written bits pixels,
     )
 
-pub none_read : (bits : ℕ) (bytes : List ℕ) → PixelsRead bits 0 bytes [] (bits_of bytes)
-none_read bits bytes = record { count = refl; small = λ k d inside. absurd (omega arith); written = refl }
+pub none_read : (bits : ℕ) (string : List ℕ) → PixelsRead bits 0 string [] string
+none_read bits string = record { count = refl; small = λ k d inside. absurd (omega arith); written = refl }
 
-pub pixel_more : (bits n : ℕ) (bytes pixels now rest : List ℕ) (pixel : ℕ) → PixelsRead bits n bytes pixels now
+pub pixel_more : (bits n : ℕ) (string pixels now rest : List ℕ) (pixel : ℕ) → PixelsRead bits n string pixels now
     → pixel < 2 ^ bits → now ≡ number_bits bits pixel ++ rest
-    → PixelsRead bits (n + 1) bytes (pixels ++ pixel ∷ []) rest
-pixel_more bits n bytes pixels now rest pixel read small next =
+    → PixelsRead bits (n + 1) string (pixels ++ pixel ∷ []) rest
+pixel_more bits n string pixels now rest pixel read small next =
     let count = read.count in
     let front = flat_map (number_bits bits) pixels in
     let one : flat_map (number_bits bits) (pixels ++ pixel ∷ []) ≡ front ++ number_bits bits pixel =
@@ -47,9 +46,9 @@ pixel_more bits n bytes pixels now rest pixel read small next =
           ∙ ap (λ l. l ++ rest) (sym one);
     }
 
-pub pixels_begin : (bits n : ℕ) (bytes pixels rest : List ℕ) → PixelsRead bits n bytes pixels rest
-    → BeginsWithPixels bits n bytes pixels
-pixels_begin bits n bytes pixels rest read = record {
+pub pixels_begin : (bits n : ℕ) (string pixels rest : List ℕ) → PixelsRead bits n string pixels rest
+    → BeginsWithPixels bits n string pixels
+pixels_begin bits n string pixels rest read = record {
   count = read.count;
   small = read.small;
   rest = rest;
@@ -57,12 +56,11 @@ pixels_begin bits n bytes pixels rest read = record {
 }
 
 -- where enough bits are there, those of the next pixel are
-pub next_is_there : (bits count n : ℕ) (bytes pixels rest : List ℕ) → PixelsRead bits n bytes pixels rest
-    → n < count → bits * count ≤ 8 * length bytes → length rest < bits → ⊥
-next_is_there bits count n bytes pixels rest read before enough few =
+pub next_is_there : (bits count n : ℕ) (string pixels rest : List ℕ) → PixelsRead bits n string pixels rest
+    → n < count → bits * count ≤ length string → length rest < bits → ⊥
+next_is_there bits count n string pixels rest read before enough few =
     let front = flat_map (number_bits bits) pixels in
-    let all : length (bits_of bytes) ≡ 8 * length bytes = length-bits_of bytes in
-    let parts : length (bits_of bytes) ≡ length front + length rest = ap length read.written
+    let parts : length string ≡ length front + length rest = ap length read.written
     ∙ length-append front rest in
     let long : length front ≡ bits * n = length-written bits pixels ∙ ap (λ k. bits * k) read.count in
     let some : bits * (n + 1) ≤ bits * count = mul-le-mul_left bits (omega arith) in
@@ -74,7 +72,7 @@ bits_of-bytes (byte ∷ bytes) = bits_of-cons byte bytes ∙ ap (λ l. number_bi
 
 -- bytes are pixels of 8 bits
 pub bytes_begin : (n : ℕ) (bytes : List ℕ) → n ≤ length bytes → ((i : ℕ) → get_or bytes i 0 < 256)
-    → BeginsWithPixels 8 n bytes (take n bytes)
+    → BeginsWithPixels 8 n (bits_of bytes) (take n bytes)
 bytes_begin n bytes inside small = record {
   count = length-take-le n bytes inside;
   small = All-take (λ pixel. pixel < 2 ^ 8) n bytes

@@ -1,5 +1,6 @@
 -- Which image a mission file has, and which fault where it has none.
 use Rattle.std.specs.Prelude.{◌≡◌, ◌⊎◌, ◌+◌, ◌*◌, ℕ, List, length, drop, Option, Some, None, Result, Ok, Err}
+use Rattle.lr_bits.specs.Bits.{bits_of}
 use Rattle.lr_bits.specs.File.{File, proper_of}
 use Rattle.lr_headers.specs.declared.fault.HeaderFault.{HeaderFault}
 use Rattle.lr_headers.specs.declared.fields.Structure.{Structure}
@@ -8,7 +9,7 @@ use Rattle.lr_headers.specs.Tiling.{Header, HasHeaderFault, IsHeaderOf}
 use Rattle.lr_rice.specs.CodedLines.{Form, form_of}
 use Rattle.lr_image.specs.declared.fault.ImageFault.{ImageFault}
 use Rattle.lr_image.specs.declared.fault.ImageFault.TheVariants.{Headers, NoMemory}
-use Rattle.lr_image.specs.declared.shape.Shape.{Shape}
+use Rattle.lr_image.specs.declared.layout.Layout.{Layout}
 use Rattle.lr_image.specs.Picture.{Picture}
 use Rattle.lr_image.specs.Pieces.{GiveLines, LackLines, pieces_after}
 use Rattle.lr_image.specs.Plain.{BeginsWithPixels, PixelsFail}
@@ -29,7 +30,8 @@ abbrev pub data_pieces : File → ℕ → List (List ℕ)
 data_pieces file size = pieces_after (10 + size) file.bodies
 
 abbrev pub HasPixels : File → ℕ → Structure → Option Lossless → List ℕ → Type 0
-HasPixels file size s None pixels = BeginsWithPixels s.bits (s.columns * s.lines) (data_field file size) pixels
+HasPixels file size s None pixels =
+    BeginsWithPixels s.bits (s.columns * s.lines) (bits_of (data_field file size)) pixels
 HasPixels file size s (Some l) pixels = GiveLines (line_form s l) l.lines s.lines (data_pieces file size) pixels
 
 abbrev pub LacksPixels : File → ℕ → Structure → Option Lossless → ImageFault → Type 0
@@ -38,16 +40,21 @@ LacksPixels file size s (Some l) fault = LackLines (line_form s l) l.lines s.lin
 
 -- ---- images
 
--- the file has this image
-pub record IsImageOf (file : File) (picture : Picture) : Type 0 where
+-- the header of the file says that the image has this shape, and the data field comes after this many bytes of it
+pub record HasLayout (file : File) (layout : Layout) : Type 0 where
   pub header : Header
   pub is_header : IsHeaderOf (proper_of file) header
-  pub shape : Shape
-  pub is_shape : shape_of header ≡ Ok shape
-  pub bits : picture.bits ≡ shape.structure.bits
-  pub columns : picture.columns ≡ shape.structure.columns
-  pub lines : picture.lines ≡ shape.structure.lines
-  pub pixels : HasPixels file (length header.bytes) shape.structure shape.lossless picture.pixels
+  pub is_size : layout.header_bytes ≡ length header.bytes
+  pub is_shape : shape_of header ≡ Ok layout.shape
+
+-- the file has this image
+pub record IsImageOf (file : File) (picture : Picture) : Type 0 where
+  pub layout : Layout
+  pub has_layout : HasLayout file layout
+  pub bits : picture.bits ≡ layout.shape.structure.bits
+  pub columns : picture.columns ≡ layout.shape.structure.columns
+  pub lines : picture.lines ≡ layout.shape.structure.lines
+  pub pixels : HasPixels file layout.header_bytes layout.shape.structure layout.shape.lossless picture.pixels
 
 -- there is no header
 pub record HasNoHeader (file : File) (fault : ImageFault) : Type 0 where
@@ -61,17 +68,19 @@ pub record HasNoShape (file : File) (fault : ImageFault) : Type 0 where
   pub is_header : IsHeaderOf (proper_of file) header
   pub fails : shape_of header ≡ Err fault
 
+-- the header can't be read, or isn't one of an image
+abbrev pub HasNoLayout : File → ImageFault → Type 0
+HasNoLayout file fault = HasNoHeader file fault ⊎ HasNoShape file fault
+
 -- the data field doesn't have all pixels of the image
 pub record HasNoPixels (file : File) (fault : ImageFault) : Type 0 where
-  pub header : Header
-  pub is_header : IsHeaderOf (proper_of file) header
-  pub shape : Shape
-  pub is_shape : shape_of header ≡ Ok shape
-  pub lacks : LacksPixels file (length header.bytes) shape.structure shape.lossless fault
+  pub layout : Layout
+  pub has_layout : HasLayout file layout
+  pub lacks : LacksPixels file layout.header_bytes layout.shape.structure layout.shape.lossless fault
 
 -- the file has no image, and this is its first fault
 abbrev pub HasImageFault : File → ImageFault → Type 0
-HasImageFault file fault = HasNoHeader file fault ⊎ (HasNoShape file fault ⊎ HasNoPixels file fault)
+HasImageFault file fault = HasNoLayout file fault ⊎ HasNoPixels file fault
 
 -- what the file has: an image, or a first fault
 abbrev pub HasOutcome : File → Result Picture ImageFault → Type 0

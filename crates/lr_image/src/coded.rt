@@ -1,6 +1,6 @@
 //! Pixels that are coded without loss.
 
-ghost use Rattle.std.specs.Prelude.{◌≡◌, ◌<◌, ◌≤◌, ◌^◌, ◌⊎◌, [], IfErr, IfOk, OnOk, length};
+ghost use Rattle.std.specs.Prelude.{◌≡◌, ◌<◌, ◌≤◌, ◌^◌, ◌⊎◌, IfErr, IfOk, OnOk, length};
 ghost use Rattle.lr_bits.specs.Bits.{bits_of};
 ghost use Rattle.lr_rice.specs.CodedLines.{GrowsByLines};
 ghost use Rattle.lr_image.specs.Pieces.{GiveLines, LackLines, PieceFails, pieces_after};
@@ -9,14 +9,12 @@ ghost use Rattle.lr_image.specs.Shapes.{IsCoding, IsSize};
 ghost use Rattle.lr_image.specs.declared.fault.ImageFault.TheVariants.{NoMemory};
 
 use crate::ImageFault;
-use crate::pieces::Pieces;
+use crate::pieces::{first_piece, next_piece};
+use crate::room::{most_lines, pixels_with_room};
 use lr_bits::{MissionFile, Pixels};
 use lr_headers::{Lossless, Structure};
 use lr_rice::{RiceFault, decode_lines};
 use std::alloc::Global;
-
-/// The bits of the shortest identifier, which begins each line. After it stands a sample.
-const IDENTIFIER_BITS: u64 = 3;
 
 /// The samples of all lines, from the bodies of the file after this many bytes.
 pub(crate) fn coded_pixels(
@@ -35,12 +33,15 @@ pub(crate) fn coded_pixels(
 {
     let all = u32::from(structure.lines);
     let each = u32::from(lossless.lines);
-    let mut pixels = room(alloc, Pieces::new(file, skipped), structure, each)?;
-    let mut pieces = Pieces::new(file, skipped);
+    let mut place = first_piece(skipped);
+    let room = most_lines(file, place, structure, lossless);
+    let Ok(mut pixels) = pixels_with_room(alloc, structure.columns, room) else {
+        return Err(ImageFault::NoMemory);
+    };
     let mut number = 0;
     let mut done = 0;
     while done < all {
-        let Some(piece) = pieces.next() else {
+        let Some(piece) = next_piece(file, &mut place) else {
             return Err(ImageFault::Short {
                 pixels: u64::from(done) * u64::from(structure.columns),
             });
@@ -85,39 +86,4 @@ fn decode_piece(
             fault,
         }),
     }
-}
-
-/// No pixels, and room for those of all lines that the pieces can have: this takes the memory in one piece.
-fn room(
-    alloc: Global,
-    pieces: Pieces,
-    structure: Structure,
-    each: u32,
-) -> Result<Pixels, ImageFault>
-    requires { IsSize 5 structure }
-    ensures ok { IfOk result (λ pixels. pixels ≡ []) }
-    ensures err { IfErr result (λ fault. fault ≡ NoMemory) }
-{
-    let least = u64::from(structure.bits) + IDENTIFIER_BITS;
-    let lines = most_lines(pieces, least, each, u32::from(structure.lines));
-    let Ok(mut pixels) = Pixels::zeros(alloc, usize::from(structure.columns) * lines as usize)
-    else {
-        return Err(ImageFault::NoMemory);
-    };
-    pixels.truncate(0);
-    Ok(pixels)
-}
-
-/// How many lines the pieces can have, `each` in a piece and `all` together, where a line has at least this many bits.
-fn most_lines(pieces: Pieces, least: u64, each: u32, all: u32) -> u32
-    requires { 1 ≤ least }
-    ensures { result ≤ all }
-{
-    let mut left = pieces;
-    let mut lines = 0u32;
-    while let Some(piece) = left.next() {
-        let here = (8 * piece.len() as u64 / least).min(u64::from(each));
-        lines = all.min(lines.saturating_add(here as u32));
-    }
-    lines
 }

@@ -91,8 +91,8 @@ fn are_below(pixels: &[u16], bits: u8) -> bool
     pixels.iter().all(|pixel| u32::from(*pixel) < limit)
 }
 
-/// The image of pixels of which it is known that they make one.
-pub(crate) fn whole_image(bits: u8, columns: u32, lines: u32, pixels: Pixels) -> Image
+/// The image of pixels of which it is known that they make one. It looks at none of them, and takes no memory.
+pub fn whole_image(bits: u8, columns: u32, lines: u32, pixels: Pixels) -> Image
     requires { IsPicture (record { bits = bits; columns = columns; lines = lines; pixels = pixels }) }
     ensures { result ≡ record { bits = bits; columns = columns; lines = lines; pixels = pixels } }
 {

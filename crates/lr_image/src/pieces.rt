@@ -1,62 +1,54 @@
 //! The parts of a file's bodies that lie in its data field.
 
-ghost use Rattle.std.specs.Prelude.{◌≡◌, ◌∷◌, ◌<◌, ◌≤◌, ◌^◌, [], IfNone, IfSome, drop, length};
-ghost use Rattle.lr_image.specs.Pieces.{pieces_after};
+ghost use Rattle.std.specs.Prelude.{◌≡◌, ◌∷◌, ◌<◌, ◌^◌, [], IfNone, IfSome, drop, length};
+ghost use Rattle.lr_image.specs.Places.{IsPlaceIn, first_place, pieces_at};
 
 use lr_bits::MissionFile;
-use std::marker::Model;
 
-/// The bodies that are left, and how many of their bytes come before the data field. It is seen as the list of the
-/// pieces to come.
-#[derive(Drop)]
-pub(crate) struct Pieces<'a> {
-    lengths: &'a [u16],
-    bytes: &'a [u8],
-    skipped: usize,
+/// How far the pieces of a file were taken.
+#[derive(Clone, Copy)]
+pub struct PiecePlace {
+    /// How many bodies were passed.
+    pub bodies: usize,
+    /// How many bytes these have.
+    pub bytes: usize,
+    /// How many bytes of the others come before the data field.
+    pub skipped: usize,
 }
 
-impl<'a> Model for Pieces<'a> {
-    ghost use Rattle.std.specs.Prelude.{◌≡◌, ◌≤◌, ℕ, List, length, sum};
-    ghost use Rattle.lr_bits.specs.File.{pieces_of};
-    ghost use Rattle.lr_image.specs.Pieces.{pieces_after};
-
-    ghost Value = { List (List ℕ) };
-
-    ghost view = { λ p. pieces_after p.skipped (pieces_of p.lengths.now p.bytes.now) };
-
-    ghost invariant = { λ p. (sum p.lengths.now ≡ length p.bytes.now) × (length p.bytes.now ≤ 67108864) };
+/// The place of a file's first piece, where this many bytes come before the data field.
+pub fn first_piece(skipped: usize) -> PiecePlace
+    ensures { result ≡ first_place skipped }
+{
+    PiecePlace {
+        bodies: 0,
+        bytes: 0,
+        skipped,
+    }
 }
 
-impl<'a> Pieces<'a> {
-    /// The pieces of a file whose data field comes after this many bytes.
-    pub(crate) fn new(file: &'a MissionFile, skipped: usize) -> Self
-        ensures { result ≡ pieces_after skipped file.now.bodies }
-    {
-        Pieces {
-            lengths: file.lengths(),
-            bytes: file.bytes(),
-            skipped,
+/// The piece at this place of the file. The place moves on to the next one.
+pub fn next_piece<'a>(file: &'a MissionFile, place: &mut PiecePlace) -> Option<&'a [u8]>
+    requires { IsPlaceIn file.now place.old }
+    ensures some { IfSome result (λ piece. pieces_at file.now place.old ≡ piece.now ∷ pieces_at file.now place.new) }
+    ensures none { IfNone result (pieces_at file.now place.old ≡ []) }
+    ensures short { IfSome result (λ piece. length piece.now < 2 ^ 61) }
+    ensures place { IsPlaceIn file.now place.new }
+{
+    let lengths = file.lengths();
+    let bytes = file.bytes();
+    while place.bodies < lengths.len() {
+        let length = usize::from(lengths[place.bodies]);
+        let body = &bytes[place.bytes..place.bytes + length];
+        let piece = part_after(body, place.skipped);
+        place.bodies += 1;
+        place.bytes += length;
+        place.skipped = place.skipped.saturating_sub(length);
+        if !piece.is_empty() {
+            return Some(piece);
         }
     }
-
-    /// The next piece.
-    pub(crate) fn next(&mut self) -> Option<&'a [u8]>
-        ensures some { IfSome result (λ piece. self.old ≡ piece.now ∷ self.new) }
-        ensures none { IfNone result (self.old ≡ []) }
-        ensures short { IfSome result (λ piece. length piece.now < 2 ^ 61) }
-    {
-        while let Some((length, lengths)) = self.lengths.split_first() {
-            let (body, bytes) = self.bytes.split_at(usize::from(*length));
-            let piece = part_after(body, self.skipped);
-            self.lengths = lengths;
-            self.bytes = bytes;
-            self.skipped = self.skipped.saturating_sub(body.len());
-            if !piece.is_empty() {
-                return Some(piece);
-            }
-        }
-        None
-    }
+    None
 }
 
 /// The bytes after the first `skipped` ones.

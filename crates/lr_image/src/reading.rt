@@ -8,11 +8,10 @@ ghost use Rattle.lr_image.specs.declared.fault.ImageFault.TheVariants.{NoMemory}
 
 use crate::coded::coded_pixels;
 use crate::image::whole_image;
+use crate::layout::layout_of;
 use crate::plain::plain_pixels;
-use crate::shape::shape_of;
 use crate::{Image, ImageFault, Shape};
 use lr_bits::{MissionFile, Pixels, TRANSPORT_HEADER_BYTES};
-use lr_headers::{HeaderFault, Records};
 use std::alloc::Global;
 
 /// The image of a mission file.
@@ -20,15 +19,9 @@ pub fn image_of(alloc: Global, file: &MissionFile) -> Result<Image, ImageFault>
     ensures ok { IfOk result (IsImageOf file.now) }
     ensures err { IfErr result (HasFaultOrMemory file.now) }
 {
-    let records = match Records::read(alloc, file.proper()) {
-        Ok(records) => records,
-        Err(HeaderFault::NoMemory) => return Err(ImageFault::NoMemory),
-        Err(fault) => return Err(ImageFault::Headers(fault)),
-    };
-    let shape = shape_of(&records)?;
-    let header = records.header_length() as usize;
-    let pixels = pixels_of(alloc, file, header, shape)?;
-    let structure = shape.structure;
+    let layout = layout_of(alloc, file)?;
+    let pixels = pixels_of(alloc, file, layout.header_bytes, layout.shape)?;
+    let structure = layout.shape.structure;
     Ok(whole_image(
         structure.bits,
         u32::from(structure.columns),

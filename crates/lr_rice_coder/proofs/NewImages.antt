@@ -307,18 +307,20 @@ pub record IsKnown (file : File) (picture : Picture) (header : Header) (s : Stru
 pub known : (file : File) (picture : Picture) (header : Header) → IsImageOf file picture
     → IsHeaderOf (proper_of file) header → (s : Structure) × IsKnown file picture header s
 known file picture header image is_header =
-    let same : image.header ≡ header = headers_are_one (proper_of file) image.header header image.is_header is_header in
-    let s = image.shape.structure in
-    let seen = shown image.header image.shape image.is_shape in
-    let sound = shape_sound image.header image.shape image.is_shape in
-    let size = least_size s image.shape.lossless sound in (
+    let layout = image.layout in
+    let has = image.has_layout in
+    let same : has.header ≡ header = headers_are_one (proper_of file) has.header header has.is_header is_header in
+    let s = layout.shape.structure in
+    let seen = shown has.header layout.shape has.is_shape in
+    let sound = shape_sound has.header layout.shape has.is_shape in
+    let size = least_size s layout.shape.lossless sound in (
       s,
       record {
         says = subst (λ (h : Header). structure_of h ≡ Some s) same seen.says;
         shown = subst (λ (h : Header). is_encrypted h ≡ false) same seen.shown;
         size = size;
         is = picture_is picture s image.bits image.columns image.lines
-            (makes_picture file (length image.header.bytes) s image.shape.lossless picture.pixels sound image.pixels);
+            (makes_picture file layout.header_bytes s layout.shape.lossless picture.pixels sound image.pixels);
         bits = image.bits;
         columns = image.columns;
         lines = image.lines;
@@ -379,10 +381,13 @@ repacked_keeps_image file new block is_block re =
     subst (λ (l : List ℕ). GiveLines form 1 picture.lines lines l) (all_rows picture k.is)
     (rows_given picture block 0 picture.lines lines can (omega arith) re.coded) in
     let image : IsImageOf (repacked_file file header picture block lines) picture = record {
-      header = new_header header picture block (8 * total);
-      is_header = is_header;
-      shape = new_shape picture block;
-      is_shape = shape;
+      layout = record { header_bytes = length bytes; shape = new_shape picture block };
+      has_layout = record {
+        header = new_header header picture block (8 * total);
+        is_header = is_header;
+        is_size = refl;
+        is_shape = shape;
+      };
       bits = refl;
       columns = refl;
       lines = refl;

@@ -1,38 +1,13 @@
-use Rattle.std.proofs.Common.{◌≡◌, ◌<◌, length, take, subst, arith}
-use Rattle.std.proofs.lemmas.List.{take_all, take_more_set}
-use Rattle.lr_image.specs.Plain.{BeginsWithPixels}
-use Rattle.lr_image.proofs.PlainLemmas.{next_is_there, none_read, pixel_more, pixels_begin}
+use Rattle.std.proofs.Common.{◌≡◌, ◌≤◌, ◌+◌, ◌*◌, length, arith}
+use Rattle.lr_image.proofs.PlainLemmas.{bytes_begin}
 use Rattle.lr_image.proofs.plain.read_pixels.Goals as goal
 
-pub loop-pixel-init : goal.loop-pixel-init
-loop-pixel-init c = rw c.new-reader.ensures (none_read c.args.bits c.args.bytes.now)
-
-pub unreachable-requires : goal.unreachable-requires
-unreachable-requires c =
-    let now = c.loop-pixel in
-    next_is_there c.args.bits (length c.args.pixels.now) now.pixel-index c.args.bytes.now
-    (take now.pixel-index now.pixels)
-    now.reader now.invariant c.loop-pixel-test.true c.requires.enough c.in_default.ensures.err.0
-
-pub loop-pixel-preserved : goal.loop-pixel-preserved
-loop-pixel-preserved c =
-    let now = c.loop-pixel in
-    let size = now.auto.pixels in
-    let inside : now.pixel-index < length now.pixels = omega (arith, c.loop-pixel-test.true) in
-    rw (take_more_set now.pixels now.pixel-index c.in-Ok.number inside)
-    (pixel_more c.args.bits now.pixel-index c.args.bytes.now
-    (take now.pixel-index now.pixels) now.reader c.bits.new.self
-    c.in-Ok.number now.invariant c.in-Ok.ensures.fits c.in-Ok.ensures.ok)
-
-pub returns : goal.returns
-returns c =
-    let now = c.loop-pixel in
-    let size = now.auto.pixels in
-    let all : now.pixel-index ≡ length c.args.pixels.now = omega arith in
-    let bits = c.args.bits in
+pub returns-then-first_bit-eq0 : goal.returns-then-first_bit-eq0
+returns-then-first_bit-eq0 c =
     let bytes = c.args.bytes.now in
-    let begin : BeginsWithPixels bits now.pixel-index bytes (take now.pixel-index now.pixels) =
-    pixels_begin bits now.pixel-index bytes (take now.pixel-index now.pixels) now.reader now.invariant in
-    subst (λ n. BeginsWithPixels bits n bytes now.pixels) all
-    (subst (λ l. BeginsWithPixels bits now.pixel-index bytes l)
-    (take_all now.pixel-index now.pixels (omega arith)) begin)
+    let count = length c.args.pixels.now in
+    let eight : c.args.bits ≡ 8 = c.if-bits-eq8.true in
+    let enough : c.args.first_bit + 8 * count ≤ 8 * length bytes = rw eight at c.requires.enough in
+    let inside : count ≤ length bytes = omega arith in
+    rw (eight, c.if-first_bit-eq0.true, c.copy_bytes.ensures)
+    (bytes_begin count bytes inside (λ i. (c.type_inv.bytes i).fits))

@@ -3,7 +3,7 @@ use Rattle.lr_image.proofs.reading.image_of.Goals as goal
 
 pub whole_image-requires : goal.whole_image-requires
 whole_image-requires c =
-    let shape = c.in_ok-shape.shape in
+    let layout = c.in_ok-layout.layout in
     rw (c.from.ensures, c.from-2.ensures)
-    (makes_picture c.args.file.now c.header_length-header.result shape.structure shape.lossless c.in_ok-pixels.pixels
-    c.in_ok-shape.ensures.sound c.in_ok-pixels.ensures.ok)
+    (makes_picture c.args.file.now layout.header_bytes layout.shape.structure layout.shape.lossless
+    c.in_ok-pixels.pixels c.in_ok-layout.ensures.sound c.in_ok-pixels.ensures.ok)

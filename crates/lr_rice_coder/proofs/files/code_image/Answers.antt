@@ -1,4 +1,4 @@
-use Rattle.std.proofs.Common.{◌≡◌, ◌+◌, ◌<◌, ◌≤◌, ◌++◌, ℕ, List, length, ap, sym, ◌∙◌, refl, subst, arith, rules}
+use Rattle.std.proofs.Common.{◌≡◌, ◌+◌, ℕ, length, ap, sym, ◌∙◌, refl, subst, arith}
 use Rattle.std.specs.List.{concat}
 use Rattle.lr_bits.specs.File.{IsFile, counter_of}
 use Rattle.lr_rice_coder.specs.Fronts.{picture_with}

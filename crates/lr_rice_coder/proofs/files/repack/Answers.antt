@@ -1,4 +1,5 @@
-use Rattle.std.proofs.Common.{◌≡◌, ◌<◌, ℕ, List, sym, ◌∙◌, refl, subst, arith, rules}
+use Rattle.std.proofs.Common.{◌≡◌, ◌<◌, ℕ, List, inl, inr, sym, ◌∙◌, refl, subst, arith, rules}
+use Rattle.std.proofs.lemmas.Grind.{common_steps}
 use Rattle.std.specs.Prelude.{Result, Ok, Err, IfErr, IfOk}
 use Rattle.lr_bits.specs.File.{File, proper_of}
 use Rattle.lr_headers.specs.Tiling.{Header, IsHeaderOf}
@@ -111,3 +112,9 @@ returns-clause-image c = image_of c.args.file.now c.args.block c.code_image.resu
 
 pub returns-clause-name : goal.returns-clause-name
 returns-clause-name c = name_of c.args.file.now c.args.block c.code_image.result (returns-clause-ok c)
+
+pub returns-in-Err-clause-err : goal.returns-in-Err-clause-err
+returns-in-Err-clause-err c = elim c.in-Err.ensures.err [
+  | inl memory ↦ absurd (grind (arith, common_steps))
+  | inr fails ↦ fails
+]

@@ -1,0 +1,48 @@
+-- How strips are given. No clause of a public call cites this.
+use Rattle.std.specs.Prelude.{◌≡◌, ◌≤◌, ◌+◌, ◌*◌, ℕ, Option, Some, None, List, [], ◌∷◌, length}
+use Rattle.lr_bits.specs.File.{File, IsFile, proper_of}
+use Rattle.lr_headers.specs.declared.fields.Structure.{Structure}
+use Rattle.lr_headers.specs.declared.fields.Lossless.{Lossless}
+use Rattle.lr_image.specs.declared.layout.Layout.{Layout}
+use Rattle.lr_image.specs.Places.{IsPlaceIn, pieces_at}
+use Rattle.lr_image.specs.Reading.{data_field}
+use Rattle.lr_image.specs.Shapes.{IsShape}
+use Rattle.lr_render.specs.Tiling.{line_start, strips_after}
+use Rattle.lr_render.specs.declared.giving.Giving.{Giving}
+use Rattle.lr_render.specs.declared.strip.StripSource.{StripSource}
+
+-- an image that isn't compressed has all its pixels
+abbrev pub HasEnough : Structure → Option Lossless → List ℕ → Type 0
+HasEnough s None field = line_start s s.lines ≤ 8 * length field
+HasEnough s (Some l) field = Unit {0}
+
+-- strips can be cut out of the file
+pub record CanBeCut (file : File) (layout : Layout) : Type 0 where
+  pub is_file : IsFile file
+  pub shape : IsShape layout.shape
+  pub inside : layout.header_bytes ≤ length (proper_of file)
+  pub enough : HasEnough layout.shape.structure layout.shape.lossless (data_field file layout.header_bytes)
+
+-- no more lines were given than there are, and each strip has one at least
+pub record IsWithin (file : File) (s : Structure) (now : Giving) : Type 0 where
+  pub lines : now.lines ≤ s.lines
+  pub strips : now.strips ≤ now.lines
+  pub place : IsPlaceIn file now.place
+
+-- the strips that are to be given
+abbrev pub strips_left : File → Layout → Giving → List StripSource
+strips_left file layout now = strips_after layout.shape.structure layout.shape.lossless
+    (data_field file layout.header_bytes) now.lines (pieces_at file now.place)
+
+-- of the strips that were to be given the first one was, and these are left
+pub record GivesOne (file : File) (s : Structure) (before after : List StripSource) (old new : Giving)
+    (strip : StripSource) : Type 0 where
+  pub first : before ≡ strip ∷ after
+  pub count : new.strips ≡ old.strips + 1
+  pub within : IsWithin file s new
+
+-- or there was none
+abbrev pub GivesStrip : File → Structure → (before after : List StripSource) → (old new : Giving)
+    → Option StripSource → Type 0
+GivesStrip file s before after old new (Some strip) = GivesOne file s before after old new strip
+GivesStrip file s before after old new None = (before ≡ []) × (new ≡ old)
