@@ -1,0 +1,412 @@
+-- What a book keeps, from one append to the next.
+use Rattle.std.proofs.Common.{◌≡◌, ◌≢◌, ◌⊎◌, inl, inr, ◌≤◌, ℕ, Bool, true, false, Some, Result, Ok, Err, List, []}
+use Rattle.std.proofs.Common.{◌∷◌, ◌++◌, length, map, refl, sym}
+use Rattle.std.proofs.Common.{ap, ◌∙◌, subst, ⊎_elim}
+use Rattle.std.specs.Prelude.{slice_get, OnOk, OnErr, IfErr}
+use Rattle.std.specs.Borrow.{GName}
+use Rattle.std.proofs.lemmas.List.{append-nil}
+use Rattle.lr_bits.specs.declared.placed.Placed.{Placed}
+use Rattle.lr_disk.specs.declared.disk.Disk.{Ghosts as DiskOf}
+use Rattle.lr_shelf_format.specs.Items.{Item, head_of_item}
+use Rattle.lr_shelf_format.specs.Way.{Way, way_with}
+use Rattle.lr_shelf.specs.Append.{Appends, item_for}
+use Rattle.lr_shelf.specs.Kept.{Kept, kept_by, kept_with}
+use Rattle.lr_shelf.specs.Shelf.{IsShelfOf}
+use Rattle.lr_shelf.specs.declared.error.ShelfError.{ShelfError}
+use Rattle.lr_shelf.specs.declared.error.ShelfError.TheVariants.{Disk}
+use Rattle.lr_shelf.specs.declared.shelf.Shelf.{Shelf}
+use Rattle.lr_downlinks.specs.Appending.{
+  AppendsFile,
+  AppendsNext,
+  IsSameBook,
+  WantsMemory,
+  answer_to,
+  failed_after,
+  view_of,
+}
+use Rattle.lr_downlinks.specs.Books.{BeginsRun, BookView, Keeps, StandsOver, Works, WorksOrBroke}
+use Rattle.lr_downlinks.specs.Merge.{IsNextOf, times}
+use Rattle.lr_downlinks.specs.Since.{HasAppended, way_with_files}
+use Rattle.lr_downlinks.specs.Start.{Start, files_in, merged}
+use Rattle.lr_downlinks.proofs.Growing.{none_appended, one_appended, one_failed, settled_one, way_with_files-push}
+use Rattle.lr_downlinks.proofs.Merging.{merge-none, merge-push, order_more, order_none}
+
+-- ---- books
+
+module _ {D : Type 0} (disk : DiskOf D) (start : Start) (handed : Shelf → D → Type 0) (name : GName) where
+  -- the same shelf, as far as it keeps something
+  state_same : (shelf : Shelf) (d : D) (old : BookView D) (shelf' : Shelf) → kept_by shelf' ≡ kept_by old.shelf
+      → (failed : Bool) → WorksOrBroke disk start shelf d failed old
+      → WorksOrBroke disk start shelf d failed (record {
+        shelf = shelf';
+        disk = old.disk;
+        order = old.order;
+        failed = old.failed;
+      })
+  state_same shelf d old shelf' same false works = record {
+    appended = works.appended;
+    keeps = λ capacity items s.
+        let is = works.keeps capacity items s in
+        record {
+          way = ap (λ (k : Kept). k.way) same ∙ is.way;
+          working = ap (λ (k : Kept). k.failed) same ∙ is.working;
+        };
+  }
+  state_same shelf d old shelf' same true broke = record {
+    downlink = broke.downlink;
+    placed = broke.placed;
+    next = broke.next;
+    appended = broke.appended;
+  }
+
+  module _ (old : BookView D) (keeps : Keeps disk start handed name old) where
+    failed_is : (kept_by old.shelf).failed ≡ old.failed
+    failed_is = ap (λ (k : Kept). k.failed) keeps.files.kept
+
+    -- nothing was changed
+    pub same_kept : (new : BookView D) → IsSameBook old new → Keeps disk start handed name new
+    same_kept new same =
+        let at : BookView D = record { shelf = new.shelf; disk = old.disk; order = old.order; failed = old.failed } in
+        let kept : Keeps disk start handed name at = record {
+          same_disk = keeps.same_disk;
+          few = keeps.few;
+          files = record { order_is = keeps.files.order_is; kept = same.shelf ∙ keeps.files.kept };
+          stands = λ shelf d is.
+              let over = keeps.stands shelf d is in
+              record {
+                same_way = over.same_way;
+                state = state_same shelf d old new.shelf same.shelf old.failed over.state;
+              };
+        } in
+        subst (λ (d : D). Keeps disk start handed name (record {
+          shelf = new.shelf;
+          disk = d;
+          order = new.order;
+          failed = new.failed;
+        })) (sym same.disk)
+        (subst (λ (o : List ℕ). Keeps disk start handed name (record {
+          shelf = new.shelf;
+          disk = old.disk;
+          order = o;
+          failed = new.failed;
+        })) (sym same.order)
+        (subst (λ (b : Bool). Keeps disk start handed name (record {
+          shelf = new.shelf;
+          disk = old.disk;
+          order = old.order;
+          failed = b;
+        })) (sym same.failed) kept))
+
+    module _ (shelf : Shelf) (d : D) (over : StandsOver disk start shelf d old) where
+      works_if : old.failed ≡ false → Works disk start shelf d old
+      works_if e = subst (λ (b : Bool). WorksOrBroke disk start shelf d b old) e over.state
+
+      way_is : (kept_by old.shelf).way ≡ way_with_files (merged start old.order) (kept_by shelf).way
+      way_is =
+          ap (λ (k : Kept). k.way) keeps.files.kept
+          ∙ ap (way_with_files (merged start old.order)) (sym over.same_way)
+
+    module _ (downlink : ℕ) (placed : Placed)
+        (next : IsNextOf (length start.streams) (files_in start) old.order downlink placed) where
+      more : merged start (old.order ++ downlink ∷ []) ≡ merged start old.order ++ placed ∷ []
+      more = merge-push (length start.streams) (files_in start) old.order downlink placed next
+
+      -- the file was appended
+      pub more_kept : (shelf' : Shelf) (d' : D) (number : ℕ)
+          → Appends disk placed old.shelf shelf' old.disk d' (Ok number)
+          → Keeps disk start handed name (record {
+            shelf = shelf';
+            disk = d';
+            order = old.order ++ downlink ∷ [];
+            failed = old.failed;
+          })
+      more_kept shelf' d' number a =
+          let works : old.failed ≡ false = sym failed_is ∙ a.adds.working in
+          record {
+            same_disk = keeps.same_disk;
+            few = keeps.few;
+            files = record {
+              order_is = order_more (length start.streams) (files_in start) old.order downlink placed
+                  keeps.files.order_is next;
+              kept = kept_more a.adds.kept;
+            };
+            stands = λ shelf d is.
+                let over = keeps.stands shelf d is in
+                record {
+                  same_way = over.same_way;
+                  state = subst (λ (b : Bool). WorksOrBroke disk start shelf d b (record {
+                    shelf = shelf';
+                    disk = d';
+                    order = old.order ++ downlink ∷ [];
+                    failed = old.failed;
+                  })) (sym works) (works_more shelf d over (works_if shelf d over works));
+                };
+          }
+        where
+          kept_more : kept_by shelf' ≡ kept_with (item_for placed) (kept_by old.shelf)
+              → kept_by shelf' ≡ record {
+                way = way_with_files (merged start (old.order ++ downlink ∷ [])) start.way;
+                failed = old.failed;
+              }
+          kept_more one =
+              let way : way_with_files (merged start (old.order ++ downlink ∷ [])) start.way
+              ≡ way_with (head_of_item (item_for placed)) (way_with_files (merged start old.order) start.way) =
+              ap (λ (l : List Placed). way_with_files l start.way) more
+              ∙ way_with_files-push (merged start old.order) placed start.way in
+              one ∙ ap (kept_with (item_for placed)) keeps.files.kept
+              ∙ ap (λ (w : Way). record { way = w; failed = old.failed }) (sym way)
+
+          works_more : (shelf : Shelf) (d : D) → StandsOver disk start shelf d old → Works disk start shelf d old
+              → Works disk start shelf d (record {
+                shelf = shelf';
+                disk = d';
+                order = old.order ++ downlink ∷ [];
+                failed = old.failed;
+              })
+          works_more shelf d over is =
+              let files = merged start old.order in
+              let way = way_is shelf d over in
+              record {
+                appended = subst (λ (l : List Placed). HasAppended disk shelf d l d') (sym more)
+                    (one_appended disk shelf d files placed old.shelf shelf' old.disk d' way is.appended is.keeps
+                    number a.adds);
+                keeps = λ capacity items s.
+                    subst (λ (l : List Placed). IsShelfOf capacity (items ++ map item_for l) shelf') (sym more)
+                    (settled_one disk shelf d files placed old.shelf shelf' old.disk d' way is.appended is.keeps
+                    number a.adds capacity items s).kept;
+              }
+
+      -- the disk failed in it
+      pub broke_kept : (shelf' : Shelf) (d' : D) → Appends disk placed old.shelf shelf' old.disk d' (Err Disk)
+          → Keeps disk start handed name (record {
+            shelf = shelf';
+            disk = d';
+            order = old.order;
+            failed = true;
+          })
+      broke_kept shelf' d' a =
+          let works : old.failed ≡ false = sym failed_is ∙ a.refused.0 in
+          record {
+            same_disk = keeps.same_disk;
+            few = keeps.few;
+            files = record {
+              order_is = keeps.files.order_is;
+              kept = a.adds.failed refl ∙ ap (λ (k : Kept). record { way = k.way; failed = true }) keeps.files.kept;
+            };
+            stands = λ shelf d is.
+                let over = keeps.stands shelf d is in
+                let was = works_if shelf d over works in
+                record {
+                  same_way = over.same_way;
+                  state = record {
+                    downlink = downlink;
+                    placed = placed;
+                    next = next;
+                    appended = one_failed disk shelf d (merged start old.order) placed old.shelf shelf' old.disk d'
+                        (way_is shelf d over) was.appended was.keeps a.adds;
+                  };
+                };
+          }
+
+      -- it was refused before anything was written
+      pub refused_kept : (shelf : Shelf) (d : D) (error : ShelfError) → error ≢ Disk
+          → Appends disk placed old.shelf shelf old.disk d (Err error)
+          → (d ≡ old.disk) × (kept_by shelf ≡ kept_by old.shelf)
+      refused_kept shelf d error other a =
+          ⊎_elim (λ (is : error ≡ Disk). absurd (other is))
+          (λ (same : (d ≡ old.disk) × (kept_by shelf ≡ kept_by old.shelf)). same) a.adds.untouched
+
+      -- whatever it answered
+      one_kept : (shelf : Shelf) (d : D) (order : List ℕ) (answer : Result ℕ ShelfError)
+          → Appends disk placed old.shelf shelf old.disk d answer
+          → OnOk answer (order ≡ old.order ++ downlink ∷ [])
+          → OnErr answer (order ≡ old.order)
+          → Keeps disk start handed name (record {
+            shelf = shelf;
+            disk = d;
+            order = order;
+            failed = failed_after old.failed (answer_to answer);
+          })
+      one_kept shelf d order (Ok number) a longer same =
+          subst (λ (o : List ℕ). Keeps disk start handed name (record {
+            shelf = shelf;
+            disk = d;
+            order = o;
+            failed = old.failed;
+          })) (sym longer) (more_kept shelf d number a)
+      one_kept shelf d order (Err Disk) a longer same =
+          subst (λ (o : List ℕ). Keeps disk start handed name (record {
+            shelf = shelf;
+            disk = d;
+            order = o;
+            failed = true;
+          })) (sym same) (broke_kept shelf d a)
+      one_kept shelf d order (Err error) a longer same =
+          let is = refused_kept shelf d error (λ e. cc (e)) a in
+          same_kept (record { shelf = shelf; disk = d; order = order; failed = old.failed })
+          (record { shelf = is.1; disk = is.0; order = same; failed = refl })
+
+      pub next_kept : (shelf : Shelf) (d : D) (order : List ℕ) (result : Result Bool ShelfError)
+          → AppendsFile disk downlink placed (view_of old.shelf old.disk old.order) (view_of shelf d order) result
+          ⊎ WantsMemory (view_of old.shelf old.disk old.order) (view_of shelf d order) result
+          → Keeps disk start handed name (record {
+            shelf = shelf;
+            disk = d;
+            order = order;
+            failed = failed_after old.failed result;
+          })
+      next_kept shelf d order result (inl a) =
+          subst (λ (r : Result Bool ShelfError). Keeps disk start handed name (record {
+            shelf = shelf;
+            disk = d;
+            order = order;
+            failed = failed_after old.failed r;
+          })) (sym a.result_is) (one_kept shelf d order a.answer a.appends a.order a.order_stays)
+      next_kept shelf d order result (inr wants) =
+          same_kept (record { shelf = shelf; disk = d; order = order; failed = failed_after old.failed result })
+          (record {
+            shelf = wants.same.shelf;
+            disk = wants.same.disk;
+            order = wants.same.order;
+            failed = ap (failed_after old.failed) wants.result_is;
+          })
+
+-- ---- what a call answers
+
+module _ {D : Type 0} (disk : DiskOf D) (downlink : ℕ) (files : List Placed) (old : BookView D) where
+  module _ (placed : Placed) (some : slice_get files (times downlink old.order) ≡ Some placed) (shelf : Shelf) (d : D)
+      (order : List ℕ) where
+    one_refused : (answer : Result ℕ ShelfError) → Appends disk placed old.shelf shelf old.disk d answer
+        → OnErr answer (order ≡ old.order)
+        → IfErr (answer_to answer) (λ error. error ≢ Disk → IsSameBook old (record {
+          shelf = shelf;
+          disk = d;
+          order = order;
+          failed = failed_after old.failed (answer_to answer);
+        }))
+    one_refused (Ok number) a same = tt
+    one_refused (Err Disk) a same = λ other. absurd (other refl)
+    one_refused (Err error) a same = λ other.
+        ⊎_elim (λ (is : error ≡ Disk). absurd (other is))
+        (λ (is : (d ≡ old.disk) × (kept_by shelf ≡ kept_by old.shelf)).
+        record { shelf = is.1; disk = is.0; order = same; failed = refl }) a.adds.untouched
+
+    not_false : (answer : Result ℕ ShelfError) → answer_to answer ≡ Ok false → ⊥
+    not_false (Ok number) e = cc (e)
+    not_false (Err error) e = cc (e)
+
+    pub some_next : (result : Result Bool ShelfError)
+        → AppendsFile disk downlink placed (view_of old.shelf old.disk old.order) (view_of shelf d order) result
+        ⊎ WantsMemory (view_of old.shelf old.disk old.order) (view_of shelf d order) result
+        → AppendsNext disk downlink files old (record {
+          shelf = shelf;
+          disk = d;
+          order = order;
+          failed = failed_after old.failed result;
+        }) result
+    some_next result (inl a) = record {
+      none = λ none. absurd (cc (none, some));
+      nothing = λ e. absurd (not_false a.answer (sym a.result_is ∙ e));
+      next = λ placed' some'.
+          let same : placed ≡ placed' = cc (some, some') in
+          inl (subst (λ (p : Placed). AppendsFile disk downlink p old (record {
+            shelf = shelf;
+            disk = d;
+            order = order;
+            failed = failed_after old.failed result;
+          }) result) same (record {
+            answer = a.answer;
+            appends = a.appends;
+            result_is = a.result_is;
+            order = a.order;
+            order_stays = a.order_stays;
+          }));
+      refused = subst (λ (r : Result Bool ShelfError). IfErr r
+          (λ error. error ≢ Disk → IsSameBook old (record {
+            shelf = shelf;
+            disk = d;
+            order = order;
+            failed = failed_after old.failed r;
+          }))) (sym a.result_is) (one_refused a.answer a.appends a.order_stays);
+      failed = refl;
+    }
+    some_next result (inr wants) =
+        let new : BookView D = record {
+          shelf = shelf;
+          disk = d;
+          order = order;
+          failed = failed_after old.failed result;
+        } in
+        let same : IsSameBook old new = record {
+          shelf = wants.same.shelf;
+          disk = wants.same.disk;
+          order = wants.same.order;
+          failed = ap (failed_after old.failed) wants.result_is;
+        } in
+        record {
+          none = λ none. absurd (cc (none, some));
+          nothing = λ e. absurd (cc (e, wants.result_is));
+          next = λ placed' some'. inr (record { result_is = wants.result_is; same = same });
+          refused = any_same result (λ error other. same);
+          failed = refl;
+        }
+      where
+        any_same : {P : ShelfError → Type 0} (r : Result Bool ShelfError)
+            → ((error : ShelfError) → P error) → IfErr r P
+        any_same (Ok b) all = tt
+        any_same (Err error) all = all error
+
+-- ---- the beginning
+
+module _ {D : Type 0} (disk : DiskOf D)
+    (only_now : (d : D) (c : List ℕ) → disk.tells d → disk.left_since d (disk.moment d) c → disk.may_leave d c)
+    (start : Start) (handed : Shelf → D → Type 0) (shelf : Shelf) (name : GName) (d : D)
+    (working : (kept_by shelf).failed ≡ false) (begun : BeginsRun disk start handed shelf name d)
+    (few : length start.streams ≤ 16) where
+  begins_over : StandsOver disk start shelf d (record { shelf = shelf; disk = d; order = []; failed = false })
+  begins_over = record {
+    same_way = sym begun.way_is;
+    state = record {
+      appended = subst (λ (l : List Placed). HasAppended disk shelf d l d) (sym (merge-none (files_in start)))
+          (none_appended disk only_now shelf d);
+      keeps = λ capacity items s.
+          subst (λ (l : List Item). IsShelfOf capacity l shelf)
+          (sym (ap (λ (l : List Placed). items ++ map item_for l) (merge-none (files_in start)) ∙ append-nil items))
+          s.kept;
+    };
+  }
+
+  begins : Keeps disk start handed name (record { shelf = shelf; disk = d; order = []; failed = false })
+  begins = record {
+    same_disk = sym begun.disk_is;
+    few = few;
+    files = record {
+      order_is = order_none (length start.streams) (files_in start);
+      kept =
+          ap (λ (b : Bool). record { way = (kept_by shelf).way; failed = b }) working
+          ∙ ap (λ (w : Way). record { way = w; failed = false })
+          (sym begun.way_is
+          ∙ sym (ap (λ (l : List Placed). way_with_files l start.way) (merge-none (files_in start))));
+    };
+    stands = λ shelf' d' is.
+        let same = begun.only shelf' d' is in
+        subst (λ (s : Shelf). StandsOver disk start s d' (record {
+          shelf = shelf;
+          disk = d;
+          order = [];
+          failed = false;
+        })) (sym same.0)
+        (subst (λ (e : D). StandsOver disk start shelf e (record {
+          shelf = shelf;
+          disk = d;
+          order = [];
+          failed = false;
+        })) (sym same.1) begins_over);
+  }
+
+  -- also where the order is known to be empty
+  pub keeps_begun : (order : List ℕ) → order ≡ []
+      → Keeps disk start handed name (record { shelf = shelf; disk = d; order = order; failed = false })
+  keeps_begun order is =
+      subst (λ (l : List ℕ).
+      Keeps disk start handed name (record { shelf = shelf; disk = d; order = l; failed = false })) (sym is) begins

@@ -1,0 +1,9 @@
+pub mod Bundling
+pub mod Decoding
+pub mod Growing
+pub mod Keeping
+pub mod Leftover
+pub mod Listing
+pub mod Merging
+pub mod Room
+pub mod Running

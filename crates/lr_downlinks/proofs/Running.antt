@@ -1,0 +1,319 @@
+-- What a run leaves, from what the type of its book keeps.
+use Rattle.std.proofs.Common.{◌≡◌, ◌⊎◌, inl, inr, ◌<◌, ◌+◌, ℕ, zero, suc, Bool, true, false, Some, List, [], ◌∷◌}
+use Rattle.std.proofs.Common.{◌++◌, length, take, map, refl, sym}
+use Rattle.std.proofs.Common.{ap, ◌∙◌, subst, arith}
+use Rattle.std.specs.Prelude.{slice_get, option_map}
+use Rattle.std.specs.Borrow.{GName}
+use Rattle.std.proofs.lemmas.Option.{slice_get-map, slice_get_within}
+use Rattle.std.proofs.Math.Seq.{take-append_seam}
+use Rattle.lr_bits.specs.Faults.{Rose}
+use Rattle.lr_bits.specs.declared.placed.Placed.{Placed}
+use Rattle.lr_conv.specs.declared.line.LineCode.{LineCode}
+use Rattle.lr_disk.specs.declared.disk.Disk.{Ghosts as DiskOf}
+use Rattle.lr_shelf_format.specs.Items.{Item, old_item, add_item, discard_item}
+use Rattle.lr_shelf_format.specs.Reading.{StandsFor, entries_of}
+use Rattle.lr_shelf.specs.Append.{item_for}
+use Rattle.lr_shelf.specs.Kept.{Kept, kept_by}
+use Rattle.lr_shelf.specs.Shelf.{IsDurable, IsSettled, StandsForEither}
+use Rattle.lr_shelf.specs.declared.shelf.Shelf.{Shelf}
+use Rattle.lr_shelf.proofs.ItemsKept.{entry_count_is}
+use Rattle.lr_downlinks.specs.Books.{BeginsRun, BookView, Broke, IsBookOf, Keeps, StandsOver, Works, WorksOrBroke}
+use Rattle.lr_downlinks.specs.Ending.{EndsWith}
+use Rattle.lr_downlinks.specs.Members.{AreMembers}
+use Rattle.lr_downlinks.specs.Merge.{IsNextOf, IsWhole, merge, times}
+use Rattle.lr_downlinks.specs.Receipts.{HasFileAt}
+use Rattle.lr_downlinks.specs.Room.{AllFit, NextDoesNotFit}
+use Rattle.lr_downlinks.specs.Runs.{MergeEnds, MergesOver}
+use Rattle.lr_downlinks.specs.Start.{Start, files_in, merged}
+use Rattle.lr_downlinks.specs.Streams.{files_of_downlink}
+use Rattle.lr_downlinks.specs.declared.member.Member.{Member}
+use Rattle.lr_downlinks.specs.declared.run.RunEnd.{RunEnd}
+use Rattle.lr_downlinks.specs.declared.run.RunEnd.TheVariants.{All, Disk, NoMemory, Capacity}
+use Rattle.lr_downlinks.proofs.Growing.{entries_after_files}
+use Rattle.lr_downlinks.proofs.Merging.{get-merge, has_file, length-merge, merge-none}
+use Rattle.lr_downlinks.proofs.Room.{full_where_all_do_not_fit}
+
+-- ---- entries
+
+entries_of-append : (items more : List Item) → entries_of (items ++ more) ≡ entries_of items ++ entries_of more
+entries_of-append [] more = refl
+entries_of-append (old_item file ∷ items) more =
+    ap (λ (l : List Item). old_item file ∷ l) (entries_of-append items more)
+entries_of-append (add_item file origin ∷ items) more =
+    ap (λ (l : List Item). add_item file origin ∷ l) (entries_of-append items more)
+entries_of-append (discard_item number ∷ items) more = entries_of-append items more
+
+entries_of-files : (files : List Placed) → entries_of (map item_for files) ≡ map item_for files
+entries_of-files [] = refl
+entries_of-files (placed ∷ files) = ap (λ (l : List Item). item_for placed ∷ l) (entries_of-files files)
+
+get_after : {A : Type 0} (xs ys : List A) (k : ℕ) → slice_get (xs ++ ys) (length xs + k) ≡ slice_get ys k
+get_after {A} [] ys k = let e : length {A = A} [] + k ≡ k = omega arith in ap (slice_get ys) e
+get_after (x ∷ xs) ys k =
+    let e : length (x ∷ xs) + k ≡ suc (length xs + k) = omega arith in
+    ap (slice_get (x ∷ (xs ++ ys))) e ∙ get_after xs ys k
+
+get_before : {A : Type 0} (xs ys : List A) (k : ℕ) (x : A) → slice_get xs k ≡ Some x → slice_get (xs ++ ys) k ≡ Some x
+get_before [] ys k x e = absurd (cc (e))
+get_before (y ∷ xs) ys zero x e = e
+get_before (y ∷ xs) ys (suc k) x e = get_before xs ys k x e
+
+-- the entry of a file that was put after some items
+pub file_there : (items : List Item) (files : List Placed) (at : ℕ) (placed : Placed)
+    → slice_get files at ≡ Some placed
+    → slice_get (entries_of (items ++ map item_for files)) (length (entries_of items) + at) ≡ Some (item_for placed)
+file_there items files at placed is =
+    ap (λ (l : List Item). slice_get l (length (entries_of items) + at))
+    (entries_of-append items (map item_for files)
+    ∙ ap (λ (l : List Item). entries_of items ++ l) (entries_of-files files))
+    ∙ get_after (entries_of items) (map item_for files) at
+    ∙ slice_get-map item_for files at
+    ∙ ap (option_map item_for) is
+
+-- also before one more
+pub file_still_there : (items : List Item) (item : Item) (number : ℕ) (one : Item)
+    → slice_get (entries_of items) number ≡ Some one → slice_get (entries_of (items ++ item ∷ [])) number ≡ Some one
+file_still_there items item number one is =
+    ap (λ (l : List Item). slice_get l number) (entries_of-append items (item ∷ []))
+    ∙ get_before (entries_of items) (entries_of (item ∷ [])) number one is
+
+module _ (capacity number : ℕ) (placed : Placed) (items : List Item)
+    (there : slice_get (entries_of items) number ≡ Some (item_for placed)) where
+  has_file_at : (bytes : List ℕ) → StandsFor bytes capacity items → HasFileAt capacity number placed bytes
+  has_file_at bytes stands = record { items = items; stands = stands; there = there }
+
+  has_file_either : (item : Item) (bytes : List ℕ) → StandsForEither capacity items item bytes
+      → HasFileAt capacity number placed bytes
+  has_file_either item bytes (inl stands) = has_file_at bytes stands
+  has_file_either item bytes (inr stands) = record {
+    items = items ++ item ∷ [];
+    stands = stands;
+    there = file_still_there items item number (item_for placed) there;
+  }
+
+-- ---- a run
+
+module _ {D : Type 0} (disk : DiskOf D) (handed : Shelf → D → Type 0) (streams : List (List ℕ)) (line : LineCode)
+    (shelf : Shelf) (name : GName) (d : D) where
+  abbrev begun_as : Start
+  begun_as = record { streams = streams; line = line; disk = name; way = (kept_by shelf).way }
+
+  abbrev count : ℕ
+  count = length streams
+
+  abbrev files : ℕ → List Placed
+  files = files_of_downlink line streams
+
+  module _ (name' : GName) (book : BookView D) (keeps : Keeps disk begun_as handed name' book)
+      (handed_in : handed shelf d) where
+    over : StandsOver disk begun_as shelf d book
+    over = keeps.stands shelf d handed_in
+
+    works : book.failed ≡ false → Works disk begun_as shelf d book
+    works e = subst (λ (b : Bool). WorksOrBroke disk begun_as shelf d b book) e over.state
+
+    broke : book.failed ≡ true → Broke disk begun_as shelf d book
+    broke e = subst (λ (b : Bool). WorksOrBroke disk begun_as shelf d b book) e over.state
+
+    ends_for : (result : RunEnd) → EndsWith begun_as book result
+        → MergeEnds count files book.order disk result shelf d book.disk
+    ends_for All ends = ((works ends.0).appended, ends.1)
+    ends_for Disk ends =
+        let b = broke ends in
+        record { downlink = b.downlink; placed = b.placed; next = b.next; appended = b.appended }
+    ends_for NoMemory ends = (works ends).appended
+    ends_for (Capacity needed capacity) ends = ((works ends.0).appended, ends.1)
+
+    -- where none has a file left, none has a next file
+    no_next : IsWhole count files book.order → (downlink : ℕ) (placed : Placed)
+        → IsNextOf count files book.order downlink placed → ⊥
+    no_next whole downlink placed next =
+        omega (
+          arith,
+          whole downlink next.known,
+          slice_get_within (files downlink) (times downlink book.order) placed next.next,
+        )
+
+    whole_for : (result : RunEnd) → EndsWith begun_as book result → IsWhole count files book.order
+        → (result ≡ All) ⊎ (result ≡ NoMemory)
+    whole_for All ends whole = inl refl
+    whole_for Disk ends whole = let b = broke ends in absurd (no_next whole b.downlink b.placed b.next)
+    whole_for NoMemory ends whole = inr refl
+    whole_for (Capacity needed capacity) ends whole =
+        absurd (no_next whole ends.1.full.downlink ends.1.placed ends.1.full.least.next)
+
+    full_for : (result : RunEnd) → EndsWith begun_as book result → (placed : Placed)
+        → NextDoesNotFit count files book.order (kept_by shelf).way placed
+        → (result ≡ Disk) ⊎ (result ≡ NoMemory)
+        ⊎ ((needed : ℕ) × (result ≡ Capacity needed (kept_by shelf).way.capacity))
+    full_for All ends placed full = absurd (no_next ends.1 full.downlink placed full.least.next)
+    full_for Disk ends placed full = inl refl
+    full_for NoMemory ends placed full = inr (inl refl)
+    full_for (Capacity needed capacity) ends placed full = inr (inr (needed, ap (Capacity needed) ends.1.of))
+
+    complete_for : (result : RunEnd) → EndsWith begun_as book result
+        → (Rose (disk.faults d) (disk.faults book.disk) → ⊥) → AllFit count files (kept_by shelf).way
+        → (result ≡ All) ⊎ (result ≡ NoMemory)
+    complete_for All ends still fit = inl refl
+    complete_for Disk ends still fit = absurd (still (broke ends).appended.rose)
+    complete_for NoMemory ends still fit = inr refl
+    complete_for (Capacity needed capacity) ends still fit =
+        absurd
+        (full_where_all_do_not_fit count files book.order (kept_by shelf).way ends.1.placed keeps.files.order_is
+        ends.1.full fit)
+
+    untouched_for : (result : RunEnd) → EndsWith begun_as book result → book.order ≡ []
+        → (result ≡ Disk) ⊎ (book.disk ≡ d)
+    untouched_for result ends none = by_end result ends where
+      nothing : merge files book.order ≡ []
+      nothing = ap (merge files) none ∙ merge-none files
+
+      by_end : (result : RunEnd) → EndsWith begun_as book result → (result ≡ Disk) ⊎ (book.disk ≡ d)
+      by_end All ends = inr ((works ends.0).appended.none nothing)
+      by_end Disk ends = inl refl
+      by_end NoMemory ends = inr ((works ends).appended.none nothing)
+      by_end (Capacity needed capacity) ends = inr ((works ends.0).appended.none nothing)
+
+    -- what stands on the disk has the entry
+    durable_has : (capacity number : ℕ) (placed : Placed) (items : List Item)
+        → slice_get (entries_of items) number ≡ Some (item_for placed) → IsDurable disk capacity items book.disk
+        → HasFileAt capacity number placed (disk.contents book.disk)
+        × ((c : List ℕ) → disk.may_leave book.disk c → HasFileAt capacity number placed c)
+    durable_has capacity number placed items there on = (
+      has_file_at capacity number placed items there (disk.contents book.disk) on.stands,
+      λ c image. has_file_at capacity number placed items there c
+          (subst (λ (b : List ℕ). StandsFor b capacity items) (sym (on.durable c image)) on.stands),
+    )
+
+    entry_in : (result : RunEnd) → EndsWith begun_as book result → (at : ℕ) (placed : Placed)
+        → slice_get (merge files book.order) at ≡ Some placed
+        → (capacity : ℕ) (items : List Item) → IsSettled disk capacity items shelf d
+        → HasFileAt capacity (length (kept_by shelf).way.entries + at) placed (disk.contents book.disk)
+        × ((c : List ℕ) → disk.may_leave book.disk c
+        → HasFileAt capacity (length (kept_by shelf).way.entries + at) placed c)
+    entry_in result ends at placed is capacity items s =
+        by_end result ends
+        (subst (λ (n : ℕ).
+        slice_get (entries_of (items ++ map item_for (merge files book.order))) (n + at) ≡ Some (item_for placed))
+        (sym (entry_count_is capacity items shelf s.on_disk.stands.proper s.kept))
+        (file_there items (merge files book.order) at placed is))
+      where
+        by_end : (result : RunEnd) → EndsWith begun_as book result
+            → slice_get (entries_of (items ++ map item_for (merge files book.order)))
+            (length (kept_by shelf).way.entries + at) ≡ Some (item_for placed)
+            → HasFileAt capacity (length (kept_by shelf).way.entries + at) placed (disk.contents book.disk)
+            × ((c : List ℕ) → disk.may_leave book.disk c
+            → HasFileAt capacity (length (kept_by shelf).way.entries + at) placed c)
+        by_end All ends there =
+            durable_has capacity _ placed _ there ((works ends.0).appended.stands capacity items s)
+        by_end Disk ends there =
+            let l = (broke ends).appended.stands capacity items s in (
+              has_file_either capacity _ placed _ there _ (disk.contents book.disk) l.contents,
+              λ c image. has_file_either capacity _ placed _ there _ c (l.images c image),
+            )
+        by_end NoMemory ends there =
+            durable_has capacity _ placed _ there ((works ends).appended.stands capacity items s)
+        by_end (Capacity needed most) ends there =
+            durable_has capacity _ placed _ there ((works ends.0).appended.stands capacity items s)
+
+    merges : (result : RunEnd) → EndsWith begun_as book result
+        → (fits : length (kept_by shelf).way.entries + length book.order < 18446744073709551616)
+        → MergesOver disk count files shelf d book.disk (record {
+          base = length (kept_by shelf).way.entries;
+          order = book.order;
+          result = result;
+          numbered = fits;
+        })
+    merges result ends fits = record {
+      base = refl;
+      order_is = keeps.files.order_is;
+      ends = ends_for result ends;
+      untouched = untouched_for result ends;
+      whole = whole_for result ends;
+      full = full_for result ends;
+      complete = complete_for result ends;
+      receipts = λ at inside.
+          let one = has_file count files book.order keeps.files.order_is at inside in (
+            one.0,
+            sym (get-merge count files book.order keeps.files.order_is at inside) ∙ one.1,
+            entry_in result ends at one.0 one.1,
+          );
+    }
+
+  -- the start is named
+  pub merges_over : (start : Start) → streams ≡ start.streams → line ≡ start.line
+      → BeginsRun disk start handed shelf name d → (name' : GName) (book : BookView D)
+      → Keeps disk start handed name' book → (result : RunEnd) → EndsWith start book result
+      → (base : ℕ) → base ≡ length (kept_by shelf).way.entries → (order : List ℕ) → order ≡ book.order
+      → (fits : base + length order < 18446744073709551616)
+      → MergesOver disk (length streams) (files_of_downlink line streams) shelf d book.disk (record {
+        base = base;
+        order = order;
+        result = result;
+        numbered = fits;
+      })
+  merges_over start streams_is line_is begun name' book keeps result ends base base_is order order_is fits =
+      based base (sym base_is) order (sym order_is) fits
+    where
+      start_is : start ≡ begun_as
+      start_is = λ i. record {
+        streams = sym streams_is i;
+        line = sym line_is i;
+        disk = begun.disk_is i;
+        way = begun.way_is i;
+      }
+
+      keeps' : Keeps disk begun_as handed name' book
+      keeps' = subst (λ (s : Start). Keeps disk s handed name' book) start_is keeps
+
+      ends' : EndsWith begun_as book result
+      ends' = subst (λ (s : Start). EndsWith s book result) start_is ends
+
+      based : (n : ℕ) → length (kept_by shelf).way.entries ≡ n → (order : List ℕ) → book.order ≡ order
+          → (fits : n + length order < 18446744073709551616)
+          → MergesOver disk (length streams) (files_of_downlink line streams) shelf d book.disk (record {
+            base = n;
+            order = order;
+            result = result;
+            numbered = fits;
+          })
+      based n is order order_is =
+          subst (λ (m : ℕ). (fits : m + length order < 18446744073709551616)
+          → MergesOver disk (length streams) (files_of_downlink line streams) shelf d book.disk (record {
+            base = m;
+            order = order;
+            result = result;
+            numbered = fits;
+          })) is
+          (subst (λ (o : List ℕ). (fits : length (kept_by shelf).way.entries + length o < 18446744073709551616)
+          → MergesOver disk (length streams) (files_of_downlink line streams) shelf d book.disk (record {
+            base = length (kept_by shelf).way.entries;
+            order = o;
+            result = result;
+            numbered = fits;
+          })) order_is
+          (merges name' book keeps' begun.handed_in result ends'))
+
+-- there are no more entries than a number counts
+pub order_fits : {D : Type 0} (start : Start) (book : BookView D) → IsBookOf start book → (base : ℕ)
+    → base ≡ length start.way.entries → base + length book.order < 18446744073709551616
+order_fits start book is base base_is =
+    omega (
+      arith,
+      base_is,
+      book.shelf.entries.ok.0,
+      book.shelf.entries.ok.1,
+      book.shelf.entries.small,
+      ap (λ (k : Kept). length k.way.entries) is.kept,
+      entries_after_files (merged start book.order) start.way,
+      length-merge (length start.streams) (files_in start) book.order is.order_is,
+    )
+
+-- the members come back, as many as there were
+pub members_after : (start : Start) (members : List Member) (size : ℕ) (rest : List Member) → AreMembers start members
+    → length members ≡ size → (now : List Member) → now ≡ take size (members ++ rest) → AreMembers start now
+members_after start members size rest are size_is now is =
+    subst (λ (l : List Member). AreMembers start l)
+    (sym (is
+    ∙ ap (λ (n : ℕ). take n (members ++ rest)) (sym size_is)
+    ∙ take-append_seam members rest)) are

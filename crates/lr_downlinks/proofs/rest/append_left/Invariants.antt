@@ -1,0 +1,13 @@
+use Rattle.std.proofs.Common.{◌≡◌, ◌-◌, false, length}
+use Rattle.lr_downlinks.specs.Ending.{GoesOn}
+use Rattle.lr_downlinks.specs.Merge.{times}
+use Rattle.lr_downlinks.proofs.rest.append_left.Given as goal
+
+abbrev pub invariant-files : goal.invariant-files
+invariant-files g l = record {
+  on : GoesOn l.fn.book l.book;
+  works : l.book.failed ≡ false;
+}
+
+abbrev pub decreases-files : goal.decreases-files
+decreases-files g l = length l.files - times l.downlink l.book.order

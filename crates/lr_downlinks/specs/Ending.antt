@@ -1,0 +1,45 @@
+-- How the rest is appended once the threads have ended. No clause of a public call cites this.
+use Rattle.std.specs.Prelude.{◌≡◌, ◌≤◌, ◌<◌, ℕ, min, true, false, [], ◌∷◌, ◌++◌, length, slice_get, Some}
+use Rattle.lr_bits.specs.declared.placed.Placed.{Placed}
+use Rattle.lr_shelf.specs.declared.error.ShelfError.{ShelfError}
+use Rattle.lr_shelf.specs.declared.error.ShelfError.TheVariants.{
+  Disk as Disk',
+  NoMemory as NoMemory',
+  Capacity as Capacity',
+}
+use Rattle.lr_downlinks.specs.Books.{BookView}
+use Rattle.lr_downlinks.specs.Merge.{IsWhole, times}
+use Rattle.lr_downlinks.specs.Runs.{NextDoesNotFitBy}
+use Rattle.lr_downlinks.specs.Since.{way_with_files}
+use Rattle.lr_downlinks.specs.Start.{Start, files_in, merged}
+use Rattle.lr_downlinks.specs.declared.run.RunEnd.{RunEnd}
+use Rattle.lr_downlinks.specs.declared.run.RunEnd.TheVariants.{All, Disk, NoMemory, Capacity}
+
+-- no downlink stands in the order less often
+abbrev pub GoesOn : {D : Type 0} → BookView D → BookView D → Type 0
+GoesOn old new = (downlink : ℕ) → times downlink old.order ≤ times downlink new.order
+
+-- the next file of this downlink doesn't fit
+pub record DoesNotFitAt {D : Type 0} (start : Start) (downlink needed capacity : ℕ) (book : BookView D) : Type 0 where
+  pub placed : Placed
+  pub next : slice_get (files_in start downlink) (times downlink book.order) ≡ Some placed
+  pub over : start.way.capacity < (way_with_files (merged start book.order ++ placed ∷ []) start.way).end
+  pub needs : needed ≡ min (way_with_files (merged start book.order ++ placed ∷ []) start.way).end 18446744073709551615
+  pub of : capacity ≡ start.way.capacity
+
+-- why the next file of this downlink was refused
+abbrev pub IsLeftAt : {D : Type 0} → Start → ℕ → BookView D → ShelfError → Type 0
+IsLeftAt start downlink book Disk' = book.failed ≡ true
+IsLeftAt start downlink book (Capacity' needed capacity) =
+    (book.failed ≡ false) × DoesNotFitAt start downlink needed capacity book
+IsLeftAt start downlink book NoMemory' = book.failed ≡ false
+IsLeftAt start downlink book error = ⊥
+
+-- how the run ends with this book
+abbrev pub EndsWith : {D : Type 0} → Start → BookView D → RunEnd → Type 0
+EndsWith start book All = (book.failed ≡ false) × IsWhole (length start.streams) (files_in start) book.order
+EndsWith start book Disk = book.failed ≡ true
+EndsWith start book NoMemory = book.failed ≡ false
+EndsWith start book (Capacity needed capacity) =
+    (book.failed ≡ false)
+    × NextDoesNotFitBy (length start.streams) (files_in start) book.order start.way needed capacity

@@ -1,0 +1,16 @@
+pub mod Appending
+pub mod Books
+pub mod Bundles
+pub mod Counting
+pub mod Decoding
+pub mod Ending
+pub mod Laws
+pub mod Members
+pub mod Merge
+pub mod Readings
+pub mod Receipts
+pub mod Room
+pub mod Runs
+pub mod Since
+pub mod Start
+pub mod Streams

@@ -1,0 +1,86 @@
+-- What becomes of a shelf and its disk since they were handed in, while files are appended one by one.
+use Rattle.std.specs.Prelude.{◌≡◌, ◌≤◌, ℕ, List, [], ◌∷◌, ◌++◌, map}
+use Rattle.lr_bits.specs.Faults.{Rose}
+use Rattle.lr_bits.specs.declared.placed.Placed.{Placed}
+use Rattle.lr_disk.specs.Disk.{LeavesOnly, Only}
+use Rattle.lr_disk.specs.declared.disk.Disk.{Ghosts as DiskOf}
+use Rattle.lr_shelf_format.specs.Items.{Item, head_of_item}
+use Rattle.lr_shelf_format.specs.Way.{IsWay, Way, way_with}
+use Rattle.lr_shelf.specs.Adding.{StaysOutside}
+use Rattle.lr_shelf.specs.Adds.{last_gate}
+use Rattle.lr_shelf.specs.Append.{item_for}
+use Rattle.lr_shelf.specs.Kept.{kept_by}
+use Rattle.lr_shelf.specs.Shelf.{HasEitherWay, IsDurable, IsSettled, KeepsWay, StandsForEither}
+use Rattle.lr_shelf.specs.declared.shelf.Shelf.{Shelf}
+
+-- the way with the items of these files at its end
+abbrev pub way_with_files : List Placed → Way → Way
+way_with_files [] way = way
+way_with_files (placed ∷ files) way = way_with_files files (way_with (head_of_item (item_for placed)) way)
+
+-- the bytes have this way with a front of the files at its end
+pub record HasFrontWay (way : Way) (files : List Placed) (bytes : List ℕ) : Type 0 where
+  pub first : List Placed
+  pub rest : List Placed
+  pub split : files ≡ first ++ rest
+  pub is_way : IsWay bytes (way_with_files first way)
+
+module _ {D : Type 0} (disk : DiskOf D) where
+  -- Contents and each crash image stand for the items, or for these and one more.
+  pub record HoldsEither (capacity : ℕ) (items : List Item) (item : Item) (d : D) : Type 0 where
+    pub told : disk.tells d
+    pub contents : StandsForEither capacity items item (disk.contents d)
+    pub images : (c : List ℕ) → disk.may_leave d c → StandsForEither capacity items item c
+
+  -- `shelf` and `d` are those that were handed in, and `d'` is the disk now
+  module _ (shelf : Shelf) (d : D) (files : List Placed) where
+    -- these files were appended
+    pub record HasAppended (d' : D) : Type 0 where
+      pub told : disk.tells d → disk.tells d'
+      pub untold : disk.tells d' → disk.tells d
+      pub count : disk.faults d' ≡ disk.faults d
+      -- where there is none, the disk is as it was
+      pub none : files ≡ [] → d' ≡ d
+      -- over every disk that tells its contents: the bytes before the last gate and after the new end stay
+      pub outside : disk.tells d
+          → StaysOutside (last_gate (kept_by shelf)) (way_with_files files (kept_by shelf).way).end (disk.contents d)
+          (disk.contents d')
+      pub durable : disk.tells d → Only (disk.contents d) (disk.may_leave d)
+          → Only (disk.contents d') (disk.may_leave d')
+      pub outside_any_moment : disk.tells d → Only (disk.contents d) (disk.may_leave d)
+          → LeavesOnly disk.moment disk.left_since d d'
+          (StaysOutside (last_gate (kept_by shelf)) (way_with_files files (kept_by shelf).way).end (disk.contents d))
+      -- over one whose way the shelf kept, whatever its records hold and wherever it ends: what is there now, and, with
+      -- nothing pending, what a stop at any moment leaves
+      pub way : disk.tells d → KeepsWay (disk.contents d) shelf
+          → IsWay (disk.contents d') (way_with_files files (kept_by shelf).way)
+      pub way_any_moment : disk.tells d → KeepsWay (disk.contents d) shelf
+          → Only (disk.contents d) (disk.may_leave d)
+          → LeavesOnly disk.moment disk.left_since d d' (HasFrontWay (kept_by shelf).way files)
+      -- over a shelf of these items with nothing pending
+      pub stands : (capacity : ℕ) (items : List Item) → IsSettled disk capacity items shelf d
+          → IsDurable disk capacity (items ++ map item_for files) d'
+
+    -- these files were appended, and the disk failed in the next one: it is there, or it isn't
+    pub record MayHaveAppended (placed : Placed) (d' : D) : Type 0 where
+      pub told : disk.tells d → disk.tells d'
+      pub untold : disk.tells d' → disk.tells d
+      pub later : disk.faults d ≤ disk.faults d'
+      pub rose : Rose (disk.faults d) (disk.faults d')
+      -- over every disk that tells its contents
+      pub outside : disk.tells d
+          → StaysOutside (last_gate (kept_by shelf)) (way_with_files (files ++ placed ∷ []) (kept_by shelf).way).end
+          (disk.contents d) (disk.contents d')
+      pub outside_any_moment : disk.tells d → Only (disk.contents d) (disk.may_leave d)
+          → LeavesOnly disk.moment disk.left_since d d'
+          (StaysOutside (last_gate (kept_by shelf)) (way_with_files (files ++ placed ∷ []) (kept_by shelf).way).end
+          (disk.contents d))
+      -- over one whose way the shelf kept
+      pub way : disk.tells d → KeepsWay (disk.contents d) shelf
+          → HasEitherWay (way_with_files files (kept_by shelf).way) (item_for placed) (disk.contents d')
+      pub way_any_moment : disk.tells d → KeepsWay (disk.contents d) shelf
+          → Only (disk.contents d) (disk.may_leave d)
+          → LeavesOnly disk.moment disk.left_since d d' (HasFrontWay (kept_by shelf).way (files ++ placed ∷ []))
+      -- over a shelf of these items with nothing pending
+      pub stands : (capacity : ℕ) (items : List Item) → IsSettled disk capacity items shelf d
+          → HoldsEither capacity (items ++ map item_for files) (item_for placed) d'
