@@ -1,6 +1,6 @@
 #!/bin/sh
-# The scripts under examples/: files with hostile names, pictures, segments, the quality of a reception, a shelf for each week, and the
-# unit. Usage: trials/examples.sh. Needs rt and python3; netpbm and systemd-analyze for a case each.
+# The scripts under examples/: files with hostile names, pictures, segments, the quality of a reception, a shelf for each week, a bundle of
+# recordings, and the unit. Usage: trials/examples.sh. Needs rt and python3; netpbm and systemd-analyze for a case each.
 top=$(cd "$(dirname "$0")/.." && pwd)
 command -v python3 > /dev/null || { echo "trials/examples.sh: python3 is missing, so nothing was tried"; exit 0; }
 scratch=$(mktemp -d) || exit 1
@@ -74,6 +74,24 @@ status=$?
 # (no shelf has so little room, so the words are wrong)
 [ "$status" = 2 ] || fail "weekly.sh with a capacity of 10 ended with $status"
 cases=$((cases + 1))
+
+# a bundle of recordings
+"$LRITSTATION" - make 1 8 0 > first || fail "make"
+"$LRITSTATION" - make 2 8 0 > second || fail "make"
+"$top/examples/bundle.sh" first second > bundle || fail "bundle.sh"
+python3 -c 'import sys
+first, second = (open(name, "rb").read() for name in ("first", "second"))
+sys.stdout.buffer.write(bytes([2]) + len(first).to_bytes(8, "big") + first + len(second).to_bytes(8, "big") + second)' > wanted
+cmp -s bundle wanted || fail "bundle.sh wrote another bundle"
+"$LRITSTATION" many.shelf init 65536 > init.log || fail "init"
+"$LRITSTATION" many.shelf downlinks < bundle > receipts || fail "downlinks"
+is "the last line of downlinks" "$(tail -n 1 receipts)" "downlinks 2 symbols 262144 files 14"
+is "the receipts" "$(grep -c '^receipt [01] [0-6] number [0-9]*$' receipts)" 14
+is "the numbers" "$(sed -n 's/.* number //p' receipts | sort -n | tr '\n' ' ')" "0 1 2 3 4 5 6 7 8 9 10 11 12 13 "
+"$top/examples/bundle.sh" 2> said
+is "the status of bundle.sh with no word" $? 2
+"$top/examples/bundle.sh" nowhere > said 2>&1
+is "the status of bundle.sh with no file" $? 1
 
 # the unit
 for script in $(sed -n 's,.*/usr/local/share/gomtasil/\([a-z.]*\).*,\1,p' "$top/examples/station.service"); do

@@ -1,7 +1,8 @@
 #!/bin/sh
 # The program over a real file: many small files are received, verified and extracted. Then rounds in which `receive` is
 # killed (SIGKILL) at a drawn moment: each file whose line was printed must be on the shelf, with its bytes. Then as many
-# rounds over one shelf, which goes on from each kill to the next.
+# rounds over one shelf, which goes on from each kill to the next. Then as many rounds in which `downlinks` of two recordings is killed:
+# the shelf has a front of the files of each, in their order.
 # A kill leaves what the system was handed, so this tries the order of the writes, and not what a disk keeps of them.
 # Usage: trials/kill.sh [ROUNDS [FRAMES]] (20 rounds of 4,000 frames, each with one file). It takes as long as the disk takes for
 # 4 syncs of each frame in each round: two minutes for 20 rounds of 600 frames, and some 15 by default. Needs rt and python3.
@@ -155,6 +156,65 @@ for number in range(rounds):
     on += 1
 kept = on == rounds and all(extracts(end - begin, begin) for begin, end in zip(bases, bases[1:]))
 print("one shelf: %s, %d of %d rounds, killed in %d, %d files" % ("passed" if kept else "FAILED", on, rounds, ended, bases[-1]))
+
+
+def made(start):
+    return subprocess.run([program, "-", "make", str(start), "64", "0"], capture_output=True, check=True).stdout
+
+
+# all files of the shelf
+def extracted():
+    return [run("extract", str(number), stdout=subprocess.PIPE).stdout for number in range(verified())]
+
+
+# the files of a recording alone
+def files_of(recording):
+    make_shelf()
+    assert run("receive", input=recording, stdout=subprocess.PIPE).returncode == 0
+    return extracted()
+
+
+# merges a bundle, or is killed N seconds after its start
+def merge(after=None):
+    begin = time.monotonic()
+    with open(bundle, "rb") as source, open(out, "wb") as lines:
+        running = subprocess.Popen([program, shelf, "downlinks"], stdin=source, stdout=lines)
+        try:
+            running.wait(after)
+        except subprocess.TimeoutExpired:
+            running.kill()
+            running.wait()
+    return running.returncode, time.monotonic() - begin
+
+
+# whether these are fronts of the files of both recordings, one among the other
+def is_merge(files, first, second):
+    at, other = 0, 0
+    for file in files:
+        if at < len(first) and file == first[at]:
+            at += 1
+        elif other < len(second) and file == second[other]:
+            other += 1
+        else:
+            return False
+    return True
+
+
+bundle = os.path.join(scratch, "bundle")
+recordings = [made(1), made(2)]
+with open(bundle, "wb") as target:
+    target.write(bytes([2]) + b"".join(len(one).to_bytes(8, "big") + one for one in recordings))
+first, second = (files_of(one) for one in recordings)
+make_shelf()
+status, longest = merge()
+merged = status == 0 and len(extracted()) == 126 and is_merge(extracted(), first, second)
+stopped = 0
+for number in range(rounds):
+    make_shelf()
+    stopped += merge(random.uniform(0, longest))[0] == -9
+    merged = merged and is_merge(extracted(), first, second)
+print("downlinks: %s, %d rounds, killed in %d" % ("passed" if merged else "FAILED", rounds, stopped))
+kept = kept and merged
 if killed + ended == 0:
     print("no run was killed: nothing was tried")
 sys.exit(0 if passed and good == rounds and kept and killed + ended > 0 else 1)

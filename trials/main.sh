@@ -124,4 +124,13 @@ if [ "$(id -u)" = 0 ] && command -v losetup > /dev/null && head -c 1048576 /dev/
 else
     echo "no loop device can be had here: no device was tried"
 fi
+# a bundle of as many bytes as one can have, and of one more
+"$station" many init 1000 > out || fail "init"
+printf '\001\000\000\000\000\017\377\377\367' > in
+head -c 268435447 /dev/zero >> in
+ends 0 many downlinks; prints 'downlinks 1 symbols 268435447 files 0\n'; says ''
+printf '\0' >> in
+ends 14 many downlinks; prints ''; says 'station: bad bundle: too-long\n'
+: > in
+
 echo "trials/main.sh: $cases cases and more are as wanted"

@@ -67,6 +67,7 @@ JOBS = [
     ("list", b"", full), ("show 7", b"", full), ("extract 7", b"", full), ("verify", b"", full),
     ("export 7", b"", full), ("assemble 0 8 100 1", b"", full), ("repack 7 16", b"", full),
     ("transmit 0 8 16 --line nrz-m", b"", full),
+    ("downlinks", bytes([1]) + len(symbols).to_bytes(8, "big") + symbols, empty),
     ("frames", frames, full), ("packets", frames, full), ("decode", symbols, full), ("decode --workers 3", symbols, full),
 ]
 
@@ -81,6 +82,8 @@ def is_sound(words, before, status, out, whole_out, whole_shelf):
         return now == before or files() <= 9
     if name in ("discard", "repack"):
         return now in (before, whole_shelf)
+    if name == "downlinks":
+        return files() == out.count(b"receipt ") and whole_out.startswith(out)
     if name == "receive":
         return files() == out.count(b"shelved ") and whole_out.startswith(out)
     return now == before

@@ -59,10 +59,10 @@ module _ {O : Type 0} (out : SinkOf O) where
 
 -- ---- a text that goes out piece by piece
 
-module _ {O : Type 0} (out : SinkOf O) (bytes_of : List ℕ → List ℕ) (whole : List ℕ) (o : O) where
+module _ {X O : Type 0} (out : SinkOf O) (bytes_of : List X → List ℕ) (whole : List X) (o : O) where
   -- the bytes of a front were put, and the rest is left
-  pub record PutSoFar (rest : List ℕ) (o1 : O) : Type 0 where
-    pub front : List ℕ
+  pub record PutSoFar (rest : List X) (o1 : O) : Type 0 where
+    pub front : List X
     pub split : whole ≡ front ++ rest
     pub puts : Puts out (bytes_of front) o o1
 
@@ -73,10 +73,10 @@ module _ {O : Type 0} (out : SinkOf O) (bytes_of : List ℕ → List ℕ) (whole
     puts = subst (λ (l : List ℕ). Puts out l o o) (sym none) (puts_none out o);
   }
 
-  module _ (join : (xs ys : List ℕ) → bytes_of (xs ++ ys) ≡ bytes_of xs ++ bytes_of ys) (rest piece back : List ℕ)
+  module _ (join : (xs ys : List X) → bytes_of (xs ++ ys) ≡ bytes_of xs ++ bytes_of ys) (rest piece back : List X)
       (o1 o2 : O) (so : PutSoFar rest o1) (is : rest ≡ piece ++ back) where
     splits : whole ≡ (so.front ++ piece) ++ back
-    splits = so.split ∙ ap (λ (l : List ℕ). so.front ++ l) is ∙ sym (append_assoc so.front piece back)
+    splits = so.split ∙ ap (λ (l : List X). so.front ++ l) is ∙ sym (append_assoc so.front piece back)
 
     pub so_more : Puts out (bytes_of piece) o1 o2 → PutSoFar back o2
     so_more puts = record {
@@ -97,12 +97,12 @@ module _ {O : Type 0} (out : SinkOf O) (bytes_of : List ℕ → List ℕ) (whole
         (fails_before out (bytes_of so.front ++ bytes_of piece) (bytes_of back) o o2
         (fails_after out (bytes_of so.front) (bytes_of piece) o o1 o2 so.puts fails))
 
-  pub so_all : (rest : List ℕ) (o1 : O) → PutSoFar rest o1 → length rest ≡ 0 → Puts out (bytes_of whole) o o1
+  pub so_all : (rest : List X) (o1 : O) → PutSoFar rest o1 → length rest ≡ 0 → Puts out (bytes_of whole) o o1
   so_all rest o1 so none =
       let empty : rest ≡ [] = nothing rest none in
-      let all : whole ≡ so.front = so.split ∙ ap (λ (l : List ℕ). so.front ++ l) empty ∙ append-nil so.front in
-      subst (λ (l : List ℕ). Puts out (bytes_of l) o o1) (sym all) so.puts
+      let all : whole ≡ so.front = so.split ∙ ap (λ (l : List X). so.front ++ l) empty ∙ append-nil so.front in
+      subst (λ (l : List X). Puts out (bytes_of l) o o1) (sym all) so.puts
     where
-      nothing : (xs : List ℕ) → length xs ≡ 0 → xs ≡ []
+      nothing : (xs : List X) → length xs ≡ 0 → xs ≡ []
       nothing [] h = refl
       nothing (x ∷ xs) h = absurd (omega (arith, h))

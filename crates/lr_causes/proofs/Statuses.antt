@@ -10,6 +10,7 @@ use Rattle.lr_causes.specs.declared.cause.Refusal.TheVariants.{
   BadChecksum,
   Discarded,
   CannotExport,
+  BadBundle,
   CannotSend,
   CannotRepack,
 }
@@ -29,6 +30,7 @@ use Rattle.lr_causes.specs.Kinds.{
   IsBadChecksum,
   IsDiscarded,
   IsNoExport,
+  IsNoBundle,
   IsNotSent,
   IsNoRepack,
   kind_of,
@@ -43,7 +45,7 @@ kind_at n =
     else if n == 5 then HasFailed Output else if n == 6 then IsNotAShelf else if n == 7 then IsNoSuchFile
     else if n == 8 then IsNoExport else if n == 9 then IsNoMemory else if n == 10 then IsCapacity
     else if n == 11 then IsNotEmpty else if n == 12 then IsBadChecksum else if n == 13 then IsDiscarded
-    else if n == 15 then IsNotSent else IsNoRepack
+    else if n == 14 then IsNoBundle else if n == 15 then IsNotSent else IsNoRepack
 
 kind_is : (cause : Cause) → kind_at (status_of cause) ≡ kind_of cause
 kind_is Done = refl
@@ -60,6 +62,7 @@ kind_is (Refused (NotEmpty size)) = refl
 kind_is (Refused BadChecksum) = refl
 kind_is (Refused Discarded) = refl
 kind_is (Refused (CannotExport fault)) = refl
+kind_is (Refused (BadBundle flaw)) = refl
 kind_is (Refused CannotSend) = refl
 kind_is (Refused (CannotRepack fault)) = refl
 

@@ -25,11 +25,14 @@ use Rattle.lr_causes.specs.declared.cause.Refusal.TheVariants.{
   BadChecksum,
   Discarded,
   CannotExport,
+  BadBundle,
   CannotSend,
   CannotRepack,
 }
 use Rattle.lr_causes.specs.declared.cause.Cause.{Cause}
 use Rattle.lr_causes.specs.declared.cause.Cause.TheVariants.{Done, DoneWith, Usage, Failed, NoMemory, Refused}
+use Rattle.lr_causes.specs.declared.fault.BundleFlaw.{BundleFlaw}
+use Rattle.lr_causes.specs.declared.fault.BundleFlaw.TheVariants.{Ended, Count, Rest, TooLong}
 use Rattle.lr_causes.specs.declared.fault.ExportFault.{ExportFault}
 use Rattle.lr_causes.specs.declared.note.Note.{Note}
 use Rattle.lr_causes.specs.declared.note.Note.TheVariants.{Assembled}
@@ -50,12 +53,20 @@ status_of (Refused (Capacity needed capacity)) = 10
 status_of (Refused (NotEmpty size)) = 11
 status_of (Refused BadChecksum) = 12
 status_of (Refused Discarded) = 13
+status_of (Refused (BadBundle flaw)) = 14
 status_of (Refused CannotSend) = 15
 status_of (Refused (CannotRepack fault)) = 16
 
 abbrev pub note_line : Note → List ℕ
 note_line (Assembled added skipped uncovered) = codes "assembled " ++ decimal added ++ codes " skipped "
     ++ decimal skipped ++ codes " uncovered " ++ decimal uncovered ++ codes "\n"
+
+-- why what was read is no bundle of recordings
+abbrev pub bundle_line : BundleFlaw → List ℕ
+bundle_line (Ended at) = codes "station: bad bundle: ended " ++ decimal at ++ codes "\n"
+bundle_line (Count count) = codes "station: bad bundle: count " ++ decimal count ++ codes "\n"
+bundle_line (Rest at) = codes "station: bad bundle: rest " ++ decimal at ++ codes "\n"
+bundle_line TooLong = codes "station: bad bundle: too-long\n"
 
 abbrev pub line_of : Cause → List ℕ
 line_of Done = []
@@ -73,6 +84,7 @@ line_of (Refused (NotEmpty size)) = codes "station: not empty, length " ++ decim
 line_of (Refused BadChecksum) = codes "station: bad checksum\n"
 line_of (Refused Discarded) = codes "station: discarded\n"
 line_of (Refused (CannotExport fault)) = codes "station: cannot export: " ++ word_of fault ++ codes "\n"
+line_of (Refused (BadBundle flaw)) = bundle_line flaw
 line_of (Refused CannotSend) = codes "station: cannot send: fill\n"
 line_of (Refused (CannotRepack fault)) = codes "station: cannot repack: " ++ coding_word fault ++ codes "\n"
 

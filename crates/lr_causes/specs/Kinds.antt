@@ -9,6 +9,7 @@ use Rattle.lr_causes.specs.declared.cause.Refusal.TheVariants.{
   BadChecksum,
   Discarded,
   CannotExport,
+  BadBundle,
   CannotSend,
   CannotRepack,
 }
@@ -29,6 +30,7 @@ pub data Kind : Type 0 where
   IsBadChecksum : Kind
   IsDiscarded : Kind
   IsNoExport : Kind
+  IsNoBundle : Kind
   IsNotSent : Kind
   IsNoRepack : Kind
 
@@ -45,6 +47,7 @@ kind_of (Refused (NotEmpty size)) = IsNotEmpty
 kind_of (Refused BadChecksum) = IsBadChecksum
 kind_of (Refused Discarded) = IsDiscarded
 kind_of (Refused (CannotExport fault)) = IsNoExport
+kind_of (Refused (BadBundle flaw)) = IsNoBundle
 kind_of (Refused CannotSend) = IsNotSent
 kind_of (Refused (CannotRepack fault)) = IsNoRepack
 

@@ -1,5 +1,5 @@
 //! Why a call ends, and the status that it answers.
-use crate::fault::{CodingFault, ExportFault};
+use crate::fault::{BundleFlaw, CodingFault, ExportFault};
 use crate::note::Note;
 use lr_bits::NoMemory;
 use lr_image::ImageFault;
@@ -31,6 +31,8 @@ pub enum Refusal {
     Discarded,
     /// What was found gives no PGM.
     CannotExport(ExportFault),
+    /// What was read is no bundle of recordings.
+    BadBundle(BundleFlaw),
     /// The next file is of the channel of fill, which no file is sent on.
     CannotSend,
     /// The image that was found isn't coded anew.
@@ -72,6 +74,7 @@ impl Cause {
             Cause::Refused(Refusal::NotEmpty { .. }) => 11,
             Cause::Refused(Refusal::BadChecksum) => 12,
             Cause::Refused(Refusal::Discarded) => 13,
+            Cause::Refused(Refusal::BadBundle(_)) => 14,
             Cause::Refused(Refusal::CannotSend) => 15,
             Cause::Refused(Refusal::CannotRepack(_)) => 16,
         }

@@ -1,4 +1,4 @@
-//! Why no PGM can be put, and why an image isn't coded anew.
+//! Why no PGM can be put, why an image isn't coded anew, and why bytes are no bundle of recordings.
 use lr_image::ImageFault;
 use lr_segment::AssembleFault;
 
@@ -112,4 +112,18 @@ impl CodingFault {
             CodingFault::File => "file",
         }
     }
+}
+
+/// Why bytes are no bundle of recordings: they end before it does, or begin with a count that no bundle has, or go on
+/// after it, or are more than a bundle can have.
+#[derive(Clone, Copy)]
+pub enum BundleFlaw {
+    /// The bytes end here, and a bundle that begins with them goes on.
+    Ended { at: u64 },
+    /// The first byte is no number of recordings.
+    Count { count: u8 },
+    /// A bundle ends here, and further bytes follow.
+    Rest { at: u64 },
+    /// There are more bytes than a bundle has at most.
+    TooLong,
 }

@@ -14,7 +14,7 @@ mod put;
 
 pub use cause::{Cause, Party, Refusal};
 pub use ended::cause_at;
-pub use fault::{CodingFault, ExportFault};
+pub use fault::{BundleFlaw, CodingFault, ExportFault};
 pub use laws::statuses_have_one_kind;
 pub use line::{Line, line_for};
 pub use note::Note;

@@ -3,7 +3,7 @@ ghost use Rattle.std.specs.Prelude.{◌≡◌, ◌≤◌, ◌+◌, ◌++◌, ◌
 ghost use Rattle.lr_causes.specs.Causes.{line_of};
 
 use crate::cause::{Cause, Party, Refusal};
-use crate::fault::{CodingFault, ExportFault};
+use crate::fault::{BundleFlaw, CodingFault, ExportFault};
 use crate::note::Note;
 use itoa::Buffer;
 use std::marker::Model;
@@ -11,7 +11,7 @@ use std::marker::Model;
 /// How many bytes a line has, at most.
 const LINE_BYTES: usize = 160;
 
-/// A line, or the front of one, in an array.
+/// A line of at most 160 bytes, or the front of one, in an array. It takes no memory.
 #[derive(Drop)]
 pub struct Line {
     bytes: [u8; LINE_BYTES],
@@ -29,7 +29,8 @@ impl Model for Line {
 }
 
 impl Line {
-    fn new() -> Self
+    /// No bytes.
+    pub fn new() -> Self
         ensures { result ≡ [] }
     {
         Line {
@@ -45,7 +46,8 @@ impl Line {
         &self.bytes[..self.filled]
     }
 
-    fn push(&mut self, piece: &[u8])
+    /// Appends the piece.
+    pub fn push(&mut self, piece: &[u8])
         requires { length self.old + length piece.now ≤ 160 }
         ensures { self.new ≡ self.old ++ piece.now }
     {
@@ -55,7 +57,8 @@ impl Line {
         self.filled = end;
     }
 
-    fn number(&mut self, n: u64)
+    /// Appends a number in decimal digits.
+    pub fn number(&mut self, n: u64)
         requires { length self.old + 40 ≤ 160 }
         ensures added { self.new ≡ self.old ++ decimal n }
         ensures short { length self.new ≤ length self.old + 40 }
@@ -112,6 +115,18 @@ fn coding_line(fault: CodingFault) -> Line
     line
 }
 
+/// The line of bytes that are no bundle of recordings.
+fn bundle_line(flaw: BundleFlaw) -> Line
+    ensures { result ≡ line_of (Cause.Refused (Refusal.BadBundle flaw)) }
+{
+    match flaw {
+        BundleFlaw::Ended { at } => line_with(b"station: bad bundle: ended ", at),
+        BundleFlaw::Count { count } => line_with(b"station: bad bundle: count ", count as u64),
+        BundleFlaw::Rest { at } => line_with(b"station: bad bundle: rest ", at),
+        BundleFlaw::TooLong => fixed_line(b"station: bad bundle: too-long\n"),
+    }
+}
+
 /// The line of work that is done.
 fn note_line(note: Note) -> Line
     ensures { result ≡ line_of (Cause.DoneWith note) }
@@ -152,6 +167,7 @@ fn refusal_line(refusal: Refusal) -> Line
         Refusal::BadChecksum => fixed_line(b"station: bad checksum\n"),
         Refusal::Discarded => fixed_line(b"station: discarded\n"),
         Refusal::CannotExport(fault) => export_line(fault),
+        Refusal::BadBundle(flaw) => bundle_line(flaw),
         Refusal::CannotSend => fixed_line(b"station: cannot send: fill\n"),
         Refusal::CannotRepack(fault) => coding_line(fault),
     }

@@ -31,17 +31,7 @@ use Rattle.lr_shelf.specs.declared.error.ShelfError.TheVariants.{
 use Rattle.lr_catalog.specs.Discards.{discard_line}
 use Rattle.lr_causes.specs.declared.cause.Party.TheVariants.{Source, Disk, Output}
 use Rattle.lr_causes.specs.declared.cause.Refusal.{Refusal}
-use Rattle.lr_causes.specs.declared.cause.Refusal.TheVariants.{
-  NotAShelf,
-  NoSuchFile,
-  Capacity,
-  NotEmpty,
-  BadChecksum,
-  Discarded,
-  CannotExport,
-  CannotSend,
-  CannotRepack,
-}
+use Rattle.lr_causes.specs.declared.cause.Refusal.TheVariants.{NotAShelf, NoSuchFile, Capacity, Discarded}
 use Rattle.lr_causes.specs.declared.cause.Cause.{Cause}
 use Rattle.lr_causes.specs.declared.cause.Cause.TheVariants.{Done, DoneWith, Usage, Failed, NoMemory, Refused}
 use Rattle.lr_causes.specs.Causes.{IsEarlier, cause_of}
@@ -156,11 +146,7 @@ module _ (number : ℕ) where
           },
         ),
       )
-  to_over bytes (NotEmpty size) is = absurd is.2
-  to_over bytes BadChecksum is = absurd is.2
-  to_over bytes (CannotExport fault) is = absurd is.2
-  to_over bytes CannotSend is = absurd is.2
-  to_over bytes (CannotRepack fault) is = absurd is.2
+  to_over bytes _ is = absurd is.2
 
 -- ---- what a run says of the Discard
 

@@ -13,7 +13,8 @@ use Rattle.lr_commands.specs.Extract.{extract_asked}
 use Rattle.lr_causes.specs.Faults.{image_fault}
 use Rattle.lr_commands.specs.Show.{show_asked}
 use Rattle.lr_commands.specs.Verify.{verify_asked}
-use Rattle.lr_causes.specs.declared.cause.Refusal.TheVariants.{NotAShelf, NoSuchFile, BadChecksum, Discarded, CannotExport}
+use Rattle.lr_causes.specs.declared.cause.Refusal.TheVariants.{NotAShelf, NoSuchFile, BadChecksum, Discarded}
+use Rattle.lr_causes.specs.declared.cause.Refusal.TheVariants.{CannotExport}
 use Rattle.lr_causes.specs.declared.fault.ExportFault.{ExportFault}
 
 -- bytes have one answer, if they have any

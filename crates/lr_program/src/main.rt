@@ -75,7 +75,7 @@ fn refuse(rt: &HostRuntime, cause: Cause) -> u8 {
     cause.status()
 }
 
-fn run_on<T: Threads + Wait + Sync, D: Disk>(
+fn run_on<T: Threads + Wait + Sync, D: Disk + Send>(
     rt: &HostRuntime,
     threads: &T,
     words: &[String],

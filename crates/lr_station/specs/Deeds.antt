@@ -1,5 +1,5 @@
 -- What a command does to the outside. Several commands do the same, with other texts.
-use Rattle.std.specs.Prelude.{ℕ, List}
+use Rattle.std.specs.Prelude.{ℕ, List, Option, Some, None}
 use Rattle.lr_forms.specs.declared.forms.Stop.{Stop}
 use Rattle.lr_commands.specs.Asked.{Asked}
 use Rattle.lr_commands.specs.Assemble.{assemble_asked}
@@ -22,6 +22,7 @@ use Rattle.lr_words.specs.declared.command.Command.TheVariants.{
   Packets,
   Decode,
   Receive,
+  Downlinks,
   Extract,
   List as ListAll,
   Show,
@@ -42,6 +43,8 @@ pub data Deed : Type 0 where
   PutsLines : (lines : List ℕ → List ℕ) (last : List ℕ → Stop → List ℕ) (most : ℕ) → Deed
   -- the mission files of the bytes read come onto the shelf
   Shelves : (input : Input) (most : ℕ) → Deed
+  -- the mission files of the recordings of a bundle come onto the shelf, symbols of this line code
+  Merges : (line : LineCode) → Deed
   -- this is asked of the entries of the shelf
   Asks : (asked : Asked) → Deed
   -- the files of these entries are put as symbols
@@ -62,6 +65,7 @@ deed_of (Frames most) = PutsLines frames_text frames_last most
 deed_of (Packets most) = PutsLines packets_text packets_last most
 deed_of (Decode input workers most) = PutsLines (decode_text input) (decode_last input) most
 deed_of (Receive input workers most) = Shelves input most
+deed_of (Downlinks line) = Merges line
 deed_of (Extract number) = Asks (extract_asked number)
 deed_of ListAll = Asks list_asked
 deed_of (Show number) = Asks (show_asked number)
@@ -73,3 +77,8 @@ deed_of (Discard number) = Closes number
 deed_of (Repack number block) = Repacks number block
 deed_of (Make start frames wrong form) = PutsBytes (made_bytes form start wrong frames)
 deed_of (Trial start frames wrong workers) = Tries (made_bytes Symbols start wrong frames)
+
+-- On the caller's thread alone `downlinks` is no command.
+abbrev pub alone : Option Command → Option Command
+alone (Some (Downlinks line)) = None
+alone command = command

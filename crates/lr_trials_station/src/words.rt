@@ -6,12 +6,15 @@ use std::alloc::{AllocError, Global};
 use std::test::Fail;
 
 /// Words with a space between them, and the command that they give.
-const READ: [(&str, &str); 50] = [
+const READ: [(&str, &str); 53] = [
     ("init 100", "init 100"),
     ("init -- 100", "init 100"),
     ("init 00000000000000000100", "init 100"),
     ("init 20", "init 20"),
     ("init 1099511627776", "init 1099511627776"),
+    ("downlinks", "downlinks nrz-l inverted"),
+    ("downlinks --", "downlinks nrz-l inverted"),
+    ("downlinks --g2=plain --line nrz-m", "downlinks nrz-m plain"),
     ("extract -- 0", "extract 0"),
     ("extract 0 --", "extract 0"),
     (
@@ -102,7 +105,7 @@ const READ: [(&str, &str); 50] = [
 ];
 
 /// Words of which the arguments don't fit the command.
-const WRONG_ARGUMENTS: [&str; 40] = [
+const WRONG_ARGUMENTS: [&str; 42] = [
     "",
     " ",
     "init",
@@ -116,6 +119,8 @@ const WRONG_ARGUMENTS: [&str; 40] = [
     "extract -- -- 0",
     "extract 0 --symbols 5",
     "discard",
+    "downlinks 2",
+    "downlinks --workers 2",
     "repack 0",
     "repack 0 8 8",
     "list 0",
@@ -199,7 +204,8 @@ const NO_COMMAND: [&str; 22] = [
 ];
 
 /// Words of which a value is none.
-const WRONG_VALUES: [&str; 55] = [
+const WRONG_VALUES: [&str; 56] = [
+    "downlinks --line plain",
     "repack 0 10",
     "repack 0 0",
     "repack 0 x",
@@ -315,6 +321,11 @@ fn text_of(alloc: Global, command: Command) -> Result<String, AllocError> {
             workers,
             most,
         } => input_text(alloc, "receive", input, workers, most),
+        Command::Downlinks { line } => {
+            let code = line_name(line);
+            let g2 = g2_name(line);
+            format!(in alloc; "downlinks {code} {g2}")
+        }
         Command::Extract { number } => format!(in alloc; "extract {number}"),
         Command::List => String::from_str(alloc, "list"),
         Command::Show { number } => format!(in alloc; "show {number}"),

@@ -1,4 +1,4 @@
+pub mod Alike
 pub mod Covered
 pub mod Digits
-pub mod Dispatch
 pub mod Taken

@@ -5,7 +5,6 @@ use Rattle.std.specs.Prelude.{
   ◌≤◌,
   ◌^◌,
   ◌==◌,
-  ◌||◌,
   ℕ,
   Bool,
   false,
@@ -15,20 +14,50 @@ use Rattle.std.specs.Prelude.{
   Option,
   Some,
   None,
+  IsSome,
   if◌then◌else◌,
   option_map,
   option_and_then,
   codes,
 }
-use Rattle.std.specs.Str.{bytes_eq}
-use Rattle.clap.specs.Words.{App, Text, new_app, with_rule}
+use Rattle.clap.specs.Words.{Text}
+use Rattle.lr_conv.specs.declared.line.LineCode.{LineCode}
 use Rattle.lr_shelf_format.specs.declared.header.TheConstants.{LEAST_CAPACITY, MOST_CAPACITY}
 use Rattle.lr_shelf_format.specs.Header.{IsCapacity}
+use Rattle.lr_forms.specs.declared.forms.Input.{Input}
 use Rattle.lr_forms.specs.declared.forms.TheConstants.{MOST_WORKERS}
-use Rattle.lr_words.specs.Arguments.{place, option, number_app, symbols_app, intake_app, stream_app}
+use Rattle.lr_words.specs.Arguments.{app_of_shape}
 use Rattle.lr_words.specs.Numbers.{number_given}
+use Rattle.lr_words.specs.Shapes.{shape_named, can_write}
 use Rattle.lr_words.specs.Values.{coded_input, any_input, output_of, most_of, workers_of, line_of}
 use Rattle.lr_words.specs.Words.{is_taken, value_of}
+use Rattle.lr_words.specs.declared.shape.Shape.{Shape}
+use Rattle.lr_words.specs.declared.shape.Shape.TheVariants.{
+  Capacity,
+  Nothing,
+  Number,
+  Symbols,
+  Intake,
+  Line,
+  Segments,
+  Sent,
+  Block,
+  Made,
+  Tried,
+}
+use Rattle.lr_words.specs.declared.shape.OfNothing.{OfNothing}
+use Rattle.lr_words.specs.declared.shape.OfNothing.TheVariants.{List as OfList, Verify as OfVerify}
+use Rattle.lr_words.specs.declared.shape.OfNumber.{OfNumber}
+use Rattle.lr_words.specs.declared.shape.OfNumber.TheVariants.{
+  Extract as OfExtract,
+  Show as OfShow,
+  Export as OfExport,
+  Discard as OfDiscard,
+}
+use Rattle.lr_words.specs.declared.shape.OfSymbols.{OfSymbols}
+use Rattle.lr_words.specs.declared.shape.OfSymbols.TheVariants.{Frames as OfFrames, Packets as OfPackets}
+use Rattle.lr_words.specs.declared.shape.OfIntake.{OfIntake}
+use Rattle.lr_words.specs.declared.shape.OfIntake.TheVariants.{Decode as OfDecode, Receive as OfReceive}
 use Rattle.lr_words.specs.declared.command.Command.{Command}
 use Rattle.lr_words.specs.declared.command.Command.TheVariants.{
   Init,
@@ -36,6 +65,7 @@ use Rattle.lr_words.specs.declared.command.Command.TheVariants.{
   Packets,
   Decode,
   Receive,
+  Downlinks,
   Extract,
   List as ListAll,
   Show,
@@ -52,143 +82,28 @@ use Rattle.lr_words.specs.declared.command.Command.TheVariants.{
 abbrev pub most_u64 : ℕ
 most_u64 = 18446744073709551615
 
--- `init CAPACITY`
-unfoldable pub init_app : App
-init_app = with_rule (new_app (codes "init")) (place (codes "capacity"))
+abbrev pub with_nothing : OfNothing → Command
+with_nothing OfList = ListAll
+with_nothing OfVerify = Verify
 
-abbrev pub init_of : List Text → Option Command
-init_of words = if is_taken init_app words
-    then option_map (λ n. Init n)
-    (number_given LEAST_CAPACITY MOST_CAPACITY (value_of init_app words (codes "capacity")))
-    else None
+abbrev pub with_number : OfNumber → ℕ → Command
+with_number OfExtract n = Extract n
+with_number OfShow n = Show n
+with_number OfExport n = Export n
+with_number OfDiscard n = Discard n
 
--- `frames [--symbols N]`
-abbrev pub frames_app : App
-frames_app = symbols_app (codes "frames")
+abbrev pub with_symbols : OfSymbols → ℕ → Command
+with_symbols OfFrames most = Frames most
+with_symbols OfPackets most = Packets most
 
-abbrev pub frames_of : List Text → Option Command
-frames_of words = if is_taken frames_app words
-    then option_map (λ n. Frames n) (most_of (value_of frames_app words (codes "symbols")))
-    else None
+-- `decode` reads no frames
+abbrev pub input_of : OfIntake → LineCode → Option Text → Option Input
+input_of OfDecode = coded_input
+input_of OfReceive = any_input
 
--- `packets [--symbols N]`
-abbrev pub packets_app : App
-packets_app = symbols_app (codes "packets")
-
-abbrev pub packets_of : List Text → Option Command
-packets_of words = if is_taken packets_app words
-    then option_map (λ n. Packets n) (most_of (value_of packets_app words (codes "symbols")))
-    else None
-
--- `decode [--input symbols|blocks] [--workers N] [--symbols N] [--line nrz-l|nrz-m] [--g2 inverted|plain]`; the last
--- two are read in each form, and say something of symbols alone
-abbrev pub decode_app : App
-decode_app = intake_app (codes "decode")
-
-abbrev pub decode_of : List Text → Option Command
-decode_of words = if is_taken decode_app words
-    then option_and_then (λ w. option_and_then (λ line. option_and_then (λ input. option_map (λ n. Decode input w n)
-    (most_of (value_of decode_app words (codes "symbols"))))
-    (coded_input line (value_of decode_app words (codes "input"))))
-    (line_of (value_of decode_app words (codes "line")) (value_of decode_app words (codes "g2"))))
-    (workers_of (value_of decode_app words (codes "workers")))
-    else None
-
--- `receive` with the same options, and `frames` as a further form
-abbrev pub receive_app : App
-receive_app = intake_app (codes "receive")
-
-abbrev pub receive_of : List Text → Option Command
-receive_of words = if is_taken receive_app words
-    then option_and_then (λ w. option_and_then (λ line. option_and_then (λ input. option_map (λ n. Receive input w n)
-    (most_of (value_of receive_app words (codes "symbols"))))
-    (any_input line (value_of receive_app words (codes "input"))))
-    (line_of (value_of receive_app words (codes "line")) (value_of receive_app words (codes "g2"))))
-    (workers_of (value_of receive_app words (codes "workers")))
-    else None
-
--- `extract NUMBER`
-abbrev pub extract_app : App
-extract_app = number_app (codes "extract")
-
-abbrev pub extract_of : List Text → Option Command
-extract_of words = if is_taken extract_app words
-    then option_map (λ n. Extract n) (number_given 0 most_u64 (value_of extract_app words (codes "number")))
-    else None
-
--- `list`
-unfoldable pub list_app : App
-list_app = new_app (codes "list")
-
-abbrev pub list_of : List Text → Option Command
-list_of words = if is_taken list_app words then Some ListAll else None
-
--- `show NUMBER`
-abbrev pub show_app : App
-show_app = number_app (codes "show")
-
-abbrev pub show_of : List Text → Option Command
-show_of words = if is_taken show_app words
-    then option_map (λ n. Show n) (number_given 0 most_u64 (value_of show_app words (codes "number")))
-    else None
-
--- `verify`
-unfoldable pub verify_app : App
-verify_app = new_app (codes "verify")
-
-abbrev pub verify_of : List Text → Option Command
-verify_of words = if is_taken verify_app words then Some Verify else None
-
--- `export NUMBER`
-abbrev pub export_app : App
-export_app = number_app (codes "export")
-
-abbrev pub export_of : List Text → Option Command
-export_of words = if is_taken export_app words
-    then option_map (λ n. Export n) (number_given 0 most_u64 (value_of export_app words (codes "number")))
-    else None
-
--- `assemble FROM TO APID IMAGE`
-unfoldable pub assemble_app : App
-assemble_app = with_rule (with_rule (with_rule (with_rule (new_app (codes "assemble")) (place (codes "from")))
-    (place (codes "to"))) (place (codes "apid"))) (place (codes "image"))
-
-abbrev pub assemble_of : List Text → Option Command
-assemble_of words = if is_taken assemble_app words
-    then option_and_then (λ f. option_and_then (λ t. option_and_then (λ a. option_map (λ i. Assemble f t a i)
-    (number_given 0 65535 (value_of assemble_app words (codes "image"))))
-    (number_given 0 2046 (value_of assemble_app words (codes "apid"))))
-    (number_given 0 most_u64 (value_of assemble_app words (codes "to"))))
-    (number_given 0 most_u64 (value_of assemble_app words (codes "from")))
-    else None
-
--- `transmit FROM TO WRONG [--line nrz-l|nrz-m] [--g2 inverted|plain]`
-unfoldable pub transmit_app : App
-transmit_app = with_rule (with_rule (with_rule (with_rule (with_rule (new_app (codes "transmit"))
-    (place (codes "from"))) (place (codes "to"))) (place (codes "wrong"))) (option (codes "line")))
-    (option (codes "g2"))
-
-abbrev pub transmit_of : List Text → Option Command
-transmit_of words = if is_taken transmit_app words
-    then option_and_then (λ f. option_and_then (λ t. option_and_then (λ w. option_map (λ line. Transmit f t w line)
-    (line_of (value_of transmit_app words (codes "line")) (value_of transmit_app words (codes "g2"))))
-    (number_given 0 16 (value_of transmit_app words (codes "wrong"))))
-    (number_given 0 most_u64 (value_of transmit_app words (codes "to"))))
-    (number_given 0 most_u64 (value_of transmit_app words (codes "from")))
-    else None
-
--- `discard NUMBER`
-abbrev pub discard_app : App
-discard_app = number_app (codes "discard")
-
-abbrev pub discard_of : List Text → Option Command
-discard_of words = if is_taken discard_app words
-    then option_map (λ n. Discard n) (number_given 0 most_u64 (value_of discard_app words (codes "number")))
-    else None
-
--- `repack NUMBER BLOCK`
-unfoldable pub repack_app : App
-repack_app = with_rule (with_rule (new_app (codes "repack")) (place (codes "number"))) (place (codes "block"))
+abbrev pub with_intake : OfIntake → Input → ℕ → ℕ → Command
+with_intake OfDecode input workers most = Decode input workers most
+with_intake OfReceive input workers most = Receive input workers most
 
 -- a block has 8, 16, 32 or 64 samples
 abbrev pub block_of : ℕ → Option ℕ
@@ -196,72 +111,80 @@ block_of n =
     if n == 8 then Some 8 else if n == 16 then Some 16 else if n == 32 then Some 32
     else if n == 64 then Some 64 else None
 
-abbrev pub repack_of : List Text → Option Command
-repack_of words = if is_taken repack_app words
-    then option_and_then (λ n. option_and_then (λ b. option_map (λ block. Repack n block) (block_of b))
-    (number_given 0 most_u64 (value_of repack_app words (codes "block"))))
-    (number_given 0 most_u64 (value_of repack_app words (codes "number")))
-    else None
+-- the number that is given by an argument which has to be there
+abbrev pub number_at : (Text → Option Text) → Text → ℕ → ℕ → Option ℕ
+number_at value id low high = number_given low high (value id)
 
--- `make START FRAMES WRONG [--output symbols|blocks|frames]`
-unfoldable pub make_app : App
-make_app = with_rule (stream_app (codes "make")) (option (codes "output"))
+-- The command of words that look like this, where each argument has this value. `--line` and `--g2` are read in each
+-- form of an intake, and say something of symbols alone.
+abbrev pub given_by : Shape → (Text → Option Text) → Option Command
+given_by Capacity value =
+    option_map (λ n. Init n) (number_at value (codes "capacity") LEAST_CAPACITY MOST_CAPACITY)
+given_by (Nothing kind) value = Some (with_nothing kind)
+given_by (Number kind) value =
+    option_map (λ n. with_number kind n) (number_at value (codes "number") 0 most_u64)
+given_by (Symbols kind) value = option_map (λ n. with_symbols kind n) (most_of (value (codes "symbols")))
+given_by (Intake kind) value =
+    option_and_then (λ w. option_and_then (λ line. option_and_then (λ input.
+    option_map (λ n. with_intake kind input w n)
+    (most_of (value (codes "symbols"))))
+    (input_of kind line (value (codes "input"))))
+    (line_of (value (codes "line")) (value (codes "g2"))))
+    (workers_of (value (codes "workers")))
+given_by Line value = option_map (λ line. Downlinks line) (line_of (value (codes "line")) (value (codes "g2")))
+given_by Segments value =
+    option_and_then (λ f. option_and_then (λ t. option_and_then (λ a. option_map (λ i. Assemble f t a i)
+    (number_at value (codes "image") 0 65535))
+    (number_at value (codes "apid") 0 2046))
+    (number_at value (codes "to") 0 most_u64))
+    (number_at value (codes "from") 0 most_u64)
+given_by Sent value =
+    option_and_then (λ f. option_and_then (λ t. option_and_then (λ w. option_map (λ line. Transmit f t w line)
+    (line_of (value (codes "line")) (value (codes "g2"))))
+    (number_at value (codes "wrong") 0 16))
+    (number_at value (codes "to") 0 most_u64))
+    (number_at value (codes "from") 0 most_u64)
+given_by Block value =
+    option_and_then (λ n. option_and_then (λ b. option_map (λ block. Repack n block) (block_of b))
+    (number_at value (codes "block") 0 most_u64))
+    (number_at value (codes "number") 0 most_u64)
+given_by Made value =
+    option_and_then (λ s. option_and_then (λ f. option_and_then (λ w. option_map (λ form. Make s f w form)
+    (output_of (value (codes "output"))))
+    (number_at value (codes "wrong") 0 16))
+    (number_at value (codes "frames") 1 65536))
+    (number_at value (codes "start") 0 most_u64)
+given_by Tried value =
+    option_and_then (λ s. option_and_then (λ f. option_and_then (λ w. option_map (λ k. Trial s f w k)
+    (workers_of (value (codes "workers"))))
+    (number_at value (codes "wrong") 0 16))
+    (number_at value (codes "frames") 1 1024))
+    (number_at value (codes "start") 0 most_u64)
 
-abbrev pub make_of : List Text → Option Command
-make_of words = if is_taken make_app words
-    then option_and_then (λ s. option_and_then (λ f. option_and_then (λ w. option_map (λ form. Make s f w form)
-    (output_of (value_of make_app words (codes "output"))))
-    (number_given 0 16 (value_of make_app words (codes "wrong"))))
-    (number_given 1 65536 (value_of make_app words (codes "frames"))))
-    (number_given 0 most_u64 (value_of make_app words (codes "start")))
-    else None
-
--- `trial START FRAMES WRONG [--workers N]`
-unfoldable pub trial_app : App
-trial_app = with_rule (stream_app (codes "trial")) (option (codes "workers"))
-
-abbrev pub trial_of : List Text → Option Command
-trial_of words = if is_taken trial_app words
-    then option_and_then (λ s. option_and_then (λ f. option_and_then (λ w. option_map (λ k. Trial s f w k)
-    (workers_of (value_of trial_app words (codes "workers"))))
-    (number_given 0 16 (value_of trial_app words (codes "wrong"))))
-    (number_given 1 1024 (value_of trial_app words (codes "frames"))))
-    (number_given 0 most_u64 (value_of trial_app words (codes "start")))
-    else None
-
--- the command that the first word names
-abbrev pub command_named : Text → List Text → Option Command
-command_named name words =
-    if bytes_eq name (codes "init") then init_of words
-    else if bytes_eq name (codes "frames") then frames_of words
-    else if bytes_eq name (codes "packets") then packets_of words
-    else if bytes_eq name (codes "decode") then decode_of words
-    else if bytes_eq name (codes "receive") then receive_of words
-    else if bytes_eq name (codes "extract") then extract_of words
-    else if bytes_eq name (codes "list") then list_of words
-    else if bytes_eq name (codes "show") then show_of words
-    else if bytes_eq name (codes "verify") then verify_of words
-    else if bytes_eq name (codes "export") then export_of words
-    else if bytes_eq name (codes "assemble") then assemble_of words
-    else if bytes_eq name (codes "transmit") then transmit_of words
-    else if bytes_eq name (codes "discard") then discard_of words
-    else if bytes_eq name (codes "repack") then repack_of words
-    else if bytes_eq name (codes "make") then make_of words
-    else if bytes_eq name (codes "trial") then trial_of words
+-- words that look like this, of which the first is this name
+abbrev pub command_shaped : Text → List Text → Option Shape → Option Command
+command_shaped name words None = None
+command_shaped name words (Some shape) = if is_taken (app_of_shape shape name) words
+    then given_by shape (value_of (app_of_shape shape name) words)
     else None
 
 unfoldable pub command_of : List Text → Option Command
 command_of [] = None
-command_of (name ∷ rest) = command_named name (name ∷ rest)
+command_of (name ∷ rest) = command_shaped name (name ∷ rest) (shape_named name)
 
--- whether a command of this name may change the shelf
-abbrev pub is_writing : Text → Bool
-is_writing name = bytes_eq name (codes "init") || bytes_eq name (codes "receive")
-    || bytes_eq name (codes "trial") || bytes_eq name (codes "discard") || bytes_eq name (codes "repack")
+-- the first word names a command
+abbrev pub IsNamed : List Text → Type 0
+IsNamed [] = ⊥
+IsNamed (name ∷ rest) = IsSome (shape_named name)
+
+-- whether the first word names a command that may change the shelf
+abbrev pub writes_when : Option Shape → Bool
+writes_when None = false
+writes_when (Some shape) = can_write shape
 
 abbrev pub writes_shelf : List Text → Bool
 writes_shelf [] = false
-writes_shelf (name ∷ rest) = is_writing name
+writes_shelf (name ∷ rest) = writes_when (shape_named name)
 
 -- this many may work on windows, the caller among them
 abbrev pub IsCrew : ℕ → Type 0

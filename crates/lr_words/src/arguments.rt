@@ -1,13 +1,27 @@
-//! The arguments of commands: those of one kind, and those of the commands that have the same.
+//! The arguments of commands, by what their words look like.
 ghost use Rattle.std.specs.Prelude.{◌≡◌, IfOk, false};
 ghost use Rattle.clap.specs.Words.{App, Rule, app_of, rule_of, with_rule};
-ghost use Rattle.lr_words.specs.Arguments.{place, option, number_app, symbols_app, intake_app, stream_app};
+ghost use Rattle.lr_words.specs.Arguments.{
+  place,
+  option,
+  capacity_app,
+  number_app,
+  symbols_app,
+  intake_app,
+  line_app,
+  segments_app,
+  sent_app,
+  block_app,
+  stream_app,
+  app_of_shape,
+};
 
+use crate::shape::Shape;
 use clap::{Arg, Command as Parser};
 use std::alloc::{AllocError, Global};
 
 /// An argument that has to be there, by its place.
-pub(crate) fn place<'a>(alloc: Global, id: &'a str) -> Arg<'a>
+fn place<'a>(alloc: Global, id: &'a str) -> Arg<'a>
     ensures rule { rule_of result ≡ place id.now }
     ensures local { result.global ≡ false }
 {
@@ -15,7 +29,7 @@ pub(crate) fn place<'a>(alloc: Global, id: &'a str) -> Arg<'a>
 }
 
 /// An option with one value.
-pub(crate) fn option<'a>(alloc: Global, id: &'a str) -> Arg<'a>
+fn option<'a>(alloc: Global, id: &'a str) -> Arg<'a>
     ensures rule { rule_of result ≡ option id.now }
     ensures local { result.global ≡ false }
 {
@@ -23,7 +37,7 @@ pub(crate) fn option<'a>(alloc: Global, id: &'a str) -> Arg<'a>
 }
 
 /// The parser with one more argument. Where memory was refused for the parser, it is refused here.
-pub(crate) fn with_arg<'a>(
+fn with_arg<'a>(
     parser: Result<Parser<'a>, AllocError>,
     arg: Arg<'a>,
 ) -> Result<Parser<'a>, AllocError>
@@ -34,22 +48,25 @@ pub(crate) fn with_arg<'a>(
     parser?.arg(arg)
 }
 
-/// The number of an entry, as `extract`, `show`, `export` and `discard` have it.
-pub(crate) fn number_parser<'a>(alloc: Global, name: &'a str) -> Result<Parser<'a>, AllocError>
+fn capacity_parser<'a>(alloc: Global, name: &'a str) -> Result<Parser<'a>, AllocError>
+    ensures { IfOk result (λ c. app_of c ≡ capacity_app name.now) }
+{
+    Parser::new(alloc, name).arg(place(alloc, "capacity"))
+}
+
+fn number_parser<'a>(alloc: Global, name: &'a str) -> Result<Parser<'a>, AllocError>
     ensures { IfOk result (λ c. app_of c ≡ number_app name.now) }
 {
     Parser::new(alloc, name).arg(place(alloc, "number"))
 }
 
-/// The most bytes, as `frames` and `packets` have it.
-pub(crate) fn symbols_parser<'a>(alloc: Global, name: &'a str) -> Result<Parser<'a>, AllocError>
+fn symbols_parser<'a>(alloc: Global, name: &'a str) -> Result<Parser<'a>, AllocError>
     ensures { IfOk result (λ c. app_of c ≡ symbols_app name.now) }
 {
     Parser::new(alloc, name).arg(option(alloc, "symbols"))
 }
 
-/// What `decode` and `receive` say of the source and of the work.
-pub(crate) fn intake_parser<'a>(alloc: Global, name: &'a str) -> Result<Parser<'a>, AllocError>
+fn intake_parser<'a>(alloc: Global, name: &'a str) -> Result<Parser<'a>, AllocError>
     ensures { IfOk result (λ c. app_of c ≡ intake_app name.now) }
 {
     let parser = Parser::new(alloc, name).arg(option(alloc, "input"));
@@ -59,11 +76,68 @@ pub(crate) fn intake_parser<'a>(alloc: Global, name: &'a str) -> Result<Parser<'
     with_arg(parser, option(alloc, "g2"))
 }
 
-/// The three numbers of a test stream, as `make` and `trial` have them.
-pub(crate) fn stream_parser<'a>(alloc: Global, name: &'a str) -> Result<Parser<'a>, AllocError>
-    ensures { IfOk result (λ c. app_of c ≡ stream_app name.now) }
+fn line_parser<'a>(alloc: Global, name: &'a str) -> Result<Parser<'a>, AllocError>
+    ensures { IfOk result (λ c. app_of c ≡ line_app name.now) }
+{
+    let parser = Parser::new(alloc, name).arg(option(alloc, "line"));
+    with_arg(parser, option(alloc, "g2"))
+}
+
+fn segments_parser<'a>(alloc: Global, name: &'a str) -> Result<Parser<'a>, AllocError>
+    ensures { IfOk result (λ c. app_of c ≡ segments_app name.now) }
+{
+    let parser = Parser::new(alloc, name).arg(place(alloc, "from"));
+    let parser = with_arg(parser, place(alloc, "to"));
+    let parser = with_arg(parser, place(alloc, "apid"));
+    with_arg(parser, place(alloc, "image"))
+}
+
+fn sent_parser<'a>(alloc: Global, name: &'a str) -> Result<Parser<'a>, AllocError>
+    ensures { IfOk result (λ c. app_of c ≡ sent_app name.now) }
+{
+    let parser = Parser::new(alloc, name).arg(place(alloc, "from"));
+    let parser = with_arg(parser, place(alloc, "to"));
+    let parser = with_arg(parser, place(alloc, "wrong"));
+    let parser = with_arg(parser, option(alloc, "line"));
+    with_arg(parser, option(alloc, "g2"))
+}
+
+fn block_parser<'a>(alloc: Global, name: &'a str) -> Result<Parser<'a>, AllocError>
+    ensures { IfOk result (λ c. app_of c ≡ block_app name.now) }
+{
+    let parser = Parser::new(alloc, name).arg(place(alloc, "number"));
+    with_arg(parser, place(alloc, "block"))
+}
+
+/// The three numbers of a test stream, and one option.
+fn stream_parser<'a>(alloc: Global, name: &'a str, last: &'a str) -> Result<Parser<'a>, AllocError>
+    ensures { IfOk result (λ c. app_of c ≡ stream_app name.now last.now) }
 {
     let parser = Parser::new(alloc, name).arg(place(alloc, "start"));
     let parser = with_arg(parser, place(alloc, "frames"));
-    with_arg(parser, place(alloc, "wrong"))
+    let parser = with_arg(parser, place(alloc, "wrong"));
+    with_arg(parser, option(alloc, last))
+}
+
+/// The parser of a command of this name whose words look like this.
+pub(crate) fn parser_of<'a>(
+    alloc: Global,
+    shape: Shape,
+    name: &'a str,
+) -> Result<Parser<'a>, AllocError>
+    ensures { IfOk result (λ c. app_of c ≡ app_of_shape shape name.now) }
+{
+    match shape {
+        Shape::Capacity => capacity_parser(alloc, name),
+        Shape::Nothing(_) => Ok(Parser::new(alloc, name)),
+        Shape::Number(_) => number_parser(alloc, name),
+        Shape::Symbols(_) => symbols_parser(alloc, name),
+        Shape::Intake(_) => intake_parser(alloc, name),
+        Shape::Line => line_parser(alloc, name),
+        Shape::Segments => segments_parser(alloc, name),
+        Shape::Sent => sent_parser(alloc, name),
+        Shape::Block => block_parser(alloc, name),
+        Shape::Made => stream_parser(alloc, name, "output"),
+        Shape::Tried => stream_parser(alloc, name, "workers"),
+    }
 }

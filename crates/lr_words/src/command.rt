@@ -30,6 +30,10 @@ pub enum Command {
         workers: u32,
         most: u64,
     },
+    /// Puts each mission file of the recordings of a bundle onto the shelf, symbols of this line code.
+    Downlinks {
+        line: LineCode,
+    },
     /// The bytes of the mission file of this number.
     Extract {
         number: u64,

@@ -1,72 +1,58 @@
 //! The command that the words give, and whether it may change the shelf.
-ghost use Rattle.std.specs.Prelude.{◌≡◌, map, IfOk, string_bytes};
-ghost use Rattle.lr_words.specs.Commands.{command_of, is_writing, writes_shelf, IsInRange};
+ghost use Rattle.std.specs.Prelude.{◌≡◌, map, Some, IfOk, IfErr, string_bytes};
+ghost use Rattle.lr_words.specs.Commands.{command_of, command_shaped, writes_shelf, IsNamed, IsInRange};
 
-use crate::assemble::read_assemble;
+use crate::arguments::parser_of;
 use crate::command::Command;
-use crate::decode::read_decode;
-use crate::discard::read_discard;
-use crate::export::read_export;
-use crate::extract::read_extract;
-use crate::frames::read_frames;
-use crate::init::read_init;
-use crate::list::read_list;
-use crate::make::read_make;
-use crate::packets::read_packets;
-use crate::receive::read_receive;
-use crate::repack::read_repack;
-use crate::show::read_show;
-use crate::transmit::read_transmit;
-use crate::trial::read_trial;
-use crate::verify::read_verify;
+use crate::given::command_given;
+use crate::parsing::matches_by;
+use crate::shape::{Shape, shape_of};
 use lr_bits::NoMemory;
 use std::alloc::Global;
 
-/// The command that the first word names, with what the others say; none exactly where they give no command.
-///
-/// Want of memory is the one error, which says nothing of the words.
-pub fn read_words(alloc: Global, words: &[String]) -> Result<Option<Command>, NoMemory>
-    ensures gives { IfOk result (λ r. r ≡ command_of (map string_bytes words.now)) }
+/// The command that words of this look give, of which the first is this name.
+fn read_shape(
+    alloc: Global,
+    shape: Shape,
+    name: &str,
+    words: &[String],
+) -> Result<Option<Command>, NoMemory>
+    ensures gives { IfOk result (λ r. r ≡ command_shaped name.now (map string_bytes words.now) (Some shape)) }
     ensures range { IfOk result IsInRange }
 {
-    let Some(name) = words.first() else {
-        return Ok(None);
-    };
-    match name.as_str() {
-        "init" => read_init(alloc, words),
-        "frames" => read_frames(alloc, words),
-        "packets" => read_packets(alloc, words),
-        "decode" => read_decode(alloc, words),
-        "receive" => read_receive(alloc, words),
-        "extract" => read_extract(alloc, words),
-        "list" => read_list(alloc, words),
-        "show" => read_show(alloc, words),
-        "verify" => read_verify(alloc, words),
-        "export" => read_export(alloc, words),
-        "assemble" => read_assemble(alloc, words),
-        "transmit" => read_transmit(alloc, words),
-        "discard" => read_discard(alloc, words),
-        "repack" => read_repack(alloc, words),
-        "make" => read_make(alloc, words),
-        "trial" => read_trial(alloc, words),
-        _ => Ok(None),
+    match matches_by(parser_of(alloc, shape, name), words)? {
+        Some(matches) => Ok(command_given(shape, &matches)),
+        None => Ok(None),
     }
 }
 
-// Whether a command of this name may change the shelf.
-fn is_writing(name: &str) -> bool
-    ensures { result ≡ is_writing name.now }
+/// The command that the first word names, with what the others say; none exactly where they give no command.
+///
+/// Want of memory is the one error, which says nothing more of the words than that the first one names a command.
+pub fn read_words(alloc: Global, words: &[String]) -> Result<Option<Command>, NoMemory>
+    ensures gives { IfOk result (λ r. r ≡ command_of (map string_bytes words.now)) }
+    ensures known { IfErr result (λ _. IsNamed (map string_bytes words.now)) }
+    ensures range { IfOk result IsInRange }
 {
-    name == "init" || name == "receive" || name == "trial" || name == "discard" || name == "repack"
+    let Some(first) = words.first() else {
+        return Ok(None);
+    };
+    let name = first.as_str();
+    match shape_of(name) {
+        Some(shape) => read_shape(alloc, shape, name, words),
+        None => Ok(None),
+    }
 }
 
-/// Whether the first word is that of a command that may change the shelf: `init`, `receive`, `trial`, `discard` or
-/// `repack`.
+/// Whether the first word names a command that may change the shelf.
 pub fn writes_shelf(words: &[String]) -> bool
     ensures { result ≡ writes_shelf (map string_bytes words.now) }
 {
-    match words.first() {
-        Some(name) => is_writing(name.as_str()),
+    let Some(first) = words.first() else {
+        return false;
+    };
+    match shape_of(first.as_str()) {
+        Some(shape) => shape.can_write(),
         None => false,
     }
 }

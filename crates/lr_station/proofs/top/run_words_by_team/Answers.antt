@@ -1,6 +1,15 @@
-use Rattle.std.proofs.Common.{inr, refl}
+use Rattle.std.proofs.Common.{Option, inr, refl, subst, ◌∙◌}
+use Rattle.lr_words.specs.declared.command.Command.{Command}
+use Rattle.lr_station.specs.Runs.{Runs}
+use Rattle.lr_station.proofs.Unknown.{unnamed}
 use Rattle.lr_station.proofs.top.run_words_by_team.Goals as goal
 
 pub returns-in_default-clause-runs : goal.returns-in_default-clause-runs
 returns-in_default-clause-runs g c =
     inr (record { is = refl; source_stays = refl; disk_stays = refl; out_stays = refl })
+
+pub returns-clause-unknown : goal.returns-clause-unknown
+returns-clause-unknown g c = λ unknown.
+    (subst (λ (command : Option Command). Runs g.S.Source g.D.Disk g.O.Sink command c.run_by_team.result
+    c.args.source.now c.run_by_team.new.source c.args.disk.now c.run_by_team.new.disk c.args.out.now
+    c.run_by_team.new.out) (c.in-Ok.ensures.gives ∙ unnamed _ unknown) c.run_by_team.ensures.runs).is

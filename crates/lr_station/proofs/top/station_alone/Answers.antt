@@ -2,8 +2,8 @@ use Rattle.std.proofs.Common.{rules, arith}
 use Rattle.lr_station.proofs.StatusLemmas.{says}
 use Rattle.lr_station.proofs.top.station_alone.Goals as goal
 
-pub returns : goal.returns
-returns g c =
+pub returns-clause-stations : goal.returns-clause-stations
+returns-clause-stations g c =
     let ran = c.run_words-cause.ensures in
     record {
       cause = c.run_words-cause.result;

@@ -10,4 +10,5 @@ returns c =
     let first = IfOk-weaker c.arg-parser.result _ _ (λ r a. a.shape c.place.ensures.local
     ∙ ap₂ with_rule c.new.ensures.app c.place.ensures.rule) c.arg-parser.ensures in
     let next_1 = c.with_arg-parser.ensures _ _ first c.place-2.ensures.rule in
-    c.with_arg.ensures _ _ next_1 c.place-3.ensures.rule
+    let next_2 = c.with_arg-parser-2.ensures _ _ next_1 c.place-3.ensures.rule in
+    c.with_arg.ensures _ _ next_2 c.option.ensures.rule

@@ -1,0 +1,4 @@
+pub mod Flaws
+pub mod Merging
+pub mod Numbers
+pub mod Taken

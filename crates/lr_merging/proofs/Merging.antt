@@ -1,0 +1,453 @@
+-- What a whole run comes to, by what was loaded, what was taken, and how the files were merged.
+use Rattle.std.proofs.Common.{◌≡◌, ◌<◌, ◌-◌, ◌⊎◌, inl, inr, ⊎_elim, ℕ, List, [], ◌∷◌, ◌++◌, length}
+use Rattle.std.proofs.Common.{refl, sym, ◌∙◌, ap, subst, arith}
+use Rattle.std.proofs.Common.{Result, Err, IfErr, MatchResult}
+use Rattle.lr_bits.specs.declared.placed.Placed.{Placed}
+use Rattle.lr_bits.specs.Faults.{Rose}
+use Rattle.lr_conv.specs.declared.line.LineCode.{LineCode}
+use Rattle.lr_io.specs.declared.source.Source.{Ghosts as SourceOf}
+use Rattle.lr_io.specs.declared.sink.Sink.{Ghosts as SinkOf}
+use Rattle.lr_disk.specs.Disk.{LeavesOnly, Only}
+use Rattle.lr_disk.specs.Reads.{IsUnwritten}
+use Rattle.lr_disk.specs.declared.disk.Disk.{Ghosts as DiskOf}
+use Rattle.lr_disk.proofs.Moments.{joined, weaker}
+use Rattle.lr_shelf_format.specs.Way.{IsNoShelfAt, IsWay, Way}
+use Rattle.lr_shelf_format.proofs.WayLemmas.{has_one_way}
+use Rattle.lr_shelf.specs.Adding.{StaysOutside}
+use Rattle.lr_shelf.specs.Adds.{last_gate}
+use Rattle.lr_shelf.specs.Append.{item_for}
+use Rattle.lr_shelf.specs.Calls.{IsCounted}
+use Rattle.lr_shelf.specs.Kept.{kept_by}
+use Rattle.lr_shelf.specs.Load.{IsLoadRefusal, Loads, MayRefuseAt}
+use Rattle.lr_shelf.specs.Shelf.{HasEitherWay}
+use Rattle.lr_shelf.specs.declared.shelf.Shelf.{Shelf}
+use Rattle.lr_shelf.specs.declared.error.ShelfError.{ShelfError}
+use Rattle.lr_shelf.specs.declared.error.ShelfError.TheVariants.{
+  Disk as Disk',
+  NotAShelf as NotAShelf',
+  NoMemory as NoMemory',
+}
+use Rattle.lr_causes.specs.Causes.{Counts, IsCaused, cause_of, counts}
+use Rattle.lr_causes.specs.declared.fault.BundleFlaw.{BundleFlaw}
+use Rattle.lr_causes.specs.declared.cause.Cause.{Cause}
+use Rattle.lr_causes.specs.declared.cause.Cause.TheVariants.{Done, Failed, NoMemory, Refused}
+use Rattle.lr_causes.specs.declared.cause.Party.TheVariants.{Source, Disk, Output}
+use Rattle.lr_causes.specs.declared.cause.Refusal.TheVariants.{NotAShelf, Capacity as IsFull, BadBundle}
+use Rattle.lr_commands.proofs.AddingRuns.{IsReady, way_read}
+use Rattle.lr_downlinks.specs.Bundles.{IsBundle}
+use Rattle.lr_downlinks.specs.Merge.{IsWhole, merge}
+use Rattle.lr_downlinks.specs.Room.{AllFit}
+use Rattle.lr_downlinks.specs.Runs.{MergeEnds, MergesOver, NextDoesNotFitBy}
+use Rattle.lr_downlinks.specs.Since.{HasAppended, HasFrontWay, way_with_files}
+use Rattle.lr_downlinks.specs.Streams.{files_of_downlink}
+use Rattle.lr_downlinks.specs.declared.run.Run.{Run}
+use Rattle.lr_downlinks.specs.declared.run.RunEnd.{RunEnd}
+use Rattle.lr_downlinks.specs.declared.run.RunEnd.TheVariants.{All, Disk as DiskFails, NoMemory as NoneLeft, Capacity}
+use Rattle.lr_merging.specs.Downlinks.{AddsMerged, AreCounted, BreaksMerging, DownlinksRun, Ends, GotReceipts}
+use Rattle.lr_merging.specs.Downlinks.{IsBefore, IsUntouched, LeavesAlone, LeavesMerged, MayEndBefore, Merges, NoFault}
+use Rattle.lr_merging.specs.Lines.{receipt_lines, last_line}
+use Rattle.lr_merging.specs.Taking.{AreAllTaken, HasFlaw, StopsTaking, TakesBundle, TakesNone, most_taken}
+use Rattle.lr_merging.specs.Told.{TellsAll, TellsEnd, TellsSome}
+use Rattle.lr_reading.specs.Reading.{IsRead}
+
+-- ---- the disk, since the shelf was loaded from it
+
+module _ {D : Type 0} (disk : DiskOf D) (shelf : Shelf) (d d1 d' : D) (ready : IsReady disk d d1 shelf)
+    (files : List Placed) where
+  kept_way : (way : Way) → disk.tells d → IsWay (disk.contents d) way → (kept_by shelf).way ≡ way
+  kept_way way t is =
+      (has_one_way (disk.contents d)).way (kept_by shelf).way way (way_read disk d d1 shelf ready t) is
+
+  -- as the shelf was loaded, nothing of the files was there
+  none_yet : (way : Way) → disk.tells d → IsWay (disk.contents d) way → Only (disk.contents d) (disk.may_leave d)
+      → LeavesOnly disk.moment disk.left_since d d1 (HasFrontWay way files)
+  none_yet way t is only =
+      weaker disk.moment disk.left_since d d1 (disk.may_leave d) (HasFrontWay way files)
+      (λ c image. record {
+        first = [];
+        rest = files;
+        split = refl;
+        is_way = subst (λ (l : List ℕ). IsWay l way) (sym (only c image)) is;
+      })
+      (ready.unwritten t).any_moment
+
+  -- nor did any byte change
+  same_yet : (from to : ℕ) → disk.tells d → Only (disk.contents d) (disk.may_leave d)
+      → LeavesOnly disk.moment disk.left_since d d1 (StaysOutside from to (disk.contents d))
+  same_yet from to t only =
+      weaker disk.moment disk.left_since d d1 (disk.may_leave d) (StaysOutside from to (disk.contents d))
+      (λ c image. subst (λ (l : List ℕ). StaysOutside from to (disk.contents d) l) (sym (only c image))
+      (record { before = refl; after = refl }))
+      (ready.unwritten t).any_moment
+
+  module _ (way : Way) (told : disk.tells d) (is : IsWay (disk.contents d) way) where
+    -- what the shelf's own way said of these bytes
+    as_found : StaysOutside (last_gate (kept_by shelf)) (way_with_files files (kept_by shelf).way).end
+        (disk.contents d1) (disk.contents d')
+        → StaysOutside (way.end - 1) (way_with_files files way).end (disk.contents d) (disk.contents d')
+    as_found stays =
+        subst (λ (w : Way). StaysOutside (w.end - 1) (way_with_files files w).end (disk.contents d) (disk.contents d'))
+        (kept_way way told is)
+        (subst (λ (l : List ℕ). StaysOutside (last_gate (kept_by shelf)) (way_with_files files (kept_by shelf).way).end
+        l (disk.contents d')) (ready.unwritten told).contents stays)
+
+    as_found_since : Only (disk.contents d) (disk.may_leave d)
+        → LeavesOnly disk.moment disk.left_since d1 d'
+        (StaysOutside (last_gate (kept_by shelf)) (way_with_files files (kept_by shelf).way).end (disk.contents d1))
+        → LeavesOnly disk.moment disk.left_since d d'
+        (StaysOutside (way.end - 1) (way_with_files files way).end (disk.contents d))
+    as_found_since only stays =
+        joined disk.moment disk.left_since d d1 d'
+        (StaysOutside (way.end - 1) (way_with_files files way).end (disk.contents d))
+        (same_yet (way.end - 1) (way_with_files files way).end told only)
+        (subst (λ (w : Way). LeavesOnly disk.moment disk.left_since d1 d'
+        (StaysOutside (w.end - 1) (way_with_files files w).end (disk.contents d))) (kept_way way told is)
+        (subst (λ (l : List ℕ). LeavesOnly disk.moment disk.left_since d1 d'
+        (StaysOutside (last_gate (kept_by shelf)) (way_with_files files (kept_by shelf).way).end l))
+        (ready.unwritten told).contents stays))
+
+module _ {D : Type 0} (disk : DiskOf D) (count : ℕ) (files : ℕ → List Placed) (order : List ℕ) (shelf : Shelf)
+    (d d1 d' : D) (ready : IsReady disk d d1 shelf) where
+  merged : List Placed
+  merged = merge files order
+
+  added : HasAppended disk shelf d1 (merge files order) d' → AddsMerged disk count files order d d'
+  added has = record {
+    way = λ way t is. (
+      subst (λ (w : Way). IsWay (disk.contents d') (way_with_files (merge files order) w))
+          (kept_way disk shelf d d1 d' ready (merge files order) way t is) (has.way (ready.told t) (ready.keeps t)),
+      has.durable (ready.told t) (ready.synced t),
+    );
+    outside = λ way t is.
+        as_found disk shelf d d1 d' ready (merge files order) way t is (has.outside (ready.told t));
+    outside_any_moment = λ way t is only.
+        as_found_since disk shelf d d1 d' ready (merge files order) way t is only
+        (has.outside_any_moment (ready.told t) (ready.synced t));
+    stands = λ capacity items t durable. has.stands capacity items (ready.settled capacity items t durable);
+    any_moment = λ way t is only.
+        joined disk.moment disk.left_since d d1 d' (HasFrontWay way (merge files order))
+        (none_yet disk shelf d d1 d' ready (merge files order) way t is only)
+        (subst (λ (w : Way). LeavesOnly disk.moment disk.left_since d1 d' (HasFrontWay w (merge files order)))
+        (kept_way disk shelf d d1 d' ready (merge files order) way t is)
+        (has.way_any_moment (ready.told t) (ready.keeps t) (ready.synced t)));
+  }
+
+  broken_in : MergeEnds count files order disk DiskFails shelf d1 d' → BreaksMerging disk count files order d d'
+  broken_in breaks = record {
+    downlink = breaks.downlink;
+    placed = breaks.placed;
+    next = breaks.next;
+    way = λ way t is.
+        subst (λ (w : Way). HasEitherWay (way_with_files (merge files order) w) (item_for breaks.placed)
+        (disk.contents d')) (kept_way disk shelf d d1 d' ready (merge files order) way t is)
+        (breaks.appended.way (ready.told t) (ready.keeps t));
+    outside = λ way t is.
+        as_found disk shelf d d1 d' ready (merge files order ++ breaks.placed ∷ []) way t is
+        (breaks.appended.outside (ready.told t));
+    outside_any_moment = λ way t is only.
+        as_found_since disk shelf d d1 d' ready (merge files order ++ breaks.placed ∷ []) way t is only
+        (breaks.appended.outside_any_moment (ready.told t) (ready.synced t));
+    stands = λ capacity items t durable.
+        breaks.appended.stands capacity items (ready.settled capacity items t durable);
+    any_moment = λ way t is only.
+        joined disk.moment disk.left_since d d1 d' (HasFrontWay way (merge files order ++ breaks.placed ∷ []))
+        (none_yet disk shelf d d1 d' ready (merge files order ++ breaks.placed ∷ []) way t is only)
+        (subst (λ (w : Way). LeavesOnly disk.moment disk.left_since d1 d'
+        (HasFrontWay w (merge files order ++ breaks.placed ∷ [])))
+        (kept_way disk shelf d d1 d' ready (merge files order) way t is)
+        (breaks.appended.way_any_moment (ready.told t) (ready.keeps t) (ready.synced t)));
+  }
+
+  not_fitting : (needed capacity : ℕ) → NextDoesNotFitBy count files order (kept_by shelf).way needed capacity
+      → (way : Way) → disk.tells d → IsWay (disk.contents d) way
+      → NextDoesNotFitBy count files order way needed capacity
+  not_fitting needed capacity full way t is =
+      subst (λ (w : Way). NextDoesNotFitBy count files order w needed capacity)
+      (kept_way disk shelf d d1 d' ready (merge files order) way t is) full
+
+-- ---- how a run over a bundle ends
+
+module _ {S D O : Type 0} (source : SourceOf S) (disk : DiskOf D) (out : SinkOf O) (line : LineCode)
+    (s s' : S) (d d1 d' : D) (o o' : O) (shelf : Shelf) (ready : IsReady disk d d1 shelf) (streams : List (List ℕ))
+    (same_source : source.faults s' ≡ source.faults s) (base : ℕ) (order : List ℕ) where
+  -- what is left, what `out` got, and the counts
+  pub record IsFinished (cause : Cause) : Type 0 where
+    pub leaves : LeavesMerged disk (length streams) (files_of_downlink line streams) order d d' cause
+    pub got : GotReceipts out cause (receipt_lines base order (length streams)) (last_line streams order) o o'
+    pub counted : AreCounted cause (counts (source.faults s) (disk.faults d) (out.faults o))
+        (counts (source.faults s') (disk.faults d') (out.faults o'))
+    pub told : out.tells o → out.tells o'
+
+  same_all : disk.faults d' ≡ disk.faults d → out.faults o' ≡ out.faults o
+      → counts (source.faults s') (disk.faults d') (out.faults o')
+      ≡ counts (source.faults s) (disk.faults d) (out.faults o)
+  same_all same_disk same_out = rw (same_source, same_disk, same_out) refl
+
+  told_some : TellsSome out streams base order o o' → out.tells o → out.tells o'
+  told_some (inl puts) = puts.told
+  told_some (inr fails) = fails.told
+
+  finish_all : (cause : Cause)
+      → HasAppended disk shelf d1 (merge (files_of_downlink line streams) order) d'
+      × IsWhole (length streams) (files_of_downlink line streams) order
+      → TellsAll out streams base order cause o o' → IsFinished cause
+  finish_all Done ends tells = record {
+    leaves = (added disk (length streams) (files_of_downlink line streams) order shelf d d1 d' ready ends.0, ends.1);
+    got = tells;
+    counted = same_all (ends.0.count ∙ ready.count) tells.kept;
+    told = tells.told;
+  }
+  finish_all (Failed Output) ends tells = record {
+    leaves = (added disk (length streams) (files_of_downlink line streams) order shelf d d1 d' ready ends.0, ends.1);
+    got = tells;
+    counted = (tells.rose, same_source, ends.0.count ∙ ready.count);
+    told = tells.told;
+  }
+  finish_all _ ends tells = absurd tells
+
+  pub finished : (result : RunEnd) (cause : Cause)
+      → MergeEnds (length streams) (files_of_downlink line streams) order disk result shelf d1 d'
+      → TellsEnd out streams result base order cause o o' → IsFinished cause
+  finished All cause ends tells = finish_all cause ends tells
+  finished DiskFails cause ends tells =
+      subst IsFinished (sym tells.0) (record {
+        leaves = broken_in disk (length streams) (files_of_downlink line streams) order shelf d d1 d' ready ends;
+        got = tells.1;
+        counted = (subst (λ n. Rose n (disk.faults d')) ready.count ends.appended.rose, same_source);
+        told = told_some tells.1;
+      })
+  finished NoneLeft cause ends tells =
+      subst IsFinished (sym tells.0) (record {
+        leaves = added disk (length streams) (files_of_downlink line streams) order shelf d d1 d' ready ends;
+        got = tells.1;
+        counted = (same_source, ends.count ∙ ready.count);
+        told = told_some tells.1;
+      })
+  finished (Capacity needed capacity) cause ends tells =
+      subst IsFinished (sym tells.0) (record {
+        leaves = (
+          added disk (length streams) (files_of_downlink line streams) order shelf d d1 d' ready ends.0,
+          not_fitting disk (length streams) (files_of_downlink line streams) order shelf d d1 d' ready needed capacity
+              ends.1,
+        );
+        got = tells.1;
+        counted = (same_source, ends.0.count ∙ ready.count);
+        told = told_some tells.1;
+      })
+
+  pub told_since : (result : RunEnd)
+      → MergeEnds (length streams) (files_of_downlink line streams) order disk result shelf d1 d' → disk.tells d
+      → disk.tells d'
+  told_since All ends t = ends.0.told (ready.told t)
+  told_since DiskFails ends t = ends.appended.told (ready.told t)
+  told_since NoneLeft ends t = ends.told (ready.told t)
+  told_since (Capacity needed capacity) ends t = ends.0.told (ready.told t)
+
+  -- the disk failed exactly where the run says so
+  pub disk_failed : (result : RunEnd) (cause : Cause) → TellsEnd out streams result base order cause o o'
+      → result ≡ DiskFails → cause ≡ Failed Disk
+  disk_failed All cause tells is = absurd (cc (is))
+  disk_failed DiskFails cause tells is = tells.0
+  disk_failed NoneLeft cause tells is = absurd (cc (is))
+  disk_failed (Capacity needed capacity) cause tells is = absurd (cc (is))
+
+  all_told : (cause : Cause) → TellsAll out streams base order cause o o'
+      → (Rose (out.faults o) (out.faults o') → ⊥) → cause ≡ Done
+  all_told Done tells sure = refl
+  all_told (Failed Output) tells sure = absurd (sure tells.rose)
+  all_told _ tells sure = absurd tells
+
+  -- all files were put onto the shelf, or memory was refused
+  pub done_or_none : (result : RunEnd) (cause : Cause) → TellsEnd out streams result base order cause o o'
+      → (Rose (out.faults o) (out.faults o') → ⊥) → (result ≡ All) ⊎ (result ≡ NoneLeft)
+      → (cause ≡ Done) ⊎ (cause ≡ NoMemory)
+  done_or_none All cause tells sure is = inl (all_told cause tells sure)
+  done_or_none DiskFails cause tells sure (inl all) = absurd (cc (all))
+  done_or_none DiskFails cause tells sure (inr none) = absurd (cc (none))
+  done_or_none NoneLeft cause tells sure is = inr tells.0
+  done_or_none (Capacity needed capacity) cause tells sure (inl all) = absurd (cc (all))
+  done_or_none (Capacity needed capacity) cause tells sure (inr none) = absurd (cc (none))
+
+-- a run that goes on to its bundle ends as its files were merged
+to_ends : {S D O : Type 0} (source : SourceOf S) (disk : DiskOf D) (out : SinkOf O) (line : LineCode)
+    (bytes : List ℕ) (s s' : S) (d d' : D) (o o' : O) (streams : List (List ℕ)) (order : List ℕ) (cause : Cause)
+    → LeavesMerged disk (length streams) (files_of_downlink line streams) order d d' cause
+    → Merges source disk out line bytes s s' d d' o o' cause → Ends source disk out line bytes s s' d d' o o' cause
+to_ends source disk out line bytes s s' d d' o o' streams order Done leaves merges = merges
+to_ends source disk out line bytes s s' d d' o o' streams order (Failed Output) leaves merges = merges
+to_ends source disk out line bytes s s' d d' o o' streams order (Failed Disk) leaves merges = inr merges
+to_ends source disk out line bytes s s' d d' o o' streams order NoMemory leaves merges = inr merges
+to_ends source disk out line bytes s s' d d' o o' streams order (Refused (IsFull needed capacity)) leaves merges =
+    merges
+to_ends source disk out line bytes s s' d d' o o' streams order _ leaves merges = absurd leaves
+
+module _ {S D O : Type 0} (source : SourceOf S) (disk : DiskOf D) (out : SinkOf O) (line : LineCode)
+    (s s' : S) (d d1 d' : D) (o o' : O) (shelf : Shelf) (ready : IsReady disk d d1 shelf) (streams : List (List ℕ))
+    (taken : TakesBundle source streams s s') (run : Run)
+    (over : MergesOver disk (length streams) (files_of_downlink line streams) shelf d1 d' run) (cause : Cause)
+    (tells : TellsEnd out streams run.result run.base run.order cause o o') where
+  same_count : source.faults s' ≡ source.faults s
+  same_count = taken.taken.reason.2
+
+  done_with : IsFinished source disk out line s s' d d1 d' o o' shelf ready streams same_count run.base run.order cause
+  done_with =
+      finished source disk out line s s' d d1 d' o o' shelf ready streams same_count run.base run.order run.result cause
+      over.ends tells
+
+  merges : Merges source disk out line taken.bytes s s' d d' o o' cause
+  merges = record {
+    ended = taken.taken.reason;
+    streams = streams;
+    bundle = taken.bundle;
+    order = run.order;
+    order_is = over.order_is;
+    leaves = done_with.leaves;
+    base = run.base;
+    base_is = λ way t is.
+        over.base ∙ ap (λ (w : Way). length w.entries) (kept_way disk shelf d d1 d' ready [] way t is);
+    receipts = λ at less.
+        let one = over.receipts at less in
+        (one.0, one.1, λ capacity items t durable. one.2 capacity items (ready.settled capacity items t durable));
+    got = done_with.got;
+    only_read = λ none not_failed t.
+        ⊎_elim
+        (λ failed.
+        absurd (not_failed
+        (disk_failed source disk out line s s' d d1 d' o o' shelf ready streams same_count run.base run.order run.result
+        cause tells failed)))
+        (λ same. subst (λ x. IsUnwritten disk d x) (sym same) (ready.unwritten t)) (over.untouched none);
+  }
+
+  pub whole_run : DownlinksRun source disk out line cause s s' d d' o o'
+  whole_run = record {
+    counted = done_with.counted;
+    told_by_disk =
+        told_since source disk out line s s' d d1 d' o o' shelf ready streams same_count run.base run.order run.result
+        over.ends;
+    told_by_out = done_with.told;
+    bytes = taken.bytes;
+    read = taken.taken.read;
+    ends = to_ends source disk out line taken.bytes s s' d d' o o' streams run.order cause done_with.leaves merges;
+    broken = λ at t no.
+        absurd ((has_one_way (disk.contents d)).none (kept_by shelf).way at (way_read disk d d1 shelf ready t) no);
+    flawed = λ flaw all has. absurd (taken.sound flaw has);
+    complete = λ no_fault others bundle few way t is fit.
+        let same = taken.only others bundle in
+        let fits : AllFit (length streams) (files_of_downlink line streams) (kept_by shelf).way =
+        subst (λ (w : Way). AllFit (length streams) (files_of_downlink line streams) w)
+        (sym (kept_way disk shelf d d1 d' ready [] way t is))
+        (subst (λ (them : List (List ℕ)). AllFit (length them) (files_of_downlink line them) way) same fit) in
+        done_or_none source disk out line s s' d d1 d' o o' shelf ready streams same_count run.base run.order run.result
+        cause tells no_fault.of_out
+        (over.complete (λ rose. no_fault.of_disk (subst (λ n. Rose n (disk.faults d')) ready.count rose)) fits);
+  }
+
+-- ---- no bundle was taken
+
+module _ {S D O : Type 0} (source : SourceOf S) (disk : DiskOf D) (out : SinkOf O) (line : LineCode)
+    (s s' : S) (d d1 : D) (o : O) (shelf : Shelf) (ready : IsReady disk d d1 shelf) where
+  left_alone : LeavesAlone source disk out d d1 o o
+  left_alone = record { only_read = ready.unwritten; out_stays = refl }
+
+  module _ (bytes : List ℕ) (read : IsRead source most_taken bytes s s') where
+    -- where counts and end are told
+    stopped : (cause : Cause) → AreCounted cause (counts (source.faults s) (disk.faults d) (out.faults o))
+        (counts (source.faults s') (disk.faults d1) (out.faults o))
+        → Ends source disk out line bytes s s' d d1 o o cause
+        → ((flaw : BundleFlaw) → HasFlaw bytes flaw → (cause ≡ Refused (BadBundle flaw)) ⊎ IsBefore cause)
+        → (NoFault source disk out s s' d d1 o o → (streams : List (List ℕ)) → IsBundle bytes streams
+        → length bytes < most_taken → (cause ≡ Done) ⊎ (cause ≡ NoMemory))
+        → DownlinksRun source disk out line cause s s' d d1 o o
+    stopped cause counted ends flaws whole = record {
+      counted = counted;
+      told_by_disk = ready.told;
+      told_by_out = λ t. t;
+      bytes = bytes;
+      read = read;
+      ends = ends;
+      broken = λ at t no.
+          absurd ((has_one_way (disk.contents d)).none (kept_by shelf).way at (way_read disk d d1 shelf ready t) no);
+      flawed = λ flaw all has. flaws flaw has;
+      complete = λ no_fault streams bundle few way t is fit. whole no_fault streams bundle few;
+    }
+
+    same_source : AreAllTaken source bytes s s' → source.faults s' ≡ source.faults s
+    same_source (inl ended) = ended.2
+    same_source (inr full) = full.1
+
+    stops_taking : (cause : Cause) → StopsTaking source cause bytes s s'
+        → DownlinksRun source disk out line cause s s' d d1 o o
+    stops_taking (Failed Source) stops =
+        stopped (Failed Source) (stops.1, ready.count, refl) (left_alone, stops) (λ flaw has. inr tt)
+        (λ no_fault streams bundle few. absurd (no_fault.of_source stops.1))
+    stops_taking NoMemory stops =
+        stopped NoMemory (stops, ready.count) (inl left_alone) (λ flaw has. inr tt)
+        (λ no_fault streams bundle few. inr refl)
+    stops_taking (Refused (BadBundle flaw)) stops =
+        stopped (Refused (BadBundle flaw)) (rw (same_source stops.1, ready.count) refl)
+        (left_alone, stops.0, stops.1)
+        (λ other has. inl (ap (λ (f : BundleFlaw). Refused (BadBundle f)) (sym (stops.2 other has))))
+        (λ no_fault streams bundle few. absurd (stops.3 streams bundle few))
+    stops_taking _ stops = absurd stops
+
+  pub not_taken : (cause : Cause) → TakesNone source cause s s' → DownlinksRun source disk out line cause s s' d d1 o o
+  not_taken cause none = stops_taking none.bytes none.read cause none.stops
+
+-- ---- no shelf was loaded
+
+module _ {S D O : Type 0} (source : SourceOf S) (disk : DiskOf D) (out : SinkOf O) (line : LineCode)
+    (s : S) (d d1 : D) (o : O) (result : Result Shelf ShelfError) (loads : Loads disk d d1 result) where
+  untouched : IsUntouched source disk out s s d d1 o o
+  untouched = record {
+    alone = record { only_read = loads.unwritten; out_stays = refl };
+    source_stays = refl;
+  }
+
+  before_all : (cause : Cause) → AreCounted cause (counts (source.faults s) (disk.faults d) (out.faults o))
+      (counts (source.faults s) (disk.faults d1) (out.faults o)) → Ends source disk out line [] s s d d1 o o cause
+      → ((at : ℕ) → disk.tells d → IsNoShelfAt (disk.contents d) at → MayEndBefore at cause) → IsBefore cause
+      → (NoFault source disk out s s d d1 o o → (way : Way) → disk.tells d → IsWay (disk.contents d) way
+      → (cause ≡ Done) ⊎ (cause ≡ NoMemory))
+      → DownlinksRun source disk out line cause s s d d1 o o
+  before_all cause counted ends places before whole = record {
+    counted = counted;
+    told_by_disk = loads.calls.told;
+    told_by_out = λ t. t;
+    bytes = [];
+    read = record { told = λ t. t; moved = λ t. refl; few = omega arith; asked = inl refl };
+    ends = ends;
+    broken = λ at t no. (places at t no, untouched);
+    flawed = λ flaw all has. inr before;
+    complete = λ no_fault streams bundle few way t is fit. whole no_fault way t is;
+  }
+
+  by_error : (error : ShelfError) → IsCounted {A = Shelf} (disk.faults d) (disk.faults d1) (Err error)
+      → IsLoadRefusal disk d error
+      → ((at : ℕ) → disk.tells d → IsNoShelfAt (disk.contents d) at → MayRefuseAt at error)
+      → DownlinksRun source disk out line (cause_of error) s s d d1 o o
+  by_error Disk' counted refusal places =
+      before_all (Failed Disk) (counted.1, refl) (inl untouched) (λ at t no. tt) tt
+      (λ no_fault way t is. absurd (no_fault.of_disk counted.1))
+  by_error (NotAShelf' at) counted refusal places =
+      before_all (Refused (NotAShelf at)) (rw counted refl) (untouched, refusal) places tt
+      (λ no_fault way t is. absurd ((has_one_way (disk.contents d)).none way at is (refusal t)))
+  by_error NoMemory' counted refusal places =
+      before_all NoMemory (refl, counted) (inl untouched.alone) (λ at t no. tt) tt (λ no_fault way t is. inr refl)
+  by_error _ counted refusal places = absurd refusal
+
+  pub not_loaded : (error : ShelfError) → result ≡ Err error
+      → DownlinksRun source disk out line (cause_of error) s s d d1 o o
+  not_loaded error is =
+      by_error error
+      (subst (λ (r : Result Shelf ShelfError). IsCounted (disk.faults d) (disk.faults d1) r) is loads.calls.counted)
+      (subst (λ (r : Result Shelf ShelfError). IfErr r (IsLoadRefusal disk d)) is loads.refused)
+      (λ at t no.
+      subst (λ (r : Result Shelf ShelfError). MatchResult r (λ _. ⊥) (MayRefuseAt at)) is (loads.broken at t no))
+
+-- ---- a cause names a party only where its count rose
+
+pub is_caused : (cause : Cause) (before now : Counts) → AreCounted cause before now → IsCaused cause before now
+is_caused (Failed Source) before now counted = counted.0
+is_caused (Failed Disk) before now counted = counted.0
+is_caused (Failed Output) before now counted = counted.0
+is_caused _ before now counted = tt

@@ -1,0 +1,55 @@
+-- Bytes that are taken piece by piece.
+use Rattle.std.proofs.Common.{◌≡◌, ◌≤◌, ℕ, List, [], ◌++◌, length, refl, sym, ap, ◌∙◌, inl, inr, Result, Ok, Err, IfErr}
+use Rattle.std.proofs.Common.{append_assoc}
+use Rattle.lr_io.specs.declared.source.Source.{Ghosts as SourceOf}
+use Rattle.lr_merging.specs.Taking.{most_taken, WantsMemory}
+use Rattle.lr_reading.specs.Reading.{IsRead, StopsAtFault}
+
+module _ {S : Type 0} (source : SourceOf S) where
+  -- these bytes were taken, and the source hasn't failed
+  pub record HasTaken (bytes : List ℕ) (s s' : S) : Type 0 where
+    pub told : source.tells s → source.tells s'
+    pub moved : source.tells s → source.left s ≡ bytes ++ source.left s'
+    pub count : source.faults s' ≡ source.faults s
+    pub asked : StopsAtFault source s s'
+
+  pub took_none : (s : S) → HasTaken [] s s
+  took_none s = record { told = λ t. t; moved = λ t. refl; count = refl; asked = inl refl }
+
+  pub is_read : (bytes : List ℕ) (s s' : S) → HasTaken bytes s s' → length bytes ≤ most_taken
+      → IsRead source most_taken bytes s s'
+  is_read bytes s s' so few = record { told = so.told; moved = so.moved; few = few; asked = so.asked }
+
+  module _ (bytes piece : List ℕ) (s s1 s2 : S) (so : HasTaken bytes s s1) (told : source.tells s1 → source.tells s2)
+      (asked : source.asked s1 s2) where
+    -- a piece more
+    pub took_more : (source.tells s1 → source.left s1 ≡ piece ++ source.left s2)
+        → source.faults s2 ≡ source.faults s1 → HasTaken (bytes ++ piece) s s2
+    took_more moved same = record {
+      told = λ t. told (so.told t);
+      moved = λ t. so.moved t ∙ ap (λ (l : List ℕ). bytes ++ l) (moved (so.told t))
+          ∙ sym (append_assoc bytes piece (source.left s2));
+      count = same ∙ so.count;
+      asked = inr (s1, so.count, asked);
+    }
+
+    -- the source ended, or failed: nothing was taken
+    pub took_last : (source.tells s1 → source.left s2 ≡ source.left s1) → length bytes ≤ most_taken
+        → IsRead source most_taken bytes s s2
+    took_last same few = record {
+      told = λ t. told (so.told t);
+      moved = λ t. so.moved t ∙ ap (λ (l : List ℕ). bytes ++ l) (sym (same (so.told t)));
+      few = few;
+      asked = inr (s1, so.count, asked);
+    }
+
+    -- memory was refused for it
+    pub wants_more : (source.tells s1 → source.left s1 ≡ piece ++ source.left s2)
+        → source.faults s2 ≡ source.faults s1 → length (bytes ++ piece) ≤ most_taken → WantsMemory source s s2
+    wants_more moved same few =
+        let more = took_more moved same in
+        record { bytes = bytes ++ piece; read = is_read (bytes ++ piece) s s2 more few; count = more.count }
+
+pub always_refused : {T E A : Type 0} (r : Result T E) → A → IfErr r (λ _. A)
+always_refused (Ok v) a = tt
+always_refused (Err e) a = a

@@ -1,0 +1,14 @@
+use Rattle.std.proofs.Common.{◌-◌, ◌≡◌, ◌≤◌, length}
+use Rattle.lr_merging.proofs.Taken.{HasTaken}
+use Rattle.lr_merging.proofs.taking.take_bytes.Given as goal
+
+-- these bytes were taken so far, and the source hasn't failed
+abbrev pub invariant-pieces : goal.invariant-pieces
+invariant-pieces g l = record {
+  so_far : HasTaken g.S.Source l.bytes l.fn.source l.source;
+  size : l.size ≡ length l.bytes;
+  few : l.size ≤ 268435457;
+}
+
+abbrev pub decreases-pieces : goal.decreases-pieces
+decreases-pieces g l = 268435457 - l.size

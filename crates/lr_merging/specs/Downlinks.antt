@@ -1,0 +1,202 @@
+-- What `downlinks` does to the outside.
+use Rattle.std.specs.Prelude.{◌≡◌, ◌⊎◌, ◌<◌, ◌+◌, ◌-◌, ℕ, List, [], ◌∷◌, ◌++◌, length, map, slice_get, Some}
+use Rattle.lr_bits.specs.declared.placed.Placed.{Placed}
+use Rattle.lr_bits.specs.Faults.{Rose}
+use Rattle.lr_io.specs.declared.source.Source.{Ghosts as SourceOf}
+use Rattle.lr_io.specs.declared.sink.Sink.{Ghosts as SinkOf}
+use Rattle.lr_disk.specs.Disk.{LeavesOnly, Only}
+use Rattle.lr_disk.specs.Reads.{IsUnwritten}
+use Rattle.lr_disk.specs.declared.disk.Disk.{Ghosts as DiskOf}
+use Rattle.lr_conv.specs.declared.line.LineCode.{LineCode}
+use Rattle.lr_shelf_format.specs.Items.{Item}
+use Rattle.lr_shelf_format.specs.Way.{IsNoShelfAt, IsWay, Way}
+use Rattle.lr_shelf.specs.Adding.{StaysOutside}
+use Rattle.lr_shelf.specs.Append.{item_for}
+use Rattle.lr_shelf.specs.Shelf.{HasEitherWay, IsDurable}
+use Rattle.lr_forms.specs.declared.forms.Stop.TheVariants.{End, Fault}
+use Rattle.lr_causes.specs.Causes.{Counts, counts}
+use Rattle.lr_causes.specs.Puts.{Puts, PutFails}
+use Rattle.lr_causes.specs.declared.fault.BundleFlaw.{BundleFlaw}
+use Rattle.lr_causes.specs.declared.cause.Cause.{Cause}
+use Rattle.lr_causes.specs.declared.cause.Cause.TheVariants.{Done, Failed, NoMemory, Refused}
+use Rattle.lr_causes.specs.declared.cause.Party.TheVariants.{Source, Disk, Output}
+use Rattle.lr_causes.specs.declared.cause.Refusal.TheVariants.{NotAShelf, Capacity, BadBundle}
+use Rattle.lr_downlinks.specs.Bundles.{IsBundle}
+use Rattle.lr_downlinks.specs.Merge.{IsNextOf, IsOrder, IsWhole, merge}
+use Rattle.lr_downlinks.specs.Receipts.{HasFileAt, receipt_at}
+use Rattle.lr_downlinks.specs.Room.{AllFit}
+use Rattle.lr_downlinks.specs.Runs.{NextDoesNotFitBy}
+use Rattle.lr_downlinks.specs.Since.{HasFrontWay, HoldsEither, way_with_files}
+use Rattle.lr_downlinks.specs.Streams.{files_of_downlink}
+use Rattle.lr_merging.specs.Lines.{receipt_lines, last_line}
+use Rattle.lr_merging.specs.Taking.{AreAllTaken, HasFlaw, most_taken}
+use Rattle.lr_reading.specs.Reading.{IsRead, EndsFor}
+
+-- The counts for each cause. The first event decides, but for this: after the files were put onto the shelf, `out` may
+-- fail in the receipts, and the cause stays.
+abbrev pub AreCounted : Cause → Counts → Counts → Type 0
+AreCounted (Failed Source) before now =
+    Rose before.source now.source × (now.disk ≡ before.disk) × (now.output ≡ before.output)
+AreCounted (Failed Disk) before now = Rose before.disk now.disk × (now.source ≡ before.source)
+AreCounted (Failed Output) before now =
+    Rose before.output now.output × (now.source ≡ before.source) × (now.disk ≡ before.disk)
+AreCounted NoMemory before now = (now.source ≡ before.source) × (now.disk ≡ before.disk)
+AreCounted (Refused (Capacity needed capacity)) before now =
+    (now.source ≡ before.source) × (now.disk ≡ before.disk)
+AreCounted cause before now = now ≡ before
+
+-- the causes that come before any byte is read: the disk failed, no shelf stands there at this place, or memory was
+-- refused
+abbrev pub MayEndBefore : ℕ → Cause → Type 0
+MayEndBefore at (Failed Disk) = Unit {0}
+MayEndBefore at (Refused (NotAShelf at')) = at' ≡ at
+MayEndBefore at NoMemory = Unit {0}
+MayEndBefore at _ = ⊥
+
+-- the causes that come before a bundle is there: the same at any place, and that the source failed
+abbrev pub IsBefore : Cause → Type 0
+IsBefore (Failed Source) = Unit {0}
+IsBefore (Failed Disk) = Unit {0}
+IsBefore (Refused (NotAShelf at)) = Unit {0}
+IsBefore NoMemory = Unit {0}
+IsBefore _ = ⊥
+
+-- ---- the files of all downlinks, merged in an order
+
+module _ {D : Type 0} (disk : DiskOf D) (count : ℕ) (files : ℕ → List Placed) (order : List ℕ) (d d' : D) where
+  -- the files that the order names were put onto the shelf
+  pub record AddsMerged : Type 0 where
+    -- over every disk that has a way, whatever its items hold
+    pub way : (way : Way) → disk.tells d → IsWay (disk.contents d) way
+        → IsWay (disk.contents d') (way_with_files (merge files order) way)
+        × Only (disk.contents d') (disk.may_leave d')
+    -- the bytes before its last gate and after the new end stay, at every moment
+    pub outside : (way : Way) → disk.tells d → IsWay (disk.contents d) way
+        → StaysOutside (way.end - 1) (way_with_files (merge files order) way).end (disk.contents d) (disk.contents d')
+    pub outside_any_moment : (way : Way) → disk.tells d → IsWay (disk.contents d) way
+        → Only (disk.contents d) (disk.may_leave d)
+        → LeavesOnly disk.moment disk.left_since d d'
+        (StaysOutside (way.end - 1) (way_with_files (merge files order) way).end (disk.contents d))
+    -- over a shelf of these items with nothing pending
+    pub stands : (capacity : ℕ) (items : List Item) → disk.tells d → IsDurable disk capacity items d
+        → IsDurable disk capacity (items ++ map item_for (merge files order)) d'
+    -- with nothing pending, what a stop at any moment leaves
+    pub any_moment : (way : Way) → disk.tells d → IsWay (disk.contents d) way
+        → Only (disk.contents d) (disk.may_leave d)
+        → LeavesOnly disk.moment disk.left_since d d' (HasFrontWay way (merge files order))
+
+  -- so they were, and the disk failed in the next file of some downlink: that is there, or it isn't
+  pub record BreaksMerging : Type 0 where
+    pub downlink : ℕ
+    pub placed : Placed
+    pub next : IsNextOf count files order downlink placed
+    pub way : (way : Way) → disk.tells d → IsWay (disk.contents d) way
+        → HasEitherWay (way_with_files (merge files order) way) (item_for placed) (disk.contents d')
+    pub outside : (way : Way) → disk.tells d → IsWay (disk.contents d) way
+        → StaysOutside (way.end - 1) (way_with_files (merge files order ++ placed ∷ []) way).end (disk.contents d)
+        (disk.contents d')
+    pub outside_any_moment : (way : Way) → disk.tells d → IsWay (disk.contents d) way
+        → Only (disk.contents d) (disk.may_leave d)
+        → LeavesOnly disk.moment disk.left_since d d'
+        (StaysOutside (way.end - 1) (way_with_files (merge files order ++ placed ∷ []) way).end (disk.contents d))
+    pub stands : (capacity : ℕ) (items : List Item) → disk.tells d → IsDurable disk capacity items d
+        → HoldsEither disk capacity (items ++ map item_for (merge files order)) (item_for placed) d'
+    pub any_moment : (way : Way) → disk.tells d → IsWay (disk.contents d) way
+        → Only (disk.contents d) (disk.may_leave d)
+        → LeavesOnly disk.moment disk.left_since d d' (HasFrontWay way (merge files order ++ placed ∷ []))
+
+  -- what becomes of the disk, for each cause
+  abbrev pub LeavesMerged : Cause → Type 0
+  LeavesMerged Done = AddsMerged × IsWhole count files order
+  LeavesMerged (Failed Output) = AddsMerged × IsWhole count files order
+  LeavesMerged (Failed Disk) = BreaksMerging
+  LeavesMerged NoMemory = AddsMerged
+  LeavesMerged (Refused (Capacity needed capacity)) = AddsMerged
+      × ((way : Way) → disk.tells d → IsWay (disk.contents d) way
+      → NextDoesNotFitBy count files order way needed capacity)
+  LeavesMerged _ = ⊥
+
+  -- Over a shelf of these items, each receipt is that of a file of its downlink at its place, which is the entry of its
+  -- number in the contents and in every crash image.
+  abbrev pub HaveReceipts : ℕ → Type 0
+  HaveReceipts base = (at : ℕ) → at < length order → (placed : Placed)
+      × (slice_get (files (receipt_at base order at).downlink) (receipt_at base order at).place ≡ Some placed)
+      × ((capacity : ℕ) (items : List Item) → disk.tells d → IsDurable disk capacity items d
+      → HasFileAt capacity (base + at) placed (disk.contents d')
+      × ((c : List ℕ) → disk.may_leave d' c → HasFileAt capacity (base + at) placed c))
+
+-- What `out` gets, for each cause: all lines, a part of them, or the receipts without the last line, in which it may
+-- fail.
+abbrev pub GotReceipts : {O : Type 0} → SinkOf O → Cause → (receipts last : List ℕ) → O → O → Type 0
+GotReceipts out Done receipts last o o' = Puts out (receipts ++ last) o o'
+GotReceipts out (Failed Output) receipts last o o' = PutFails out (receipts ++ last) o o'
+GotReceipts out cause receipts last o o' = Puts out receipts o o' ⊎ PutFails out receipts o o'
+
+module _ {S D O : Type 0} (source : SourceOf S) (disk : DiskOf D) (out : SinkOf O) where
+  -- the disk was only read, and `out` is as it was
+  pub record LeavesAlone (d d' : D) (o o' : O) : Type 0 where
+    pub only_read : disk.tells d → IsUnwritten disk d d'
+    pub out_stays : o' ≡ o
+
+  -- and the source is as it was
+  pub record IsUntouched (s s' : S) (d d' : D) (o o' : O) : Type 0 where
+    pub alone : LeavesAlone d d' o o'
+    pub source_stays : s' ≡ s
+
+  module _ (line : LineCode) (bytes : List ℕ) (s s' : S) (d d' : D) (o o' : O) where
+    -- The bytes are a bundle, and the files of its downlinks were put onto the shelf in this order. The shelf had
+    -- `base` entries before.
+    pub record Merges (cause : Cause) : Type 0 where
+      pub ended : EndsFor source End most_taken bytes s s'
+      pub streams : List (List ℕ)
+      pub bundle : IsBundle bytes streams
+      pub order : List ℕ
+      pub order_is : IsOrder (length streams) (files_of_downlink line streams) order
+      pub leaves : LeavesMerged disk (length streams) (files_of_downlink line streams) order d d' cause
+      pub base : ℕ
+      pub base_is : (way : Way) → disk.tells d → IsWay (disk.contents d) way → base ≡ length way.entries
+      pub receipts : HaveReceipts disk (length streams) (files_of_downlink line streams) order d d' base
+      pub got : GotReceipts out cause (receipt_lines base order (length streams)) (last_line streams order) o o'
+      -- where no file was put onto the shelf, and the disk didn't fail, it was only read
+      pub only_read : order ≡ [] → (cause ≡ Failed Disk → ⊥) → disk.tells d → IsUnwritten disk d d'
+
+    -- how a run ends, for each cause that it may have
+    abbrev pub Ends : Cause → Type 0
+    Ends Done = Merges Done
+    Ends (Failed Source) = LeavesAlone d d' o o' × EndsFor source Fault most_taken bytes s s'
+    Ends (Failed Disk) = IsUntouched s s' d d' o o' ⊎ Merges (Failed Disk)
+    Ends (Failed Output) = Merges (Failed Output)
+    Ends NoMemory = LeavesAlone d d' o o' ⊎ Merges NoMemory
+    Ends (Refused (NotAShelf at)) =
+        IsUntouched s s' d d' o o' × (disk.tells d → IsNoShelfAt (disk.contents d) at)
+    Ends (Refused (Capacity needed capacity)) = Merges (Refused (Capacity needed capacity))
+    Ends (Refused (BadBundle flaw)) = LeavesAlone d d' o o' × HasFlaw bytes flaw × AreAllTaken source bytes s s'
+    Ends _ = ⊥
+
+  -- no count rose
+  pub record NoFault (s s' : S) (d d' : D) (o o' : O) : Type 0 where
+    pub of_source : Rose (source.faults s) (source.faults s') → ⊥
+    pub of_disk : Rose (disk.faults d) (disk.faults d') → ⊥
+    pub of_out : Rose (out.faults o) (out.faults o') → ⊥
+
+  -- the whole call, over every disk
+  pub record DownlinksRun (line : LineCode) (cause : Cause) (s s' : S) (d d' : D) (o o' : O) : Type 0 where
+    pub counted : AreCounted cause (counts (source.faults s) (disk.faults d) (out.faults o))
+        (counts (source.faults s') (disk.faults d') (out.faults o'))
+    pub told_by_disk : disk.tells d → disk.tells d'
+    pub told_by_out : out.tells o → out.tells o'
+    -- these bytes were taken
+    pub bytes : List ℕ
+    pub read : IsRead source most_taken bytes s s'
+    pub ends : Ends line bytes s s' d d' o o' cause
+    -- a disk on which no shelf stands is refused, and nothing is touched
+    pub broken : (at : ℕ) → disk.tells d → IsNoShelfAt (disk.contents d) at
+        → MayEndBefore at cause × IsUntouched s s' d d' o o'
+    -- bytes that are no bundle are refused for their flaw, unless an event came before
+    pub flawed : (flaw : BundleFlaw) → AreAllTaken source bytes s s' → HasFlaw bytes flaw
+        → (cause ≡ Refused (BadBundle flaw)) ⊎ IsBefore cause
+    -- where no count rises, the bytes are a bundle, and all files of its downlinks fit, the work is done or memory was
+    -- refused
+    pub complete : NoFault s s' d d' o o' → (streams : List (List ℕ)) → IsBundle bytes streams
+        → length bytes < most_taken → (way : Way) → disk.tells d → IsWay (disk.contents d) way
+        → AllFit (length streams) (files_of_downlink line streams) way → (cause ≡ Done) ⊎ (cause ≡ NoMemory)

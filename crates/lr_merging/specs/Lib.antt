@@ -1,0 +1,4 @@
+pub mod Downlinks
+pub mod Lines
+pub mod Taking
+pub mod Told

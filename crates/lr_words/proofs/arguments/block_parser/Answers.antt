@@ -1,0 +1,12 @@
+use Rattle.std.proofs.Common.{◌∙◌, ap₂}
+use Rattle.std.proofs.lemmas.Result.{IfOk-weaker}
+use Rattle.clap.specs.Words.{with_rule}
+use Rattle.lr_words.specs.Arguments.{block_app}
+use Rattle.lr_words.proofs.arguments.block_parser.Goals as goal
+
+pub returns : goal.returns
+unfolding block_app
+returns c =
+    let first = IfOk-weaker c.arg-parser.result _ _ (λ r a. a.shape c.place.ensures.local
+    ∙ ap₂ with_rule c.new.ensures.app c.place.ensures.rule) c.arg-parser.ensures in
+    c.with_arg.ensures _ _ first c.place-2.ensures.rule

@@ -1,0 +1,259 @@
+//! The command that the values of arguments give, by what the words look like.
+ghost use Rattle.std.specs.Prelude.{◌≡◌, codes};
+ghost use Rattle.clap.specs.Words.{first_value, found_of};
+ghost use Rattle.lr_words.specs.Commands.{
+  block_of,
+  input_of,
+  with_nothing,
+  with_number,
+  with_symbols,
+  with_intake,
+  given_by,
+  IsInRange,
+};
+ghost use Rattle.lr_words.specs.declared.shape.Shape.TheVariants.{
+  Capacity,
+  Number,
+  Symbols,
+  Intake,
+  Line,
+  Segments,
+  Sent,
+  Block,
+  Made,
+  Tried,
+};
+
+use crate::command::Command;
+use crate::numbers::number_given;
+use crate::shape::{OfIntake, OfNothing, OfNumber, OfSymbols, Shape};
+use crate::values::{MOST_WRONG, any_input, coded_input, line_code, most, output_form, workers};
+use clap::ArgMatches;
+use lr_conv::LineCode;
+use lr_forms::Input;
+use lr_shelf_format::{LEAST_CAPACITY, MOST_CAPACITY};
+
+/// The greatest application identifier of a packet that isn't an idle one.
+const MOST_APID: u64 = 2046;
+
+/// The greatest identifier of an image.
+const MOST_IMAGE: u64 = 65_535;
+
+/// The most frames that `make` writes.
+const MOST_MADE_FRAMES: u64 = 65_536;
+
+/// The most frames that `trial` takes.
+const MOST_TRIED_FRAMES: u64 = 1024;
+
+impl OfNothing {
+    fn command(self) -> Command
+        ensures { result ≡ with_nothing self }
+    {
+        match self {
+            OfNothing::List => Command::List,
+            OfNothing::Verify => Command::Verify,
+        }
+    }
+}
+
+impl OfNumber {
+    fn command(self, number: u64) -> Command
+        ensures { result ≡ with_number self number }
+    {
+        match self {
+            OfNumber::Extract => Command::Extract { number },
+            OfNumber::Show => Command::Show { number },
+            OfNumber::Export => Command::Export { number },
+            OfNumber::Discard => Command::Discard { number },
+        }
+    }
+}
+
+impl OfSymbols {
+    fn command(self, most: u64) -> Command
+        ensures { result ≡ with_symbols self most }
+    {
+        match self {
+            OfSymbols::Frames => Command::Frames { most },
+            OfSymbols::Packets => Command::Packets { most },
+        }
+    }
+}
+
+impl OfIntake {
+    /// What is read, where symbols are of this line code.
+    fn input(self, matches: &ArgMatches, line: LineCode) -> Option<Input>
+        ensures { result ≡ input_of self line (first_value (found_of matches.now) (codes "input")) }
+    {
+        match self {
+            OfIntake::Decode => coded_input(matches, line),
+            OfIntake::Receive => any_input(matches, line),
+        }
+    }
+
+    fn command(self, input: Input, workers: u32, most: u64) -> Command
+        ensures { result ≡ with_intake self input workers most }
+    {
+        match self {
+            OfIntake::Decode => Command::Decode {
+                input,
+                workers,
+                most,
+            },
+            OfIntake::Receive => Command::Receive {
+                input,
+                workers,
+                most,
+            },
+        }
+    }
+}
+
+fn with_capacity(matches: &ArgMatches) -> Option<Command>
+    ensures gives { result ≡ given_by Capacity (first_value (found_of matches.now)) }
+    ensures range { IsInRange result }
+{
+    let capacity = number_given(matches, "capacity", LEAST_CAPACITY, MOST_CAPACITY)?;
+    Some(Command::Init { capacity })
+}
+
+fn with_number(kind: OfNumber, matches: &ArgMatches) -> Option<Command>
+    ensures gives { result ≡ given_by (Number kind) (first_value (found_of matches.now)) }
+    ensures range { IsInRange result }
+{
+    let number = number_given(matches, "number", 0, u64::MAX)?;
+    Some(kind.command(number))
+}
+
+fn with_symbols(kind: OfSymbols, matches: &ArgMatches) -> Option<Command>
+    ensures gives { result ≡ given_by (Symbols kind) (first_value (found_of matches.now)) }
+    ensures range { IsInRange result }
+{
+    let most = most(matches)?;
+    Some(kind.command(most))
+}
+
+fn with_intake(kind: OfIntake, matches: &ArgMatches) -> Option<Command>
+    ensures gives { result ≡ given_by (Intake kind) (first_value (found_of matches.now)) }
+    ensures range { IsInRange result }
+{
+    let workers = workers(matches)?;
+    let line = line_code(matches)?;
+    let input = kind.input(matches, line)?;
+    let most = most(matches)?;
+    Some(kind.command(input, workers, most))
+}
+
+fn with_line(matches: &ArgMatches) -> Option<Command>
+    ensures gives { result ≡ given_by Line (first_value (found_of matches.now)) }
+    ensures range { IsInRange result }
+{
+    let line = line_code(matches)?;
+    Some(Command::Downlinks { line })
+}
+
+fn with_segments(matches: &ArgMatches) -> Option<Command>
+    ensures gives { result ≡ given_by Segments (first_value (found_of matches.now)) }
+    ensures range { IsInRange result }
+{
+    let from = number_given(matches, "from", 0, u64::MAX)?;
+    let to = number_given(matches, "to", 0, u64::MAX)?;
+    let apid = number_given(matches, "apid", 0, MOST_APID)?;
+    let image = number_given(matches, "image", 0, MOST_IMAGE)?;
+    Some(Command::Assemble {
+        from,
+        to,
+        apid: apid as u16,
+        image: image as u16,
+    })
+}
+
+fn with_sent(matches: &ArgMatches) -> Option<Command>
+    ensures gives { result ≡ given_by Sent (first_value (found_of matches.now)) }
+    ensures range { IsInRange result }
+{
+    let from = number_given(matches, "from", 0, u64::MAX)?;
+    let to = number_given(matches, "to", 0, u64::MAX)?;
+    let wrong = number_given(matches, "wrong", 0, MOST_WRONG)?;
+    let line = line_code(matches)?;
+    Some(Command::Transmit {
+        from,
+        to,
+        wrong: wrong as u8,
+        line,
+    })
+}
+
+/// The number of samples, if a block may have it.
+fn block_of(number: u64) -> Option<u32>
+    ensures { result ≡ block_of number }
+{
+    match number {
+        8 => Some(8),
+        16 => Some(16),
+        32 => Some(32),
+        64 => Some(64),
+        _ => None,
+    }
+}
+
+fn with_block(matches: &ArgMatches) -> Option<Command>
+    ensures gives { result ≡ given_by Block (first_value (found_of matches.now)) }
+    ensures range { IsInRange result }
+{
+    let number = number_given(matches, "number", 0, u64::MAX)?;
+    let block = block_of(number_given(matches, "block", 0, u64::MAX)?)?;
+    Some(Command::Repack { number, block })
+}
+
+fn with_made(matches: &ArgMatches) -> Option<Command>
+    ensures gives { result ≡ given_by Made (first_value (found_of matches.now)) }
+    ensures range { IsInRange result }
+{
+    let start = number_given(matches, "start", 0, u64::MAX)?;
+    let frames = number_given(matches, "frames", 1, MOST_MADE_FRAMES)?;
+    let wrong = number_given(matches, "wrong", 0, MOST_WRONG)?;
+    let form = output_form(matches)?;
+    Some(Command::Make {
+        start,
+        frames,
+        wrong: wrong as u8,
+        form,
+    })
+}
+
+fn with_tried(matches: &ArgMatches) -> Option<Command>
+    ensures gives { result ≡ given_by Tried (first_value (found_of matches.now)) }
+    ensures range { IsInRange result }
+{
+    let start = number_given(matches, "start", 0, u64::MAX)?;
+    let frames = number_given(matches, "frames", 1, MOST_TRIED_FRAMES)?;
+    let wrong = number_given(matches, "wrong", 0, MOST_WRONG)?;
+    let workers = workers(matches)?;
+    Some(Command::Trial {
+        start,
+        frames,
+        wrong: wrong as u8,
+        workers,
+    })
+}
+
+/// The command that these values give, where the words look like this.
+pub(crate) fn command_given(shape: Shape, matches: &ArgMatches) -> Option<Command>
+    ensures gives { result ≡ given_by shape (first_value (found_of matches.now)) }
+    ensures range { IsInRange result }
+{
+    match shape {
+        Shape::Capacity => with_capacity(matches),
+        Shape::Nothing(kind) => Some(kind.command()),
+        Shape::Number(kind) => with_number(kind, matches),
+        Shape::Symbols(kind) => with_symbols(kind, matches),
+        Shape::Intake(kind) => with_intake(kind, matches),
+        Shape::Line => with_line(matches),
+        Shape::Segments => with_segments(matches),
+        Shape::Sent => with_sent(matches),
+        Shape::Block => with_block(matches),
+        Shape::Made => with_made(matches),
+        Shape::Tried => with_tried(matches),
+    }
+}
