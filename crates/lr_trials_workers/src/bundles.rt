@@ -1,9 +1,7 @@
 // Several recordings in a bundle come onto one shelf, with a thread for each.
 use crate::calls::{
-    Given, Printed, call, call_alone, disk_of_calls, empty_shelf, faultless, shelf_of_calls,
-    symbols,
+    Given, Printed, call, call_alone, disk_of_calls, empty_shelf, faultless, symbols,
 };
-use lr_disk::MemDisk;
 use std::alloc::Global;
 use std::sync::Wait;
 use std::test::Fail;
@@ -167,51 +165,6 @@ fn an_output_that_fails_leaves_the_files(rt: HostRuntime) -> Result<(), Fail> {
         assert!(rt; printed.out.as_slice().len() as u64 == place);
         assert!(rt; disk.as_slice().len() == whole.as_slice().len());
     }
-    Ok(())
-}
-
-// The same bytes on a disk that allows 1,000 calls.
-fn started_again(alloc: Global, disk: &MemDisk) -> Result<MemDisk, Fail> {
-    let bytes = disk.as_slice().to_vec(alloc)?;
-    if bytes.len() > 100_000 {
-        return Err(Fail::from("too many bytes"));
-    }
-    Ok(MemDisk::of(alloc, bytes, 100_000, 1_000)?)
-}
-
-// How many receipts were printed, where the disk allows this many calls; a shelf stands there then, with as many
-// entries at least.
-fn receipts_at<R: Threads + Wait + Sync>(
-    rt: &R,
-    alloc: Global,
-    bytes: &[u8],
-    calls: u64,
-) -> Result<Option<usize>, Fail> {
-    let mut disk = shelf_of_calls(alloc, calls)?;
-    let printed = call(rt, alloc, &faultless(WORDS, bytes, 65_536), &mut disk)?;
-    let line = printed.err.as_slice() == "station: disk failed\n".as_bytes();
-    if printed.status != 4 || !line {
-        return Ok(None);
-    }
-    let lines = |text: &[u8]| text.iter().filter(|byte| **byte == b'\n').count();
-    let receipts = lines(printed.out.as_slice());
-    let mut again = started_again(alloc, &disk)?;
-    let listed = call_alone(alloc, &faultless("list", &[], 1), &mut again)?;
-    let there = listed.status == 0 && lines(listed.out.as_slice()) > receipts;
-    Ok(there.then_some(receipts))
-}
-
-#[test]
-fn a_disk_that_fails_keeps_what_has_a_receipt(rt: HostRuntime) -> Result<(), Fail> {
-    let alloc = rt.alloc();
-    let bytes = two_streams(alloc, "make 1 2 0", "make 2 2 0", 2)?;
-    let mut some = false;
-    for calls in 12..24 {
-        if let Some(receipts) = receipts_at(&rt, alloc, &bytes, calls)? {
-            some = some || receipts > 0;
-        }
-    }
-    assert!(rt; some);
     Ok(())
 }
 
