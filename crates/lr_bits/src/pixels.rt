@@ -48,6 +48,15 @@ impl Pixels {
         Ok(())
     }
 
+    /// Appends these pixels, or leaves the list as it is.
+    pub fn extend(&mut self, more: &[u16]) -> Result<(), NoMemory>
+        ensures ok { OnOk result (self.new ≡ self.old ++ more.now) }
+        ensures err { OnErr result (self.new ≡ self.old) }
+    {
+        self.pixels.extend_from_slice(more)?;
+        Ok(())
+    }
+
     /// Appends `count` pixels of 0, or leaves the list as it is.
     pub fn grow(&mut self, count: usize) -> Result<(), NoMemory>
         ensures ok { OnOk result (self.new ≡ self.old ++ replicate count 0) }

@@ -1,8 +1,8 @@
 /// How many bytes `crc_after` takes at once.
 pub(crate) const CHUNK_BYTES: usize = 8;
 
-/// In row `k` the remainder of each byte's polynomial times `x^(16 + 8 k)`: of the byte, with `k` bytes of zeros after it
-/// and then the place of the checksum.
+/// In row `k` the remainder of each byte's polynomial times `x^(16 + 8 k)`: of the byte, with `k` bytes of 0 after
+/// it and then the place of the checksum.
 pub(crate) static REMAINDERS: [[u16; 256]; CHUNK_BYTES] = [
     [
         0x0000, 0x1021, 0x2042, 0x3063, 0x4084, 0x50A5, 0x60C6, 0x70E7, 0x8108, 0x9129, 0xA14A,

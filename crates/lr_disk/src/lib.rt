@@ -6,8 +6,9 @@
 //! leave, and those that a crash at some moment since an earlier one might have left. What a call says of them holds
 //! for a disk that tells them, and whether it does never changes. `MemDisk` tells them, and `SureDisk` tells nothing.
 //! `FileDisk` is a disk over a file and tells what the file tells: an open file of the system tells nothing, and
-//! `MemFile` tells what the disk in it tells. The definitions that the layer above rests on are `Torn`, `Written`,
-//! `Only` and `LeavesOnly` of `specs/Disk`, and `IsUnwritten` and `OnlyReads` of `specs/Reads`.
+//! `MemFile` tells what the disk in it tells. A call of `FileDisk` succeeds only where the file gave no error, and
+//! fails at the first one. The definitions that the layer above rests on are `Torn`, `Written`, `Only` and
+//! `LeavesOnly` of `specs/Disk`, and `IsUnwritten` and `OnlyReads` of `specs/Reads`.
 #![tactic(auto)]
 
 mod disk;

@@ -1,6 +1,6 @@
 //! A disk in memory, for tests: with a room, a number of calls, calls that fail, and what a stop inside a call leaves.
 ghost use Rattle.std.specs.Prelude.{◌≡◌, ◌≤◌, max, length, vec_len, vec_capacity, IfOk};
-ghost use Rattle.lr_bits.specs.Faults.{Rose};
+ghost use Rattle.lr_bits.specs.Faults.{Rose, OneMore};
 ghost use Rattle.lr_disk.specs.Mem.{span};
 ghost use Rattle.lr_disk.specs.Ranges.{ImagesKeepTheRest, KeepersAreImages};
 
@@ -43,6 +43,7 @@ pub fn keepers_are_images()
 /// One fault more.
 fn count_fault(faults: &mut u64)
     ensures rose { Rose faults.old faults.new }
+    ensures one { OneMore faults.old faults.new }
     ensures later { faults.old ≤ faults.new }
 {
     *faults = faults.saturating_add(1);
@@ -178,7 +179,7 @@ impl Disk for MemDisk {
       is_ok,
       if◌then◌else◌,
     };
-    ghost use Rattle.lr_bits.specs.Faults.{HasCause};
+    ghost use Rattle.lr_bits.specs.Faults.{HasCause, FailsAtOnce};
     ghost use Rattle.lr_disk.specs.Disk.{
       Written,
       Torn,
@@ -226,6 +227,7 @@ impl Disk for MemDisk {
     /// It fails exactly where no call is left or it is stated to. This takes no memory, and neither do the other calls.
     fn length(&mut self) -> Result<u64, Failed>
         ensures cause { HasCause (faults_of self.old) (faults_of self.new) result }
+        ensures errors { FailsAtOnce (faults_of self.old) (faults_of self.new) result }
         ensures size { IfOk result (λ n. n ≡ length (held_by self.old)) }
         ensures contents { held_by self.new ≡ held_by self.old }
         ensures crash { SameImages (images_by self.old) (images_by self.new) }
@@ -245,6 +247,7 @@ impl Disk for MemDisk {
     fn read(&mut self, at: u64, into: &mut [u8]) -> Result<usize, Failed>
         requires { 0 < length into.old }
         ensures cause { HasCause (faults_of self.old) (faults_of self.new) result }
+        ensures errors { FailsAtOnce (faults_of self.old) (faults_of self.new) result }
         ensures within { IfOk result (λ n. n ≤ length into.new) }
         ensures count { IfOk result (λ n. n ≡ min (length into.new) (length (held_by self.old) - at)) }
         ensures bytes { IfOk result (λ n. take n into.new ≡ bytes_at at n (held_by self.old)) }
@@ -275,6 +278,7 @@ impl Disk for MemDisk {
         requires some { 0 < length bytes.now }
         requires low { at + length bytes.now ≤ 4611686018427387904 }
         ensures cause { HasCause (faults_of self.old) (faults_of self.new) result }
+        ensures errors { FailsAtOnce (faults_of self.old) (faults_of self.new) result }
         ensures written { OnOk result (Written at bytes.now (held_by self.old) (held_by self.new)) }
         ensures torn { Torn (min at (length (held_by self.old))) (at + length bytes.now)
             (held_by self.old) (held_by self.new) }
@@ -303,6 +307,7 @@ impl Disk for MemDisk {
     /// It fails exactly where no call is left or it is stated to, and then takes nothing away.
     fn cut(&mut self, length: u64) -> Result<(), Failed>
         ensures cause { HasCause (faults_of self.old) (faults_of self.new) result }
+        ensures errors { FailsAtOnce (faults_of self.old) (faults_of self.new) result }
         ensures cut { OnOk result (held_by self.new ≡ take length (held_by self.old)) }
         ensures failed { OnErr result
             ((held_by self.new ≡ take length (held_by self.old)) ⊎ (held_by self.new ≡ held_by self.old)) }
@@ -324,6 +329,7 @@ impl Disk for MemDisk {
     /// It fails exactly where no call is left or it is stated to.
     fn sync(&mut self) -> Result<(), Failed>
         ensures cause { HasCause (faults_of self.old) (faults_of self.new) result }
+        ensures errors { FailsAtOnce (faults_of self.old) (faults_of self.new) result }
         ensures durable { OnOk result (Only (held_by self.new) (images_by self.new)) }
         ensures contents { held_by self.new ≡ held_by self.old }
         ensures crash { NoOther (images_by self.old) (images_by self.new) }

@@ -40,9 +40,11 @@ fn failure(_: Failed) -> io::Error {
 
 impl RandomAccessFile for MemFile {
     ghost use Rattle.lr_disk.specs.Mem.{leaves_its_contents, counts_this_moment, only_this_moment};
-    ghost use Rattle.lr_disk.specs.MemDisk.{held_by, images_by, left_since as left_by, calls_made};
+    ghost use Rattle.lr_disk.specs.MemDisk.{held_by, images_by, left_since as left_by, calls_made, faults_of};
 
     ghost tells = { λ _. Unit {0} };
+
+    ghost errors = { λ f. faults_of f.disk };
 
     ghost contents = { λ f. held_by f.disk };
 

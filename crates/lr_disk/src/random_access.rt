@@ -1,5 +1,6 @@
 //! Files that are read and written at places, as the system's open files are: what a disk needs of one.
 ghost use Rattle.std.specs.Prelude.{◌≡◌, ◌⊎◌, ◌<◌, ◌≤◌, ◌+◌, List, ℕ, min, length, take, IfOk, OnOk, OnErr};
+ghost use Rattle.lr_bits.specs.Faults.{FailsAtOnce, WritesAtOnce};
 ghost use Rattle.lr_disk.specs.Disk.{
   Written,
   Torn,
@@ -19,10 +20,13 @@ use std::io::{Seek, SeekFrom};
 use std::os::unix::fs::FileExt;
 
 /// An open file that is read and written at places. A call may move fewer bytes than it was asked for. What is said of
-/// contents and of crashes holds for a file that tells them, in the words of `Disk`.
+/// errors, of contents and of crashes holds for a file that tells them, of the last two in the words of `Disk`.
 pub trait RandomAccessFile {
-    /// Whether it tells its contents, and what a crash may leave.
+    /// Whether it tells its errors, its contents, and what a crash may leave.
     ghost tells: { Self → Type 0 };
+
+    /// How many of its calls gave an error or wrote nothing, where it tells them.
+    ghost errors: { Self → ℕ };
 
     /// The bytes that reads give, where it tells them.
     ghost contents: { Self → List ℕ };
@@ -40,6 +44,7 @@ pub trait RandomAccessFile {
     fn length(&mut self) -> io::Result<u64>
         ensures told { tells self.old → tells self.new }
         ensures untold { tells self.new → tells self.old }
+        ensures errors { tells self.old → FailsAtOnce (errors self.old) (errors self.new) result }
         ensures size { tells self.old → IfOk result (λ n. n ≡ length (contents self.old)) }
         ensures contents { tells self.old → contents self.new ≡ contents self.old }
         ensures crash { tells self.old → SameImages (may_leave self.old) (may_leave self.new) }
@@ -47,14 +52,16 @@ pub trait RandomAccessFile {
             (left_since self.old) (left_since self.new) (may_leave self.new) };
 
     /// Fills the front of `into` with bytes that stand from a place on, and answers how many: none only where none
-    /// stands there.
+    /// stands there. A file has at most 2^64 - 1 bytes.
     fn read_at(&mut self, at: u64, into: &mut [u8]) -> io::Result<usize>
         requires { 0 < length into.old }
         ensures within { IfOk result (λ n. n ≤ length into.new) }
         ensures told { tells self.old → tells self.new }
         ensures untold { tells self.new → tells self.old }
+        ensures errors { tells self.old → FailsAtOnce (errors self.old) (errors self.new) result }
         ensures bytes { tells self.old → IfOk result (λ n. take n into.new ≡ bytes_at at n (contents self.old)) }
         ensures ended { tells self.old → IfOk result (λ n. n ≡ 0 → length (contents self.old) ≤ at) }
+        ensures low { tells self.old → IfOk result (λ n. at + n ≤ 18446744073709551615) }
         ensures contents { tells self.old → contents self.new ≡ contents self.old }
         ensures crash { tells self.old → SameImages (may_leave self.old) (may_leave self.new) }
         ensures time { tells self.old → Elapses (moment self.old) (moment self.new)
@@ -68,6 +75,7 @@ pub trait RandomAccessFile {
         ensures within { IfOk result (λ n. n ≤ length bytes.now) }
         ensures told { tells self.old → tells self.new }
         ensures untold { tells self.new → tells self.old }
+        ensures errors { tells self.old → WritesAtOnce (errors self.old) (errors self.new) result }
         ensures written { tells self.old → IfOk result (λ n. 0 < n
             → Written at (take n bytes.now) (contents self.old) (contents self.new)) }
         ensures torn { tells self.old → Torn (min at (length (contents self.old))) (at + length bytes.now)
@@ -84,6 +92,7 @@ pub trait RandomAccessFile {
     fn set_length(&mut self, size: u64) -> io::Result<()>
         ensures told { tells self.old → tells self.new }
         ensures untold { tells self.new → tells self.old }
+        ensures errors { tells self.old → FailsAtOnce (errors self.old) (errors self.new) result }
         ensures cut { tells self.old → size ≤ length (contents self.old)
             → OnOk result (contents self.new ≡ take size (contents self.old)) }
         ensures failed { tells self.old → size ≤ length (contents self.old)
@@ -101,6 +110,7 @@ pub trait RandomAccessFile {
     fn sync(&mut self) -> io::Result<()>
         ensures told { tells self.old → tells self.new }
         ensures untold { tells self.new → tells self.old }
+        ensures errors { tells self.old → FailsAtOnce (errors self.old) (errors self.new) result }
         ensures durable { tells self.old → OnOk result (Only (contents self.new) (may_leave self.new)) }
         ensures contents { tells self.old → contents self.new ≡ contents self.old }
         ensures crash { tells self.old → NoOther (may_leave self.old) (may_leave self.new) }
@@ -124,6 +134,8 @@ impl RandomAccessFile for File {
     ghost use Rattle.std.specs.Prelude.{[]};
 
     ghost tells = { λ _. ⊥ };
+
+    ghost errors = { λ _. 0 };
 
     ghost contents = { λ _. [] };
 

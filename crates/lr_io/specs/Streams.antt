@@ -1,7 +1,23 @@
 -- Readers and writers of std as sources and sinks.
 use Rattle.std.specs.Prelude.{ℕ, Option, List, [], IsSome, unwrap_or}
-use Rattle.lr_io.specs.declared.source.ReadSource.{ReadSource}
+use Rattle.lr_io.specs.declared.readers.StdReader.{StdReader}
 use Rattle.lr_io.specs.declared.sink.WriteSink.{WriteSink}
+use Rattle.lr_io.specs.declared.source.ReadSource.{ReadSource}
+use Rattle.lr_io.specs.declared.writers.StdWriter.{StdWriter}
+
+-- the reader of std, and how many errors it gave
+abbrev pub std_reader_in : {T : Type 0} → StdReader T → T
+std_reader_in r = r.reader
+
+abbrev pub errors_read : {T : Type 0} → StdReader T → ℕ
+errors_read r = r.errors
+
+-- the writer of std, and how many of its calls gave an error or wrote nothing
+abbrev pub std_writer_in : {T : Type 0} → StdWriter T → T
+std_writer_in w = w.writer
+
+abbrev pub errors_written : {T : Type 0} → StdWriter T → ℕ
+errors_written w = w.errors
 
 -- the reader, and how often it has failed
 abbrev pub reader_in : {T : Type 0} → ReadSource T → T

@@ -6,11 +6,19 @@
 //! and `ReadSource` where the readers of its type do; `WriteSink` and `SureSink` tell nothing. The layers above rest on
 //! `Source::take` and on `put_all`. The definitions are `MovesMost` of `specs/Places`, which says how many bytes a call
 //! of an object in memory moves, and `PutsPart` of `specs/Pieces`.
+//!
+//! `ReadSource` and `WriteSink` stand on a `Reader` and a `Writer`, which count the errors that they gave. A call that
+//! succeeds met none of these, and one that fails met exactly one. `StdReader` and `StdWriter` make such ones of a
+//! reader and a writer of std.
 #![tactic(auto)]
 
 mod places;
+mod readers;
 mod sink;
 mod source;
+mod writers;
 
+pub use readers::{Reader, StdReader};
 pub use sink::{MemSink, Sink, SureSink, WriteSink, put_all};
 pub use source::{MemSource, ReadSource, Source, SureSource};
+pub use writers::{StdWriter, Writer};

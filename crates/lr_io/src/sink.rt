@@ -1,13 +1,13 @@
-//! Where bytes go: into memory, to a writer of std, and nowhere.
+//! Where bytes go: into memory, to a writer, and nowhere.
 ghost use Rattle.std.specs.Prelude.{◌≡◌, ◌≤◌, ◌<◌, ◌++◌, List, [], ℕ, length, take, IfOk, OnOk, OnErr, vec_capacity};
-ghost use Rattle.lr_bits.specs.Faults.{HasCause};
+ghost use Rattle.lr_bits.specs.Faults.{HasCause, WritesAtOnce};
 ghost use Rattle.std.specs.Io.KnownBytes.{Appends};
 ghost use Rattle.lr_io.specs.Pieces.{AppendsFront, PutsPart};
 
+use crate::Writer;
 use crate::places::{reach, strike};
 use lr_bits::{Failed, NoMemory};
 use std::alloc::Global;
-use std::io::Write;
 
 /// Where bytes go.
 pub trait Sink {
@@ -49,16 +49,17 @@ pub fn put_all<O: Sink>(sink: &mut O, bytes: &[u8]) -> Result<(), Failed>
     Ok(())
 }
 
-/// A writer of std as a sink, which writes and flushes each piece. It counts each `Err` and each write of nothing. As
-/// a sink it tells nothing of what it holds, since a flush can fail after a write that did not. What the writer holds,
-/// where that tells it, is said of `put` beside the trait's clauses.
+/// A writer as a sink, which writes and flushes each piece. It counts each `Err` and each write of nothing. No error of
+/// the writer is passed over, and nothing is tried again after one. As a sink it tells nothing of what it holds, since
+/// a flush can fail after a write that did not. What the writer holds, where that tells it, is said of `put` beside the
+/// trait's clauses.
 #[derive(Drop)]
-pub struct WriteSink<T: Write> {
+pub struct WriteSink<T: Writer> {
     writer: T,
     faults: u64,
 }
 
-impl<T: Write> WriteSink<T> {
+impl<T: Writer> WriteSink<T> {
     ghost use Rattle.std.specs.Prelude.{◌≡◌};
     ghost use Rattle.lr_io.specs.Streams.{write_faults, writer_in};
 
@@ -69,23 +70,35 @@ impl<T: Write> WriteSink<T> {
     {
         WriteSink { writer, faults: 0 }
     }
+
+    /// The writer.
+    pub fn writer(&self) -> &T
+        ensures { result.now ≡ writer_in self.now }
+    {
+        &self.writer
+    }
 }
 
-/// Writes once and flushes.
-fn write_and_flush<T: Write>(writer: &mut T, piece: &[u8]) -> std::io::Result<usize>
+/// Writes once, and flushes what was written.
+fn write_and_flush<T: Writer>(writer: &mut T, piece: &[u8]) -> std::io::Result<usize>
+    requires { 0 < length piece.now }
     ensures within { IfOk result (λ n. n ≤ length piece.now) }
     ensures appended { IfOk result (λ n. Appends (T.contents writer.old) (T.contents writer.new) (take n piece.now)) }
     ensures failed { OnErr result (AppendsFront (T.contents writer.old) (T.contents writer.new) piece.now) }
+    ensures errors { WritesAtOnce (T.errors writer.old) (T.errors writer.new) result }
+    ensures flushed { IfOk result (λ n. 0 < n → T.flushed writer.new) }
 {
     let count = writer.write(piece)?;
-    writer.flush()?;
-    Ok(count)
+    if count == 0 {
+        return Ok(0);
+    }
+    writer.flush().and(Ok(count))
 }
 
-impl<T: Write> Sink for WriteSink<T> {
-    ghost use Rattle.std.specs.Prelude.{◌≡◌, ◌<◌, ◌≤◌, IfOk, OnErr, length, take};
+impl<T: Writer> Sink for WriteSink<T> {
+    ghost use Rattle.std.specs.Prelude.{◌≡◌, ◌<◌, ◌≤◌, IfOk, OnOk, OnErr, length, take};
     ghost use Rattle.std.specs.Io.KnownBytes.{Appends};
-    ghost use Rattle.lr_bits.specs.Faults.{HasCause};
+    ghost use Rattle.lr_bits.specs.Faults.{HasCause, FailsAtOnce};
     ghost use Rattle.lr_io.specs.Pieces.{AppendsFront};
     ghost use Rattle.lr_io.specs.Streams.{write_faults, writer_in};
 
@@ -106,6 +119,8 @@ impl<T: Write> Sink for WriteSink<T> {
             (take n piece.now)) }
         ensures failed { OnErr result (AppendsFront (T.contents (writer_in self.old)) (T.contents (writer_in self.new))
             piece.now) }
+        ensures errors { FailsAtOnce (T.errors (writer_in self.old)) (T.errors (writer_in self.new)) result }
+        ensures flushed { OnOk result (T.flushed (writer_in self.new)) }
     {
         match write_and_flush(&mut self.writer, piece) {
             Ok(count) if count > 0 => Ok(count),

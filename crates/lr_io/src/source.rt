@@ -1,10 +1,10 @@
-//! Where bytes come from: in memory, and from a reader of std.
+//! Where bytes come from: in memory, and from a reader.
 ghost use Rattle.std.specs.Prelude.{◌≡◌, ◌↔◌, ◌≤◌, ◌<◌, ◌++◌, List, [], ℕ, length, take, IfOk, OnErr};
 ghost use Rattle.lr_bits.specs.Faults.{HasCause};
 
+use crate::Reader;
 use crate::places::{reach, strike};
 use lr_bits::Failed;
-use std::io::Read;
 
 /// Bytes that come in pieces.
 pub trait Source {
@@ -35,15 +35,15 @@ pub trait Source {
         ensures asked { asked self.old self.new };
 }
 
-/// A reader of std as a source. It tells what is left where each reader of its type does, and counts each `Err`.
-/// Nothing is known of `into` where the reader fails.
+/// A reader as a source. It tells what is left where each reader of its type does, and counts each `Err`. No error of
+/// the reader is passed over, and nothing is tried again after one. Nothing is known of `into` where the reader fails.
 #[derive(Drop)]
-pub struct ReadSource<T: Read> {
+pub struct ReadSource<T: Reader> {
     reader: T,
     faults: u64,
 }
 
-impl<T: Read> ReadSource<T> {
+impl<T: Reader> ReadSource<T> {
     ghost use Rattle.std.specs.Prelude.{◌≡◌};
     ghost use Rattle.lr_io.specs.Streams.{read_faults, reader_in};
 
@@ -54,10 +54,19 @@ impl<T: Read> ReadSource<T> {
     {
         ReadSource { reader, faults: 0 }
     }
+
+    /// The reader.
+    pub fn reader(&self) -> &T
+        ensures { result.now ≡ reader_in self.now }
+    {
+        &self.reader
+    }
 }
 
-impl<T: Read> Source for ReadSource<T> {
-    ghost use Rattle.lr_io.specs.Streams.{AllTell, left_in};
+impl<T: Reader> Source for ReadSource<T> {
+    ghost use Rattle.std.specs.Prelude.{◌≡◌, ◌↔◌, ◌≤◌, ◌<◌, ◌++◌, length, take, IfOk, OnErr};
+    ghost use Rattle.lr_bits.specs.Faults.{HasCause, FailsAtOnce};
+    ghost use Rattle.lr_io.specs.Streams.{AllTell, left_in, read_faults, reader_in};
 
     ghost faults = { λ s. s.faults };
 
@@ -65,7 +74,17 @@ impl<T: Read> Source for ReadSource<T> {
 
     ghost left = { left_in T.remaining };
 
-    fn take(&mut self, into: &mut [u8]) -> Result<usize, Failed> {
+    fn take(&mut self, into: &mut [u8]) -> Result<usize, Failed>
+        requires { 0 < length into.old }
+        ensures cause { HasCause (read_faults self.old) (read_faults self.new) result }
+        ensures within { IfOk result (λ n. n ≤ length into.new) }
+        ensures moved { AllTell T.remaining → IfOk result
+            (λ n. left_in T.remaining self.old ≡ take n into.new ++ left_in T.remaining self.new) }
+        ensures ended { AllTell T.remaining → IfOk result (λ n. (n ≡ 0) ↔ (left_in T.remaining self.old ≡ [])) }
+        ensures failed { AllTell T.remaining
+            → OnErr result (left_in T.remaining self.new ≡ left_in T.remaining self.old) }
+        ensures errors { FailsAtOnce (T.errors (reader_in self.old)) (T.errors (reader_in self.new)) result }
+    {
         match self.reader.read(into) {
             Ok(count) => Ok(count),
             Err(_) => {

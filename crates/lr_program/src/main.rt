@@ -2,7 +2,7 @@
 #![tactic(auto)]
 
 use lr_disk::{Disk, FileDisk, MemDisk};
-use lr_io::{ReadSource, WriteSink};
+use lr_io::{ReadSource, StdReader, StdWriter, WriteSink};
 use lr_station::{Cause, station, tell, writes_shelf};
 use std::fs::{File, OpenOptions};
 use std::process::ExitCode;
@@ -71,7 +71,7 @@ fn open_shelf(rt: &HostRuntime, path: &str) -> io::Result<File> {
 
 /// Puts the line of a cause that comes before the station is called, and answers its status.
 fn refuse(rt: &HostRuntime, cause: Cause) -> u8 {
-    tell(cause, &mut WriteSink::of(rt.stderr()));
+    tell(cause, &mut WriteSink::of(StdWriter::of(rt.stderr())));
     cause.status()
 }
 
@@ -81,9 +81,9 @@ fn run_on<T: Threads + Wait + Sync, D: Disk + Send>(
     words: &[String],
     disk: &mut D,
 ) -> u8 {
-    let mut source = ReadSource::of(rt.stdin());
-    let mut out = WriteSink::of(rt.stdout());
-    let mut err = WriteSink::of(rt.stderr());
+    let mut source = ReadSource::of(StdReader::of(rt.stdin()));
+    let mut out = WriteSink::of(StdWriter::of(rt.stdout()));
+    let mut err = WriteSink::of(StdWriter::of(rt.stderr()));
     station(
         threads,
         rt.alloc(),

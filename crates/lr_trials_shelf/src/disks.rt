@@ -124,6 +124,41 @@ fn is_shelf_of_two(alloc: Global, most: usize) -> Result<bool, Fail> {
     is_shelf_on(alloc, &mut slow)
 }
 
+/// What is asked of a disk.
+#[derive(Clone, Copy)]
+enum Ask {
+    Length,
+    Read,
+    Write,
+    Cut,
+    Sync,
+}
+
+const HELD: [u8; 3] = [7, 8, 9];
+
+/// Whether this is done on a disk of three bytes.
+fn is_done<D: Disk>(disk: &mut D, ask: Ask) -> bool {
+    let mut into = [0; 3];
+    match ask {
+        Ask::Length => length(disk) == Some(3),
+        Ask::Read => disk.read(0, &mut into).ok() == Some(3) && into == HELD,
+        Ask::Write => write(disk, 0, &HELD),
+        Ask::Cut => cut(disk, 2),
+        Ask::Sync => sync(disk),
+    }
+}
+
+/// Whether this fails where the file fails in its call of this number, is then asked for nothing more, and is done when
+/// it is asked again. The file moves one byte a call.
+fn fails_at_once(alloc: Global, ask: Ask, number: u64) -> Result<bool, Fail> {
+    let mut memory = disk(alloc, &HELD)?;
+    memory.fail_at(number);
+    let mut slow = FileDisk::of(MemFile::of(memory, 1));
+    let failed = !is_done(&mut slow, ask);
+    let last = slow.file().disk().calls().checked_sub(1);
+    Ok(failed && last == Some(number) && is_done(&mut slow, ask))
+}
+
 #[test]
 fn disks_have_limits(rt: HostRuntime) -> Result<(), Fail> {
     assert!(rt; limits_are_kept(rt.alloc())?);
@@ -134,6 +169,21 @@ fn disks_have_limits(rt: HostRuntime) -> Result<(), Fail> {
 #[test]
 fn a_file_of_the_system_is_a_shelf(rt: HostRuntime) -> Result<(), Fail> {
     assert!(rt; a_file_is_a_shelf(&rt)?);
+    Ok(())
+}
+
+#[test]
+fn an_error_of_a_file_ends_the_call(rt: HostRuntime) -> Result<(), Fail> {
+    let alloc = rt.alloc();
+    assert!(rt; fails_at_once(alloc, Ask::Length, 0)?);
+    assert!(rt; fails_at_once(alloc, Ask::Sync, 0)?);
+    for number in 0..2 {
+        assert!(rt; fails_at_once(alloc, Ask::Cut, number)?);
+    }
+    for number in 0..3 {
+        assert!(rt; fails_at_once(alloc, Ask::Read, number)?);
+        assert!(rt; fails_at_once(alloc, Ask::Write, number)?);
+    }
     Ok(())
 }
 

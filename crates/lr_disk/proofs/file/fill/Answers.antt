@@ -16,6 +16,8 @@ loop-filled-preserved g c =
       within = search rules;
       told = λ tells. read.told (kept.told tells);
       untold = λ tells. kept.untold (read.untold tells);
+      errors = λ tells. (read.errors (kept.told tells)).none ∙ kept.errors tells;
+      low = λ tells. omega (arith, read.low (kept.told tells), place);
       bytes = λ tells. read_on c.args.at c.loop-filled.filled c.in_ok-count.count
           (length c.loop-filled.into - c.loop-filled.filled)
           c.loop-filled.into c.read_at.new.into (file.contents old) kept.within size read.within (kept.bytes tells)

@@ -1,4 +1,4 @@
-use Rattle.std.proofs.Common.{◌<◌, arith, rules}
+use Rattle.std.proofs.Common.{◌<◌, ◌∙◌, arith, rules}
 use Rattle.std.proofs.lemmas.List.{take_rest}
 use Rattle.lr_disk.proofs.Pieces.{WrittenSoFar, elapsed_on, follows_on, torn_now, written_on}
 use Rattle.lr_disk.proofs.file.write_whole.Goals as goal
@@ -55,6 +55,7 @@ loop-done-preserved g c =
       within = search rules;
       told = λ tells. call.told (kept.told tells);
       untold = λ tells. kept.untold (call.untold tells);
+      errors = λ tells. (call.errors (kept.told tells)).none more ∙ kept.errors tells;
       none = λ tells no. absurd (omega arith);
       some = λ tells some.
           written_on c.args.at c.loop-done.done c.args.bytes.now _ (file.contents old) (file.contents mid) kept.within

@@ -10,6 +10,7 @@ invariant-loop-done g l =
       within : l.done ≤ length l.bytes;
       told : file.tells old → file.tells l.file;
       untold : file.tells l.file → file.tells old;
+      errors : file.tells old → file.errors l.file ≡ file.errors old;
       none : file.tells old → l.done ≡ 0 → file.contents l.file ≡ file.contents old;
       some : file.tells old → 0 < l.done
           → Written l.at (take l.done l.bytes) (file.contents old) (file.contents l.file);
