@@ -49,6 +49,11 @@ completed_file kept packet =
     if packet.flags == 3 then Some
     (file_begun_by packet) else if packet.flags == 2 then continued_file kept packet else None
 
+-- the packet joins no file: none is open after it of its channel and application, and no bodies end with it
+pub record JoinsNothing (kept : Option Open) (packet : Good) : Type 0 where
+  pub none_open : next_open kept packet ≡ None
+  pub none_ends : completed_file kept packet ≡ None
+
 -- what is kept of the packet's channel and application is set to this, and the others stay
 pub record SetsKey {V : Type 0} (old new : List ((ℕ × ℕ) × V)) (packet : Good) (value : Option V) : Type 0 where
   pub once : AreAscending new

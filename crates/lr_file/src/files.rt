@@ -1,11 +1,12 @@
 //! The files of good packets, one packet after another.
 
-ghost use Rattle.std.specs.Prelude.{◌≡◌, ◌++◌, ◌∷◌, [], List, None, IfOk, OnOk, OnErr, IsOk, IsErr};
+ghost use Rattle.std.specs.Prelude.{◌≡◌, ◌++◌, ◌∷◌, [], List, None, IfOk, OnOk, OnErr, IsOk, IsErr, false};
 ghost use Rattle.lr_packet.specs.Verdict.{Good};
 ghost use Rattle.lr_packet.specs.Reading.{good};
 ghost use Rattle.lr_file.specs.Files.{file_at};
 ghost use Rattle.lr_file.specs.Standing.{IsSpent, StandsFor, kept_of_key};
-ghost use Rattle.lr_file.specs.Steps.{SetsKey, IsFileOf, file_begun_by, completed_file, continued_file, next_open};
+ghost use Rattle.lr_file.specs.Steps.{SetsKey, IsFileOf, JoinsNothing, file_begun_by, completed_file, continued_file};
+ghost use Rattle.lr_file.specs.Steps.{next_open};
 
 use crate::open_file::OpenFile;
 use crate::part::{Part, part_of};
@@ -81,15 +82,13 @@ fn whole(
 }
 
 /// Does with the packet what its part says: it opens a file, goes on with the open one, ends it, or is a file alone.
-/// A packet that neither opens, goes on with nor ends a file takes no memory.
+/// A packet that joins no file takes no memory.
 fn join(
     alloc: Global,
     files: &mut OpenFiles,
     packet: &GoodPacket,
 ) -> Result<Option<MissionFile>, NoMemory>
-    ensures succeeds { next_open (kept_of_key files.old.entries packet.now.vc packet.now.apid) (good packet.now)
-        ≡ None →
-        completed_file (kept_of_key files.old.entries packet.now.vc packet.now.apid) (good packet.now) ≡ None
+    ensures succeeds { JoinsNothing (kept_of_key files.old.entries packet.now.vc packet.now.apid) (good packet.now)
         → IsOk result }
     ensures files { OnOk result (SetsKey files.old.entries files.new.entries (good packet.now)
         (next_open (kept_of_key files.old.entries packet.now.vc packet.now.apid) (good packet.now))) }
@@ -150,6 +149,10 @@ impl Files {
             OnOk result (StandsFor self.new (packets ++ good packet.now ∷ [])) }
         ensures file { (packets : List Good) → StandsFor self.old packets →
             IfOk result (λ file. file ≡ file_at packets (good packet.now)) }
+        // A packet that joins no file takes no memory.
+        ensures succeeds { self.old.spent ≡ false
+            → JoinsNothing (kept_of_key self.old.files packet.now.vc packet.now.apid) (good packet.now)
+            → IsOk result }
         ensures spends { OnErr result (IsSpent self.new) }
         ensures stays_spent { IsSpent self.old → IsErr result × IsSpent self.new }
     {

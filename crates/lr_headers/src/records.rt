@@ -8,6 +8,7 @@ ghost use Rattle.lr_headers.specs.Fields.{is_encrypted, is_key, is_sized, lossle
 ghost use Rattle.lr_headers.specs.Fields.{stamp_of, structure_of};
 ghost use Rattle.lr_headers.specs.Tiling.{HasFaultOrMemory, IsHeaderOf, IsRecord, IsTiled, fault_at, first_fault};
 ghost use Rattle.lr_headers.specs.Tiling.{has_wrong_length, header_length};
+ghost use Rattle.lr_headers.specs.declared.fault.HeaderFault.{HeaderFault as Fault};
 
 use crate::contents::{content_in, lossless_in, navigation_in, segment_in, stamp_in, structure_in};
 use crate::kinds::{
@@ -54,6 +55,8 @@ impl<'a> Records<'a> {
     pub fn read(alloc: Global, proper: &'a [u8]) -> Result<Records<'a>, HeaderFault>
         ensures ok { IfOk result (IsHeaderOf proper.now) }
         ensures err { IfErr result (HasFaultOrMemory proper.now) }
+        // A fault of the first record, or of the file's length, is found before memory is taken.
+        ensures first { (known : Fault) → first_fault proper.now ≡ Some known → IfErr result (λ fault. fault ≡ known) }
     {
         let end = header_end(proper)?;
         let header = &proper[..end];

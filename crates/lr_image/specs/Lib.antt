@@ -5,4 +5,5 @@ pub mod Pieces
 pub mod Places
 pub mod Plain
 pub mod Reading
+pub mod Room
 pub mod Shapes

@@ -8,9 +8,9 @@ ghost use Rattle.lr_image.specs.Reading.{line_form};
 ghost use Rattle.lr_image.specs.Shapes.{IsCoding, IsSize};
 ghost use Rattle.lr_image.specs.declared.fault.ImageFault.TheVariants.{NoMemory};
 
-use crate::ImageFault;
 use crate::pieces::{first_piece, next_piece};
-use crate::room::{most_lines, pixels_with_room};
+use crate::room::room_for;
+use crate::{ImageFault, Shape};
 use lr_bits::{MissionFile, Pixels};
 use lr_headers::{Lossless, Structure};
 use lr_rice::{RiceFault, decode_lines};
@@ -34,10 +34,14 @@ pub(crate) fn coded_pixels(
     let all = u32::from(structure.lines);
     let each = u32::from(lossless.lines);
     let mut place = first_piece(skipped);
-    let room = most_lines(file, place, structure, lossless);
-    let Ok(mut pixels) = pixels_with_room(alloc, structure.columns, room) else {
+    let shape = Shape {
+        structure,
+        lossless: Some(lossless),
+    };
+    let Ok(mut pixels) = room_for(alloc, file, skipped, shape) else {
         return Err(ImageFault::NoMemory);
     };
+    pixels.truncate(0);
     let mut number = 0;
     let mut done = 0;
     while done < all {

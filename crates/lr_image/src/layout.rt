@@ -1,10 +1,12 @@
 //! Where the pixels of an image stand in its file.
 
-ghost use Rattle.std.specs.Prelude.{◌≡◌, ◌≤◌, ◌⊎◌, IfErr, IfOk, length};
+ghost use Rattle.std.specs.Prelude.{◌≡◌, ◌≤◌, ◌⊎◌, IfErr, IfOk, Some, length};
 ghost use Rattle.lr_bits.specs.File.{proper_of};
 ghost use Rattle.lr_image.specs.Reading.{HasLayout, HasNoLayout};
 ghost use Rattle.lr_image.specs.Shapes.{IsShape};
-ghost use Rattle.lr_image.specs.declared.fault.ImageFault.TheVariants.{NoMemory};
+ghost use Rattle.lr_headers.specs.Tiling.{first_fault};
+ghost use Rattle.lr_headers.specs.declared.fault.HeaderFault.{HeaderFault as HeaderFault'};
+ghost use Rattle.lr_image.specs.declared.fault.ImageFault.TheVariants.{Headers, NoMemory};
 
 use crate::shape::shape_of;
 use crate::{ImageFault, Shape};
@@ -25,6 +27,9 @@ pub fn layout_of(alloc: Global, file: &MissionFile) -> Result<Layout, ImageFault
     ensures sound { IfOk result (λ layout. IsShape layout.shape) }
     ensures inside { IfOk result (λ layout. layout.header_bytes ≤ length (proper_of file.now)) }
     ensures err { IfErr result (λ fault. (fault ≡ NoMemory) ⊎ HasNoLayout file.now fault) }
+    // A fault of the header's first record is found before memory is taken.
+    ensures first { (known : HeaderFault') → first_fault (proper_of file.now) ≡ Some known
+        → IfErr result (λ fault. fault ≡ Headers known) }
 {
     let records = match Records::read(alloc, file.proper()) {
         Ok(records) => records,

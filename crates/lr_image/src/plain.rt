@@ -3,7 +3,7 @@
 ghost use Rattle.std.specs.Prelude.{◌≡◌, ◌<◌, ◌≤◌, ◌+◌, ◌*◌, ◌^◌, ◌⊎◌};
 ghost use Rattle.std.specs.Prelude.{IfErr, IfNone, IfOk, IfSome, drop, length, take};
 ghost use Rattle.lr_bits.specs.Bits.{bits_of};
-ghost use Rattle.lr_image.specs.Plain.{BeginsWithPixels, PixelsFail};
+ghost use Rattle.lr_image.specs.Plain.{BeginsWithPixels, PixelsFail, whole_pixels};
 ghost use Rattle.lr_image.specs.declared.fault.ImageFault.TheVariants.{NoMemory};
 
 use crate::ImageFault;
@@ -21,6 +21,8 @@ pub(crate) fn plain_pixels(
     requires few { length bytes.now < 2 ^ 32 }
     ensures ok { IfOk result (BeginsWithPixels bits count (bits_of bytes.now)) }
     ensures err { IfErr result (λ fault. (fault ≡ NoMemory) ⊎ PixelsFail bits count bytes.now fault) }
+    // Pixels that aren't there are missed before memory is taken.
+    ensures first { whole_pixels bits bytes.now < count → IfErr result (PixelsFail bits count bytes.now) }
 {
     if let Some(fault) = missing_pixels(bytes, bits, count) {
         return Err(fault);
@@ -38,6 +40,7 @@ pub fn missing_pixels(bytes: &[u8], bits: u8, count: usize) -> Option<ImageFault
     requires few { length bytes.now < 2 ^ 32 }
     ensures some { IfSome result (PixelsFail bits count bytes.now) }
     ensures none { IfNone result (bits * count ≤ 8 * length bytes.now) }
+    ensures enough { IfNone result (count ≤ whole_pixels bits bytes.now) }
 {
     let whole = 8 * bytes.len() as u64 / u64::from(bits);
     if whole < count as u64 {

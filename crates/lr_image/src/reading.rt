@@ -1,10 +1,12 @@
 //! Images of mission files.
 
-ghost use Rattle.std.specs.Prelude.{◌≡◌, ◌≤◌, ◌⊎◌, IfErr, IfOk, length};
+ghost use Rattle.std.specs.Prelude.{◌≡◌, ◌≤◌, ◌⊎◌, IfErr, IfOk, Some, length};
 ghost use Rattle.lr_bits.specs.File.{proper_of};
 ghost use Rattle.lr_image.specs.Reading.{HasFaultOrMemory, HasPixels, IsImageOf, LacksPixels};
 ghost use Rattle.lr_image.specs.Shapes.{IsShape};
-ghost use Rattle.lr_image.specs.declared.fault.ImageFault.TheVariants.{NoMemory};
+ghost use Rattle.lr_headers.specs.Tiling.{first_fault};
+ghost use Rattle.lr_headers.specs.declared.fault.HeaderFault.{HeaderFault};
+ghost use Rattle.lr_image.specs.declared.fault.ImageFault.TheVariants.{Headers, NoMemory};
 
 use crate::coded::coded_pixels;
 use crate::image::whole_image;
@@ -18,6 +20,9 @@ use std::alloc::Global;
 pub fn image_of(alloc: Global, file: &MissionFile) -> Result<Image, ImageFault>
     ensures ok { IfOk result (IsImageOf file.now) }
     ensures err { IfErr result (HasFaultOrMemory file.now) }
+    // A fault of the header's first record is found before memory is taken.
+    ensures first { (known : HeaderFault) → first_fault (proper_of file.now) ≡ Some known
+        → IfErr result (λ fault. fault ≡ Headers known) }
 {
     let layout = layout_of(alloc, file)?;
     let pixels = pixels_of(alloc, file, layout.header_bytes, layout.shape)?;

@@ -1,9 +1,12 @@
 //! Memory for the pixels of an image.
 
-ghost use Rattle.std.specs.Prelude.{◌≡◌, ◌≤◌, [], IfOk};
-ghost use Rattle.lr_image.specs.Places.{IsPlaceIn};
+ghost use Rattle.std.specs.Prelude.{◌≡◌, Some, IfOk, replicate};
+ghost use Rattle.lr_image.specs.Pieces.{pieces_after};
+ghost use Rattle.lr_image.specs.Places.{IsPlaceIn, pieces_at};
+ghost use Rattle.lr_image.specs.Room.{most_lines, most_pixels};
 
-use crate::pieces::{PiecePlace, next_piece};
+use crate::Shape;
+use crate::pieces::{PiecePlace, first_piece, next_piece};
 use lr_bits::{MissionFile, NoMemory, Pixels};
 use lr_headers::{Lossless, Structure};
 use std::alloc::Global;
@@ -11,25 +14,39 @@ use std::alloc::Global;
 /// The bits of the shortest identifier, which begins each line. After it stands a sample.
 const IDENTIFIER_BITS: u64 = 3;
 
-/// No pixels, and memory for those of this many lines, which is taken in one piece.
-pub fn pixels_with_room(alloc: Global, columns: u16, lines: u32) -> Result<Pixels, NoMemory>
-    ensures { IfOk result (λ pixels. pixels ≡ []) }
+/// Pixels of 0, as many as an image of this shape has at most, where this many bytes of the file come before its data
+/// field. The memory is taken in one piece: for no more lines than the header claims, and where the image is coded
+/// without loss for no more than the pieces of the file can have.
+pub fn room_for(
+    alloc: Global,
+    file: &MissionFile,
+    skipped: usize,
+    shape: Shape,
+) -> Result<Pixels, NoMemory>
+    ensures { IfOk result
+        (λ pixels. pixels ≡ replicate (most_pixels shape (pieces_after skipped file.now.bodies)) 0) }
 {
-    let mut pixels = Pixels::zeros(alloc, usize::from(columns) * lines as usize)?;
-    pixels.truncate(0);
-    Ok(pixels)
+    let Shape {
+        structure,
+        lossless,
+    } = shape;
+    let lines = match lossless {
+        None => u32::from(structure.lines),
+        Some(lossless) => most_lines(file, first_piece(skipped), structure, lossless),
+    };
+    Pixels::zeros(alloc, usize::from(structure.columns) * lines as usize)
 }
 
 /// How many lines of an image of this structure the pieces from this place on have at most: no more than a packet may
 /// have, nor than the bits of a piece can code.
-pub fn most_lines(
+fn most_lines(
     file: &MissionFile,
     first: PiecePlace,
     structure: Structure,
     lossless: Lossless,
 ) -> u32
     requires { IsPlaceIn file.now first }
-    ensures { result ≤ structure.lines }
+    ensures { result ≡ most_lines structure (Some lossless) (pieces_at file.now first) }
 {
     let all = u32::from(structure.lines);
     let each = u64::from(lossless.lines);

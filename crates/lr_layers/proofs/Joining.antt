@@ -1,12 +1,13 @@
 -- Packets that are joined to files one after another, with the origins of the files.
-use Rattle.std.proofs.Common.{◌≡◌, ℕ, ◌+◌, ◌-◌, ◌≤◌, ◌<◌, Option, Some, None, List, [], ◌∷◌, ◌++◌, length, take, map}
+use Rattle.std.proofs.Common.{◌≡◌, ℕ, ◌+◌, ◌-◌, ◌≤◌, ◌<◌, Option, Some, None, List, [], ◌∷◌, ◌++◌, length, take}
+use Rattle.std.proofs.Common.{drop, map}
 use Rattle.std.proofs.Common.{refl, sym, ap, ap₂, ◌∙◌, subst, arith, append-nil, append_assoc, length-take, get_or}
 use Rattle.std.specs.Option.{option_map, option_to_list}
 use Rattle.std.specs.List.{cons_option}
 use Rattle.std.specs.Result.{result_ok}
 use Rattle.std.specs.Prelude.{Result, Ok}
 use Rattle.std.proofs.Math.Seq.{take-length, take-append_seam}
-use Rattle.std.proofs.lemmas.List.{take-take, take_more}
+use Rattle.std.proofs.lemmas.List.{take-append-drop, take-take, take_more}
 use Rattle.lr_bits.specs.declared.outcome.Outcome.{Outcome}
 use Rattle.lr_bits.specs.declared.placed.Placed.{Placed}
 use Rattle.lr_bits.specs.declared.placed.Origin.{Origin}
@@ -15,6 +16,7 @@ use Rattle.lr_bits.specs.Packet.{Packet}
 use Rattle.lr_packet.specs.declared.packet.PacketFault.{PacketFault}
 use Rattle.lr_packet.specs.Verdict.{Good, good_packets, verdict_of}
 use Rattle.lr_packet.proofs.VerdictLemmas.{good_packets-append}
+use Rattle.lr_vc.proofs.ZoneStarts.{back_none, front_none}
 use Rattle.lr_file.specs.Files.{file_at}
 use Rattle.lr_file.specs.Standing.{Kept as KeptFiles, StandsFor as FilesStandFor, kept_of_key}
 use Rattle.lr_layers.specs.declared.starts.Start.{Start}
@@ -162,3 +164,14 @@ pub good_more : (packets : List Packet) (place : ℕ) (packet : Packet) → plac
 good_more packets place packet inside is =
     ap good_packets (take_more packets place packet inside ∙ ap (λ p. take place packets ++ p ∷ []) (sym is))
     ∙ good_packets-append (take place packets) (packet ∷ [])
+
+-- where none is good, each of them isn't
+pub none_good : (packets : List Packet) (place : ℕ) (packet : Packet) → place < length packets →
+    packet ≡ get_or packets place packet → good_packets packets ≡ [] → good_packets (packet ∷ []) ≡ []
+none_good packets place packet inside is none =
+    let front = take (place + 1) packets in
+    let all : good_packets packets ≡ good_packets front ++ good_packets (drop (place + 1) packets) =
+    ap good_packets (sym (take-append-drop (place + 1) packets))
+    ∙ good_packets-append front (drop (place + 1) packets) in
+    let no_front : good_packets front ≡ [] = front_none _ _ (sym all ∙ none) in
+    back_none (good_packets (take place packets)) _ (sym (good_more packets place packet inside is) ∙ no_front)

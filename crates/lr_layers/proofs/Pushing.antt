@@ -1,19 +1,21 @@
 -- What stands of the outcomes when one more is pushed.
-use Rattle.std.proofs.Common.{◌≡◌, ℕ, ◌+◌, ◌-◌, Bool, false, not, List, [], ◌∷◌, ◌++◌, length, map, ap, ap₂, ◌∙◌}
-use Rattle.std.proofs.Common.{sym, refl, subst, arith}
+use Rattle.std.proofs.Common.{◌≡◌, ℕ, ◌+◌, ◌-◌, Bool, true, false, not, ◌&&◌, List, [], ◌∷◌, ◌++◌, length, map}
+use Rattle.std.proofs.Common.{ap, ap₂, ◌∙◌, sym, refl, subst, arith, eqb, eqb-true}
 use Rattle.std.proofs.Common.{append-nil, length-append, add-zero, Some, None}
 use Rattle.std.specs.Prelude.{count_by, filter, if◌then◌else◌}
 use Rattle.std.specs.Option.{option_to_list}
 use Rattle.std.specs.List.{filter_map}
+use Rattle.std.specs.Result.{result_ok}
 use Rattle.std.proofs.lemmas.List.{length-map, map-append}
 use Rattle.std.proofs.lemmas.List.Elements.{filter_map-append}
 use Rattle.std.proofs.lemmas.List.Sums.{fold-append, length-filter}
 use Rattle.lr_bits.specs.declared.outcome.Outcome.{Outcome}
 use Rattle.lr_bits.specs.declared.outcome.Outcome.TheVariants.{Restored, Lost}
+use Rattle.lr_bits.specs.declared.outcome.Corrected.{Corrected}
 use Rattle.lr_bits.specs.declared.placed.Placed.{Placed}
 use Rattle.lr_bits.specs.File.{File}
 use Rattle.lr_bits.specs.Packet.{Packet}
-use Rattle.lr_vc.specs.Frame.{Fields}
+use Rattle.lr_vc.specs.Frame.{Fields, fields_of, frame_of, version_of}
 use Rattle.lr_vc.specs.Packets.{packets_of, packets_at}
 use Rattle.lr_vc.specs.Standing.{Kept as KeptChannels, StandsFor as ChannelsStandFor}
 use Rattle.lr_vc.proofs.History.{packets_of-more}
@@ -361,3 +363,18 @@ pub starts_before : (outcomes : List Outcome) (outcome : Outcome) (kept : Kept) 
     StartsStandFor (outcomes ++ outcome ∷ []) kept.starts (placed_packets outcomes)
 starts_before outcomes outcome kept stood =
     starts_stay outcomes outcome kept.starts (placed_packets outcomes) (all_below outcomes) stood.starts
+
+by_version : (frame : List ℕ) (f : Fields) (first : Bool) → eqb (version_of frame) 1 ≡ first →
+    Some f ≡ result_ok (frame_of frame) → (eqb (version_of frame) 1 && eqb (fields_of frame).vc 63) ≡ true →
+    f.vc ≡ 63
+by_version frame f true one is fill =
+    let fields : Some f ≡ Some (fields_of frame) = rw one at is in
+    let vc : eqb (fields_of frame).vc 63 ≡ true = rw one at fill in
+    let same : f ≡ fields_of frame = cc in
+    ap (λ (g : Fields). g.vc) same ∙ eqb-true _ _ vc
+by_version frame f false other is fill = absurd (cc (rw other at fill))
+
+-- a frame that was read and is of fill has channel 63
+pub fill_channel : (corrected : Corrected) (frame : List ℕ) (f : Fields) → Some f ≡ result_ok (frame_of frame) →
+    is_fill (Restored corrected frame) ≡ true → f.vc ≡ 63
+fill_channel corrected frame f is fill = by_version frame f (eqb (version_of frame) 1) refl is fill

@@ -1,6 +1,6 @@
 //! A restored frame, and the packets that end in it.
 
-ghost use Rattle.std.specs.Prelude.{◌≡◌, ◌≤◌, ◌<◌, ◌+◌, ◌^◌, ◌++◌, ◌∷◌, [], List, IfOk, length, map};
+ghost use Rattle.std.specs.Prelude.{◌≡◌, ◌≤◌, ◌<◌, ◌+◌, ◌^◌, ◌++◌, ◌∷◌, [], List, IfOk, IsOk, length, map, false};
 ghost use Rattle.std.specs.Option.{option_map};
 ghost use Rattle.std.specs.Result.{result_ok};
 ghost use Rattle.lr_vc.specs.Frame.{Fields, frame_of};
@@ -57,6 +57,7 @@ pub(crate) fn push_frame(
         → StartsStandFor outcomes starts.old before → IsNow outcomes now
         → IfOk result (λ gained. Takes outcomes before now.start.place frames (frames ++ fields frame.now ∷ [])
         channels.new files.new starts.new out.old.items out.new.items gained) }
+    ensures fill { channels.old.spent ≡ false → frame.now.vc ≡ 63 → IsOk result }
     ensures few { IfOk result (λ gained. gained.packets ≤ 885) }
     ensures few_new { IfOk result (λ _. length out.new.items ≤ length out.old.items + 885) }
     ensures few_files { IfOk result (λ gained. gained.files ≤ gained.packets) }

@@ -1,7 +1,9 @@
 //! From outcomes to files.
 
-ghost use Rattle.std.specs.Prelude.{◌≡◌, ◌+◌, ◌^◌, ◌<◌, ◌≤◌, ◌++◌, ◌∷◌, [], List, OnOk, OnErr, IsErr, length, sum};
+ghost use Rattle.std.specs.Prelude.{◌≡◌, ◌+◌, ◌^◌, ◌<◌, ◌≤◌, ◌++◌, ◌∷◌, [], List, OnOk, OnErr, IsOk, IsErr, length};
+ghost use Rattle.std.specs.Prelude.{IsTrue, None, false, sum};
 ghost use Rattle.lr_bits.specs.declared.outcome.Outcome.{Outcome as Outcome'};
+ghost use Rattle.lr_layers.specs.Layers.{frame_in, is_fill};
 ghost use Rattle.lr_layers.specs.Standing.{StandsFor, IsSpent, AddsFiles, AreFew, numbers};
 
 use crate::counts::Counts;
@@ -122,6 +124,11 @@ impl Layers {
             OnOk result (AddsFiles outcomes outcome.now files.old.items files.new.items) }
         // A frame ends at most 885 packets.
         ensures few { OnOk result (length files.new.items ≤ length files.old.items + 885) }
+
+        // A lost block, and a frame of another version, take no memory; nor does one of fill.
+        ensures succeeds { self.old.spent ≡ false → frame_in outcome.now ≡ None → IsOk result }
+        ensures fill { (outcomes : List Outcome') → StandsFor self.old outcomes → IsTrue (is_fill outcome.now)
+            → IsOk result }
 
         ensures refused { OnErr result (files.new.items ≡ files.old.items) }
         ensures counts_stay { OnErr result (self.new.numbers ≡ self.old.numbers) }

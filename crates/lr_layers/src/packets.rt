@@ -1,6 +1,6 @@
 //! The packets of a frame, one after another.
 
-ghost use Rattle.std.specs.Prelude.{◌≡◌, ◌≤◌, ◌+◌, ◌++◌, ◌∷◌, [], List, IfOk, OnOk, length, map, if◌then◌else◌};
+ghost use Rattle.std.specs.Prelude.{◌≡◌, ◌≤◌, ◌+◌, ◌++◌, ◌∷◌, [], List, IfOk, IsOk, OnOk, length, map, if◌then◌else◌};
 ghost use Rattle.lr_bits.specs.declared.outcome.Outcome.{Outcome as Outcome'};
 ghost use Rattle.lr_packet.specs.Verdict.{good_packets};
 ghost use Rattle.lr_file.specs.Standing.{StandsFor};
@@ -26,6 +26,7 @@ fn push_packet(
         → OnOk result (Joins outcomes before (at_place now.start.place (good_packets (raw.now ∷ []))) files.new
         starts.new
         out.old.items out.new.items) }
+    ensures succeeds { good_packets (raw.now ∷ []) ≡ [] → IsOk result }
     ensures good { IfOk result (λ good. (if good then 1 else 0) ≡ length (good_packets (raw.now ∷ []))) }
     ensures few { IfOk result (λ good. length out.new.items ≤ length out.old.items + (if good then 1 else 0)) }
     ensures kept { KeepsFront out.old.items out.new.items }
@@ -55,6 +56,7 @@ pub(crate) fn push_packets(
         → StartsStandFor outcomes starts.old before → IsNow outcomes now
         → OnOk result (Joins outcomes before (at_place now.start.place (good_packets packets.now)) files.new starts.new
         out.old.items out.new.items) }
+    ensures succeeds { good_packets packets.now ≡ [] → IsOk result }
     ensures good { IfOk result (λ good. good ≡ length (good_packets packets.now)) }
     ensures few { IfOk result (λ good. good ≤ length packets.now) }
     ensures few_files { IfOk result (λ good. length out.new.items ≤ length out.old.items + good) }

@@ -1,5 +1,6 @@
 //! `frames`: a line for each transfer frame.
-ghost use Rattle.std.specs.Prelude.{◌≡◌, ◌<◌, ◌^◌, List, ℕ, IfOk, IfErr};
+ghost use Rattle.std.specs.Prelude.{◌≡◌, ◌<◌, ◌^◌, List, ℕ, IfOk, IfErr, IsOk, false};
+ghost use Rattle.lr_layers.specs.Layers.{is_restored};
 ghost use Rattle.lr_catalog.specs.Summaries.{summary_line};
 ghost use Rattle.lr_reading.specs.Runs.{ReadsInput};
 ghost use Rattle.lr_forms.specs.declared.forms.Input.TheVariants.{Units};
@@ -60,6 +61,8 @@ fn put_frame<O: Sink>(
     ensures put { IfOk result (λ _. Puts O.Sink (frame_text place outcome.now) out.old out.new) }
     ensures stopped { IfErr result
         (λ cause. PutStops O.Sink (frame_text place outcome.now) cause out.old out.new) }
+    // A block that was lost takes no memory.
+    ensures succeeds { is_restored outcome.now ≡ false → IsOk result }
 {
     match outcome {
         Outcome::Restored(_, frame) => {

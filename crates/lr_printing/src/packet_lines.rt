@@ -1,6 +1,7 @@
 //! `packets`: a line for each packet of the frames.
 ghost use Rattle.std.specs.Prelude.{
   ◌≡◌,
+  ◌≢◌,
   ◌<◌,
   ◌≤◌,
   ◌+◌,
@@ -12,12 +13,15 @@ ghost use Rattle.std.specs.Prelude.{
   ℕ,
   IfOk,
   IfErr,
+  IsOk,
+  IsErr,
   OnOk,
   OnErr,
   length,
   if◌then◌else◌,
 };
 ghost use Rattle.lr_bits.specs.Packet.{Packet};
+ghost use Rattle.lr_vc.specs.Frame.{frame_of};
 ghost use Rattle.lr_vc.specs.Standing.{StandsFor};
 ghost use Rattle.lr_packet.specs.Verdict.{good_of, good_packets};
 ghost use Rattle.lr_reading.specs.Reading.{units_of};
@@ -36,6 +40,7 @@ ghost use Rattle.lr_printing.specs.Packets.{
 ghost use Rattle.lr_printing.specs.PacketsRead.{IsAfter, IsCounted};
 ghost use Rattle.lr_printing.specs.Printing.{Prints, PrintsAll};
 ghost use Rattle.lr_causes.specs.Puts.{Puts, PutStops};
+ghost use Rattle.lr_causes.specs.declared.cause.Cause.TheVariants.{NoMemory as NoMemory'};
 
 use crate::packet_count::PacketCount;
 use lr_bits::{Bytes, FRAME_BYTES, NoMemory, Outcome, RawPacket};
@@ -121,7 +126,8 @@ fn compose(
     lines: &mut Bytes,
 ) -> Result<(), NoMemory>
     requires { first + length packets.now < 2 ^ 64 }
-    ensures { OnOk result (lines.new ≡ lines.old ++ lines_from first packets.now) }
+    ensures succeeds { packets.now ≡ [] → IsOk result }
+    ensures lines { OnOk result (lines.new ≡ lines.old ++ lines_from first packets.now) }
 {
     for (place, raw) in packets.iter().enumerate() {
         packet_line(alloc, first + place as u64, raw, lines)?;
@@ -135,6 +141,9 @@ fn read_packets(
     channels: &mut Channels,
     packets: &mut Vec<RawPacket>,
 ) -> Result<(), NoMemory>
+    // A frame of another version takes no memory, and has no packets.
+    ensures succeeds { IsErr (frame_of frame.now) → IsOk result }
+    ensures none { IsErr (frame_of frame.now) → packets.new.items ≡ packets.old.items }
     ensures stands { (frames : List (List ℕ)) → StandsFor channels.old (frames_read frames)
         → OnOk result (StandsFor channels.new (frames_read (frames ++ frame.now ∷ []))) }
     ensures packets { (frames : List (List ℕ)) → StandsFor channels.old (frames_read frames)
@@ -164,6 +173,8 @@ fn put_frame<O: Sink>(
     ensures stopped { (frames : List (List ℕ)) → IsAfter channels.old counted.old frames
         → IfErr result (λ cause. PutStops O.Sink (lines_added frames frame.now) cause out.old out.new) }
     ensures few { OnOk result (counted.new.packets ≤ counted.old.packets + 885) }
+    // A frame of another version takes no memory, and nothing is put.
+    ensures succeeds { IsErr (frame_of frame.now) → IfErr result (λ cause. cause ≢ NoMemory') }
 {
     packets.clear();
     read_packets(frame, channels, packets)?;

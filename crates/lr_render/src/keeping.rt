@@ -2,20 +2,14 @@
 
 ghost use Rattle.std.specs.Prelude.{◌≡◌, ◌++◌, OnErr, OnOk};
 ghost use Rattle.lr_image.specs.declared.fault.ImageFault.TheVariants.{Rice};
+ghost use Rattle.lr_render.specs.Giving.{CanBeCut};
 ghost use Rattle.lr_render.specs.Keeping.{CanCount, Takes};
 
 use crate::done::DoneStrip;
-use lr_bits::{NoMemory, Pixels};
-use lr_image::{ImageFault, pixels_with_room};
+use lr_bits::{MissionFile, NoMemory, Pixels, TRANSPORT_HEADER_BYTES};
+use lr_image::{ImageFault, Layout, room_for};
 use lr_rice::RiceFault;
 use std::alloc::Global;
-
-/// The lines for which memory is taken, before the first pixels are kept.
-#[derive(Clone, Copy)]
-pub(crate) struct Room {
-    pub columns: u16,
-    pub lines: u32,
-}
 
 /// What was kept of the strips of an image.
 #[derive(Drop)]
@@ -31,14 +25,17 @@ pub(crate) struct Keeping {
 }
 
 impl Keeping {
-    /// Takes what came of the next strip. The first pixels take memory for this room.
+    /// Takes what came of the next strip of this file's image. The first pixels take the memory for all that it has at
+    /// most.
     pub(crate) fn take(
         &mut self,
         alloc: Global,
-        room: Room,
+        file: &MissionFile,
+        layout: Layout,
         strip: &DoneStrip,
     ) -> Result<(), NoMemory>
-        requires { CanCount self.old strip.now }
+        requires count { CanCount self.old strip.now }
+        requires cut { CanBeCut file.now layout }
         ensures ok { OnOk result (Takes self.old self.new strip.now) }
         ensures err { OnErr result (self.new ≡ self.old) }
     {
@@ -48,7 +45,7 @@ impl Keeping {
         }
         match strip.outcome() {
             Ok(pixels) => {
-                append(alloc, room, &mut self.pixels, pixels)?;
+                append(alloc, file, layout, &mut self.pixels, pixels)?;
                 self.lines += strip.lines();
             }
             Err(fault) => self.fault = Some(fault_at(self.strips, fault)),
@@ -68,13 +65,22 @@ fn fault_at(number: u32, fault: RiceFault) -> ImageFault
     }
 }
 
-/// Appends pixels, or none of them. The first ones take memory for this room.
-fn append(alloc: Global, room: Room, kept: &mut Pixels, pixels: &[u16]) -> Result<(), NoMemory>
+/// Appends pixels, or none of them. The first ones take the memory for all that the file's image has at most.
+fn append(
+    alloc: Global,
+    file: &MissionFile,
+    layout: Layout,
+    kept: &mut Pixels,
+    pixels: &[u16],
+) -> Result<(), NoMemory>
+    requires { CanBeCut file.now layout }
     ensures ok { OnOk result (kept.new ≡ kept.old ++ pixels.now) }
     ensures err { OnErr result (kept.new ≡ kept.old) }
 {
     if kept.as_slice().is_empty() {
-        *kept = pixels_with_room(alloc, room.columns, room.lines)?;
+        let skipped = TRANSPORT_HEADER_BYTES + layout.header_bytes;
+        *kept = room_for(alloc, file, skipped, layout.shape)?;
+        kept.truncate(0);
     }
     extend(kept, pixels)
 }

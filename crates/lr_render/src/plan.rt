@@ -1,22 +1,24 @@
 //! The strips of an image, given one after another and kept again.
 
-ghost use Rattle.std.specs.Prelude.{◌≡◌, ◌<◌, ◌*◌, ◌^◌, ◌⊎◌, None};
+ghost use Rattle.std.specs.Prelude.{◌≡◌, ◌<◌, ◌*◌, ◌^◌, ◌⊎◌, None, Some};
 ghost use Rattle.std.specs.Prelude.{IfErr, IfNone, IfOk, IfSome, length};
 ghost use Rattle.lr_image.specs.Plain.{PixelsFail};
 ghost use Rattle.lr_image.specs.Reading.{HasLayout};
 ghost use Rattle.lr_image.specs.Shapes.{IsShape};
-ghost use Rattle.lr_image.specs.declared.fault.ImageFault.TheVariants.{NoMemory as WantOfMemory};
+ghost use Rattle.lr_bits.specs.File.{proper_of};
+ghost use Rattle.lr_headers.specs.Tiling.{first_fault};
+ghost use Rattle.lr_headers.specs.declared.fault.HeaderFault.{HeaderFault};
+ghost use Rattle.lr_image.specs.declared.fault.ImageFault.TheVariants.{Headers, NoMemory as WantOfMemory};
 ghost use Rattle.lr_render.specs.Giving.{CanBeCut, HasEnough};
 ghost use Rattle.lr_render.specs.Plans.{HasNoPlan};
 
 use crate::done::DoneStrip;
 use crate::giving::Giving;
-use crate::keeping::{Keeping, Room};
+use crate::keeping::Keeping;
 use crate::strip::Strip;
 use lr_bits::{MissionFile, NoMemory, Pixels, TRANSPORT_HEADER_BYTES};
 use lr_image::{
-    Image, ImageFault, Layout, Shape, first_piece, layout_of, missing_pixels, most_lines,
-    whole_image,
+    Image, ImageFault, Layout, Shape, first_piece, layout_of, missing_pixels, whole_image,
 };
 use std::alloc::Global;
 use std::marker::Model;
@@ -27,7 +29,6 @@ pub struct Plan {
     alloc: Global,
     file: MissionFile,
     layout: Layout,
-    room: Room,
     giving: Giving,
     keeping: Keeping,
 }
@@ -67,6 +68,8 @@ fn layout_to_cut(alloc: Global, file: &MissionFile) -> Result<Layout, ImageFault
     ensures ok { IfOk result (HasLayout file.now) }
     ensures cut { IfOk result (CanBeCut file.now) }
     ensures err { IfErr result (λ fault. (fault ≡ WantOfMemory) ⊎ HasNoPlan file.now fault) }
+    ensures first { (known : HeaderFault) → first_fault (proper_of file.now) ≡ Some known
+        → IfErr result (λ fault. fault ≡ Headers known) }
 {
     let layout = layout_of(alloc, file)?;
     let field = &file.proper()[layout.header_bytes..];
@@ -76,22 +79,12 @@ fn layout_to_cut(alloc: Global, file: &MissionFile) -> Result<Layout, ImageFault
     }
 }
 
-/// The room for the lines that the file has at most.
-fn room_for(file: &MissionFile, layout: Layout, skipped: usize) -> Room {
-    let structure = layout.shape.structure;
-    let lines = match layout.shape.lossless {
-        None => u32::from(structure.lines),
-        Some(lossless) => most_lines(file, first_piece(skipped), structure, lossless),
-    };
-    Room {
-        columns: structure.columns,
-        lines,
-    }
-}
-
 impl Plan {
-    ghost use Rattle.std.specs.Prelude.{◌≡◌, ◌<◌, ◌≤◌, ◌+◌, ◌⊎◌, IfErr, IfOk, OnErr, OnOk, length};
-    ghost use Rattle.lr_image.specs.declared.fault.ImageFault.TheVariants.{NoMemory as WantOfMemory};
+    ghost use Rattle.std.specs.Prelude.{◌≡◌, ◌<◌, ◌≤◌, ◌+◌, ◌⊎◌, IfErr, IfOk, OnErr, OnOk, Some, length};
+    ghost use Rattle.lr_bits.specs.File.{proper_of};
+    ghost use Rattle.lr_headers.specs.Tiling.{first_fault};
+    ghost use Rattle.lr_headers.specs.declared.fault.HeaderFault.{HeaderFault};
+    ghost use Rattle.lr_image.specs.declared.fault.ImageFault.TheVariants.{Headers, NoMemory as WantOfMemory};
     ghost use Rattle.lr_image.specs.Reading.{HasOutcome};
     ghost use Rattle.lr_render.specs.Plans.{GivesNext, HasNoPlan, IsNewPlan, IsStripAt, planned_strips};
 
@@ -99,18 +92,19 @@ impl Plan {
     pub fn new(alloc: Global, file: MissionFile) -> Result<Plan, ImageFault>
         ensures ok { IfOk result (IsNewPlan file) }
         ensures err { IfErr result (λ fault. (fault ≡ WantOfMemory) ⊎ HasNoPlan file fault) }
+        // A fault of the header's first record is found before memory is taken.
+        ensures first { (known : HeaderFault) → first_fault (proper_of file) ≡ Some known
+            → IfErr result (λ fault. fault ≡ Headers known) }
     {
         let layout = match layout_to_cut(alloc, &file) {
             Ok(layout) => layout,
             Err(fault) => return Err(fault),
         };
         let skipped = TRANSPORT_HEADER_BYTES + layout.header_bytes;
-        let room = room_for(&file, layout, skipped);
         Ok(Plan {
             alloc,
             file,
             layout,
-            room,
             giving: Giving {
                 strips: 0,
                 lines: 0,
@@ -135,15 +129,16 @@ impl Plan {
     }
 
     /// Keeps what came of the oldest strip that was given and not yet kept. The first strip that has pixels takes the
-    /// memory for those of all strips, but for no more lines than the file can have. Where that is refused the plan is
-    /// as it was, and the strip is let go.
+    /// memory for those of all strips (`lr_image::room_for`): for no more lines than the file can have. Where that is
+    /// refused the plan is as it was, and the strip is let go.
     pub fn keep(&mut self, strip: DoneStrip) -> Result<(), NoMemory>
         requires given { self.old.kept < self.old.given }
         requires oldest { IsStripAt self.old self.old.kept strip }
         ensures ok { OnOk result (self.new ≡ record self.old { kept = self.old.kept + 1 }) }
         ensures err { OnErr result (self.new ≡ self.old) }
     {
-        self.keeping.take(self.alloc, self.room, &strip)
+        self.keeping
+            .take(self.alloc, &self.file, self.layout, &strip)
     }
 
     /// The image, once every strip was given and kept, or its first fault. It takes no memory.

@@ -4,6 +4,7 @@ ghost use Rattle.std.specs.Prelude.{◌≡◌, ◌*◌, ◌≤◌, ◌↔◌, �
 ghost use Rattle.std.specs.Prelude.{OnErr, count_by, not};
 ghost use Rattle.lr_segment.specs.Canvas.{Adds, HasSizeOf, IsAssembled, Member, StandsFor, add_fault, member};
 ghost use Rattle.lr_segment.specs.Canvas.{new_fault};
+ghost use Rattle.lr_segment.specs.declared.fault.AssembleFault.{AssembleFault as Fault};
 ghost use Rattle.lr_segment.specs.declared.fault.AssembleFault.TheVariants.{NoMemory};
 
 use crate::AssembleFault;
@@ -42,6 +43,8 @@ impl Assembly {
         ensures kept { IfOk result (HasSizeOf segment.now bits) }
         ensures accepted { IfOk result (λ canvas. new_fault segment.now ≡ None) }
         ensures refused { IfErr result (λ fault. (fault ≡ NoMemory) ⊎ (new_fault segment.now ≡ Some fault)) }
+        // The size is looked at before memory is taken.
+        ensures first { (known : Fault) → new_fault segment.now ≡ Some known → IfErr result (λ fault. fault ≡ known) }
     {
         if let Some(fault) = new_fault(segment) {
             return Err(fault);

@@ -96,6 +96,11 @@ packets_with frame met =
 unfoldable pub open_after : Fields → List (List ℕ) → List (List ℕ)
 open_after frame met = continued_packets frame met ++ (if nat_lt frame.pointer 884 then opened_packets frame else [])
 
+-- no packet ends in the next frame of a channel, and none is open after it
+pub record KeepsNothing (channel : KeptChannel) (frame : Fields) : Type 0 where
+  pub none_ends : packets_with frame (met_by channel frame.counter) ≡ []
+  pub none_open : open_after frame (met_by channel frame.counter) ≡ []
+
 -- what is kept of a channel, before and after its next frame
 pub record TakesFrame (old new : KeptChannel) (frame : Fields) : Type 0 where
   pub counter : new.counter ≡ Some frame.counter

@@ -5,7 +5,7 @@ ghost use Rattle.std.specs.Prelude.{if◌then◌else◌, ◌==◌, ◌&&◌, nat
 ghost use Rattle.std.specs.Option.{option_to_list};
 ghost use Rattle.lr_vc.specs.Reading.{fields};
 ghost use Rattle.lr_vc.specs.Standing.{IsShort, nothing_kept};
-ghost use Rattle.lr_vc.specs.Steps.{KeepsFront, TakesFrame, follows, completed_packet, continued_packet};
+ghost use Rattle.lr_vc.specs.Steps.{KeepsFront, KeepsNothing, TakesFrame, follows, completed_packet, continued_packet};
 ghost use Rattle.lr_vc.specs.Steps.{packets_inside, met_by, completed_packets, continued_packets, opened_packets};
 ghost use Rattle.lr_vc.specs.Steps.{packets_with, open_after, start_of, is_nowhere, ends_at};
 
@@ -240,6 +240,7 @@ impl Channel {
         packets: &mut Vec<RawPacket>,
     ) -> Result<(), NoMemory>
         requires { IsShort self.old.open_packet }
+        ensures succeeds { KeepsNothing self.old (fields frame.now) → IsOk result }
         ensures frame { OnOk result (TakesFrame self.old self.new (fields frame.now)) }
         ensures packets { OnOk result (packets.new.items ≡
             packets.old.items ++ packets_with (fields frame.now) (met_by self.old frame.now.counter)) }

@@ -1,9 +1,10 @@
-ghost use Rattle.std.specs.Prelude.{◌≡◌, ◌≢◌, ℕ, ◌<◌, ◌≤◌, ◌+◌, ◌++◌, [], ◌∷◌, List, OnOk, OnErr, IsErr, length};
+ghost use Rattle.std.specs.Prelude.{◌≡◌, ◌≢◌, ℕ, ◌<◌, ◌≤◌, ◌+◌, ◌++◌, [], ◌∷◌, List, OnOk, OnErr, IsOk, IsErr, length};
+ghost use Rattle.std.specs.Prelude.{false};
 ghost use Rattle.lr_vc.specs.Frame.{Fields};
 ghost use Rattle.lr_vc.specs.Reading.{fields};
 ghost use Rattle.lr_vc.specs.Packets.{packets_at};
 ghost use Rattle.lr_vc.specs.Standing.{StandsFor, IsSpent, IsSmall, kept_at};
-ghost use Rattle.lr_vc.specs.Steps.{KeepsFront, TakesFrame, met_by, packets_with};
+ghost use Rattle.lr_vc.specs.Steps.{KeepsFront, KeepsNothing, TakesFrame, met_by, packets_with};
 
 use crate::TransferFrame;
 use crate::channel::Channel;
@@ -15,6 +16,7 @@ use std::marker::Model;
 fn reach(channels: &mut Vec<Channel>, channel: usize) -> Result<(), NoMemory>
     requires channel { channel < 63 }
     requires small { IsSmall channels.old.items }
+    ensures succeeds { channel < length channels.old.items → IsOk result }
     ensures reached { OnOk result (channel < length channels.new.items) }
     ensures same { (k : ℕ) → kept_at channels.new.items k ≡ kept_at channels.old.items k }
     ensures small { IsSmall channels.new.items }
@@ -34,6 +36,8 @@ fn push_to_channel(
 ) -> Result<(), NoMemory>
     requires channel { frame.now.vc < 63 }
     requires small { IsSmall channels.old.items }
+    ensures succeeds { frame.now.vc < length channels.old.items
+        → KeepsNothing (kept_at channels.old.items frame.now.vc) (fields frame.now) → IsOk result }
     ensures own { OnOk result (TakesFrame (kept_at channels.old.items frame.now.vc)
         (kept_at channels.new.items frame.now.vc) (fields frame.now)) }
     ensures others { (k : ℕ) → k ≢ frame.now.vc → kept_at channels.new.items k ≡ kept_at channels.old.items k }
@@ -98,6 +102,12 @@ impl Channels {
 
         // Fill adds nothing and changes nothing.
         ensures fill { frame.now.vc ≡ 63 → (self.new ≡ self.old) × (packets.new.items ≡ packets.old.items) }
+
+        // Fill takes no memory; nor does a frame of a channel that is kept already, if no packet ends in it and none is
+        // open after it.
+        ensures fill_succeeds { self.old.spent ≡ false → frame.now.vc ≡ 63 → IsOk result }
+        ensures succeeds { self.old.spent ≡ false → frame.now.vc < length self.old.channels
+            → KeepsNothing (kept_at self.old.channels frame.now.vc) (fields frame.now) → IsOk result }
 
         // At most the open packet and one for each byte of the zone.
         ensures few { OnOk result (length packets.new.items ≤ length packets.old.items + 885) }

@@ -1,4 +1,4 @@
-use Rattle.std.proofs.Common.{◌≡◌, Option, Some, None, sym, ap, ◌∙◌, subst}
+use Rattle.std.proofs.Common.{◌≡◌, Option, Some, None, sym, ap, ◌∙◌, subst, rules, arith}
 use Rattle.lr_packet.specs.Reading.{good}
 use Rattle.lr_file.specs.Standing.{Open, kept_of_key}
 use Rattle.lr_file.specs.Steps.{SetsKey, file_with}
@@ -55,3 +55,6 @@ returns-then-is_followed_by-clause-succeeds c none =
     let goes_on = continued_file-some (kept_of_key old.entries p.vc p.apid) c.in-Some.file.now p some
     (sym c.if-is_followed_by.ensures) in
     absurd (cc (goes_on, none))
+
+pub returns-in_default-clause-succeeds : goal.returns-in_default-clause-succeeds
+returns-in_default-clause-succeeds c = search (rules, arith)

@@ -12,7 +12,7 @@ loop-done-init c =
     let pieces = pieces_after c.args.skipped c.args.file.now.bodies in
     record {
       inside = rw c.first_piece-place.ensures (first_in c.args.file.now c.args.skipped);
-      partway = rw (c.in-Ok.ensures, c.first_piece-place.ensures)
+      partway = rw (c.truncate.ensures, c.first_piece-place.ensures)
           (starts (line_form c.args.structure c.args.lossless) c.args.lossless.lines c.args.structure.lines pieces);
     }
 

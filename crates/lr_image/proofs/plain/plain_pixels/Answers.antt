@@ -1,4 +1,4 @@
-use Rattle.std.proofs.Common.{◌≡◌, ◌∙◌, ℕ, length, replicate, ap, refl, subst}
+use Rattle.std.proofs.Common.{◌≡◌, ◌∙◌, ℕ, length, replicate, ap, refl, subst, rules, arith}
 use Rattle.std.proofs.lemmas.List.{length-replicate}
 use Rattle.lr_bits.specs.Bits.{bits_of}
 use Rattle.lr_image.specs.Plain.{BeginsWithPixels}
@@ -14,3 +14,6 @@ returns-clause-ok c =
     subst (λ (n : ℕ). BeginsWithPixels c.args.bits n (bits_of c.args.bytes.now) c.read_pixels.new.pixels) size
     c.read_pixels.ensures in
     rw (written_over count c.in-Ok.pixels c.read_pixels.new.pixels _ c.in-Ok.ensures read.count refl) read
+
+pub returns-in-Some-clause-first : goal.returns-in-Some-clause-first
+returns-in-Some-clause-first c = search (rules, arith)

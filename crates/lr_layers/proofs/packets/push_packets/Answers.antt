@@ -1,13 +1,13 @@
 use Rattle.std.proofs.Common.{◌≡◌, ◌≤◌, ◌+◌, ◌++◌, ◌∷◌, [], List, length, take, map, ap, ◌∙◌, sym, subst, arith}
 use Rattle.std.proofs.Common.{length-append}
-use Rattle.std.specs.Prelude.{Bool, if◌then◌else◌}
+use Rattle.std.specs.Prelude.{Bool, IsOk, if◌then◌else◌}
 use Rattle.std.proofs.lemmas.List.{take_all, map-append}
 use Rattle.lr_bits.specs.declared.outcome.Outcome.{Outcome}
 use Rattle.lr_packet.specs.Verdict.{Good, good_packets}
 use Rattle.lr_file.specs.Standing.{StandsFor}
 use Rattle.lr_layers.specs.Origins.{PlacedPacket, packet_of, at_place}
 use Rattle.lr_layers.specs.Starts.{IsNow, Joins, StartsStandFor}
-use Rattle.lr_layers.proofs.Joining.{joins_more, good_more, keeps_on}
+use Rattle.lr_layers.proofs.Joining.{joins_more, good_more, none_good, keeps_on}
 use Rattle.lr_layers.proofs.packets.push_packets.Goals as goal
 use Rattle.lr_layers.proofs.packets.push_packets.Goals.{then-branch, else-branch}
 
@@ -70,3 +70,9 @@ returns-clause-joins c outcomes before stand begun is =
     c.args.out.now.items c.loop-raw.out.items)
     (take_all c.loop-raw.raw-index c.args.packets.now c.loop-raw-test.false)
     (c.loop-raw.invariant.joins outcomes before stand begun is)
+
+pub returns-in_err-push_packet-clause-succeeds : goal.returns-in_err-push_packet-clause-succeeds
+returns-in_err-push_packet-clause-succeeds c none =
+    let ok = c.push_packet.ensures.succeeds (none_good c.args.packets.now c.loop-raw.raw-index c.raw-item.result
+    c.loop-raw-test.true c.raw-item.is none) in
+    absurd (cc (subst (λ r. IsOk r) c.in_err-push_packet.was ok))

@@ -41,3 +41,7 @@ loop-place-preserved c =
     ∙ ap (λ k. c.args.lines.now ++ (lines_from c.args.first before ++ packet_line (c.args.first + k) packet)) (sym long)
     ∙ ap (λ l. c.args.lines.now ++ l) (sym (lines_from-push c.args.first before packet))
     ∙ ap (λ l. c.args.lines.now ++ lines_from c.args.first l) (sym more)
+
+pub returns-in_err-packet_line-clause-succeeds : goal.returns-in_err-packet_line-clause-succeeds
+returns-in_err-packet_line-clause-succeeds c none =
+    absurd (omega (arith, c.loop-place-test.true, ap length none))

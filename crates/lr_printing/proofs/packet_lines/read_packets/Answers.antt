@@ -1,4 +1,5 @@
-use Rattle.std.proofs.Common.{◌++◌, ◌∷◌, [], List, length, subst, sym, ap, ◌∙◌, append-nil}
+use Rattle.std.proofs.Common.{◌++◌, ◌∷◌, [], List, length, subst, sym, ap, ◌∙◌, append-nil, rules, arith}
+use Rattle.std.specs.Result.{IsErr}
 use Rattle.lr_vc.specs.Frame.{Fields}
 use Rattle.lr_vc.specs.Reading.{fields}
 use Rattle.lr_vc.specs.Packets.{packets_at}
@@ -38,3 +39,12 @@ returns-in-Err-clause-packets c =
     (added_is frames c.args.frame.now []
     (packets_read-bad frames c.args.frame.now c.in-Err.field-0.0 (sym c.in-Err.ensures)))
     ∙ append-nil c.args.packets.now.items)
+
+pub returns-in-Ok-clause-succeeds : goal.returns-in-Ok-clause-succeeds
+returns-in-Ok-clause-succeeds c bad = absurd (cc (subst (λ r. IsErr r) (sym c.in-Ok.ensures) bad))
+
+pub returns-in-Ok-clause-none : goal.returns-in-Ok-clause-none
+returns-in-Ok-clause-none c bad = absurd (cc (subst (λ r. IsErr r) (sym c.in-Ok.ensures) bad))
+
+pub returns-in-Err-clause-succeeds : goal.returns-in-Err-clause-succeeds
+returns-in-Err-clause-succeeds c = search (rules, arith)

@@ -161,3 +161,6 @@ returns-clause-open_packet c =
     let end : c.end_across-end.result ≡ packet_end (b ++ z) 0 =
     c.end_across-end.ensures.end ∙ ap (λ s. packet_end (s ++ z) 0) c.as_slice.ensures in
     sym (continued_packet-short b z c.args.frame.now.pointer (omega arith))
+
+pub returns-then-not-is_nowhere-clause-succeeds : goal.returns-then-not-is_nowhere-clause-succeeds
+returns-then-not-is_nowhere-clause-succeeds c = search (rules, arith)

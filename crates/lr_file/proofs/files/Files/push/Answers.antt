@@ -1,8 +1,8 @@
-use Rattle.std.proofs.Common.{◌≤◌, Option, length, sym, ◌∙◌, subst, rules, arith}
+use Rattle.std.proofs.Common.{◌≡◌, ◌≤◌, Option, length, sym, ap, ◌∙◌, subst, rules, arith}
 use Rattle.lr_bits.specs.File.{File}
 use Rattle.lr_packet.specs.Reading.{good}
-use Rattle.lr_file.specs.Standing.{Open, Kept, StandsFor}
-use Rattle.lr_file.specs.Steps.{IsFileOf, completed_file}
+use Rattle.lr_file.specs.Standing.{Open, Kept, StandsFor, kept_of_key}
+use Rattle.lr_file.specs.Steps.{IsFileOf, JoinsNothing, completed_file}
 use Rattle.lr_file.proofs.KeyLemmas.{on_ok, if_ok}
 use Rattle.lr_file.proofs.Histories.{stands_next, file_at-built}
 use Rattle.lr_file.proofs.files.Files.push.Goals as goal
@@ -34,3 +34,10 @@ returns-clause-file c =
 
 pub returns-clause-spends : goal.returns-clause-spends
 returns-clause-spends c = search (rules, arith)
+
+pub returns-clause-succeeds : goal.returns-clause-succeeds
+returns-clause-succeeds c unspent none =
+    let p = good c.args.packet.now in
+    let seen : kept_of_key c.args.self.now.files p.vc p.apid ≡ kept_of_key c.self.inside.files.entries p.vc p.apid =
+    ap (λ (kept : Kept). kept_of_key kept.files p.vc p.apid) (sym c.self.view_is) in
+    c.join-result.ensures.succeeds (subst (λ (kept : Option Open). JoinsNothing kept p) seen none)

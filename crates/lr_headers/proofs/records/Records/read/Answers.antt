@@ -16,3 +16,6 @@ loop-place-preserved c =
     let front = front_more bytes c.loop-place.entries.items place e c.loop-place.invariant.front
     c.in_ok-entry.ensures.ok in
     record { front = rw (items, step) front; within = omega arith }
+
+pub returns-in_err-end-clause-first : goal.returns-in_err-end-clause-first
+returns-in_err-end-clause-first c = search (rules, arith)

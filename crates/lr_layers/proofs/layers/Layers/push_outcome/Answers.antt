@@ -1,11 +1,12 @@
-use Rattle.std.proofs.Common.{◌+◌, ◌++◌, ◌∷◌, [], add-zero, ap, ◌∙◌, sym, subst, refl}
+use Rattle.std.proofs.Common.{◌≡◌, ◌+◌, ◌++◌, ◌∷◌, [], Some, add-zero, ap, ◌∙◌, sym, subst, refl, rules, arith}
+use Rattle.std.specs.Prelude.{IsOk}
 use Rattle.lr_bits.specs.declared.outcome.Outcome.{Outcome}
 use Rattle.lr_bits.specs.declared.outcome.Outcome.TheVariants.{Restored, Lost}
 use Rattle.lr_vc.specs.Reading.{fields}
-use Rattle.lr_layers.specs.Layers.{frames_of_outcomes}
+use Rattle.lr_layers.specs.Layers.{frame_in, frames_of_outcomes, is_fill}
 use Rattle.lr_layers.specs.Origins.{placed_packets}
 use Rattle.lr_layers.specs.Standing.{Kept, StandsFor, AddsFiles, numbers}
-use Rattle.lr_layers.proofs.Pushing.{pushed_none, pushed_frame, now_is, files_before, starts_before}
+use Rattle.lr_layers.proofs.Pushing.{fill_channel, pushed_none, pushed_frame, now_is, files_before, starts_before}
 use Rattle.lr_layers.proofs.layers.Layers.push_outcome.Goals as goal
 
 pub returns-in-Lost-clause-stands : goal.returns-in-Lost-clause-stands
@@ -199,3 +200,29 @@ returns-in-Ok-clause-files c outcomes h =
     (ap (λ k. k + 1) counts.restored) (counts.lost ∙ sym (add-zero n.lost)) counts.bad_versions counts.fill
     (ap (λ k. k + g.packets) counts.packets) (ap (λ k. k + g.files) counts.files) in
     subst (λ (o : Outcome). AddsFiles outcomes o files c.push_frame-gained.new.out.items) (sym c.in-Restored.is) both.1
+
+pub returns-in-Err-clause-succeeds : goal.returns-in-Err-clause-succeeds
+returns-in-Err-clause-succeeds c unspent none =
+    let some : Some (fields c.in-Some.frame) ≡ frame_in c.args.outcome.now =
+    c.in-Some.ensures.frame ∙ ap frame_in (sym c.in-Restored.is) in
+    absurd (cc (some, none))
+
+pub returns-in-Err-clause-fill : goal.returns-in-Err-clause-fill
+returns-in-Err-clause-fill c outcomes stands fill =
+    let i = c.self.inside in
+    let old : Kept = record {
+      spent = i.spent;
+      channels = i.channels;
+      files = i.files;
+      starts = i.starts;
+      corrected = i.corrected;
+      numbers = numbers i.counts;
+    } in
+    let stood : StandsFor old outcomes = subst (λ (k : Kept). StandsFor k outcomes) (sym c.self.view_is) stands in
+    let vc = fill_channel c.in-Restored.corrected c.in-Restored.bytes (fields c.in-Some.frame)
+    c.in-Some.ensures.frame (ap is_fill (sym c.in-Restored.is) ∙ fill) in
+    let ok = c.push_frame-gained.ensures.fill stood.channels.unspent vc in
+    absurd (cc (subst (λ r. IsOk r) c.in-Err.is ok))
+
+pub returns-in-Lost-clause-succeeds : goal.returns-in-Lost-clause-succeeds
+returns-in-Lost-clause-succeeds c = search (rules, arith)

@@ -3,8 +3,11 @@ use Rattle.lr_render.specs.Plans.{IsStripAt, PlanView}
 use Rattle.lr_render.proofs.Planning.{can_count, kept_or_not}
 use Rattle.lr_render.proofs.plan.Plan.keep.Goals as goal
 
-pub take-requires : goal.take-requires
-take-requires c = can_count c.self.invariant c.args.strip
+pub take-requires-clause-cut : goal.take-requires-clause-cut
+take-requires-clause-cut c = c.self.invariant.cut
+
+pub take-requires-clause-count : goal.take-requires-clause-count
+take-requires-clause-count c = can_count c.self.invariant c.args.strip
     (subst (λ (v : PlanView). IsStripAt v v.kept c.args.strip) (sym c.self.view_is) c.requires.oldest)
 
 pub invariant_of-self : goal.invariant_of-self

@@ -1,4 +1,5 @@
-use Rattle.std.proofs.Common.{◌≤◌, refl, rules}
+use Rattle.std.proofs.Common.{◌≤◌, length-drop, refl, arith, rules}
+use Rattle.lr_bits.specs.File.{bytes_of}
 use Rattle.lr_render.proofs.Planning.{are_strips, new_plan}
 use Rattle.lr_render.proofs.plan.Plan.new.Goals as goal
 
@@ -19,3 +20,8 @@ returns-clause-ok c = record {
   none_given = refl;
   none_kept = refl;
 }
+
+pub overflow_add-skipped : goal.overflow_add-skipped
+overflow_add-skipped c =
+    let cut = c.in-Ok.ensures.cut in
+    omega (arith, cut.inside, length-drop 10 (bytes_of c.args.file), cut.is_file.most)

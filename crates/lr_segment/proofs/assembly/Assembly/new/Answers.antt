@@ -1,4 +1,4 @@
-use Rattle.std.proofs.Common.{◌≡◌, ◌*◌, ℕ, false, replicate, ap, ◌∙◌, refl, rules}
+use Rattle.std.proofs.Common.{◌≡◌, ◌*◌, ℕ, false, replicate, ap, ◌∙◌, refl, rules, arith}
 use Rattle.lr_segment.proofs.CanvasLemmas.{new_canvas, no_members}
 use Rattle.lr_segment.proofs.assembly.Assembly.new.Goals as goal
 
@@ -18,3 +18,6 @@ returns-clause-stands c =
     let noted : c.in-Ok-vec.covered.items ≡ replicate (c.from.result * c.from-2.result) false = search rules in
     no_members c.args.bits s.columns s.lines c.in-Ok.pixels c.in-Ok-vec.covered.items
     (c.in-Ok.ensures ∙ ap (λ (n : ℕ). replicate n 0) size) (noted ∙ ap (λ (n : ℕ). replicate n false) size)
+
+pub returns-in-Some-clause-first : goal.returns-in-Some-clause-first
+returns-in-Some-clause-first c = search (rules, arith)
