@@ -16,10 +16,10 @@ use std::io::Read;
 const COLUMNS: usize = 1_024;
 
 /// The room of the shelf, and of the text.
-const ROOM: u64 = 1 << 24;
+pub(crate) const ROOM: u64 = 1 << 26;
 
-/// The most calls on the disk. A round needs fewer than ten.
-const CALLS: u64 = 1 << 16;
+/// The most calls on the disk. A round over one image needs fewer than ten.
+const CALLS: u64 = 1 << 32;
 
 /// How many bytes at the front and at the end of a text are summed.
 const SUMMED: usize = 64;
@@ -50,7 +50,11 @@ fn coded_header(shape: Shape) -> Option<[u8; 42]> {
 }
 
 /// A file of an image in which this coded piece stands many times.
-fn coded_file(alloc: Global, shape: Shape, piece: &[u8]) -> Result<MissionFile, Trouble> {
+pub(crate) fn coded_file(
+    alloc: Global,
+    shape: Shape,
+    piece: &[u8],
+) -> Result<MissionFile, Trouble> {
     let (Some(header), Ok(length)) = (coded_header(shape), u16::try_from(piece.len())) else {
         return Err(Trouble::NoFile);
     };
@@ -66,7 +70,7 @@ fn coded_file(alloc: Global, shape: Shape, piece: &[u8]) -> Result<MissionFile, 
 }
 
 /// A file of this image, whose pixels are drawn, in a body for each line.
-fn image_file(alloc: Global) -> Result<MissionFile, Trouble> {
+pub(crate) fn image_file(alloc: Global) -> Result<MissionFile, Trouble> {
     let mut lengths = Lengths::new(alloc);
     let mut bytes = Bytes::new(alloc);
     lengths.push(HEADER.len() as u16)?;
@@ -84,8 +88,8 @@ fn image_file(alloc: Global) -> Result<MissionFile, Trouble> {
     MissionFile::build(0, 100, lengths, bytes).ok_or(Trouble::NoFile)
 }
 
-/// A shelf in memory with this file.
-fn with_file(alloc: Global, file: MissionFile) -> Result<MemDisk, Trouble> {
+/// A shelf in memory with these files.
+pub(crate) fn shelf_with(alloc: Global, files: Vec<MissionFile>) -> Result<MemDisk, Trouble> {
     let origin = Origin {
         first: 0,
         last: 0,
@@ -94,8 +98,17 @@ fn with_file(alloc: Global, file: MissionFile) -> Result<MemDisk, Trouble> {
     let mut disk = MemDisk::of(alloc, Vec::new(alloc), ROOM, CALLS)?;
     Shelf::init(&mut disk, ROOM)?;
     let mut shelf = Shelf::load(alloc, &mut disk)?;
-    shelf.append(&mut disk, &Placed { file, origin })?;
+    for file in files {
+        shelf.append(&mut disk, &Placed { file, origin })?;
+    }
     Ok(disk)
+}
+
+/// A shelf in memory with this file.
+fn with_file(alloc: Global, file: MissionFile) -> Result<MemDisk, Trouble> {
+    let mut files = Vec::new(alloc);
+    files.push(file).map_err(|_| Trouble::Memory)?;
+    shelf_with(alloc, files)
 }
 
 /// The status of each round, how long the text is, and its ends.

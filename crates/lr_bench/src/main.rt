@@ -11,8 +11,9 @@
 //! many files and counts the calls of the disk. `export` writes an image of 1,024 columns and lines as PGM, from a
 //! shelf in memory. `all` does `rs`, `path`, `lanes`, `narrow`, `lock`, `frame`, `layers`, `shelf-stream` and
 //! `shelf-memory`. A line for each says the rounds and what came of them, or a checksum of it.
-//! `lines`, `samples` and `export-lossless` have more words, and read coded lines from standard input; `code` and
-//! `coded` read samples, and code their lines.
+//! `render` writes several such images, by `render` or by `export` of each.
+//! `lines`, `samples`, `export-lossless` and `render-lossless` have more words, and read coded lines from standard
+//! input; `code` and `coded` read samples, and code their lines.
 #![tactic(auto)]
 
 mod coding;
@@ -21,6 +22,7 @@ mod layers;
 mod lines;
 mod lock;
 mod path;
+mod render;
 mod shelf;
 mod sums;
 mod words;
@@ -42,6 +44,12 @@ fn main(rt: HostRuntime) -> Result<(), Trouble> {
     }
     if name == "export-lossless" {
         return export::run_lossless(&rt, &words[1..]);
+    }
+    if name == "render" {
+        return render::run_plain(&rt, &rt, &words[1..]);
+    }
+    if name == "render-lossless" {
+        return render::run_lossless(&rt, &rt, &words[1..]);
     }
     let rounds = rounds.as_str().parse::<u32>().unwrap_or(0);
     words::run(&rt, name, rounds)?;

@@ -35,7 +35,7 @@ use Rattle.lr_causes.specs.declared.fault.BundleFlaw.{BundleFlaw}
 use Rattle.lr_causes.specs.declared.fault.BundleFlaw.TheVariants.{Ended, Count, Rest, TooLong}
 use Rattle.lr_causes.specs.declared.fault.ExportFault.{ExportFault}
 use Rattle.lr_causes.specs.declared.note.Note.{Note}
-use Rattle.lr_causes.specs.declared.note.Note.TheVariants.{Assembled}
+use Rattle.lr_causes.specs.declared.note.Note.TheVariants.{Assembled, Rendered}
 use Rattle.lr_causes.specs.Faults.{coding_word, word_of}
 
 abbrev pub status_of : Cause → ℕ
@@ -60,6 +60,8 @@ status_of (Refused (CannotRepack fault)) = 16
 abbrev pub note_line : Note → List ℕ
 note_line (Assembled added skipped uncovered) = codes "assembled " ++ decimal added ++ codes " skipped "
     ++ decimal skipped ++ codes " uncovered " ++ decimal uncovered ++ codes "\n"
+note_line (Rendered images skipped) = codes "rendered " ++ decimal images ++ codes " skipped " ++ decimal skipped
+    ++ codes "\n"
 
 -- why what was read is no bundle of recordings
 abbrev pub bundle_line : BundleFlaw → List ℕ

@@ -127,15 +127,10 @@ fn bundle_line(flaw: BundleFlaw) -> Line
     }
 }
 
-/// The line of work that is done.
-fn note_line(note: Note) -> Line
-    ensures { result ≡ line_of (Cause.DoneWith note) }
+/// The line of segments that were put together.
+fn assembled_line(added: u64, skipped: u64, uncovered: u64) -> Line
+    ensures { result ≡ line_of (Cause.DoneWith (Note.Assembled added skipped uncovered)) }
 {
-    let Note::Assembled {
-        added,
-        skipped,
-        uncovered,
-    } = note;
     let mut line = Line::new();
     line.push(b"assembled ");
     line.number(added);
@@ -145,6 +140,33 @@ fn note_line(note: Note) -> Line
     line.number(uncovered);
     line.push(b"\n");
     line
+}
+
+/// The line of images that were put.
+fn rendered_line(images: u64, skipped: u64) -> Line
+    ensures { result ≡ line_of (Cause.DoneWith (Note.Rendered images skipped)) }
+{
+    let mut line = Line::new();
+    line.push(b"rendered ");
+    line.number(images);
+    line.push(b" skipped ");
+    line.number(skipped);
+    line.push(b"\n");
+    line
+}
+
+/// The line of work that is done.
+fn note_line(note: Note) -> Line
+    ensures { result ≡ line_of (Cause.DoneWith note) }
+{
+    match note {
+        Note::Assembled {
+            added,
+            skipped,
+            uncovered,
+        } => assembled_line(added, skipped, uncovered),
+        Note::Rendered { images, skipped } => rendered_line(images, skipped),
+    }
 }
 
 fn fixed_line(text: &[u8]) -> Line

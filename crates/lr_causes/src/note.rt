@@ -8,4 +8,9 @@ pub enum Note {
         skipped: u64,
         uncovered: u64,
     },
+    /// This many images were put, and this many files were skipped since they have none.
+    Rendered {
+        images: u64,
+        skipped: u64,
+    },
 }

@@ -55,6 +55,7 @@ use Rattle.lr_commands.specs.Asked.{
   IsBegun,
   without_last,
 }
+use Rattle.lr_commands.specs.Reached.{Reaches}
 use Rattle.lr_commands.proofs.Seeing.{seen_once}
 
 -- a text was given or refused, not both
@@ -181,78 +182,72 @@ begun_front asked bytes passed left text answer (inr begun) (inr some) =
 -- ---- what was read
 
 module _ (asked : Asked) (bytes : List ℕ) (way : Way) (from : ℕ) where
-  -- The entries before this number were read, and their texts are this text: wherever the range ends after them, and
-  -- whatever comes last.
-  pub record Reaches (number : ℕ) (read : List Seen) (text : List ℕ) : Type 0 where
-    pub on : (last : Way → List Seen → Result (List ℕ) Refusal) (tells : List Seen → Option Note) (to : ℕ)
-        → number ≤ to → (rest : Answer)
-        → AnswersFrom (record asked { last = last; tells = tells }) bytes way (to - number) number read rest
-        → AnswersFrom (record asked { last = last; tells = tells }) bytes way (to - from) from []
-        (then_rest text rest)
-
-  pub reaches_first : Reaches from [] []
+  pub reaches_first : Reaches asked bytes way from from [] []
   reaches_first = record { on = λ last tells to inside rest is. is }
 
-  module _ (number : ℕ) (read : List Seen) (text : List ℕ) (reaches : Reaches number read text) where
-    together : (one : List ℕ) (rest : Answer)
-        → then_rest text (then_rest one rest) ≡ then_rest (text ++ one) rest
-    together one rest =
-        ap (λ (t : List ℕ). record { text = t; refusal = rest.refusal; note = rest.note })
-        (sym (append_assoc text one rest.text))
+  module _ (number : ℕ) (read : List Seen) (text : List ℕ) (reaches : Reaches asked bytes way from number read text)
+    where
+      together : (one : List ℕ) (rest : Answer)
+          → then_rest text (then_rest one rest) ≡ then_rest (text ++ one) rest
+      together one rest =
+          ap (λ (t : List ℕ). record { text = t; refusal = rest.refusal; note = rest.note })
+          (sym (append_assoc text one rest.text))
 
-    -- one entry more
-    pub reaches_more : (seen : Seen) → IsSeen asked.looks bytes (entry_at way number) (Some seen) → (one : List ℕ)
-        → asked.becomes read number seen ≡ Ok one → Reaches (number + 1) (read ++ seen ∷ []) (text ++ one)
-    reaches_more seen stands one fate = record {
-      on = λ last tells to inside rest is.
-          let left : to - number ≡ suc (to - (number + 1)) = omega (arith, inside) in
-          subst (AnswersFrom (record asked { last = last; tells = tells }) bytes way (to - from) from [])
-          (together one rest)
-          (reaches.on last tells to (omega (arith, inside)) (then_rest one rest)
-          (subst
-          (λ n. AnswersFrom (record asked { last = last; tells = tells }) bytes way n number read (then_rest one rest))
-          (sym left)
-          (inl (record {
-            seen = seen;
-            text = one;
-            rest = rest;
-            stands = stands;
-            fate = fate;
-            after = is;
-            is = refl;
-          }))));
-    }
+      -- one entry more
+      pub reaches_more : (seen : Seen) → IsSeen asked.looks bytes (entry_at way number) (Some seen) → (one : List ℕ)
+          → asked.becomes read number seen ≡ Ok one
+          → Reaches asked bytes way from (number + 1) (read ++ seen ∷ []) (text ++ one)
+      reaches_more seen stands one fate = record {
+        on = λ last tells to inside rest is.
+            let left : to - number ≡ suc (to - (number + 1)) = omega (arith, inside) in
+            let whole = then_rest one rest in
+            subst (AnswersFrom (record asked { last = last; tells = tells }) bytes way (to - from) from [])
+            (together one rest)
+            (reaches.on last tells to (omega (arith, inside)) whole
+            (subst
+            (λ n. AnswersFrom (record asked { last = last; tells = tells }) bytes way n number read whole)
+            (sym left)
+            (inl (record {
+              seen = seen;
+              text = one;
+              rest = rest;
+              stands = stands;
+              fate = fate;
+              after = is;
+              is = refl;
+            }))));
+      }
 
-    -- the run is refused here
-    pub refused_here : (to : ℕ) → number < to → (seen : Option Seen) (refusal : Refusal)
-        → IsSeen asked.looks bytes (entry_at way number) seen → fate_of asked way read number seen ≡ Err refusal
-        → AnswersFrom asked bytes way (to - from) from [] (refused_answer text refusal)
-    refused_here to more seen refusal stands fate =
-        let left : to - number ≡ suc (to - (number + 1)) = omega (arith, more) in
-        subst
-        (λ (t : List ℕ). AnswersFrom asked bytes way (to - from) from []
-        (refused_answer t refusal)) (append-nil text)
-        (reaches.on asked.last asked.tells to (omega (arith, more)) (refused_answer [] refusal)
-        (subst (λ n. AnswersFrom asked bytes way n number read (refused_answer [] refusal)) (sym left)
-        (inr (record { seen = seen; refusal = refusal; stands = stands; fate = fate; is = refl }))))
+      -- the run is refused here
+      pub refused_here : (to : ℕ) → number < to → (seen : Option Seen) (refusal : Refusal)
+          → IsSeen asked.looks bytes (entry_at way number) seen → fate_of asked way read number seen ≡ Err refusal
+          → AnswersFrom asked bytes way (to - from) from [] (refused_answer text refusal)
+      refused_here to more seen refusal stands fate =
+          let left : to - number ≡ suc (to - (number + 1)) = omega (arith, more) in
+          subst
+          (λ (t : List ℕ). AnswersFrom asked bytes way (to - from) from []
+          (refused_answer t refusal)) (append-nil text)
+          (reaches.on asked.last asked.tells to (omega (arith, more)) (refused_answer [] refusal)
+          (subst (λ n. AnswersFrom asked bytes way n number read (refused_answer [] refusal)) (sym left)
+          (inr (record { seen = seen; refusal = refusal; stands = stands; fate = fate; is = refl }))))
 
-    -- the texts before this number
-    pub begun_before : AnswersFrom (without_last asked) bytes way (number - from) from []
-        (done_answer text None)
-    begun_before =
-        let none : number - number ≡ 0 = omega arith in
-        subst
-        (λ (t : List ℕ). AnswersFrom (without_last asked) bytes way (number - from) from []
-        (done_answer t None)) (append-nil text)
-        (reaches.on (λ w r. Ok []) (λ r. None) number (omega arith) (done_answer [] None)
-        (subst (λ n. AnswersFrom (without_last asked) bytes way n number read (done_answer [] None)) (sym none) refl))
+      -- the texts before this number
+      pub begun_before : AnswersFrom (without_last asked) bytes way (number - from) from []
+          (done_answer text None)
+      begun_before =
+          let none : number - number ≡ 0 = omega arith in
+          subst
+          (λ (t : List ℕ). AnswersFrom (without_last asked) bytes way (number - from) from []
+          (done_answer t None)) (append-nil text)
+          (reaches.on (λ w r. Ok []) (λ r. None) number (omega arith) (done_answer [] None)
+          (subst (λ n. AnswersFrom (without_last asked) bytes way n number read (done_answer [] None)) (sym none) refl))
 
-    -- all were read
-    pub ends_here : (to : ℕ) → number ≤ to → to ≤ number → (last : Result (List ℕ) Refusal)
-        → asked.last way read ≡ last
-        → AnswersFrom asked bytes way (to - from) from [] (then_rest text (answer_of last (asked.tells read)))
-    ends_here to inside all last is =
-        let none : to - number ≡ 0 = omega (arith, all) in
-        reaches.on asked.last asked.tells to (omega (arith, inside)) (answer_of last (asked.tells read))
-        (subst (λ n. AnswersFrom asked bytes way n number read (answer_of last (asked.tells read))) (sym none)
-        (ap (λ (l : Result (List ℕ) Refusal). answer_of l (asked.tells read)) (sym is)))
+      -- all were read
+      pub ends_here : (to : ℕ) → number ≤ to → to ≤ number → (last : Result (List ℕ) Refusal)
+          → asked.last way read ≡ last
+          → AnswersFrom asked bytes way (to - from) from [] (then_rest text (answer_of last (asked.tells read)))
+      ends_here to inside all last is =
+          let none : to - number ≡ 0 = omega (arith, all) in
+          reaches.on asked.last asked.tells to (omega (arith, inside)) (answer_of last (asked.tells read))
+          (subst (λ n. AnswersFrom asked bytes way n number read (answer_of last (asked.tells read))) (sym none)
+          (ap (λ (l : Result (List ℕ) Refusal). answer_of l (asked.tells read)) (sym is)))

@@ -7,6 +7,7 @@ pub mod Filing
 pub mod Loading
 pub mod Reading
 pub mod Reasons
+pub mod Rendering
 pub mod Repacking
 pub mod Seeing
 pub mod Taking

@@ -65,8 +65,8 @@ use Rattle.lr_commands.specs.Runs.{Counted, PutsAll, PutsFirst, PutsRefused, Put
 use Rattle.lr_commands.specs.Steps.{PutsText, CutsText, TextStops, TakesEntry, EntryStops}
 use Rattle.lr_commands.specs.Read.{AreSeen, HasGathered, IsDone}
 use Rattle.lr_commands.proofs.Reading.{none_seen, one_more_seen, concat-push}
+use Rattle.lr_commands.specs.Reached.{SoFar}
 use Rattle.lr_commands.proofs.Answering.{
-  Reaches,
   reaches_first,
   reaches_more,
   refused_here,
@@ -85,22 +85,7 @@ use Rattle.lr_commands.proofs.Texts.{
 
 module _ {D O : Type 0} (disk : DiskOf D) (out : SinkOf O) (asked : Asked) (way : Way) (range : Range) (d : D)
     (o : O) where
-  -- the entries before this number were read, and their texts put
-  pub record SoFar (gathers : List Seen → Type 0) (number : ℕ) (o1 : O) : Type 0 where
-    pub read : List Seen
-    pub text : List ℕ
-    pub gathered : gathers read
-    pub few : length read ≤ number
-    pub after : range.from ≤ number
-    pub puts : Puts out text o o1
-    pub untouched : number ≡ range.from → o1 ≡ o
-    pub reaches : disk.tells d → Reaches asked (disk.contents d) way range.from number read text
-    pub texts : List (List ℕ)
-    pub joined : text ≡ concat texts
-    pub all : length read ≡ number - range.from
-    pub seen : disk.tells d → AreSeen asked (disk.contents d) way range.from read texts
-
-  pub so_first : (gathers : List Seen → Type 0) → gathers [] → SoFar gathers range.from o
+  pub so_first : (gathers : List Seen → Type 0) → gathers [] → SoFar disk out asked way range d o gathers range.from o
   so_first gathers fresh = record {
     read = [];
     text = [];
@@ -116,7 +101,8 @@ module _ {D O : Type 0} (disk : DiskOf D) (out : SinkOf O) (asked : Asked) (way 
     seen = λ t. none_seen asked (disk.contents d) way range.from;
   }
 
-  module _ (gathers : List Seen → Type 0) (number : ℕ) (o1 o2 : O) (so : SoFar gathers number o1) where
+  module _ (gathers : List Seen → Type 0) (number : ℕ) (o1 o2 : O)
+      (so : SoFar disk out asked way range d o gathers number o1) where
     module _ (t : disk.tells d) (allowed : asked.range (length way.entries) ≡ Some range) where
       abbrev IsOne : Answer → Type 0
       IsOne = AnswersOn asked (disk.contents d) way
@@ -168,7 +154,7 @@ module _ {D O : Type 0} (disk : DiskOf D) (out : SinkOf O) (asked : Asked) (way 
 
       pub so_more : (gathers' : List Seen → Type 0)
           → TakesEntry disk out asked way so.read number gathers' d1 o1 o2
-          → SoFar gathers' (number + 1) o2
+          → SoFar disk out asked way range d o gathers' (number + 1) o2
       so_more gathers' takes = record {
         read = so.read ++ takes.seen ∷ [];
         text = so.text ++ takes.puts.text;

@@ -5,7 +5,7 @@ use Rattle.std.specs.Prelude.{if◌then◌else◌, nat_le}
 use Rattle.lr_shelf_format.specs.Way.{Way}
 use Rattle.lr_shelf_format.specs.declared.stored.Stored.{Stored}
 use Rattle.lr_causes.specs.declared.cause.Refusal.{Refusal}
-use Rattle.lr_causes.specs.declared.cause.Refusal.TheVariants.{BadChecksum, CannotExport}
+use Rattle.lr_causes.specs.declared.cause.Refusal.TheVariants.{BadChecksum, CannotExport, Discarded}
 use Rattle.lr_causes.specs.declared.fault.ExportFault.{ExportFault}
 use Rattle.lr_causes.specs.declared.note.Note.{Note}
 use Rattle.lr_commands.specs.declared.opened.Opened.{Opened}
@@ -60,6 +60,17 @@ no_text = Ok []
 abbrev pub refused_for : Option ExportFault → Result (List ℕ) Refusal
 refused_for (Some fault) = Err (CannotExport fault)
 refused_for None = no_text
+
+-- the file of this number, whose image is looked at or not; one that is gone is refused
+abbrev pub asked_of_one : Bool → (ℕ → Opened → Result (List ℕ) Refusal) → ℕ → AskedOfFiles
+asked_of_one looks becomes number = record {
+  range = one_entry number;
+  looks = λ stored. looks;
+  becomes = λ read n opened. becomes n opened;
+  gone = λ n. Err Discarded;
+  last = λ way read. no_text;
+  tells = λ read. None;
+}
 
 -- those from one number up to another, which is at most the number of entries
 abbrev pub entries_between : (from to : ℕ) → ℕ → Option Range

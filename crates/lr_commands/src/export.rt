@@ -2,50 +2,34 @@
 ghost use Rattle.lr_commands.specs.Export.{export_asked};
 ghost use Rattle.lr_commands.specs.Runs.{RunsOver};
 
-use crate::files::{Files, ReadsFiles};
+use crate::one_file::{PutsFile, run_one};
 use crate::opened::Opened;
 use crate::pgm::put_pgm;
-use crate::range::Range;
-use crate::run::run_entries;
-use lr_bits::NoMemory;
-use lr_causes::{Cause, Note, Refusal};
+use lr_causes::Cause;
 use lr_disk::Disk;
 use lr_io::Sink;
-use lr_shelf::{Shelf, Stored};
 use std::alloc::Global;
 
 #[derive(Drop)]
-struct ExportOne {
-    number: u64,
-}
+struct Exporting;
 
-impl ReadsFiles for ExportOne {
-    ghost use Rattle.lr_commands.specs.Export.{asked_of_export};
+impl PutsFile for Exporting {
+    ghost use Rattle.std.specs.Prelude.{true};
+    ghost use Rattle.lr_commands.specs.Export.{export_fate};
 
-    type Gathered = ();
+    ghost looks = { λ s. true };
 
-    ghost asked = { λ s. asked_of_export s.number };
+    ghost becomes = { λ s number opened. export_fate number opened };
 
-    ghost gathers = { λ s gathered read. Unit {0} };
-
-    fn range(&self, count: u64) -> Option<Range> {
-        Range::one(self.number, count)
+    fn looks(&self) -> bool {
+        true
     }
 
-    fn start(&self, _: Global) -> Result<(), NoMemory> {
-        Ok(())
-    }
-
-    fn looks(&self, _: Global, _: &Stored) -> Result<bool, NoMemory> {
-        Ok(true)
-    }
-
-    fn file<O: Sink>(
+    fn put<O: Sink>(
         &self,
         alloc: Global,
         _: u64,
         opened: &Opened,
-        _: &mut (),
         out: &mut O,
     ) -> Result<(), Cause> {
         match &opened.image {
@@ -54,19 +38,11 @@ impl ReadsFiles for ExportOne {
             None => Ok(()),
         }
     }
-
-    fn gone_entry<O: Sink>(&self, _: Global, _: u64, _: &mut O) -> Result<(), Cause> {
-        Err(Cause::Refused(Refusal::Discarded))
-    }
-
-    fn last<O: Sink>(&self, _: Global, _: (), _: &Shelf, _: &mut O) -> Result<Option<Note>, Cause> {
-        Ok(None)
-    }
 }
 
 /// Puts the image of the file of this number as PGM. It is read whole before the first byte is put.
 pub fn export<D: Disk, O: Sink>(alloc: Global, number: u64, disk: &mut D, out: &mut O) -> Cause
     ensures { RunsOver D.Disk O.Sink (export_asked number) result disk.old disk.new out.old out.new }
 {
-    run_entries(alloc, &Files(ExportOne { number }), disk, out)
+    run_one(alloc, number, Exporting, disk, out)
 }

@@ -9,6 +9,7 @@ ghost use Rattle.lr_commands.specs.Laws.{
   HasOneAnswer,
   VerifyHasReasons,
 };
+ghost use Rattle.lr_commands.specs.Rendered.{RenderPutsImages};
 
 /// Bytes have one answer to what a command asks, if they have any: so a run is refused for one thing, the first.
 pub fn bytes_have_one_answer()
@@ -48,4 +49,10 @@ pub fn show_puts_one_text()
 /// What `verify` is refused for, reason by reason.
 pub fn verify_has_reasons()
     ensures { VerifyHasReasons }
+{}
+
+/// `render` puts the images of all entries that aren't gone and have one, joined in their order, where nothing is
+/// refused.
+pub fn render_puts_images()
+    ensures { RenderPutsImages }
 {}

@@ -18,6 +18,7 @@ mod gathering;
 mod gone;
 mod laws;
 pub mod list;
+mod one_file;
 mod opened;
 mod pgm;
 mod range;
@@ -30,9 +31,11 @@ pub mod verify;
 pub use files::{Files, ReadsFiles};
 pub use laws::{
     begun_texts_come_first, bytes_have_one_answer, export_has_reasons, export_puts_one_text,
-    extract_has_reasons, extract_puts_one_text, show_puts_one_text, verify_has_reasons,
+    extract_has_reasons, extract_puts_one_text, render_puts_images, show_puts_one_text,
+    verify_has_reasons,
 };
 pub use opened::Opened;
+pub use pgm::put_pgm;
 pub use range::Range;
 pub use reads::ReadsEntries;
 pub use run::run_entries;

@@ -17,8 +17,8 @@ const PIECE_PIXELS: usize = 16_384;
 /// How many bytes they have, at most.
 const PIECE_BYTES: usize = 2 * PIECE_PIXELS;
 
-/// Puts an image as PGM. Memory is taken for its head, before the first byte is put.
-pub(crate) fn put_pgm<O: Sink>(alloc: Global, image: &Image, out: &mut O) -> Result<(), Cause>
+/// Puts an image as PGM. Memory is taken for its head alone, before the first byte is put.
+pub fn put_pgm<O: Sink>(alloc: Global, image: &Image, out: &mut O) -> Result<(), Cause>
     ensures put { OnOk result (Puts O.Sink (pgm_text image.now) out.old out.new) }
     ensures stopped { IfErr result (λ cause. TextStops O.Sink (Ok (pgm_text image.now)) cause out.old out.new) }
 {

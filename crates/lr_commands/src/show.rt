@@ -3,16 +3,14 @@ ghost use Rattle.std.specs.Prelude.{◌≡◌, IfOk};
 ghost use Rattle.lr_commands.specs.Runs.{RunsOver};
 ghost use Rattle.lr_commands.specs.Show.{show_asked, show_text};
 
-use crate::files::{Files, ReadsFiles};
+use crate::one_file::{PutsFile, run_one};
 use crate::opened::Opened;
-use crate::range::Range;
-use crate::run::run_entries;
 use lr_bits::{Bytes, NoMemory};
 use lr_catalog::{file_line, header_lines};
-use lr_causes::{Cause, Note, Refusal, put_text};
+use lr_causes::{Cause, put_text};
 use lr_disk::Disk;
 use lr_io::Sink;
-use lr_shelf::{Shelf, Stored};
+use lr_shelf::Stored;
 use std::alloc::Global;
 
 /// The line of a file, and those of its header.
@@ -26,49 +24,29 @@ fn show_text(alloc: Global, number: u64, stored: &Stored) -> Result<Bytes, NoMem
 }
 
 #[derive(Drop)]
-struct ShowOne {
-    number: u64,
-}
+struct Showing;
 
-impl ReadsFiles for ShowOne {
-    ghost use Rattle.lr_commands.specs.Show.{asked_of_show};
+impl PutsFile for Showing {
+    ghost use Rattle.std.specs.Prelude.{false};
+    ghost use Rattle.lr_commands.specs.Show.{show_fate};
 
-    type Gathered = ();
+    ghost looks = { λ s. false };
 
-    ghost asked = { λ s. asked_of_show s.number };
+    ghost becomes = { λ s number opened. show_fate number opened };
 
-    ghost gathers = { λ s gathered read. Unit {0} };
-
-    fn range(&self, count: u64) -> Option<Range> {
-        Range::one(self.number, count)
+    fn looks(&self) -> bool {
+        false
     }
 
-    fn start(&self, _: Global) -> Result<(), NoMemory> {
-        Ok(())
-    }
-
-    fn looks(&self, _: Global, _: &Stored) -> Result<bool, NoMemory> {
-        Ok(false)
-    }
-
-    fn file<O: Sink>(
+    fn put<O: Sink>(
         &self,
         alloc: Global,
         number: u64,
         opened: &Opened,
-        _: &mut (),
         out: &mut O,
     ) -> Result<(), Cause> {
         let text = show_text(alloc, number, &opened.stored)?;
         put_text(text.as_slice(), out)
-    }
-
-    fn gone_entry<O: Sink>(&self, _: Global, _: u64, _: &mut O) -> Result<(), Cause> {
-        Err(Cause::Refused(Refusal::Discarded))
-    }
-
-    fn last<O: Sink>(&self, _: Global, _: (), _: &Shelf, _: &mut O) -> Result<Option<Note>, Cause> {
-        Ok(None)
     }
 }
 
@@ -77,5 +55,5 @@ impl ReadsFiles for ShowOne {
 pub fn show<D: Disk, O: Sink>(alloc: Global, number: u64, disk: &mut D, out: &mut O) -> Cause
     ensures { RunsOver D.Disk O.Sink (show_asked number) result disk.old disk.new out.old out.new }
 {
-    run_entries(alloc, &Files(ShowOne { number }), disk, out)
+    run_one(alloc, number, Showing, disk, out)
 }

@@ -6,6 +6,7 @@ use Rattle.lr_commands.specs.Assemble.{assemble_asked}
 use Rattle.lr_commands.specs.Export.{export_asked}
 use Rattle.lr_commands.specs.Extract.{extract_asked}
 use Rattle.lr_commands.specs.List.{list_asked}
+use Rattle.lr_commands.specs.Render.{render_asked}
 use Rattle.lr_commands.specs.Show.{show_asked}
 use Rattle.lr_commands.specs.Verify.{verify_asked}
 use Rattle.lr_forms.specs.declared.forms.Input.{Input}
@@ -28,6 +29,7 @@ use Rattle.lr_words.specs.declared.command.Command.TheVariants.{
   Show,
   Verify,
   Export,
+  Render,
   Assemble,
   Transmit,
   Discard,
@@ -71,6 +73,7 @@ deed_of ListAll = Asks list_asked
 deed_of (Show number) = Asks (show_asked number)
 deed_of Verify = Asks verify_asked
 deed_of (Export number) = Asks (export_asked number)
+deed_of (Render workers) = Asks render_asked
 deed_of (Assemble from to apid image) = Asks (assemble_asked from to apid image)
 deed_of (Transmit from to wrong line) = Sends from to wrong line
 deed_of (Discard number) = Closes number

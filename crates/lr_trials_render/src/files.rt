@@ -15,6 +15,16 @@ pub(crate) const FIRST: [u8; 2] = [0x00, 0x58];
 
 pub(crate) const SECOND: [u8; 4] = [0x40, 0xAA, 0xFA, 0x00];
 
+/// The same with a key record that says that the data is encrypted.
+pub(crate) const ENCRYPTED: [u8; 47] = [
+    0, 1, 0, 0, 0, 0, 0, 0, 1, 48, 0, 0, 16, 0, 0, 0, 0, 37, 0, 0, 0, 0, 0, 0, 0, 48, 1, 0, 9, 8,
+    0, 8, 0, 2, 1, 131, 0, 7, 0, 49, 8, 1, 7, 0, 5, 0, 1,
+];
+
+/// The image of those two lines as PGM.
+pub(crate) const LINES_OF_FIVE: &[u8] =
+    b"P5\n8 2\n255\n\x05\x05\x05\x05\x05\x05\x05\x05\x05\x06\x04\x05\x05\x05\x05\x05";
+
 /// Ten bytes of transport header, then the header of an image that isn't compressed.
 pub(crate) fn plain_header(bits: u8, columns: u16, lines: u16) -> [u8; 35] {
     let mut header = [0; 35];
@@ -65,6 +75,21 @@ pub(crate) fn file_of(alloc: Global, bodies: &[&[u8]]) -> Result<MissionFile, Fa
     all.file()
 }
 
+/// A data field of this many bytes.
+pub(crate) fn field_of(alloc: Global, size: usize) -> Result<Vec<u8>, Fail> {
+    let mut field = Vec::with_capacity(alloc, size)?;
+    for place in 0..size {
+        // 251 is prime, so no two lines of the tests are alike.
+        field.push((place % 251) as u8)?;
+    }
+    Ok(field)
+}
+
+/// The file of the two coded lines.
+pub(crate) fn coded_file(alloc: Global) -> Result<MissionFile, Fail> {
+    file_of(alloc, &[&CODED, &FIRST, &SECOND])
+}
+
 /// The file of an image that isn't compressed, whose data field has this many bytes, in bodies of at most 50,000.
 pub(crate) fn plain_file(
     alloc: Global,
@@ -73,11 +98,7 @@ pub(crate) fn plain_file(
     lines: u16,
     size: usize,
 ) -> Result<MissionFile, Fail> {
-    let mut field = Vec::with_capacity(alloc, size)?;
-    for place in 0..size {
-        // 251 is prime, so no two lines of the tests are alike.
-        field.push((place % 251) as u8)?;
-    }
+    let field = field_of(alloc, size)?;
     let mut all = Bodies::new(alloc);
     all.put(&plain_header(bits, columns, lines))?;
     for body in field.chunks(50_000) {

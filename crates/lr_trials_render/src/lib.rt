@@ -6,4 +6,6 @@ mod claims;
 #[cfg(test)]
 mod files;
 #[cfg(test)]
+mod shelves;
+#[cfg(test)]
 mod strips;

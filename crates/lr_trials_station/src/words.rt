@@ -6,7 +6,7 @@ use std::alloc::{AllocError, Global};
 use std::test::Fail;
 
 /// Words with a space between them, and the command that they give.
-const READ: [(&str, &str); 53] = [
+const READ: [(&str, &str); 56] = [
     ("init 100", "init 100"),
     ("init -- 100", "init 100"),
     ("init 00000000000000000100", "init 100"),
@@ -28,6 +28,9 @@ const READ: [(&str, &str); 53] = [
     ("list --", "list"),
     ("show 7", "show 7"),
     ("export -- 07", "export 7"),
+    ("render", "render by 1"),
+    ("render --", "render by 1"),
+    ("render --workers=64", "render by 64"),
     ("assemble 0 2 -- 100 1", "assemble 0 2 100 1"),
     (
         "assemble 18446744073709551615 00 2046 65535",
@@ -105,7 +108,7 @@ const READ: [(&str, &str); 53] = [
 ];
 
 /// Words of which the arguments don't fit the command.
-const WRONG_ARGUMENTS: [&str; 42] = [
+const WRONG_ARGUMENTS: [&str; 43] = [
     "",
     " ",
     "init",
@@ -129,6 +132,7 @@ const WRONG_ARGUMENTS: [&str; 42] = [
     "show 0 0",
     "export",
     "export 0 0",
+    "render 0",
     "assemble 0 2 100",
     "assemble 0 2 100 1 1",
     "transmit 0 2",
@@ -204,7 +208,7 @@ const NO_COMMAND: [&str; 22] = [
 ];
 
 /// Words of which a value is none.
-const WRONG_VALUES: [&str; 56] = [
+const WRONG_VALUES: [&str; 58] = [
     "downlinks --line plain",
     "repack 0 10",
     "repack 0 0",
@@ -244,6 +248,8 @@ const WRONG_VALUES: [&str; 56] = [
     "decode --workers 1,2",
     "decode --workers 1 2",
     "decode --workers 65",
+    "render --workers 0",
+    "render --workers 65",
     "decode --line nrz",
     "decode --line plain",
     "decode --g2 nrz-m",
@@ -331,6 +337,7 @@ fn text_of(alloc: Global, command: Command) -> Result<String, AllocError> {
         Command::Show { number } => format!(in alloc; "show {number}"),
         Command::Verify => String::from_str(alloc, "verify"),
         Command::Export { number } => format!(in alloc; "export {number}"),
+        Command::Render { workers } => format!(in alloc; "render by {workers}"),
         Command::Assemble {
             from,
             to,
@@ -444,6 +451,7 @@ fn the_first_word_says_whether_the_shelf_may_change(rt: HostRuntime) -> Result<(
         "frames",
         "extract 0",
         "export 0",
+        "render",
         "assemble",
         "make init",
         "Init",

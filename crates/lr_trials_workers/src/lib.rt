@@ -12,3 +12,5 @@ mod calls;
 mod failing;
 #[cfg(test)]
 mod meeting;
+#[cfg(test)]
+mod rendering;

@@ -1,4 +1,4 @@
-// Hands that meet: the one that is given the first window waits until another was given the second one.
+// Hands that meet: each waits at its first window until as many hands as there are workers have a window.
 ghost use Rattle.std.specs.Prelude.{◌≡◌};
 
 use crate::calls::{
@@ -11,58 +11,61 @@ use lr_frame::{FrameDone, FrameWork, Hand};
 use lr_lock::Window;
 use lr_station::station_with;
 use std::alloc::Global;
-use std::sync::atomic::AtomicBool;
 use std::sync::atomic::Ordering::SeqCst;
+use std::sync::atomic::{AtomicBool, AtomicU32};
 use std::sync::{Arc, Wait};
 use std::test::Fail;
+use std::thread;
 use std::thread::Threads;
 
-/// The place of the second window.
-const SECOND: u64 = 16_384;
+/// How often a hand looks for the others before it gives up.
+const LOOKS: u32 = 10_000_000;
 
-/// What the hands share: whether one was given the second window, and whether another waited for that too long.
+/// What the hands share: how many must meet, how many windows were begun, and whether a hand waited too long.
 #[derive(Drop)]
-struct Flags {
-    met: Arc<AtomicBool, Global>,
+struct Place {
+    hands: u32,
+    begun: Arc<AtomicU32, Global>,
     too_late: Arc<AtomicBool, Global>,
 }
 
-/// A hand that waits at the first window.
+/// A hand that waits for the others.
 #[derive(Drop)]
 struct Meeting {
     work: FrameWork,
-    met: Arc<AtomicBool, Global>,
+    hands: u32,
+    begun: Arc<AtomicU32, Global>,
     too_late: Arc<AtomicBool, Global>,
 }
 
 impl Meeting {
+    /// Waits until as many windows were begun as hands must meet. No hand begins a second one before.
     fn wait(&self) {
-        for _ in 0..100_000_000u64 {
-            if self.met.load(SeqCst) {
+        self.begun.fetch_add(1, SeqCst);
+        for _ in 0..LOOKS {
+            if self.begun.load(SeqCst) >= self.hands || self.too_late.load(SeqCst) {
                 return;
             }
+            thread::yield_now();
         }
         self.too_late.store(true, SeqCst);
     }
 }
 
 impl Hand for Meeting {
-    type Tools = Flags;
+    type Tools = Place;
 
-    fn hire(alloc: Global, tools: &Flags) -> Result<Self, NoMemory> {
+    fn hire(alloc: Global, tools: &Place) -> Result<Self, NoMemory> {
         Ok(Meeting {
             work: FrameWork::new(alloc)?,
-            met: Arc::try_clone(&tools.met)?,
+            hands: tools.hands,
+            begun: Arc::try_clone(&tools.begun)?,
             too_late: Arc::try_clone(&tools.too_late)?,
         })
     }
 
     fn decode(&mut self, window: Window) -> FrameDone {
-        if window.position() == 0 {
-            self.wait();
-        } else if window.position() == SECOND {
-            self.met.store(true, SeqCst);
-        }
+        self.wait();
         self.work.decode(window)
     }
 }
@@ -72,7 +75,7 @@ fn call_with<R: Threads + Wait + Sync>(
     alloc: Global,
     words: &str,
     bytes: &[u8],
-    tools: &Flags,
+    tools: &Place,
     disk: &mut MemDisk,
 ) -> Result<Printed, Fail> {
     let given = faultless(words, bytes, 65_536);
@@ -93,27 +96,29 @@ fn call_with<R: Threads + Wait + Sync>(
     Ok(Printed { status, out, err })
 }
 
-// Whether two hands meet, and the call leaves what it leaves with other hands.
+// Whether this many hands meet, and the call leaves what it leaves with other hands.
 fn meets<R: Threads + Wait + Sync>(
     rt: &R,
     alloc: Global,
+    hands: u32,
     words: &str,
     mut disk: MemDisk,
     mut other_disk: MemDisk,
 ) -> Result<bool, Fail> {
-    let bytes = symbols(alloc, "make 1 8 0", 0, 8)?;
-    let flags = Flags {
-        met: Arc::new(alloc, AtomicBool::new(false))?,
+    let bytes = symbols(alloc, "make 1 16 0", 0, 16)?;
+    let place = Place {
+        hands,
+        begun: Arc::new(alloc, AtomicU32::new(0))?,
         too_late: Arc::new(alloc, AtomicBool::new(false))?,
     };
-    let printed = call_with(rt, alloc, words, &bytes, &flags, &mut disk)?;
+    let printed = call_with(rt, alloc, words, &bytes, &place, &mut disk)?;
     let usual = call(
         rt,
         alloc,
         &faultless(words, &bytes, 65_536),
         &mut other_disk,
     )?;
-    let in_time = flags.met.load(SeqCst) && !flags.too_late.load(SeqCst);
+    let in_time = place.begun.load(SeqCst) >= hands && !place.too_late.load(SeqCst);
     Ok(
         in_time
             && usual.status == 0
@@ -126,7 +131,7 @@ fn meets<R: Threads + Wait + Sync>(
 fn two_hands_meet_in_decode(rt: HostRuntime) -> Result<(), Fail> {
     let alloc = rt.alloc();
     let (disk, other) = (disk_of_calls(alloc, 0)?, disk_of_calls(alloc, 0)?);
-    assert!(rt; meets(&rt, alloc, "decode --workers 3", disk, other)?);
+    assert!(rt; meets(&rt, alloc, 2, "decode --workers 2", disk, other)?);
     Ok(())
 }
 
@@ -134,6 +139,14 @@ fn two_hands_meet_in_decode(rt: HostRuntime) -> Result<(), Fail> {
 fn two_hands_meet_in_receive(rt: HostRuntime) -> Result<(), Fail> {
     let alloc = rt.alloc();
     let (disk, other) = (empty_shelf(alloc)?, empty_shelf(alloc)?);
-    assert!(rt; meets(&rt, alloc, "receive --workers 3", disk, other)?);
+    assert!(rt; meets(&rt, alloc, 2, "receive --workers 2", disk, other)?);
+    Ok(())
+}
+
+#[test]
+fn eight_hands_meet_in_receive(rt: HostRuntime) -> Result<(), Fail> {
+    let alloc = rt.alloc();
+    let (disk, other) = (empty_shelf(alloc)?, empty_shelf(alloc)?);
+    assert!(rt; meets(&rt, alloc, 8, "receive --workers 8", disk, other)?);
     Ok(())
 }

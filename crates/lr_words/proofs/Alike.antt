@@ -12,6 +12,7 @@ use Rattle.lr_words.specs.declared.shape.Shape.TheVariants.{
   Symbols,
   Intake,
   Line,
+  Workers,
   Segments,
   Sent,
   Block,
@@ -33,6 +34,7 @@ same_given (Intake kind) a b same = rw (
   same (codes "symbols"),
 ) refl
 same_given Line a b same = rw (same (codes "line"), same (codes "g2")) refl
+same_given Workers a b same = rw (same (codes "workers")) refl
 same_given Segments a b same = rw (
   same (codes "from"),
   same (codes "to"),

@@ -8,6 +8,7 @@ use Rattle.lr_words.specs.Arguments.{
   symbols_app,
   intake_app,
   line_app,
+  workers_app,
   segments_app,
   sent_app,
   block_app,
@@ -23,6 +24,7 @@ use Rattle.lr_words.specs.declared.shape.Shape.TheVariants.{
   Symbols,
   Intake,
   Line,
+  Workers,
   Segments,
   Sent,
   Block,
@@ -31,14 +33,15 @@ use Rattle.lr_words.specs.declared.shape.Shape.TheVariants.{
 }
 
 pub shape_covered : (shape : Shape) (name : Text) → is_covered (app_of_shape shape name) ≡ true
-unfolding is_covered capacity_app number_app symbols_app intake_app line_app segments_app sent_app block_app
-    stream_app clap_on_literals
+unfolding is_covered capacity_app number_app symbols_app intake_app line_app workers_app segments_app sent_app
+    block_app stream_app clap_on_literals
 shape_covered Capacity name = refl
 shape_covered (Nothing kind) name = refl
 shape_covered (Number kind) name = refl
 shape_covered (Symbols kind) name = refl
 shape_covered (Intake kind) name = refl
 shape_covered Line name = refl
+shape_covered Workers name = refl
 shape_covered Segments name = refl
 shape_covered Sent name = refl
 shape_covered Block name = refl

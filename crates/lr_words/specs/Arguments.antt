@@ -9,6 +9,7 @@ use Rattle.lr_words.specs.declared.shape.Shape.TheVariants.{
   Symbols,
   Intake,
   Line,
+  Workers,
   Segments,
   Sent,
   Block,
@@ -50,6 +51,10 @@ intake_app name = app_with (new_app name) (option (codes "input") ∷ option (co
 unfoldable pub line_app : Text → App
 line_app name = app_with (new_app name) (option (codes "line") ∷ option (codes "g2") ∷ [])
 
+-- `[--workers W]`
+unfoldable pub workers_app : Text → App
+workers_app name = app_with (new_app name) (option (codes "workers") ∷ [])
+
 -- `FROM TO APID IMAGE`
 unfoldable pub segments_app : Text → App
 segments_app name = app_with (new_app name) (place (codes "from") ∷ place (codes "to")
@@ -77,6 +82,7 @@ app_of_shape (Number kind) name = number_app name
 app_of_shape (Symbols kind) name = symbols_app name
 app_of_shape (Intake kind) name = intake_app name
 app_of_shape Line name = line_app name
+app_of_shape Workers name = workers_app name
 app_of_shape Segments name = segments_app name
 app_of_shape Sent name = sent_app name
 app_of_shape Block name = block_app name

@@ -39,6 +39,7 @@ use Rattle.lr_words.specs.declared.shape.Shape.TheVariants.{
   Symbols,
   Intake,
   Line,
+  Workers,
   Segments,
   Sent,
   Block,
@@ -71,6 +72,7 @@ use Rattle.lr_words.specs.declared.command.Command.TheVariants.{
   Show,
   Verify,
   Export,
+  Render,
   Assemble,
   Transmit,
   Discard,
@@ -132,6 +134,7 @@ given_by (Intake kind) value =
     (line_of (value (codes "line")) (value (codes "g2"))))
     (workers_of (value (codes "workers")))
 given_by Line value = option_map (λ line. Downlinks line) (line_of (value (codes "line")) (value (codes "g2")))
+given_by Workers value = option_map (λ w. Render w) (workers_of (value (codes "workers")))
 given_by Segments value =
     option_and_then (λ f. option_and_then (λ t. option_and_then (λ a. option_map (λ i. Assemble f t a i)
     (number_at value (codes "image") 0 65535))
@@ -197,6 +200,7 @@ IsInRange (Some (Frames most)) = most ≤ 2 ^ 48
 IsInRange (Some (Packets most)) = most ≤ 2 ^ 48
 IsInRange (Some (Decode input workers most)) = (most ≤ 2 ^ 48) × IsCrew workers
 IsInRange (Some (Receive input workers most)) = (most ≤ 2 ^ 48) × IsCrew workers
+IsInRange (Some (Render workers)) = IsCrew workers
 IsInRange (Some (Assemble from to apid image)) = (apid ≤ 2046) × (image ≤ 65535)
 IsInRange (Some (Transmit from to wrong line)) = wrong ≤ 16
 IsInRange (Some (Repack number block)) = (block ≡ 8) ⊎ ((block ≡ 16) ⊎ ((block ≡ 32) ⊎ (block ≡ 64)))

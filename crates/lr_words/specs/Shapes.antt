@@ -10,6 +10,7 @@ use Rattle.lr_words.specs.declared.shape.Shape.TheVariants.{
   Symbols,
   Intake,
   Line,
+  Workers,
   Segments,
   Sent,
   Block,
@@ -31,6 +32,7 @@ shape_named name =
     else if bytes_eq name (codes "show") then Some (Number Show)
     else if bytes_eq name (codes "extract") then Some (Number Extract)
     else if bytes_eq name (codes "export") then Some (Number Export)
+    else if bytes_eq name (codes "render") then Some Workers
     else if bytes_eq name (codes "assemble") then Some Segments
     else if bytes_eq name (codes "verify") then Some (Nothing Verify)
     else if bytes_eq name (codes "discard") then Some (Number Discard)

@@ -9,6 +9,7 @@ ghost use Rattle.lr_words.specs.Arguments.{
   symbols_app,
   intake_app,
   line_app,
+  workers_app,
   segments_app,
   sent_app,
   block_app,
@@ -83,6 +84,12 @@ fn line_parser<'a>(alloc: Global, name: &'a str) -> Result<Parser<'a>, AllocErro
     with_arg(parser, option(alloc, "g2"))
 }
 
+fn workers_parser<'a>(alloc: Global, name: &'a str) -> Result<Parser<'a>, AllocError>
+    ensures { IfOk result (λ c. app_of c ≡ workers_app name.now) }
+{
+    Parser::new(alloc, name).arg(option(alloc, "workers"))
+}
+
 fn segments_parser<'a>(alloc: Global, name: &'a str) -> Result<Parser<'a>, AllocError>
     ensures { IfOk result (λ c. app_of c ≡ segments_app name.now) }
 {
@@ -134,6 +141,7 @@ pub(crate) fn parser_of<'a>(
         Shape::Symbols(_) => symbols_parser(alloc, name),
         Shape::Intake(_) => intake_parser(alloc, name),
         Shape::Line => line_parser(alloc, name),
+        Shape::Workers => workers_parser(alloc, name),
         Shape::Segments => segments_parser(alloc, name),
         Shape::Sent => sent_parser(alloc, name),
         Shape::Block => block_parser(alloc, name),

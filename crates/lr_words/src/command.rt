@@ -50,6 +50,10 @@ pub enum Command {
     Export {
         number: u64,
     },
+    /// The images of all files, as PGM. This many work on strips of them, the caller among them.
+    Render {
+        workers: u32,
+    },
     /// The segments of the image of this identifier among the files of this application, put together: those of the
     /// entries from one number up to another.
     Assemble {

@@ -17,6 +17,7 @@ ghost use Rattle.lr_words.specs.declared.shape.Shape.TheVariants.{
   Symbols,
   Intake,
   Line,
+  Workers,
   Segments,
   Sent,
   Block,
@@ -152,6 +153,14 @@ fn with_line(matches: &ArgMatches) -> Option<Command>
     Some(Command::Downlinks { line })
 }
 
+fn with_workers(matches: &ArgMatches) -> Option<Command>
+    ensures gives { result ≡ given_by Workers (first_value (found_of matches.now)) }
+    ensures range { IsInRange result }
+{
+    let workers = workers(matches)?;
+    Some(Command::Render { workers })
+}
+
 fn with_segments(matches: &ArgMatches) -> Option<Command>
     ensures gives { result ≡ given_by Segments (first_value (found_of matches.now)) }
     ensures range { IsInRange result }
@@ -250,6 +259,7 @@ pub(crate) fn command_given(shape: Shape, matches: &ArgMatches) -> Option<Comman
         Shape::Symbols(kind) => with_symbols(kind, matches),
         Shape::Intake(kind) => with_intake(kind, matches),
         Shape::Line => with_line(matches),
+        Shape::Workers => with_workers(matches),
         Shape::Segments => with_segments(matches),
         Shape::Sent => with_sent(matches),
         Shape::Block => with_block(matches),

@@ -17,6 +17,8 @@ pub(crate) enum Shape {
     Intake(OfIntake),
     /// `[--line CODE] [--g2 G2]`
     Line,
+    /// `[--workers W]`
+    Workers,
     /// `FROM TO APID IMAGE`
     Segments,
     /// `FROM TO WRONG [--line CODE] [--g2 G2]`
@@ -71,6 +73,7 @@ pub(crate) fn shape_of(name: &str) -> Option<Shape>
         "show" => Some(Shape::Number(OfNumber::Show)),
         "extract" => Some(Shape::Number(OfNumber::Extract)),
         "export" => Some(Shape::Number(OfNumber::Export)),
+        "render" => Some(Shape::Workers),
         "assemble" => Some(Shape::Segments),
         "verify" => Some(Shape::Nothing(OfNothing::Verify)),
         "discard" => Some(Shape::Number(OfNumber::Discard)),

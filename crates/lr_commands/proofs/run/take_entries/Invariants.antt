@@ -1,7 +1,7 @@
 use Rattle.std.proofs.Common.{◌≡◌}
 use Rattle.lr_disk.specs.Reads.{IsUnwritten}
 use Rattle.lr_shelf.specs.Kept.{kept_by}
-use Rattle.lr_commands.proofs.Taking.{SoFar}
+use Rattle.lr_commands.specs.Reached.{SoFar}
 use Rattle.lr_commands.proofs.run.take_entries.Given as goal
 
 abbrev pub invariant-loop-number : goal.invariant-loop-number

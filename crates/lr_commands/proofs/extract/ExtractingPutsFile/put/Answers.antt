@@ -1,5 +1,5 @@
 use Rattle.std.proofs.Common.{rules, arith}
-use Rattle.lr_commands.proofs.extract.ExtractOneReadsFiles.file.Goals as goal
+use Rattle.lr_commands.proofs.extract.ExtractingPutsFile.put.Goals as goal
 
 pub returns-clause-puts : goal.returns-clause-puts
 returns-clause-puts g c = search (rules, arith)

@@ -1,0 +1,153 @@
+//! All images of a shelf in memory, written as PGM many times over: by `render`, or by `export` of each in turn.
+
+ghost use Rattle.std.specs.Prelude.{◌≤◌};
+
+use crate::export::{ROOM, coded_file, image_file, shelf_with};
+use crate::lines::{Shape, number_at, shape_of};
+use crate::shelf::Trouble;
+use crate::sums::{sum_with, sum_with_bytes};
+use lr_bits::MissionFile;
+use lr_commands::export::export;
+use lr_disk::MemDisk;
+use lr_io::MemSink;
+use lr_rendering::{render, render_by_all};
+use std::alloc::Global;
+use std::io::Read;
+use std::sync::Wait;
+use std::thread::Threads;
+
+/// How many bytes at the front and at the end of the texts are summed.
+const SUMMED: usize = 64;
+
+/// The most images on the shelf.
+const MOST_IMAGES: u32 = 1_024;
+
+/// How often the images are written, how many there are, and who works: this many by `render`, the caller among them,
+/// or 0 for `export` of each.
+#[derive(Clone, Copy)]
+struct Task {
+    rounds: u32,
+    images: u32,
+    workers: u32,
+    ghost workers_fit: { workers ≤ 64 },
+}
+
+/// The task that the first three words tell.
+fn task_of(words: &[String]) -> Option<Task> {
+    let rounds = number_at(words, 0)?;
+    let images = number_at(words, 1)?;
+    let workers = number_at(words, 2)?;
+    if images > MOST_IMAGES || workers > 64 {
+        return None;
+    }
+    Some(Task {
+        rounds,
+        images,
+        workers,
+    })
+}
+
+/// Writes the image of each file, one after another, and answers the last status.
+fn export_each(alloc: Global, images: u32, disk: &mut MemDisk, out: &mut MemSink) -> u8 {
+    let mut status = 0;
+    for number in 0..images {
+        status = export(alloc, u64::from(number), disk, out).status();
+    }
+    status
+}
+
+/// Writes all images once, and answers the status.
+fn write_images<T: Threads + Wait + Sync>(
+    threads: &T,
+    alloc: Global,
+    task: Task,
+    disk: &mut MemDisk,
+    out: &mut MemSink,
+) -> u8 {
+    match task.workers {
+        0 => export_each(alloc, task.images, disk, out),
+        1 => render(alloc, disk, out).status(),
+        workers => render_by_all(threads, alloc, workers, disk, out).status(),
+    }
+}
+
+/// The status of each round, how long the texts are, and their ends.
+fn checksum_of<T: Threads + Wait + Sync>(
+    threads: &T,
+    alloc: Global,
+    task: Task,
+    disk: &mut MemDisk,
+) -> Result<u64, Trouble> {
+    let mut sum = 0;
+    for _ in 0..task.rounds {
+        let mut out = MemSink::of(alloc, Vec::new(alloc), ROOM as usize)?;
+        let status = write_images(threads, alloc, task, disk, &mut out);
+        let text = out.as_slice();
+        sum = sum_with(sum, u64::from(status));
+        sum = sum_with(sum, text.len() as u64);
+        sum = sum_with_bytes(sum, &text[..text.len().min(SUMMED)]);
+        sum = sum_with_bytes(sum, &text[text.len().saturating_sub(SUMMED)..]);
+    }
+    Ok(sum)
+}
+
+/// Makes the shelf of these files, writes their images, and prints a checksum.
+fn run_task<T: Threads + Wait + Sync>(
+    rt: &HostRuntime,
+    threads: &T,
+    task: Task,
+    files: Vec<MissionFile>,
+) -> Result<(), Trouble> {
+    let mut disk = shelf_with(rt.alloc(), files)?;
+    let sum = checksum_of(threads, rt.alloc(), task, &mut disk)?;
+    Ok(println!(rt; "render {} {sum:016x}", task.rounds)?)
+}
+
+/// The words are ROUNDS IMAGES W: this many images of 1,024 columns and lines that aren't compressed are written this
+/// many times, by W that work, or by `export` where W is 0.
+pub fn run_plain<T: Threads + Wait + Sync>(
+    rt: &HostRuntime,
+    threads: &T,
+    words: &[String],
+) -> Result<(), Trouble> {
+    let Some(task) = task_of(words) else {
+        return Ok(eprintln!(rt; "usage: render ROUNDS IMAGES W")?);
+    };
+    let mut files = Vec::new(rt.alloc());
+    for _ in 0..task.images {
+        files
+            .push(image_file(rt.alloc())?)
+            .map_err(|_| Trouble::Memory)?;
+    }
+    run_task(rt, threads, task, files)
+}
+
+/// The shape that the first four words tell, and the task that the others do.
+fn lossless_task(words: &[String]) -> Option<(Shape, Task)> {
+    let shape = shape_of(words)?;
+    let task = task_of(words.get(4..)?)?;
+    Some((shape, task))
+}
+
+/// The words are BITS BLOCK COLUMNS LINES ROUNDS IMAGES W: the same of images in which the lines on standard input
+/// stand 32 times.
+pub fn run_lossless<T: Threads + Wait + Sync>(
+    rt: &HostRuntime,
+    threads: &T,
+    words: &[String],
+) -> Result<(), Trouble> {
+    let Some((shape, task)) = lossless_task(words) else {
+        return Ok(eprintln!(rt;
+            "usage: render-lossless BITS BLOCK COLUMNS LINES ROUNDS IMAGES W"
+        )?);
+    };
+    let mut coded = Vec::new(rt.alloc());
+    rt.stdin().read_to_end(&mut coded)?;
+    let mut files = Vec::new(rt.alloc());
+    for _ in 0..task.images {
+        files
+            .push(coded_file(rt.alloc(), shape, &coded)?)
+            .map_err(|_| Trouble::Memory)?;
+    }
+    run_task(rt, threads, task, files)
+}

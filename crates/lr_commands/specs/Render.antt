@@ -1,0 +1,39 @@
+-- `render`: the images of all files as PGM, in the order of the entries.
+use Rattle.std.specs.Prelude.{ℕ, Bool, true, false, not, Option, Some, None, Result, Ok, Err, List, [], count_by}
+use Rattle.lr_image.specs.Pgm.{pgm_text}
+use Rattle.lr_image.specs.Picture.{Picture}
+use Rattle.lr_image.specs.declared.fault.ImageFault.{ImageFault}
+use Rattle.lr_causes.specs.declared.note.Note.{Note}
+use Rattle.lr_causes.specs.declared.note.Note.TheVariants.{Rendered}
+use Rattle.lr_commands.specs.declared.opened.Opened.{Opened}
+use Rattle.lr_commands.specs.Asked.{Asked}
+use Rattle.lr_commands.specs.Files.{AskedOfFiles, all_entries, asked_of_files, no_text}
+
+-- the text of an image; a file that has none has no text
+abbrev pub image_text : Option (Result Picture ImageFault) → List ℕ
+image_text (Some (Ok picture)) = pgm_text picture
+image_text _ = []
+
+abbrev pub is_image : Option (Result Picture ImageFault) → Bool
+is_image (Some (Ok picture)) = true
+is_image _ = false
+
+-- how many files have an image, and how many have none
+abbrev pub images_in : List Opened → ℕ
+images_in read = count_by (λ opened. is_image opened.image) read
+
+abbrev pub skipped_in : List Opened → ℕ
+skipped_in read = count_by (λ opened. not (is_image opened.image)) read
+
+abbrev pub asked_of_render : AskedOfFiles
+asked_of_render = record {
+  range = all_entries;
+  looks = λ stored. true;
+  becomes = λ read number opened. Ok (image_text opened.image);
+  gone = λ number. no_text;
+  last = λ way read. no_text;
+  tells = λ read. Some (Rendered (images_in read) (skipped_in read));
+}
+
+abbrev pub render_asked : Asked
+render_asked = asked_of_files asked_of_render

@@ -1,0 +1,7 @@
+pub mod Jobs
+pub mod Leading
+pub mod Led
+pub mod Lists
+pub mod Queueing
+pub mod Reading
+pub mod Settling

@@ -1,0 +1,63 @@
+-- Why an entry isn't read.
+use Rattle.std.proofs.Common.{
+  ◌≡◌,
+  ◌<◌,
+  ℕ,
+  true,
+  false,
+  Some,
+  None,
+  Err,
+  length,
+  refl,
+  sym,
+  ap,
+  arith,
+}
+use Rattle.lr_disk.specs.declared.disk.Disk.{Ghosts as DiskOf}
+use Rattle.lr_shelf_format.specs.declared.stored.Stored.{Stored}
+use Rattle.lr_shelf.specs.Calls.{IsCounted}
+use Rattle.lr_shelf.specs.Kept.{Kept}
+use Rattle.lr_shelf.specs.Read.{IsGetRefusal}
+use Rattle.lr_shelf.specs.declared.error.ShelfError.{ShelfError}
+use Rattle.lr_shelf.specs.declared.error.ShelfError.TheVariants.{
+  Disk,
+  NotAShelf as NotAShelf',
+  NotEmpty,
+  Capacity,
+  NoSuchFile,
+  Crc,
+  NoMemory,
+  Failed,
+  Discarded,
+}
+use Rattle.lr_causes.specs.Causes.{cause_of}
+use Rattle.lr_causes.specs.declared.cause.Refusal.TheVariants.{NotAShelf}
+use Rattle.lr_commands.specs.Asked.{Wrong}
+use Rattle.lr_rendering.specs.Contents.{ReadStops}
+
+pub content_stops : {D : Type 0} (disk : DiskOf D) (kept : Kept) (number : ℕ) (d d' : D) → kept.failed ≡ false
+    → number < length kept.way.entries → (error : ShelfError) → (error ≡ Discarded → ⊥)
+    → IsGetRefusal disk kept number d error
+    → IsCounted {A = Stored} (disk.faults d) (disk.faults d') (Err error)
+    → ReadStops disk kept.way number (cause_of error) d d'
+content_stops disk kept number d d' works there Disk stays refusal counted = counted.1
+content_stops disk kept number d d' works there (NotAShelf' at) stays refusal counted = (
+  counted,
+  record {
+    seen = None;
+    stands = refusal.1.1;
+    fate = λ read. ap (λ (n : ℕ). Err (NotAShelf n)) (sym refusal.1.0);
+  },
+)
+content_stops disk kept number d d' works there (NotEmpty size) stays refusal counted = absurd refusal.1
+content_stops disk kept number d d' works there (Capacity needed most) stays refusal counted = absurd refusal.1
+content_stops disk kept number d d' works there (NoSuchFile count) stays refusal counted =
+    absurd (omega (arith, there, refusal.1, refusal.2))
+content_stops disk kept number d d' works there (Crc stored computed) stays refusal counted =
+    (counted, record { seen = Some (Wrong stored computed); stands = refusal.1.1; fate = λ read. refl })
+content_stops disk kept number d d' works there NoMemory stays refusal counted = counted
+content_stops disk kept number d d' works there Failed stays refusal counted = absurd (both works refusal) where
+  both : kept.failed ≡ false → kept.failed ≡ true → ⊥
+  both well failed = cc (well, failed)
+content_stops disk kept number d d' works there Discarded stays refusal counted = absurd (stays refl)
