@@ -61,6 +61,10 @@ ends 0 shelf verify
 [ "$(wc -l < out)" = 63 ] || fail "verify has $(wc -l < out) lines"
 ends 0 shelf extract 7
 [ "$(wc -c < out)" = 4121 ] || fail "extract has $(wc -c < out) bytes"
+for workers in 1 2 8 64; do
+    ends 0 shelf render --workers $workers; says 'rendered 6 skipped 57\n'
+    [ "$(wc -c < out)" = 24654 ] || fail "render has $(wc -c < out) bytes"
+done
 ends 7 shelf extract 63; says 'station: no such file, count 63\n'
 ends 0 shelf discard 7; prints 'discarded 7\n'
 ends 13 shelf extract 7; says 'station: discarded\n'

@@ -66,6 +66,7 @@ JOBS = [
     ("discard 1", b"", full),
     ("list", b"", full), ("show 7", b"", full), ("extract 7", b"", full), ("verify", b"", full),
     ("export 7", b"", full), ("assemble 0 8 100 1", b"", full), ("repack 7 16", b"", full),
+    ("render", b"", full), ("render --workers 3", b"", full),
     ("transmit 0 8 16 --line nrz-m", b"", full),
     ("downlinks", bytes([1]) + len(symbols).to_bytes(8, "big") + symbols, empty),
     ("frames", frames, full), ("packets", frames, full), ("decode", symbols, full), ("decode --workers 3", symbols, full),

@@ -3,7 +3,7 @@
 # tried) says of each PGM which size and which greatest pixel it has, and reads its pixels, which are those that were sent.
 # Usage: trials/pictures.sh. Needs rt and python3.
 top=$(cd "$(dirname "$0")/.." && pwd)
-for tool in pnmfile pamtable; do
+for tool in pnmfile pamtable pnmsplit; do
     command -v $tool > /dev/null || { echo "$tool isn't installed: nothing was tried"; exit 0; }
 done
 scratch=$(mktemp -d) || exit 1
@@ -31,10 +31,26 @@ $draw frames > frames && $draw list > list || exit 1
 "$station" shelf receive --input frames < frames > out || exit 1
 while read -r number columns lines most what; do
     "$station" shelf export "$number" > picture.pgm || { echo "$number, $what: export ended with $?"; exit 1; }
+    cat picture.pgm >> exported
     $draw values "$number" > values
     reads "$columns" "$lines" "$most"
 done < list
 count=$(wc -l < list)
+# all of them by `render`, the same for each number of workers, and cut apart again
+for workers in 1 2 8 64; do
+    "$station" shelf render --workers $workers > rendered 2> told || { cat told; exit 1; }
+    tried=$((tried + 1))
+    if ! cmp -s rendered exported || [ "$(cat told)" != "rendered $count skipped 0" ]; then
+        echo "render --workers $workers differs from what is exported, or says $(cat told)"
+        failed=$((failed + 1))
+    fi
+done
+pnmsplit rendered cut.%d || exit 1
+while read -r number columns lines most what; do
+    mv "cut.$number" picture.pgm || exit 1
+    $draw values "$number" > values
+    reads "$columns" "$lines" "$most"
+done < list
 "$station" shelf assemble 0 "$count" 300 1 > picture.pgm 2> told || { cat told; exit 1; }
 $draw whole > values
 reads 40 30 1023
