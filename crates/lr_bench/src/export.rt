@@ -18,8 +18,8 @@ const COLUMNS: usize = 1_024;
 /// The room of the shelf, and of the text.
 pub(crate) const ROOM: u64 = 1 << 26;
 
-/// The most calls on the disk. A round over one image needs fewer than ten.
-const CALLS: u64 = 1 << 32;
+/// The most calls on the disk. A round needs fewer than ten.
+const CALLS: u64 = 1 << 16;
 
 /// How many bytes at the front and at the end of a text are summed.
 const SUMMED: usize = 64;
