@@ -9,5 +9,7 @@ pub mod ReceiveEnding
 pub mod ShelvedLines
 pub mod Shelving
 pub mod Taking
+pub mod TrialEnding
 pub mod Trying
 pub mod WholeFrames
+pub mod Withdrawing

@@ -1,10 +1,6 @@
--- What `trial` leaves of the disk, at each of its exits.
+-- What `trial` leaves of the disk once its shelf is made, at each exit.
 use Rattle.std.proofs.Common.{
   ◌≡◌,
-  ◌⊎◌,
-  inl,
-  inr,
-  ⊎_elim,
   ℕ,
   ◌<◌,
   ◌≤◌,
@@ -41,7 +37,6 @@ use Rattle.lr_disk.specs.Disk.{LeavesOnly}
 use Rattle.lr_shelf_format.specs.Items.{Item}
 use Rattle.lr_shelf_format.specs.Reading.{StandsFor, end_of}
 use Rattle.lr_shelf.specs.Append.{item_for}
-use Rattle.lr_shelf.specs.Init.{Inits, IsInitRefusal, IsTaken}
 use Rattle.lr_shelf.specs.Load.{Loads, IsLoadRefusal}
 use Rattle.lr_shelf.specs.Kept.{kept_by}
 use Rattle.lr_shelf.specs.Shelf.{IsDurable, IsSettled}
@@ -50,27 +45,27 @@ use Rattle.lr_shelf.specs.declared.error.ShelfError.{ShelfError}
 use Rattle.lr_shelf.specs.declared.error.ShelfError.TheVariants.{
   Disk as Disk',
   NotAShelf as NotAShelf',
-  NotEmpty as NotEmpty',
   NoMemory as NoMemory',
 }
-use Rattle.lr_disk.proofs.Moments.{weaker, joined}
+use Rattle.lr_disk.proofs.Moments.{weaker}
 use Rattle.lr_forms.specs.declared.forms.Stop.{Stop}
 use Rattle.lr_forms.specs.declared.forms.Stop.TheVariants.{End, Limit, Fault}
 use Rattle.lr_causes.specs.declared.cause.Cause.{Cause}
 use Rattle.lr_causes.specs.declared.cause.Cause.TheVariants.{Done, Failed, NoMemory, Refused}
 use Rattle.lr_causes.specs.declared.cause.Party.TheVariants.{Source, Disk, Output}
-use Rattle.lr_causes.specs.declared.cause.Refusal.TheVariants.{NotAShelf, Capacity, NotEmpty}
+use Rattle.lr_causes.specs.declared.cause.Refusal.TheVariants.{NotAShelf, Capacity}
 use Rattle.lr_receiving.specs.declared.sums.Sums.{Sums}
 use Rattle.lr_conv.specs.declared.line.TheConstants.{STANDARD}
 use Rattle.lr_forms.specs.declared.forms.Input.TheVariants.{Symbols}
-use Rattle.lr_causes.specs.Causes.{cause_of, IsEarlier, counts}
+use Rattle.lr_causes.specs.Causes.{cause_of, counts}
 use Rattle.lr_receiving.specs.Inputs.{files_of_bytes}
 use Rattle.lr_reading.specs.Reading.{IsRead, EndsFor}
 use Rattle.lr_receiving.specs.Receive.{receive_last}
 use Rattle.lr_receiving.specs.Reception.{sums_line, PutsLast, LastStops, ReadsAll, ReadsSome}
 use Rattle.lr_receiving.specs.Shelving.{with_files, StandsForFront, LeavesFronts, StopsBy}
 use Rattle.lr_receiving.specs.Shelved.{MayStop, StopsTrial, ShelvesSoFar}
-use Rattle.lr_receiving.specs.Trial.{trial_capacity, StandsForPart, HoldsPart, DiskEnds, LeavesDisk, OutEnds, TrialRun}
+use Rattle.lr_receiving.specs.Trial.{trial_capacity, StandsForPart, HoldsPart, OutEnds}
+use Rattle.lr_receiving.specs.Filling.{FillEnds, FillsDisk, Fills}
 use Rattle.lr_receiving.proofs.Causing.{none_rose}
 use Rattle.lr_receiving.specs.First.{IsFirst}
 use Rattle.lr_receiving.proofs.Headline.{end_of-append}
@@ -89,11 +84,11 @@ stops_trial _ s s' d d' may caused = absurd may
 
 -- a front of the files of a part
 part_of : (symbols part later : List ℕ) → symbols ≡ part ++ later → (bytes : List ℕ)
-    → StandsForFront trial_capacity [] (files_of_bytes (Symbols STANDARD) part) 0 bytes → StandsForPart symbols bytes
+    → StandsForFront trial_capacity [] (files_of_bytes (Symbols STANDARD) part) 0 bytes → StandsForPart symbols 0 bytes
 part_of symbols part later split bytes stands = record { part = part; later = later; split = split; stands = stands }
 
 -- an empty shelf
-none_of : (symbols bytes : List ℕ) → StandsFor bytes trial_capacity [] → StandsForPart symbols bytes
+none_of : (symbols bytes : List ℕ) → StandsFor bytes trial_capacity [] → StandsForPart symbols 0 bytes
 none_of symbols bytes stands = part_of symbols [] symbols refl bytes (record {
   first = [];
   rest = [];
@@ -102,298 +97,225 @@ none_of symbols bytes stands = part_of symbols [] symbols refl bytes (record {
   stands = stands;
 })
 
-module _ {D : Type 0} (disk : DiskOf D) (symbols : List ℕ) (d d1 : D) where
-  -- ---- no shelf was made
-  module _ (result : Result (Unit {0}) ShelfError) (e : ShelfError) (is : result ≡ Err e)
-      (inits : Inits disk trial_capacity d d1 result) where
-    refusal : IsInitRefusal disk d e
-    refusal = subst (λ (r : Result (Unit {0}) ShelfError). IfErr r (IsInitRefusal disk d)) is inits.refused
+module _ {D : Type 0} (disk : DiskOf D) (symbols : List ℕ) (d1 : D)
+    (empty : disk.tells d1 → IsDurable disk trial_capacity [] d1) where
+  -- ---- the empty shelf was loaded, or not
+  module _ (d2 : D) (result2 : Result Shelf ShelfError) (loads : Loads disk d1 d2 result2) where
+    empty_moments : disk.tells d1 → LeavesOnly disk.moment disk.left_since d1 d2 (λ c. StandsFor c trial_capacity [])
+    empty_moments told =
+        let durable = empty told in
+        weaker disk.moment disk.left_since d1 d2 _ _
+        (λ c image. subst (λ (l : List ℕ). StandsFor l trial_capacity []) (sym (durable.durable c image))
+        durable.stands) (loads.unwritten told).any_moment
 
-    refused_ends : (e : ShelfError) → IsInitRefusal disk d e → DiskEnds disk symbols (cause_of e) d d1
-    refused_ends Disk' r = tt
-    refused_ends (NotEmpty' size) r = r
-    refused_ends _ r = absurd r
+    holds_none : disk.tells d1 → HoldsPart disk symbols 0 d2
+    holds_none told =
+        let durable = loads.durable trial_capacity [] told (empty told) in
+        record { contents = none_of symbols (disk.contents d2) durable.stands; images = durable.durable }
 
-    same_error : (other : ShelfError) → result ≡ Err other → e ≡ other
-    same_error other named = cc (is, named)
+    unloaded_ends : (e : ShelfError) → result2 ≡ Err e → IsLoadRefusal disk d1 e
+        → FillEnds disk symbols (cause_of e) d1 d2
+    unloaded_ends Disk' is r = tt
+    unloaded_ends (NotAShelf' at) is r = λ told. loads.is_shelf trial_capacity [] told (empty told).stands at is
+    unloaded_ends NoMemory' is r = λ told. holds_none told
+    unloaded_ends _ is r = absurd r
 
-    refused_why : (n : ℕ) → (result ≡ Err (NotEmpty' n)) ⊎ (result ≡ Err Disk')
-        → (cause_of e ≡ Refused (NotEmpty n)) ⊎ IsEarlier (cause_of e)
-    refused_why n (inl named) = inl (ap cause_of (same_error (NotEmpty' n) named))
-    refused_why n (inr named) = inr
-        (subst (λ (x : ShelfError). IsEarlier (cause_of x)) (sym (same_error Disk' named)) tt)
-
-    pub init_refused : LeavesDisk disk symbols (cause_of e) d d1
-    init_refused = record {
-      ends = refused_ends e refusal;
-      taken = λ told taken.
-          let t = inits.taken told taken in (refused_why (length (disk.contents d)) t.0, inr t.1);
-      any_moment = λ told free only. inr
-          (weaker disk.moment disk.left_since d d1 _ _ (λ c blank. inl blank) (inits.any_moment told free only));
+    pub not_loaded : (e : ShelfError) → result2 ≡ Err e → IsLoadRefusal disk d1 e
+        → FillsDisk disk symbols (cause_of e) d1 d2
+    not_loaded e is r = record {
+      ends = unloaded_ends e is r;
+      any_moment = λ told. weaker disk.moment disk.left_since d1 d2 _ _ (λ c stands. none_of symbols c stands)
+          (empty_moments told);
     }
 
-  -- ---- an empty shelf was made
-  module _ (result : Result (Unit {0}) ShelfError) (is : result ≡ Ok tt)
-      (inits : Inits disk trial_capacity d d1 result) where
-    durable1 : disk.tells d → IsDurable disk trial_capacity [] d1
-    durable1 told = subst (λ (r : Result (Unit {0}) ShelfError). OnOk r (IsDurable disk trial_capacity [] d1))
-        is (inits.made told)
+    -- ---- the files of the symbols, or of the first of them
+    module _ {S O : Type 0} (source : SourceOf S) (out : SinkOf O) (limit : ℕ) (few : length symbols < limit)
+        (shelf : Shelf) (is2 : result2 ≡ Ok shelf) (s s' : S) (given : source.tells s)
+        (gives : source.left s ≡ symbols) (d' : D) (o o' : O) where
+      begun : disk.tells d1 → ShelvesSoFar disk out trial_capacity [] [] shelf d1 d2 o o
+      begun told =
+          let settled = subst (λ (r : Result Shelf ShelfError). IfOk r
+          (λ x. IsSettled disk trial_capacity [] x d2)) is2
+          (loads.settled trial_capacity [] told (empty told).stands) in
+          loaded disk out trial_capacity [] d1 d2 o shelf settled (empty_moments told)
+          (same_of disk d1 d2 result2 shelf is2 loads.calls.counted)
 
-    same_count : disk.faults d1 ≡ disk.faults d
-    same_count = same_of disk d d1 result tt is inits.calls.counted
+      -- what was read is the first of the symbols
+      split_of : (bytes : List ℕ) → IsRead source limit bytes s s' → symbols ≡ bytes ++ source.left s'
+      split_of bytes read = sym gives ∙ read.moved given
 
-    not_taken : disk.tells d → IsTaken (disk.contents d) → ⊥
-    not_taken told taken = ⊎_elim (λ named. cc (is, named)) (λ named. cc (is, named)) (inits.taken told taken).0
+      module _ (part : List ℕ) (split : symbols ≡ part ++ source.left s') where
+        fronts : LeavesFronts disk trial_capacity [] (files_of_bytes (Symbols STANDARD) part) d1 d'
+            → LeavesOnly disk.moment disk.left_since d1 d' (StandsForPart symbols 0)
+        fronts = weaker disk.moment disk.left_since d1 d' _ _ (part_of symbols part (source.left s') split)
 
-    -- whatever comes after it
-    after : (cause : Cause) (d' : D) → DiskEnds disk symbols cause d d'
-        → (disk.tells d → LeavesOnly disk.moment disk.left_since d1 d' (StandsForPart symbols))
-        → LeavesDisk disk symbols cause d d'
-    after cause d' ends moments = record {
-      ends = ends;
-      taken = λ told taken. absurd (not_taken told taken);
-      any_moment = λ told free only.
-          inr (joined disk.moment disk.left_since d d1 d' _
-          (weaker disk.moment disk.left_since d d1 _ _ (λ c blank. inl blank) (inits.any_moment told free only))
-          (weaker disk.moment disk.left_since d1 d' _ _ (λ c part. inr part) (moments told)));
-    }
+        front_of : (done rest : List Placed) → files_of_bytes (Symbols STANDARD) part ≡ done ++ rest → (c : List ℕ)
+            → StandsFor c trial_capacity (with_files [] done) → StandsForPart symbols 0 c
+        front_of done rest is c stands =
+            part_of symbols part (source.left s') split c
+            (record { first = done; rest = rest; split = is; enough = omega arith; stands = stands })
 
-    -- ---- it was loaded, or not
-    module _ (d2 : D) (result2 : Result Shelf ShelfError) (loads : Loads disk d1 d2 result2) where
-      durable2 : disk.tells d → IsDurable disk trial_capacity [] d2
-      durable2 told = loads.durable trial_capacity [] (inits.calls.told told) (durable1 told)
+        holds_front : (done rest : List Placed) → files_of_bytes (Symbols STANDARD) part ≡ done ++ rest
+            → IsDurable disk trial_capacity (with_files [] done) d' → HoldsPart disk symbols 0 d'
+        holds_front done rest is durable =
+            record { contents = front_of done rest is (disk.contents d') durable.stands; images = durable.durable }
 
-      empty_moments : disk.tells d → LeavesOnly disk.moment disk.left_since d1 d2 (λ c. StandsFor c trial_capacity [])
-      empty_moments told =
-          let durable = durable1 told in
-          weaker disk.moment disk.left_since d1 d2 _ _
-          (λ c image. subst (λ (l : List ℕ). StandsFor l trial_capacity []) (sym (durable.durable c image))
-          durable.stands) (loads.unwritten (inits.calls.told told)).any_moment
+      -- shelving stopped
+      module _ (calm : Rose (source.faults s) (source.faults s') → ⊥)
+          (fit : end_of (with_files [] (files_of_bytes (Symbols STANDARD) symbols)) ≤ trial_capacity) (cause : Cause)
+          (some : ReadsSome source disk out (Symbols STANDARD) limit cause shelf s s' d2 d' o o') where
+        split : symbols ≡ some.bytes ++ source.left s'
+        split = split_of some.bytes some.read
 
-      holds_none : disk.tells d → HoldsPart disk symbols d2
-      holds_none told =
-          let durable = durable2 told in record {
-            contents = none_of symbols (disk.contents d2) durable.stands;
-            images = λ c image. none_of symbols c
-                (subst (λ (l : List ℕ). StandsFor l trial_capacity []) (sym (durable.durable c image)) durable.stands);
-          }
+        abbrev files : List Placed
+        files = files_of_bytes (Symbols STANDARD) some.bytes
 
-      unloaded_ends : (e : ShelfError) → result2 ≡ Err e → IsLoadRefusal disk d1 e
-          → DiskEnds disk symbols (cause_of e) d d2
-      unloaded_ends Disk' is r = tt
-      unloaded_ends (NotAShelf' at) is r = λ told.
-          loads.is_shelf trial_capacity [] (inits.calls.told told) (durable1 told).stands at is
-      unloaded_ends NoMemory' is r = λ told. inr (holds_none told)
-      unloaded_ends _ is r = absurd r
+        -- the files that were read are the first ones of all, and these fit
+        all_fit : (done rest : List Placed) (next : Placed) → some.files ≡ done ++ next ∷ rest → (needed : ℕ)
+            → needed ≡ end_of (with_files [] (done ++ next ∷ [])) → trial_capacity < needed → ⊥
+        all_fit done rest next is needed needs over =
+            let few_read : length some.bytes < limit =
+            omega (arith, few, ap length split, length-append some.bytes (source.left s')) in
+            let first = some.first STANDARD refl given few_read calm in
+            let all : files_of_bytes (Symbols STANDARD) symbols ≡ (done ++ next ∷ []) ++ (rest ++ first.0) =
+            ap (files_of_bytes (Symbols STANDARD)) split ∙ first.1 ∙ ap (λ (l : List Placed). l ++ first.0) is
+            ∙ append_assoc done (next ∷ rest) first.0 ∙ sym (append_assoc done (next ∷ []) (rest ++ first.0)) in
+            let whole : with_files [] (files_of_bytes (Symbols STANDARD) symbols)
+            ≡ with_files [] (done ++ next ∷ []) ++ map item_for (rest ++ first.0) =
+            ap (with_files []) all ∙ with_files-append [] (done ++ next ∷ []) (rest ++ first.0) in
+            let le = subst (λ (l : List Item). end_of (with_files [] (done ++ next ∷ [])) ≤ end_of l) (sym whole)
+            (end_of-append (with_files [] (done ++ next ∷ [])) (map item_for (rest ++ first.0))) in
+            omega (arith, le, needs, over, fit)
 
-      pub not_loaded : (e : ShelfError) → result2 ≡ Err e → IsLoadRefusal disk d1 e
-          → LeavesDisk disk symbols (cause_of e) d d2
-      not_loaded e is r =
-          after (cause_of e) d2 (unloaded_ends e is r)
-          (λ told. weaker disk.moment disk.left_since d1 d2 _ _ (λ c stands. none_of symbols c stands)
-          (empty_moments told))
+        stopped_ends : (c : Cause) → (disk.tells d1 → StopsBy disk out trial_capacity [] c files d1 d' o o')
+            → (disk.tells d1 → StopsBy disk out trial_capacity [] c some.files d1 d' o o') → StopsTrial c
+            → FillEnds disk symbols c d1 d'
+        stopped_ends (Failed Disk) why early kind = tt
+        stopped_ends NoMemory why early kind = λ told.
+            let w = why told in holds_front some.bytes split w.done w.rest w.split w.durable
+        stopped_ends (Refused (NotAShelf at)) why early kind = λ told. absurd (why told)
+        stopped_ends (Refused (Capacity needed most)) why early kind = λ told.
+            let w = early told in absurd (all_fit w.done w.rest w.next w.split needed w.needs w.over)
+        stopped_ends _ why early kind = absurd kind
 
-      -- ---- the files of the symbols, or of the first of them
-      module _ {S O : Type 0} (source : SourceOf S) (out : SinkOf O) (limit : ℕ) (few : length symbols < limit)
-          (shelf : Shelf) (is2 : result2 ≡ Ok shelf) (s s' : S) (given : source.tells s)
-          (gives : source.left s ≡ symbols) (d' : D) (o o' : O) where
-        begun : disk.tells d → ShelvesSoFar disk out trial_capacity [] [] shelf d1 d2 o o
-        begun told =
-            let settled = subst (λ (r : Result Shelf ShelfError). IfOk r
-            (λ x. IsSettled disk trial_capacity [] x d2)) is2
-            (loads.settled trial_capacity [] (inits.calls.told told) (durable1 told).stands) in
-            loaded disk out trial_capacity [] d1 d2 o shelf settled (empty_moments told)
-            (same_of disk d1 d2 result2 shelf is2 loads.calls.counted)
+        pub stopped : StopsTrial cause → FillsDisk disk symbols cause d1 d'
+        stopped kind = record {
+          ends = stopped_ends cause (λ told. (some.stops trial_capacity [] d1 o (begun told)).why)
+              (λ told. (some.early trial_capacity [] d1 o (begun told)).why) kind;
+          any_moment = λ told.
+              fronts some.bytes split (some.stops trial_capacity [] d1 o (begun told)).any_moment;
+        }
 
-        -- what was read is the first of the symbols
-        split_of : (bytes : List ℕ) → IsRead source limit bytes s s' → symbols ≡ bytes ++ source.left s'
-        split_of bytes read = sym gives ∙ read.moved given
+      -- all of them are shelved
+      module _ (sums : Sums) (shelf' : Shelf)
+          (all : ReadsAll source disk out (Symbols STANDARD) limit sums shelf shelf' s s' d2 d' o o')
+          (calm : Rose (source.faults s) (source.faults s') → ⊥) where
+        split_all : symbols ≡ all.bytes ++ source.left s'
+        split_all = split_of all.bytes all.ends.read
 
-        module _ (part : List ℕ) (split : symbols ≡ part ++ source.left s') where
-          fronts : LeavesFronts disk trial_capacity [] (files_of_bytes (Symbols STANDARD) part) d1 d'
-              → LeavesOnly disk.moment disk.left_since d1 d' (StandsForPart symbols)
-          fronts = weaker disk.moment disk.left_since d1 d' _ _ (part_of symbols part (source.left s') split)
+        no_longer : length all.bytes ≤ length symbols
+        no_longer = omega (arith, ap length split_all, length-append all.bytes (source.left s'))
 
-          front_of : (done rest : List Placed) → files_of_bytes (Symbols STANDARD) part ≡ done ++ rest → (c : List ℕ)
-              → StandsFor c trial_capacity (with_files [] done) → StandsForPart symbols c
-          front_of done rest is c stands =
-              part_of symbols part (source.left s') split c
-              (record { first = done; rest = rest; split = is; enough = omega arith; stands = stands })
+        at_end : (stop : Stop) → EndsFor source stop limit all.bytes s s' → (stop ≡ End) × (all.bytes ≡ symbols)
+        at_end End why = (refl, sym (split_all ∙ ap (λ l. all.bytes ++ l) (why.1 given) ∙ append-nil all.bytes))
+        at_end Limit why = absurd (omega (arith, why.0, no_longer, few))
+        at_end Fault why = absurd (calm why.1)
 
-          holds_front : (done rest : List Placed) → files_of_bytes (Symbols STANDARD) part ≡ done ++ rest
-              → IsDurable disk trial_capacity (with_files [] done) d' → HoldsPart disk symbols d'
-          holds_front done rest is durable = record {
-            contents = front_of done rest is (disk.contents d') durable.stands;
-            images = λ c image. front_of done rest is c
-                (subst (λ (l : List ℕ). StandsFor l trial_capacity (with_files [] done))
-                (sym (durable.durable c image)) durable.stands);
-          }
+        ended_so : (sums.totals.stop ≡ End) × (all.bytes ≡ symbols)
+        ended_so = at_end sums.totals.stop all.ends.reason
 
-        -- shelving stopped
-        module _ (calm : Rose (source.faults s) (source.faults s') → ⊥)
-            (fit : end_of (with_files [] (files_of_bytes (Symbols STANDARD) symbols)) ≤ trial_capacity) (cause : Cause)
-            (some : ReadsSome source disk out (Symbols STANDARD) limit cause shelf s s' d2 d' o o') where
-          split : symbols ≡ some.bytes ++ source.left s'
-          split = split_of some.bytes some.read
+        pub line : sums_line sums ≡ receive_last (Symbols STANDARD) symbols End
+        line = last_line source (Symbols STANDARD) limit all.bytes s s' sums all.ends all.counts
+            ∙ ap (λ stop. receive_last (Symbols STANDARD) all.bytes stop) ended_so.0
+            ∙ ap (λ bytes. receive_last (Symbols STANDARD) bytes End) ended_so.1
 
-          abbrev files : List Placed
-          files = files_of_bytes (Symbols STANDARD) some.bytes
+        pub finished : disk.faults d' ≡ disk.faults d2 → disk.faults d2 ≡ disk.faults d1
+            → FillsDisk disk symbols Done d1 d'
+        finished count count2 = record {
+          ends = (
+            λ told. subst (λ (l : List ℕ). IsDurable disk trial_capacity
+                (with_files [] (files_of_bytes (Symbols STANDARD) l)) d') ended_so.1
+                (all.shelved trial_capacity [] d1 o (begun told)).settled.on_disk,
+            count ∙ count2,
+          );
+          any_moment = λ told.
+              fronts all.bytes split_all (all.shelved trial_capacity [] d1 o (begun told)).any_moment;
+        }
 
-          -- the files that were read are the first ones of all, and these fit
-          all_fit : (done rest : List Placed) (next : Placed) → some.files ≡ done ++ next ∷ rest → (needed : ℕ)
-              → needed ≡ end_of (with_files [] (done ++ next ∷ [])) → trial_capacity < needed → ⊥
-          all_fit done rest next is needed needs over =
-              let few_read : length some.bytes < limit =
-              omega (arith, few, ap length split, length-append some.bytes (source.left s')) in
-              let first = some.first STANDARD refl given few_read calm in
-              let all : files_of_bytes (Symbols STANDARD) symbols ≡ (done ++ next ∷ []) ++ (rest ++ first.0) =
-              ap (files_of_bytes (Symbols STANDARD)) split ∙ first.1 ∙ ap (λ (l : List Placed). l ++ first.0) is
-              ∙ append_assoc done (next ∷ rest) first.0 ∙ sym (append_assoc done (next ∷ []) (rest ++ first.0)) in
-              let whole : with_files [] (files_of_bytes (Symbols STANDARD) symbols)
-              ≡ with_files [] (done ++ next ∷ []) ++ map item_for (rest ++ first.0) =
-              ap (with_files []) all ∙ with_files-append [] (done ++ next ∷ []) (rest ++ first.0) in
-              let le = subst (λ (l : List Item). end_of (with_files [] (done ++ next ∷ [])) ≤ end_of l) (sym whole)
-              (end_of-append (with_files [] (done ++ next ∷ [])) (map item_for (rest ++ first.0))) in
-              omega (arith, le, needs, over, fit)
+      -- ---- for either answer
+      abbrev AnswersAll : Shelf → Result Sums Cause → Type 0
+      AnswersAll shelf' answer = IfOk answer
+          (λ sums. ReadsAll source disk out (Symbols STANDARD) limit sums shelf shelf' s s' d2 d' o o')
 
-          stopped_ends : (c : Cause) → (disk.tells d → StopsBy disk out trial_capacity [] c files d1 d' o o')
-              → (disk.tells d → StopsBy disk out trial_capacity [] c some.files d1 d' o o') → StopsTrial c
-              → DiskEnds disk symbols c d d'
-          stopped_ends (Failed Disk) why early kind = tt
-          stopped_ends NoMemory why early kind = λ told.
-              let w = why told in inr (holds_front some.bytes split w.done w.rest w.split w.durable)
-          stopped_ends (Refused (NotAShelf at)) why early kind = λ told. absurd (why told)
-          stopped_ends (Refused (Capacity needed most)) why early kind = λ told.
-              let w = early told in absurd (all_fit w.done w.rest w.next w.split needed w.needs w.over)
-          stopped_ends (Refused (NotEmpty size)) why early kind = λ told. absurd (why told)
-          stopped_ends _ why early kind = absurd kind
+      abbrev AnswersSome : Result Sums Cause → Type 0
+      AnswersSome answer = IfErr answer
+          (λ cause. ReadsSome source disk out (Symbols STANDARD) limit cause shelf s s' d2 d' o o')
 
-          pub stopped : StopsTrial cause → LeavesDisk disk symbols cause d d'
-          stopped kind =
-              after cause d' (stopped_ends cause (λ told. (some.stops trial_capacity [] d1 o (begun told)).why)
-              (λ told. (some.early trial_capacity [] d1 o (begun told)).why) kind)
-              (λ told. fronts some.bytes split (some.stops trial_capacity [] d1 o (begun told)).any_moment)
+      pub lines : (shelf' : Shelf) (answer : Result Sums Cause) → AnswersAll shelf' answer
+          → (Rose (source.faults s) (source.faults s') → ⊥)
+          → IfOk answer (λ sums. sums_line sums ≡ receive_last (Symbols STANDARD) symbols End)
+      lines shelf' (Ok sums) all calm = line sums shelf' all calm
+      lines shelf' (Err cause) all calm = tt
 
-        -- all of them are shelved
-        module _ (sums : Sums) (shelf' : Shelf)
-            (all : ReadsAll source disk out (Symbols STANDARD) limit sums shelf shelf' s s' d2 d' o o')
-            (calm : Rose (source.faults s) (source.faults s') → ⊥) where
-          split_all : symbols ≡ all.bytes ++ source.left s'
-          split_all = split_of all.bytes all.ends.read
+      pub all_done : (shelf' : Shelf) (answer : Result Sums Cause) → AnswersAll shelf' answer
+          → (Rose (source.faults s) (source.faults s') → ⊥)
+          → OnOk answer ((disk.faults d' ≡ disk.faults d2) × (out.faults o' ≡ out.faults o))
+          → OnOk answer (FillsDisk disk symbols Done d1 d')
+      all_done shelf' (Ok sums) all calm same =
+          finished sums shelf' all calm same.0 (same_of disk d1 d2 result2 shelf is2 loads.calls.counted)
+      all_done shelf' (Err cause) all calm same = tt
 
-          no_longer : length all.bytes ≤ length symbols
-          no_longer = omega (arith, ap length split_all, length-append all.bytes (source.left s'))
-
-          at_end : (stop : Stop) → EndsFor source stop limit all.bytes s s' → (stop ≡ End) × (all.bytes ≡ symbols)
-          at_end End why = (refl, sym (split_all ∙ ap (λ l. all.bytes ++ l) (why.1 given) ∙ append-nil all.bytes))
-          at_end Limit why = absurd (omega (arith, why.0, no_longer, few))
-          at_end Fault why = absurd (calm why.1)
-
-          ended_so : (sums.totals.stop ≡ End) × (all.bytes ≡ symbols)
-          ended_so = at_end sums.totals.stop all.ends.reason
-
-          pub line : sums_line sums ≡ receive_last (Symbols STANDARD) symbols End
-          line = last_line source (Symbols STANDARD) limit all.bytes s s' sums all.ends all.counts
-              ∙ ap (λ stop. receive_last (Symbols STANDARD) all.bytes stop) ended_so.0
-              ∙ ap (λ bytes. receive_last (Symbols STANDARD) bytes End) ended_so.1
-
-          pub finished : disk.faults d' ≡ disk.faults d2 → disk.faults d2 ≡ disk.faults d1
-              → LeavesDisk disk symbols Done d d'
-          finished count count2 =
-              after Done d' (
-                λ told. subst (λ (l : List ℕ). IsDurable disk trial_capacity
-                    (with_files [] (files_of_bytes (Symbols STANDARD) l)) d') ended_so.1
-                    (all.shelved trial_capacity [] d1 o (begun told)).settled.on_disk,
-                count ∙ count2 ∙ same_count,
-              )
-              (λ told. fronts all.bytes split_all (all.shelved trial_capacity [] d1 o (begun told)).any_moment)
-
-        -- ---- for either answer
-        abbrev AnswersAll : Shelf → Result Sums Cause → Type 0
-        AnswersAll shelf' answer = IfOk answer
-            (λ sums. ReadsAll source disk out (Symbols STANDARD) limit sums shelf shelf' s s' d2 d' o o')
-
-        abbrev AnswersSome : Result Sums Cause → Type 0
-        AnswersSome answer = IfErr answer
-            (λ cause. ReadsSome source disk out (Symbols STANDARD) limit cause shelf s s' d2 d' o o')
-
-        pub lines : (shelf' : Shelf) (answer : Result Sums Cause) → AnswersAll shelf' answer
-            → (Rose (source.faults s) (source.faults s') → ⊥)
-            → IfOk answer (λ sums. sums_line sums ≡ receive_last (Symbols STANDARD) symbols End)
-        lines shelf' (Ok sums) all calm = line sums shelf' all calm
-        lines shelf' (Err cause) all calm = tt
-
-        pub all_done : (shelf' : Shelf) (answer : Result Sums Cause) → AnswersAll shelf' answer
-            → (Rose (source.faults s) (source.faults s') → ⊥)
-            → OnOk answer ((disk.faults d' ≡ disk.faults d2) × (out.faults o' ≡ out.faults o))
-            → OnOk answer (LeavesDisk disk symbols Done d d')
-        all_done shelf' (Ok sums) all calm same =
-            finished sums shelf' all calm same.0 (same_of disk d1 d2 result2 shelf is2 loads.calls.counted)
-        all_done shelf' (Err cause) all calm same = tt
-
-        pub some_done : (answer : Result Sums Cause) → AnswersSome answer
-            → (Rose (source.faults s) (source.faults s') → ⊥)
-            → end_of (with_files [] (files_of_bytes (Symbols STANDARD) symbols)) ≤ trial_capacity
-            → IfErr answer MayStop → (f f' g g' : ℕ)
-            → ((kept_by shelf).failed ≡ false
-            → IfErr answer (λ cause. IsFirst cause (counts f g 0) (counts f' g' 0)))
-            → IfErr answer (λ cause. LeavesDisk disk symbols cause d d')
-        some_done (Ok sums) some calm fit may f f' g g' caused = tt
-        some_done (Err cause) some calm fit may f f' g g' caused =
-            let working = subst (λ (r : Result Shelf ShelfError). IfOk r (λ x. (kept_by x).failed ≡ false)) is2
-            loads.working in
-            stopped calm fit cause some (stops_trial cause f f' g g' may (caused working))
+      pub some_done : (answer : Result Sums Cause) → AnswersSome answer
+          → (Rose (source.faults s) (source.faults s') → ⊥)
+          → end_of (with_files [] (files_of_bytes (Symbols STANDARD) symbols)) ≤ trial_capacity
+          → IfErr answer MayStop → (f f' g g' : ℕ)
+          → ((kept_by shelf).failed ≡ false
+          → IfErr answer (λ cause. IsFirst cause (counts f g 0) (counts f' g' 0)))
+          → IfErr answer (λ cause. FillsDisk disk symbols cause d1 d')
+      some_done (Ok sums) some calm fit may f f' g g' caused = tt
+      some_done (Err cause) some calm fit may f f' g g' caused =
+          let working = subst (λ (r : Result Shelf ShelfError). IfOk r (λ x. (kept_by x).failed ≡ false)) is2
+          loads.working in
+          stopped calm fit cause some (stops_trial cause f f' g g' may (caused working))
 
 -- the last line wasn't put, after all was shelved
 module _ {D O : Type 0} (disk : DiskOf D) (out : SinkOf O) (symbols : List ℕ) (d d' : D) (o o' : O)
-    (done : LeavesDisk disk symbols Done d d') where
-  not_done : disk.tells d → IsTaken (disk.contents d) → ⊥
-  not_done told taken = ⊎_elim (λ named. cc (named)) (λ early. absurd early) (done.taken told taken).0
-
-  all_held : disk.tells d → HoldsPart disk symbols d'
+    (done : FillsDisk disk symbols Done d d') where
+  all_held : disk.tells d → HoldsPart disk symbols 0 d'
   all_held told =
       let durable = done.ends.0 told in
       let files = files_of_bytes (Symbols STANDARD) symbols in
-      let whole : (c : List ℕ) → StandsFor c trial_capacity (with_files [] files) → StandsForPart symbols c =
-      λ c stands. part_of symbols symbols [] (sym (append-nil symbols)) c
-      (record {
-        first = files;
-        rest = [];
-        split = sym (append-nil files);
-        enough = omega arith;
-        stands =
-            stands;
-      }) in
       record {
-        contents = whole (disk.contents d') durable.stands;
-        images = λ c image. whole c (subst (λ (l : List ℕ). StandsFor l trial_capacity (with_files [] files))
-            (sym (durable.durable c image)) durable.stands);
+        contents = part_of symbols symbols [] (sym (append-nil symbols)) (disk.contents d')
+            (record {
+              first = files;
+              rest = [];
+              split = sym (append-nil files);
+              enough = omega arith;
+              stands = durable.stands;
+            });
+        images = durable.durable;
       }
 
-  left_by : (cause : Cause) → DiskEnds disk symbols cause d d' → LeavesDisk disk symbols cause d d'
-  left_by cause ends = record {
-    ends = ends;
-    taken = λ told taken. absurd (not_done told taken);
-    any_moment =
-        done.any_moment;
-  }
+  left_by : (cause : Cause) → FillEnds disk symbols cause d d' → FillsDisk disk symbols cause d d'
+  left_by cause ends = record { ends = ends; any_moment = done.any_moment }
 
   module _ (sums : Sums) (line : sums_line sums ≡ receive_last (Symbols STANDARD) symbols End) where
-    pub last_stops : (cause : Cause) → LastStops out sums cause o o' → TrialRun disk out symbols cause d d' o o'
+    pub last_stops : (cause : Cause) → LastStops out sums cause o o' → Fills disk out symbols cause d d' o o'
     last_stops (Failed Output) stops = record {
       on_disk = left_by (Failed Output) done.ends.0;
       on_out = λ told. subst (λ (l : List ℕ). PutsPart l (out.contents o) (out.contents o')) line (stops.part told);
       first = (stops.rose, done.ends.1);
     }
     last_stops NoMemory stops = record {
-      on_disk = left_by NoMemory (λ told. inr (all_held told));
+      on_disk = left_by NoMemory all_held;
       on_out = stops;
       first = (done.ends.1, ap out.faults stops);
     }
     last_stops _ stops = absurd stops
 
     -- it was
-    pub last_put : PutsLast out sums o o' → TrialRun disk out symbols Done d d' o o'
+    pub last_put : PutsLast out sums o o' → Fills disk out symbols Done d d' o o'
     last_put puts = record {
       on_disk = done;
       on_out = (
@@ -412,7 +334,7 @@ module _ {D O : Type 0} (disk : DiskOf D) (out : SinkOf O) (symbols : List ℕ) 
   silent (Failed Disk) stops = refl
   silent _ stops = refl
 
-  pub beside_out : (cause : Cause) → StopsTrial cause
+  beside_out : (cause : Cause) → StopsTrial cause
       → IsFirst cause (counts 0 (disk.faults d) 0) (counts 0 (disk.faults d') 0)
       → IsFirst cause (counts 0 (disk.faults d) (out.faults o)) (counts 0 (disk.faults d') (out.faults o))
   beside_out Done stops first = absurd stops
@@ -421,8 +343,8 @@ module _ {D O : Type 0} (disk : DiskOf D) (out : SinkOf O) (symbols : List ℕ) 
   beside_out (Failed Disk) stops first = (first.0, refl)
   beside_out _ stops first = (first.0, refl)
 
-  pub stream_stops : (cause : Cause) → StopsTrial cause → LeavesDisk disk symbols cause d d'
+  pub stream_stops : (cause : Cause) → StopsTrial cause → FillsDisk disk symbols cause d d'
       → IsFirst cause (counts 0 (disk.faults d) 0) (counts 0 (disk.faults d') 0)
-      → TrialRun disk out symbols cause d d' o o
-  stream_stops cause stops leaves first =
-      record { on_disk = leaves; on_out = silent cause stops; first = beside_out cause stops first }
+      → Fills disk out symbols cause d d' o o
+  stream_stops cause stops fills first =
+      record { on_disk = fills; on_out = silent cause stops; first = beside_out cause stops first }

@@ -1,3 +1,4 @@
+pub mod Filling
 pub mod First
 pub mod Init
 pub mod Inputs

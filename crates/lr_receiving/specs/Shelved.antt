@@ -12,7 +12,7 @@ use Rattle.lr_shelf.specs.declared.shelf.Shelf.{Shelf}
 use Rattle.lr_causes.specs.declared.cause.Cause.{Cause}
 use Rattle.lr_causes.specs.declared.cause.Cause.TheVariants.{Failed, NoMemory, Refused}
 use Rattle.lr_causes.specs.declared.cause.Party.TheVariants.{Disk, Output}
-use Rattle.lr_causes.specs.declared.cause.Refusal.TheVariants.{NotAShelf, Capacity, NotEmpty}
+use Rattle.lr_causes.specs.declared.cause.Refusal.TheVariants.{NotAShelf, Capacity}
 use Rattle.lr_causes.specs.Puts.{Puts}
 use Rattle.lr_receiving.specs.Onto.{end_with, HasRoom, IsFullWith}
 use Rattle.lr_receiving.specs.Shelving.{with_files, next_number, shelved_lines, LeavesFronts}
@@ -25,13 +25,12 @@ MayStop NoMemory = Unit {0}
 MayStop (Refused (Capacity needed capacity)) = Unit {0}
 MayStop _ = ⊥
 
--- the causes for which a trial may stop before its last line
+-- the causes for which a trial may stop after its shelf was made, and before its last line
 abbrev pub StopsTrial : Cause → Type 0
 StopsTrial (Failed Disk) = Unit {0}
 StopsTrial NoMemory = Unit {0}
 StopsTrial (Refused (NotAShelf at)) = Unit {0}
 StopsTrial (Refused (Capacity needed capacity)) = Unit {0}
-StopsTrial (Refused (NotEmpty size)) = Unit {0}
 StopsTrial _ = ⊥
 
 -- over every disk: these files were shelved, and the shelf in memory ends after them

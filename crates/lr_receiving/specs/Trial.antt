@@ -24,21 +24,28 @@ use Rattle.lr_receiving.specs.Shelving.{with_files, StandsForFront, Got}
 abbrev pub trial_capacity : ℕ
 trial_capacity = 1048576
 
--- a shelf of that capacity with a front of the files of these symbols, or of the first of them, stands for these bytes
-pub record StandsForPart (symbols bytes : List ℕ) : Type 0 where
+-- these bytes stand for a shelf of that capacity with a front of the files of these symbols, or of the first of them; it
+-- has n of the files at least
+pub record StandsForPart (symbols : List ℕ) (n : ℕ) (bytes : List ℕ) : Type 0 where
   pub part : List ℕ
   pub later : List ℕ
   pub split : symbols ≡ part ++ later
-  pub stands : StandsForFront trial_capacity [] (files_of_bytes (Symbols STANDARD) part) 0 bytes
+  pub stands : StandsForFront trial_capacity [] (files_of_bytes (Symbols STANDARD) part) n bytes
+
+module _ {D : Type 0} (disk : DiskOf D) where
+  -- the disk has no bytes, now and after a crash
+  pub record IsBare (d : D) : Type 0 where
+    pub contents : disk.contents d ≡ []
+    pub images : Only [] (disk.may_leave d)
 
 module _ {D : Type 0} (disk : DiskOf D) (symbols : List ℕ) where
-  -- the contents are such a shelf, and so is each crash image
-  pub record HoldsPart (d : D) : Type 0 where
-    pub contents : StandsForPart symbols (disk.contents d)
-    pub images : (c : List ℕ) → disk.may_leave d c → StandsForPart symbols c
+  -- the contents are such a shelf, and so is the one crash image
+  pub record HoldsPart (n : ℕ) (d : D) : Type 0 where
+    pub contents : StandsForPart symbols n (disk.contents d)
+    pub images : Only (disk.contents d) (disk.may_leave d)
 
-  -- How the call leaves the disk, for each cause that it may have. Where the disk tells its contents, there is never no
-  -- shelf, and all files fit.
+  -- How the call leaves the disk, for each cause that it may have. At want of memory it is as it was, or it has no
+  -- bytes, or a file stands on it. Where the disk tells its contents, there is never no shelf, and all files fit.
   abbrev pub DiskEnds : Cause → D → D → Type 0
   DiskEnds Done d d' =
       (disk.tells d → IsDurable disk trial_capacity (with_files [] (files_of_bytes (Symbols STANDARD) symbols)) d')
@@ -46,7 +53,7 @@ module _ {D : Type 0} (disk : DiskOf D) (symbols : List ℕ) where
   DiskEnds (Failed Disk) d d' = Unit {0}
   DiskEnds (Failed Output) d d' =
       disk.tells d → IsDurable disk trial_capacity (with_files [] (files_of_bytes (Symbols STANDARD) symbols)) d'
-  DiskEnds NoMemory d d' = disk.tells d → (d' ≡ d) ⊎ HoldsPart d'
+  DiskEnds NoMemory d d' = disk.tells d → (d' ≡ d) ⊎ IsBare disk d' ⊎ HoldsPart 1 d'
   DiskEnds (Refused (NotAShelf at)) d d' = disk.tells d → ⊥
   DiskEnds (Refused (Capacity needed most)) d d' = disk.tells d → ⊥
   DiskEnds (Refused (NotEmpty size)) d d' =
@@ -63,7 +70,7 @@ module _ {D : Type 0} (disk : DiskOf D) (symbols : List ℕ) where
     -- with some of the files
     pub any_moment : disk.tells d → (IsTaken (disk.contents d) → ⊥) → Only (disk.contents d) (disk.may_leave d)
         → (d' ≡ d)
-        ⊎ LeavesOnly disk.moment disk.left_since d d' (λ c. IsBlank trial_capacity c ⊎ StandsForPart symbols c)
+        ⊎ LeavesOnly disk.moment disk.left_since d d' (λ c. IsBlank trial_capacity c ⊎ StandsForPart symbols 0 c)
 
 module _ {D O : Type 0} (disk : DiskOf D) (out : SinkOf O) (symbols : List ℕ) where
   -- what `out` got: the last line of `receive` alone, where the work is done
@@ -76,5 +83,5 @@ module _ {D O : Type 0} (disk : DiskOf D) (out : SinkOf O) (symbols : List ℕ) 
   pub record TrialRun (cause : Cause) (d d' : D) (o o' : O) : Type 0 where
     pub on_disk : LeavesDisk disk symbols cause d d'
     pub on_out : OutEnds cause o o'
-    -- the first event decides
+    -- the first event decides, but a disk that fails as the shelf is taken away is told instead of want of memory
     pub first : IsFirst cause (counts 0 (disk.faults d) (out.faults o)) (counts 0 (disk.faults d') (out.faults o'))

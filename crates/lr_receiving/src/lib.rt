@@ -15,6 +15,7 @@ mod shelver;
 mod sums;
 mod test_stream;
 mod trial_run;
+mod withdrawal;
 
 pub use new_shelf::init;
 pub use reception::{receive, receive_by_team};

@@ -3,10 +3,12 @@ ghost use Rattle.std.specs.Prelude.{◌≡◌, ◌≤◌, ◌<◌, ◌^◌, ◌+
 ghost use Rattle.lr_forms.specs.declared.forms.Stop.TheVariants.{End};
 ghost use Rattle.lr_conv.specs.declared.line.TheConstants.{STANDARD as standard};
 ghost use Rattle.lr_shelf_format.specs.Reading.{end_of};
+ghost use Rattle.lr_shelf.specs.Shelf.{IsDurable};
 ghost use Rattle.lr_make.specs.Blocks.{block_at};
 ghost use Rattle.lr_make.specs.Frames.{frame_at};
 ghost use Rattle.lr_make.specs.Received.{IsReceivedAs};
 ghost use Rattle.lr_causes.specs.Causes.{IsCaused, counts};
+ghost use Rattle.lr_receiving.specs.Filling.{FillsDisk, Fills};
 ghost use Rattle.lr_receiving.specs.First.{IsFirst};
 ghost use Rattle.lr_receiving.specs.Inputs.{files_of_bytes};
 ghost use Rattle.lr_receiving.specs.Made.{made_bytes};
@@ -18,13 +20,14 @@ ghost use Rattle.lr_receiving.specs.Shelved.{StopsTrial};
 ghost use Rattle.lr_receiving.specs.ShelverTaken.{ShelverTook, ShelverStopped};
 ghost use Rattle.lr_receiving.specs.Shelving.{with_files};
 ghost use Rattle.lr_receiving.specs.Sure.{sure_source, sure_sink};
-ghost use Rattle.lr_receiving.specs.Trial.{trial_capacity, LeavesDisk, TrialRun};
+ghost use Rattle.lr_receiving.specs.Trial.{trial_capacity, TrialRun};
 ghost use Rattle.lr_forms.specs.declared.forms.Input.TheVariants.{Symbols};
 ghost use Rattle.lr_forms.specs.declared.forms.TheConstants.{MOST_BYTES as most_bytes};
 
 use crate::reception::{put_last, receive_all};
 use crate::shelver::Shelver;
 use crate::sums::Sums;
+use crate::withdrawal::withdraw;
 use lr_bits::{FRAME_SYMBOLS, NoMemory};
 use lr_causes::Cause;
 use lr_conv::STANDARD;
@@ -64,7 +67,7 @@ fn stream(alloc: Global, start: u64, frames: u64, wrong: u8) -> Result<Vec<u8>, 
     Ok(all)
 }
 
-/// Makes an empty shelf on the disk, and puts the files of these symbols onto it.
+/// Puts the files of these symbols onto the empty shelf on the disk.
 fn shelve_stream<
     D: Disk,
     F: FnOnce(&mut SureSource, &mut Shelver<'_, D, SureSink>) -> Result<Totals, Cause>,
@@ -74,15 +77,15 @@ fn shelve_stream<
         (ShelverStopped D.Disk sure_sink) (Symbols standard) most_bytes }
     requires few { length symbols.items < most_bytes }
     requires fit { end_of (with_files [] (files_of_bytes (Symbols standard) symbols.items)) ≤ trial_capacity }
+    requires empty { D.tells disk.old → IsDurable D.Disk trial_capacity [] disk.old }
     ensures cause { IfErr result (λ cause. IsFirst cause (counts 0 (D.faults disk.old) 0)
         (counts 0 (D.faults disk.new) 0)) }
     ensures told { D.tells disk.old → D.tells disk.new }
     ensures kind { IfErr result StopsTrial }
     ensures line { IfOk result (λ sums. sums_line sums ≡ receive_last (Symbols standard) symbols.items End) }
-    ensures done { OnOk result (LeavesDisk D.Disk symbols.items Cause.Done disk.old disk.new) }
-    ensures stopped { IfErr result (λ cause. LeavesDisk D.Disk symbols.items cause disk.old disk.new) }
+    ensures done { OnOk result (FillsDisk D.Disk symbols.items Cause.Done disk.old disk.new) }
+    ensures stopped { IfErr result (λ cause. FillsDisk D.Disk symbols.items cause disk.old disk.new) }
 {
-    Shelf::init(disk, CAPACITY)?;
     let mut shelf = Shelf::load(alloc, disk)?;
     let mut source = SureSource::of(symbols);
     let mut lines = SureSink::new();
@@ -97,6 +100,32 @@ fn shelve_stream<
         &mut lines,
         read,
     )
+}
+
+/// Puts the files of these symbols onto the empty shelf on the disk, and then the last line.
+fn fill<
+    D: Disk,
+    O: Sink,
+    F: FnOnce(&mut SureSource, &mut Shelver<'_, D, SureSink>) -> Result<Totals, Cause>,
+>(alloc: Global, symbols: Vec<u8>, disk: &mut D, out: &mut O, read: F) -> Cause
+    requires ready { MayLead (F.pre read) (ShelverTook D.Disk sure_sink) }
+    requires leads { Leads (F.post read) sure_source (ShelverTook D.Disk sure_sink)
+        (ShelverStopped D.Disk sure_sink) (Symbols standard) most_bytes }
+    requires few { length symbols.items < most_bytes }
+    requires fit { end_of (with_files [] (files_of_bytes (Symbols standard) symbols.items)) ≤ trial_capacity }
+    requires empty { D.tells disk.old → IsDurable D.Disk trial_capacity [] disk.old }
+    ensures told_by_disk { D.tells disk.old → D.tells disk.new }
+    ensures told_by_out { O.tells out.old → O.tells out.new }
+    ensures fills { Fills D.Disk O.Sink symbols.items result disk.old disk.new out.old out.new }
+{
+    let sums = match shelve_stream(alloc, symbols, disk, read) {
+        Ok(sums) => sums,
+        Err(cause) => return cause,
+    };
+    match put_last(alloc, &sums, out) {
+        Ok(()) => Cause::Done,
+        Err(cause) => cause,
+    }
 }
 
 /// What `trial` does once there is memory for reading: that for the symbols is taken, and the call `read` leads through
@@ -122,19 +151,18 @@ fn trial_with<
         Ok(symbols) => symbols,
         Err(NoMemory) => return Cause::NoMemory,
     };
-    let sums = match shelve_stream(alloc, symbols, disk, read) {
-        Ok(sums) => sums,
-        Err(cause) => return cause,
-    };
-    match put_last(alloc, &sums, out) {
-        Ok(()) => Cause::Done,
-        Err(cause) => cause,
+    match Shelf::init(disk, CAPACITY) {
+        Err(error) => Cause::from(error),
+        Ok(()) => match fill(alloc, symbols, disk, out, read) {
+            Cause::NoMemory => withdraw(disk),
+            cause => cause,
+        },
     }
 }
 
 /// Makes the symbols of this many frames of the test stream, an empty shelf on the disk, and puts the mission files
 /// of the symbols onto it. The last line alone is printed. The memory for the symbols, and for reading them, is taken
-/// first.
+/// first. Where memory is refused later, and no file stands on the shelf yet, the shelf is taken away again.
 pub fn trial<D: Disk, O: Sink>(
     alloc: Global,
     start: u64,

@@ -1,0 +1,28 @@
+use Rattle.lr_shelf_format.proofs.Results.{on_ok}
+use Rattle.lr_receiving.specs.Trial.{trial_capacity}
+use Rattle.lr_receiving.proofs.Withdrawing.{has_gate, stays, gone, cleared_moments}
+use Rattle.lr_receiving.proofs.withdrawal.take_away.Goals as goal
+
+pub returns-then-branch-clause-ends : goal.returns-then-branch-clause-ends
+returns-then-branch-clause-ends g c told items durable =
+    let read = c.in_ok-is_first_gate_open.ensures in
+    let long = has_gate (g.D.Disk.contents c.args.disk.now) trial_capacity items durable.stands in
+    stays g.D.Disk items c.args.disk.now c.is_first_gate_open.new.disk durable (read.reads.unwritten told)
+    ((read.gate told long).0 c.if-branch.true)
+
+pub returns-clause-ends : goal.returns-clause-ends
+returns-clause-ends g c told items durable =
+    let read = c.in_ok-is_first_gate_open.ensures in
+    let long = has_gate (g.D.Disk.contents c.args.disk.now) trial_capacity items durable.stands in
+    on_ok c.clear.result
+    (gone g.D.Disk items c.args.disk.now c.is_first_gate_open.new.disk durable (read.reads.unwritten told)
+    (λ is_open. cc (c.if-branch.false, (read.gate told long).1 is_open)) c.clear.new.disk)
+    (c.clear.ensures.cleared (read.reads.told told))
+
+pub returns-clause-any_moment : goal.returns-clause-any_moment
+returns-clause-any_moment g c told items durable =
+    let read = c.in_ok-is_first_gate_open.ensures in
+    let long = has_gate (g.D.Disk.contents c.args.disk.now) trial_capacity items durable.stands in
+    cleared_moments g.D.Disk items c.args.disk.now c.is_first_gate_open.new.disk durable (read.reads.unwritten told)
+    (λ is_open. cc (c.if-branch.false, (read.gate told long).1 is_open)) c.clear.new.disk
+    (c.clear.ensures.any_moment (read.reads.told told))

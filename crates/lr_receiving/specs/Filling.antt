@@ -1,0 +1,46 @@
+-- How `trial` fills the shelf that it made, and takes it away again. No clause of a public call cites this.
+use Rattle.std.specs.Prelude.{◌≡◌, ◌≢◌, ◌⊎◌, ℕ, List, []}
+use Rattle.lr_io.specs.declared.sink.Sink.{Ghosts as SinkOf}
+use Rattle.lr_disk.specs.declared.disk.Disk.{Ghosts as DiskOf}
+use Rattle.lr_disk.specs.Disk.{LeavesOnly}
+use Rattle.lr_shelf_format.specs.Items.{Item}
+use Rattle.lr_shelf_format.specs.Reading.{StandsFor}
+use Rattle.lr_shelf.specs.Init.{IsBlank}
+use Rattle.lr_shelf.specs.Shelf.{IsDurable}
+use Rattle.lr_causes.specs.declared.cause.Cause.{Cause}
+use Rattle.lr_causes.specs.declared.cause.Cause.TheVariants.{NoMemory, Refused}
+use Rattle.lr_causes.specs.declared.cause.Refusal.TheVariants.{NotEmpty}
+use Rattle.lr_causes.specs.Causes.{counts}
+use Rattle.lr_receiving.specs.First.{IsFirst}
+use Rattle.lr_receiving.specs.Trial.{trial_capacity, StandsForPart, IsBare, HoldsPart, DiskEnds, OutEnds}
+
+module _ {D : Type 0} (disk : DiskOf D) (symbols : List ℕ) where
+  -- how it leaves the disk, for each cause that it may have: as the whole call, but at want of memory perhaps no file
+  -- stands there
+  abbrev pub FillEnds : Cause → D → D → Type 0
+  FillEnds NoMemory d d' = disk.tells d → HoldsPart disk symbols 0 d'
+  FillEnds (Refused (NotEmpty size)) d d' = ⊥
+  FillEnds cause d d' = DiskEnds disk symbols cause d d'
+
+  pub record FillsDisk (cause : Cause) (d d' : D) : Type 0 where
+    pub ends : FillEnds cause d d'
+    -- a crash at any moment leaves a shelf with some of the files
+    pub any_moment : disk.tells d → LeavesOnly disk.moment disk.left_since d d' (StandsForPart symbols 0)
+
+module _ {D O : Type 0} (disk : DiskOf D) (out : SinkOf O) (symbols : List ℕ) where
+  -- what filling the shelf does, from the first read of the disk to the last line
+  pub record Fills (cause : Cause) (d d' : D) (o o' : O) : Type 0 where
+    pub on_disk : FillsDisk disk symbols cause d d'
+    pub on_out : OutEnds disk out symbols cause o o'
+    pub first : IsFirst cause (counts 0 (disk.faults d) (out.faults o)) (counts 0 (disk.faults d') (out.faults o'))
+
+module _ {D : Type 0} (disk : DiskOf D) (items : List Item) where
+  -- a shelf of no items was taken away, and one of some items stayed
+  abbrev pub IsWithdrawn : D → Type 0
+  IsWithdrawn d = ((items ≡ []) × IsBare disk d) ⊎ ((items ≢ []) × IsDurable disk trial_capacity items d)
+
+  -- each image since the moment of d has at most 20 bytes, with no header or an empty shelf, or stands for these items
+  abbrev pub LeavesBlankOrItems : D → D → Type 0
+  LeavesBlankOrItems d d' =
+      LeavesOnly disk.moment disk.left_since d d'
+      (λ c. IsBlank trial_capacity c ⊎ StandsFor c trial_capacity items)
