@@ -19,8 +19,8 @@ PIECES = 32  # how many times the lines stand in a coded image
 WHO = {0: 'export', 1: 'render, 1', 2: 'render, 2', 4: 'render, 4'}
 # what the images are, the words before and after the rounds, the input, rounds, images, and the pixels of an image
 JOBS = [
-    ('8 bits, not compressed', ['render'], None, 16, 8, 1024 * 1024),
-    ('10 bits, coded, 5,500 columns', ['render-lossless', '10', '16', '5500', '10'], 'wide', 8, 4, PIECES * 10 * 5500),
+    ('8 bits, not compressed', ['render'], None, 8, 16, 1024 * 1024),
+    ('10 bits, coded, 5,500 columns', ['render-lossless', '10', '16', '5500', '10'], 'wide', 4, 16, PIECES * 10 * 5500),
     ('10 bits, coded, 64 columns', ['render-lossless', '10', '16', '64', '2'], 'small', 48, 64, PIECES * 2 * 64),
 ]
 

@@ -25,6 +25,7 @@ mod path;
 mod render;
 mod shelf;
 mod sums;
+mod text;
 mod words;
 
 use shelf::Trouble;

@@ -5,19 +5,16 @@ ghost use Rattle.std.specs.Prelude.{◌≤◌};
 use crate::export::{ROOM, coded_file, image_file, shelf_with};
 use crate::lines::{Shape, number_at, shape_of};
 use crate::shelf::Trouble;
-use crate::sums::{sum_with, sum_with_bytes};
+use crate::sums::sum_with;
+use crate::text::Text;
 use lr_bits::MissionFile;
 use lr_commands::export::export;
 use lr_disk::MemDisk;
-use lr_io::MemSink;
 use lr_rendering::{render, render_by_all};
 use std::alloc::Global;
 use std::io::Read;
 use std::sync::Wait;
 use std::thread::Threads;
-
-/// How many bytes at the front and at the end of the texts are summed.
-const SUMMED: usize = 64;
 
 /// The most images on the shelf.
 const MOST_IMAGES: u32 = 1_024;
@@ -48,7 +45,7 @@ fn task_of(words: &[String]) -> Option<Task> {
 }
 
 /// Writes the image of each file, one after another, and answers the last status.
-fn export_each(alloc: Global, images: u32, disk: &mut MemDisk, out: &mut MemSink) -> u8 {
+fn export_each(alloc: Global, images: u32, disk: &mut MemDisk, out: &mut Text) -> u8 {
     let mut status = 0;
     for number in 0..images {
         status = export(alloc, u64::from(number), disk, out).status();
@@ -62,7 +59,7 @@ fn write_images<T: Threads + Wait + Sync>(
     alloc: Global,
     task: Task,
     disk: &mut MemDisk,
-    out: &mut MemSink,
+    out: &mut Text,
 ) -> u8 {
     match task.workers {
         0 => export_each(alloc, task.images, disk, out),
@@ -79,14 +76,11 @@ fn checksum_of<T: Threads + Wait + Sync>(
     disk: &mut MemDisk,
 ) -> Result<u64, Trouble> {
     let mut sum = 0;
+    let mut out = Text::new(alloc, ROOM as usize)?;
     for _ in 0..task.rounds {
-        let mut out = MemSink::of(alloc, Vec::new(alloc), ROOM as usize)?;
+        out.clear();
         let status = write_images(threads, alloc, task, disk, &mut out);
-        let text = out.as_slice();
-        sum = sum_with(sum, u64::from(status));
-        sum = sum_with(sum, text.len() as u64);
-        sum = sum_with_bytes(sum, &text[..text.len().min(SUMMED)]);
-        sum = sum_with_bytes(sum, &text[text.len().saturating_sub(SUMMED)..]);
+        sum = out.sum(sum_with(sum, u64::from(status)));
     }
     Ok(sum)
 }

@@ -113,6 +113,11 @@ impl<'i, 's, 'c, H: Hand, S: Source, C: Consumer> Lead<Hired<H>> for WindowLead<
         Ok(next_window(self.intake, self.source))
     }
 
+    /// No: the source may wait for symbols, and what is done goes out before that.
+    fn gives_at_once(&self) -> bool {
+        false
+    }
+
     fn keep(&mut self, done: FrameDone) -> Result<(), C::Cause> {
         hand_over(self.intake, self.consumer, done)
     }

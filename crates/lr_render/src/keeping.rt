@@ -82,16 +82,5 @@ fn append(
         *kept = room_for(alloc, file, skipped, layout.shape)?;
         kept.truncate(0);
     }
-    extend(kept, pixels)
-}
-
-/// Appends pixels, or none of them.
-fn extend(kept: &mut Pixels, pixels: &[u16]) -> Result<(), NoMemory>
-    ensures ok { OnOk result (kept.new ≡ kept.old ++ pixels.now) }
-    ensures err { OnErr result (kept.new ≡ kept.old) }
-{
-    let before = kept.as_slice().len();
-    kept.grow(pixels.len())?;
-    kept.as_mut_slice()[before..].copy_from_slice(pixels);
-    Ok(())
+    kept.extend(pixels)
 }

@@ -153,6 +153,10 @@ impl<'d, 'o, D: Disk, O: Sink> Lead<RenderWork> for RenderLead<'d, 'o, D, O> {
         }
     }
 
+    fn gives_at_once(&self) -> bool {
+        true
+    }
+
     fn keep(&mut self, done: DoneStrip) -> Result<(), Cause> {
         self.queue.keep(done)?;
         self.put_complete()?;

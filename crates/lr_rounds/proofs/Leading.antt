@@ -291,3 +291,21 @@ module _ {L W J D : Type 0} (left : L → ℕ) (gate : Gate W J D) {first second
       ) in
       let yes : did ≡ true = iff.1 (subst (λ (v : View J). SomeUnfinished v) (sym third_is) unfinished) in
       let clash : false ≡ true = sym none ∙ yes in cc
+
+-- a job was put, or none: no more is left to do
+pub none_more : {L W J D : Type 0} (left : L → ℕ) (first second : Conductor W J D) (traffic again : Traffic)
+    (before now : L) (did : Bool)
+    → (did ≡ true → rounds_left left second again now < rounds_left left first traffic before)
+    → (did ≡ false → PutsNone left first second traffic again before now)
+    → rounds_left left second again now ≤ rounds_left left first traffic before
+none_more left first second traffic again before now true fewer none = let less = fewer refl in omega (arith, less)
+none_more {L} {W} {J} {D} left first second traffic again before now false fewer none =
+    let put = none refl in
+    omega (
+      arith,
+      put.no_more,
+      ap (λ (k : Conductor W J D). unfinished_count (view_of k)) put.same,
+      ap (λ (k : Conductor W J D). put_count (view_of k)) put.same,
+      ap (λ (k : Conductor W J D). (view_of k).taken) put.same,
+      ap {B = ℕ} (λ (t : Traffic). cond t.over 0 1) put.same_traffic,
+    )

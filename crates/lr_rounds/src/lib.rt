@@ -6,7 +6,8 @@
 //! `lead_alone` leads on the caller's thread, and returns for every lead. `lead_beside` has a thread for each seat,
 //! and may wait. `lead_by_all` takes either, by the number of seats.
 //!
-//! All make the same rounds (`next_round`): keep what came of the oldest job, or else put a job, or else do one.
+//! All make the same rounds (`next_round`): keep what came of the oldest job, or else put a job, or else do one. A
+//! lead that gives its jobs at once has the next one put as soon as one is kept.
 //! What a round keeps is `MayGoOn` (`Rounds`): the jobs of the ring are those that the lead gave, and those taken are
 //! those of which it kept what came. So the order comes from the lead alone, and not from who finished first.
 #![tactic(auto)]

@@ -1,5 +1,5 @@
 //! One round of leading jobs through a ring.
-ghost use Rattle.std.specs.Prelude.{◌≡◌, ◌≢◌, ◌<◌, false, true, IfOk, IfErr};
+ghost use Rattle.std.specs.Prelude.{◌≡◌, ◌≢◌, ◌<◌, ◌≤◌, false, true, IfOk, IfErr, OnOk};
 ghost use Rattle.lr_gate.specs.Seats.{cells_of, workers_of, IsConductorOf, view_of};
 ghost use Rattle.lr_rounds.specs.Rounds.{MayGoOn, Goes, Stops, KeepsNone, PutsNone, rounds_left};
 ghost use Rattle.lr_rounds.specs.declared.round.Round.TheVariants.{Worked, Waits};
@@ -99,8 +99,36 @@ fn put_next<W: Work, L: Lead<W>>(
     }
 }
 
-/// Keeps what came of a job, or else puts a job, or else does one, whichever can be done first. `cells` is how many
-/// cells the ring has.
+/// Puts the next job after one was kept, if the lead gives it at once. So nobody waits for a job while all that is done
+/// is kept.
+fn refill<W: Work, L: Lead<W>>(
+    gate: &Gate<W>,
+    conductor: &mut Conductor<W>,
+    cells: u32,
+    lead: &mut L,
+    traffic: &mut Traffic,
+) -> Result<(), L::Cause>
+    requires going { (entry : L) × MayGoOn L.stands L.is_over gate.now conductor.old traffic.old entry lead.old }
+    requires cells { cells ≡ cells_of gate.now }
+    requires some { 0 < cells }
+    ensures mine { IsConductorOf gate.now conductor.new }
+    ensures running { (view_of conductor.new).stopped ≡ false }
+    ensures goes { (entry : L) → MayGoOn L.stands L.is_over gate.now conductor.old traffic.old entry lead.old
+        → OnOk result (MayGoOn L.stands L.is_over gate.now conductor.new traffic.new entry lead.new) }
+    ensures stops { (entry : L) → MayGoOn L.stands L.is_over gate.now conductor.old traffic.old entry lead.old
+        → IfErr result (λ cause. Stops L.stands L.stopped cause entry lead.new) }
+    ensures no_more { OnOk result (rounds_left L.left conductor.new traffic.new lead.new
+        ≤ rounds_left L.left conductor.old traffic.old lead.old) }
+{
+    if !lead.gives_at_once() {
+        return Ok(());
+    }
+    put_next(gate, conductor, cells, lead, traffic)?;
+    Ok(())
+}
+
+/// Keeps what came of a job, and puts the next one if the lead gives it at once; or else puts a job, or else does one,
+/// whichever can be done first. `cells` is how many cells the ring has.
 pub(crate) fn next_round<W: Work, L: Lead<W>>(
     gate: &Gate<W>,
     conductor: &mut Conductor<W>,
@@ -124,6 +152,7 @@ pub(crate) fn next_round<W: Work, L: Lead<W>>(
     ensures alone { workers_of gate.now ≡ 0 → IfOk result (λ round. round ≢ Waits) }
 {
     if keep_oldest(gate, conductor, lead, traffic)? {
+        refill(gate, conductor, cells, lead, traffic)?;
         return Ok(Round::Worked);
     }
     if put_next(gate, conductor, cells, lead, traffic)? {

@@ -9,11 +9,17 @@ use std::alloc::Global;
 use std::test::Fail;
 
 // Whether all numbers come back in order, where at most `at_once` are under way.
-fn comes_back(alloc: Global, limit: u32, at_once: u32) -> Result<bool, NoMemory>
+fn comes_back(
+    alloc: Global,
+    limit: u32,
+    at_once: u32,
+    is_eager: bool,
+) -> Result<bool, NoMemory>
     requires { 0 < at_once }
 {
     let crew = Crew::new(alloc, Vec::new(alloc), Same)?;
     let mut roll = Roll::new(limit, at_once);
+    roll.is_eager = is_eager;
     let led = lead_alone(crew, &mut roll).is_ok();
     Ok(led && roll.is_complete())
 }
@@ -32,10 +38,12 @@ fn stops(alloc: Global, mut roll: Roll) -> Result<Option<(Refused, u32)>, NoMemo
 #[test]
 fn numbers_come_back_in_order(rt: HostRuntime) -> Result<(), Fail> {
     let alloc = rt.alloc();
-    assert!(rt; comes_back(alloc, 100, 1)?);
-    assert!(rt; comes_back(alloc, 100, 3)?);
-    assert!(rt; comes_back(alloc, 100, 1_000)?);
-    assert!(rt; comes_back(alloc, 0, 1)?);
+    for is_eager in [false, true] {
+        assert!(rt; comes_back(alloc, 100, 1, is_eager)?);
+        assert!(rt; comes_back(alloc, 100, 3, is_eager)?);
+        assert!(rt; comes_back(alloc, 100, 1_000, is_eager)?);
+        assert!(rt; comes_back(alloc, 0, 1, is_eager)?);
+    }
     Ok(())
 }
 

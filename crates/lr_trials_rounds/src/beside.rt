@@ -28,11 +28,13 @@ fn comes_back<R: Threads + Wait + Sync>(
     rt: &R,
     alloc: Global,
     seats: usize,
+    is_eager: bool,
 ) -> Result<bool, NoMemory>
     requires { seats ≤ 63 }
 {
     let crew = crew_of(alloc, seats)?;
     let mut roll = Roll::new(1_000, 100);
+    roll.is_eager = is_eager;
     let led = lead_by_all(rt, crew, &mut roll).is_ok();
     Ok(led && roll.is_complete())
 }
@@ -92,10 +94,11 @@ fn is_noticed_alone(alloc: Global) -> Result<bool, NoMemory> {
 #[test]
 fn any_number_of_seats_leads_alike(rt: HostRuntime) -> Result<(), Fail> {
     let alloc = rt.alloc();
-    assert!(rt; comes_back(&rt, alloc, 0)?);
-    assert!(rt; comes_back(&rt, alloc, 1)?);
-    assert!(rt; comes_back(&rt, alloc, 3)?);
-    assert!(rt; comes_back(&rt, alloc, 63)?);
+    assert!(rt; comes_back(&rt, alloc, 0, true)?);
+    assert!(rt; comes_back(&rt, alloc, 1, true)?);
+    assert!(rt; comes_back(&rt, alloc, 3, true)?);
+    assert!(rt; comes_back(&rt, alloc, 63, true)?);
+    assert!(rt; comes_back(&rt, alloc, 3, false)?);
     Ok(())
 }
 

@@ -17,6 +17,8 @@ pub struct Roll {
     pub limit: u32,
     /// How many numbers may be given and not kept.
     pub at_once: u32,
+    /// Whether the next number is put as soon as one is kept.
+    pub is_eager: bool,
     /// The number that it refuses to give.
     pub never_given: u32,
     /// The number that it refuses to keep.
@@ -57,6 +59,10 @@ impl<W: Work<Job = u32, Done = u32>> Lead<W> for Roll {
         Ok(Offer::Job(self.given - 1))
     }
 
+    fn gives_at_once(&self) -> bool {
+        self.is_eager
+    }
+
     fn keep(&mut self, done: u32) -> Result<(), Refused> {
         if done == self.never_kept {
             return Err(Refused::Keep(done));
@@ -78,6 +84,7 @@ impl Roll {
         Roll {
             limit,
             at_once,
+            is_eager: false,
             never_given: limit,
             never_kept: limit,
             given: 0,

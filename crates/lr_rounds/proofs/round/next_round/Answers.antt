@@ -1,8 +1,28 @@
-use Rattle.std.proofs.Common.{refl}
+use Rattle.std.proofs.Common.{refl, arith}
+use Rattle.std.proofs.lemmas.Result.{err_from_is_err_and}
 use Rattle.lr_gate.specs.Seats.{cells_of, view_of}
 use Rattle.lr_rounds.proofs.Left.{helped}
 use Rattle.lr_rounds.proofs.Leading.{goes_on_same, fewer_helped, ends_well}
 use Rattle.lr_rounds.proofs.round.next_round.Goals as goal
+
+pub refill-requires-clause-going : goal.refill-requires-clause-going
+refill-requires-clause-going g c κs within =
+    (c.requires.going.0, c.in_ok-keep_oldest.ensures.goes c.requires.going.0 c.requires.going.1)
+
+pub returns-in_err-refill-clause-stops : goal.returns-in_err-refill-clause-stops
+returns-in_err-refill-clause-stops g c = λ entry may.
+    let stops = c.in_err-refill.ensures.stops entry (c.in_ok-keep_oldest.ensures.goes entry may) in
+    let p = err_from_is_err_and c.from_residual-in_err-refill.result c.from_residual-in_err-refill.ensures.1 in
+    rw (p.1, p.2) stops
+
+pub returns-then-branch-clause-goes : goal.returns-then-branch-clause-goes
+returns-then-branch-clause-goes g c = λ entry may.
+    c.in_ok-refill.ensures.goes entry (c.in_ok-keep_oldest.ensures.goes entry may)
+
+pub returns-then-branch-clause-fewer : goal.returns-then-branch-clause-fewer
+returns-then-branch-clause-fewer g c = λ worked.
+    let kept = c.in_ok-keep_oldest.ensures.fewer c.if-branch.true in
+    omega (arith, kept, c.in_ok-refill.ensures.no_more)
 
 pub returns-then-branch-2-clause-goes : goal.returns-then-branch-2-clause-goes
 returns-then-branch-2-clause-goes g c = λ entry may.
