@@ -52,6 +52,7 @@ lines_stop out front line o p o' put (Failed Output) stop = record {
 lines_stop out front line o p o' put NoMemory stop = record {
   told = λ tells. subst (λ x. out.tells x) (sym stop) (put.told tells);
   front = λ tells. record { front = front; rest = line; split = refl; put = ap out.contents stop ∙ put.put tells };
+  kept = ap out.faults stop ∙ put.kept;
 }
 lines_stop out front line o p o' put _ stop = absurd stop
 
@@ -71,6 +72,7 @@ module _ {S O : Type 0} (source : SourceOf S) (out : SinkOf O) (lines : List ℕ
     read = record { told = λ t. t; moved = λ t. refl; few = omega arith; asked = inl refl };
     told = λ t. t;
     front = λ t. record { front = []; rest = lines []; split = refl; put = sym (append-nil (out.contents o)) };
+    out_count = refl;
   }
 
   -- the lines of the bytes read begin with these, which were not all put
@@ -105,6 +107,7 @@ module _ {S O : Type 0} (source : SourceOf S) (out : SinkOf O) (lines : List ℕ
           split = all ∙ ap (λ (l : List ℕ). l ++ later) some.split ∙ append_assoc some.front some.rest later;
           put = some.put;
         };
+    out_count = stop.kept;
   }
   lines_stopped bytes front later s s' o o' read all _ stop = absurd stop
 
@@ -153,5 +156,6 @@ module _ {S O : Type 0} (source : SourceOf S) (out : SinkOf O) (lines : List ℕ
         split = sym (append-nil (lines bytes));
         put = ap out.contents same ∙ put.put tells;
       };
+      out_count = ap out.faults same ∙ put.kept;
     }
     last_stopped o' _ wrong = absurd wrong

@@ -48,6 +48,7 @@ module _ {S O : Type 0} (source : SourceOf S) (out : SinkOf O) (lines : List ℕ
     pub read : IsRead source limit bytes s s'
     pub told : out.tells o → out.tells o'
     pub front : out.tells o → PutsFront (lines bytes) (out.contents o) (out.contents o')
+    pub out_count : out.faults o' ≡ out.faults o
 
   -- how such a command ends, for each cause that it may have
   abbrev pub Prints : Cause → S → S → O → O → Type 0

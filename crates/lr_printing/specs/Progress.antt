@@ -11,6 +11,7 @@ module _ {O : Type 0} (out : SinkOf O) where
   pub record PutsSome (text : List ℕ) (o o' : O) : Type 0 where
     pub told : out.tells o → out.tells o'
     pub front : out.tells o → PutsFront text (out.contents o) (out.contents o')
+    pub kept : out.faults o' ≡ out.faults o
 
   -- what became of lines that were not all put
   abbrev pub LinesStop : List ℕ → Cause → O → O → Type 0

@@ -9,12 +9,7 @@ use std::alloc::Global;
 use std::test::Fail;
 
 // Whether all numbers come back in order, where at most `at_once` are under way.
-fn comes_back(
-    alloc: Global,
-    limit: u32,
-    at_once: u32,
-    is_eager: bool,
-) -> Result<bool, NoMemory>
+fn comes_back(alloc: Global, limit: u32, at_once: u32, is_eager: bool) -> Result<bool, NoMemory>
     requires { 0 < at_once }
 {
     let crew = Crew::new(alloc, Vec::new(alloc), Same)?;
