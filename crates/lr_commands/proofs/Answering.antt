@@ -34,7 +34,6 @@ use Rattle.lr_shelf_format.specs.Way.{Way}
 use Rattle.lr_shelf_format.proofs.WayLemmas.{has_one_way}
 use Rattle.lr_causes.specs.declared.cause.Refusal.{Refusal}
 use Rattle.lr_causes.specs.declared.cause.Refusal.TheVariants.{NotAShelf}
-use Rattle.lr_causes.specs.declared.note.Note.{Note}
 use Rattle.lr_commands.specs.declared.range.Range.{Range}
 use Rattle.lr_commands.specs.Asked.{
   Asked,

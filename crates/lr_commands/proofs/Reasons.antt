@@ -65,7 +65,6 @@ use Rattle.lr_commands.specs.Asked.{
   IsAnswer,
   IsRefusedFor,
   IsSeen,
-  PutsOneText,
   Seen,
   Whole,
   Wrong,
@@ -79,8 +78,7 @@ use Rattle.lr_commands.specs.Extract.{extract_asked}
 use Rattle.lr_causes.specs.Faults.{image_fault}
 use Rattle.lr_commands.specs.Files.{one_entry, refused_for}
 use Rattle.lr_commands.specs.Laws.{HasReasons, ExtractHasReasons, HasExportReasons, ExportHasReasons, SaysWhy}
-use Rattle.lr_commands.specs.Laws.{VerifyHasReasons}
-use Rattle.lr_commands.specs.Show.{show_asked}
+use Rattle.lr_commands.specs.Laws.{OneFilePutsOneText, VerifyHasReasons}
 use Rattle.lr_commands.specs.Verify.{none_bad, verdict, verify_asked}
 use Rattle.lr_commands.proofs.Answering.{err_is, some_is, some_or_none}
 use Rattle.lr_commands.proofs.Verifying.{none_bad-absent, none_bad-whole, none_bad-wrong}
@@ -209,20 +207,8 @@ module _ (number : ℕ) (bytes : List ℕ) (way : Way) (is : IsWay bytes way) wh
 pub has_reasons : ExtractHasReasons
 has_reasons number bytes way is = reasons number bytes way is
 
-pub puts_one_text : (number : ℕ) → PutsOneText (extract_asked number)
-puts_one_text number = record {
-  one = λ count range allowed. range_of number _ range allowed;
-  nothing_last = λ way read. refl;
-}
-
-pub export_puts_one_text : (number : ℕ) → PutsOneText (export_asked number)
-export_puts_one_text number = record {
-  one = λ count range allowed. range_of number _ range allowed;
-  nothing_last = λ way read. refl;
-}
-
-pub show_puts_one_text : (number : ℕ) → PutsOneText (show_asked number)
-show_puts_one_text number = record {
+pub one_file_puts_one_text : OneFilePutsOneText
+one_file_puts_one_text looks becomes number = record {
   one = λ count range allowed. range_of number _ range allowed;
   nothing_last = λ way read. refl;
 }

@@ -1,5 +1,6 @@
 -- What is true of all bytes.
-use Rattle.std.specs.Prelude.{◌≡◌, ◌⊎◌, ◌<◌, ◌≤◌, ◌++◌, ℕ, true, false, Some, None, Ok, Err, List, length}
+use Rattle.std.specs.Prelude.{◌≡◌, ◌⊎◌, ◌<◌, ◌≤◌, ◌++◌, ℕ, Bool, true, false, Some, None, Result, Ok, Err}
+use Rattle.std.specs.Prelude.{List, length}
 use Rattle.lr_bits.specs.File.{proper_of}
 use Rattle.lr_image.specs.Pgm.{pgm_text}
 use Rattle.lr_image.specs.Picture.{Picture}
@@ -11,7 +12,9 @@ use Rattle.lr_commands.specs.Asked.{Asked, Answer, entry_at, IsAnswer, IsBegun, 
 use Rattle.lr_commands.specs.Export.{export_asked}
 use Rattle.lr_commands.specs.Extract.{extract_asked}
 use Rattle.lr_causes.specs.Faults.{image_fault}
-use Rattle.lr_commands.specs.Show.{show_asked}
+use Rattle.lr_commands.specs.Files.{asked_of_files, asked_of_one}
+use Rattle.lr_commands.specs.declared.opened.Opened.{Opened}
+use Rattle.lr_causes.specs.declared.cause.Refusal.{Refusal}
 use Rattle.lr_commands.specs.Verify.{verify_asked}
 use Rattle.lr_causes.specs.declared.cause.Refusal.TheVariants.{NotAShelf, NoSuchFile, BadChecksum, Discarded}
 use Rattle.lr_causes.specs.declared.cause.Refusal.TheVariants.{CannotExport}
@@ -79,17 +82,11 @@ pub record HasExportReasons (number : ℕ) (bytes : List ℕ) (way : Way) : Type
 abbrev pub ExportHasReasons : Type 0
 ExportHasReasons = (number : ℕ) (bytes : List ℕ) (way : Way) → IsWay bytes way → HasExportReasons number bytes way
 
--- its only text is that of one entry
-abbrev pub ExportPutsOneText : Type 0
-ExportPutsOneText = (number : ℕ) → PutsOneText (export_asked number)
-
--- so is that of `extract`
-abbrev pub ExtractPutsOneText : Type 0
-ExtractPutsOneText = (number : ℕ) → PutsOneText (extract_asked number)
-
--- so is that of `show`
-abbrev pub ShowPutsOneText : Type 0
-ShowPutsOneText = (number : ℕ) → PutsOneText (show_asked number)
+-- the only text of a command on a file's number is that of one entry
+abbrev pub OneFilePutsOneText : Type 0
+OneFilePutsOneText =
+    (looks : Bool) (becomes : ℕ → Opened → Result (List ℕ) Refusal) (number : ℕ)
+    → PutsOneText (asked_of_files (asked_of_one looks becomes number))
 
 -- Each reason that `verify` has for a refusal, and that it has no other.
 pub record SaysWhy (bytes : List ℕ) (way : Way) (answer : Answer) : Type 0 where

@@ -1,9 +1,8 @@
 -- `render`: the images of all files as PGM, in the order of the entries.
-use Rattle.std.specs.Prelude.{ℕ, Bool, true, false, not, Option, Some, None, Result, Ok, Err, List, [], count_by}
+use Rattle.std.specs.Prelude.{ℕ, Bool, true, false, not, Option, Some, Result, Ok, List, [], count_by}
 use Rattle.lr_image.specs.Pgm.{pgm_text}
 use Rattle.lr_image.specs.Picture.{Picture}
 use Rattle.lr_image.specs.declared.fault.ImageFault.{ImageFault}
-use Rattle.lr_causes.specs.declared.note.Note.{Note}
 use Rattle.lr_causes.specs.declared.note.Note.TheVariants.{Rendered}
 use Rattle.lr_commands.specs.declared.opened.Opened.{Opened}
 use Rattle.lr_commands.specs.Asked.{Asked}

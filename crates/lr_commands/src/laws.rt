@@ -2,10 +2,8 @@
 ghost use Rattle.lr_commands.specs.Laws.{
   BegunComesFirst,
   ExportHasReasons,
-  ExportPutsOneText,
   ExtractHasReasons,
-  ExtractPutsOneText,
-  ShowPutsOneText,
+  OneFilePutsOneText,
   HasOneAnswer,
   VerifyHasReasons,
 };
@@ -26,24 +24,14 @@ pub fn extract_has_reasons()
     ensures { ExtractHasReasons }
 {}
 
-/// `extract` puts the text of one entry, and nothing else.
-pub fn extract_puts_one_text()
-    ensures { ExtractPutsOneText }
+/// A command on a file's number puts the text of one entry, and nothing else: so do `extract`, `export` and `show`.
+pub fn one_file_puts_one_text()
+    ensures { OneFilePutsOneText }
 {}
 
 /// What `export` is refused for, reason by reason, and what it puts.
 pub fn export_has_reasons()
     ensures { ExportHasReasons }
-{}
-
-/// `export` puts the text of one entry, and nothing else.
-pub fn export_puts_one_text()
-    ensures { ExportPutsOneText }
-{}
-
-/// `show` puts the text of one entry, and nothing else.
-pub fn show_puts_one_text()
-    ensures { ShowPutsOneText }
 {}
 
 /// What `verify` is refused for, reason by reason.

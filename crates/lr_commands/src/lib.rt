@@ -30,9 +30,8 @@ pub mod verify;
 
 pub use files::{Files, ReadsFiles};
 pub use laws::{
-    begun_texts_come_first, bytes_have_one_answer, export_has_reasons, export_puts_one_text,
-    extract_has_reasons, extract_puts_one_text, render_puts_images, show_puts_one_text,
-    verify_has_reasons,
+    begun_texts_come_first, bytes_have_one_answer, export_has_reasons, extract_has_reasons,
+    one_file_puts_one_text, render_puts_images, verify_has_reasons,
 };
 pub use opened::Opened;
 pub use pgm::put_pgm;
