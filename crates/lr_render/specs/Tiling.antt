@@ -8,7 +8,6 @@ use Rattle.lr_headers.specs.declared.fields.Structure.{Structure}
 use Rattle.lr_headers.specs.declared.fields.Lossless.{Lossless}
 use Rattle.lr_image.specs.declared.layout.Layout.{Layout}
 use Rattle.lr_image.specs.Reading.{data_field, data_pieces}
-use Rattle.lr_render.specs.declared.cut.TheConstants.{MOST_STRIP_LINES, MOST_STRIP_PIXELS}
 use Rattle.lr_render.specs.declared.strip.Coding.TheVariants.{Plain, Coded}
 use Rattle.lr_render.specs.declared.strip.StripSource.{StripSource}
 
@@ -34,7 +33,7 @@ plain_strip s field from lines = record {
 
 -- how many lines a strip has
 abbrev pub strip_lines : Structure → ℕ
-strip_lines s = max 1 (min MOST_STRIP_LINES (MOST_STRIP_PIXELS / s.columns))
+strip_lines s = max 1 (min 64 (65536 / s.columns))
 
 -- how many strips this many lines need
 abbrev pub plain_count : Structure → ℕ → ℕ

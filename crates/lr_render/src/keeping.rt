@@ -1,6 +1,6 @@
 //! How what comes of strips is kept.
 
-ghost use Rattle.std.specs.Prelude.{◌≡◌, ◌++◌, OnErr, OnOk};
+ghost use Rattle.std.specs.Prelude.{◌≡◌, ◌++◌, IsSome, OnErr, OnOk};
 ghost use Rattle.lr_image.specs.declared.fault.ImageFault.TheVariants.{Rice};
 ghost use Rattle.lr_render.specs.Giving.{CanBeCut};
 ghost use Rattle.lr_render.specs.Keeping.{CanCount, Takes};
@@ -37,6 +37,8 @@ impl Keeping {
         requires count { CanCount self.old strip.now }
         requires cut { CanBeCut file.now layout }
         ensures ok { OnOk result (Takes self.old self.new strip.now) }
+        // After a fault no pixels are kept, so no memory is asked for.
+        ensures sure { IsSome self.old.fault → OnErr result ⊥ }
         ensures err { OnErr result (self.new ≡ self.old) }
     {
         if self.fault.is_some() {
