@@ -7,6 +7,7 @@ use crate::run::Run;
 /// Says which file of which downlink an entry of the shelf is.
 #[derive(Clone, Copy)]
 pub struct Receipt {
+    /// The number of the downlink, counted from 0.
     pub downlink: u8,
     /// Which of the downlink's files it is, counted from 0.
     pub place: u64,

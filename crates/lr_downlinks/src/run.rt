@@ -23,6 +23,7 @@ pub struct Run {
     pub base: u64,
     /// The downlink of each file, a byte each.
     pub order: Bytes,
+    /// Why no more files were appended.
     pub result: RunEnd,
     pub ghost numbered: { base + length order < 18446744073709551616 },
 }
