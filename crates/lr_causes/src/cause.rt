@@ -9,8 +9,11 @@ use lr_shelf::ShelfError;
 /// Who failed, and counted it.
 #[derive(Clone, Copy)]
 pub enum Party {
+    /// What the input is read from.
     Source,
+    /// What the shelf stands on.
     Disk,
+    /// What the lines and bytes of a command are put to.
     Output,
 }
 
@@ -42,13 +45,17 @@ pub enum Refusal {
 /// Why a call ended.
 #[derive(Clone, Copy)]
 pub enum Cause {
+    /// The work is done.
     Done,
     /// Done, and this is told of it.
     DoneWith(Note),
     /// The words give no command.
     Usage,
+    /// This party failed.
     Failed(Party),
+    /// No memory was left.
     NoMemory,
+    /// The work is refused for what was found.
     Refused(Refusal),
 }
 

@@ -5,21 +5,37 @@ use lr_segment::AssembleFault;
 /// Why no PGM can be put: the fault of an image or of an assembly, without its values, or that no segment was met.
 #[derive(Clone, Copy)]
 pub enum ExportFault {
+    /// The header of the file can't be read.
     Headers,
+    /// The file type isn't that of images.
     NotImage,
+    /// There is no image structure record.
     NoStructure,
+    /// The file is encrypted.
     Encrypted,
+    /// It is compressed in a way that isn't decoded.
     Compression,
+    /// A pixel has a number of bits that isn't read.
     Depth,
+    /// The image has no columns or no lines.
     Empty,
+    /// The image has more than 268,435,456 pixels.
     TooLarge,
+    /// The lossless record lacks the flag of value 32, the unit delay predictor.
     Flags,
+    /// The lossless record has a number of samples that no block has.
     BlockSize,
+    /// The lossless record says that a packet has no lines.
     LinesPerPacket,
+    /// A piece of coded lines can't be decoded.
     Rice,
+    /// There are fewer pixels than columns times lines.
     Short,
+    /// The pixels of a segment have other bits than those before it.
     Depths,
+    /// A segment passes the columns or the lines of the whole image.
     Outside,
+    /// No segment of the image was met whose own image can be read.
     NoSegment,
 }
 
@@ -91,9 +107,13 @@ impl ExportFault {
 /// long.
 #[derive(Clone, Copy)]
 pub enum CodingFault {
+    /// A pixel has fewer than 5 bits.
     Depth,
+    /// A line would take more than 65,534 bytes.
     Line,
+    /// The first body would have more than 65,534 bytes.
     Header,
+    /// The file would have more than 67,108,864 bytes.
     File,
 }
 

@@ -23,6 +23,7 @@ pub trait ReadsFiles {
     ghost use Rattle.lr_commands.specs.Files.{AskedOfFiles};
     ghost use Rattle.lr_commands.specs.Steps.{PutsText, TextStops};
 
+    /// What it gathers of the files.
     type Gathered: Drop;
 
     /// What it asks.

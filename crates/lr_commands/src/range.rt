@@ -5,7 +5,9 @@ ghost use Rattle.lr_commands.specs.Files.{entries_between, one_entry};
 /// Numbers of entries: from one on, and before another.
 #[derive(Clone, Copy)]
 pub struct Range {
+    /// The first number.
     pub from: u64,
+    /// The number after the last one.
     pub to: u64,
 }
 

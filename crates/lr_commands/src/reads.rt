@@ -17,6 +17,7 @@ pub trait ReadsEntries {
     ghost use Rattle.lr_commands.specs.Runs.{Counted, counts_of};
     ghost use Rattle.lr_commands.specs.Steps.{PutsText, ReadsOnly, TextStops, TakesEntry, EntryStops};
 
+    /// What it gathers of the entries.
     type Gathered: Drop;
 
     /// What it asks.

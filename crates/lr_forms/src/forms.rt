@@ -20,6 +20,7 @@ pub enum UnitForm {
 pub enum Input {
     /// Soft symbols of this line code, each in a byte that is read as a signed one.
     Symbols(LineCode),
+    /// Blocks or frames, one after another.
     Units(UnitForm),
 }
 
@@ -36,5 +37,6 @@ pub enum Stop {
 pub enum Output {
     /// Soft symbols under the standard's line code, each in a byte that is read as a signed one.
     Symbols,
+    /// Blocks or frames, one after another.
     Units(UnitForm),
 }

@@ -4,9 +4,11 @@ ghost use Rattle.std.specs.Bool.{OnTrue, OnFalse};
 /// How far a job is.
 #[derive(Clone, Copy)]
 pub enum Stage {
+    /// It was put, and no worker has claimed it.
     Ready,
     /// It is claimed by the worker with this number.
     Busy(u32),
+    /// It is finished, and may be taken.
     Done,
 }
 

@@ -30,10 +30,15 @@ pub struct Stamp {
 /// `columns` and `lines` are the greatest counts of the whole image.
 #[derive(Clone, Copy)]
 pub struct Segment {
+    /// The number of the image.
     pub image: u16,
+    /// The number of the segment in its image.
     pub number: u16,
+    /// The column of the whole image at which the segment begins.
     pub start_column: u16,
+    /// The line of the whole image at which the segment begins.
     pub start_line: u16,
+    /// How many segments the image has.
     pub segments: u16,
     pub columns: u16,
     pub lines: u16,
@@ -43,6 +48,7 @@ pub struct Segment {
 /// `lines` the lines of a packet.
 #[derive(Clone, Copy)]
 pub struct Lossless {
+    /// The options of the coding. The flag of value 32 is the unit delay predictor.
     pub flags: u16,
     pub block: u8,
     pub lines: u8,

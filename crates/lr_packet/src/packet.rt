@@ -3,6 +3,7 @@ ghost use Rattle.std.specs.Prelude.{◌<◌, ◌≤◌, ◌^◌, length};
 /// The fields of a packet's header (CCSDS 133.0-B, section 4.1.3). Its type keeps that each number fits its field.
 #[derive(Drop)]
 pub struct PacketHead {
+    /// The packet version number, three bits.
     pub version: u8,
     /// The packet type. Nothing here interprets it.
     pub kind: bool,
@@ -28,9 +29,11 @@ pub struct PacketHead {
 pub struct GoodPacket<'a> {
     /// The virtual channel that it came on.
     pub vc: u8,
+    /// The application process identifier, below 2,047.
     pub apid: u16,
     /// 1 begins a file, 0 goes on with it, 2 ends it, and 3 is a whole one.
     pub flags: u8,
+    /// The packets of an application are counted in 14 bits.
     pub count: u16,
     /// The data field without the checksum.
     pub body: &'a [u8],

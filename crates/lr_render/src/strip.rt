@@ -19,12 +19,15 @@ pub enum Coding {
 /// What the pixels of a strip are read from: whole lines of an image, the first one first.
 #[derive(Drop)]
 pub struct StripSource {
+    /// The bytes in which the pixels stand.
     pub bytes: Bytes,
+    /// How they stand there.
     pub coding: Coding,
     /// The bits of a pixel.
     pub bits: u8,
     /// The pixels of a line.
     pub columns: u32,
+    /// The lines of the strip.
     pub lines: u32,
 }
 

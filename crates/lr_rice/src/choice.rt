@@ -9,9 +9,13 @@ use lr_bits::{BitReader, Ended};
 /// How a block is coded. A split by 0 bits is the fundamental sequence.
 #[derive(Clone, Copy)]
 pub enum BlockOption {
+    /// A run of blocks whose mapped values are all 0.
     ZeroBlock,
+    /// The mapped values in pairs.
     SecondExtension,
+    /// The mapped values without this many low bits, and then those bits.
     Split(u32),
+    /// The mapped values as they are.
     Uncoded,
 }
 

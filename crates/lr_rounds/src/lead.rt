@@ -5,6 +5,7 @@ use lr_gatecore::Work;
 /// What a lead has to give.
 #[derive(Drop)]
 pub enum Offer<J> {
+    /// The next job.
     Job(J),
     /// No job, until more is kept of what comes of those that were given.
     Later,

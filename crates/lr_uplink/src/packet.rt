@@ -33,7 +33,9 @@ pub enum Data {
 /// A packet, with a body of the file that is being sent, or an idle one.
 #[derive(Clone, Copy)]
 pub struct Packet {
+    /// The six bytes of its header.
     pub head: [u8; PACKET_HEADER_BYTES],
+    /// The data field after them.
     pub data: Data,
 }
 

@@ -9,16 +9,19 @@ pub struct BadVersion(pub u8);
 /// A transfer frame of version 1 (CCSDS 732.0-B, section 4.1). Its type keeps that each number fits its field.
 #[derive(Clone, Copy)]
 pub struct TransferFrame {
+    /// The spacecraft identifier, eight bits.
     pub spacecraft: u8,
     /// The virtual channel, six bits. Channel 63 is fill.
     pub vc: u8,
     /// The frames of a channel are counted in 24 bits.
     pub counter: u32,
+    /// The replay flag. Nothing here interprets it.
     pub replay: bool,
     /// The seven bits after the replay flag, which nothing here interprets.
     pub rest: u8,
     /// The place in the zone at which the first packet header begins, or 2047 where none does, or 2046 for idle data.
     pub pointer: u16,
+    /// The packet zone: packets one after another, which may begin and end in other frames.
     pub zone: [u8; ZONE_BYTES],
     ghost vc_fits: { vc < 2 ^ 6 },
     ghost counter_fits: { counter < 2 ^ 24 },

@@ -6,14 +6,19 @@ use lr_gatecore::Work;
 /// What a body hands back.
 #[derive(Drop)]
 pub struct Conducted<W: Work, B: Body<W>> {
+    /// The body.
     pub body: B,
+    /// The conductor that it was given.
     pub conductor: Conductor<W>,
+    /// The work of the caller's thread.
     pub own: W,
+    /// What the body answers.
     pub answer: B::Answer,
 }
 
 /// What the caller's thread does while the workers work. A body that waits keeps the `rt` that it needs in a field.
 pub trait Body<W: Work>: Sized {
+    /// What it answers.
     type Answer;
 
     ghost use Rattle.std.specs.Prelude.{◌≡◌, false};

@@ -19,8 +19,11 @@ use std::time::Duration;
 /// What a pool hands back.
 #[derive(Drop)]
 pub struct Pooled<W: Work, B: Body<W>> {
+    /// What the body on the caller's thread handed back.
     pub conducted: Conducted<W, B>,
+    /// The seats of the workers.
     pub seats: Vec<WorkerSeat<W>>,
+    /// The works of the workers.
     pub works: Vec<W>,
 }
 
@@ -31,6 +34,7 @@ pub struct Refused<W: Work, B: Body<W>> {
     pub conductor: Conductor<W>,
     pub seats: Vec<WorkerSeat<W>>,
     pub works: Vec<W>,
+    /// The work of the caller's thread.
     pub own: W,
     pub body: B,
 }
