@@ -4,10 +4,12 @@
 ghost use Rattle.std.specs.Prelude.{◌≡◌, ◌<◌, ℕ, take};
 ghost use Rattle.lr_block.specs.Blocks.{information_of, word_of};
 
+use lr_bits::{BLOCK_BYTES, FRAME_BYTES};
+
 /// Copies the information out of a block: the first 223 bytes of each word, interleaved as in the block.
-pub fn information(block: &[u8; 1020], frame: &mut [u8; 892])
+pub fn information(block: &[u8; BLOCK_BYTES], frame: &mut [u8; FRAME_BYTES])
     ensures frame { frame.new ≡ take 892 block.now }
     ensures words { (k : ℕ) → k < 4 → information_of frame.new k ≡ take 223 (word_of block.now k) }
 {
-    frame.copy_from_slice(&block[..892]);
+    frame.copy_from_slice(&block[..FRAME_BYTES]);
 }

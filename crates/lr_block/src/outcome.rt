@@ -13,11 +13,11 @@ ghost use Rattle.lr_block.specs.Outcomes.{
 use crate::frames::information;
 use crate::randomiser::derandomise;
 use crate::restoring::{BlockLost, restore_block};
-use lr_bits::Outcome;
+use lr_bits::{BLOCK_BYTES, FRAME_BYTES, Outcome};
 use lr_rs::RsScratch;
 
 /// What becomes of a block as it is received: the randomiser's sequence is taken away and the block restored.
-pub fn outcome_of(block: &[u8; 1020], scratch: &mut RsScratch) -> Outcome
+pub fn outcome_of(block: &[u8; BLOCK_BYTES], scratch: &mut RsScratch) -> Outcome
     ensures outcome { IsOutcome block.now result }
     ensures value { result ≡ outcome_of_block block.now }
 {
@@ -25,7 +25,7 @@ pub fn outcome_of(block: &[u8; 1020], scratch: &mut RsScratch) -> Outcome
     derandomise(&mut plain);
     match restore_block(&mut plain, scratch) {
         Ok(corrected) => {
-            let mut frame = [0u8; 892];
+            let mut frame = [0u8; FRAME_BYTES];
             information(&plain, &mut frame);
             Outcome::Restored(corrected, frame)
         }

@@ -4,12 +4,14 @@
 ghost use Rattle.std.specs.Prelude.{◌≡◌, ◌<◌};
 ghost use Rattle.lr_block.specs.Randomiser.{TwiceIsTheSame, randomised_block, sequence_byte};
 
+use lr_bits::BLOCK_BYTES;
+
 /// Adds the randomiser's sequence to a block, or takes it away again, which is the same. The sequence begins anew with
 /// each block (CCSDS 131.0-B, the pseudo-randomiser).
-pub fn derandomise(block: &mut [u8; 1020])
+pub fn derandomise(block: &mut [u8; BLOCK_BYTES])
     ensures { block.new ≡ randomised_block block.old }
 {
-    for i in 0..1020 {
+    for i in 0..BLOCK_BYTES {
         block[i] ^= byte_of_sequence(i);
     }
 }

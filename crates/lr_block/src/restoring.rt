@@ -6,8 +6,8 @@ ghost use Rattle.lr_rs.specs.Words.{IsRestored, distance};
 ghost use Rattle.lr_block.specs.Blocks.{IsFirstLost, IsRestoredBlock, changes_of, word_of};
 
 use crate::words::{put_word, take_word};
-use lr_bits::Corrected;
-use lr_rs::{RsScratch, restore};
+use lr_bits::{BLOCK_BYTES, Corrected};
+use lr_rs::{RsScratch, WORD_BYTES, restore};
 
 /// The first word of a block, 0 to 3, that has no codeword within sixteen bytes.
 #[derive(Drop)]
@@ -15,9 +15,9 @@ pub struct BlockLost(pub u8);
 
 /// Copies a word out of a block and restores it. Answers how many of its bytes were changed.
 fn restore_word(
-    block: &[u8; 1020],
+    block: &[u8; BLOCK_BYTES],
     k: u8,
-    word: &mut [u8; 255],
+    word: &mut [u8; WORD_BYTES],
     scratch: &mut RsScratch,
 ) -> Result<u8, BlockLost>
     requires { k < 4 }
@@ -37,7 +37,7 @@ fn restore_word(
 /// (CCSDS 131.0-B, section 4). Answers how many bytes of each word were changed; or names the first word that has no
 /// such codeword, and leaves the block.
 pub fn restore_block(
-    block: &mut [u8; 1020],
+    block: &mut [u8; BLOCK_BYTES],
     scratch: &mut RsScratch,
 ) -> Result<Corrected, BlockLost>
     ensures restored { OnOk result (IsRestoredBlock block.old block.new) }
@@ -45,10 +45,10 @@ pub fn restore_block(
     ensures lost { IfErr result (λ lost. IsFirstLost block.old lost.0) }
     ensures same { OnErr result (block.new ≡ block.old) }
 {
-    let mut first = [0u8; 255];
-    let mut second = [0u8; 255];
-    let mut third = [0u8; 255];
-    let mut fourth = [0u8; 255];
+    let mut first = [0u8; WORD_BYTES];
+    let mut second = [0u8; WORD_BYTES];
+    let mut third = [0u8; WORD_BYTES];
+    let mut fourth = [0u8; WORD_BYTES];
     let in_first = restore_word(block, 0, &mut first, scratch)?;
     let in_second = restore_word(block, 1, &mut second, scratch)?;
     let in_third = restore_word(block, 2, &mut third, scratch)?;

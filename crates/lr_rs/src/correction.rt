@@ -5,10 +5,11 @@ ghost use Rattle.std.specs.Prelude.{◌≡◌, ◌≢◌, ℕ, ◌<◌, ◌≤�
 ghost use Rattle.lr_gf.specs.Dual.{conventional_of};
 ghost use Rattle.lr_rs.specs.Words.{distance};
 
+use crate::sizes::WORD_BYTES;
 use lr_gf::{Gf, from_dual, to_dual};
 
 /// Adds the error values to a word at their places.
-pub(crate) fn correct(word: &mut [u8; 255], places: &[usize; 255], count: usize, errors: &[Gf; 16])
+pub(crate) fn correct(word: &mut [u8; WORD_BYTES], places: &[usize; WORD_BYTES], count: usize, errors: &[Gf; 16])
     requires count { count ≤ 16 }
     requires places { (l : ℕ) → l < count → slice_index places.now l < 255 }
     requires different { (i j : ℕ) → i < count → j < count
@@ -28,11 +29,11 @@ pub(crate) fn correct(word: &mut [u8; 255], places: &[usize; 255], count: usize,
 }
 
 /// In how many places two words differ.
-pub(crate) fn distance_of(a: &[u8; 255], b: &[u8; 255]) -> usize
+pub(crate) fn distance_of(a: &[u8; WORD_BYTES], b: &[u8; WORD_BYTES]) -> usize
     ensures { result ≡ distance 255 a.now b.now }
 {
     let mut count = 0;
-    for i in 0..255 {
+    for i in 0..WORD_BYTES {
         if a[i] != b[i] {
             count += 1;
         }

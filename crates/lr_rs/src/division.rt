@@ -7,11 +7,12 @@ ghost use Rattle.lr_rs.specs.Words.{IsWord};
 ghost use Rattle.lr_rs.specs.Division.{IsDivisionStep, IsRemainder};
 
 use crate::generator::generator_product;
+use crate::sizes::{CHECK_BYTES, WORD_BYTES};
 use lr_gf::{Gf, from_dual};
 
 /// Takes one more coefficient into the division.
 #[inline(always)]
-fn divide_step(remainder: &mut [Gf; 32], coefficient: u8)
+fn divide_step(remainder: &mut [Gf; CHECK_BYTES], coefficient: u8)
     ensures { IsDivisionStep coefficient remainder.old remainder.new }
 {
     let first = remainder[0];
@@ -24,11 +25,11 @@ fn divide_step(remainder: &mut [Gf; 32], coefficient: u8)
 }
 
 /// Divides a word's polynomial: the remainder's coefficients, the highest first.
-pub(crate) fn remainder_of(word: &[u8; 255], remainder: &mut [Gf; 32])
+pub(crate) fn remainder_of(word: &[u8; WORD_BYTES], remainder: &mut [Gf; CHECK_BYTES])
     ensures remainder { IsRemainder word.now remainder.new }
     ensures word { IsWord word.now }
 {
-    let zeros = [Gf(0); 32];
+    let zeros = [Gf(0); CHECK_BYTES];
     *remainder = zeros;
     for byte in word {
         divide_step(remainder, from_dual(*byte));
@@ -36,10 +37,10 @@ pub(crate) fn remainder_of(word: &[u8; 255], remainder: &mut [Gf; 32])
 }
 
 /// Whether all elements are zero.
-pub(crate) fn are_zero(elements: &[Gf; 32]) -> bool
+pub(crate) fn are_zero(elements: &[Gf; CHECK_BYTES]) -> bool
     ensures { IsTrue result ↔ ((k : ℕ) → k < 32 → slice_index elements.now k ≡ 0) }
 {
-    for k in 0..32 {
+    for k in 0..CHECK_BYTES {
         let here = elements[k];
         if here.0 != 0 {
             return false;

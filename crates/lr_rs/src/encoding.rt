@@ -6,35 +6,36 @@ ghost use Rattle.lr_gf.specs.Dual.{conventional_of};
 ghost use Rattle.lr_rs.specs.Words.{IsWord, IsCodeword};
 
 use crate::division::remainder_of;
+use crate::sizes::{CHECK_BYTES, INFORMATION_BYTES, WORD_BYTES};
 use lr_gf::{Gf, to_dual};
 
 /// Writes the information, and zeros after it.
-fn put_information(information: &[u8; 223], word: &mut [u8; 255])
+fn put_information(information: &[u8; INFORMATION_BYTES], word: &mut [u8; WORD_BYTES])
     ensures begins { (i : ℕ) → i < 223 → slice_index word.new i ≡ slice_index information.now i }
     ensures zeros { (i : ℕ) → 223 ≤ i → slice_index word.new i ≡ 0 }
 {
-    let zeros = [0u8; 255];
+    let zeros = [0u8; WORD_BYTES];
     *word = zeros;
-    for i in 0..223 {
+    for i in 0..INFORMATION_BYTES {
         word[i] = information[i];
     }
 }
 
 /// Writes the check bytes after the information.
-fn put_check(word: &mut [u8; 255], check: &[Gf; 32])
+fn put_check(word: &mut [u8; WORD_BYTES], check: &[Gf; CHECK_BYTES])
     ensures kept { (i : ℕ) → i < 223 → slice_index word.new i ≡ slice_index word.old i }
     ensures bytes { (k : ℕ) → k < 32 → slice_index word.new (223 + k) < 256 }
     ensures check { (k : ℕ) → k < 32
         → conventional_of (slice_index word.new (223 + k)) ≡ slice_index check.now k }
 {
-    for k in 0..32 {
+    for k in 0..CHECK_BYTES {
         let coefficient = check[k];
-        word[223 + k] = to_dual(coefficient.0);
+        word[INFORMATION_BYTES + k] = to_dual(coefficient.0);
     }
 }
 
 /// Encodes: the codeword that begins with the information.
-pub fn encode(information: &[u8; 223], word: &mut [u8; 255])
+pub fn encode(information: &[u8; INFORMATION_BYTES], word: &mut [u8; WORD_BYTES])
     ensures begins { take 223 word.new ≡ information.now }
     ensures word { IsWord word.new }
     ensures codeword { IsCodeword word.new }
@@ -42,7 +43,7 @@ pub fn encode(information: &[u8; 223], word: &mut [u8; 255])
         → c ≡ word.new }
 {
     put_information(information, word);
-    let mut check = [Gf(0); 32];
+    let mut check = [Gf(0); CHECK_BYTES];
     remainder_of(word, &mut check);
     put_check(word, &check);
 }

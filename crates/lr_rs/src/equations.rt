@@ -7,11 +7,12 @@ ghost use Rattle.lr_gf.specs.Systems.{entry};
 ghost use Rattle.lr_rs.specs.Words.{locator};
 ghost use Rattle.lr_rs.specs.RootLists.{HasEquations};
 
+use crate::sizes::{CHECK_BYTES, WORD_BYTES};
 use crate::syndromes::locator_of;
 use lr_gf::{Gf, System};
 
 /// Fills a row of the key equation's system.
-fn fill_key_row(system: &mut System, syndromes: &[Gf; 32], i: usize)
+fn fill_key_row(system: &mut System, syndromes: &[Gf; CHECK_BYTES], i: usize)
     requires { i < 16 }
     ensures row { (k : ℕ) → k < 17
         → entry system.new i k ≡ slice_index syndromes.now (i + (16 - k)) }
@@ -25,7 +26,7 @@ fn fill_key_row(system: &mut System, syndromes: &[Gf; 32], i: usize)
 
 /// Fills the key equation's system: each vector of its kernel is a polynomial that is zero at the
 /// locator of every error.
-pub(crate) fn fill_key_equation(system: &mut System, syndromes: &[Gf; 32])
+pub(crate) fn fill_key_equation(system: &mut System, syndromes: &[Gf; CHECK_BYTES])
     ensures { (i k : ℕ) → i < 16 → k < 17
         → entry system.new i k ≡ slice_index syndromes.now (i + (16 - k)) }
 {
@@ -37,8 +38,8 @@ pub(crate) fn fill_key_equation(system: &mut System, syndromes: &[Gf; 32])
 /// Fills one of the equations of the error values.
 fn fill_equation(
     system: &mut System,
-    syndromes: &[Gf; 32],
-    places: &[usize; 255],
+    syndromes: &[Gf; CHECK_BYTES],
+    places: &[usize; WORD_BYTES],
     count: usize,
     j: usize,
 )
@@ -60,8 +61,8 @@ fn fill_equation(
 /// Fills the equations of the error values at the roots: as many as there are roots.
 pub(crate) fn fill_equations(
     system: &mut System,
-    syndromes: &[Gf; 32],
-    places: &[usize; 255],
+    syndromes: &[Gf; CHECK_BYTES],
+    places: &[usize; WORD_BYTES],
     count: usize,
 )
     requires count { count ≤ 16 }

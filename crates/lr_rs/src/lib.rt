@@ -20,6 +20,7 @@ mod equations;
 mod generator;
 mod restoring;
 mod roots;
+mod sizes;
 mod syndromes;
 mod terms;
 
@@ -27,6 +28,7 @@ ghost use Rattle.lr_rs.specs.Words.{AtMostOneIsRestored};
 
 pub use encoding::encode;
 pub use restoring::{BeyondSixteen, RsScratch, restore};
+pub use sizes::{CHECK_BYTES, INFORMATION_BYTES, WORD_BYTES};
 
 /// At most one codeword differs from a word in at most sixteen bytes.
 pub fn at_most_one_is_restored()

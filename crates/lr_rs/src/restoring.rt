@@ -9,6 +9,7 @@ use crate::correction::{correct, distance_of};
 use crate::division::{are_zero, remainder_of};
 use crate::equations::{fill_equations, fill_key_equation};
 use crate::roots::find_roots;
+use crate::sizes::{CHECK_BYTES, WORD_BYTES};
 use crate::syndromes::syndromes_of;
 use lr_gf::{Gf, System};
 
@@ -22,32 +23,32 @@ pub struct BeyondSixteen;
 /// The working arrays of `restore`. Nothing in them lasts from one call to the next.
 #[derive(Drop)]
 pub struct RsScratch {
-    remainder: [Gf; 32],
-    syndromes: [Gf; 32],
+    remainder: [Gf; CHECK_BYTES],
+    syndromes: [Gf; CHECK_BYTES],
     system: System,
     polynomial: [Gf; 17],
-    places: [usize; 255],
+    places: [usize; WORD_BYTES],
     errors: [Gf; 16],
-    corrected: [u8; 255],
+    corrected: [u8; WORD_BYTES],
 }
 
 impl RsScratch {
     /// Fresh working arrays.
     pub fn new() -> RsScratch {
         RsScratch {
-            remainder: [Gf(0); 32],
-            syndromes: [Gf(0); 32],
+            remainder: [Gf(0); CHECK_BYTES],
+            syndromes: [Gf(0); CHECK_BYTES],
             system: System::new(),
             polynomial: [Gf(0); 17],
-            places: [0usize; 255],
+            places: [0usize; WORD_BYTES],
             errors: [Gf(0); 16],
-            corrected: [0u8; 255],
+            corrected: [0u8; WORD_BYTES],
         }
     }
 }
 
 /// Whether a word is a codeword; the remainder of its polynomial is written too.
-fn is_codeword(word: &[u8; 255], remainder: &mut [Gf; 32]) -> bool
+fn is_codeword(word: &[u8; WORD_BYTES], remainder: &mut [Gf; CHECK_BYTES]) -> bool
     ensures codeword { IsTrue result ↔ IsCodeword word.now }
     ensures remainder { IsRemainder word.now remainder.new }
     ensures word { IsWord word.now }
@@ -58,7 +59,7 @@ fn is_codeword(word: &[u8; 255], remainder: &mut [Gf; 32]) -> bool
 
 /// Restores a word: writes the codeword that differs from it in at most sixteen bytes, and says how
 /// many bytes were changed; or answers `BeyondSixteen` where there is none, and leaves the word.
-pub fn restore(word: &mut [u8; 255], scratch: &mut RsScratch) -> Result<u8, BeyondSixteen>
+pub fn restore(word: &mut [u8; WORD_BYTES], scratch: &mut RsScratch) -> Result<u8, BeyondSixteen>
     ensures restored { OnOk result (IsRestored word.old word.new) }
     ensures changed { IfOk result (λ n. n ≡ distance 255 word.old word.new) }
     ensures same { OnErr result (word.new ≡ word.old) }

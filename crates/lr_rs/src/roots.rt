@@ -6,6 +6,7 @@ ghost use Rattle.lr_gf.specs.Sums.{sum_of};
 ghost use Rattle.lr_gf.specs.Field.{times};
 ghost use Rattle.lr_rs.specs.RootLists.{IsRootList, term_factor};
 
+use crate::sizes::WORD_BYTES;
 use crate::terms::next_term;
 use lr_gf::Gf;
 
@@ -35,14 +36,14 @@ fn sum_of_terms(terms: &[Gf; 17]) -> Gf
 }
 
 /// Lists the places whose locators are roots, and says how many they are.
-pub(crate) fn find_roots(polynomial: &[Gf; 17], places: &mut [usize; 255]) -> usize
+pub(crate) fn find_roots(polynomial: &[Gf; 17], places: &mut [usize; WORD_BYTES]) -> usize
     requires { (k : ℕ) → slice_index polynomial.now k < 256 }
     ensures list { IsRootList polynomial.now 255 result places.new }
     ensures long { length polynomial.now ≡ 17 }
 {
     let mut terms = *polynomial;
     let mut count = 0;
-    for place in 0..255usize {
+    for place in 0..WORD_BYTES {
         step_terms(&mut terms);
         let here = sum_of_terms(&terms);
         if here.0 == 0 {

@@ -5,6 +5,7 @@ ghost use Rattle.std.specs.Prelude.{◌≡◌, ℕ, ◌+◌, ◌-◌, ◌*◌, �
 ghost use Rattle.lr_gf.specs.Field.{power, value_of};
 ghost use Rattle.lr_rs.specs.Words.{locator};
 
+use crate::sizes::CHECK_BYTES;
 use lr_gf::{Gf, value};
 
 /// The j-th root of the code.
@@ -24,7 +25,7 @@ pub(crate) fn locator_of(place: usize) -> Gf
 }
 
 /// The syndromes: the values of the remainder, which are those of the word, at the 32 roots.
-pub(crate) fn syndromes_of(remainder: &[Gf; 32], syndromes: &mut [Gf; 32])
+pub(crate) fn syndromes_of(remainder: &[Gf; CHECK_BYTES], syndromes: &mut [Gf; CHECK_BYTES])
     ensures { (j : ℕ) → j < 32
         → slice_index syndromes.new j ≡ value_of remainder.now (power 2 (11 * (112 + j))) }
 {
