@@ -2,6 +2,7 @@
 use Rattle.std.specs.Prelude.{◌≡◌, ℕ, ◌≤◌, ◌*◌, Bool, true, false, List, [], ◌∷◌, ◌++◌, length, map}
 use Rattle.lr_bits.specs.declared.outcome.Outcome.{Outcome}
 use Rattle.lr_bits.specs.declared.placed.Placed.{Placed}
+use Rattle.lr_vc.specs.declared.channels.TheConstants.{MOST_ENDING_PACKETS}
 use Rattle.lr_vc.specs.Standing.{Kept as KeptChannels, StandsFor as ChannelsStandFor}
 use Rattle.lr_file.specs.Standing.{Kept as KeptFiles, StandsFor as FilesStandFor}
 use Rattle.lr_layers.specs.declared.counts.Counts.{Counts}
@@ -40,7 +41,7 @@ IsSpent kept = kept.spent ≡ true
 pub record AreFew (numbers : Numbers) : Type 0 where
   pub bad_versions : numbers.bad_versions ≤ numbers.restored
   pub fill : numbers.fill ≤ numbers.restored
-  pub packets : numbers.packets ≤ 885 * numbers.restored
+  pub packets : numbers.packets ≤ MOST_ENDING_PACKETS * numbers.restored
   pub files : numbers.files ≤ numbers.packets
 
 -- what is kept stands for these outcomes

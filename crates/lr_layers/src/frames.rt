@@ -18,7 +18,7 @@ use crate::packets::push_packets;
 use crate::starts::{Now, Starts};
 use lr_bits::{FILL_CHANNEL, FRAME_BYTES, NoMemory, Placed, RawPacket};
 use lr_file::Files;
-use lr_vc::{Channels, TransferFrame};
+use lr_vc::{Channels, MOST_ENDING_PACKETS, TransferFrame};
 
 /// The frame of version 1 that these bytes are, if they are one. Frames of another version, and those of fill, are
 /// counted.
@@ -58,8 +58,8 @@ pub(crate) fn push_frame(
         → IfOk result (λ gained. Takes outcomes before now.start.place frames (frames ++ fields frame.now ∷ [])
         channels.new files.new starts.new out.old.items out.new.items gained) }
     ensures fill { channels.old.spent ≡ false → frame.now.vc ≡ 63 → IsOk result }
-    ensures few { IfOk result (λ gained. gained.packets ≤ 885) }
-    ensures few_new { IfOk result (λ _. length out.new.items ≤ length out.old.items + 885) }
+    ensures few { IfOk result (λ gained. gained.packets ≤ MOST_ENDING_PACKETS) }
+    ensures few_new { IfOk result (λ _. length out.new.items ≤ length out.old.items + MOST_ENDING_PACKETS) }
     ensures few_files { IfOk result (λ gained. gained.files ≤ gained.packets) }
     ensures kept { KeepsFront out.old.items out.new.items }
 {

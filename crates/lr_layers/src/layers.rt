@@ -11,7 +11,7 @@ use crate::frames::{push_frame, read_frame};
 use crate::starts::{Now, Start, Starts};
 use lr_bits::{Corrected, NoMemory, Outcome, Placed, RawPacket};
 use lr_file::Files;
-use lr_vc::Channels;
+use lr_vc::{Channels, MOST_ENDING_PACKETS};
 use std::alloc::Global;
 use std::marker::Model;
 
@@ -123,7 +123,7 @@ impl Layers {
         ensures files { (outcomes : List Outcome') → StandsFor self.old outcomes →
             OnOk result (AddsFiles outcomes outcome.now files.old.items files.new.items) }
         // A frame ends at most 885 packets.
-        ensures few { OnOk result (length files.new.items ≤ length files.old.items + 885) }
+        ensures few { OnOk result (length files.new.items ≤ length files.old.items + MOST_ENDING_PACKETS) }
 
         // A lost block, and a frame of another version, take no memory; nor does one of fill.
         ensures succeeds { self.old.spent ≡ false → frame_in outcome.now ≡ None → IsOk result }

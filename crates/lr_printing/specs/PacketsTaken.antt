@@ -3,6 +3,7 @@ use Rattle.std.specs.Prelude.{◌≡◌, ◌≤◌, ◌*◌, ℕ, Option, Some, 
 use Rattle.std.specs.List.{filter_map}
 use Rattle.lr_bits.specs.declared.outcome.Outcome.{Outcome}
 use Rattle.lr_bits.specs.declared.outcome.Outcome.TheVariants.{Restored, Lost}
+use Rattle.lr_vc.specs.declared.channels.TheConstants.{MOST_ENDING_PACKETS}
 use Rattle.lr_io.specs.declared.sink.Sink.{Ghosts as SinkOf}
 use Rattle.lr_causes.specs.declared.cause.Cause.{Cause}
 use Rattle.lr_causes.specs.Puts.{Puts}
@@ -25,7 +26,7 @@ module _ {O : Type 0} (out : SinkOf O) where
   pub record PacketsTook (before : PacketLines O) (arrivals : List Arrival) (now : PacketLines O) : Type 0 where
     pub same_out : now.out.ghost_name ≡ before.out.ghost_name
     pub after : IsAfter now.channels.now now.counted (frames_in arrivals)
-    pub few : now.counted.packets ≤ 885 * length arrivals
+    pub few : now.counted.packets ≤ MOST_ENDING_PACKETS * length arrivals
     pub put : Puts out (lines_of_packets (frames_in arrivals)) before.out.now now.out.now
 
   -- they were not all put

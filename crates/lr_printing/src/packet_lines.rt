@@ -51,7 +51,7 @@ use lr_frame::FrameWork;
 use lr_io::{Sink, Source};
 use lr_packet::check;
 use lr_reading::{Arrival, Consumer, Reader, Totals};
-use lr_vc::{Channels, TransferFrame};
+use lr_vc::{Channels, MOST_ENDING_PACKETS, TransferFrame};
 use std::alloc::Global;
 
 /// Puts the lines of the packets of each frame, and counts them.
@@ -148,7 +148,7 @@ fn read_packets(
         → OnOk result (StandsFor channels.new (frames_read (frames ++ frame.now ∷ []))) }
     ensures packets { (frames : List (List ℕ)) → StandsFor channels.old (frames_read frames)
         → OnOk result (packets.new.items ≡ packets.old.items ++ packets_added frames frame.now) }
-    ensures few { OnOk result (length packets.new.items ≤ length packets.old.items + 885) }
+    ensures few { OnOk result (length packets.new.items ≤ length packets.old.items + MOST_ENDING_PACKETS) }
 {
     match TransferFrame::read(frame) {
         Ok(frame) => channels.push(&frame, packets),
@@ -165,14 +165,14 @@ fn put_frame<O: Sink>(
     counted: &mut PacketCount,
     out: &mut O,
 ) -> Result<(), Cause>
-    requires room { counted.old.packets + 885 < 2 ^ 64 }
+    requires room { counted.old.packets + MOST_ENDING_PACKETS < 2 ^ 64 }
     ensures stands { (frames : List (List ℕ)) → IsAfter channels.old counted.old frames
         → OnOk result (IsAfter channels.new counted.new (frames ++ frame.now ∷ [])) }
     ensures put { (frames : List (List ℕ)) → IsAfter channels.old counted.old frames
         → OnOk result (Puts O.Sink (lines_added frames frame.now) out.old out.new) }
     ensures stopped { (frames : List (List ℕ)) → IsAfter channels.old counted.old frames
         → IfErr result (λ cause. PutStops O.Sink (lines_added frames frame.now) cause out.old out.new) }
-    ensures few { OnOk result (counted.new.packets ≤ counted.old.packets + 885) }
+    ensures few { OnOk result (counted.new.packets ≤ counted.old.packets + MOST_ENDING_PACKETS) }
     // A frame of another version takes no memory, and nothing is put.
     ensures succeeds { IsErr (frame_of frame.now) → IfErr result (λ cause. cause ≢ NoMemory') }
 {

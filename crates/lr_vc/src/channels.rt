@@ -8,9 +8,12 @@ ghost use Rattle.lr_vc.specs.Steps.{KeepsFront, KeepsNothing, TakesFrame, met_by
 
 use crate::TransferFrame;
 use crate::channel::Channel;
-use lr_bits::{FILL_CHANNEL, NoMemory, RawPacket};
+use lr_bits::{FILL_CHANNEL, NoMemory, RawPacket, ZONE_BYTES};
 use std::alloc::Global;
 use std::marker::Model;
+
+/// The most packets that end in one frame: the open packet, and one for each byte of the zone.
+pub const MOST_ENDING_PACKETS: usize = ZONE_BYTES + 1;
 
 /// Makes room for a channel, of which nothing is kept yet.
 fn reach(channels: &mut Vec<Channel>, channel: usize) -> Result<(), NoMemory>
@@ -110,7 +113,7 @@ impl Channels {
             → KeepsNothing (kept_at self.old.channels frame.now.vc) (fields frame.now) → IsOk result }
 
         // At most the open packet and one for each byte of the zone.
-        ensures few { OnOk result (length packets.new.items ≤ length packets.old.items + 885) }
+        ensures few { OnOk result (length packets.new.items ≤ length packets.old.items + MOST_ENDING_PACKETS) }
 
         ensures refused { OnErr result (packets.new.items ≡ packets.old.items) }
         ensures spends { OnErr result (IsSpent self.new) }

@@ -15,7 +15,7 @@ mod frame;
 mod laws;
 mod zone;
 
-pub use channels::Channels;
+pub use channels::{Channels, MOST_ENDING_PACKETS};
 pub use frame::{BadVersion, TransferFrame};
 pub use laws::{
     frames_add_their_packets, packets_fit_the_zones, packets_keep_their_order, starts_go_on,
