@@ -8,12 +8,9 @@ use lr_bits::{Failed, NoMemory};
 use lr_conv::LineCode;
 use lr_forms::Stop;
 use lr_io::Source;
-use lr_lock::{Lock, Step, Window};
+use lr_lock::{LOCK_SYMBOLS, Lock, Step, Window};
 use std::alloc::Global;
 use std::marker::Model;
-
-/// The most bytes that are taken at a time, for which the lock has room.
-const ROOM: usize = 65_536;
 
 /// How many bytes are taken at a time.
 fn size_within(left: u64, room: usize) -> usize
@@ -46,7 +43,7 @@ fn take_within<S: Source>(source: &mut S, into: &mut [u8], size: usize) -> Resul
     source.take(&mut into[..size])
 }
 
-/// The lock, and a buffer for what is taken.
+/// The lock, and a buffer for what is taken at a time: as many bytes as the lock has room for at most.
 #[derive(Drop)]
 pub(crate) struct SymbolFeed {
     lock: Lock,
@@ -59,13 +56,14 @@ pub(crate) struct SymbolFeed {
 
 impl Model for SymbolFeed {
     ghost use Rattle.std.specs.Prelude.{◌≡◌, ◌≤◌, ◌+◌, ◌^◌, length};
+    ghost use Rattle.lr_lock.specs.declared.sizes.TheConstants.{LOCK_SYMBOLS};
     ghost use Rattle.lr_reading.specs.Feeding.{FeedState};
 
     ghost Value = { FeedState };
 
     ghost view = { λ f. record { lock = f.lock; taken = f.taken; most = f.most; stop = f.stop } };
 
-    ghost invariant = { λ f. (length f.buffer.items ≡ 65536) × (f.taken ≤ f.most) × (f.most ≤ 2 ^ 61)
+    ghost invariant = { λ f. (length f.buffer.items ≡ LOCK_SYMBOLS) × (f.taken ≤ f.most) × (f.most ≤ 2 ^ 61)
         × (f.lock.place + length f.lock.kept ≤ f.taken) };
 }
 
@@ -91,7 +89,7 @@ impl SymbolFeed {
         ensures line { IfOk result (λ feed. feed.lock.line ≡ line) }
     {
         let lock = Lock::new(alloc, line)?;
-        let buffer = vec![in alloc; 0; ROOM]?;
+        let buffer = vec![in alloc; 0; LOCK_SYMBOLS]?;
         Ok(SymbolFeed {
             lock,
             buffer,
@@ -111,7 +109,7 @@ impl SymbolFeed {
     /// Feeds the lock what the source gives, as much as there is room for. Answers why there is nothing to feed, if so.
     fn take<S: Source>(&mut self, source: &mut S) -> Option<Stop>
         requires unfinished { self.old.lock.finished ≡ false }
-        requires room { length self.old.lock.kept < 65536 }
+        requires room { length self.old.lock.kept < LOCK_SYMBOLS }
         ensures takes { Takes S.Source result self.old self.new source.old source.new }
     {
         let left = self.most - self.taken;
@@ -141,7 +139,7 @@ impl SymbolFeed {
     /// Feeds the lock once more, or finishes it.
     fn more<S: Source>(&mut self, source: &mut S)
         requires unfinished { self.old.lock.finished ≡ false }
-        requires room { length self.old.lock.kept < 65536 }
+        requires room { length self.old.lock.kept < LOCK_SYMBOLS }
         ensures feeds { (line : LineCode) (bytes : List ℕ) (given : List Frame) (s : _)
             → FedSoFar S.Source line bytes given self.old s source.old
             → FeedsOn S.Source line bytes given self.new s source.new }
