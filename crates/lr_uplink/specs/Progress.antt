@@ -2,6 +2,7 @@
 use Rattle.std.specs.Prelude.{◌≡◌, ◌<◌, ℕ, ◌+◌, ◌*◌, ◌%◌, ◌^◌, ◌++◌, ◌==◌, if◌then◌else◌, List, [], ◌∷◌, length}
 use Rattle.std.specs.Prelude.{drop, slice_index, unwrap_or, Option, Some, None}
 use Rattle.std.specs.List.{concat}
+use Rattle.lr_bits.specs.declared.sizes.TheConstants.{ZONE_BYTES}
 use Rattle.lr_bits.specs.File.{File, IsFile, bytes_of}
 use Rattle.lr_file.specs.Standing.{AreAscending, kept_of_key}
 use Rattle.lr_uplink.specs.declared.sending.Sending.{Sending}
@@ -39,9 +40,9 @@ pub record IsUnderWay (counters : List ℕ) (sending : Sending) (files : List Fi
   pub frames : ℕ
   pub loaded : files ≡ before ++ file ∷ []
   pub count : given ≡ length (sent before) + frames
-  pub some : 884 * frames < length (concat (file_packets (packets_before file.vc file.apid before) file))
+  pub some : ZONE_BYTES * frames < length (concat (file_packets (packets_before file.vc file.apid before) file))
   pub left : IsSending sending file (packets_before file.vc file.apid before % 16384)
-      (drop (884 * frames) (concat (file_packets (packets_before file.vc file.apid before) file)))
+      (drop (ZONE_BYTES * frames) (concat (file_packets (packets_before file.vc file.apid before) file)))
   pub counted : (c : ℕ) → c < 64 → slice_index counters c
       ≡ (frames_before c before + (if file.vc == c then frames else 0)) % 2 ^ 32
 

@@ -16,12 +16,12 @@ use lr_make::put_frame;
 pub(crate) fn put_next(frame: &mut [u8; FRAME_BYTES], sending: &mut Sending, counter: u32)
     requires { counter < 2 ^ 24 }
     ensures frame { (file : File) (count t : ℕ) →
-        884 * t + 884 ≤ length (concat (file_packets count file)) →
-        IsSending sending.old file count (drop (884 * t) (concat (file_packets count file))) →
+        ZONE_BYTES * t + ZONE_BYTES ≤ length (concat (file_packets count file)) →
+        IsSending sending.old file count (drop (ZONE_BYTES * t) (concat (file_packets count file))) →
         frame.new ≡ frame_of file.vc counter (pointer_at (file_packets count file) t)
         (zone_at (file_packets count file) t) }
     ensures moves { (file : File) (count : ℕ) (rest : List ℕ) → IsSending sending.old file count rest →
-        IsSending sending.new file count (drop 884 rest) }
+        IsSending sending.new file count (drop ZONE_BYTES rest) }
 {
     let vc = sending.vc();
     let pointer = sending.pointer();

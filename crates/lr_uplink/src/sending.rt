@@ -17,14 +17,14 @@ const OTHER_BYTES: usize = 8;
 /// How many bytes of its last zone this many bytes leave.
 fn left_of(size: usize) -> usize
     ensures value { result ≡ bytes_left size }
-    ensures small { result < 884 }
+    ensures small { result < ZONE_BYTES }
 {
     (ZONE_BYTES - size % ZONE_BYTES) % ZONE_BYTES
 }
 
 /// The idle packet that fills a zone of which this many bytes are left, if any are.
 fn filler(left: usize) -> Option<Packet>
-    requires { left < 884 }
+    requires { left < ZONE_BYTES }
     ensures { (bytes : List ℕ) → IsPacketOf (idle_packets left) bytes 0 result }
 {
     if left == 0 {
@@ -179,8 +179,8 @@ impl Sending {
     pub(crate) fn pointer(&self) -> u16
         ensures small { result < 2 ^ 11 }
         ensures value { (file : File) (count t : ℕ) →
-            884 * t + 884 ≤ length (concat (file_packets count file)) →
-            IsSending self.now file count (drop (884 * t) (concat (file_packets count file))) →
+            ZONE_BYTES * t + ZONE_BYTES ≤ length (concat (file_packets count file)) →
+            IsSending self.now file count (drop (ZONE_BYTES * t) (concat (file_packets count file))) →
             result ≡ pointer_at (file_packets count file) t }
     {
         if self.sent == 0 {
@@ -197,9 +197,9 @@ impl Sending {
     /// Fills the next zone.
     pub(crate) fn fill(&mut self, zone: &mut [u8; ZONE_BYTES])
         ensures zone { (file : File) (count : ℕ) (rest : List ℕ) → IsSending self.old file count rest →
-            884 ≤ length rest → zone.new ≡ take 884 rest }
+            ZONE_BYTES ≤ length rest → zone.new ≡ take ZONE_BYTES rest }
         ensures moves { (file : File) (count : ℕ) (rest : List ℕ) → IsSending self.old file count rest →
-            IsSending self.new file count (drop 884 rest) }
+            IsSending self.new file count (drop ZONE_BYTES rest) }
     {
         for place in 0..ZONE_BYTES {
             zone[place] = self.next_byte();
