@@ -45,7 +45,7 @@ use Rattle.lr_block.specs.Randomiser.{randomised_block, sequence_byte}
 use Rattle.lr_block.specs.Blocks.{word_of, changes_of, IsRestoredBlock, IsFirstLost}
 use Rattle.lr_block.specs.Outcomes.{
   IsOutcome,
-  is_restored,
+  is_restored_word,
   restored_of,
   RestoredIsFound,
   restored_word,
@@ -66,7 +66,7 @@ use Rattle.lr_block.proofs.Sequence.{
 }
 use Rattle.lr_block.proofs.Interleaving.{get_or-every_fourth, length-every_fourth, every_fourth_by_all, same_blocks}
 use Rattle.lr_block.proofs.Searching.{
-  Member,
+  IsAmong,
   member-range,
   from-range,
   list_all-member,
@@ -83,8 +83,8 @@ use Rattle.lr_block.proofs.Searching.{
 abbrev zero_at : List ℕ → ℕ → Bool
 zero_at codeword j = eqb (word_value codeword (power 2 (11 * j))) 0
 
-passes : (word codeword : List ℕ) → IsRestored word codeword → is_restored word codeword ≡ true
-unfolding is_restored
+passes : (word codeword : List ℕ) → IsRestored word codeword → is_restored_word word codeword ≡ true
+unfolding is_restored_word
 passes word codeword r =
     and_from (leb (distance 255 word codeword) 16) (list_all (zero_at codeword) (range_with_len 112 32))
     (le-leb (distance 255 word codeword) 16 r.near)
@@ -92,8 +92,8 @@ passes word codeword r =
     let range = from-range 112 32 j m in
     eq-eqb (word_value codeword (power 2 (11 * j))) 0 (r.is_codeword.zero_at j range.0 range.1)))
 
-passed : (word codeword : List ℕ) → IsWord codeword → is_restored word codeword ≡ true → IsRestored word codeword
-unfolding is_restored
+passed : (word codeword : List ℕ) → IsWord codeword → is_restored_word word codeword ≡ true → IsRestored word codeword
+unfolding is_restored_word
 passed word codeword w t =
     let parts = and_parts (leb (distance 255 word codeword) 16)
     (list_all (zero_at codeword) (range_with_len 112 32)) t in
@@ -107,7 +107,7 @@ passed word codeword w t =
       near = leb-true (distance 255 word codeword) 16 parts.0;
     }
 
-member_is_word : (codeword : List ℕ) → Member (all_lists 256 255) codeword → IsWord codeword
+member_is_word : (codeword : List ℕ) → IsAmong (all_lists 256 255) codeword → IsWord codeword
 member_is_word codeword m = let parts = from-all_lists 256 255 codeword m in record { long = parts.0; bytes = parts.1 }
 
 -- whether there is a restored word, and which
@@ -115,7 +115,7 @@ cases_restored : (word : List ℕ) → ((restored_of word ≡ None) × ((c : Lis
     ⊎ ((c : List ℕ) × (restored_of word ≡ Some c) × IsRestored word c)
 unfolding restored_of
 cases_restored word =
-    elim (cases_find (is_restored word) (all_lists 256 255)) [
+    elim (cases_find (is_restored_word word) (all_lists 256 255)) [
       | inl none ↦
           inl (
             none.0,

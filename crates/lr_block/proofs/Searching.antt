@@ -43,19 +43,19 @@ use Rattle.std.proofs.lemmas.Bool.{
 use Rattle.lr_block.specs.Outcomes.{all_lists}
 
 -- the list has this member
-abbrev pub Member : {X : Type 0} → List X → X → Type 0
-Member [] x = ⊥
-Member (y ∷ ys) x = (y ≡ x) ⊎ Member ys x
+abbrev pub IsAmong : {X : Type 0} → List X → X → Type 0
+IsAmong [] x = ⊥
+IsAmong (y ∷ ys) x = (y ≡ x) ⊎ IsAmong ys x
 
-member-left : {X : Type 0} (xs ys : List X) (x : X) → Member xs x → Member (xs ++ ys) x
+member-left : {X : Type 0} (xs ys : List X) (x : X) → IsAmong xs x → IsAmong (xs ++ ys) x
 member-left [] ys x h = elim h [ ]
 member-left (y ∷ xs) ys x h = elim h [ inl e ↦ inl e | inr m ↦ inr (member-left xs ys x m) ]
 
-member-right : {X : Type 0} (xs ys : List X) (x : X) → Member ys x → Member (xs ++ ys) x
+member-right : {X : Type 0} (xs ys : List X) (x : X) → IsAmong ys x → IsAmong (xs ++ ys) x
 member-right [] ys x h = h
 member-right (y ∷ xs) ys x h = inr (member-right xs ys x h)
 
-member-append : {X : Type 0} (xs ys : List X) (x : X) → Member (xs ++ ys) x → Member xs x ⊎ Member ys x
+member-append : {X : Type 0} (xs ys : List X) (x : X) → IsAmong (xs ++ ys) x → IsAmong xs x ⊎ IsAmong ys x
 member-append [] ys x h = inr h
 member-append (y ∷ xs) ys x h =
     elim h [
@@ -63,11 +63,11 @@ member-append (y ∷ xs) ys x h =
       | inr m ↦ elim (member-append xs ys x m) [ inl l ↦ inl (inr l) | inr r ↦ inr r ]
     ]
 
-member-map : {X Y : Type 0} (f : X → Y) (xs : List X) (x : X) → Member xs x → Member (map f xs) (f x)
+member-map : {X Y : Type 0} (f : X → Y) (xs : List X) (x : X) → IsAmong xs x → IsAmong (map f xs) (f x)
 member-map f [] x h = elim h [ ]
 member-map f (y ∷ xs) x h = elim h [ inl e ↦ inl (ap f e) | inr m ↦ inr (member-map f xs x m) ]
 
-from-map : {X Y : Type 0} (f : X → Y) (xs : List X) (y : Y) → Member (map f xs) y → (x : X) × Member xs x × (f x ≡ y)
+from-map : {X Y : Type 0} (f : X → Y) (xs : List X) (y : Y) → IsAmong (map f xs) y → (x : X) × IsAmong xs x × (f x ≡ y)
 from-map f [] y h = elim h [ ]
 from-map f (x ∷ xs) y h =
     elim h [
@@ -75,17 +75,17 @@ from-map f (x ∷ xs) y h =
       | inr m ↦ let v = from-map f xs y m in (v.0, inr v.1, v.2)
     ]
 
-member-flat_map : {X Y : Type 0} (f : X → List Y) (xs : List X) (x : X) (y : Y) → Member xs x → Member (f x) y
-    → Member (flat_map f xs) y
+member-flat_map : {X Y : Type 0} (f : X → List Y) (xs : List X) (x : X) (y : Y) → IsAmong xs x → IsAmong (f x) y
+    → IsAmong (flat_map f xs) y
 member-flat_map f [] x y h m = elim h [ ]
 member-flat_map {X} {Y} f (z ∷ xs) x y h m =
     elim h [
-      | inl e ↦ member-left (f z) (flat_map f xs) y (subst (λ (w : X). Member (f w) y) (sym e) m)
+      | inl e ↦ member-left (f z) (flat_map f xs) y (subst (λ (w : X). IsAmong (f w) y) (sym e) m)
       | inr r ↦ member-right (f z) (flat_map f xs) y (member-flat_map f xs x y r m)
     ]
 
-from-flat_map : {X Y : Type 0} (f : X → List Y) (xs : List X) (y : Y) → Member (flat_map f xs) y
-    → (x : X) × Member xs x × Member (f x) y
+from-flat_map : {X Y : Type 0} (f : X → List Y) (xs : List X) (y : Y) → IsAmong (flat_map f xs) y
+    → (x : X) × IsAmong xs x × IsAmong (f x) y
 from-flat_map f [] y h = elim h [ ]
 from-flat_map f (x ∷ xs) y h =
     elim (member-append (f x) (flat_map f xs) y h) [
@@ -93,12 +93,12 @@ from-flat_map f (x ∷ xs) y h =
       | inr r ↦ let v = from-flat_map f xs y r in (v.0, inr v.1, v.2)
     ]
 
-pub member-range : (a n k : ℕ) → a ≤ k → k < a + n → Member (range_with_len a n) k
+pub member-range : (a n k : ℕ) → a ≤ k → k < a + n → IsAmong (range_with_len a n) k
 member-range a zero k l h = absurd (omega arith)
 member-range a (suc n) k l h =
     elim (cases_eq a k) [ inl e ↦ inl e | inr ne ↦ inr (member-range (a + 1) n k (omega (arith, ne)) (omega arith)) ]
 
-pub from-range : (a n k : ℕ) → Member (range_with_len a n) k → (a ≤ k) × (k < a + n)
+pub from-range : (a n k : ℕ) → IsAmong (range_with_len a n) k → (a ≤ k) × (k < a + n)
 from-range a zero k h = elim h [ ]
 from-range a (suc n) k h =
     elim h [
@@ -108,7 +108,7 @@ from-range a (suc n) k h =
 
 -- ---- tests of all members
 
-pub list_all-member : {X : Type 0} (p : X → Bool) (xs : List X) (x : X) → list_all p xs ≡ true → Member xs x
+pub list_all-member : {X : Type 0} (p : X → Bool) (xs : List X) (x : X) → list_all p xs ≡ true → IsAmong xs x
     → p x ≡ true
 list_all-member p [] x h m = elim m [ ]
 list_all-member {X} p (y ∷ xs) x h m =
@@ -117,7 +117,7 @@ list_all-member {X} p (y ∷ xs) x h m =
       | inr r ↦ list_all-member p xs x (and_parts (p y) (list_all p xs) h).1 r
     ]
 
-pub list_all-from : {X : Type 0} (p : X → Bool) (xs : List X) → ((x : X) → Member xs x → p x ≡ true)
+pub list_all-from : {X : Type 0} (p : X → Bool) (xs : List X) → ((x : X) → IsAmong xs x → p x ≡ true)
     → list_all p xs ≡ true
 list_all-from p [] h = refl
 list_all-from p (y ∷ xs) h = and_from (p y) (list_all p xs) (h y (inl refl)) (list_all-from p xs (λ x m. h x (inr m)))
@@ -125,8 +125,8 @@ list_all-from p (y ∷ xs) h = and_from (p y) (list_all p xs) (h y (inl refl)) (
 -- ---- the first member that passes
 
 pub cases_find : {X : Type 0} (p : X → Bool) (xs : List X)
-    → ((find p xs ≡ None) × ((x : X) → Member xs x → p x ≡ false))
-    ⊎ ((x : X) × (find p xs ≡ Some x) × Member xs x × (p x ≡ true))
+    → ((find p xs ≡ None) × ((x : X) → IsAmong xs x → p x ≡ false))
+    ⊎ ((x : X) × (find p xs ≡ Some x) × IsAmong xs x × (p x ≡ true))
 cases_find p [] = inl (refl, λ x m. elim m [ ])
 cases_find {X} p (y ∷ xs) =
     elim (cases_Bool (p y)) [
@@ -208,7 +208,7 @@ none_is_first p n none =
 -- ---- all lists
 
 pub member-all_lists : (limit n : ℕ) (xs : List ℕ) → length xs ≡ n → ((i : ℕ) → i < n → get_or xs i 0 < limit)
-    → Member (all_lists limit n) xs
+    → IsAmong (all_lists limit n) xs
 unfolding all_lists
 member-all_lists limit zero [] e h = inl refl
 member-all_lists limit zero (x ∷ xs) e h = absurd (omega (arith, e))
@@ -219,7 +219,7 @@ member-all_lists limit (suc n) (x ∷ xs) e h =
     (member-map (λ number. number ∷ xs) (range_with_len 0 limit) x
     (member-range 0 limit x (omega arith) (omega (arith, h 0 (omega arith)))))
 
-pub from-all_lists : (limit n : ℕ) (xs : List ℕ) → Member (all_lists limit n) xs
+pub from-all_lists : (limit n : ℕ) (xs : List ℕ) → IsAmong (all_lists limit n) xs
     → (length xs ≡ n) × ((i : ℕ) → i < n → get_or xs i 0 < limit)
 unfolding all_lists
 from-all_lists limit zero xs h =

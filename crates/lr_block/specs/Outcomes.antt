@@ -54,14 +54,14 @@ all_lists limit zero = [] ∷ []
 all_lists limit (suc n) = flat_map (λ rest. map (λ number. number ∷ rest) (range_with_len 0 limit)) (all_lists limit n)
 
 -- whether a word of 255 bytes is a codeword that differs from the other in at most sixteen places
-unfoldable pub is_restored : List ℕ → List ℕ → Bool
-is_restored word codeword =
+unfoldable pub is_restored_word : List ℕ → List ℕ → Bool
+is_restored_word word codeword =
     nat_le (distance 255 word codeword) 16
     && list_all (λ j. word_value codeword (power 2 (11 * j)) == 0) (range_with_len 112 32)
 
 -- the restored word of a word, if there is one
 unfoldable pub restored_of : List ℕ → Option (List ℕ)
-restored_of word = find (is_restored word) (all_lists 256 255)
+restored_of word = find (is_restored_word word) (all_lists 256 255)
 
 -- the law: it is the restored word
 abbrev pub RestoredIsFound : Type 0

@@ -10,7 +10,7 @@ use Rattle.lr_headers.specs.declared.fault.HeaderFault.TheVariants.{
   NoMemory,
 }
 use Rattle.std.proofs.Common.{Err, refl}
-use Rattle.lr_headers.specs.Reading.{header_of}
+use Rattle.lr_headers.specs.Headers.{header_of}
 use Rattle.lr_headers.specs.Tiling.{HasFaultOrMemory}
 use Rattle.lr_headers.proofs.Readings.{fault_is}
 

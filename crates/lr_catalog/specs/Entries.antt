@@ -6,7 +6,7 @@ use Rattle.lr_bits.specs.File.{File, bytes_of, counter_of, declared_bits_of, pro
 use Rattle.lr_bits.specs.declared.placed.Origin.{Origin}
 use Rattle.lr_headers.specs.declared.fault.HeaderFault.{HeaderFault}
 use Rattle.lr_headers.specs.Fields.{file_type}
-use Rattle.lr_headers.specs.Reading.{header_of}
+use Rattle.lr_headers.specs.Headers.{header_of}
 use Rattle.lr_headers.specs.Tiling.{Header}
 
 -- a file's channel and application, and the counter of its transport header

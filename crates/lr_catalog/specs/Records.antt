@@ -23,7 +23,7 @@ use Rattle.lr_headers.specs.declared.fields.Navigation.{Navigation}
 use Rattle.lr_headers.specs.declared.fields.Segment.{Segment}
 use Rattle.lr_headers.specs.declared.fields.Lossless.{Lossless}
 use Rattle.lr_headers.specs.Fields.{content_of, contents_of}
-use Rattle.lr_headers.specs.Reading.{header_of}
+use Rattle.lr_headers.specs.Headers.{header_of}
 use Rattle.lr_headers.specs.Stamps.{stamp_text}
 use Rattle.lr_headers.specs.Tiling.{Header}
 use Rattle.lr_catalog.specs.Texts.{escaped_text, trimmed_text}

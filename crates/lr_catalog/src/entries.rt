@@ -2,7 +2,7 @@
 
 ghost use Rattle.std.specs.Prelude.{◌≡◌, ◌++◌, ◌==◌, IfOk, OnOk, OnErr, string_bytes, decimal};
 ghost use Rattle.lr_bits.specs.File.{declared_bits_of, real_bits_of};
-ghost use Rattle.lr_headers.specs.Reading.{header_of};
+ghost use Rattle.lr_headers.specs.Headers.{header_of};
 ghost use Rattle.lr_catalog.specs.Entries.{
   key_words,
   size_words,

@@ -38,8 +38,8 @@ use Rattle.lr_causes.specs.Kinds.{
 }
 
 -- the kind of a status
-abbrev kind_at : ℕ → Kind
-kind_at n =
+abbrev kind_of_status : ℕ → Kind
+kind_of_status n =
     if n == 0 then IsDone else if n == 2 then IsUsage else if n == 3 then HasFailed Source else if n == 4 then
     HasFailed Disk
     else if n == 5 then HasFailed Output else if n == 6 then IsNotAShelf else if n == 7 then IsNoSuchFile
@@ -47,7 +47,7 @@ kind_at n =
     else if n == 11 then IsNotEmpty else if n == 12 then IsBadChecksum else if n == 13 then IsDiscarded
     else if n == 14 then IsNoBundle else if n == 15 then IsNotSent else IsNoRepack
 
-kind_is : (cause : Cause) → kind_at (status_of cause) ≡ kind_of cause
+kind_is : (cause : Cause) → kind_of_status (status_of cause) ≡ kind_of cause
 kind_is Done = refl
 kind_is (DoneWith note) = refl
 kind_is Usage = refl
@@ -67,4 +67,4 @@ kind_is (Refused CannotSend) = refl
 kind_is (Refused (CannotRepack fault)) = refl
 
 pub one_kind : HasOneKind
-one_kind one other same = sym (kind_is one) ∙ ap kind_at same ∙ kind_is other
+one_kind one other same = sym (kind_is one) ∙ ap kind_of_status same ∙ kind_is other

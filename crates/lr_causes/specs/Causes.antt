@@ -36,7 +36,7 @@ use Rattle.lr_causes.specs.declared.fault.BundleFlaw.TheVariants.{Ended, Count, 
 use Rattle.lr_causes.specs.declared.fault.ExportFault.{ExportFault}
 use Rattle.lr_causes.specs.declared.note.Note.{Note}
 use Rattle.lr_causes.specs.declared.note.Note.TheVariants.{Assembled, Rendered}
-use Rattle.lr_causes.specs.Faults.{coding_word, word_of}
+use Rattle.lr_causes.specs.Faults.{coding_word, fault_word}
 
 abbrev pub status_of : Cause → ℕ
 status_of Done = 0
@@ -85,7 +85,7 @@ line_of (Refused (Capacity needed capacity)) = codes "station: capacity: needs "
 line_of (Refused (NotEmpty size)) = codes "station: not empty, length " ++ decimal size ++ codes "\n"
 line_of (Refused BadChecksum) = codes "station: bad checksum\n"
 line_of (Refused Discarded) = codes "station: discarded\n"
-line_of (Refused (CannotExport fault)) = codes "station: cannot export: " ++ word_of fault ++ codes "\n"
+line_of (Refused (CannotExport fault)) = codes "station: cannot export: " ++ fault_word fault ++ codes "\n"
 line_of (Refused (BadBundle flaw)) = bundle_line flaw
 line_of (Refused CannotSend) = codes "station: cannot send: fill\n"
 line_of (Refused (CannotRepack fault)) = codes "station: cannot repack: " ++ coding_word fault ++ codes "\n"
@@ -118,14 +118,14 @@ pub record Counts : Type 0 where
   pub disk : ℕ
   pub output : ℕ
 
-abbrev pub count_of : Party → Counts → ℕ
-count_of Source counts = counts.source
-count_of Disk counts = counts.disk
-count_of Output counts = counts.output
+abbrev pub count_of_party : Party → Counts → ℕ
+count_of_party Source counts = counts.source
+count_of_party Disk counts = counts.disk
+count_of_party Output counts = counts.output
 
 -- a cause that names a party comes only where that party's count rose
 abbrev pub IsCaused : Cause → Counts → Counts → Type 0
-IsCaused (Failed party) before now = Rose (count_of party before) (count_of party now)
+IsCaused (Failed party) before now = Rose (count_of_party party before) (count_of_party party now)
 IsCaused _ before now = Unit {0}
 
 -- how often the source, the disk and `out` have failed

@@ -79,23 +79,23 @@ assembly_fault (OtherDepth kept given) = Some Depths
 assembly_fault PastWhole = Some Outside
 assembly_fault NoMemory' = None
 
-abbrev pub word_of : ExportFault → List ℕ
-word_of Headers = codes "headers"
-word_of NotImage = codes "not-image"
-word_of NoStructure = codes "no-structure"
-word_of Encrypted = codes "encrypted"
-word_of Compression = codes "compression"
-word_of Depth = codes "depth"
-word_of Empty = codes "empty"
-word_of TooLarge = codes "too-large"
-word_of Flags = codes "flags"
-word_of BlockSize = codes "block-size"
-word_of LinesPerPacket = codes "lines-per-packet"
-word_of Rice = codes "rice"
-word_of Short = codes "short"
-word_of Depths = codes "depths"
-word_of Outside = codes "outside"
-word_of NoSegment = codes "no-segment"
+abbrev pub fault_word : ExportFault → List ℕ
+fault_word Headers = codes "headers"
+fault_word NotImage = codes "not-image"
+fault_word NoStructure = codes "no-structure"
+fault_word Encrypted = codes "encrypted"
+fault_word Compression = codes "compression"
+fault_word Depth = codes "depth"
+fault_word Empty = codes "empty"
+fault_word TooLarge = codes "too-large"
+fault_word Flags = codes "flags"
+fault_word BlockSize = codes "block-size"
+fault_word LinesPerPacket = codes "lines-per-packet"
+fault_word Rice = codes "rice"
+fault_word Short = codes "short"
+fault_word Depths = codes "depths"
+fault_word Outside = codes "outside"
+fault_word NoSegment = codes "no-segment"
 
 -- ---- no coding
 

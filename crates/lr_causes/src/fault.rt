@@ -41,7 +41,7 @@ pub enum ExportFault {
 
 impl ExportFault {
     ghost use Rattle.std.specs.Prelude.{◌≡◌};
-    ghost use Rattle.lr_causes.specs.Faults.{assembly_fault, image_fault, word_of};
+    ghost use Rattle.lr_causes.specs.Faults.{assembly_fault, image_fault, fault_word};
 
     /// The fault of an image; want of memory is none.
     pub fn of_image(fault: ImageFault) -> Option<Self>
@@ -80,7 +80,7 @@ impl ExportFault {
 
     /// Its word on `err`.
     pub fn word(self) -> &'static str
-        ensures { result.now ≡ word_of self }
+        ensures { result.now ≡ fault_word self }
     {
         match self {
             ExportFault::Headers => "headers",

@@ -8,7 +8,7 @@ use Rattle.lr_disk.specs.Reads.{IsUnwritten}
 use Rattle.lr_disk.specs.declared.disk.Disk.{Ghosts as DiskOf}
 use Rattle.lr_disk.proofs.Moments.{joined, unwritten_joined, weaker}
 use Rattle.lr_shelf_format.specs.Items.{Item, head_of_item}
-use Rattle.lr_shelf_format.specs.Reading.{StandsFor}
+use Rattle.lr_shelf_format.specs.ShelfBytes.{StandsForShelf}
 use Rattle.lr_shelf_format.specs.Way.{Way, IsWay, IsNoShelfAt}
 use Rattle.lr_shelf_format.specs.declared.stored.Stored.{Stored}
 use Rattle.lr_shelf_format.proofs.WayLemmas.{has_one_way}
@@ -46,11 +46,11 @@ use Rattle.lr_commands.specs.Adding.{
   HasWayOrOneMore,
   IsAdded,
   IsFullFor,
-  IsRefusedOn,
-  IsRefusedOver,
-  Leaves,
+  IsRefusedOnWay,
+  IsAddingRefused,
+  LeavesAdding,
   MayAdd,
-  MayEnd,
+  MayEndAdding,
   MayHaveAdded,
   RunsAdding,
   StandsForOneMore,
@@ -123,7 +123,7 @@ module _ {D : Type 0} (disk : DiskOf D) where
             };
             on_disk = record {
               stands =
-                  subst (λ (l : List ℕ). StandsFor l capacity items) (sym (since t).contents) was.on_disk.stands;
+                  subst (λ (l : List ℕ). StandsForShelf l capacity items) (sym (since t).contents) was.on_disk.stands;
               durable = λ c image. was.on_disk.durable c ((since t).images c image) ∙ sym (since t).contents;
             };
           };
@@ -183,7 +183,7 @@ module _ {D O : Type 0} (disk : DiskOf D) (out : SinkOf O) (makes : Addition →
         full.is ∙ ap (λ (a : Addition). Capacity (min (way_added a.item way).end 18446744073709551615) way.capacity)
         addition ∙ sym full'.is
 
-    pub refused_once : (one other : Refusal) → IsRefusedOn decides bytes way one → IsRefusedOn decides bytes way other
+    pub refused_once : (one other : Refusal) → IsRefusedOnWay decides bytes way one → IsRefusedOnWay decides bytes way other
         → one ≡ other
     refused_once one other (inl is) (inl is') =
         let same = once bytes way (Err one) (Err other) is is' in
@@ -196,7 +196,7 @@ module _ {D O : Type 0} (disk : DiskOf D) (out : SinkOf O) (makes : Addition →
         cc (same)
     refused_once one other (inr is) (inr is') = full_once is.0 is'.0 one other is.1 is'.1 is.2 is'.2
 
-    pub not_both : (refusal : Refusal) (addition : Addition) → IsRefusedOn decides bytes way refusal
+    pub not_both : (refusal : Refusal) (addition : Addition) → IsRefusedOnWay decides bytes way refusal
         → decides bytes way (Ok addition) → Fits addition.item way → ⊥
     not_both refusal addition (inl is) is' fits =
         let same = once bytes way (Err refusal) (Ok addition) is is' in
@@ -208,22 +208,22 @@ module _ {D O : Type 0} (disk : DiskOf D) (out : SinkOf O) (makes : Addition →
         subst (λ (a : Addition). way.capacity < (way_added a.item way).end) one is.2.over in
         omega (arith, over, fits)
 
-  pub over_once : (bytes : List ℕ) (one other : Refusal) → IsRefusedOver decides bytes one
-      → IsRefusedOver decides bytes other → one ≡ other
+  pub over_once : (bytes : List ℕ) (one other : Refusal) → IsAddingRefused decides bytes one
+      → IsAddingRefused decides bytes other → one ≡ other
   over_once bytes one other (inl is) (inl is') =
       sym is.2 ∙ ap NotAShelf ((has_one_way bytes).place is.0 is'.0 is.1 is'.1) ∙ is'.2
   over_once bytes one other (inl is) (inr is') = absurd ((has_one_way bytes).none is'.0 is.0 is'.1 is.1)
   over_once bytes one other (inr is) (inl is') = absurd ((has_one_way bytes).none is.0 is'.0 is.1 is'.1)
   over_once bytes one other (inr is) (inr is') =
       refused_once bytes is.0 one other is.2
-      (subst (λ (w : Way). IsRefusedOn decides bytes w other) (one_way bytes is'.0 is.0 is'.1 is.1) is'.2)
+      (subst (λ (w : Way). IsRefusedOnWay decides bytes w other) (one_way bytes is'.0 is.0 is'.1 is.1) is'.2)
 
-  pub over_none : (bytes : List ℕ) (refusal : Refusal) (addition : Addition) → IsRefusedOver decides bytes refusal
+  pub over_none : (bytes : List ℕ) (refusal : Refusal) (addition : Addition) → IsAddingRefused decides bytes refusal
       → MayAdd decides bytes addition → ⊥
   over_none bytes refusal addition (inl is) may = (has_one_way bytes).none may.way is.0 may.is_way is.1
   over_none bytes refusal addition (inr is) may =
       not_both bytes may.way refusal addition
-      (subst (λ (w : Way). IsRefusedOn decides bytes w refusal) (one_way bytes is.0 may.way is.1 may.is_way) is.2)
+      (subst (λ (w : Way). IsRefusedOnWay decides bytes w refusal) (one_way bytes is.0 may.way is.1 may.is_way) is.2)
       may.decided may.fits
 
   -- ---- nothing was written
@@ -233,7 +233,7 @@ module _ {D O : Type 0} (disk : DiskOf D) (out : SinkOf O) (makes : Addition →
   still capacity items d d' unwritten is =
       weaker disk.moment disk.left_since d d' (disk.may_leave d)
       (StandsForOneMore decides (disk.contents d) capacity items)
-      (λ c image. inl (subst (λ (l : List ℕ). StandsFor l capacity items) (sym (is.durable c image)) is.stands))
+      (λ c image. inl (subst (λ (l : List ℕ). StandsForShelf l capacity items) (sym (is.durable c image)) is.stands))
       unwritten.any_moment
 
   way_still : (way : Way) (d d' : D) → IsUnwritten disk d d' → IsWay (disk.contents d) way
@@ -281,8 +281,8 @@ module _ {D O : Type 0} (disk : DiskOf D) (out : SinkOf O) (makes : Addition →
     }
 
     -- this is refused
-    pub refused_run : (refusal : Refusal) → MayEnd (Refused refusal) → disk.faults d' ≡ disk.faults d
-        → (disk.tells d → IsRefusedOver decides (disk.contents d) refusal)
+    pub refused_run : (refusal : Refusal) → MayEndAdding (Refused refusal) → disk.faults d' ≡ disk.faults d
+        → (disk.tells d → IsAddingRefused decides (disk.contents d) refusal)
         → RunsAdding disk out makes decides d d' o o (Refused refusal)
     refused_run refusal may count over = record {
       may = may;
@@ -291,7 +291,7 @@ module _ {D O : Type 0} (disk : DiskOf D) (out : SinkOf O) (makes : Addition →
       told_by_out = λ t. t;
       leaves = record { silent = refl; unwritten = unwritten };
       refused = λ r same t.
-          subst (IsRefusedOver decides (disk.contents d)) (refused_is refusal r same) (over t);
+          subst (IsAddingRefused decides (disk.contents d)) (refused_is refusal r same) (over t);
       refuses = λ r t is. inl (ap Refused (over_once (disk.contents d) refusal r (over t) is));
       adds = λ addition t is. absurd (over_none (disk.contents d) refusal addition (over t) is);
       way_any_moment = λ way t is_way only. way_still way d d' (unwritten t) is_way only;

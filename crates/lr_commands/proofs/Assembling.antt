@@ -23,7 +23,7 @@ use Rattle.lr_causes.specs.declared.cause.Party.TheVariants.{Source, Disk, Outpu
 use Rattle.lr_causes.specs.declared.cause.Refusal.{Refusal}
 use Rattle.lr_commands.specs.declared.gathering.Gathering.{Gathering}
 use Rattle.lr_commands.specs.declared.opened.Opened.{Opened}
-use Rattle.lr_commands.specs.Assemble.{whole_fate, if_of, is_without, member_of, members_of, segment_in, skipped_of}
+use Rattle.lr_commands.specs.Assemble.{whole_fate, if_of, is_without, member_of, members_of, segment_for_image, skipped_of}
 use Rattle.lr_commands.specs.Gathered.{Gathers, IsStop, with_member, with_skipped}
 use Rattle.lr_commands.specs.Steps.{PutsText, TextStops}
 use Rattle.lr_commands.proofs.Exporting.{pgm_some}
@@ -32,19 +32,19 @@ use Rattle.lr_causes.proofs.Joining.{puts_none}
 -- ---- the segment of a file
 
 module _ (apid image : ℕ) (file : File) where
-  pub other_application : (file.apid ≡ apid → ⊥) → None ≡ segment_in apid image file
-  unfolding segment_in
+  pub other_application : (file.apid ≡ apid → ⊥) → None ≡ segment_for_image apid image file
+  unfolding segment_for_image
   other_application other = rw (ne_eqb file.apid apid other) refl
 
   module _ (same : file.apid ≡ apid) where
     pub no_header : (fault : HeaderFault) → HasFaultOrMemory (proper_of file) fault → (fault ≡ NoMemory' → ⊥)
-        → None ≡ segment_in apid image file
-    unfolding segment_in
+        → None ≡ segment_for_image apid image file
+    unfolding segment_for_image
     no_header fault has not = rw (eq-eqb file.apid apid same, is_fault (proper_of file) fault has not) refl
 
     pub of_header : (header : Header) → IsHeaderOf (proper_of file) header → (segment : Option Segment)
-        → segment ≡ segment_of header → if_of image segment ≡ segment_in apid image file
-    unfolding segment_in
+        → segment ≡ segment_of header → if_of image segment ≡ segment_for_image apid image file
+    unfolding segment_for_image
     of_header header is segment of = rw (eq-eqb file.apid apid same, header_is (proper_of file) header is, of) refl
 
 -- ---- one file more
@@ -71,11 +71,11 @@ module _ (apid image : ℕ) where
 
   skipped_more : (read : List Opened) (opened : Opened)
       → skipped_of apid image (read ++ opened ∷ [])
-      ≡ with_skipped (skipped_of apid image read) (is_without (segment_in apid image opened.stored.file) opened.image)
+      ≡ with_skipped (skipped_of apid image read) (is_without (segment_for_image apid image opened.stored.file) opened.image)
   skipped_more read opened =
-      sum_by-append (λ (o : Opened). cond (is_without (segment_in apid image o.stored.file) o.image) 1 0) read
+      sum_by-append (λ (o : Opened). cond (is_without (segment_for_image apid image o.stored.file) o.image) 1 0) read
       (opened ∷ [])
-      ∙ count_more (skipped_of apid image read) (is_without (segment_in apid image opened.stored.file) opened.image)
+      ∙ count_more (skipped_of apid image read) (is_without (segment_for_image apid image opened.stored.file) opened.image)
 
   few_members : (read : List Opened) → length (members_of apid image read) ≤ length read
   few_members [] = omega arith
@@ -85,21 +85,21 @@ module _ (apid image : ℕ) where
   -- what was gathered, of one file more
   pub gathers_more : (read : List Opened) (opened : Opened) (gathering : Gathering)
       → Gathers (with_member (members_of apid image read) (member_of apid image opened))
-      (with_skipped (skipped_of apid image read) (is_without (segment_in apid image opened.stored.file) opened.image))
+      (with_skipped (skipped_of apid image read) (is_without (segment_for_image apid image opened.stored.file) opened.image))
       gathering
       → Gathers (members_of apid image (read ++ opened ∷ [])) (skipped_of apid image (read ++ opened ∷ [])) gathering
   gathers_more read opened gathering gathers =
       subst (λ n. Gathers (members_of apid image (read ++ opened ∷ [])) n gathering) (sym (skipped_more read opened))
       (subst
       (λ (l : List Member). Gathers l (with_skipped (skipped_of apid image read)
-      (is_without (segment_in apid image opened.stored.file) opened.image)) gathering)
+      (is_without (segment_for_image apid image opened.stored.file) opened.image)) gathering)
       (sym (members_more read opened)) gathers)
 
   pub can_count : (read : List Opened) → length read + 1 < 2 ^ 64
       → (length (members_of apid image read) + 1 < 2 ^ 64) × (skipped_of apid image read + 1 < 2 ^ 64)
   can_count read few =
       let skipped =
-      count_by-le-length (λ (o : Opened). is_without (segment_in apid image o.stored.file) o.image) read in
+      count_by-le-length (λ (o : Opened). is_without (segment_for_image apid image o.stored.file) o.image) read in
       (omega (arith, few, few_members read), omega (arith, few, skipped))
 
 -- ---- why nothing was put

@@ -8,9 +8,9 @@ use Rattle.lr_disk.specs.Reads.{IsUnwritten}
 use Rattle.lr_disk.specs.declared.disk.Disk.{Ghosts as DiskOf}
 use Rattle.lr_disk.proofs.Moments.{unwritten_yet, weaker}
 use Rattle.lr_shelf_format.specs.Items.{Item, discard_item}
-use Rattle.lr_shelf_format.specs.Reading.{StandsFor}
+use Rattle.lr_shelf_format.specs.ShelfBytes.{StandsForShelf}
 use Rattle.lr_shelf_format.specs.Way.{Way, IsWay}
-use Rattle.lr_shelf.specs.Discards.{Discards, IsDiscardRefusal as IsShelfRefusal}
+use Rattle.lr_shelf.specs.Discards.{Discards, IsDiscardError}
 use Rattle.lr_shelf.specs.Asked.{IsAskable}
 use Rattle.lr_shelf.specs.Kept.{kept_by}
 use Rattle.lr_shelf.specs.Load.{Loads, IsLoadRefusal}
@@ -41,11 +41,11 @@ use Rattle.lr_commands.specs.Adding.{
   Fits,
   HasWayOrOneMore,
   IsAdded,
-  IsRefusedOn as IsRefusedOnWay,
-  IsRefusedOver,
-  Leaves as LeavesAdding,
+  IsRefusedOnWay,
+  IsAddingRefused,
+  LeavesAdding,
   MayAdd,
-  MayEnd as MayEndAdding,
+  MayEndAdding,
   RunsAdding,
   StandsForOneMore,
   way_added,
@@ -121,13 +121,13 @@ module _ (number : ℕ) where
       ∙ ap (λ (a : Addition). Capacity (min (way_added a.item way).end 18446744073709551615) way.capacity) given.1) in
       subst (IsDiscardRefusal number bytes) named (way, is_way, (given.0, over, refl, refl))
 
-  pub from_over : (bytes : List ℕ) (refusal : Refusal) → IsRefusedOver (DecidesDiscard number) bytes refusal
+  pub from_over : (bytes : List ℕ) (refusal : Refusal) → IsAddingRefused (DecidesDiscard number) bytes refusal
       → IsDiscardRefusal number bytes refusal
   from_over bytes refusal (inl is) = subst (IsDiscardRefusal number bytes) is.2 is.1
   from_over bytes refusal (inr is) = from_way bytes is.0 refusal is.1 is.2
 
   pub to_over : (bytes : List ℕ) (refusal : Refusal) → IsDiscardRefusal number bytes refusal
-      → IsRefusedOver (DecidesDiscard number) bytes refusal
+      → IsAddingRefused (DecidesDiscard number) bytes refusal
   to_over bytes (NotAShelf at) is = inl (at, is, refl)
   to_over bytes (NoSuchFile count) is =
       inr (is.0, is.1, inl (inl (is.2.0, ap (λ (n : ℕ). Err (NoSuchFile n)) is.2.1)))
@@ -235,7 +235,7 @@ module _ {D O : Type 0} (disk : DiskOf D) (out : SinkOf O) (number : ℕ) (d d' 
   durable_still : (capacity : ℕ) (items : List Item) → IsUnwritten disk d d' → IsDurable disk capacity items d
       → IsDurable disk capacity items d'
   durable_still capacity items unwritten is = record {
-    stands = subst (λ (l : List ℕ). StandsFor l capacity items) (sym unwritten.contents) is.stands;
+    stands = subst (λ (l : List ℕ). StandsForShelf l capacity items) (sym unwritten.contents) is.stands;
     durable = λ c image. is.durable c (unwritten.images c image) ∙ sym unwritten.contents;
   }
 
@@ -252,7 +252,7 @@ module _ {D O : Type 0} (disk : DiskOf D) (out : SinkOf O) (number : ℕ) (d d' 
       record {
         contents = inl still.stands;
         images = λ c image.
-            inl (subst (λ (l : List ℕ). StandsFor l capacity items) (sym (still.durable c image)) still.stands);
+            inl (subst (λ (l : List ℕ). StandsForShelf l capacity items) (sym (still.durable c image)) still.stands);
       }
   leaves_items (Failed Disk) (inr left) capacity items t is =
       let both = subst (λ (a : Addition). StandsForEither capacity items a.item (disk.contents d')
@@ -270,7 +270,7 @@ module _ {D O : Type 0} (disk : DiskOf D) (out : SinkOf O) (number : ℕ) (d d' 
       → StandsForEither capacity items (discard_item number) c
   one_more capacity items c (inl is) = inl is
   one_more capacity items c (inr is) =
-      inr (subst (λ (a : Addition). StandsFor c capacity (items ++ a.item ∷ []))
+      inr (subst (λ (a : Addition). StandsForShelf c capacity (items ++ a.item ∷ []))
       (discard_of number (disk.contents d) is.1.way is.0 is.1.decided).1 is.2)
 
   way_or_more : (way : Way) (c : List ℕ) → HasWayOrOneMore (DecidesDiscard number) (disk.contents d) way c
@@ -376,7 +376,7 @@ module _ {D O : Type 0} (disk : DiskOf D) (out : SinkOf O) (number : ℕ) where
     may_of askable = record { there = askable.there; stays = askable.stays }
 
     -- no Discard was added
-    pub not_added : (error : ShelfError) → answer ≡ Err error → IsShelfRefusal number (kept_by shelf) error
+    pub not_added : (error : ShelfError) → answer ≡ Err error → IsDiscardError number (kept_by shelf) error
         → RunsDiscard disk out number (cause_of error) d d2 o o
     not_added Disk' is refusal =
         discard_runs disk out number d d2 o o (Failed Disk) tt

@@ -68,7 +68,7 @@ use Rattle.lr_commands.specs.Runs.{
   PutsFirst,
   Got,
   Precedes,
-  Runs,
+  RunsReading,
   RunsOn,
   RunsOver,
   at_place,
@@ -115,7 +115,7 @@ module _ {D O : Type 0} (disk : DiskOf D) (out : SinkOf O) (asked : Asked) where
       (answer_is asked bytes (refused_answer got.first.text refusal) answer got.is is))
 
   pub over : (d d' : D) (o o' : O) (cause : Cause)
-      → Runs disk out asked (IsAnswer asked) (IsBegun asked) cause d d' o o'
+      → RunsReading disk out asked (IsAnswer asked) (IsBegun asked) cause d d' o o'
       → RunsOver disk out asked cause d d' o o'
   over d d' o o' cause runs =
       record { runs = runs; ends = λ answer t. ends (disk.contents d) o o' cause (runs.got t) answer }
@@ -142,7 +142,7 @@ module _ {D O : Type 0} (disk : DiskOf D) (out : SinkOf O) (asked : Asked) where
   -- memory was refused before the shelf was loaded
   pub not_started :
       ((x : D) (c : List ℕ) → disk.tells x → disk.left_since x (disk.moment x) c → disk.may_leave x c)
-      → (d : D) (o : O) → Runs disk out asked (IsAnswer asked) (IsBegun asked) NoMemory d d o o
+      → (d : D) (o : O) → RunsReading disk out asked (IsAnswer asked) (IsBegun asked) NoMemory d d o o
   not_started only_now d o = record {
     may = tt;
     counted = refl;
@@ -161,7 +161,7 @@ module _ {D O : Type 0} (disk : DiskOf D) (out : SinkOf O) (asked : Asked) where
 
     -- no shelf was loaded
     pub not_loaded : (error : ShelfError) → result ≡ Err error → IsLoadRefusal disk d error
-        → Runs disk out asked (IsAnswer asked) (IsBegun asked) (cause_of error) d d1 o o
+        → RunsReading disk out asked (IsAnswer asked) (IsBegun asked) (cause_of error) d d1 o o
     not_loaded Disk' is refusal = record {
       may = tt;
       counted = ((counted_load Disk' is).1, refl, refl);
@@ -285,7 +285,7 @@ module _ {D O : Type 0} (disk : DiskOf D) (out : SinkOf O) (asked : Asked) where
       -- a shelf was loaded, and its entries were run over
       pub loaded : (d2 : D) (o' : O) (cause : Cause)
           → RunsOn disk out asked (kept_by shelf).way cause d1 d2 o o'
-          → Runs disk out asked (IsAnswer asked) (IsBegun asked) cause d d2 o o'
+          → RunsReading disk out asked (IsAnswer asked) (IsBegun asked) cause d d2 o o'
       loaded d2 o' cause runs = record {
         may = runs.may;
         counted = subst (λ (c : Counts). Counted cause c (counts_of disk out d2 o'))

@@ -38,7 +38,7 @@ use Rattle.std.proofs.lemmas.List.{append-nil}
 use Rattle.lr_bits.specs.File.{proper_of}
 use Rattle.lr_image.specs.Pgm.{pgm_text}
 use Rattle.lr_image.specs.Picture.{Picture}
-use Rattle.lr_image.specs.Reading.{HasOutcome}
+use Rattle.lr_image.specs.Images.{HasOutcome}
 use Rattle.lr_image.specs.declared.fault.ImageFault.{ImageFault}
 use Rattle.lr_shelf_format.specs.Way.{Way, IsWay, Sound, Bad, HasSoundRecord, IsFound}
 use Rattle.lr_shelf_format.specs.declared.stored.Stored.{Stored}

@@ -48,7 +48,7 @@ use Rattle.lr_causes.specs.declared.cause.Refusal.TheVariants.{Capacity, CannotE
 use Rattle.lr_causes.specs.declared.cause.Cause.{Cause}
 use Rattle.lr_causes.specs.declared.cause.Cause.TheVariants.{Done, Failed, NoMemory, Refused}
 use Rattle.lr_causes.specs.Causes.{Counts, cause_of}
-use Rattle.lr_commands.specs.Adding.{Addition, Fits, MayEnd, RunsAdding, way_added}
+use Rattle.lr_commands.specs.Adding.{Addition, Fits, MayEndAdding, RunsAdding, way_added}
 use Rattle.lr_commands.specs.Asked.{entry_at}
 use Rattle.lr_commands.specs.Repack.{
   DecidesCoded,
@@ -102,25 +102,25 @@ module _ (number block : ℕ) where
       (subst (λ (f : Option Found). DecidesFound number block way f one) same is.1.2) is'.1.2
 
 -- no file is refused as a disk that isn't empty
-may_refuse : (fault : RepackFault) (refusal : Refusal) → repack_refusal fault ≡ Some refusal → MayEnd (Refused refusal)
+may_refuse : (fault : RepackFault) (refusal : Refusal) → repack_refusal fault ≡ Some refusal → MayEndAdding (Refused refusal)
 may_refuse (fault.Image cause) refusal names = by (image_fault cause) names where
-  by : (named : Option ExportFault) → option_map CannotExport named ≡ Some refusal → MayEnd (Refused refusal)
+  by : (named : Option ExportFault) → option_map CannotExport named ≡ Some refusal → MayEndAdding (Refused refusal)
   by None same = cc (same)
   by (Some word) same =
       let is : CannotExport word ≡ refusal = cc (same) in
-      subst (λ (r : Refusal). MayEnd (Refused r)) is tt
+      subst (λ (r : Refusal). MayEndAdding (Refused r)) is tt
 may_refuse (fault.Depth bits) refusal names =
     let is : CannotRepack Depth ≡ refusal = cc (names) in
-    subst (λ (r : Refusal). MayEnd (Refused r)) is tt
+    subst (λ (r : Refusal). MayEndAdding (Refused r)) is tt
 may_refuse (fault.Line line) refusal names =
     let is : CannotRepack Line ≡ refusal = cc (names) in
-    subst (λ (r : Refusal). MayEnd (Refused r)) is tt
+    subst (λ (r : Refusal). MayEndAdding (Refused r)) is tt
 may_refuse (fault.Header size) refusal names =
     let is : CannotRepack Header ≡ refusal = cc (names) in
-    subst (λ (r : Refusal). MayEnd (Refused r)) is tt
+    subst (λ (r : Refusal). MayEndAdding (Refused r)) is tt
 may_refuse (fault.File size) refusal names =
     let is : CannotRepack LongFile ≡ refusal = cc (names) in
-    subst (λ (r : Refusal). MayEnd (Refused r)) is tt
+    subst (λ (r : Refusal). MayEndAdding (Refused r)) is tt
 may_refuse fault.NoMemory refusal names = cc (names)
 
 module _ {D O : Type 0} (disk : DiskOf D) (out : SinkOf O) (number block : ℕ) where
@@ -155,7 +155,7 @@ module _ {D O : Type 0} (disk : DiskOf D) (out : SinkOf O) (number block : ℕ) 
         subst (λ (r : Result Stored ShelfError). IsCounted (disk.faults d1) (disk.faults d2) r) is
         gets.reads.calls.counted
 
-    decided_run : (refusal : Refusal) → MayEnd (Refused refusal) → disk.faults d2 ≡ disk.faults d1
+    decided_run : (refusal : Refusal) → MayEndAdding (Refused refusal) → disk.faults d2 ≡ disk.faults d1
         → (disk.tells d → DecidesRepack number block (disk.contents d) there (Err refusal))
         → RunsRepack (Refused refusal) d d2 o o
     decided_run refusal may count decided =
@@ -232,7 +232,7 @@ module _ {D O : Type 0} (disk : DiskOf D) (out : SinkOf O) (number block : ℕ) 
 
       refuses_with : (fault : RepackFault) → HasRepackFault stored.file block fault → (named : Option Refusal)
           → repack_refusal fault ≡ named
-          → ((refusal : Refusal) → named ≡ Some refusal → MayEnd (Refused refusal))
+          → ((refusal : Refusal) → named ≡ Some refusal → MayEndAdding (Refused refusal))
           → RunsRepack (refusal_cause named) d d2 o o
       refuses_with fault has None names may =
           earlier_run disk out (MakesRepacked number block) (DecidesRepack number block) (repack_once number block) d

@@ -6,7 +6,7 @@ use Rattle.lr_disk.specs.Disk.{LeavesOnly, Only}
 use Rattle.lr_disk.specs.Reads.{IsUnwritten}
 use Rattle.lr_disk.specs.declared.disk.Disk.{Ghosts as DiskOf}
 use Rattle.lr_shelf_format.specs.Items.{Item, head_of_item}
-use Rattle.lr_shelf_format.specs.Reading.{StandsFor}
+use Rattle.lr_shelf_format.specs.ShelfBytes.{StandsForShelf}
 use Rattle.lr_shelf_format.specs.Way.{Way, IsWay, IsNoShelfAt, way_with}
 use Rattle.lr_shelf.specs.Shelf.{HasEitherWay, IsDurable, StandsForEither}
 use Rattle.lr_causes.specs.declared.cause.Party.TheVariants.{Disk, Output}
@@ -48,22 +48,22 @@ module _ (decides : List ℕ → Way → Result Addition Refusal → Type 0) whe
     pub fits : Fits addition.item way
 
   -- a refusal over bytes of this way: it is decided, or there is no room for what is
-  abbrev pub IsRefusedOn : List ℕ → Way → Refusal → Type 0
-  IsRefusedOn bytes way refusal =
+  abbrev pub IsRefusedOnWay : List ℕ → Way → Refusal → Type 0
+  IsRefusedOnWay bytes way refusal =
       decides bytes way (Err refusal)
       ⊎ ((addition : Addition) × decides bytes way (Ok addition) × IsFullFor addition.item way refusal)
 
   -- a refusal over bytes: no shelf stands there, or it is one of their way
-  abbrev pub IsRefusedOver : List ℕ → Refusal → Type 0
-  IsRefusedOver bytes refusal =
+  abbrev pub IsAddingRefused : List ℕ → Refusal → Type 0
+  IsAddingRefused bytes refusal =
       ((at : ℕ) × IsNoShelfAt bytes at × (NotAShelf at ≡ refusal))
-      ⊎ ((way : Way) × IsWay bytes way × IsRefusedOn bytes way refusal)
+      ⊎ ((way : Way) × IsWay bytes way × IsRefusedOnWay bytes way refusal)
 
   -- bytes stand for these items, or for these and the one that is added to `bytes`
   abbrev pub StandsForOneMore : List ℕ → ℕ → List Item → List ℕ → Type 0
   StandsForOneMore bytes capacity items c =
-      StandsFor c capacity items
-      ⊎ ((addition : Addition) × MayAdd bytes addition × StandsFor c capacity (items ++ addition.item ∷ []))
+      StandsForShelf c capacity items
+      ⊎ ((addition : Addition) × MayAdd bytes addition × StandsForShelf c capacity (items ++ addition.item ∷ []))
 
   -- they have this way, or that with the item that is added to `bytes`
   abbrev pub HasWayOrOneMore : List ℕ → Way → List ℕ → Type 0
@@ -73,14 +73,14 @@ module _ (decides : List ℕ → Way → Result Addition Refusal → Type 0) whe
 -- ---- causes
 
 -- the causes that it may have, over any disk
-abbrev pub MayEnd : Cause → Type 0
-MayEnd Done = Unit {0}
-MayEnd (Failed Disk) = Unit {0}
-MayEnd (Failed Output) = Unit {0}
-MayEnd NoMemory = Unit {0}
-MayEnd (Refused (NotEmpty size)) = ⊥
-MayEnd (Refused refusal) = Unit {0}
-MayEnd _ = ⊥
+abbrev pub MayEndAdding : Cause → Type 0
+MayEndAdding Done = Unit {0}
+MayEndAdding (Failed Disk) = Unit {0}
+MayEndAdding (Failed Output) = Unit {0}
+MayEndAdding NoMemory = Unit {0}
+MayEndAdding (Refused (NotEmpty size)) = ⊥
+MayEndAdding (Refused refusal) = Unit {0}
+MayEndAdding _ = ⊥
 
 -- a cause that comes only where the item was added
 abbrev pub IsAdded : Cause → Type 0
@@ -121,25 +121,25 @@ module _ {D O : Type 0} (disk : DiskOf D) (out : SinkOf O) (makes : Addition →
     pub unwritten : disk.tells d → IsUnwritten disk d d'
 
   -- what stands at the return, for each cause
-  abbrev pub Leaves : Cause → Type 0
-  Leaves Done = AddsItem (Puts out)
-  Leaves (Failed Output) = AddsItem (PutFails out)
-  Leaves (Failed Disk) = DoesNothing ⊎ ((o' ≡ o) × MayHaveAdded)
-  Leaves NoMemory = DoesNothing
-  Leaves (Refused refusal) = DoesNothing
-  Leaves _ = ⊥
+  abbrev pub LeavesAdding : Cause → Type 0
+  LeavesAdding Done = AddsItem (Puts out)
+  LeavesAdding (Failed Output) = AddsItem (PutFails out)
+  LeavesAdding (Failed Disk) = DoesNothing ⊎ ((o' ≡ o) × MayHaveAdded)
+  LeavesAdding NoMemory = DoesNothing
+  LeavesAdding (Refused refusal) = DoesNothing
+  LeavesAdding _ = ⊥
 
   pub record RunsAdding (cause : Cause) : Type 0 where
-    pub may : MayEnd cause
+    pub may : MayEndAdding cause
     pub counted : Counted cause (counts_of disk out d o) (counts_of disk out d' o')
     pub told : disk.tells d → disk.tells d'
     pub told_by_out : out.tells o → out.tells o'
-    pub leaves : Leaves cause
+    pub leaves : LeavesAdding cause
     -- a refusal comes exactly where it stands, unless the disk failed or memory was refused; the item is added exactly
     -- where none stands
     pub refused : (refusal : Refusal) → cause ≡ Refused refusal → disk.tells d
-        → IsRefusedOver decides (disk.contents d) refusal
-    pub refuses : (refusal : Refusal) → disk.tells d → IsRefusedOver decides (disk.contents d) refusal
+        → IsAddingRefused decides (disk.contents d) refusal
+    pub refuses : (refusal : Refusal) → disk.tells d → IsAddingRefused decides (disk.contents d) refusal
         → (cause ≡ Refused refusal) ⊎ IsEarlier cause
     pub adds : (addition : Addition) → disk.tells d → MayAdd decides (disk.contents d) addition
         → IsAdded cause ⊎ IsEarlier cause

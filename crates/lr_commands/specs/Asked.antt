@@ -3,7 +3,7 @@ use Rattle.std.specs.Prelude.{◌≡◌, ◌⊎◌, ◌≤◌, ◌+◌, ◌-◌,
 use Rattle.std.specs.Prelude.{Result, Ok, Err, List, [], ◌∷◌, ◌++◌, length}
 use Rattle.lr_bits.specs.File.{File}
 use Rattle.lr_image.specs.Picture.{Picture}
-use Rattle.lr_image.specs.Reading.{HasOutcome}
+use Rattle.lr_image.specs.Images.{HasOutcome}
 use Rattle.lr_image.specs.declared.fault.ImageFault.{ImageFault}
 use Rattle.lr_shelf_format.specs.Way.{Way, IsWay, IsNoShelfAt, Sound, Bad, Gone, IsFound, entry_in}
 use Rattle.lr_shelf_format.specs.declared.entry.Entry.{Entry}
@@ -90,7 +90,7 @@ then_rest text rest = record { text = text ++ rest.text; refusal = rest.refusal;
 
 module _ (asked : Asked) (bytes : List ℕ) (way : Way) where
   -- an entry at which the run isn't refused, and what comes after it
-  pub record GoesOn (read : List Seen) (number : ℕ) (After : Seen → Answer → Type 0) (answer : Answer) : Type 0 where
+  pub record PassesEntry (read : List Seen) (number : ℕ) (After : Seen → Answer → Type 0) (answer : Answer) : Type 0 where
     pub seen : Seen
     pub text : List ℕ
     pub rest : Answer
@@ -100,7 +100,7 @@ module _ (asked : Asked) (bytes : List ℕ) (way : Way) where
     pub is : answer ≡ then_rest text rest
 
   -- an entry at which the run is refused
-  pub record StopsAt (read : List Seen) (number : ℕ) (answer : Answer) : Type 0 where
+  pub record IsRefusedAtEntry (read : List Seen) (number : ℕ) (answer : Answer) : Type 0 where
     pub seen : Option Seen
     pub refusal : Refusal
     pub stands : IsSeen asked.looks bytes (entry_at way number) seen
@@ -111,8 +111,8 @@ module _ (asked : Asked) (bytes : List ℕ) (way : Way) where
   abbrev pub AnswersFrom : (left number : ℕ) → List Seen → Answer → Type 0
   AnswersFrom zero number read answer = answer ≡ answer_of (asked.last way read) (asked.tells read)
   AnswersFrom (suc left) number read answer =
-      GoesOn read number (λ seen rest. AnswersFrom left (number + 1) (read ++ seen ∷ []) rest) answer
-      ⊎ StopsAt read number answer
+      PassesEntry read number (λ seen rest. AnswersFrom left (number + 1) (read ++ seen ∷ []) rest) answer
+      ⊎ IsRefusedAtEntry read number answer
 
   abbrev pub AnswersIn : Option Range → Answer → Type 0
   AnswersIn None answer = answer ≡ refused_answer [] (NoSuchFile (length way.entries))

@@ -4,7 +4,7 @@ use Rattle.std.specs.Prelude.{List, [], ◌∷◌, length, count_by, if◌then�
 use Rattle.std.specs.List.{filter_map}
 use Rattle.lr_bits.specs.File.{File, proper_of}
 use Rattle.lr_headers.specs.Fields.{segment_of}
-use Rattle.lr_headers.specs.Reading.{header_of}
+use Rattle.lr_headers.specs.Headers.{header_of}
 use Rattle.lr_headers.specs.Tiling.{Header}
 use Rattle.lr_headers.specs.declared.fault.HeaderFault.{HeaderFault}
 use Rattle.lr_headers.specs.declared.fields.Segment.{Segment}
@@ -35,8 +35,8 @@ if_of image (Some segment) = if segment.image == image then Some segment else No
 if_of image None = None
 
 -- the segment record of a file of this application that names this image
-unfoldable pub segment_in : (apid image : ℕ) → File → Option Segment
-segment_in apid image file =
+unfoldable pub segment_for_image : (apid image : ℕ) → File → Option Segment
+segment_for_image apid image file =
     if file.apid == apid then if_of image (segment_read (header_of (proper_of file))) else None
 
 -- a segment that has an image is a member
@@ -72,18 +72,18 @@ note_of (first ∷ members) skipped =
 
 module _ (apid image : ℕ) where
   abbrev pub member_of : Opened → Option Member
-  member_of opened = member_with (segment_in apid image opened.stored.file) opened.image
+  member_of opened = member_with (segment_for_image apid image opened.stored.file) opened.image
 
   abbrev pub members_of : List Opened → List Member
   members_of read = filter_map member_of read
 
   abbrev pub skipped_of : List Opened → ℕ
-  skipped_of read = count_by (λ opened. is_without (segment_in apid image opened.stored.file) opened.image) read
+  skipped_of read = count_by (λ opened. is_without (segment_for_image apid image opened.stored.file) opened.image) read
 
 abbrev pub asked_of_assemble : (from to apid image : ℕ) → AskedOfFiles
 asked_of_assemble from to apid image = record {
   range = entries_between from to;
-  looks = λ stored. is_some (segment_in apid image stored.file);
+  looks = λ stored. is_some (segment_for_image apid image stored.file);
   becomes = λ read n opened. join_fate (members_of apid image read) (member_of apid image opened);
   gone = λ n. no_text;
   last = λ way read. whole_fate (members_of apid image read);

@@ -2,7 +2,7 @@
 -- gone and have one, in their order.
 use Rattle.std.specs.Prelude.{◌≡◌, ◌⊎◌, ◌+◌, ℕ, zero, suc, Some, None, Result, List, [], ◌++◌, length}
 use Rattle.lr_image.specs.Picture.{Picture}
-use Rattle.lr_image.specs.Reading.{HasOutcome}
+use Rattle.lr_image.specs.Images.{HasOutcome}
 use Rattle.lr_image.specs.declared.fault.ImageFault.{ImageFault}
 use Rattle.lr_shelf_format.specs.Way.{Way, IsWay, Gone, IsFound, Sound}
 use Rattle.lr_shelf_format.specs.declared.entry.Entry.{Entry}

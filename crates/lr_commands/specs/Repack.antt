@@ -6,7 +6,7 @@ use Rattle.lr_shelf_format.specs.Items.{add_item}
 use Rattle.lr_shelf_format.specs.Way.{Way, Found, Sound, Bad, Gone, IsFound}
 use Rattle.lr_shelf_format.specs.declared.stored.Stored.{Stored}
 use Rattle.lr_rice_coder.specs.Repacked.{IsRepacked}
-use Rattle.lr_rice_coder.specs.Refusals.{HasOutcome, HasRepackFault}
+use Rattle.lr_rice_coder.specs.Refusals.{HasRepackOutcome, HasRepackFault}
 use Rattle.lr_rice_coder.specs.declared.fault.RepackFault.{RepackFault}
 use Rattle.lr_rice_coder.specs.declared.fault.RepackFault.TheVariants as fault
 use Rattle.lr_catalog.specs.Repacks.{repack_line}
@@ -59,7 +59,7 @@ module _ (number block : ℕ) where
   DecidesFound way (Some Gone) result = result ≡ Err Discarded
   DecidesFound way (Some (Bad stored computed)) result = result ≡ Err BadChecksum
   DecidesFound way (Some (Sound stored)) result =
-      (outcome : Result File RepackFault) × HasOutcome stored.file block outcome
+      (outcome : Result File RepackFault) × HasRepackOutcome stored.file block outcome
       × DecidesCoded way stored outcome result
 
   -- of bytes of this way

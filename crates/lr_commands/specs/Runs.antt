@@ -120,7 +120,7 @@ module _ {D O : Type 0} (disk : DiskOf D) (out : SinkOf O) where
     Got (Refused refusal) o o' = PutsRefused refusal o o'
     Got _ o o' = ⊥
 
-  pub record Runs (asked : Asked) (IsOne : List ℕ → Answer → Type 0)
+  pub record RunsReading (asked : Asked) (IsOne : List ℕ → Answer → Type 0)
       (IsFirst : List ℕ → (passed left : ℕ) → List ℕ → Type 0)
       (cause : Cause) (d d' : D) (o o' : O) : Type 0 where
     pub may : MayCause asked cause
@@ -136,11 +136,11 @@ module _ {D O : Type 0} (disk : DiskOf D) (out : SinkOf O) where
 
   -- a run over the entries of a shelf of this way
   abbrev pub RunsOn : Asked → Way → Cause → D → D → O → O → Type 0
-  RunsOn asked way = Runs asked (λ bytes. AnswersOn asked bytes way) (λ bytes. BegunBy asked bytes way)
+  RunsOn asked way = RunsReading asked (λ bytes. AnswersOn asked bytes way) (λ bytes. BegunBy asked bytes way)
 
   -- a whole run
   pub record RunsOver (asked : Asked) (cause : Cause) (d d' : D) (o o' : O) : Type 0 where
-    pub runs : Runs asked (IsAnswer asked) (IsBegun asked) cause d d' o o'
+    pub runs : RunsReading asked (IsAnswer asked) (IsBegun asked) cause d d' o o'
     -- what the bytes answer decides, unless an event comes before: done, or refused for this
     pub ends : (answer : Answer) → disk.tells d → IsAnswer asked (disk.contents d) answer
         → (cause ≡ cause_for answer.refusal answer.note) ⊎ Precedes cause answer

@@ -1,7 +1,7 @@
 //! `assemble`: the segments of an image, put together.
 ghost use Rattle.std.specs.Prelude.{◌≡◌, ◌+◌, ◌<◌, ◌^◌, ◌∷◌, ◌++◌, ℕ, [], length, List, Ok, Some, IfErr, IfOk, OnOk};
 ghost use Rattle.lr_segment.specs.Canvas.{Member, member};
-ghost use Rattle.lr_commands.specs.Assemble.{assemble_asked, if_of, is_without, join_fate, member_with, segment_in};
+ghost use Rattle.lr_commands.specs.Assemble.{assemble_asked, if_of, is_without, join_fate, member_with, segment_for_image};
 ghost use Rattle.lr_commands.specs.Gathered.{Gathers, IsCanvasOf, IsStop, with_member, with_skipped};
 ghost use Rattle.lr_commands.specs.Runs.{RunsOver};
 
@@ -28,7 +28,7 @@ fn segment_in(
     image: u16,
     file: &MissionFile,
 ) -> Result<Option<Segment>, NoMemory>
-    ensures { IfOk result (λ segment. segment ≡ segment_in apid image file.now) }
+    ensures { IfOk result (λ segment. segment ≡ segment_for_image apid image file.now) }
 {
     if file.apid() != apid {
         return Ok(None);

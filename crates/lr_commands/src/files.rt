@@ -1,6 +1,6 @@
 //! Commands that read whole files.
 ghost use Rattle.std.specs.Prelude.{◌≡◌, IfOk};
-ghost use Rattle.lr_image.specs.Reading.{HasOutcome};
+ghost use Rattle.lr_image.specs.Images.{HasOutcome};
 ghost use Rattle.lr_commands.specs.Asked.{IsLooked};
 
 use crate::opened::Opened;

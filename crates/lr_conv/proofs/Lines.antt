@@ -1,7 +1,7 @@
 -- The levels of a list with one bit more.
 use Rattle.std.proofs.Common.{refl, ap, ◌∙◌, ◌≡◌, ◌<◌, ℕ, zero, suc, Bool, true, false, List, [], ◌∷◌, ◌++◌, length}
 use Rattle.std.proofs.Common.{drop, arith, cond}
-use Rattle.lr_conv.specs.Levels.{bit_of_level, changed_by, level_of, marks_of, changes_of, levels, bits_of_levels}
+use Rattle.lr_conv.specs.Levels.{bit_of_level, changed_by, level_of, marks_of, changes_of_levels, levels, bits_of_levels}
 use Rattle.lr_conv.specs.Levels.{last_level}
 use Rattle.lr_conv.specs.declared.line.LineCode.{LineCode}
 
@@ -51,22 +51,22 @@ changed_on false true = refl
 changed_on true false = refl
 changed_on true true = refl
 
-changes_of-marks : (level : Bool) (x : List Bool) → changes_of level (marks_of level x) ≡ x
+changes_of-marks : (level : Bool) (x : List Bool) → changes_of_levels level (marks_of level x) ≡ x
 changes_of-marks level [] = refl
 changes_of-marks level (b ∷ x) = let e = changed_back level b in let r = changes_of-marks (changed_by b level) x in cc
 
-marks_of-changes : (level : Bool) (y : List Bool) → marks_of level (changes_of level y) ≡ y
+marks_of-changes : (level : Bool) (y : List Bool) → marks_of level (changes_of_levels level y) ≡ y
 marks_of-changes level [] = refl
 marks_of-changes level (next ∷ y) = let e = changed_on level next in
-    ap (λ z. z ∷ marks_of z (changes_of next y)) e ∙ ap (λ z. next ∷ z) (marks_of-changes next y)
+    ap (λ z. z ∷ marks_of z (changes_of_levels next y)) e ∙ ap (λ z. next ∷ z) (marks_of-changes next y)
 
 bits_by : (m level : Bool) (x : List Bool)
-    → cond m (changes_of level (cond m (marks_of level x) x)) (cond m (marks_of level x) x) ≡ x
+    → cond m (changes_of_levels level (cond m (marks_of level x) x)) (cond m (marks_of level x) x) ≡ x
 bits_by false level x = refl
 bits_by true level x = changes_of-marks level x
 
 levels_by : (m level : Bool) (y : List Bool)
-    → cond m (marks_of level (cond m (changes_of level y) y)) (cond m (changes_of level y) y) ≡ y
+    → cond m (marks_of level (cond m (changes_of_levels level y) y)) (cond m (changes_of_levels level y) y) ≡ y
 levels_by false level y = refl
 levels_by true level y = marks_of-changes level y
 
@@ -78,11 +78,11 @@ pub levels_of_bits_of : (line : LineCode) (level : Bool) (y : List Bool)
     → levels line level (bits_of_levels line level y) ≡ y
 levels_of_bits_of line level y = levels_by line.marks level y
 
-length-changes_of : (level : Bool) (y : List Bool) → length (changes_of level y) ≡ length y
+length-changes_of : (level : Bool) (y : List Bool) → length (changes_of_levels level y) ≡ length y
 length-changes_of level [] = refl
 length-changes_of level (next ∷ y) = omega (arith, length-changes_of next y)
 
-length_bits_by : (m level : Bool) (y : List Bool) → length (cond m (changes_of level y) y) ≡ length y
+length_bits_by : (m level : Bool) (y : List Bool) → length (cond m (changes_of_levels level y) y) ≡ length y
 length_bits_by false level y = refl
 length_bits_by true level y = length-changes_of level y
 

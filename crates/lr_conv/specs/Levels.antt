@@ -25,13 +25,13 @@ abbrev pub bit_of_level : LineCode → Bool → Bool → Bool
 bit_of_level line level next = if line.marks then changed_by level next else next
 
 -- the bits of a list of levels, of which each change is a 1
-abbrev pub changes_of : Bool → List Bool → List Bool
-changes_of level [] = []
-changes_of level (next ∷ rest) = changed_by level next ∷ changes_of next rest
+abbrev pub changes_of_levels : Bool → List Bool → List Bool
+changes_of_levels level [] = []
+changes_of_levels level (next ∷ rest) = changed_by level next ∷ changes_of_levels next rest
 
 -- the bits of a list of levels
 abbrev pub bits_of_levels : LineCode → Bool → List Bool → List Bool
-bits_of_levels line level rest = if line.marks then changes_of level rest else rest
+bits_of_levels line level rest = if line.marks then changes_of_levels level rest else rest
 
 -- the last of a list of levels, or the level before it where the list is empty
 abbrev pub last_level : Bool → List Bool → Bool

@@ -47,11 +47,11 @@ use Rattle.std.proofs.lemmas.List.{
 use Rattle.std.proofs.lemmas.Grind.{same_number_lists}
 use Rattle.std.proofs.lemmas.List.FromFn.{length-map-range_with_len, get_or-map-range_with_len}
 use Rattle.lr_disk.specs.Disk.{Torn, Cut}
-use Rattle.lr_disk.specs.Mem.{Pending, State, torn, cut, IsImage, IsImageOf, after, after_all, at_start, step_contents}
+use Rattle.lr_disk.specs.Mem.{Pending, State, torn, cut, IsImage, IsCrashImageOf, after, after_all, at_start, step_contents}
 use Rattle.lr_disk.specs.declared.past.Call.{Call}
 use Rattle.lr_disk.specs.declared.past.Call.TheVariants.{Kept, Wrote, Shortened, Synced}
 use Rattle.lr_disk.proofs.RangeLemmas.{no_longer_than}
-use Rattle.lr_disk.specs.Ranges.{KeepsTheRest, KeepersAreImages, least, greatest}
+use Rattle.lr_disk.specs.Ranges.{KeepsTheRest, KeepersAreImages, least, greatest_end}
 
 -- the durable bytes from one place to another, with zeros where there are none
 filler : List ℕ → ℕ → ℕ → List ℕ
@@ -67,7 +67,7 @@ unfolding filler
 filler_at durable from to k low high =
     get_or-map-range_with_len (λ j. get_or durable j 0) from (to - from) (k - from) k 0 (omega arith) (omega arith)
 
-least_first : (start : ℕ) (pending : List Pending) → least start pending ≤ greatest start pending
+least_first : (start : ℕ) (pending : List Pending) → least start pending ≤ greatest_end start pending
 least_first start [] = omega arith
 least_first start (torn from to ∷ pending) = omega (arith, least_first start pending)
 least_first start (cut n ∷ pending) = omega (arith, least_first start pending)
@@ -123,7 +123,7 @@ before_cut durable pending c n keeps = elim (cases_lt (length c) (least (length 
 ]
 
 before_torn : (durable : List ℕ) (pending : List Pending) (c : List ℕ) (from to : ℕ) → from ≤ to
-    → from ≤ greatest (length durable) pending → KeepsTheRest durable (torn from to ∷ pending) c
+    → from ≤ greatest_end (length durable) pending → KeepsTheRest durable (torn from to ∷ pending) c
     → (d : List ℕ) × KeepsTheRest durable pending d × Torn from to d c
 before_torn durable pending c from to order low keeps = elim (cases_lt to (length c)) [
   | inl long ↦
@@ -193,11 +193,11 @@ before_torn durable pending c from to order low keeps = elim (cases_lt to (lengt
 -- each range began inside the bytes of then, and ends no earlier
 abbrev IsOrderly : ℕ → List Pending → Type 0
 IsOrderly start [] = Unit {0}
-IsOrderly start (torn from to ∷ pending) = (from ≤ to) × (from ≤ greatest start pending) × IsOrderly start pending
+IsOrderly start (torn from to ∷ pending) = (from ≤ to) × (from ≤ greatest_end start pending) × IsOrderly start pending
 IsOrderly start (cut n ∷ pending) = IsOrderly start pending
 
 keeper_is_image : (durable : List ℕ) (pending : List Pending) (c : List ℕ) → IsOrderly (length durable) pending
-    → KeepsTheRest durable pending c → IsImageOf durable pending c
+    → KeepsTheRest durable pending c → IsCrashImageOf durable pending c
 keeper_is_image durable [] c orderly keeps =
     same_number_lists c durable (omega (arith, keeps.no_shorter, keeps.no_longer))
     (λ k inside. keeps.outside k inside tt)

@@ -23,10 +23,10 @@ use Rattle.std.proofs.Common.{
 }
 use Rattle.std.proofs.lemmas.List.{get_or-take, get_or-drop}
 use Rattle.lr_disk.specs.Disk.{Torn}
-use Rattle.lr_disk.specs.Mem.{Pending, torn, cut, IsImageOf}
-use Rattle.lr_disk.specs.Ranges.{IsOutside, least, greatest, ImagesKeepTheRest}
+use Rattle.lr_disk.specs.Mem.{Pending, torn, cut, IsCrashImageOf}
+use Rattle.lr_disk.specs.Ranges.{IsOutside, least, greatest_end, ImagesKeepTheRest}
 
-no_shorter_than : (durable : List ℕ) (pending : List Pending) (c : List ℕ) → IsImageOf durable pending c
+no_shorter_than : (durable : List ℕ) (pending : List Pending) (c : List ℕ) → IsCrashImageOf durable pending c
     → least (length durable) pending ≤ length c
 no_shorter_than durable [] c image = omega (arith, ap length image)
 no_shorter_than durable (torn from to ∷ pending) c image =
@@ -40,8 +40,8 @@ no_shorter_than durable (cut n ∷ pending) c image =
       image.2.enough,
     )
 
-pub no_longer_than : (durable : List ℕ) (pending : List Pending) (c : List ℕ) → IsImageOf durable pending c
-    → length c ≤ greatest (length durable) pending
+pub no_longer_than : (durable : List ℕ) (pending : List Pending) (c : List ℕ) → IsCrashImageOf durable pending c
+    → length c ≤ greatest_end (length durable) pending
 no_longer_than durable [] c image = omega (arith, ap length image)
 no_longer_than durable (torn from to ∷ pending) c image =
     omega (arith, no_longer_than durable pending image.0 image.1, image.2.no_longer)
@@ -69,7 +69,7 @@ kept_by_torn from to d c k step inside (inr beyond) =
     )
 
 -- the durable bytes stand outside the pending ranges
-same_outside : (durable : List ℕ) (pending : List Pending) (c : List ℕ) (k : ℕ) → IsImageOf durable pending c
+same_outside : (durable : List ℕ) (pending : List Pending) (c : List ℕ) (k : ℕ) → IsCrashImageOf durable pending c
     → k < length c → IsOutside pending k → get_or c k 0 ≡ get_or durable k 0
 same_outside durable [] c k image inside outside = ap (λ (l : List ℕ). get_or l k 0) image
 same_outside durable (torn from to ∷ pending) c k image inside outside =

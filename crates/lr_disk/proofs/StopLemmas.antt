@@ -51,7 +51,7 @@ use Rattle.lr_disk.specs.Mem.{
   over_written,
   state_at,
   IsImage,
-  IsImageOf,
+  IsCrashImageOf,
   step_contents,
 }
 use Rattle.lr_disk.specs.Stop.{with_filler, filled_between, inside, left_of_kind}
@@ -120,7 +120,7 @@ stoppable_inside log (Wrote at from count) s is = stoppable_after log (Wrote at 
 stoppable_inside log (Shortened n) s is = stoppable_after log (Shortened n) s is
 stoppable_inside log Synced s is = is
 
-durable_is_image : (durable : List ℕ) (pending : List Pending) → IsImageOf durable pending durable
+durable_is_image : (durable : List ℕ) (pending : List Pending) → IsCrashImageOf durable pending durable
 durable_is_image durable [] = refl
 durable_is_image durable (torn from to ∷ pending) = (
   durable,

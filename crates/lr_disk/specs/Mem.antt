@@ -71,13 +71,13 @@ span (Wrote at from count ∷ calls) = max (at + count) (span calls)
 span (call ∷ calls) = span calls
 
 -- a crash image of these pending steps
-abbrev pub IsImageOf : List ℕ → List Pending → List ℕ → Type 0
-IsImageOf durable [] c = c ≡ durable
-IsImageOf durable (torn from to ∷ pending) c = (d : List ℕ) × IsImageOf durable pending d × Torn from to d c
-IsImageOf durable (cut n ∷ pending) c = (d : List ℕ) × IsImageOf durable pending d × Cut n d c
+abbrev pub IsCrashImageOf : List ℕ → List Pending → List ℕ → Type 0
+IsCrashImageOf durable [] c = c ≡ durable
+IsCrashImageOf durable (torn from to ∷ pending) c = (d : List ℕ) × IsCrashImageOf durable pending d × Torn from to d c
+IsCrashImageOf durable (cut n ∷ pending) c = (d : List ℕ) × IsCrashImageOf durable pending d × Cut n d c
 
 abbrev pub IsImage : State → List ℕ → Type 0
-IsImage s c = IsImageOf s.durable s.pending c
+IsImage s c = IsCrashImageOf s.durable s.pending c
 
 -- what a crash now may leave
 abbrev pub images : List ℕ → List ℕ → List Call → List ℕ → Type 0

@@ -8,5 +8,5 @@ abbrev pub disk_in : MemFile → MemDisk
 disk_in file = file.disk
 
 -- how many bytes a call moves at most
-abbrev pub most_of : MemFile → ℕ
-most_of file = file.most
+abbrev pub most_moved : MemFile → ℕ
+most_moved file = file.most

@@ -1,6 +1,6 @@
 -- What the pending writes and cuts of a disk in memory leave open, and what they don't.
 use Rattle.std.specs.Prelude.{◌≡◌, ◌⊎◌, ◌<◌, ◌≤◌, ℕ, min, max, List, [], ◌∷◌, length, slice_index}
-use Rattle.lr_disk.specs.Mem.{Pending, torn, cut, IsImageOf, after_all, at_start, images}
+use Rattle.lr_disk.specs.Mem.{Pending, torn, cut, IsCrashImageOf, after_all, at_start, images}
 use Rattle.lr_disk.specs.declared.past.Call.{Call}
 
 -- no pending range has this place
@@ -15,20 +15,20 @@ least start [] = start
 least start (torn from to ∷ pending) = least start pending
 least start (cut n ∷ pending) = min n (least start pending)
 
-abbrev pub greatest : ℕ → List Pending → ℕ
-greatest start [] = start
-greatest start (torn from to ∷ pending) = max to (greatest start pending)
-greatest start (cut n ∷ pending) = greatest start pending
+abbrev pub greatest_end : ℕ → List Pending → ℕ
+greatest_end start [] = start
+greatest_end start (torn from to ∷ pending) = max to (greatest_end start pending)
+greatest_end start (cut n ∷ pending) = greatest_end start pending
 
 -- the durable bytes stand outside the pending ranges, and the length is one of those since the last sync
 pub record KeepsTheRest (durable : List ℕ) (pending : List Pending) (c : List ℕ) : Type 0 where
   pub no_shorter : least (length durable) pending ≤ length c
-  pub no_longer : length c ≤ greatest (length durable) pending
+  pub no_longer : length c ≤ greatest_end (length durable) pending
   pub outside : (k : ℕ) → k < length c → IsOutside pending k → slice_index c k ≡ slice_index durable k
 
 -- so does each crash image
 abbrev pub ImagesKeepTheRest : Type 0
-ImagesKeepTheRest = (durable : List ℕ) (pending : List Pending) (c : List ℕ) → IsImageOf durable pending c
+ImagesKeepTheRest = (durable : List ℕ) (pending : List Pending) (c : List ℕ) → IsCrashImageOf durable pending c
     → KeepsTheRest durable pending c
 
 -- and each list of bytes that does is a crash image, whatever the calls were

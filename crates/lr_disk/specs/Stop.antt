@@ -29,16 +29,16 @@ abbrev pub left_of_kind : ℕ → State → List ℕ
 left_of_kind kind s = if kind == 0 then s.durable else if kind == 1 then s.contents else with_filler s.durable s.pending
 
 -- the state after the first calls of a disk
-abbrev pub state_after : Past → ℕ → State
-state_after past made = state_at past.first.items past.log.items past.calls.items made
+abbrev pub state_after_calls : Past → ℕ → State
+state_after_calls past made = state_at past.first.items past.log.items past.calls.items made
 
 -- what a stop of that kind inside the call of that number leaves
 pub record StopsInside (disk : MemDisk) (number kind : ℕ) (bytes : List ℕ) : Type 0 where
   pub call : Call
   pub there : slice_get disk.past.calls.items number ≡ Some call
-  pub left : bytes ≡ left_of_kind kind (inside disk.past.log.items call (state_after disk.past number))
+  pub left : bytes ≡ left_of_kind kind (inside disk.past.log.items call (state_after_calls disk.past number))
 
 -- a crash image of the call's start or of its return
 abbrev pub IsLeftInside : MemDisk → ℕ → List ℕ → Type 0
-IsLeftInside disk number bytes = IsImage (state_after disk.past number) bytes
-    ⊎ IsImage (state_after disk.past (number + 1)) bytes
+IsLeftInside disk number bytes = IsImage (state_after_calls disk.past number) bytes
+    ⊎ IsImage (state_after_calls disk.past (number + 1)) bytes

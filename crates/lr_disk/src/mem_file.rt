@@ -14,13 +14,13 @@ pub struct MemFile {
 }
 
 impl MemFile {
-    ghost use Rattle.lr_disk.specs.MemFile.{disk_in, most_of};
+    ghost use Rattle.lr_disk.specs.MemFile.{disk_in, most_moved};
 
     /// The disk as a file.
     pub fn of(disk: MemDisk, most: usize) -> Self
         requires { 0 < most }
         ensures disk { disk_in result ≡ disk }
-        ensures most { most_of result ≡ most }
+        ensures most { most_moved result ≡ most }
     {
         MemFile { disk, most }
     }

@@ -9,7 +9,7 @@ use Rattle.lr_disk.specs.Disk.{LeavesOnly, Only}
 use Rattle.lr_disk.specs.declared.disk.Disk.{Ghosts as DiskOf}
 use Rattle.lr_disk.proofs.Moments.{joined, stays, weaker}
 use Rattle.lr_shelf_format.specs.Items.{Item, extent_of, head_of_item}
-use Rattle.lr_shelf_format.specs.Reading.{StandsFor}
+use Rattle.lr_shelf_format.specs.ShelfBytes.{StandsForShelf}
 use Rattle.lr_shelf_format.specs.Way.{IsWay, Way, way_with}
 use Rattle.lr_shelf.specs.Adding.{StaysOutside}
 use Rattle.lr_shelf.specs.Adds.{Adds, last_gate, new_end}
@@ -142,7 +142,7 @@ module _ {D : Type 0} (disk : DiskOf D)
         (λ c image. front_all (kept_by shelf).way [] c
         (subst (λ (l : List ℕ). IsWay l (kept_by shelf).way) (sym (only c image)) keeps));
     stands = λ capacity items s. record {
-      stands = subst (StandsFor (disk.contents d) capacity) (sym (append-nil items)) s.on_disk.stands;
+      stands = subst (StandsForShelf (disk.contents d) capacity) (sym (append-nil items)) s.on_disk.stands;
       durable = s.on_disk.durable;
     };
   }

@@ -25,7 +25,7 @@ use Rattle.lr_downlinks.specs.Appending.{
   view_of,
 }
 use Rattle.lr_downlinks.specs.Books.{BeginsRun, BookView, Keeps, StandsOver, Works, WorksOrBroke}
-use Rattle.lr_downlinks.specs.Merge.{IsNextOf, times}
+use Rattle.lr_downlinks.specs.Merge.{IsNextOf, times_in_order}
 use Rattle.lr_downlinks.specs.Since.{HasAppended, way_with_files}
 use Rattle.lr_downlinks.specs.Start.{Start, files_in, merged}
 use Rattle.lr_downlinks.proofs.Growing.{none_appended, one_appended, one_failed, settled_one, way_with_files-push}
@@ -274,7 +274,7 @@ module _ {D : Type 0} (disk : DiskOf D) (start : Start) (handed : Shelf → D �
 -- ---- what a call answers
 
 module _ {D : Type 0} (disk : DiskOf D) (downlink : ℕ) (files : List Placed) (old : BookView D) where
-  module _ (placed : Placed) (some : slice_get files (times downlink old.order) ≡ Some placed) (shelf : Shelf) (d : D)
+  module _ (placed : Placed) (some : slice_get files (times_in_order downlink old.order) ≡ Some placed) (shelf : Shelf) (d : D)
       (order : List ℕ) where
     one_refused : (answer : Result ℕ ShelfError) → Appends disk placed old.shelf shelf old.disk d answer
         → OnErr answer (order ≡ old.order)

@@ -39,7 +39,7 @@ use Rattle.lr_shelf.specs.declared.error.ShelfError.TheVariants.{Disk, Capacity,
 use Rattle.lr_downlinks.specs.Appending.{AppendsFile, AppendsNext, IsSameBook, WantsMemory, answer_to, failed_after}
 use Rattle.lr_downlinks.specs.Books.{BookView, IsBookOf}
 use Rattle.lr_downlinks.specs.Ending.{DoesNotFitAt, EndsWith, GoesOn, IsLeftAt}
-use Rattle.lr_downlinks.specs.Merge.{times}
+use Rattle.lr_downlinks.specs.Merge.{times_in_order}
 use Rattle.lr_downlinks.specs.Since.{way_with_files}
 use Rattle.lr_downlinks.specs.Start.{Start, files_in, merged}
 use Rattle.lr_downlinks.specs.declared.run.RunEnd.TheVariants.{Capacity as EndCapacity}
@@ -54,13 +54,13 @@ module _ {D : Type 0} (disk : DiskOf D) (start : Start) (downlink : ℕ) (old ne
   -- the order goes on
   longer : (result : Result Bool ShelfError) → (placed : Placed)
       → AppendsFile disk downlink placed old new result ⊎ WantsMemory old new result → GoesOn old new
-  longer result placed (inr wants) e = omega (arith, ap (times e) wants.same.order)
+  longer result placed (inr wants) e = omega (arith, ap (times_in_order e) wants.same.order)
   longer result placed (inl a) e = by_answer a.answer a.order a.order_stays where
     by_answer : (answer : Result ℕ ShelfError)
         → OnOk answer (new.order ≡ old.order ++ downlink ∷ [])
-        → OnErr answer (new.order ≡ old.order) → times e old.order ≤ times e new.order
-    by_answer (Ok number) more same = omega (arith, ap (times e) more, times-later e old.order (downlink ∷ []))
-    by_answer (Err error) more same = omega (arith, ap (times e) same)
+        → OnErr answer (new.order ≡ old.order) → times_in_order e old.order ≤ times_in_order e new.order
+    by_answer (Ok number) more same = omega (arith, ap (times_in_order e) more, times-later e old.order (downlink ∷ []))
+    by_answer (Err error) more same = omega (arith, ap (times_in_order e) same)
 
   module _ (result : Result Bool ShelfError) (next : AppendsNext disk downlink (files_in start downlink) old new result)
     where
@@ -68,70 +68,70 @@ module _ {D : Type 0} (disk : DiskOf D) (start : Start) (downlink : ℕ) (old ne
       pub goes_on : GoesOn old new
       goes_on e =
           ⊎_elim
-          (λ (t : (x : Placed) × (times downlink old.order < length (files_in start downlink))
-          × (slice_get (files_in start downlink) (times downlink old.order) ≡ Some x)
-          × (get_or (files_in start downlink) (times downlink old.order) x ≡ x)).
+          (λ (t : (x : Placed) × (times_in_order downlink old.order < length (files_in start downlink))
+          × (slice_get (files_in start downlink) (times_in_order downlink old.order) ≡ Some x)
+          × (get_or (files_in start downlink) (times_in_order downlink old.order) x ≡ x)).
           longer result t.0 (next.next t.0 t.2) e)
-          (λ (t : (length (files_in start downlink) ≤ times downlink old.order)
-          × (slice_get (files_in start downlink) (times downlink old.order) ≡ None)).
-          omega (arith, ap (times e) (next.none t.1).1.order))
-          (slice_get_cases (files_in start downlink) (times downlink old.order)).1
+          (λ (t : (length (files_in start downlink) ≤ times_in_order downlink old.order)
+          × (slice_get (files_in start downlink) (times_in_order downlink old.order) ≡ None)).
+          omega (arith, ap (times_in_order e) (next.none t.1).1.order))
+          (slice_get_cases (files_in start downlink) (times_in_order downlink old.order)).1
 
       -- what was refused
       pub has_next : (error : ShelfError) → result ≡ Err error
-          → (placed : Placed) × (slice_get (files_in start downlink) (times downlink old.order) ≡ Some placed)
+          → (placed : Placed) × (slice_get (files_in start downlink) (times_in_order downlink old.order) ≡ Some placed)
       has_next error is =
           ⊎_elim
-          (λ (t : (x : Placed) × (times downlink old.order < length (files_in start downlink))
-          × (slice_get (files_in start downlink) (times downlink old.order) ≡ Some x)
-          × (get_or (files_in start downlink) (times downlink old.order) x ≡ x)). (t.0, t.2))
-          (λ (t : (length (files_in start downlink) ≤ times downlink old.order)
-          × (slice_get (files_in start downlink) (times downlink old.order) ≡ None)).
+          (λ (t : (x : Placed) × (times_in_order downlink old.order < length (files_in start downlink))
+          × (slice_get (files_in start downlink) (times_in_order downlink old.order) ≡ Some x)
+          × (get_or (files_in start downlink) (times_in_order downlink old.order) x ≡ x)). (t.0, t.2))
+          (λ (t : (length (files_in start downlink) ≤ times_in_order downlink old.order)
+          × (slice_get (files_in start downlink) (times_in_order downlink old.order) ≡ None)).
           let e = (next.none t.1).0 in absurd (cc (e, is)))
-          (slice_get_cases (files_in start downlink) (times downlink old.order)).1
+          (slice_get_cases (files_in start downlink) (times_in_order downlink old.order)).1
 
       -- one more was appended
       pub one_more : result ≡ Ok true
-          → (times downlink new.order ≡ times downlink old.order + 1)
-          × (times downlink old.order < length (files_in start downlink))
+          → (times_in_order downlink new.order ≡ times_in_order downlink old.order + 1)
+          × (times_in_order downlink old.order < length (files_in start downlink))
       one_more is =
           ⊎_elim
-          (λ (t : (x : Placed) × (times downlink old.order < length (files_in start downlink))
-          × (slice_get (files_in start downlink) (times downlink old.order) ≡ Some x)
-          × (get_or (files_in start downlink) (times downlink old.order) x ≡ x)). (
+          (λ (t : (x : Placed) × (times_in_order downlink old.order < length (files_in start downlink))
+          × (slice_get (files_in start downlink) (times_in_order downlink old.order) ≡ Some x)
+          × (get_or (files_in start downlink) (times_in_order downlink old.order) x ≡ x)). (
             by_kind t.0 (next.next t.0 t.2),
             t.1,
           ))
-          (λ (t : (length (files_in start downlink) ≤ times downlink old.order)
-          × (slice_get (files_in start downlink) (times downlink old.order) ≡ None)).
+          (λ (t : (length (files_in start downlink) ≤ times_in_order downlink old.order)
+          × (slice_get (files_in start downlink) (times_in_order downlink old.order) ≡ None)).
           let e = (next.none t.1).0 in absurd (cc (e, is)))
-          (slice_get_cases (files_in start downlink) (times downlink old.order)).1
+          (slice_get_cases (files_in start downlink) (times_in_order downlink old.order)).1
         where
           by_answer : (answer : Result ℕ ShelfError) → Ok true ≡ answer_to answer
               → OnOk answer (new.order ≡ old.order ++ downlink ∷ [])
-              → times downlink new.order ≡ times downlink old.order + 1
-          by_answer (Ok number) e more = ap (times downlink) more ∙ times-same downlink old.order
+              → times_in_order downlink new.order ≡ times_in_order downlink old.order + 1
+          by_answer (Ok number) e more = ap (times_in_order downlink) more ∙ times-same downlink old.order
           by_answer (Err error) e more = absurd (cc (e))
 
           by_kind : (placed : Placed)
               → AppendsFile disk downlink placed old new result ⊎ WantsMemory old new result
-              → times downlink new.order ≡ times downlink old.order + 1
+              → times_in_order downlink new.order ≡ times_in_order downlink old.order + 1
           by_kind placed (inl a) = by_answer a.answer (sym is ∙ a.result_is) a.order
           by_kind placed (inr wants) = let e = wants.result_is in absurd (cc (e, is))
 
       -- all were appended
       pub all_there : IsBookOf start old → downlink < length start.streams → result ≡ Ok false
-          → times downlink new.order ≡ length (files_in start downlink)
+          → times_in_order downlink new.order ≡ length (files_in start downlink)
       all_there is known e =
           ⊎_elim
-          (λ (t : (x : Placed) × (times downlink old.order < length (files_in start downlink))
-          × (slice_get (files_in start downlink) (times downlink old.order) ≡ Some x)
-          × (get_or (files_in start downlink) (times downlink old.order) x ≡ x)).
+          (λ (t : (x : Placed) × (times_in_order downlink old.order < length (files_in start downlink))
+          × (slice_get (files_in start downlink) (times_in_order downlink old.order) ≡ Some x)
+          × (get_or (files_in start downlink) (times_in_order downlink old.order) x ≡ x)).
           let none = next.nothing e in let some = t.2 in absurd (cc (none, some)))
-          (λ (t : (length (files_in start downlink) ≤ times downlink old.order)
-          × (slice_get (files_in start downlink) (times downlink old.order) ≡ None)).
-          omega (arith, ap (times downlink) (next.none t.1).1.order, is.order_is.few downlink known, t.0))
-          (slice_get_cases (files_in start downlink) (times downlink old.order)).1
+          (λ (t : (length (files_in start downlink) ≤ times_in_order downlink old.order)
+          × (slice_get (files_in start downlink) (times_in_order downlink old.order) ≡ None)).
+          omega (arith, ap (times_in_order downlink) (next.none t.1).1.order, is.order_is.few downlink known, t.0))
+          (slice_get_cases (files_in start downlink) (times_in_order downlink old.order)).1
 
       -- a refusal but `Disk` left the book
       same_book : (error : ShelfError) → result ≡ Err error → error ≢ Disk → IsSameBook old new
@@ -139,7 +139,7 @@ module _ {D : Type 0} (disk : DiskOf D) (start : Start) (downlink : ℕ) (old ne
           subst (λ (r : Result Bool ShelfError). IfErr r (λ e. e ≢ Disk → IsSameBook old new)) is next.refused other
 
       module _ (is_book : IsBookOf start old) (works : old.failed ≡ false) where
-        full_at : (placed : Placed) → slice_get (files_in start downlink) (times downlink old.order) ≡ Some placed
+        full_at : (placed : Placed) → slice_get (files_in start downlink) (times_in_order downlink old.order) ≡ Some placed
             → (needed capacity : ℕ) → IsAppendRefusal (item_for placed) (kept_by old.shelf) (Capacity needed capacity)
             → IsSameBook old new → DoesNotFitAt start downlink needed capacity new
         full_at placed some needed capacity refusal same =
@@ -153,13 +153,13 @@ module _ {D : Type 0} (disk : DiskOf D) (start : Start) (downlink : ℕ) (old ne
             omega (arith, ap (λ (w : Way). w.end) way, end_more files placed start.way) in
             record {
               placed = placed;
-              next = ap (λ (o : List ℕ). slice_get (files_in start downlink) (times downlink o)) same.order ∙ some;
+              next = ap (λ (o : List ℕ). slice_get (files_in start downlink) (times_in_order downlink o)) same.order ∙ some;
               over = omega (arith, refusal.1, most, end);
               needs = refusal.2 ∙ ap (λ (n : ℕ). min n 18446744073709551615) end;
               of = refusal.3 ∙ most;
             }
 
-        left_for : (placed : Placed) → slice_get (files_in start downlink) (times downlink old.order) ≡ Some placed
+        left_for : (placed : Placed) → slice_get (files_in start downlink) (times_in_order downlink old.order) ≡ Some placed
             → (error : ShelfError) → IsAppendRefusal (item_for placed) (kept_by old.shelf) error → result ≡ Err error
             → IsLeftAt start downlink new error
         left_for placed some Disk refusal is = next.failed ∙ ap (failed_after old.failed) is
@@ -173,7 +173,7 @@ module _ {D : Type 0} (disk : DiskOf D) (start : Start) (downlink : ℕ) (old ne
             absurd (cc (refusal, kept, works))
         left_for placed some _ refusal is = absurd refusal
 
-        left_by : (placed : Placed) → slice_get (files_in start downlink) (times downlink old.order) ≡ Some placed
+        left_by : (placed : Placed) → slice_get (files_in start downlink) (times_in_order downlink old.order) ≡ Some placed
             → (error : ShelfError) → result ≡ Err error → (answer : Result ℕ ShelfError)
             → Appends disk placed old.shelf new.shelf old.disk new.disk answer → answer_to answer ≡ Err error
             → IsLeftAt start downlink new error
@@ -209,7 +209,7 @@ module _ {D : Type 0} (disk : DiskOf D) (start : Start) (downlink : ℕ) (old ne
 
 module _ {D : Type 0} (start : Start) (book : BookView D) where
   abbrev pub AreDone : ℕ → Type 0
-  AreDone n = (downlink : ℕ) → downlink < n → times downlink book.order ≡ length (files_in start downlink)
+  AreDone n = (downlink : ℕ) → downlink < n → times_in_order downlink book.order ≡ length (files_in start downlink)
 
   pub ends_full : (downlink needed capacity : ℕ) → IsLeftAt start downlink book (Capacity needed capacity)
       → downlink < length start.streams → AreDone downlink
@@ -244,7 +244,7 @@ done_still start old new n few done on is downlink inside =
 
 -- one more is
 pub done_more : {D : Type 0} (start : Start) (book : BookView D) (n : ℕ) → AreDone start book n
-    → times n book.order ≡ length (files_in start n) → AreDone start book (n + 1)
+    → times_in_order n book.order ≡ length (files_in start n) → AreDone start book (n + 1)
 done_more start book n done here downlink inside =
-    ⊎_elim (λ (same : downlink ≡ n). subst (λ (k : ℕ). times k book.order ≡ length (files_in start k)) (sym same) here)
+    ⊎_elim (λ (same : downlink ≡ n). subst (λ (k : ℕ). times_in_order k book.order ≡ length (files_in start k)) (sym same) here)
     (λ (other : downlink ≡ n → ⊥). done downlink (omega (arith, inside, other))) (cases_eq downlink n)

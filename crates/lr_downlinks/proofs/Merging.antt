@@ -12,44 +12,44 @@ use Rattle.std.proofs.lemmas.List.Sums.{sum_by-append, sum_by-cons}
 use Rattle.std.proofs.lemmas.Option.{slice_get_cases, slice_get_within}
 use Rattle.lr_bits.specs.declared.placed.Placed.{Placed}
 use Rattle.lr_downlinks.specs.Receipts.{EachHasReceipt}
-use Rattle.lr_downlinks.specs.Merge.{IsNextOf, IsOrder, merge, merge_after, times}
+use Rattle.lr_downlinks.specs.Merge.{IsNextOf, IsOrder, merge, merge_after, times_in_order}
 
 -- ---- how often a downlink stands in an order
 
-pub times-append : (d : ℕ) (order more : List ℕ) → times d (order ++ more) ≡ times d order + times d more
+pub times-append : (d : ℕ) (order more : List ℕ) → times_in_order d (order ++ more) ≡ times_in_order d order + times_in_order d more
 times-append d order more = sum_by-append (λ one. cond (eqb one d) 1 0) order more
 
 abbrev tick : Bool → ℕ
 tick b = cond b 1 0
 
-pub times-one : (d : ℕ) → times d (d ∷ []) ≡ 1
+pub times-one : (d : ℕ) → times_in_order d (d ∷ []) ≡ 1
 times-one d = omega (arith, sum_by-cons (λ one. tick (eqb one d)) d [], ap tick (eq-eqb d d refl))
 
-pub times-other : (d e : ℕ) → e ≢ d → times d (e ∷ []) ≡ 0
+pub times-other : (d e : ℕ) → e ≢ d → times_in_order d (e ∷ []) ≡ 0
 times-other d e other = omega (arith, sum_by-cons (λ one. tick (eqb one d)) e [], ap tick (ne_eqb e d other))
 
 -- one place more
-pub times-same : (d : ℕ) (order : List ℕ) → times d (order ++ d ∷ []) ≡ times d order + 1
+pub times-same : (d : ℕ) (order : List ℕ) → times_in_order d (order ++ d ∷ []) ≡ times_in_order d order + 1
 times-same d order = omega (arith, times-append d order (d ∷ []), times-one d)
 
-pub times-stays : (d e : ℕ) (order : List ℕ) → e ≢ d → times d (order ++ e ∷ []) ≡ times d order
+pub times-stays : (d e : ℕ) (order : List ℕ) → e ≢ d → times_in_order d (order ++ e ∷ []) ≡ times_in_order d order
 times-stays d e order other = omega (arith, times-append d order (e ∷ []), times-other d e other)
 
-pub times-later : (d : ℕ) (order more : List ℕ) → times d order ≤ times d (order ++ more)
+pub times-later : (d : ℕ) (order more : List ℕ) → times_in_order d order ≤ times_in_order d (order ++ more)
 times-later d order more = omega (arith, times-append d order more)
 
 -- ---- one file more
 
 pub merge_after-push : (files : ℕ → List Placed) (before order : List ℕ) (d : ℕ)
     → merge_after files before (order ++ d ∷ [])
-    ≡ merge_after files before order ++ option_to_list (slice_get (files d) (times d (before ++ order)))
+    ≡ merge_after files before order ++ option_to_list (slice_get (files d) (times_in_order d (before ++ order)))
 merge_after-push files before [] d =
-    let next : List ℕ → List Placed = λ front. option_to_list (slice_get (files d) (times d front)) in
+    let next : List ℕ → List Placed = λ front. option_to_list (slice_get (files d) (times_in_order d front)) in
     append-nil (next before) ∙ ap next (sym (append-nil before))
 merge_after-push files before (e ∷ order) d =
-    let one = option_to_list (slice_get (files e) (times e before)) in
+    let one = option_to_list (slice_get (files e) (times_in_order e before)) in
     let front = before ++ e ∷ [] in
-    let next : List ℕ → List Placed = λ xs. option_to_list (slice_get (files d) (times d xs)) in
+    let next : List ℕ → List Placed = λ xs. option_to_list (slice_get (files d) (times_in_order d xs)) in
     ap (λ (l : List Placed). one ++ l) (merge_after-push files front order d)
     ∙ sym (append_assoc one (merge_after files front order) (next (front ++ order)))
     ∙ ap (λ (l : List Placed). (one ++ merge_after files front order) ++ l)
@@ -71,13 +71,13 @@ record Places (files : ℕ → List Placed) (before order : List ℕ) : Type 0 w
   all : length (merge_after files before order) ≡ length order
   each : (at : ℕ) → at < length order
       → slice_get (merge_after files before order) at
-      ≡ slice_get (files (slice_index order at)) (times (slice_index order at) (before ++ take at order))
+      ≡ slice_get (files (slice_index order at)) (times_in_order (slice_index order at) (before ++ take at order))
 
 place_more : (files : ℕ → List Placed) (before : List ℕ) (e : ℕ) (order : List ℕ)
-    → ((x : Placed) × (times e before < length (files e)) × (slice_get (files e) (times e before) ≡ Some x)
-    × (get_or (files e) (times e before) x ≡ x))
-    ⊎ ((length (files e) ≤ times e before) × (slice_get (files e) (times e before) ≡ None))
-    → times e before < length (files e) → Places files (before ++ e ∷ []) order → Places files before (e ∷ order)
+    → ((x : Placed) × (times_in_order e before < length (files e)) × (slice_get (files e) (times_in_order e before) ≡ Some x)
+    × (get_or (files e) (times_in_order e before) x ≡ x))
+    ⊎ ((length (files e) ≤ times_in_order e before) × (slice_get (files e) (times_in_order e before) ≡ None))
+    → times_in_order e before < length (files e) → Places files (before ++ e ∷ []) order → Places files before (e ∷ order)
 place_more files before e order (inr none) here rest = absurd (omega (arith, none.0, here))
 place_more files before e order (inl found) here rest =
     let x = found.0 in
@@ -92,12 +92,12 @@ place_more files before e order (inl found) here rest =
     at_place : (at : ℕ) → at < suc (length order)
         → slice_get (found.0 ∷ merge_after files (before ++ e ∷ []) order) at
         ≡ slice_get (files (slice_index (e ∷ order) at))
-        (times (slice_index (e ∷ order) at) (before ++ take at (e ∷ order)))
+        (times_in_order (slice_index (e ∷ order) at) (before ++ take at (e ∷ order)))
     at_place zero inside =
-        sym found.2 ∙ ap (λ (l : List ℕ). slice_get (files e) (times e l)) (sym (append-nil before))
+        sym found.2 ∙ ap (λ (l : List ℕ). slice_get (files e) (times_in_order e l)) (sym (append-nil before))
     at_place (suc k) inside =
         rest.each k (omega (arith, inside))
-        ∙ ap (λ (l : List ℕ). slice_get (files (slice_index order k)) (times (slice_index order k) l))
+        ∙ ap (λ (l : List ℕ). slice_get (files (slice_index order k)) (times_in_order (slice_index order k) l))
         (append_assoc before (e ∷ []) (take k order))
 
 module _ (count : ℕ) (files : ℕ → List Placed) where
@@ -111,30 +111,30 @@ module _ (count : ℕ) (files : ℕ → List Placed) where
     known = All-push (λ e. e < count) order d is.known next.known;
     few = λ e known. ⊎_elim
         (λ (t : (eqb d e ≡ true) × (d ≡ e)).
-        subst (λ (k : ℕ). times k (order ++ d ∷ []) ≤ length (files k)) t.1
-        (omega (arith, times-same d order, slice_get_within (files d) (times d order) placed next.next)))
+        subst (λ (k : ℕ). times_in_order k (order ++ d ∷ []) ≤ length (files k)) t.1
+        (omega (arith, times-same d order, slice_get_within (files d) (times_in_order d order) placed next.next)))
         (λ (t : (eqb d e ≡ false) × (d ≢ e)). omega (arith, times-stays e d order t.1, is.few e known))
         (eqb_tells d e);
   }
 
   abbrev Fits : List ℕ → List ℕ → Type 0
-  Fits before order = (d : ℕ) → d < count → times d (before ++ order) ≤ length (files d)
+  Fits before order = (d : ℕ) → d < count → times_in_order d (before ++ order) ≤ length (files d)
 
   places : (before order : List ℕ) → All (λ d. d < count) order → Fits before order → Places files before order
   places before [] known fits = record { all = refl; each = λ at inside. absurd (omega (arith, inside)) }
   places before (e ∷ order) known fits =
       let moved : (before ++ e ∷ []) ++ order ≡ before ++ e ∷ order = append_assoc before (e ∷ []) order in
       let rest = places (before ++ e ∷ []) order (λ k d inside. known (suc k) d (omega (arith, inside)))
-      (λ d there. subst (λ (l : List ℕ). times d l ≤ length (files d)) (sym moved) (fits d there)) in
-      let here : times e before < length (files e) =
+      (λ d there. subst (λ (l : List ℕ). times_in_order d l ≤ length (files d)) (sym moved) (fits d there)) in
+      let here : times_in_order e before < length (files e) =
       omega (
         arith,
         fits e (known 0 e (omega arith)),
-        ap (times e) moved,
+        ap (times_in_order e) moved,
         times-append e (before ++ e ∷ []) order,
         times-same e before,
       ) in
-      place_more files before e order (slice_get_cases (files e) (times e before)).1 here rest
+      place_more files before e order (slice_get_cases (files e) (times_in_order e before)).1 here rest
 
   of_order : (order : List ℕ) → IsOrder count files order → Places files [] order
   of_order order is = places [] order is.known is.few
@@ -145,7 +145,7 @@ module _ (count : ℕ) (files : ℕ → List Placed) where
 
   pub get-merge : (order : List ℕ) → IsOrder count files order → (at : ℕ) → at < length order
       → slice_get (merge files order) at
-      ≡ slice_get (files (slice_index order at)) (times (slice_index order at) (take at order))
+      ≡ slice_get (files (slice_index order at)) (times_in_order (slice_index order at) (take at order))
   unfolding merge
   get-merge order is at inside = (of_order order is).each at inside
 
@@ -165,7 +165,7 @@ module _ (count : ℕ) (files : ℕ → List Placed) where
 -- a place after some others at which this downlink stands, and before which it stands this many times
 abbrev FoundAt : ℕ → ℕ → List ℕ → List ℕ → Type 0
 FoundAt d place before order =
-    (at : ℕ) × (at < length order) × (slice_index order at ≡ d) × (times d (before ++ take at order) ≡ place)
+    (at : ℕ) × (at < length order) × (slice_index order at ≡ d) × (times_in_order d (before ++ take at order) ≡ place)
 
 found_later : (d place : ℕ) (before : List ℕ) (e : ℕ) (order : List ℕ) → FoundAt d place (before ++ e ∷ []) order
     → FoundAt d place before (e ∷ order)
@@ -173,42 +173,42 @@ found_later d place before e order found = (
   suc found.0,
   omega (arith, found.1),
   found.2,
-  ap (times d) (sym (append_assoc before (e ∷ []) (take found.0 order))) ∙ found.3,
+  ap (times_in_order d) (sym (append_assoc before (e ∷ []) (take found.0 order))) ∙ found.3,
 )
 
-found_in : (d place : ℕ) (before : List ℕ) (e : ℕ) (order : List ℕ) → times d before ≤ place
+found_in : (d place : ℕ) (before : List ℕ) (e : ℕ) (order : List ℕ) → times_in_order d before ≤ place
     → ((eqb e d ≡ true) × (e ≡ d)) ⊎ ((eqb e d ≡ false) × (e ≢ d))
-    → (times d before ≡ place) ⊎ (times d before ≡ place → ⊥)
-    → (times d (before ++ e ∷ []) ≤ place → FoundAt d place (before ++ e ∷ []) order)
+    → (times_in_order d before ≡ place) ⊎ (times_in_order d before ≡ place → ⊥)
+    → (times_in_order d (before ++ e ∷ []) ≤ place → FoundAt d place (before ++ e ∷ []) order)
     → FoundAt d place before (e ∷ order)
 found_in d place before e order low (inl same) (inl here) rest =
-    (0, omega arith, same.1, ap (times d) (append-nil before) ∙ here)
+    (0, omega arith, same.1, ap (times_in_order d) (append-nil before) ∙ here)
 found_in d place before e order low (inl same) (inr there) rest =
     found_later d place before e order
-    (rest (omega (arith, ap (λ (k : ℕ). times d (before ++ k ∷ [])) same.1, times-same d before, low, there)))
+    (rest (omega (arith, ap (λ (k : ℕ). times_in_order d (before ++ k ∷ [])) same.1, times-same d before, low, there)))
 found_in d place before e order low (inr other) which rest =
     found_later d place before e order (rest (omega (arith, times-stays d e before other.1, low)))
 
 -- where it stands before fewer times, and in all more
-finds_place : (d place : ℕ) (before order : List ℕ) → times d before ≤ place → place < times d (before ++ order)
+finds_place : (d place : ℕ) (before order : List ℕ) → times_in_order d before ≤ place → place < times_in_order d (before ++ order)
     → FoundAt d place before order
-finds_place d place before [] low high = absurd (omega (arith, ap (times d) (append-nil before), low, high))
+finds_place d place before [] low high = absurd (omega (arith, ap (times_in_order d) (append-nil before), low, high))
 finds_place d place before (e ∷ order) low high =
-    found_in d place before e order low (eqb_tells e d) (cases_eq (times d before) place)
+    found_in d place before e order low (eqb_tells e d) (cases_eq (times_in_order d before) place)
     (λ low'. finds_place d place (before ++ e ∷ []) order low'
-    (omega (arith, ap (times d) (append_assoc before (e ∷ []) order), high)))
+    (omega (arith, ap (times_in_order d) (append_assoc before (e ∷ []) order), high)))
 
 pub each_receipt : (base : ℕ) (order : List ℕ) → EachHasReceipt base order
 each_receipt base order d place inside =
     let found = finds_place d place [] order (omega arith) inside in (
       found.0,
       found.1,
-      (λ i. record { downlink = found.2 i; place = times (found.2 i) (take found.0 order); number = base + found.0 })
+      (λ i. record { downlink = found.2 i; place = times_in_order (found.2 i) (take found.0 order); number = base + found.0 })
           ∙ ap (λ (k : ℕ). record { downlink = d; place = k; number = base + found.0 }) found.3,
     )
 
 -- later places count no fewer
-times-take : (d : ℕ) (order : List ℕ) (i j : ℕ) → i ≤ j → times d (take i order) ≤ times d (take j order)
+times-take : (d : ℕ) (order : List ℕ) (i j : ℕ) → i ≤ j → times_in_order d (take i order) ≤ times_in_order d (take j order)
 times-take d order zero j le = omega arith
 times-take d [] (suc i) zero le = omega arith
 times-take d [] (suc i) (suc j) le = omega arith
@@ -223,24 +223,24 @@ times-take d (e ∷ order) (suc i) (suc j) le =
 
 -- and one more after the downlink's own
 times-after : (d : ℕ) (order : List ℕ) (i j : ℕ) → i < length order → slice_index order i ≡ d → i < j
-    → times d (take i order) < times d (take j order)
+    → times_in_order d (take i order) < times_in_order d (take j order)
 times-after d order i j inside is less =
     omega (
       arith,
       times-take d order (i + 1) j (omega (arith, less)),
-      ap (times d) (take_more order i 0 inside),
-      ap (λ (k : ℕ). times d (take i order ++ k ∷ [])) is,
+      ap (times_in_order d) (take_more order i 0 inside),
+      ap (λ (k : ℕ). times_in_order d (take i order ++ k ∷ [])) is,
       times-same d (take i order),
     )
 
 pub places_differ : (order : List ℕ) (one other : ℕ) → one < length order → other < length order
     → slice_index order one ≡ slice_index order other
-    → times (slice_index order one) (take one order) ≡ times (slice_index order other) (take other order)
+    → times_in_order (slice_index order one) (take one order) ≡ times_in_order (slice_index order other) (take other order)
     → one ≡ other
 places_differ order one other inside inside' same place =
     let d = slice_index order other in
-    let place' : times d (take one order) ≡ times d (take other order) =
-    ap (λ (k : ℕ). times k (take one order)) (sym same) ∙ place in
+    let place' : times_in_order d (take one order) ≡ times_in_order d (take other order) =
+    ap (λ (k : ℕ). times_in_order k (take one order)) (sym same) ∙ place in
     ⊎_elim
     (λ (e : one ≡ other). e)
     (λ (apart : one ≢ other).

@@ -36,7 +36,7 @@ use Rattle.lr_bits.specs.declared.placed.Placed.{Placed}
 use Rattle.lr_shelf_format.specs.Items.{extent_of, head_of_item}
 use Rattle.lr_shelf_format.specs.Way.{Way, way_with}
 use Rattle.lr_shelf.specs.Append.{item_for}
-use Rattle.lr_downlinks.specs.Merge.{merge, merge_after, times}
+use Rattle.lr_downlinks.specs.Merge.{merge, merge_after, times_in_order}
 use Rattle.lr_downlinks.specs.Room.{AllFit, FullWhereAllDoNotFit, NextDoesNotFit, files_of_all}
 use Rattle.lr_downlinks.specs.Since.{way_with_files}
 use Rattle.lr_downlinks.proofs.Growing.{end_more}
@@ -81,7 +81,7 @@ module _ (files : ℕ → List Placed) where
   -- of the first downlinks, as many files of each as an order counts
   abbrev taken : List ℕ → ℕ → ℕ
   taken order zero = 0
-  taken order (suc n) = taken order n + bytes_for_all (take (times n order) (files n))
+  taken order (suc n) = taken order n + bytes_for_all (take (times_in_order n order) (files n))
 
   taken_few : (order : List ℕ) (n : ℕ) → taken order n ≤ bytes_for_all (files_of_all files n)
   taken_few order zero = omega arith
@@ -89,7 +89,7 @@ module _ (files : ℕ → List Placed) where
       omega (
         arith,
         taken_few order n,
-        whole_room (files n) (times n order),
+        whole_room (files n) (times_in_order n order),
         bytes-append (files_of_all files n) (files n),
       )
 
@@ -112,14 +112,14 @@ module _ (files : ℕ → List Placed) where
       omega (
         arith,
         taken_later order more n,
-        front_room (files n) (times n order) (times n (order ++ more)) (times-later n order more),
+        front_room (files n) (times_in_order n order) (times_in_order n (order ++ more)) (times-later n order more),
       )
 
   -- a later downlink's file changes nothing
   taken_stays : (order : List ℕ) (d n : ℕ) → n ≤ d → taken (order ++ d ∷ []) n ≡ taken order n
   taken_stays order d zero below = refl
   taken_stays order d (suc n) below =
-      let other : times n (order ++ d ∷ []) ≡ times n order = times-stays n d order (λ e. omega (arith, below, e)) in
+      let other : times_in_order n (order ++ d ∷ []) ≡ times_in_order n order = times-stays n d order (λ e. omega (arith, below, e)) in
       omega (
         arith,
         taken_stays order d n (omega (arith, below)),
@@ -128,7 +128,7 @@ module _ (files : ℕ → List Placed) where
 
   -- the next file of a downlink
   taken_more : (order : List ℕ) (d n : ℕ) (placed : Placed) → d < n
-      → slice_get (files d) (times d order) ≡ Some placed
+      → slice_get (files d) (times_in_order d order) ≡ Some placed
       → taken (order ++ d ∷ []) n ≡ taken order n + bytes_for placed
   taken_more order d zero placed below is = absurd (omega (arith, below))
   taken_more order d (suc n) placed below is =
@@ -140,13 +140,13 @@ module _ (files : ℕ → List Placed) where
             arith,
             taken_stays order d d (omega arith),
             ap (λ (k : ℕ). bytes_for_all (take k (files d))) (times-same d order),
-            one_more (files d) (times d order) placed is,
+            one_more (files d) (times_in_order d order) placed is,
           )
 
       by_place : (d < n → taken (order ++ d ∷ []) n ≡ taken order n + bytes_for placed) → (d < n) ⊎ (n ≤ d)
           → taken (order ++ d ∷ []) (suc n) ≡ taken order (suc n) + bytes_for placed
       by_place earlier (inl less) =
-          let other : times n (order ++ d ∷ []) ≡ times n order =
+          let other : times_in_order n (order ++ d ∷ []) ≡ times_in_order n order =
           times-stays n d order (λ e. omega (arith, less, e)) in
           omega (arith, earlier less, ap (λ (k : ℕ). bytes_for_all (take k (files n))) other)
       by_place earlier (inr last) =
@@ -154,13 +154,13 @@ module _ (files : ℕ → List Placed) where
           subst (λ (m : ℕ). taken (order ++ d ∷ []) (suc m) ≡ taken order (suc m) + bytes_for placed) same here
 
   one_step : (count d : ℕ) (before : List ℕ) → d < count
-      → bytes_for_all (option_to_list (slice_get (files d) (times d before))) + taken before count
+      → bytes_for_all (option_to_list (slice_get (files d) (times_in_order d before))) + taken before count
       ≤ taken (before ++ d ∷ []) count
-  one_step count d before known = by_file (slice_get_cases (files d) (times d before)).1 where
-    by_file : ((x : Placed) × (times d before < length (files d)) × (slice_get (files d) (times d before) ≡ Some x)
-        × (get_or (files d) (times d before) x ≡ x))
-        ⊎ ((length (files d) ≤ times d before) × (slice_get (files d) (times d before) ≡ None))
-        → bytes_for_all (option_to_list (slice_get (files d) (times d before))) + taken before count
+  one_step count d before known = by_file (slice_get_cases (files d) (times_in_order d before)).1 where
+    by_file : ((x : Placed) × (times_in_order d before < length (files d)) × (slice_get (files d) (times_in_order d before) ≡ Some x)
+        × (get_or (files d) (times_in_order d before) x ≡ x))
+        ⊎ ((length (files d) ≤ times_in_order d before) × (slice_get (files d) (times_in_order d before) ≡ None))
+        → bytes_for_all (option_to_list (slice_get (files d) (times_in_order d before))) + taken before count
         ≤ taken (before ++ d ∷ []) count
     by_file (inl found) =
         omega (
@@ -182,7 +182,7 @@ module _ (files : ℕ → List Placed) where
       omega (
         arith,
         merge_room count (before ++ d ∷ []) order (All-tail (λ d. d < count) d order known),
-        bytes-append (option_to_list (slice_get (files d) (times d before)))
+        bytes-append (option_to_list (slice_get (files d) (times_in_order d before)))
             (merge_after files (before ++ d ∷ []) order),
         ap (λ (l : List ℕ). taken l count) (append_assoc before (d ∷ []) order),
         one_step count d before (All-head (λ d. d < count) d order known),
@@ -201,7 +201,7 @@ all_do_not_fit count files order way placed known full (inl none) =
       arith,
       ap (λ (l : List Placed). length l) none,
       of_downlink files full.downlink count full.least.next.known,
-      slice_get_within (files full.downlink) (times full.downlink order) placed full.least.next.next,
+      slice_get_within (files full.downlink) (times_in_order full.downlink order) placed full.least.next.next,
     )
 all_do_not_fit count files order way placed known full (inr fits) =
     omega (

@@ -11,7 +11,7 @@ use Rattle.lr_bits.specs.declared.placed.Placed.{Placed}
 use Rattle.lr_conv.specs.declared.line.LineCode.{LineCode}
 use Rattle.lr_disk.specs.declared.disk.Disk.{Ghosts as DiskOf}
 use Rattle.lr_shelf_format.specs.Items.{Item, old_item, add_item, discard_item}
-use Rattle.lr_shelf_format.specs.Reading.{StandsFor, entries_of}
+use Rattle.lr_shelf_format.specs.ShelfBytes.{StandsForShelf, entries_of}
 use Rattle.lr_shelf.specs.Append.{item_for}
 use Rattle.lr_shelf.specs.Kept.{Kept, kept_by}
 use Rattle.lr_shelf.specs.Shelf.{IsDurable, IsSettled, StandsForEither}
@@ -20,7 +20,7 @@ use Rattle.lr_shelf.proofs.ItemsKept.{entry_count_is}
 use Rattle.lr_downlinks.specs.Books.{BeginsRun, BookView, Broke, IsBookOf, Keeps, StandsOver, Works, WorksOrBroke}
 use Rattle.lr_downlinks.specs.Ending.{EndsWith}
 use Rattle.lr_downlinks.specs.Members.{AreMembers}
-use Rattle.lr_downlinks.specs.Merge.{IsNextOf, IsWhole, merge, times}
+use Rattle.lr_downlinks.specs.Merge.{IsNextOf, IsWhole, merge, times_in_order}
 use Rattle.lr_downlinks.specs.Receipts.{HasFileAt}
 use Rattle.lr_downlinks.specs.Room.{AllFit, NextDoesNotFit}
 use Rattle.lr_downlinks.specs.Runs.{MergeEnds, MergesOver}
@@ -79,7 +79,7 @@ file_still_there items item number one is =
 
 module _ (capacity number : ℕ) (placed : Placed) (items : List Item)
     (there : slice_get (entries_of items) number ≡ Some (item_for placed)) where
-  has_file_at : (bytes : List ℕ) → StandsFor bytes capacity items → HasFileAt capacity number placed bytes
+  has_file_at : (bytes : List ℕ) → StandsForShelf bytes capacity items → HasFileAt capacity number placed bytes
   has_file_at bytes stands = record { items = items; stands = stands; there = there }
 
   has_file_either : (item : Item) (bytes : List ℕ) → StandsForEither capacity items item bytes
@@ -131,7 +131,7 @@ module _ {D : Type 0} (disk : DiskOf D) (handed : Shelf → D → Type 0) (strea
         omega (
           arith,
           whole downlink next.known,
-          slice_get_within (files downlink) (times downlink book.order) placed next.next,
+          slice_get_within (files downlink) (times_in_order downlink book.order) placed next.next,
         )
 
     whole_for : (result : RunEnd) → EndsWith begun_as book result → IsWhole count files book.order
@@ -182,7 +182,7 @@ module _ {D : Type 0} (disk : DiskOf D) (handed : Shelf → D → Type 0) (strea
     durable_has capacity number placed items there on = (
       has_file_at capacity number placed items there (disk.contents book.disk) on.stands,
       λ c image. has_file_at capacity number placed items there c
-          (subst (λ (b : List ℕ). StandsFor b capacity items) (sym (on.durable c image)) on.stands),
+          (subst (λ (b : List ℕ). StandsForShelf b capacity items) (sym (on.durable c image)) on.stands),
     )
 
     entry_in : (result : RunEnd) → EndsWith begun_as book result → (at : ℕ) (placed : Placed)

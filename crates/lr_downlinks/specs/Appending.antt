@@ -9,7 +9,7 @@ use Rattle.lr_shelf.specs.declared.error.ShelfError.{ShelfError}
 use Rattle.lr_shelf.specs.declared.error.ShelfError.TheVariants.{Disk, NoMemory}
 use Rattle.lr_shelf.specs.declared.shelf.Shelf.{Shelf}
 use Rattle.lr_downlinks.specs.Books.{BookView}
-use Rattle.lr_downlinks.specs.Merge.{times}
+use Rattle.lr_downlinks.specs.Merge.{times_in_order}
 
 -- the book is as it was; of the shelf, all that it keeps
 pub record IsSameBook {D : Type 0} (old new : BookView D) : Type 0 where
@@ -49,10 +49,10 @@ module _ {D : Type 0} (disk : DiskOf D) (downlink : ℕ) where
   pub record AppendsNext (files : List Placed) (old new : BookView D) (result : Result Bool ShelfError)
       : Type 0 where
     -- `false` exactly where there is no file left, and then nothing is changed
-    pub none : slice_get files (times downlink old.order) ≡ None → (result ≡ Ok false) × IsSameBook old new
-    pub nothing : result ≡ Ok false → slice_get files (times downlink old.order) ≡ None
+    pub none : slice_get files (times_in_order downlink old.order) ≡ None → (result ≡ Ok false) × IsSameBook old new
+    pub nothing : result ≡ Ok false → slice_get files (times_in_order downlink old.order) ≡ None
     -- else the next one is appended
-    pub next : (placed : Placed) → slice_get files (times downlink old.order) ≡ Some placed
+    pub next : (placed : Placed) → slice_get files (times_in_order downlink old.order) ≡ Some placed
         → AppendsFile placed old new result ⊎ WantsMemory old new result
     -- a refusal but `Disk` leaves the book as it was, and after `Disk` it says so
     pub refused : IfErr result (λ error. error ≢ Disk → IsSameBook old new)

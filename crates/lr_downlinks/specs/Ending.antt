@@ -8,7 +8,7 @@ use Rattle.lr_shelf.specs.declared.error.ShelfError.TheVariants.{
   Capacity as Capacity',
 }
 use Rattle.lr_downlinks.specs.Books.{BookView}
-use Rattle.lr_downlinks.specs.Merge.{IsWhole, times}
+use Rattle.lr_downlinks.specs.Merge.{IsWhole, times_in_order}
 use Rattle.lr_downlinks.specs.Runs.{NextDoesNotFitBy}
 use Rattle.lr_downlinks.specs.Since.{way_with_files}
 use Rattle.lr_downlinks.specs.Start.{Start, files_in, merged}
@@ -17,12 +17,12 @@ use Rattle.lr_downlinks.specs.declared.run.RunEnd.TheVariants.{All, Disk, NoMemo
 
 -- no downlink stands in the order less often
 abbrev pub GoesOn : {D : Type 0} → BookView D → BookView D → Type 0
-GoesOn old new = (downlink : ℕ) → times downlink old.order ≤ times downlink new.order
+GoesOn old new = (downlink : ℕ) → times_in_order downlink old.order ≤ times_in_order downlink new.order
 
 -- the next file of this downlink doesn't fit
 pub record DoesNotFitAt {D : Type 0} (start : Start) (downlink needed capacity : ℕ) (book : BookView D) : Type 0 where
   pub placed : Placed
-  pub next : slice_get (files_in start downlink) (times downlink book.order) ≡ Some placed
+  pub next : slice_get (files_in start downlink) (times_in_order downlink book.order) ≡ Some placed
   pub over : start.way.capacity < (way_with_files (merged start book.order ++ placed ∷ []) start.way).end
   pub needs : needed ≡ min (way_with_files (merged start book.order ++ placed ∷ []) start.way).end 18446744073709551615
   pub of : capacity ≡ start.way.capacity

@@ -3,9 +3,9 @@ use Rattle.std.specs.Prelude.{◌≡◌, ◌==◌, ◌+◌, ◌<◌, ℕ, List, 
 use Rattle.std.specs.Prelude.{Option, Some, None}
 use Rattle.lr_bits.specs.declared.placed.Placed.{Placed}
 use Rattle.lr_shelf_format.specs.Items.{Item}
-use Rattle.lr_shelf_format.specs.Reading.{StandsFor, entries_of}
+use Rattle.lr_shelf_format.specs.ShelfBytes.{StandsForShelf, entries_of}
 use Rattle.lr_shelf.specs.Append.{item_for}
-use Rattle.lr_downlinks.specs.Merge.{times}
+use Rattle.lr_downlinks.specs.Merge.{times_in_order}
 use Rattle.lr_downlinks.specs.declared.receipt.Receipt.{Receipt}
 
 -- the receipt of a place of an order: its downlink, how often that came before, and the number of the entry, where the
@@ -13,7 +13,7 @@ use Rattle.lr_downlinks.specs.declared.receipt.Receipt.{Receipt}
 abbrev pub receipt_at : ℕ → List ℕ → ℕ → Receipt
 receipt_at base order at =
     let downlink = slice_index order at in
-    record { downlink = downlink; place = times downlink (take at order); number = base + at }
+    record { downlink = downlink; place = times_in_order downlink (take at order); number = base + at }
 
 -- the receipts of a downlink, where it came `place` times before and the next entry has this number
 abbrev pub receipts_from : ℕ → ℕ → ℕ → List ℕ → List Receipt
@@ -35,13 +35,13 @@ GivesReceipt old (Some receipt) new = old ≡ receipt ∷ new
 -- the bytes stand for a shelf of this capacity, and its entry of this number is the file
 pub record HasFileAt (capacity number : ℕ) (placed : Placed) (bytes : List ℕ) : Type 0 where
   pub items : List Item
-  pub stands : StandsFor bytes capacity items
+  pub stands : StandsForShelf bytes capacity items
   pub there : slice_get (entries_of items) number ≡ Some (item_for placed)
 
 -- of a downlink that stands n times in an order each place below n has a receipt
 abbrev pub EachHasReceipt : ℕ → List ℕ → Type 0
 EachHasReceipt base order =
-    (downlink place : ℕ) → place < times downlink order
+    (downlink place : ℕ) → place < times_in_order downlink order
     → (at : ℕ) × (at < length order) × (receipt_at base order at ≡ record {
       downlink = downlink;
       place = place;

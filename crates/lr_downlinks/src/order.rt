@@ -1,6 +1,6 @@
 //! Which downlink each file came from.
 ghost use Rattle.std.specs.Prelude.{◌≡◌, ◌<◌, ◌++◌, ◌∷◌, [], List, ℕ, OnOk, OnErr};
-ghost use Rattle.lr_downlinks.specs.Merge.{times};
+ghost use Rattle.lr_downlinks.specs.Merge.{times_in_order};
 
 use crate::sizes::MOST_DOWNLINKS;
 use lr_bits::{Bytes, NoMemory};
@@ -42,7 +42,7 @@ impl Order {
     /// How often a downlink came.
     pub(crate) fn count(&self, downlink: u8) -> usize
         requires { downlink < MOST_DOWNLINKS }
-        ensures { result ≡ times downlink self.now }
+        ensures { result ≡ times_in_order downlink self.now }
     {
         self.counts[downlink as usize]
     }
@@ -50,7 +50,7 @@ impl Order {
     /// Appends a downlink. Where memory is refused, nothing is changed.
     pub(crate) fn push(&mut self, downlink: u8) -> Result<(), NoMemory>
         requires known { downlink < MOST_DOWNLINKS }
-        requires few { times downlink self.old < 9223372036854775808 }
+        requires few { times_in_order downlink self.old < 9223372036854775808 }
         ensures ok { OnOk result (self.new ≡ self.old ++ downlink ∷ []) }
         ensures err { OnErr result (self.new ≡ self.old) }
     {

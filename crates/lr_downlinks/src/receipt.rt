@@ -1,6 +1,6 @@
 //! Receipts.
 ghost use Rattle.std.specs.Prelude.{◌≡◌};
-ghost use Rattle.lr_downlinks.specs.Merge.{times};
+ghost use Rattle.lr_downlinks.specs.Merge.{times_in_order};
 
 use crate::run::Run;
 
@@ -17,7 +17,7 @@ pub struct Receipt {
 
 /// How often the downlink stands among these.
 fn count_of(order: &[u8], downlink: u8) -> u64
-    ensures value { result ≡ times downlink order.now }
+    ensures value { result ≡ times_in_order downlink order.now }
 {
     let mut count = 0;
     for one in order {

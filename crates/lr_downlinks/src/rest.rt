@@ -3,7 +3,7 @@ ghost use Rattle.std.specs.Prelude.{◌≡◌, ◌<◌, false, length, OnOk, IfE
 ghost use Rattle.lr_downlinks.specs.Books.{IsBookOf};
 ghost use Rattle.lr_downlinks.specs.Ending.{GoesOn, IsLeftAt, EndsWith};
 ghost use Rattle.lr_downlinks.specs.Members.{AreMembers};
-ghost use Rattle.lr_downlinks.specs.Merge.{times};
+ghost use Rattle.lr_downlinks.specs.Merge.{times_in_order};
 ghost use Rattle.lr_downlinks.specs.Start.{files_in};
 
 use crate::beginning::Beginning;
@@ -25,7 +25,7 @@ fn append_left<N: Beginning<D>, D: Disk>(
     requires working { book.old.failed ≡ false }
     ensures goes_on { GoesOn book.old book.new }
     ensures is { IsBookOf N.start book.new }
-    ensures all { OnOk result (times downlink book.new.order ≡ length files.now) }
+    ensures all { OnOk result (times_in_order downlink book.new.order ≡ length files.now) }
     ensures works { OnOk result (book.new.failed ≡ false) }
     ensures left { IfErr result (IsLeftAt N.start downlink book.new) }
 {

@@ -8,7 +8,7 @@ use Rattle.std.proofs.lemmas.List.{append-nil}
 use Rattle.lr_bits.specs.File.{File}
 use Rattle.lr_packet.specs.Verdict.{Good}
 use Rattle.lr_file.specs.Files.{last_stretches, flags_of_file, are_counted_on, size_of, is_file, file_at, files_after}
-use Rattle.lr_file.specs.Files.{files_of}
+use Rattle.lr_file.specs.Files.{files_of_packets}
 use Rattle.lr_file.specs.Standing.{is_open}
 use Rattle.lr_file.proofs.Stretches.{flags, counts, zeros, are_zeros, and_left, and_right, not_open, zeros_behind}
 use Rattle.lr_file.proofs.Stretches.{begun_by_one, is_file-one}
@@ -26,16 +26,16 @@ files_after-append before (x ∷ xs) ys =
 
 -- one packet more adds the file that ends with it
 pub files_of-more : (packets : List Good) (packet : Good) →
-    files_of (packets ++ packet ∷ []) ≡ files_of packets ++ option_to_list (file_at packets packet)
-unfolding files_of
+    files_of_packets (packets ++ packet ∷ []) ≡ files_of_packets packets ++ option_to_list (file_at packets packet)
+unfolding files_of_packets
 files_of-more packets packet =
     files_after-append [] packets (packet ∷ []) ∙ ap (λ fs. files_after [] packets ++ fs)
     (append-nil (option_to_list (file_at packets packet)))
 
 -- the files of a prefix are a prefix
 pub files_of-append : (packets later : List Good) →
-    (more : List File) × (files_of (packets ++ later) ≡ files_of packets ++ more)
-unfolding files_of
+    (more : List File) × (files_of_packets (packets ++ later) ≡ files_of_packets packets ++ more)
+unfolding files_of_packets
 files_of-append packets later = (files_after packets later, files_after-append [] packets later)
 
 -- where the flags are 0 no stretch is open

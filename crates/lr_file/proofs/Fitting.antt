@@ -12,7 +12,7 @@ use Rattle.lr_bits.specs.File.{File, bytes_of}
 use Rattle.lr_bits.proofs.ByKeys.{sums_by_key}
 use Rattle.lr_packet.specs.Verdict.{Good}
 use Rattle.lr_file.specs.Files.{packets_of_key, last_stretches, bodies_of, size_of, is_file, file_from, file_at}
-use Rattle.lr_file.specs.Files.{files_after, files_of, flags_of_file}
+use Rattle.lr_file.specs.Files.{files_after, files_of_packets, flags_of_file}
 use Rattle.std.specs.Str.{bytes_eq}
 use Rattle.lr_file.proofs.FileLaws.{end_with_two, several_flags}
 use Rattle.lr_file.specs.Laws.{Weights, packet_weight, file_weight}
@@ -59,8 +59,8 @@ some_behind before (p ∷ ps) =
     (some_behind (before ++ p ∷ []) ps)
 
 -- each file has a body, and ten bytes
-pub files_some : (packets : List Good) → All IsFilled (files_of packets)
-unfolding files_of
+pub files_some : (packets : List Good) → All IsFilled (files_of_packets packets)
+unfolding files_of_packets
 files_some packets = some_behind [] packets
 
 -- a file is not found but where the test holds
@@ -268,10 +268,10 @@ module _ (weights : Weights) where
       )
 
   -- the files fit their packets
-  pub files_fit : (packets : List Good) → sum_by (file_weight weights) (files_of packets) ≤ sum_by weigh packets
-  unfolding files_of
+  pub files_fit : (packets : List Good) → sum_by (file_weight weights) (files_of_packets packets) ≤ sum_by weigh packets
+  unfolding files_of_packets
   files_fit packets =
       sums_by_key same same_is same_self (λ file. (file.vc, file.apid)) (λ p. (p.vc, p.apid))
       (file_weight weights) weigh
-      (files_of packets) packets
+      (files_of_packets packets) packets
       (λ k. let fits = fits_behind k [] packets in omega arith)

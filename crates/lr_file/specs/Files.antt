@@ -58,5 +58,5 @@ files_after before (packet ∷ packets) =
     option_to_list (file_at before packet) ++ files_after (before ++ packet ∷ []) packets
 
 -- all files, in the order of their last packets
-unfoldable pub files_of : List Good → List File
-files_of packets = files_after [] packets
+unfoldable pub files_of_packets : List Good → List File
+files_of_packets packets = files_after [] packets

@@ -4,18 +4,18 @@ use Rattle.std.specs.Prelude.{option_to_list, All}
 use Rattle.std.specs.List.{sum_by}
 use Rattle.lr_bits.specs.File.{File, bytes_of}
 use Rattle.lr_packet.specs.Verdict.{Good}
-use Rattle.lr_file.specs.Files.{file_at, files_of, is_file, last_stretches}
+use Rattle.lr_file.specs.Files.{file_at, files_of_packets, is_file, last_stretches}
 use Rattle.lr_file.specs.Standing.{is_open}
 
 -- one packet more adds the file that ends with it, if one does
 abbrev pub PacketAddsItsFile : Type 0
 PacketAddsItsFile = (packets : List Good) (packet : Good) →
-    files_of (packets ++ packet ∷ []) ≡ files_of packets ++ option_to_list (file_at packets packet)
+    files_of_packets (packets ++ packet ∷ []) ≡ files_of_packets packets ++ option_to_list (file_at packets packet)
 
 -- the files of a prefix are a prefix of the files
 abbrev pub FilesKeepTheirOrder : Type 0
 FilesKeepTheirOrder = (packets later : List Good) →
-    (more : List File) × (files_of (packets ++ later) ≡ files_of packets ++ more)
+    (more : List File) × (files_of_packets (packets ++ later) ≡ files_of_packets packets ++ more)
 
 -- of the stretches that end with the same packet at most one is a file
 abbrev pub OneFileEnds : Type 0
@@ -46,9 +46,9 @@ file_weight weights file =
 -- the files of packets weigh at most what the packets do
 abbrev pub FilesFitThePackets : Type 0
 FilesFitThePackets = (weights : Weights) (packets : List Good) →
-    sum_by (file_weight weights) (files_of packets) ≤ sum_by (packet_weight weights) packets
+    sum_by (file_weight weights) (files_of_packets packets) ≤ sum_by (packet_weight weights) packets
 
 -- each file has a body, and ten bytes
 abbrev pub FilesAreSome : Type 0
 FilesAreSome =
-    (packets : List Good) → All (λ file. (1 ≤ length file.bodies) × (10 ≤ length (bytes_of file))) (files_of packets)
+    (packets : List Good) → All (λ file. (1 ≤ length file.bodies) × (10 ≤ length (bytes_of file))) (files_of_packets packets)

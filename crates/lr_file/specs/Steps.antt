@@ -9,8 +9,8 @@ use Rattle.lr_file.specs.declared.part.Part.TheVariants.{First, Between, Last, S
 use Rattle.lr_file.specs.Standing.{Open, AreAscending, kept_of_key}
 
 -- which part of its file a packet brings, by its sequence flags
-abbrev pub part_of : ℕ → Part
-part_of flags =
+abbrev pub part_by_flags : ℕ → Part
+part_by_flags flags =
     if flags == 1 then First else (if flags == 0 then Between else (if flags == 2 then Last else Single))
 
 -- the open file that begins with a packet

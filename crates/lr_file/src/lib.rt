@@ -4,9 +4,9 @@
 //! Good packets come one by one, of all channels and applications, and the file that ends with a packet leaves with
 //! it. A file is one packet with flags 3, or neighbours of one channel and application with flags 1, any number of 0,
 //! and 2, whose counts follow one another modulo 16,384; it has at most 1,048,576 bodies, of 10 to 67,108,864 bytes
-//! together. What the first ten bytes declare isn't looked at. The layer above rests on `Files.files_of`, the files of
-//! a whole list of packets, and on `Files.file_at`, the one that ends with a packet; `Standing` says what `Files`
-//! keeps of the packets so far.
+//! together. What the first ten bytes declare isn't looked at. The layer above rests on `Files.files_of_packets`, the
+//! files of a whole list of packets, and on `Files.file_at`, the one that ends with a packet; `Standing` says what
+//! `Files` keeps of the packets so far.
 #![tactic(auto)]
 
 mod files;

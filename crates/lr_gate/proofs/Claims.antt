@@ -20,7 +20,7 @@ use Rattle.lr_gate.specs.declared.view.Read.{Read}
 use Rattle.lr_gate.specs.declared.view.View.{View}
 use Rattle.lr_gatecore.specs.declared.stage.Stage.{Stage}
 use Rattle.lr_gatecore.specs.declared.stage.Stage.TheVariants.{Ready, Busy, Done}
-use Rattle.lr_gate.specs.Words.{word_of}
+use Rattle.lr_gate.specs.Words.{cell_word}
 use Rattle.lr_gate.specs.Shows.{held_job, count_of, finishes_of, Lies, Shows}
 use Rattle.lr_gate.specs.Words.{finish_count}
 use Rattle.lr_gate.specs.Steps.{FoundAlone, read, SeatState, after_read, after_claim, after_finish, LookTells}
@@ -58,7 +58,7 @@ spot_by n t c near (no g) low = let q : ℕ = t / n in let x : ℕ = q * n in le
 pub spot : (n t c : ℕ) → 0 < n → c < n → Spot n t c
 spot n t c pos near = spot_by n t c near (dec_le (t % n) c) (mod-lt t pos)
 
-ready_tag : (o : maybe.Option Stage) (p : ℕ) → word_of p o % 4 ≡ 1 → o ≡ some Ready
+ready_tag : (o : maybe.Option Stage) (p : ℕ) → cell_word p o % 4 ≡ 1 → o ≡ some Ready
 ready_tag none p e = absurd (omega (arith, e))
 ready_tag (some Ready) p e = refl
 ready_tag (some Done) p e = let t = tag_of p 2 in absurd (omega (arith, e, t))
@@ -84,11 +84,11 @@ module _ {J D : Type 0} (f : J → D) (crew : ℕ) where
       → IsReady n s r c (get_or s.words (c + 1) 0)
   ready_at n s r c near one = let at = spot n r.me.taken c r.some_cell near in let p : ℕ = at.0 in
       let ok = r.each_cell p at.1 at.2 in
-      let found : get_or s.words (c + 1) 0 ≡ word_of p (get_elem? r.stages p) = ap (λ (z : ℕ). get_or s.words
+      let found : get_or s.words (c + 1) 0 ≡ cell_word p (get_elem? r.stages p) = ap (λ (z : ℕ). get_or s.words
       (z + 1) 0) (sym at.3) ∙ ok.word in
       let stage = ready_tag (get_elem? r.stages p) p (ap (λ (z : ℕ). z % 4) (sym found) ∙ one) in
       let below : p < length r.stages = at_length r.stages p Ready stage in
-      (p, at.1, at.2, at.3, stage, found ∙ ap (word_of p) stage, omega (arith, below, r.as_many, r.few))
+      (p, at.1, at.2, at.3, stage, found ∙ ap (cell_word p) stage, omega (arith, below, r.as_many, r.few))
 
   lone_at : (n slots id : ℕ) (m : SeatState J D) (i : ℕ) (s : St J D) (r : Shows f n crew s)
       → length s.homes ≡ slots → get_elem? s.views id ≡ some m.0 → m.0.spent ≡ false

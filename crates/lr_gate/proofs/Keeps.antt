@@ -16,7 +16,7 @@ use Rattle.lr_gate.specs.declared.view.Held.{Held}
 use Rattle.lr_gate.specs.declared.view.View.{View}
 use Rattle.lr_gatecore.specs.declared.stage.Stage.{Stage}
 use Rattle.lr_gatecore.specs.declared.stage.Stage.TheVariants.{Ready, Busy, Done}
-use Rattle.lr_gate.specs.Words.{word_of, finish_count}
+use Rattle.lr_gate.specs.Words.{cell_word, finish_count}
 use Rattle.lr_gate.specs.Shows.{held_job, IsHeldBy, is_being_taken, Lies, IsCellShown, Shows}
 use Rattle.lr_gate.specs.Steps.{SeatState, after_put, put_view, PutTells}
 use Rattle.lr_gate.proofs.Alike.{spents_stay}
@@ -102,7 +102,7 @@ module _ {J D : Type 0} (f : J → D) (crew : ℕ) where
         each_cell = λ q a b. dite (ℕ_discrete q p)
             (λ e. subst (IsCellShown f n me' st' record { words = words'; homes = homes'; views = views' })
             (sym e) record {
-              word = get_or-set_same s.words (c + 1) (p * 256 + 1) 0 (omega arith) ∙ ap (word_of p) (sym here);
+              word = get_or-set_same s.words (c + 1) (p * 256 + 1) 0 (omega arith) ∙ ap (cell_word p) (sym here);
               lies = subst (Lies f me' homes' views' p c) (sym here) (
                 j,
                 at_last r.me.jobs j p refl,
@@ -114,7 +114,7 @@ module _ {J D : Type 0} (f : J → D) (crew : ℕ) where
             let stage : get_elem? st' q ≡ get_elem? r.stages q = snoc_else r.stages Ready q
             (λ e. ne (e ∙ many)) in record {
               word = get_or-set_other s.words (c + 1) (q % n + 1) (p * 256 + 1) 0 (λ e. apart (omega arith))
-                  ∙ (ok.word ∙ ap (word_of q) (sym stage));
+                  ∙ (ok.word ∙ ap (cell_word q) (sym stage));
               lies = subst (Lies f me' homes' views' q (q % n)) (sym stage)
                   (lies_stay f r.me me' s.homes homes' s.views views' q (q % n) refl refl
                   (at_longer r.me.jobs (j ∷ []) q)

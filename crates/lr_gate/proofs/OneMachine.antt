@@ -8,13 +8,13 @@ use native.Mathlib.Decide.{dec_lt}
 use lib.ListN.{get_elem?}
 use Rattle.lr_gatecore.specs.declared.stage.Stage.{Stage}
 use Rattle.lr_gatecore.specs.declared.stage.Stage.TheVariants.{Ready, Busy, Done}
-use Rattle.lr_gate.specs.Words.{word_of}
+use Rattle.lr_gate.specs.Words.{cell_word}
 use Rattle.lr_gate.specs.Shows.{flag, Shows, machine_of}
 use Rattle.lr_gatecore.proofs.Lists.{at_above}
 use Rattle.lr_gate.proofs.Keeps.{St}
 
 -- a cell's word tells the stage of its job
-same_stage : (p : ℕ) (a b : maybe.Option Stage) → word_of p a ≡ word_of p b → a ≡ b
+same_stage : (p : ℕ) (a b : maybe.Option Stage) → cell_word p a ≡ cell_word p b → a ≡ b
 same_stage p none none e = refl
 same_stage p none (some Ready) e = absurd (omega arith)
 same_stage p none (some Done) e = absurd (omega arith)

@@ -13,7 +13,7 @@ use Rattle.lr_gatecore.specs.Machine.{HasStage}
 use Rattle.lr_gate.specs.declared.cargo.Cargo.TheVariants.{Empty, Made}
 use Rattle.lr_gate.specs.declared.view.Held.{Held}
 use Rattle.lr_gate.specs.declared.view.View.{View}
-use Rattle.lr_gate.specs.Words.{word_of, finish_count}
+use Rattle.lr_gate.specs.Words.{cell_word, finish_count}
 use Rattle.lr_gate.specs.Shows.{held_job, is_being_taken, Lies, Shows, machine_of}
 use Rattle.lr_gate.specs.Cells.{ShowsMachine}
 use Rattle.lr_gatecore.proofs.Lists.{at_length, at_above}
@@ -30,7 +30,7 @@ not_done (some (Busy w)) ne = refl
 not_done (some Done) ne = absurd (ne refl)
 
 -- a word that isn't free tells a stage
-no_stage : (p : ℕ) (o : maybe.Option Stage) → word_of p o ≡ 0 → o ≡ none
+no_stage : (p : ℕ) (o : maybe.Option Stage) → cell_word p o ≡ 0 → o ≡ none
 no_stage p none e = refl
 no_stage p (some Ready) e = absurd (omega arith)
 no_stage p (some Done) e = absurd (omega arith)
@@ -51,11 +51,11 @@ module _ {J D : Type 0} (f : J → D) (crew : ℕ) where
       absurd (let bad : some (Busy w) ≡ some Done = sym e ∙ d in cc)) (λ ge. omega arith)
 
   cell_at : (n : ℕ) (s : St J D) (r : Shows f n crew s) (i : ℕ) (st : Stage) → r.me.taken ≤ i
-      → get_elem? r.stages i ≡ some st → (get_or s.words (i % n + 1) 0 ≡ word_of i (some st))
+      → get_elem? r.stages i ≡ some st → (get_or s.words (i % n + 1) 0 ≡ cell_word i (some st))
       × Lies f r.me s.homes s.views i (i % n) (some st)
   cell_at n s r i st a e = let b = at_length r.stages i st e in
       let w : length r.stages ≤ r.me.taken + n = r.within in let ok = r.each_cell i a (omega arith) in
-      (ok.word ∙ ap (word_of i) e, subst (Lies f r.me s.homes s.views i (i % n)) e ok.lies)
+      (ok.word ∙ ap (cell_word i) e, subst (Lies f r.me s.homes s.views i (i % n)) e ok.lies)
 
   pub busy_by : (n : ℕ) (s : St J D) (r : Shows f n crew s) (i w : ℕ) → get_elem? r.stages i ≡ some (Busy w)
       → Lies f r.me s.homes s.views i (i % n) (some (Busy w))
@@ -68,7 +68,7 @@ module _ {J D : Type 0} (f : J → D) (crew : ℕ) where
   holds_by n s r w v h false live at is = let k = (r.each_seat w v at live).holds h is in ((k.0, k.2), k.1)
 
   word_at : (n : ℕ) (s : St J D) (r : Shows f n crew s) (c p : ℕ) → r.me.taken ≤ p → p < r.me.taken + n
-      → p % n ≡ c → get_or s.words (c + 1) 0 ≡ word_of p (get_elem? r.stages p)
+      → p % n ≡ c → get_or s.words (c + 1) 0 ≡ cell_word p (get_elem? r.stages p)
   word_at n s r c p a b e = ap (λ (z : ℕ). get_or s.words (z + 1) 0) (sym e) ∙ (r.each_cell p a b).word
 
   free_word : (n : ℕ) (s : St J D) (r : Shows f n crew s) (c : ℕ) → c < n
@@ -77,7 +77,7 @@ module _ {J D : Type 0} (f : J → D) (crew : ℕ) where
     (λ e i a b is. let some_stage = at_below r.stages i b in
         let gone = no_stage i (get_elem? r.stages i) (sym (word_at n s r c i a (omega arith) is) ∙ e) in
         some-ne-none some_stage.0 (sym some_stage.1 ∙ gone)),
-    (λ away. let at = spot n r.me.taken c r.some_cell near in word_at n s r c at.0 at.1 at.2 at.3 ∙ ap (word_of at.0)
+    (λ away. let at = spot n r.me.taken c r.some_cell near in word_at n s r c at.0 at.1 at.2 at.3 ∙ ap (cell_word at.0)
         (at_above r.stages at.0 (dite (dec_lt at.0 (length r.stages)) (λ l. absurd (away at.0 at.1 l at.3))
         (λ ge. omega arith)))),
   )

@@ -17,7 +17,7 @@ use Rattle.lr_gate.specs.declared.view.Read.{Read}
 use Rattle.lr_gate.specs.declared.view.View.{View}
 use Rattle.lr_gatecore.specs.declared.stage.Stage.{Stage}
 use Rattle.lr_gatecore.specs.declared.stage.Stage.TheVariants.{Ready, Busy, Done}
-use Rattle.lr_gate.specs.Words.{stage_code, word_of}
+use Rattle.lr_gate.specs.Words.{stage_code, cell_word}
 use Rattle.lr_gate.specs.Shows.{held_job, is_being_taken, IsSeatShown, Lies, IsCellShown, Shows}
 use Rattle.lr_gate.specs.Steps.{FoundAlone, read, SeatState, after_read, after_grab, after_take, after_split}
 use Rattle.lr_gate.specs.Steps.{new_view, GrabTells, TakeTells, StopTells, after_stop}
@@ -223,7 +223,7 @@ module _ {J D : Type 0} (f : J → D) (crew : ℕ) where
             let lies : Lies f r.me s.homes s.views t c
             (some Done) = subst (Lies f r.me s.homes s.views t c) is here.lies in record {
               word = ap (λ (z : ℕ). get_or words' (z + 1) 0) turn
-                  ∙ (get_or-set_same s.words (c + 1) 0 0 (omega arith) ∙ ap (word_of (t + n)) (sym out));
+                  ∙ (get_or-set_same s.words (c + 1) 0 0 (omega arith) ∙ ap (cell_word (t + n)) (sym out));
               lies = subst (Lies f me' s.homes views' (t + n) ((t + n) % n)) (sym out)
                   (ap (get_elem? s.homes) turn
                   ∙ (lies.2 ∙ (ap (λ (b : Bool). some (cond b none (some (Made (f lies.0)))))
@@ -325,7 +325,7 @@ module _ {J D : Type 0} (f : J → D) (crew : ℕ) where
       let lone : FoundAlone slots i m.0 (get_or s.words i 0) = subst (λ z. FoundAlone z i m.0
       (get_or s.words i 0)) (sym sized) (found_alone f crew n s r id m.0 i at live) in
       grab_cases n slots id m i s r sized first is idle lone got.0 got.1 (ap (λ (z : ℕ). get_or s.words z 0) w
-      ∙ ((r.each_cell r.me.taken (le_refl r.me.taken) (omega arith)).word ∙ ap (word_of r.me.taken) got.1))
+      ∙ ((r.each_cell r.me.taken (le_refl r.me.taken) (omega arith)).word ∙ ap (cell_word r.me.taken) got.1))
 
   -- take's store
   pub takes_go : (n slots id : ℕ) (m : SeatState J D) (i : ℕ) → id ≡ 0 → m.0.taking ≡ true → m.0.stocked ≡ true

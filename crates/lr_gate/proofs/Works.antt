@@ -14,7 +14,7 @@ use Rattle.lr_gate.specs.declared.view.Read.{Read}
 use Rattle.lr_gate.specs.declared.view.View.{View}
 use Rattle.lr_gatecore.specs.declared.stage.Stage.{Stage}
 use Rattle.lr_gatecore.specs.declared.stage.Stage.TheVariants.{Ready, Busy, Done}
-use Rattle.lr_gate.specs.Words.{word_of, finish_count}
+use Rattle.lr_gate.specs.Words.{cell_word, finish_count}
 use Rattle.lr_gate.specs.Shows.{flag, held_job, IsHeldBy, is_being_taken, Lies, IsCellShown, Shows}
 use Rattle.lr_gate.specs.Steps.{after_claim, after_finish}
 use Rattle.lr_gatecore.proofs.Lists.{at_length}
@@ -139,7 +139,7 @@ module _ {J D : Type 0} (f : J → D) (crew : ℕ) where
         each_cell = λ q l' u'. let l : t ≤ q = subst (λ z. z ≤ q) taken l' in
             let u : q < t + n = subst (λ z. q < z + n) taken u' in dite (ℕ_discrete q p)
             (λ e. subst (IsCellShown f n me' st' s') (sym e) record {
-              word = get_or-set_same s.words (c + 1) x 0 (omega arith) ∙ ap (word_of p) (sym here);
+              word = get_or-set_same s.words (c + 1) x 0 (omega arith) ∙ ap (cell_word p) (sym here);
               lies = subst (Lies f me' homes' views' p c) (sym here) (
                 j,
                 more p j job,
@@ -151,7 +151,7 @@ module _ {J D : Type 0} (f : J → D) (crew : ℕ) where
             let apart : q % n ≢ c = other_cell p q n (omega arith) (omega arith) ne in
             let stays : get_elem? st' q ≡ get_elem? r.stages q = set_else r.stages p q (Busy id) ne in record {
               word = get_or-set_other s.words (c + 1) (q % n + 1) x 0 (λ e. apart (omega arith))
-                  ∙ (ok.word ∙ ap (word_of q) (sym stays));
+                  ∙ (ok.word ∙ ap (cell_word q) (sym stays));
               lies = subst (Lies f me' homes' views' q (q % n)) (sym stays)
                   (lies_stay f r.me me' s.homes homes' s.views views' q (q % n) same.stocked
                   (hidden_same r.me me' q same) (more q) (set_else s.homes c (q % n) none apart)
@@ -245,7 +245,7 @@ module _ {J D : Type 0} (f : J → D) (crew : ℕ) where
         each_cell = λ q l' u'. let l : t ≤ q = subst (λ z. z ≤ q) taken l' in
             let u : q < t + n = subst (λ z. q < z + n) taken u' in dite (ℕ_discrete q p)
             (λ e. subst (IsCellShown f n me' st' s') (sym e) record {
-              word = get_or-set_same s.words (c + 1) x 0 (omega arith) ∙ ap (word_of p) (sym here);
+              word = get_or-set_same s.words (c + 1) x 0 (omega arith) ∙ ap (cell_word p) (sym here);
               lies = subst (Lies f me' homes' views' p c) (sym here) (
                 h.what,
                 more p h.what job,
@@ -259,7 +259,7 @@ module _ {J D : Type 0} (f : J → D) (crew : ℕ) where
             let apart : q % n ≢ c = other_cell p q n (omega arith) (omega arith) ne in
             let stays : get_elem? st' q ≡ get_elem? r.stages q = set_else r.stages p q Done ne in record {
               word = get_or-set_other s.words (c + 1) (q % n + 1) x 0 (λ e. apart (omega arith))
-                  ∙ (ok.word ∙ ap (word_of q) (sym stays));
+                  ∙ (ok.word ∙ ap (cell_word q) (sym stays));
               lies = subst (Lies f me' homes' views' q (q % n)) (sym stays)
                   (lies_stay f r.me me' s.homes homes' s.views views' q (q % n) same.stocked
                   (hidden_same r.me me' q same) (more q) (set_else s.homes c (q % n) (some (Made (f h.what))) apart)

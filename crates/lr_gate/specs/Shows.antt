@@ -12,7 +12,7 @@ use Rattle.lr_gate.specs.declared.cargo.Cargo.{Cargo}
 use Rattle.lr_gate.specs.declared.cargo.Cargo.TheVariants.{Empty, Given, Made}
 use Rattle.lr_gate.specs.declared.view.Held.{Held}
 use Rattle.lr_gate.specs.declared.view.View.{View}
-use Rattle.lr_gate.specs.Words.{word_of, finish_count}
+use Rattle.lr_gate.specs.Words.{cell_word, finish_count}
 
 abbrev pub flag : Bool → ℕ
 flag b = cond b 1 0
@@ -64,7 +64,7 @@ module _ {J D : Type 0} (gives : J → D) where
 
   pub record IsCellShown (n : ℕ) (me : View J) (stages : List Stage) (s : State (Cargo J D) (View J))
       (p : ℕ) : Type 0 where
-    pub word : slice_index_or s.words (p % n + 1) 0 ≡ word_of p (get_elem? stages p)
+    pub word : slice_index_or s.words (p % n + 1) 0 ≡ cell_word p (get_elem? stages p)
     pub lies : Lies me s.homes s.views p (p % n) (get_elem? stages p)
 
   -- The rule, with n cells and this many worker seats to come. A cell is told by the one number p of the next n jobs

@@ -10,9 +10,9 @@ stage_code Done = 2
 stage_code (Busy w) = 4 * w + 3
 
 -- the word of the cell of the job p; a cell without a job is free
-abbrev pub word_of : ℕ → Option Stage → ℕ
-word_of p none = 0
-word_of p (some st) = p * 256 + stage_code st
+abbrev pub cell_word : ℕ → Option Stage → ℕ
+cell_word p none = 0
+cell_word p (some st) = p * 256 + stage_code st
 
 -- how often a job of this stage stands in the lists of finished jobs
 abbrev pub finish_count : Option Stage → ℕ

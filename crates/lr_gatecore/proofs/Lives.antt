@@ -17,15 +17,15 @@ use Rattle.lr_gatecore.specs.Story.{entry, taken_jobs, job_taken_by, is_about, l
 use Rattle.lr_gatecore.proofs.Lists.{at_above, at_length, set_here, set_else, snoc_else, at_last}
 
 -- the end of the life of a job that is done, where the first t were taken
-abbrev end_of : ℕ → ℕ → List Event
-end_of t i = cond (ltb i t) (Take ∷ []) []
+abbrev taken_events : ℕ → ℕ → List Event
+taken_events t i = cond (ltb i t) (Take ∷ []) []
 
 -- what has happened to a job of this stage
 abbrev Lived : ℕ → ℕ → ℕ → maybe.Option Stage → List Event → Type 0
 Lived cells t i none es = es ≡ []
 Lived cells t i (some Ready) es = es ≡ Put ∷ []
 Lived cells t i (some (Busy w)) es = es ≡ Put ∷ Claim w (i % cells) ∷ []
-Lived cells t i (some Done) es = (w : ℕ) × (es ≡ Put ∷ Claim w (i % cells) ∷ Finish w ∷ end_of t i)
+Lived cells t i (some Done) es = (w : ℕ) × (es ≡ Put ∷ Claim w (i % cells) ∷ Finish w ∷ taken_events t i)
 
 record Story (cells : ℕ) (m : Machine) (log : List Entry) : Type 0 where
   pub takes : taken_jobs log ≡ range_with_len 0 m.taken

@@ -28,7 +28,7 @@ use Rattle.lr_headers.specs.declared.entry.Entry.{Entry}
 use Rattle.lr_headers.specs.declared.fault.HeaderFault.{HeaderFault}
 use Rattle.lr_headers.specs.declared.fault.HeaderFault.TheVariants.{Ended, NotPrimary, Overrun}
 use Rattle.lr_headers.specs.Laws.{HeadersAreRead}
-use Rattle.lr_headers.specs.Reading.{header_of, header_with, record_and, record_at, records_from, unless_fault}
+use Rattle.lr_headers.specs.Headers.{header_of, header_with, record_and, record_at, records_from, unless_fault}
 use Rattle.lr_headers.specs.Tiling.{
   Header,
   HasHeaderFault,
@@ -37,7 +37,7 @@ use Rattle.lr_headers.specs.Tiling.{
   IsTiling,
   fault_at,
   first_fault,
-  header_bytes,
+  file_header_bytes,
   header_length,
   kind_at,
   length_at,
@@ -109,8 +109,8 @@ records_read (suc most) bytes from within few =
 
 -- the bytes of a header whose first record has no fault
 record IsSound (proper : List ℕ) : Type 0 where
-  least : 16 ≤ length (header_bytes proper)
-  few : length (header_bytes proper) ≤ 16 + length proper
+  least : 16 ≤ length (file_header_bytes proper)
+  few : length (file_header_bytes proper) ≤ 16 + length proper
 
 third_and_fourth : (a b c d : Bool) (f g h k : HeaderFault)
     → cond a (Some f) (cond b (Some g) (cond c (Some h) (cond d (Some k) None))) ≡ None
@@ -130,12 +130,12 @@ first_sound proper sound =
     (Ended (length proper)) sound in
     let enough : 16 ≤ header_length proper = ltb-false _ _ both.0 in
     let inside : header_length proper ≤ length proper = ltb-false _ _ both.1 in
-    let size : length (header_bytes proper) ≡ header_length proper = length-take-le _ proper inside in
+    let size : length (file_header_bytes proper) ≡ header_length proper = length-take-le _ proper inside in
     record { least = omega arith; few = omega arith }
 
 headed : (proper : List ℕ) → first_fault proper ≡ None → IsSound proper
-    → (read : Result (List Entry) HeaderFault) → AreRead (header_bytes proper) 16 read
-    → MatchResult (header_with (header_bytes proper) read) (IsHeaderOf proper) (HasHeaderFault proper)
+    → (read : Result (List Entry) HeaderFault) → AreRead (file_header_bytes proper) 16 read
+    → MatchResult (header_with (file_header_bytes proper) read) (IsHeaderOf proper) (HasHeaderFault proper)
 headed proper sound s (Ok es) tiled = record {
   sound = sound;
   bytes = refl;
@@ -158,11 +158,11 @@ headers_are_read proper = by_first (first_fault proper) refl
   where
     by_first : (first : Option HeaderFault) → first_fault proper ≡ first
         → MatchResult (unless_fault first
-        (header_with (header_bytes proper) (records_from (length proper) (header_bytes proper) 16)))
+        (header_with (file_header_bytes proper) (records_from (length proper) (file_header_bytes proper) 16)))
         (IsHeaderOf proper) (HasHeaderFault proper)
     by_first None sound =
         let s = first_sound proper sound in
-        headed proper sound s _ (records_read (length proper) (header_bytes proper) 16 s.least s.few)
+        headed proper sound s _ (records_read (length proper) (file_header_bytes proper) 16 s.least s.few)
     by_first (Some fault) is = inl is
 
 module _ (proper : List ℕ) where

@@ -43,7 +43,7 @@ use Rattle.lr_headers.specs.declared.contents.Content.{Content}
 use Rattle.lr_headers.specs.declared.contents.Content.TheVariants.{Primary}
 use Rattle.lr_headers.specs.Laws.{HeadersAreOne, HeadersHaveNoFault, HeaderFaultsAreOne}
 use Rattle.lr_headers.specs.Tiling.{Header, IsRecord, IsPrimary, IsTiling, IsFront, IsTiled, fault_at}
-use Rattle.lr_headers.specs.Tiling.{has_wrong_length, header_bytes, kind_at, length_at}
+use Rattle.lr_headers.specs.Tiling.{has_wrong_length, file_header_bytes, kind_at, length_at}
 use Rattle.lr_headers.specs.declared.entry.Entry.{Entry}
 use Rattle.lr_headers.specs.declared.fault.HeaderFault.{HeaderFault}
 
@@ -281,9 +281,9 @@ pub headers_have_no_fault : HeadersHaveNoFault
 headers_have_no_fault proper header fault h (inl first) = let sound = h.sound in cc
 headers_have_no_fault proper header fault h (inr stops) =
     let s = stops.1 in
-    let front : IsFront (header_bytes proper) header.entries (length (header_bytes proper)) =
+    let front : IsFront (file_header_bytes proper) header.entries (length (file_header_bytes proper)) =
     subst (λ (b : List ℕ). IsFront b header.entries (length b)) h.bytes h.tiled.front in
-    front_no_stop (header_bytes proper) header.entries s.entries s.place fault front s.front s.before s.fails
+    front_no_stop (file_header_bytes proper) header.entries s.entries s.place fault front s.front s.before s.fails
 
 stops_are_one : (bytes : List ℕ) (from : ℕ) (es others : List Entry) (to there : ℕ) (fault other : HeaderFault)
     → IsTiling bytes from es to → IsTiling bytes from others there
@@ -314,7 +314,7 @@ header_faults_are_one proper fault other (inr a) (inl b) = let sound = a.0 in ab
 header_faults_are_one proper fault other (inr a) (inr b) =
     let s = a.1 in
     let t = b.1 in
-    front_stops (header_bytes proper) s.entries t.entries s.place t.place fault other s.front t.front s.fails t.fails
+    front_stops (file_header_bytes proper) s.entries t.entries s.place t.place fault other s.front t.front s.fails t.fails
 
 second_true : (a b : Bool) → (a && b) ≡ true → b ≡ true
 second_true true b h = h

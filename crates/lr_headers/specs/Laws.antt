@@ -2,7 +2,7 @@
 use Rattle.std.specs.Prelude.{◌≡◌, ℕ, List, MatchResult}
 use Rattle.lr_headers.specs.declared.fault.HeaderFault.{HeaderFault}
 use Rattle.lr_headers.specs.declared.fields.Stamp.{Stamp}
-use Rattle.lr_headers.specs.Reading.{header_of}
+use Rattle.lr_headers.specs.Headers.{header_of}
 use Rattle.lr_headers.specs.Stamps.{IsStampText, stamp_text}
 use Rattle.lr_headers.specs.Tiling.{Header, HasHeaderFault, IsHeaderOf}
 

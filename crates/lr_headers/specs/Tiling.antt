@@ -84,17 +84,17 @@ pub record IsTiled (header : Header) : Type 0 where
   pub front : IsFront header.bytes header.entries (length header.bytes)
 
 -- the bytes of the header of a file proper
-abbrev pub header_bytes : List ℕ → List ℕ
-header_bytes proper = take (header_length proper) proper
+abbrev pub file_header_bytes : List ℕ → List ℕ
+file_header_bytes proper = take (header_length proper) proper
 
 -- the header of a file proper
 pub record IsHeaderOf (proper : List ℕ) (header : Header) : Type 0 where
   pub sound : first_fault proper ≡ None
-  pub bytes : header.bytes ≡ header_bytes proper
+  pub bytes : header.bytes ≡ file_header_bytes proper
   pub tiled : IsTiled header
 
 -- the records go on up to a place, and not from there
-pub record StopsAt (bytes : List ℕ) (fault : HeaderFault) : Type 0 where
+pub record HasFaultyRecord (bytes : List ℕ) (fault : HeaderFault) : Type 0 where
   pub entries : List Entry
   pub place : ℕ
   pub front : IsFront bytes entries place
@@ -104,7 +104,7 @@ pub record StopsAt (bytes : List ℕ) (fault : HeaderFault) : Type 0 where
 -- the file proper has no header, and the fault is that of the first place from which the tiling can't go on
 abbrev pub HasHeaderFault : List ℕ → HeaderFault → Type 0
 HasHeaderFault proper fault = (first_fault proper ≡ Some fault)
-    ⊎ ((first_fault proper ≡ None) × StopsAt (header_bytes proper) fault)
+    ⊎ ((first_fault proper ≡ None) × HasFaultyRecord (file_header_bytes proper) fault)
 
 -- the same, or want of memory, which may come at any time
 abbrev pub HasFaultOrMemory : List ℕ → HeaderFault → Type 0

@@ -3,7 +3,7 @@
 //!
 //! `Records::read` reads it. Records of the kinds 128 and 131 are read by rules of this project's own, where they have
 //! the right length. Numbers stand most significant byte first. `Tiling` says which records a header has and which
-//! fault a file has that has no header, `Reading` gives the one or the other as a function, `Fields` says what a
+//! fault a file has that has no header, `Headers` gives the one or the other as a function, `Fields` says what a
 //! record's contents say, `Laws` that there is one reading, and `Stamps` how a time stamp is written.
 #![tactic(auto)]
 

@@ -11,7 +11,7 @@ use Rattle.lr_rice.specs.Laws.{AreSamples, IsForm}
 use Rattle.lr_rice.proofs.WholeLines.{lines_are_whole}
 use Rattle.lr_image.specs.Picture.{IsPicture}
 use Rattle.lr_image.specs.Pieces.{GiveLines}
-use Rattle.lr_image.specs.Reading.{HasPixels, data_pieces, line_form}
+use Rattle.lr_image.specs.Images.{HasPixels, data_pieces, line_form}
 use Rattle.lr_image.specs.Shapes.{IsCoding, IsShapeOf, IsSize}
 
 none : (form : Form) (n : ℕ) (samples : List ℕ) → n ≡ 0 → samples ≡ [] → AreSamples form n samples

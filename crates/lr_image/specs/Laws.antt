@@ -3,7 +3,7 @@ use Rattle.std.specs.Prelude.{◌≡◌, Result}
 use Rattle.lr_bits.specs.File.{File}
 use Rattle.lr_image.specs.declared.fault.ImageFault.{ImageFault}
 use Rattle.lr_image.specs.Picture.{Picture}
-use Rattle.lr_image.specs.Reading.{HasOutcome}
+use Rattle.lr_image.specs.Images.{HasOutcome}
 
 -- a file has one image, or one first fault, and not both
 abbrev pub OutcomesAreOne : Type 0

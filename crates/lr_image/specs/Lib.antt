@@ -1,9 +1,9 @@
+pub mod Images
 pub mod Laws
 pub mod Pgm
 pub mod Picture
 pub mod Pieces
 pub mod Places
 pub mod Plain
-pub mod Reading
 pub mod Room
 pub mod Shapes

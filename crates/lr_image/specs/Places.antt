@@ -10,8 +10,8 @@ abbrev pub pieces_at : File → PiecePlace → List (List ℕ)
 pieces_at file place = pieces_after place.skipped (drop place.bodies file.bodies)
 
 -- the place of the first piece, where this many bytes come before the data field
-abbrev pub first_place : ℕ → PiecePlace
-first_place skipped = record { bodies = 0; bytes = 0; skipped = skipped }
+abbrev pub first_piece_place : ℕ → PiecePlace
+first_piece_place skipped = record { bodies = 0; bytes = 0; skipped = skipped }
 
 -- the place lies in the file: its bytes are those of the bodies that were passed
 pub record IsPlaceIn (file : File) (place : PiecePlace) : Type 0 where

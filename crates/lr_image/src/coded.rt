@@ -4,7 +4,7 @@ ghost use Rattle.std.specs.Prelude.{◌≡◌, ◌<◌, ◌≤◌, ◌^◌, ◌�
 ghost use Rattle.lr_bits.specs.Bits.{bits_of};
 ghost use Rattle.lr_rice.specs.CodedLines.{GrowsByLines};
 ghost use Rattle.lr_image.specs.Pieces.{GiveLines, LackLines, PieceFails, pieces_after};
-ghost use Rattle.lr_image.specs.Reading.{line_form};
+ghost use Rattle.lr_image.specs.Images.{line_form};
 ghost use Rattle.lr_image.specs.Shapes.{IsCoding, IsSize};
 ghost use Rattle.lr_image.specs.declared.fault.ImageFault.TheVariants.{NoMemory};
 

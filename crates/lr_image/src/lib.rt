@@ -3,7 +3,7 @@
 //! `image_of` reads an image: its pixels stand in the data field one after another, most significant bit first, or they
 //! are coded without loss, packet by packet (CCSDS 121.0-B, by the definitions of `lr_rice`). `Shapes` in specs/ says
 //! which records are looked at and in which order the faults come, `Plain` and `Pieces` which pixels a data field has,
-//! `Reading` which image a file has, and `Pgm` how an image is written. `Laws` says that a file has one image or one
+//! `Images` which image a file has, and `Pgm` how an image is written. `Laws` says that a file has one image or one
 //! first fault.
 //!
 //! The steps of `image_of` are public for those who read an image in parts: `layout_of` reads the header, `next_piece`

@@ -1,7 +1,7 @@
 //! The parts of a file's bodies that lie in its data field.
 
 ghost use Rattle.std.specs.Prelude.{◌≡◌, ◌∷◌, ◌<◌, ◌^◌, [], IfNone, IfSome, drop, length};
-ghost use Rattle.lr_image.specs.Places.{IsPlaceIn, first_place, pieces_at};
+ghost use Rattle.lr_image.specs.Places.{IsPlaceIn, first_piece_place, pieces_at};
 
 use lr_bits::MissionFile;
 
@@ -18,7 +18,7 @@ pub struct PiecePlace {
 
 /// The place of a file's first piece, where this many bytes come before the data field.
 pub fn first_piece(skipped: usize) -> PiecePlace
-    ensures { result ≡ first_place skipped }
+    ensures { result ≡ first_piece_place skipped }
 {
     PiecePlace {
         bodies: 0,

@@ -2,7 +2,7 @@
 
 ghost use Rattle.std.specs.Prelude.{◌≡◌, ◌≤◌, ◌⊎◌, IfErr, IfOk, Some, length};
 ghost use Rattle.lr_bits.specs.File.{proper_of};
-ghost use Rattle.lr_image.specs.Reading.{HasFaultOrMemory, HasPixels, IsImageOf, LacksPixels};
+ghost use Rattle.lr_image.specs.Images.{HasFaultOrMemory, HasPixels, IsImageOf, LacksPixels};
 ghost use Rattle.lr_image.specs.Shapes.{IsShape};
 ghost use Rattle.lr_headers.specs.Tiling.{first_fault};
 ghost use Rattle.lr_headers.specs.declared.fault.HeaderFault.{HeaderFault};

@@ -1,5 +1,5 @@
 ghost use Rattle.std.specs.Prelude.{◌≡◌, length};
-ghost use Rattle.lr_trellis.specs.Path.{bytes_of, nearest_path};
+ghost use Rattle.lr_trellis.specs.Path.{bytes_of_bits, nearest_path};
 
 use crate::scratch::LaneScratch;
 use lr_bits::{BLOCK_BYTES, WINDOW_SYMBOLS};
@@ -17,7 +17,7 @@ pub fn nearest_lanes(
     out: &mut [u8; BLOCK_BYTES],
 )
     requires { length window.now ≡ WINDOW_SYMBOLS }
-    ensures { out.new ≡ bytes_of (nearest_path line window.now) }
+    ensures { out.new ≡ bytes_of_bits (nearest_path line window.now) }
 {
     let costs = scratch.decide(line, window);
     read_bytes(line, window, scratch.words.as_slice(), &costs, out);
@@ -34,7 +34,7 @@ pub fn nearest_narrow_lanes(
     out: &mut [u8; BLOCK_BYTES],
 )
     requires { length window.now ≡ WINDOW_SYMBOLS }
-    ensures { out.new ≡ bytes_of (nearest_path line window.now) }
+    ensures { out.new ≡ bytes_of_bits (nearest_path line window.now) }
 {
     let least_costs = scratch.decide_by_narrow_lanes(line, window);
     read_bytes(line, window, scratch.words.as_slice(), &least_costs, out);

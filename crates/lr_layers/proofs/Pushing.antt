@@ -21,7 +21,7 @@ use Rattle.lr_vc.specs.Standing.{Kept as KeptChannels, StandsFor as ChannelsStan
 use Rattle.lr_vc.proofs.History.{packets_of-more}
 use Rattle.lr_packet.specs.Verdict.{Good, good_packets}
 use Rattle.lr_packet.proofs.VerdictLemmas.{good_packets-append}
-use Rattle.lr_file.specs.Files.{files_of, files_after, file_at}
+use Rattle.lr_file.specs.Files.{files_of_packets, files_after, file_at}
 use Rattle.lr_file.specs.Standing.{Kept as KeptFiles, StandsFor as FilesStandFor}
 use Rattle.lr_layers.specs.declared.counts.Gained.{Gained}
 use Rattle.lr_layers.specs.declared.starts.Start.{Start}
@@ -119,9 +119,9 @@ unfolding good_of_outcomes
 good_is outcomes frames is = ap (λ l. good_packets (packets_of l)) is
 
 files_are : (outcomes : List Outcome) (good : List Good) → good_of_outcomes outcomes ≡ good →
-    files_of_outcomes outcomes ≡ files_of good
+    files_of_outcomes outcomes ≡ files_of_packets good
 unfolding files_of_outcomes
-files_are outcomes good is = ap files_of is
+files_are outcomes good is = ap files_of_packets is
 
 -- ---- the files, without their origins
 
@@ -146,7 +146,7 @@ files_without outcomes before (p ∷ packets) =
 pub files_with_origins : (outcomes : List Outcome) →
     map packet_of (placed_packets outcomes) ≡ good_of_outcomes outcomes →
     map (λ (q : Placed). q.file) (placed_of_outcomes outcomes) ≡ files_of_outcomes outcomes
-unfolding placed_of_outcomes files_of
+unfolding placed_of_outcomes files_of_packets
 files_with_origins outcomes are =
     files_without outcomes [] (placed_packets outcomes) ∙ ap (files_after []) are
     ∙ sym (files_are outcomes (good_of_outcomes outcomes) refl)
@@ -163,7 +163,7 @@ pub stands_for_none : (kept : Kept) → kept.spent ≡ false → ChannelsStandFo
     StartsStandFor [] kept.starts [] → kept.corrected ≡ 0 →
     kept.numbers ≡ record { restored = 0; lost = 0; bad_versions = 0; fill = 0; packets = 0; files = 0 } →
     StandsFor kept []
-unfolding frames_of_outcomes good_of_outcomes files_of_outcomes packets_of files_of placed_packets corrected_before
+unfolding frames_of_outcomes good_of_outcomes files_of_outcomes packets_of files_of_packets placed_packets corrected_before
 stands_for_none kept unspent channels files starts corrected none = record {
   unspent =
       unspent;

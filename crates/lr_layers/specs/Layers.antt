@@ -8,7 +8,7 @@ use Rattle.lr_bits.specs.File.{File}
 use Rattle.lr_vc.specs.Frame.{Fields, frame_of, fields_of, version_of}
 use Rattle.lr_vc.specs.Packets.{packets_of}
 use Rattle.lr_packet.specs.Verdict.{Good, good_packets}
-use Rattle.lr_file.specs.Files.{files_of}
+use Rattle.lr_file.specs.Files.{files_of_packets}
 
 -- the frame of version 1 that a block was restored to, if it was
 abbrev pub frame_in : Outcome → Option Fields
@@ -25,7 +25,7 @@ good_of_outcomes outcomes = good_packets (packets_of (frames_of_outcomes outcome
 
 -- the files of the good packets
 unfoldable pub files_of_outcomes : List Outcome → List File
-files_of_outcomes outcomes = files_of (good_of_outcomes outcomes)
+files_of_outcomes outcomes = files_of_packets (good_of_outcomes outcomes)
 
 abbrev pub is_restored : Outcome → Bool
 is_restored (Restored corrected frame) = true

@@ -23,15 +23,15 @@ abbrev pub at_place : ℕ → List Good → List PlacedPacket
 at_place place packets = map (λ packet. record { place = place; packet = packet }) packets
 
 -- the good packets that end in an outcome after these: those with it, less those before it
-abbrev pub packets_ending : List Outcome → Outcome → List Good
-packets_ending before outcome =
+abbrev pub good_packets_ending : List Outcome → Outcome → List Good
+good_packets_ending before outcome =
     drop (length (good_of_outcomes before)) (good_of_outcomes (before ++ outcome ∷ []))
 
 -- the good packets that end in later outcomes, each at its place
 abbrev pub placed_after : List Outcome → List Outcome → List PlacedPacket
 placed_after before [] = []
 placed_after before (outcome ∷ later) =
-    at_place (length before) (packets_ending before outcome) ++ placed_after (before ++ outcome ∷ []) later
+    at_place (length before) (good_packets_ending before outcome) ++ placed_after (before ++ outcome ∷ []) later
 
 unfoldable pub placed_packets : List Outcome → List PlacedPacket
 placed_packets outcomes = placed_after [] outcomes

@@ -9,7 +9,7 @@ use Rattle.std.proofs.lemmas.Nat.{and_block, or_block}
 use Rattle.std.proofs.lemmas.List.{length-map}
 use lib.Count.{ones_step}
 use mir.Val.{bool_byte}
-use Rattle.lr_lock.specs.Hits.{agreeing, agrees, leans}
+use Rattle.lr_lock.specs.Hits.{agreeing, leans_at_polarity, leans}
 use Rattle.lr_lock.specs.Planes.{number_of}
 
 -- ---- bit by bit
@@ -108,11 +108,11 @@ count_picked f g (one ∷ tail) (symbol ∷ symbols) =
     ∙ ap (λ x. cond x 1 0 + count_ones (bit_or (bit_and fs t) (bit_and gs n))) (pick one a b)
     ∙ ap (λ k. cond (cond one a b) 1 0 + k) (count_picked f g tail symbols)
 
-upright : (one : Bool) (symbol : ℤ) → cond one (leans true symbol) (leans false symbol) ≡ agrees true one symbol
+upright : (one : Bool) (symbol : ℤ) → cond one (leans true symbol) (leans false symbol) ≡ leans_at_polarity true one symbol
 upright true symbol = refl
 upright false symbol = refl
 
-turned_value : (one : Bool) (symbol : ℤ) → cond one (leans false symbol) (leans true symbol) ≡ agrees false one symbol
+turned_value : (one : Bool) (symbol : ℤ) → cond one (leans false symbol) (leans true symbol) ≡ leans_at_polarity false one symbol
 turned_value true symbol = refl
 turned_value false symbol = refl
 
@@ -122,7 +122,7 @@ picked_true [] symbols = refl
 picked_true (one ∷ tail) [] = refl
 picked_true (one ∷ tail) (symbol ∷ symbols) =
     ap (λ x. cond x 1 0 + picked (leans true) (leans false) tail symbols) (upright one symbol)
-    ∙ ap (λ k. cond (agrees true one symbol) 1 0 + k) (picked_true tail symbols)
+    ∙ ap (λ k. cond (leans_at_polarity true one symbol) 1 0 + k) (picked_true tail symbols)
 
 picked_false : (tail : List Bool) (symbols : List ℤ) →
     picked (leans false) (leans true) tail symbols ≡ agreeing false tail symbols
@@ -130,7 +130,7 @@ picked_false [] symbols = refl
 picked_false (one ∷ tail) [] = refl
 picked_false (one ∷ tail) (symbol ∷ symbols) =
     ap (λ x. cond x 1 0 + picked (leans false) (leans true) tail symbols) (turned_value one symbol)
-    ∙ ap (λ k. cond (agrees false one symbol) 1 0 + k) (picked_false tail symbols)
+    ∙ ap (λ k. cond (leans_at_polarity false one symbol) 1 0 + k) (picked_false tail symbols)
 
 pub hits_are : (tail : List Bool) (symbols : List ℤ) → count_ones
     (bit_or (bit_and (number_of (map (leans true) symbols)) (number_of tail))

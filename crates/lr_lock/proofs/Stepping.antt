@@ -8,10 +8,10 @@ use Rattle.std.specs.List.{range_with_len}
 use Rattle.lr_conv.specs.Marker.{tail_of}
 use Rattle.lr_conv.specs.declared.line.LineCode.{LineCode}
 use Rattle.lr_conv.proofs.Tails.{tail_size}
-use Rattle.lr_lock.specs.Frames.{after, HasFewer, IsFoundFrom, IsNext, AreNext, last_of}
+use Rattle.lr_lock.specs.Frames.{place_after_frame, HasFewer, IsFoundFrom, IsNext, AreNext, last_of}
 use Rattle.lr_lock.specs.Windows.{WindowView, window_view, window_of, window_value, turned_value}
 use Rattle.lr_lock.specs.Machine.{IsAt}
-use Rattle.lr_lock.specs.Search.{IsFound, IsWaiting}
+use Rattle.lr_lock.specs.Search.{IsFrameFound, IsWaiting}
 use Rattle.lr_lock.specs.Standing.{LockState, StandsFor}
 use Rattle.lr_lock.specs.Steps.{GivesWindow, WantsMore, HasEnded}
 use Rattle.lr_lock.specs.declared.frame.Frame.{Frame}
@@ -89,7 +89,7 @@ window_of-drop fed place positive =
     ∙ ap (λ n. get_or fed n (pos 0)) (omega arith)))
 
 pub given_window : (before later : LockState) (fed : List ℤ) (given : List Frame) (frame : Frame) (passed needed : ℕ)
-    (seen : WindowView) → StandsFor before fed given → IsFound (tail_of before.line) fed (last_of None given)
+    (seen : WindowView) → StandsFor before fed given → IsFrameFound (tail_of before.line) fed (last_of None given)
     (before.place + passed) needed frame → 16384 ≤ needed → (before.finished ≡ false → needed ≡ 16396) →
     later.line ≡ before.line → later.place ≡ before.place + passed + 16384 →
     later.kept ≡ drop (passed + 16384) before.kept → later.held ≡ Some frame → later.finished ≡ before.finished →
@@ -133,7 +133,7 @@ given_window before later fed given frame passed needed seen h sees big sure lin
 -- no more frame
 
 pub next_whole : (tail : List Bool) (fed : List ℤ) (last : Option Frame) (frame : Frame) → IsNext tail fed last frame →
-    after frame ≤ length fed
+    place_after_frame frame ≤ length fed
 next_whole tail fed None frame (inl h) = absurd h
 next_whole tail fed (Some last) frame (inl (inl h)) = h.whole
 next_whole tail fed (Some last) frame (inl (inr h)) = h.whole
@@ -155,7 +155,7 @@ found_ahead tail fed start begin place frame e found passed =
 -- the place after a frame, if there is one
 abbrev pub reach : Option Frame → ℕ
 reach None = 0
-reach (Some frame) = after frame
+reach (Some frame) = place_after_frame frame
 
 next_ahead : (tail : List Bool) (fed : List ℤ) (last held : Option Frame) (place : ℕ) (frame : Frame) →
     IsAt tail fed last held place → IsNext tail fed last frame → place ≤ frame.place
@@ -163,7 +163,7 @@ next_ahead tail fed None None place frame at (inl h) = absurd h
 next_ahead tail fed None None place frame at (inr h) =
     found_ahead tail fed h.0 at.start place frame (h.1 ∙ sym at.begins) h.2 at.passed
 next_ahead tail fed (Some last) None place frame at (inl (inl h)) =
-    absurd (not_fewer tail fed frame.place (after last) frame.positive 37 h.place h.seen at.begins.0.unseen)
+    absurd (not_fewer tail fed frame.place (place_after_frame last) frame.positive 37 h.place h.seen at.begins.0.unseen)
 next_ahead tail fed (Some last) None place frame at (inl (inr h)) = absurd (omega (arith, h.few, at.begins.0.many))
 next_ahead tail fed (Some last) None place frame at (inr h) =
     found_ahead tail fed h.0 at.start place frame (h.1.1 ∙ sym at.begins.1) h.2 at.passed

@@ -6,7 +6,7 @@ use Rattle.lr_lock.specs.declared.frame.Frame.{Frame}
 use Rattle.lr_lock.specs.declared.search.Found.{Found}
 
 -- the next frame stands after the symbols passed, and there are `needed` symbols from it on
-pub record IsFound (tail : List Bool) (symbols : List ℤ) (last : Option Frame) (at needed : ℕ)
+pub record IsFrameFound (tail : List Bool) (symbols : List ℤ) (last : Option Frame) (at needed : ℕ)
     (frame : Frame) : Type 0 where
   pub next : IsNext tail symbols last frame
   pub place : frame.place ≡ at
@@ -20,7 +20,7 @@ pub record IsWaiting (tail : List Bool) (symbols : List ℤ) (last held : Option
 
 abbrev pub FindsOrWaits : List Bool → List ℤ → Option Frame → Option Frame → ℕ → ℕ → Option Frame → Type 0
 FindsOrWaits tail symbols last held place needed None = IsWaiting tail symbols last held place needed
-FindsOrWaits tail symbols last held place needed (Some frame) = IsFound tail symbols last place needed frame
+FindsOrWaits tail symbols last held place needed (Some frame) = IsFrameFound tail symbols last place needed frame
 
 abbrev pub Finds : List Bool → List ℤ → Option Frame → ℕ → ℕ → Found → Type 0
 Finds tail symbols last place needed found =

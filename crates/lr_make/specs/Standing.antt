@@ -16,7 +16,7 @@ use Rattle.lr_make.specs.declared.texts.Texts.{Texts}
 use Rattle.lr_make.specs.Drawing.{state_after}
 use Rattle.lr_make.specs.Files.{image_body, image_flags, image_packet, text_packet}
 use Rattle.lr_make.specs.Frames.{text_start}
-use Rattle.lr_make.specs.Packets.{head_of}
+use Rattle.lr_make.specs.Packets.{head_for_body}
 use Rattle.lr_make.specs.Zones.{joined_packets, is_start}
 use Rattle.lr_make.specs.Symbols.{level, sent_bits}
 
@@ -37,7 +37,7 @@ pub record ImagesDrawn (images : Images) (start n : ℕ) : Type 0 where
 -- packet n of application 100 without its checksum
 abbrev pub image_front : ℕ → ℕ → List ℕ
 image_front start n =
-    head_of 100 (image_flags (n % 65)) (n % 16384) (length (image_body start (n / 65) (n % 65)))
+    head_for_body 100 (image_flags (n % 65)) (n % 16384) (length (image_body start (n / 65) (n % 65)))
     ++ image_body start (n / 65) (n % 65)
 
 -- n packets of application 200 were made

@@ -43,8 +43,8 @@ use Rattle.lr_downlinks.specs.Streams.{files_of_downlink}
 use Rattle.lr_downlinks.specs.declared.run.Run.{Run}
 use Rattle.lr_downlinks.specs.declared.run.RunEnd.{RunEnd}
 use Rattle.lr_downlinks.specs.declared.run.RunEnd.TheVariants.{All, Disk as DiskFails, NoMemory as NoneLeft, Capacity}
-use Rattle.lr_merging.specs.Downlinks.{AddsMerged, AreCounted, BreaksMerging, DownlinksRun, Ends, GotReceipts}
-use Rattle.lr_merging.specs.Downlinks.{IsBefore, IsUntouched, LeavesAlone, LeavesMerged, MayEndBefore, Merges, NoFault}
+use Rattle.lr_merging.specs.Downlinks.{AddsMerged, AreCounted, BreaksMerging, DownlinksRun, EndsMerging, GotReceipts}
+use Rattle.lr_merging.specs.Downlinks.{IsBefore, LeavesAllAlone, LeavesAlone, LeavesMerged, MayEndFirst, Merges, NoCountRose}
 use Rattle.lr_merging.specs.Lines.{receipt_lines, last_line}
 use Rattle.lr_merging.specs.Taking.{AreAllTaken, HasFlaw, StopsTaking, TakesBundle, TakesNone, most_taken}
 use Rattle.lr_merging.specs.Told.{TellsAll, TellsEnd, TellsSome}
@@ -272,7 +272,7 @@ module _ {S D O : Type 0} (source : SourceOf S) (disk : DiskOf D) (out : SinkOf 
 to_ends : {S D O : Type 0} (source : SourceOf S) (disk : DiskOf D) (out : SinkOf O) (line : LineCode)
     (bytes : List ℕ) (s s' : S) (d d' : D) (o o' : O) (streams : List (List ℕ)) (order : List ℕ) (cause : Cause)
     → LeavesMerged disk (length streams) (files_of_downlink line streams) order d d' cause
-    → Merges source disk out line bytes s s' d d' o o' cause → Ends source disk out line bytes s s' d d' o o' cause
+    → Merges source disk out line bytes s s' d d' o o' cause → EndsMerging source disk out line bytes s s' d d' o o' cause
 to_ends source disk out line bytes s s' d d' o o' streams order Done leaves merges = merges
 to_ends source disk out line bytes s s' d d' o o' streams order (Failed Output) leaves merges = merges
 to_ends source disk out line bytes s s' d d' o o' streams order (Failed Disk) leaves merges = inr merges
@@ -353,9 +353,9 @@ module _ {S D O : Type 0} (source : SourceOf S) (disk : DiskOf D) (out : SinkOf 
     -- where counts and end are told
     stopped : (cause : Cause) → AreCounted cause (counts (source.faults s) (disk.faults d) (out.faults o))
         (counts (source.faults s') (disk.faults d1) (out.faults o))
-        → Ends source disk out line bytes s s' d d1 o o cause
+        → EndsMerging source disk out line bytes s s' d d1 o o cause
         → ((flaw : BundleFlaw) → HasFlaw bytes flaw → (cause ≡ Refused (BadBundle flaw)) ⊎ IsBefore cause)
-        → (NoFault source disk out s s' d d1 o o → (streams : List (List ℕ)) → IsBundle bytes streams
+        → (NoCountRose source disk out s s' d d1 o o → (streams : List (List ℕ)) → IsBundle bytes streams
         → length bytes < most_taken → (cause ≡ Done) ⊎ (cause ≡ NoMemory))
         → DownlinksRun source disk out line cause s s' d d1 o o
     stopped cause counted ends flaws whole = record {
@@ -397,16 +397,16 @@ module _ {S D O : Type 0} (source : SourceOf S) (disk : DiskOf D) (out : SinkOf 
 
 module _ {S D O : Type 0} (source : SourceOf S) (disk : DiskOf D) (out : SinkOf O) (line : LineCode)
     (s : S) (d d1 : D) (o : O) (result : Result Shelf ShelfError) (loads : Loads disk d d1 result) where
-  untouched : IsUntouched source disk out s s d d1 o o
+  untouched : LeavesAllAlone source disk out s s d d1 o o
   untouched = record {
     alone = record { only_read = loads.unwritten; out_stays = refl };
     source_stays = refl;
   }
 
   before_all : (cause : Cause) → AreCounted cause (counts (source.faults s) (disk.faults d) (out.faults o))
-      (counts (source.faults s) (disk.faults d1) (out.faults o)) → Ends source disk out line [] s s d d1 o o cause
-      → ((at : ℕ) → disk.tells d → IsNoShelfAt (disk.contents d) at → MayEndBefore at cause) → IsBefore cause
-      → (NoFault source disk out s s d d1 o o → (way : Way) → disk.tells d → IsWay (disk.contents d) way
+      (counts (source.faults s) (disk.faults d1) (out.faults o)) → EndsMerging source disk out line [] s s d d1 o o cause
+      → ((at : ℕ) → disk.tells d → IsNoShelfAt (disk.contents d) at → MayEndFirst at cause) → IsBefore cause
+      → (NoCountRose source disk out s s d d1 o o → (way : Way) → disk.tells d → IsWay (disk.contents d) way
       → (cause ≡ Done) ⊎ (cause ≡ NoMemory))
       → DownlinksRun source disk out line cause s s d d1 o o
   before_all cause counted ends places before whole = record {

@@ -47,11 +47,11 @@ AreCounted cause before now = now ≡ before
 
 -- the causes that come before any byte is read: the disk failed, no shelf stands there at this place, or memory was
 -- refused
-abbrev pub MayEndBefore : ℕ → Cause → Type 0
-MayEndBefore at (Failed Disk) = Unit {0}
-MayEndBefore at (Refused (NotAShelf at')) = at' ≡ at
-MayEndBefore at NoMemory = Unit {0}
-MayEndBefore at _ = ⊥
+abbrev pub MayEndFirst : ℕ → Cause → Type 0
+MayEndFirst at (Failed Disk) = Unit {0}
+MayEndFirst at (Refused (NotAShelf at')) = at' ≡ at
+MayEndFirst at NoMemory = Unit {0}
+MayEndFirst at _ = ⊥
 
 -- the causes that come before a bundle is there: the same at any place, and that the source failed
 abbrev pub IsBefore : Cause → Type 0
@@ -139,7 +139,7 @@ module _ {S D O : Type 0} (source : SourceOf S) (disk : DiskOf D) (out : SinkOf 
     pub out_stays : o' ≡ o
 
   -- and the source is as it was
-  pub record IsUntouched (s s' : S) (d d' : D) (o o' : O) : Type 0 where
+  pub record LeavesAllAlone (s s' : S) (d d' : D) (o o' : O) : Type 0 where
     pub alone : LeavesAlone d d' o o'
     pub source_stays : s' ≡ s
 
@@ -161,20 +161,20 @@ module _ {S D O : Type 0} (source : SourceOf S) (disk : DiskOf D) (out : SinkOf 
       pub only_read : order ≡ [] → (cause ≡ Failed Disk → ⊥) → disk.tells d → IsUnwritten disk d d'
 
     -- how a run ends, for each cause that it may have
-    abbrev pub Ends : Cause → Type 0
-    Ends Done = Merges Done
-    Ends (Failed Source) = LeavesAlone d d' o o' × EndsFor source Fault most_taken bytes s s'
-    Ends (Failed Disk) = IsUntouched s s' d d' o o' ⊎ Merges (Failed Disk)
-    Ends (Failed Output) = Merges (Failed Output)
-    Ends NoMemory = LeavesAlone d d' o o' ⊎ Merges NoMemory
-    Ends (Refused (NotAShelf at)) =
-        IsUntouched s s' d d' o o' × (disk.tells d → IsNoShelfAt (disk.contents d) at)
-    Ends (Refused (Capacity needed capacity)) = Merges (Refused (Capacity needed capacity))
-    Ends (Refused (BadBundle flaw)) = LeavesAlone d d' o o' × HasFlaw bytes flaw × AreAllTaken source bytes s s'
-    Ends _ = ⊥
+    abbrev pub EndsMerging : Cause → Type 0
+    EndsMerging Done = Merges Done
+    EndsMerging (Failed Source) = LeavesAlone d d' o o' × EndsFor source Fault most_taken bytes s s'
+    EndsMerging (Failed Disk) = LeavesAllAlone s s' d d' o o' ⊎ Merges (Failed Disk)
+    EndsMerging (Failed Output) = Merges (Failed Output)
+    EndsMerging NoMemory = LeavesAlone d d' o o' ⊎ Merges NoMemory
+    EndsMerging (Refused (NotAShelf at)) =
+        LeavesAllAlone s s' d d' o o' × (disk.tells d → IsNoShelfAt (disk.contents d) at)
+    EndsMerging (Refused (Capacity needed capacity)) = Merges (Refused (Capacity needed capacity))
+    EndsMerging (Refused (BadBundle flaw)) = LeavesAlone d d' o o' × HasFlaw bytes flaw × AreAllTaken source bytes s s'
+    EndsMerging _ = ⊥
 
   -- no count rose
-  pub record NoFault (s s' : S) (d d' : D) (o o' : O) : Type 0 where
+  pub record NoCountRose (s s' : S) (d d' : D) (o o' : O) : Type 0 where
     pub of_source : Rose (source.faults s) (source.faults s') → ⊥
     pub of_disk : Rose (disk.faults d) (disk.faults d') → ⊥
     pub of_out : Rose (out.faults o) (out.faults o') → ⊥
@@ -188,15 +188,15 @@ module _ {S D O : Type 0} (source : SourceOf S) (disk : DiskOf D) (out : SinkOf 
     -- these bytes were taken
     pub bytes : List ℕ
     pub read : IsRead source most_taken bytes s s'
-    pub ends : Ends line bytes s s' d d' o o' cause
+    pub ends : EndsMerging line bytes s s' d d' o o' cause
     -- a disk on which no shelf stands is refused, and nothing is touched
     pub broken : (at : ℕ) → disk.tells d → IsNoShelfAt (disk.contents d) at
-        → MayEndBefore at cause × IsUntouched s s' d d' o o'
+        → MayEndFirst at cause × LeavesAllAlone s s' d d' o o'
     -- bytes that are no bundle are refused for their flaw, unless an event came before
     pub flawed : (flaw : BundleFlaw) → AreAllTaken source bytes s s' → HasFlaw bytes flaw
         → (cause ≡ Refused (BadBundle flaw)) ⊎ IsBefore cause
     -- where no count rises, the bytes are a bundle, and all files of its downlinks fit, the work is done or memory was
     -- refused
-    pub complete : NoFault s s' d d' o o' → (streams : List (List ℕ)) → IsBundle bytes streams
+    pub complete : NoCountRose s s' d d' o o' → (streams : List (List ℕ)) → IsBundle bytes streams
         → length bytes < most_taken → (way : Way) → disk.tells d → IsWay (disk.contents d) way
         → AllFit (length streams) (files_of_downlink line streams) way → (cause ≡ Done) ⊎ (cause ≡ NoMemory)

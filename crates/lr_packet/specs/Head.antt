@@ -14,8 +14,8 @@ pub record HeadFields : Type 0 where
   pub length : ℕ
 
 -- Bits 0 to 2, 3, 4, 5 to 15, 16 to 17 and 18 to 31; the data field is all that is after the six bytes of the header.
-abbrev pub head_of : List ℕ → HeadFields
-head_of bytes = record {
+abbrev pub head_fields_of : List ℕ → HeadFields
+head_fields_of bytes = record {
   version = field_of bytes 0 3;
   kind = field_of bytes 3 1 == 1;
   secondary = field_of bytes 4 1 == 1;

@@ -4,7 +4,7 @@ use Rattle.lr_bits.specs.Packet.{Packet}
 use Rattle.lr_packet.specs.declared.packet.GoodPacket.{GoodPacket}
 use Rattle.lr_packet.specs.declared.packet.PacketFault.{PacketFault}
 use Rattle.lr_packet.specs.declared.packet.PacketHead.{PacketHead}
-use Rattle.lr_packet.specs.Head.{HeadFields, head_of}
+use Rattle.lr_packet.specs.Head.{HeadFields, head_fields_of}
 use Rattle.lr_packet.specs.Verdict.{Good, verdict_of}
 
 -- the fields that a header of the program has
@@ -21,7 +21,7 @@ fields h =
     }
 
 abbrev pub IsHeadOf : Packet → PacketHead → Type 0
-IsHeadOf packet head = fields head ≡ head_of packet.bytes
+IsHeadOf packet head = fields head ≡ head_fields_of packet.bytes
 
 -- the good packet that one of the program is
 abbrev pub good : GoodPacket → Good

@@ -9,7 +9,7 @@ use Rattle.lr_bits.specs.Crc.{crc_of}
 use Rattle.lr_bits.specs.Packet.{Packet}
 use Rattle.lr_packet.specs.declared.packet.PacketFault.{PacketFault}
 use Rattle.lr_packet.specs.declared.packet.PacketFault.TheVariants.{Version, Idle, TooShort, Crc}
-use Rattle.lr_packet.specs.Head.{head_of}
+use Rattle.lr_packet.specs.Head.{head_fields_of}
 
 pub record Good : Type 0 where
   pub vc : ℕ
@@ -22,8 +22,8 @@ abbrev pub data_of : List ℕ → List ℕ
 data_of bytes = drop 6 bytes
 
 -- the data field without its last two bytes
-abbrev pub body_of : List ℕ → List ℕ
-body_of bytes = take (length (data_of bytes) - 2) (data_of bytes)
+abbrev pub packet_body : List ℕ → List ℕ
+packet_body bytes = take (length (data_of bytes) - 2) (data_of bytes)
 
 -- the number in the last two bytes
 abbrev pub stored_of : List ℕ → ℕ
@@ -32,19 +32,19 @@ stored_of bytes = big_number 2 (drop (length (data_of bytes) - 2) (data_of bytes
 abbrev pub good_of : Packet → Good
 good_of packet = record {
   vc = packet.vc;
-  apid = (head_of packet.bytes).apid;
-  flags = (head_of packet.bytes).flags;
-  count = (head_of packet.bytes).count;
-  body = body_of packet.bytes;
+  apid = (head_fields_of packet.bytes).apid;
+  flags = (head_fields_of packet.bytes).flags;
+  count = (head_fields_of packet.bytes).count;
+  body = packet_body packet.bytes;
 }
 
 abbrev pub verdict_of : Packet → Result Good PacketFault
 verdict_of packet =
-    if not ((head_of packet.bytes).version == 0) then Err (Version (head_of packet.bytes).version)
-    else if (head_of packet.bytes).apid == 2047 then Err Idle
+    if not ((head_fields_of packet.bytes).version == 0) then Err (Version (head_fields_of packet.bytes).version)
+    else if (head_fields_of packet.bytes).apid == 2047 then Err Idle
     else if nat_lt (length (data_of packet.bytes)) 2 then Err TooShort
-    else if not (stored_of packet.bytes == crc_of (body_of packet.bytes)) then Err
-    (Crc (stored_of packet.bytes) (crc_of (body_of packet.bytes)))
+    else if not (stored_of packet.bytes == crc_of (packet_body packet.bytes)) then Err
+    (Crc (stored_of packet.bytes) (crc_of (packet_body packet.bytes)))
     else Ok (good_of packet)
 
 -- the good ones of a list of packets, in their order

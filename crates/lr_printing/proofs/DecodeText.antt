@@ -21,7 +21,7 @@ use Rattle.lr_reading.specs.Arrivals.{
   arrivals_of_units,
   outcomes_of_arrivals,
 }
-use Rattle.lr_reading.specs.Inputs.{unit_bytes, outcome_of_unit, outcomes_of_bytes, left_of}
+use Rattle.lr_reading.specs.Inputs.{unit_bytes, outcome_of_unit, outcomes_of_bytes, bytes_left_over}
 use Rattle.lr_reading.specs.Lines.{numbered_lines}
 use Rattle.lr_reading.specs.Reading.{units_of}
 use Rattle.lr_reading.specs.Runs.{ReadsInput, TakesAll, TakesSome}
@@ -128,12 +128,12 @@ module _ {S : Type 0} (source : SourceOf S) (input : Input) (limit : ℕ) (total
       let lost : count_by (λ o. not (is_restored o)) (outcomes_of_bytes input bytes) ≡ totals.frames - restored =
       omega (arith, both_kinds (outcomes_of_bytes input bytes), frames_are, restored_is) in
       ap (λ k. summary_line (Decode k (length outcomes) (count_by is_restored outcomes)
-      (count_by (λ o. not (is_restored o)) outcomes) (left_of input bytes)) totals.stop) (sym ends.symbols)
+      (count_by (λ o. not (is_restored o)) outcomes) (bytes_left_over input bytes)) totals.stop) (sym ends.symbols)
       ∙ ap (λ k. summary_line (Decode totals.symbols k (count_by is_restored outcomes)
-      (count_by (λ o. not (is_restored o)) outcomes) (left_of input bytes)) totals.stop) frames_are
+      (count_by (λ o. not (is_restored o)) outcomes) (bytes_left_over input bytes)) totals.stop) frames_are
       ∙ ap (λ k. summary_line (Decode totals.symbols totals.frames k
-      (count_by (λ o. not (is_restored o)) outcomes) (left_of input bytes)) totals.stop) (sym restored_is)
-      ∙ ap (λ k. summary_line (Decode totals.symbols totals.frames restored k (left_of input bytes)) totals.stop) lost
+      (count_by (λ o. not (is_restored o)) outcomes) (bytes_left_over input bytes)) totals.stop) (sym restored_is)
+      ∙ ap (λ k. summary_line (Decode totals.symbols totals.frames restored k (bytes_left_over input bytes)) totals.stop) lost
       ∙ ap (λ k. summary_line (Decode totals.symbols totals.frames restored (totals.frames - restored) k)
       totals.stop) (sym ends.left)
 

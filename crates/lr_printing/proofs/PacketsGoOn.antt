@@ -60,7 +60,7 @@ use Rattle.lr_printing.specs.Packets.{
   packets_last,
 }
 use Rattle.lr_printing.specs.PacketsRead.{IsAfter, IsCounted}
-use Rattle.lr_printing.specs.PacketsTaken.{frame_in, frames_in, PacketsTook, PacketsStopped}
+use Rattle.lr_printing.specs.PacketsTaken.{restored_frame, frames_in, PacketsTook, PacketsStopped}
 use Rattle.lr_printing.specs.Printing.{Prints}
 use Rattle.lr_printing.specs.Progress.{LinesStop}
 use Rattle.lr_reading.proofs.Outcomes.{zone_is}
@@ -80,19 +80,19 @@ frames_in-restored : (arrivals : List Arrival) (arrival : Arrival) (corrected : 
     → frames_in (arrivals ++ arrival ∷ []) ≡ frames_in arrivals ++ frame ∷ []
 unfolding frames_in
 frames_in-restored arrivals arrival corrected frame is =
-    filter_map-append (λ (a : Arrival). frame_in a.outcome) arrivals (arrival ∷ [])
+    filter_map-append (λ (a : Arrival). restored_frame a.outcome) arrivals (arrival ∷ [])
     ∙ rw is refl
 
 frames_in-lost : (arrivals : List Arrival) (arrival : Arrival) (word : ℕ) → arrival.outcome ≡ Lost word
     → frames_in (arrivals ++ arrival ∷ []) ≡ frames_in arrivals
 unfolding frames_in
 frames_in-lost arrivals arrival word is =
-    filter_map-append (λ (a : Arrival). frame_in a.outcome) arrivals (arrival ∷ [])
-    ∙ rw is (append-nil (filter_map (λ (a : Arrival). frame_in a.outcome) arrivals))
+    filter_map-append (λ (a : Arrival). restored_frame a.outcome) arrivals (arrival ∷ [])
+    ∙ rw is (append-nil (filter_map (λ (a : Arrival). restored_frame a.outcome) arrivals))
 
 frames_in-append : (arrivals more : List Arrival) → frames_in (arrivals ++ more) ≡ frames_in arrivals ++ frames_in more
 unfolding frames_in
-frames_in-append arrivals more = filter_map-append (λ (a : Arrival). frame_in a.outcome) arrivals more
+frames_in-append arrivals more = filter_map-append (λ (a : Arrival). restored_frame a.outcome) arrivals more
 
 frames_in-units : (units : List (List ℕ)) → frames_in (arrivals_of_units Frames units) ≡ units
 unfolding frames_in arrivals_of_units

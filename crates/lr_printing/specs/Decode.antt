@@ -15,7 +15,7 @@ use Rattle.lr_frame.specs.Outcomes.{outcome_in}
 use Rattle.lr_forms.specs.declared.forms.UnitForm.{UnitForm}
 use Rattle.lr_forms.specs.declared.forms.Input.{Input}
 use Rattle.lr_forms.specs.declared.forms.Input.TheVariants.{Symbols, Units}
-use Rattle.lr_reading.specs.Inputs.{unit_bytes, outcome_of_unit, outcomes_of_bytes, left_of}
+use Rattle.lr_reading.specs.Inputs.{unit_bytes, outcome_of_unit, outcomes_of_bytes, bytes_left_over}
 use Rattle.lr_reading.specs.Lines.{numbered_lines}
 use Rattle.lr_reading.specs.Reading.{units_of}
 
@@ -42,4 +42,4 @@ decode_count outcomes symbols left stop =
     (count_by (λ o. not (is_restored o)) outcomes) left) stop
 
 abbrev pub decode_last : Input → List ℕ → Stop → List ℕ
-decode_last input bytes stop = decode_count (outcomes_of_bytes input bytes) (length bytes) (left_of input bytes) stop
+decode_last input bytes stop = decode_count (outcomes_of_bytes input bytes) (length bytes) (bytes_left_over input bytes) stop

@@ -14,12 +14,12 @@ use Rattle.lr_printing.specs.PacketsRead.{IsAfter}
 use Rattle.lr_printing.specs.Progress.{LinesStop}
 
 -- the frame of a block that was restored
-abbrev pub frame_in : Outcome → Option (List ℕ)
-frame_in (Restored corrected frame) = Some frame
-frame_in (Lost word) = None
+abbrev pub restored_frame : Outcome → Option (List ℕ)
+restored_frame (Restored corrected frame) = Some frame
+restored_frame (Lost word) = None
 
 unfoldable pub frames_in : List Arrival → List (List ℕ)
-frames_in arrivals = filter_map (λ (arrival : Arrival). frame_in arrival.outcome) arrivals
+frames_in arrivals = filter_map (λ (arrival : Arrival). restored_frame arrival.outcome) arrivals
 
 module _ {O : Type 0} (out : SinkOf O) where
   -- the lines of the packets of these frames were put, and the packets counted

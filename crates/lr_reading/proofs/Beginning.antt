@@ -5,7 +5,7 @@ use Rattle.std.proofs.lemmas.List.Elements.{All-nil}
 use Rattle.lr_conv.specs.declared.line.LineCode.{LineCode}
 use Rattle.lr_io.specs.declared.source.Source.{Ghosts as SourceOf}
 use Rattle.lr_lock.specs.Windows.{WindowView}
-use Rattle.lr_rounds.specs.Leads.{Begins}
+use Rattle.lr_rounds.specs.Leads.{HasGivenNothing}
 use Rattle.lr_reading.specs.Feeding.{FeedState, IsFresh, FedSoFar}
 use Rattle.lr_reading.specs.Intakes.{IsFreshIntake}
 use Rattle.lr_reading.specs.WindowLeads.{StandsAt}
@@ -65,5 +65,5 @@ may_begin source took most lead fresh few ready =
 pub begins : {S C : Type 0} (source : SourceOf S) (took : C → List Arrival → C → Type 0) (most : ℕ)
     (lead : WindowLead S C) → IsFreshIntake lead.intake.now.feed.most lead.intake.now
     → lead.intake.now.feed.most ≤ most → (c : C) × took c [] lead.consumer.now
-    → (start : WindowLead S C) × Begins (StandsAt source took most) start lead
+    → (start : WindowLead S C) × HasGivenNothing (StandsAt source took most) start lead
 begins source took most lead fresh few ready = (lead, may_begin source took most lead fresh few ready)

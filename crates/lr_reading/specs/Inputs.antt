@@ -37,9 +37,9 @@ outcomes_of_bytes (Symbols line) bytes = outcomes_of_symbols line (symbols_of by
 outcomes_of_bytes (Units form) bytes = outcomes_of_units form (units_of (unit_bytes form) bytes)
 
 -- how many bytes are left that are no whole block or frame; of symbols none are
-abbrev pub left_of : Input → List ℕ → ℕ
-left_of (Symbols line) bytes = 0
-left_of (Units form) bytes = length bytes % unit_bytes form
+abbrev pub bytes_left_over : Input → List ℕ → ℕ
+bytes_left_over (Symbols line) bytes = 0
+bytes_left_over (Units form) bytes = length bytes % unit_bytes form
 
 -- how many bytes may be taken: of symbols at most 2^61
 abbrev pub MayTake : Input → ℕ → Type 0

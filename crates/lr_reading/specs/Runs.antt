@@ -4,7 +4,7 @@ use Rattle.lr_bits.specs.Faults.{Rose}
 use Rattle.lr_conv.specs.declared.line.LineCode.{LineCode}
 use Rattle.lr_io.specs.declared.source.Source.{Ghosts as SourceOf}
 use Rattle.lr_reading.specs.Arrivals.{arrivals_of}
-use Rattle.lr_reading.specs.Inputs.{left_of}
+use Rattle.lr_reading.specs.Inputs.{bytes_left_over}
 use Rattle.lr_reading.specs.Reading.{IsRead, EndsFor}
 use Rattle.lr_reading.specs.declared.arrival.Arrival.{Arrival}
 use Rattle.lr_forms.specs.declared.forms.Input.{Input}
@@ -18,7 +18,7 @@ pub record ReadsInput {S : Type 0} (source : SourceOf S) (input : Input) (limit 
   pub reason : EndsFor source totals.stop limit bytes s s'
   pub symbols : totals.symbols ≡ length bytes
   pub frames : totals.frames ≡ length (arrivals_of input bytes)
-  pub left : totals.left ≡ left_of input bytes
+  pub left : totals.left ≡ bytes_left_over input bytes
 
 -- The source, what a consumer says of the arrivals that it took, the form of the input, and the most bytes.
 module _ {S C : Type 0} (source : SourceOf S) (took : C → List Arrival → C → Type 0) (input : Input) (limit : ℕ) where

@@ -8,9 +8,9 @@ use Rattle.lr_reading.specs.Intakes.{IsFreshIntake}
 use Rattle.lr_reading.specs.Readers.{Shared}
 
 -- the form of the input that it reads
-abbrev pub input_of : {H T : Type 0} → Way H T → Input
-input_of (Symbols desk) = Symbols' desk.intake.feed.lock.line
-input_of (Units form) = Units' form
+abbrev pub input_of_way : {H T : Type 0} → Way H T → Input
+input_of_way (Symbols desk) = Symbols' desk.intake.feed.lock.line
+input_of_way (Units form) = Units' form
 
 -- what those who work on it share
 abbrev pub shared_of : {H T : Type 0} → Way H T → Shared

@@ -28,10 +28,10 @@ impl<H: Hand> Model for Reader<H> {
 
     ghost Value = { ReaderView };
 
-    ghost use Rattle.lr_reading.specs.Ways.{input_of, shared_of, IsReadyFor};
+    ghost use Rattle.lr_reading.specs.Ways.{input_of_way, shared_of, IsReadyFor};
 
     ghost view = { λ r. record {
-      input = input_of r.way;
+      input = input_of_way r.way;
       workers = r.workers;
       most = r.most;
       shared = shared_of r.way;

@@ -38,10 +38,10 @@ use Rattle.lr_make.specs.Stream.{symbol_stream}
 use Rattle.lr_make.specs.Symbols.{level, sent_bits}
 use Rattle.lr_make.proofs.Sending.{length-all_symbols, symbols_are_one_code}
 use Rattle.lr_sent.proofs.MadeBlocks.{stream_is_received}
-use Rattle.lr_sent.specs.Made.{made_outcomes, room_for, room_of}
+use Rattle.lr_sent.specs.Made.{made_outcomes, room_of_files, room_of}
 use Rattle.lr_sent.proofs.MadeFiles.{placed_fit}
 use Rattle.lr_shelf_format.specs.Items.{extent_of, head_of_item}
-use Rattle.lr_shelf_format.specs.Reading.{end_of}
+use Rattle.lr_shelf_format.specs.ShelfBytes.{end_of}
 use Rattle.lr_shelf.specs.Append.{item_for}
 use Rattle.lr_forms.specs.declared.forms.Input.TheVariants.{Symbols}
 use Rattle.lr_forms.specs.declared.forms.Output.TheVariants.{Symbols as AsSymbols}
@@ -90,7 +90,7 @@ files_made start wrong n received =
 
 -- each file takes its room on the shelf
 room_is : (files : List Placed)
-    → end_of (with_files [] files) ≡ 20 + room_for (map (λ placed. placed.file) files)
+    → end_of (with_files [] files) ≡ 20 + room_of_files (map (λ placed. placed.file) files)
 room_is [] = refl
 room_is (placed ∷ files) =
     omega (

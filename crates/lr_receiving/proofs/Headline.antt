@@ -30,7 +30,7 @@ use Rattle.lr_bits.specs.declared.placed.Placed.{Placed}
 use Rattle.lr_io.specs.declared.source.Source.{Ghosts as SourceOf}
 use Rattle.lr_io.specs.declared.sink.Sink.{Ghosts as SinkOf}
 use Rattle.lr_disk.specs.declared.disk.Disk.{Ghosts as DiskOf}
-use Rattle.lr_shelf_format.specs.Reading.{StandsFor, end_of}
+use Rattle.lr_shelf_format.specs.ShelfBytes.{StandsForShelf, end_of}
 use Rattle.lr_shelf_format.specs.Items.{Item, extent_of, head_of_item}
 use Rattle.lr_shelf.specs.Append.{item_for}
 use Rattle.lr_shelf.specs.Shelf.{IsDurable}
@@ -46,9 +46,9 @@ use Rattle.lr_receiving.specs.Shelving.{
   next_number,
   shelved_lines,
   StandsForFront,
-  StandsForOneMore,
+  StandsForOneFileMore,
   LeavesFronts,
-  Holds,
+  HoldsFront,
 }
 use Rattle.lr_receiving.specs.Receive.{NoFault, Ends, Receives}
 use Rattle.lr_receiving.proofs.Shelving.{with_files-append}
@@ -102,7 +102,7 @@ no_longer old new got a b first second =
 
 module _ {D : Type 0} (disk : DiskOf D) (capacity : ℕ) (before : List Item) (files : List Placed) (d : D) where
   holds : (first rest : List Placed) (n : ℕ) → files ≡ first ++ rest → n ≤ length first
-      → IsDurable disk capacity (with_files before first) d → Holds disk capacity before files n d
+      → IsDurable disk capacity (with_files before first) d → HoldsFront disk capacity before files n d
   holds first rest n split enough durable = record {
     contents = record { first = first; rest = rest; split = split; enough = enough; stands = durable.stands };
     images = λ c image. record {
@@ -110,13 +110,13 @@ module _ {D : Type 0} (disk : DiskOf D) (capacity : ℕ) (before : List Item) (f
       rest = rest;
       split = split;
       enough = enough;
-      stands = subst (λ (l : List ℕ). StandsFor l capacity (with_files before first))
+      stands = subst (λ (l : List ℕ). StandsForShelf l capacity (with_files before first))
           (sym (durable.durable c image)) durable.stands;
     };
   }
 
   front_of : (done rest : List Placed) (n : ℕ) (bytes : List ℕ) → files ≡ done ++ rest → n ≤ length done
-      → StandsForOneMore capacity before done rest bytes → StandsForFront capacity before files n bytes
+      → StandsForOneFileMore capacity before done rest bytes → StandsForFront capacity before files n bytes
   front_of done rest n bytes split enough (inl s) =
       record { first = done; rest = rest; split = split; enough = enough; stands = s }
   front_of done rest n bytes split enough (inr more) = record {
@@ -147,7 +147,7 @@ module _ {S D O : Type 0} (source : SourceOf S) (disk : DiskOf D) (out : SinkOf 
   -- where the last lines are to come, all files are there
   every : (n : ℕ) → n ≤ length (files_of_bytes input bytes)
       → IsDurable disk capacity (with_files before (files_of_bytes input bytes)) d'
-      → Holds disk capacity before (files_of_bytes input bytes) n d'
+      → HoldsFront disk capacity before (files_of_bytes input bytes) n d'
   every n enough durable = holds disk capacity before (files_of_bytes input bytes) d'
       (files_of_bytes input bytes) [] n (sym (append-nil (files_of_bytes input bytes))) enough durable
 
@@ -162,11 +162,11 @@ module _ {S D O : Type 0} (source : SourceOf S) (disk : DiskOf D) (out : SinkOf 
         (out.contents o') got text known got_put le put
 
     every_one : IsDurable disk capacity (with_files before (files_of_bytes input bytes)) d'
-        → Holds disk capacity before (files_of_bytes input bytes) (length whole) d'
+        → HoldsFront disk capacity before (files_of_bytes input bytes) (length whole) d'
     every_one durable = every (length whole) (all_there before (files_of_bytes input bytes) whole rest split) durable
 
     held : (cause : Cause) → Ends source disk out input capacity before limit bytes cause s s' d d' o o'
-        → Holds disk capacity before (files_of_bytes input bytes) (length whole) d'
+        → HoldsFront disk capacity before (files_of_bytes input bytes) (length whole) d'
     held Done (inl e) = every_one e.durable
     held Done (inr e) = every_one e.durable
     held (Failed Source) e = every_one e.durable
@@ -208,7 +208,7 @@ module _ {S D O : Type 0} (source : SourceOf S) (disk : DiskOf D) (out : SinkOf 
     held _ e = absurd e
 
   held_untold : (cause : Cause) → Ends source disk out input capacity before limit bytes cause s s' d d' o o'
-      → Holds disk capacity before (files_of_bytes input bytes) 0 d'
+      → HoldsFront disk capacity before (files_of_bytes input bytes) 0 d'
   held_untold Done (inl e) = every 0 (omega arith) e.durable
   held_untold Done (inr e) = every 0 (omega arith) e.durable
   held_untold (Failed Source) e = every 0 (omega arith) e.durable

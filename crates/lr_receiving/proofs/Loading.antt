@@ -9,7 +9,7 @@ use Rattle.lr_disk.specs.Disk.{LeavesOnly}
 use Rattle.lr_disk.specs.Reads.{IsUnwritten}
 use Rattle.lr_disk.proofs.Moments.{weaker, stays, unwritten_yet}
 use Rattle.lr_shelf_format.specs.Items.{Item}
-use Rattle.lr_shelf_format.specs.Reading.{StandsFor}
+use Rattle.lr_shelf_format.specs.ShelfBytes.{StandsForShelf}
 use Rattle.lr_shelf_format.specs.Way.{IsWay, IsNoShelfAt}
 use Rattle.lr_shelf.specs.Kept.{kept_by}
 use Rattle.lr_shelf.specs.Load.{Loads, IsLoadRefusal, MayRefuseAt}
@@ -105,10 +105,10 @@ module _ {S D O : Type 0} (source : SourceOf S) (disk : DiskOf D)
     (only_now : (d : D) (c : List ℕ) → disk.tells d → disk.left_since d (disk.moment d) c → disk.may_leave d c)
     (out : SinkOf O) (input : Input) (limit : ℕ) (s : S) (d : D) (o : O) where
   untouched : (capacity : ℕ) (before : List Item) → disk.tells d → IsDurable disk capacity before d
-      → LeavesOnly disk.moment disk.left_since d d (λ c. StandsFor c capacity before)
+      → LeavesOnly disk.moment disk.left_since d d (λ c. StandsForShelf c capacity before)
   untouched capacity before told durable =
-      stays disk only_now d (λ c. StandsFor c capacity before) told
-      (λ c left. subst (λ (l : List ℕ). StandsFor l capacity before) (sym (durable.durable c left)) durable.stands)
+      stays disk only_now d (λ c. StandsForShelf c capacity before) told
+      (λ c left. subst (λ (l : List ℕ). StandsForShelf l capacity before) (sym (durable.durable c left)) durable.stands)
 
   pub not_made : ReceiveRun source disk out input limit NoMemory s s d d o o
   not_made = record {
@@ -127,7 +127,7 @@ module _ {S D O : Type 0} (source : SourceOf S) (disk : DiskOf D)
           split = no_bytes input;
           durable = record {
             stands =
-                subst (λ (l : List Item). StandsFor (disk.contents d) capacity l) (sym (append-nil before))
+                subst (λ (l : List Item). StandsForShelf (disk.contents d) capacity l) (sym (append-nil before))
                 durable.stands;
             durable = durable.durable;
           };
@@ -156,10 +156,10 @@ module _ {S D O : Type 0} (source : SourceOf S) (disk : DiskOf D) (out : SinkOf 
     durable1 : IsDurable disk capacity before d1
     durable1 = loads.durable capacity before told durable
 
-    pub any_moment : LeavesOnly disk.moment disk.left_since d d1 (λ c. StandsFor c capacity before)
+    pub any_moment : LeavesOnly disk.moment disk.left_since d d1 (λ c. StandsForShelf c capacity before)
     any_moment =
         weaker disk.moment disk.left_since d d1 _ _
-        (λ c image. subst (λ (l : List ℕ). StandsFor l capacity before) (sym (durable.durable c image)) durable.stands)
+        (λ c image. subst (λ (l : List ℕ). StandsForShelf l capacity before) (sym (durable.durable c image)) durable.stands)
         (loads.unwritten told).any_moment
 
     none_left : LeavesFronts disk capacity before (files_of_bytes input []) d d1
@@ -167,9 +167,9 @@ module _ {S D O : Type 0} (source : SourceOf S) (disk : DiskOf D) (out : SinkOf 
         subst (λ (l : List Placed). LeavesFronts disk capacity before l d d1) (sym (no_bytes input))
         (weaker disk.moment disk.left_since d d1 _ _ (front_none disk out capacity before d d1 o) any_moment)
 
-    stands : StandsFor (disk.contents d1) capacity (before ++ [])
+    stands : StandsForShelf (disk.contents d1) capacity (before ++ [])
     stands =
-        subst (λ (l : List Item). StandsFor (disk.contents d1) capacity l) (sym (append-nil before)) durable1.stands
+        subst (λ (l : List Item). StandsForShelf (disk.contents d1) capacity l) (sym (append-nil before)) durable1.stands
 
     got_none : out.tells o → out.contents o ≡ out.contents o ++ shelved_lines (next_number before) []
     got_none t =
@@ -187,7 +187,7 @@ module _ {S D O : Type 0} (source : SourceOf S) (disk : DiskOf D) (out : SinkOf 
       split = no_bytes input;
       contents = inl stands;
       images = λ c image.
-          inl (subst (λ (l : List ℕ). StandsFor l capacity (before ++ [])) (sym (durable1.durable c image)) stands);
+          inl (subst (λ (l : List ℕ). StandsForShelf l capacity (before ++ [])) (sym (durable1.durable c image)) stands);
       got = got_none;
       rose = rose_of disk d d1 result Disk' is loads.calls.counted refl;
     })

@@ -25,7 +25,7 @@ use Rattle.lr_disk.specs.declared.disk.Disk.{Ghosts as DiskOf}
 use Rattle.lr_disk.specs.Disk.{LeavesOnly}
 use Rattle.lr_layers.specs.Layers.{Numbers, numbers_of}
 use Rattle.lr_layers.specs.Standing.{numbers}
-use Rattle.lr_shelf_format.specs.Reading.{StandsFor}
+use Rattle.lr_shelf_format.specs.ShelfBytes.{StandsForShelf}
 use Rattle.lr_shelf_format.specs.Items.{Item}
 use Rattle.lr_shelf.specs.Shelf.{IsSettled}
 use Rattle.lr_shelf.specs.declared.shelf.Shelf.{Shelf}
@@ -59,12 +59,12 @@ use Rattle.lr_receiving.specs.Reception.{
 use Rattle.lr_receiving.proofs.ShelvedLines.{shelved_lines-none}
 
 -- the last line tells what was read and counted
-pub last_line : {S : Type 0} (source : SourceOf S) (input : Input) (limit : ℕ) (bytes : List ℕ) (s s' : S) (sums : Sums)
+pub last_line_is : {S : Type 0} (source : SourceOf S) (input : Input) (limit : ℕ) (bytes : List ℕ) (s s' : S) (sums : Sums)
     → ReadsInput source input limit sums.totals bytes s s'
     → numbers sums.counts ≡ numbers_of (outcomes_of_bytes input bytes)
     → sums_line sums ≡ receive_last input bytes sums.totals.stop
 unfolding receive_last receive_count
-last_line source input limit bytes s s' sums ends counted =
+last_line_is source input limit bytes s s' sums ends counted =
     let totals = sums.totals in
     ap (λ k. counts_line k totals.frames (numbers sums.counts) totals.left totals.stop) ends.symbols
     ∙ ap (λ k. counts_line (length bytes) k (numbers sums.counts) totals.left totals.stop)
@@ -75,18 +75,18 @@ last_line source input limit bytes s s' sums ends counted =
     (numbers_of (outcomes_of_bytes input bytes)) k totals.stop) ends.left
 
 module _ {D O : Type 0} (disk : DiskOf D) (out : SinkOf O) (capacity : ℕ) (before : List Item) (d d1 : D) (o : O) where
-  pub front_none : (bytes : List ℕ) → StandsFor bytes capacity before → StandsForFront capacity before [] 0 bytes
+  pub front_none : (bytes : List ℕ) → StandsForShelf bytes capacity before → StandsForFront capacity before [] 0 bytes
   front_none bytes s = record {
     first = [];
     rest = [];
     split = refl;
     enough = omega arith;
-    stands = subst (λ (l : List Item). StandsFor bytes capacity l) (sym (append-nil before)) s;
+    stands = subst (λ (l : List Item). StandsForShelf bytes capacity l) (sym (append-nil before)) s;
   }
 
   -- the shelf is loaded
   pub loaded : (shelf : Shelf) → IsSettled disk capacity before shelf d1
-      → LeavesOnly disk.moment disk.left_since d d1 (λ c. StandsFor c capacity before) → disk.faults d1 ≡ disk.faults d
+      → LeavesOnly disk.moment disk.left_since d d1 (λ c. StandsForShelf c capacity before) → disk.faults d1 ≡ disk.faults d
       → ShelvesSoFar disk out capacity before [] shelf d d1 o o
   loaded shelf settled run count = record {
     settled = subst (λ (l : List Item). IsSettled disk capacity l shelf d1) (sym (append-nil before)) settled;
@@ -176,7 +176,7 @@ module _ {S D O : Type 0} (source : SourceOf S) (disk : DiskOf D) (out : SinkOf 
     module _ (sums : Sums) (shelf1 : Shelf)
         (all : ReadsAll source disk out input limit sums shelf shelf1 s s' d d1 o o1) (o2 : O) where
       line_is : sums_line sums ≡ receive_last input all.bytes sums.totals.stop
-      line_is = last_line source input limit all.bytes s s' sums all.ends all.counts
+      line_is = last_line_is source input limit all.bytes s s' sums all.ends all.counts
 
       -- a part of the last line was put
       summary_cut : PutFails out (sums_line sums) o1 o2

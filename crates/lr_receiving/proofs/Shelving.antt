@@ -31,7 +31,7 @@ use Rattle.lr_disk.specs.declared.disk.Disk.{Ghosts as DiskOf}
 use Rattle.lr_disk.specs.Disk.{LeavesOnly}
 use Rattle.lr_disk.proofs.Moments.{weaker, joined}
 use Rattle.lr_shelf_format.specs.Items.{Item, old_item, add_item, discard_item, extent_of, head_of_item}
-use Rattle.lr_shelf_format.specs.Reading.{StandsFor, end_of, entries_of}
+use Rattle.lr_shelf_format.specs.ShelfBytes.{StandsForShelf, end_of, entries_of}
 use Rattle.lr_shelf_format.specs.Way.{Way}
 use Rattle.lr_shelf.specs.Adds.{new_end, needed_by}
 use Rattle.lr_shelf.specs.Append.{Appends, IsAppendRefusal, item_for}
@@ -60,7 +60,7 @@ use Rattle.lr_receiving.specs.Shelving.{
   next_number,
   shelved_lines,
   StandsForFront,
-  StandsForOneMore,
+  StandsForOneFileMore,
   LeavesFronts,
   StopsBy,
   Stops,
@@ -111,10 +111,10 @@ front_more capacity before done more n bytes s = record {
 }
 
 one_more : (capacity : ℕ) (before : List Item) (done : List Placed) (placed : Placed) (bytes : List ℕ)
-    → StandsFor bytes capacity (with_files before done ++ item_for placed ∷ [])
-    → StandsFor bytes capacity (with_files before (done ++ placed ∷ []))
+    → StandsForShelf bytes capacity (with_files before done ++ item_for placed ∷ [])
+    → StandsForShelf bytes capacity (with_files before (done ++ placed ∷ []))
 one_more capacity before done placed bytes s =
-    subst (λ (l : List Item). StandsFor bytes capacity l) (sym (with_files-append before done (placed ∷ []))) s
+    subst (λ (l : List Item). StandsForShelf bytes capacity l) (sym (with_files-append before done (placed ∷ []))) s
 
 either_front : (capacity : ℕ) (before : List Item) (done : List Placed) (placed : Placed) (rest : List Placed)
     (bytes : List ℕ) → StandsForEither capacity (with_files before done) (item_for placed) bytes
@@ -131,14 +131,14 @@ either_front capacity before done placed rest bytes (inr s) = record {
 
 either_more : (capacity : ℕ) (before : List Item) (done : List Placed) (placed : Placed) (rest : List Placed)
     (bytes : List ℕ) → StandsForEither capacity (with_files before done) (item_for placed) bytes
-    → StandsForOneMore capacity before done (placed ∷ rest) bytes
+    → StandsForOneFileMore capacity before done (placed ∷ rest) bytes
 either_more capacity before done placed rest bytes (inl s) = inl s
 either_more capacity before done placed rest bytes (inr s) =
     inr (placed, rest, refl, one_more capacity before done placed bytes s)
 
 -- more files that are still to be shelved
 pub one_more_later : (capacity : ℕ) (before : List Item) (done rest more : List Placed) (bytes : List ℕ)
-    → StandsForOneMore capacity before done rest bytes → StandsForOneMore capacity before done (rest ++ more) bytes
+    → StandsForOneFileMore capacity before done rest bytes → StandsForOneFileMore capacity before done (rest ++ more) bytes
 one_more_later capacity before done rest more bytes (inl s) = inl s
 one_more_later capacity before done rest more bytes (inr s) =
     inr (s.0, s.1 ++ more, ap (λ (l : List Placed). l ++ more) s.2, s.3)

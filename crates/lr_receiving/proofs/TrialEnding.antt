@@ -29,7 +29,7 @@ use Rattle.lr_disk.specs.declared.disk.Disk.{Ghosts as DiskOf}
 use Rattle.lr_disk.specs.Disk.{LeavesOnly}
 use Rattle.lr_disk.proofs.Moments.{weaker, joined}
 use Rattle.lr_shelf_format.specs.Items.{Item}
-use Rattle.lr_shelf_format.specs.Reading.{StandsFor}
+use Rattle.lr_shelf_format.specs.ShelfBytes.{StandsForShelf}
 use Rattle.lr_shelf.specs.Init.{Inits, IsBlank, IsInitRefusal, IsTaken}
 use Rattle.lr_shelf.specs.Shelf.{IsDurable}
 use Rattle.lr_shelf.specs.declared.error.ShelfError.{ShelfError}
@@ -46,7 +46,7 @@ use Rattle.lr_receiving.specs.Trial.{
   trial_capacity,
   StandsForPart,
   IsBare,
-  HoldsPart,
+  HoldsTrialPart,
   DiskEnds,
   LeavesDisk,
   OutEnds,
@@ -168,7 +168,7 @@ module _ {D O : Type 0} (disk : DiskOf D) (out : SinkOf O) (symbols : List ℕ) 
     -- ---- memory was refused
     module _ (d2 : D) (o2 : O) (fills : Fills disk out symbols NoMemory d1 d2 o o2)
         (told2 : disk.tells d1 → disk.tells d2) where
-      abbrev held : disk.tells d → HoldsPart disk symbols 0 d2
+      abbrev held : disk.tells d → HoldsTrialPart disk symbols 0 d2
       held told = fills.on_disk.ends (inits.calls.told told)
 
       -- the items that stand there
@@ -178,7 +178,7 @@ module _ {D O : Type 0} (disk : DiskOf D) (out : SinkOf O) (symbols : List ℕ) 
       durable : (told : disk.tells d) → IsDurable disk trial_capacity (items told) d2
       durable told = record { stands = (held told).contents.stands.stands; durable = (held told).images }
 
-      stands_part : (told : disk.tells d) (c : List ℕ) → StandsFor c trial_capacity (items told)
+      stands_part : (told : disk.tells d) (c : List ℕ) → StandsForShelf c trial_capacity (items told)
           → StandsForPart symbols 0 c
       stands_part told c stands =
           let part = (held told).contents in
@@ -196,7 +196,7 @@ module _ {D O : Type 0} (disk : DiskOf D) (out : SinkOf O) (symbols : List ℕ) 
           }
 
       left : (told : disk.tells d) (d' : D) → IsWithdrawn disk (items told) d'
-          → IsBare disk d' ⊎ HoldsPart disk symbols 1 d'
+          → IsBare disk d' ⊎ HoldsTrialPart disk symbols 1 d'
       left told d' (inl none) = inl none.1
       left told d' (inr some) =
           let part = (held told).contents in

@@ -35,7 +35,7 @@ use Rattle.lr_io.specs.Pieces.{PutsPart}
 use Rattle.lr_disk.specs.declared.disk.Disk.{Ghosts as DiskOf}
 use Rattle.lr_disk.specs.Disk.{LeavesOnly}
 use Rattle.lr_shelf_format.specs.Items.{Item}
-use Rattle.lr_shelf_format.specs.Reading.{StandsFor, end_of}
+use Rattle.lr_shelf_format.specs.ShelfBytes.{StandsForShelf, end_of}
 use Rattle.lr_shelf.specs.Append.{item_for}
 use Rattle.lr_shelf.specs.Load.{Loads, IsLoadRefusal}
 use Rattle.lr_shelf.specs.Kept.{kept_by}
@@ -64,13 +64,13 @@ use Rattle.lr_receiving.specs.Receive.{receive_last}
 use Rattle.lr_receiving.specs.Reception.{sums_line, PutsLast, LastStops, ReadsAll, ReadsSome}
 use Rattle.lr_receiving.specs.Shelving.{with_files, StandsForFront, LeavesFronts, StopsBy}
 use Rattle.lr_receiving.specs.Shelved.{MayStop, StopsTrial, ShelvesSoFar}
-use Rattle.lr_receiving.specs.Trial.{trial_capacity, StandsForPart, HoldsPart, OutEnds}
+use Rattle.lr_receiving.specs.Trial.{trial_capacity, StandsForPart, HoldsTrialPart, OutEnds}
 use Rattle.lr_receiving.specs.Filling.{FillEnds, FillsDisk, Fills}
 use Rattle.lr_receiving.proofs.Causing.{none_rose}
 use Rattle.lr_receiving.specs.First.{IsFirst}
 use Rattle.lr_receiving.proofs.Headline.{end_of-append}
 use Rattle.lr_receiving.proofs.Taking.{no_bytes}
-use Rattle.lr_receiving.proofs.ReceiveEnding.{last_line, loaded}
+use Rattle.lr_receiving.proofs.ReceiveEnding.{last_line_is, loaded}
 use Rattle.lr_receiving.proofs.Shelving.{with_files-append, same_of}
 
 -- a sink that counts no fault doesn't stop it
@@ -83,13 +83,13 @@ stops_trial (Refused (Capacity needed most)) s s' d d' may caused = tt
 stops_trial _ s s' d d' may caused = absurd may
 
 -- a front of the files of a part
-part_of : (symbols part later : List ℕ) → symbols ≡ part ++ later → (bytes : List ℕ)
+stands_for_part : (symbols part later : List ℕ) → symbols ≡ part ++ later → (bytes : List ℕ)
     → StandsForFront trial_capacity [] (files_of_bytes (Symbols STANDARD) part) 0 bytes → StandsForPart symbols 0 bytes
-part_of symbols part later split bytes stands = record { part = part; later = later; split = split; stands = stands }
+stands_for_part symbols part later split bytes stands = record { part = part; later = later; split = split; stands = stands }
 
 -- an empty shelf
-none_of : (symbols bytes : List ℕ) → StandsFor bytes trial_capacity [] → StandsForPart symbols 0 bytes
-none_of symbols bytes stands = part_of symbols [] symbols refl bytes (record {
+none_of : (symbols bytes : List ℕ) → StandsForShelf bytes trial_capacity [] → StandsForPart symbols 0 bytes
+none_of symbols bytes stands = stands_for_part symbols [] symbols refl bytes (record {
   first = [];
   rest = [];
   split = no_bytes (Symbols STANDARD);
@@ -101,14 +101,14 @@ module _ {D : Type 0} (disk : DiskOf D) (symbols : List ℕ) (d1 : D)
     (empty : disk.tells d1 → IsDurable disk trial_capacity [] d1) where
   -- ---- the empty shelf was loaded, or not
   module _ (d2 : D) (result2 : Result Shelf ShelfError) (loads : Loads disk d1 d2 result2) where
-    empty_moments : disk.tells d1 → LeavesOnly disk.moment disk.left_since d1 d2 (λ c. StandsFor c trial_capacity [])
+    empty_moments : disk.tells d1 → LeavesOnly disk.moment disk.left_since d1 d2 (λ c. StandsForShelf c trial_capacity [])
     empty_moments told =
         let durable = empty told in
         weaker disk.moment disk.left_since d1 d2 _ _
-        (λ c image. subst (λ (l : List ℕ). StandsFor l trial_capacity []) (sym (durable.durable c image))
+        (λ c image. subst (λ (l : List ℕ). StandsForShelf l trial_capacity []) (sym (durable.durable c image))
         durable.stands) (loads.unwritten told).any_moment
 
-    holds_none : disk.tells d1 → HoldsPart disk symbols 0 d2
+    holds_none : disk.tells d1 → HoldsTrialPart disk symbols 0 d2
     holds_none told =
         let durable = loads.durable trial_capacity [] told (empty told) in
         record { contents = none_of symbols (disk.contents d2) durable.stands; images = durable.durable }
@@ -147,16 +147,16 @@ module _ {D : Type 0} (disk : DiskOf D) (symbols : List ℕ) (d1 : D)
       module _ (part : List ℕ) (split : symbols ≡ part ++ source.left s') where
         fronts : LeavesFronts disk trial_capacity [] (files_of_bytes (Symbols STANDARD) part) d1 d'
             → LeavesOnly disk.moment disk.left_since d1 d' (StandsForPart symbols 0)
-        fronts = weaker disk.moment disk.left_since d1 d' _ _ (part_of symbols part (source.left s') split)
+        fronts = weaker disk.moment disk.left_since d1 d' _ _ (stands_for_part symbols part (source.left s') split)
 
         front_of : (done rest : List Placed) → files_of_bytes (Symbols STANDARD) part ≡ done ++ rest → (c : List ℕ)
-            → StandsFor c trial_capacity (with_files [] done) → StandsForPart symbols 0 c
+            → StandsForShelf c trial_capacity (with_files [] done) → StandsForPart symbols 0 c
         front_of done rest is c stands =
-            part_of symbols part (source.left s') split c
+            stands_for_part symbols part (source.left s') split c
             (record { first = done; rest = rest; split = is; enough = omega arith; stands = stands })
 
         holds_front : (done rest : List Placed) → files_of_bytes (Symbols STANDARD) part ≡ done ++ rest
-            → IsDurable disk trial_capacity (with_files [] done) d' → HoldsPart disk symbols 0 d'
+            → IsDurable disk trial_capacity (with_files [] done) d' → HoldsTrialPart disk symbols 0 d'
         holds_front done rest is durable =
             record { contents = front_of done rest is (disk.contents d') durable.stands; images = durable.durable }
 
@@ -225,7 +225,7 @@ module _ {D : Type 0} (disk : DiskOf D) (symbols : List ℕ) (d1 : D)
         ended_so = at_end sums.totals.stop all.ends.reason
 
         pub line : sums_line sums ≡ receive_last (Symbols STANDARD) symbols End
-        line = last_line source (Symbols STANDARD) limit all.bytes s s' sums all.ends all.counts
+        line = last_line_is source (Symbols STANDARD) limit all.bytes s s' sums all.ends all.counts
             ∙ ap (λ stop. receive_last (Symbols STANDARD) all.bytes stop) ended_so.0
             ∙ ap (λ bytes. receive_last (Symbols STANDARD) bytes End) ended_so.1
 
@@ -281,12 +281,12 @@ module _ {D : Type 0} (disk : DiskOf D) (symbols : List ℕ) (d1 : D)
 -- the last line wasn't put, after all was shelved
 module _ {D O : Type 0} (disk : DiskOf D) (out : SinkOf O) (symbols : List ℕ) (d d' : D) (o o' : O)
     (done : FillsDisk disk symbols Done d d') where
-  all_held : disk.tells d → HoldsPart disk symbols 0 d'
+  all_held : disk.tells d → HoldsTrialPart disk symbols 0 d'
   all_held told =
       let durable = done.ends.0 told in
       let files = files_of_bytes (Symbols STANDARD) symbols in
       record {
-        contents = part_of symbols symbols [] (sym (append-nil symbols)) (disk.contents d')
+        contents = stands_for_part symbols symbols [] (sym (append-nil symbols)) (disk.contents d')
             (record {
               first = files;
               rest = [];

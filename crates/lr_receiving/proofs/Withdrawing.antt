@@ -38,7 +38,7 @@ use Rattle.lr_disk.proofs.Moments.{joined, weaker}
 use Rattle.lr_shelf_format.specs.Gates.{front}
 use Rattle.lr_shelf_format.specs.Header.{header_bytes}
 use Rattle.lr_shelf_format.specs.Items.{Item, item_bytes}
-use Rattle.lr_shelf_format.specs.Reading.{StandsFor}
+use Rattle.lr_shelf_format.specs.ShelfBytes.{StandsForShelf}
 use Rattle.lr_shelf_format.specs.Walk.{IsOpen}
 use Rattle.lr_shelf_format.proofs.ReadingLemmas.{is_one_walk, length-front}
 use Rattle.lr_shelf.specs.Init.{IsBlank}
@@ -48,11 +48,11 @@ use Rattle.lr_receiving.specs.Trial.{trial_capacity, IsBare}
 
 -- ---- the first gate
 
-pub has_gate : (bytes : List ℕ) (capacity : ℕ) (items : List Item) → StandsFor bytes capacity items → 19 < length bytes
+pub has_gate : (bytes : List ℕ) (capacity : ℕ) (items : List Item) → StandsForShelf bytes capacity items → 19 < length bytes
 has_gate bytes capacity items stands = omega (arith, (is_one_walk bytes capacity items stands).inside)
 
 -- it is open exactly where an item stands
-first_gate : (bytes : List ℕ) (capacity : ℕ) (items : List Item) → StandsFor bytes capacity items
+first_gate : (bytes : List ℕ) (capacity : ℕ) (items : List Item) → StandsForShelf bytes capacity items
     → ((items ≡ []) × (IsOpen bytes 19 → ⊥)) ⊎ ((items ≢ []) × IsOpen bytes 19)
 first_gate bytes capacity [] stands =
     let walk = is_one_walk bytes capacity [] stands in
@@ -62,7 +62,7 @@ first_gate bytes capacity (item ∷ items) stands =
 
 -- ---- what a cut of an empty shelf may leave
 
-module _ (capacity : ℕ) (old c : List ℕ) (stands : StandsFor old capacity []) (cut : Cut 0 old c) where
+module _ (capacity : ℕ) (old c : List ℕ) (stands : StandsForShelf old capacity []) (cut : Cut 0 old c) where
   short : cut.kept < 20 → IsBlank capacity c
   short less =
       let size : length c ≡ min cut.kept (length old) = ap length cut.front ∙ length-take cut.kept old in
@@ -72,7 +72,7 @@ module _ (capacity : ℕ) (old c : List ℕ) (stands : StandsFor old capacity []
             inl (λ capacity' has. omega (arith, has.whole, size, less));
       }
 
-  long : 20 ≤ cut.kept → StandsFor c capacity []
+  long : 20 ≤ cut.kept → StandsForShelf c capacity []
   long enough =
       let before = front (header_bytes stands.version capacity) (map item_bytes []) in
       let gate = stands.shut.gate in
@@ -101,7 +101,7 @@ module _ (capacity : ℕ) (old c : List ℕ) (stands : StandsFor old capacity []
         };
       }
 
-  cut_empty : IsBlank capacity c ⊎ StandsFor c capacity []
+  cut_empty : IsBlank capacity c ⊎ StandsForShelf c capacity []
   cut_empty = elim (cases_lt cut.kept 20) [ inl less ↦ inl (short less) | inr enough ↦ inr (long enough) ]
 
 -- ---- the whole
@@ -110,7 +110,7 @@ module _ {D : Type 0} (disk : DiskOf D) (items : List Item) (d mid : D)
     (durable : IsDurable disk trial_capacity items d) (unwritten : IsUnwritten disk d mid) where
   still : IsDurable disk trial_capacity items mid
   still = record {
-    stands = subst (λ (l : List ℕ). StandsFor l trial_capacity items) (sym unwritten.contents) durable.stands;
+    stands = subst (λ (l : List ℕ). StandsForShelf l trial_capacity items) (sym unwritten.contents) durable.stands;
     durable = λ c image. durable.durable c (unwritten.images c image) ∙ sym unwritten.contents;
   }
 
@@ -118,7 +118,7 @@ module _ {D : Type 0} (disk : DiskOf D) (items : List Item) (d mid : D)
   pub read_moments : LeavesBlankOrItems disk items d mid
   read_moments =
       weaker disk.moment disk.left_since d mid (disk.may_leave d) _
-      (λ c image. inr (subst (λ (l : List ℕ). StandsFor l trial_capacity items) (sym (durable.durable c image))
+      (λ c image. inr (subst (λ (l : List ℕ). StandsForShelf l trial_capacity items) (sym (durable.durable c image))
       durable.stands)) unwritten.any_moment
 
   gate : ((items ≡ []) × (IsOpen (disk.contents d) 19 → ⊥)) ⊎ ((items ≢ []) × IsOpen (disk.contents d) 19)
@@ -138,11 +138,11 @@ module _ {D : Type 0} (disk : DiskOf D) (items : List Item) (d mid : D)
     gone d' bare = inl (no_items, bare)
 
     cut_items : (c : List ℕ) → Cut 0 (disk.contents mid) c
-        → IsBlank trial_capacity c ⊎ StandsFor c trial_capacity items
+        → IsBlank trial_capacity c ⊎ StandsForShelf c trial_capacity items
     cut_items c cut =
-        subst (λ (l : List Item). IsBlank trial_capacity c ⊎ StandsFor c trial_capacity l) (sym no_items)
+        subst (λ (l : List Item). IsBlank trial_capacity c ⊎ StandsForShelf c trial_capacity l) (sym no_items)
         (cut_empty trial_capacity (disk.contents mid) c
-        (subst (λ (l : List Item). StandsFor (disk.contents mid) trial_capacity l) no_items still.stands) cut)
+        (subst (λ (l : List Item). StandsForShelf (disk.contents mid) trial_capacity l) no_items still.stands) cut)
 
     pub cleared_moments : (d' : D)
         → (Only (disk.contents mid) (disk.may_leave mid)

@@ -4,7 +4,7 @@ use Rattle.lr_io.specs.declared.sink.Sink.{Ghosts as SinkOf}
 use Rattle.lr_disk.specs.declared.disk.Disk.{Ghosts as DiskOf}
 use Rattle.lr_disk.specs.Disk.{LeavesOnly}
 use Rattle.lr_shelf_format.specs.Items.{Item}
-use Rattle.lr_shelf_format.specs.Reading.{StandsFor}
+use Rattle.lr_shelf_format.specs.ShelfBytes.{StandsForShelf}
 use Rattle.lr_shelf.specs.Init.{IsBlank}
 use Rattle.lr_shelf.specs.Shelf.{IsDurable}
 use Rattle.lr_causes.specs.declared.cause.Cause.{Cause}
@@ -12,13 +12,13 @@ use Rattle.lr_causes.specs.declared.cause.Cause.TheVariants.{NoMemory, Refused}
 use Rattle.lr_causes.specs.declared.cause.Refusal.TheVariants.{NotEmpty}
 use Rattle.lr_causes.specs.Causes.{counts}
 use Rattle.lr_receiving.specs.First.{IsFirst}
-use Rattle.lr_receiving.specs.Trial.{trial_capacity, StandsForPart, IsBare, HoldsPart, DiskEnds, OutEnds}
+use Rattle.lr_receiving.specs.Trial.{trial_capacity, StandsForPart, IsBare, HoldsTrialPart, DiskEnds, OutEnds}
 
 module _ {D : Type 0} (disk : DiskOf D) (symbols : List ℕ) where
   -- how it leaves the disk, for each cause that it may have: as the whole call, but at want of memory perhaps no file
   -- stands there
   abbrev pub FillEnds : Cause → D → D → Type 0
-  FillEnds NoMemory d d' = disk.tells d → HoldsPart disk symbols 0 d'
+  FillEnds NoMemory d d' = disk.tells d → HoldsTrialPart disk symbols 0 d'
   FillEnds (Refused (NotEmpty size)) d d' = ⊥
   FillEnds cause d d' = DiskEnds disk symbols cause d d'
 
@@ -43,4 +43,4 @@ module _ {D : Type 0} (disk : DiskOf D) (items : List Item) where
   abbrev pub LeavesBlankOrItems : D → D → Type 0
   LeavesBlankOrItems d d' =
       LeavesOnly disk.moment disk.left_since d d'
-      (λ c. IsBlank trial_capacity c ⊎ StandsFor c trial_capacity items)
+      (λ c. IsBlank trial_capacity c ⊎ StandsForShelf c trial_capacity items)

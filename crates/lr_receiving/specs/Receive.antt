@@ -9,7 +9,7 @@ use Rattle.lr_disk.specs.declared.disk.Disk.{Ghosts as DiskOf}
 use Rattle.lr_disk.specs.Reads.{IsUnwritten}
 use Rattle.lr_layers.specs.Layers.{Numbers, numbers_of}
 use Rattle.lr_shelf_format.specs.Items.{Item}
-use Rattle.lr_shelf_format.specs.Reading.{end_of}
+use Rattle.lr_shelf_format.specs.ShelfBytes.{end_of}
 use Rattle.lr_shelf_format.specs.Way.{IsNoShelfAt}
 use Rattle.lr_shelf.specs.Shelf.{IsDurable}
 use Rattle.lr_forms.specs.declared.forms.Stop.{Stop}
@@ -23,7 +23,7 @@ use Rattle.lr_causes.specs.declared.cause.Refusal.TheVariants.{NotAShelf, Capaci
 use Rattle.lr_forms.specs.declared.forms.Input.{Input}
 use Rattle.lr_causes.specs.Causes.{IsEarlier, counts}
 use Rattle.lr_receiving.specs.First.{IsFirst}
-use Rattle.lr_reading.specs.Inputs.{outcomes_of_bytes, left_of}
+use Rattle.lr_reading.specs.Inputs.{outcomes_of_bytes, bytes_left_over}
 use Rattle.lr_receiving.specs.Inputs.{files_of_bytes}
 use Rattle.lr_receiving.specs.Onto.{IsFull, HadRoom}
 use Rattle.lr_reading.specs.Reading.{IsRead, EndsFor}
@@ -32,8 +32,8 @@ use Rattle.lr_receiving.specs.Shelving.{
   next_number,
   shelved_lines,
   LeavesFronts,
-  Holds,
-  Got,
+  HoldsFront,
+  GotText,
   GotPart,
   DiskStops,
   MemoryStops,
@@ -53,7 +53,7 @@ receive_count outcomes symbols left stop = counts_line symbols (length outcomes)
 
 -- the last line of the bytes read
 unfoldable pub receive_last : Input → List ℕ → Stop → List ℕ
-receive_last input bytes stop = receive_count (outcomes_of_bytes input bytes) (length bytes) (left_of input bytes) stop
+receive_last input bytes stop = receive_count (outcomes_of_bytes input bytes) (length bytes) (bytes_left_over input bytes) stop
 
 -- the causes that come before any byte is read: the disk failed, no shelf stands there at this place, or memory was
 -- refused
@@ -91,7 +91,7 @@ module _ {S D O : Type 0} (source : SourceOf S) (disk : DiskOf D) (out : SinkOf 
     pub record Finishes (stop : Stop) (s s' : S) (d d' : D) (o o' : O) : Type 0 where
       pub reason : EndsFor source stop limit bytes s s'
       pub durable : IsDurable disk capacity (with_files before (files_of_bytes input bytes)) d'
-      pub got : Got out
+      pub got : GotText out
           (shelved_lines (next_number before) (files_of_bytes input bytes) ++ receive_last input bytes stop) o o'
       pub disk_count : disk.faults d' ≡ disk.faults d
       pub out_count : out.faults o' ≡ out.faults o
@@ -122,8 +122,8 @@ module _ {S D O : Type 0} (source : SourceOf S) (disk : DiskOf D) (out : SinkOf 
       -- the contents and each crash image hold each file whose line was put whole
       pub held : (whole rest : List Placed) (text : List ℕ) → out.tells o → files_of_bytes input bytes ≡ whole ++ rest
           → out.contents o' ≡ out.contents o ++ (shelved_lines (next_number before) whole ++ text)
-          → Holds disk capacity before (files_of_bytes input bytes) (length whole) d'
-      pub held_untold : Holds disk capacity before (files_of_bytes input bytes) 0 d'
+          → HoldsFront disk capacity before (files_of_bytes input bytes) (length whole) d'
+      pub held_untold : HoldsFront disk capacity before (files_of_bytes input bytes) 0 d'
       -- so does every moment of the call
       pub any_moment : LeavesFronts disk capacity before (files_of_bytes input bytes) d d'
       -- what a finished run leaves, and one that stopped early

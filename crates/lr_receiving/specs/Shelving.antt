@@ -9,7 +9,7 @@ use Rattle.lr_io.specs.Pieces.{PutsPart}
 use Rattle.lr_disk.specs.declared.disk.Disk.{Ghosts as DiskOf}
 use Rattle.lr_disk.specs.Disk.{LeavesOnly}
 use Rattle.lr_shelf_format.specs.Items.{Item}
-use Rattle.lr_shelf_format.specs.Reading.{StandsFor, end_of, entries_of}
+use Rattle.lr_shelf_format.specs.ShelfBytes.{StandsForShelf, end_of, entries_of}
 use Rattle.lr_shelf.specs.Append.{item_for}
 use Rattle.lr_shelf.specs.Shelf.{IsDurable}
 use Rattle.lr_catalog.specs.Files.{shelved_line}
@@ -37,14 +37,14 @@ pub record StandsForFront (capacity : ℕ) (before : List Item) (files : List Pl
   pub rest : List Placed
   pub split : files ≡ first ++ rest
   pub enough : n ≤ length first
-  pub stands : StandsFor bytes capacity (with_files before first)
+  pub stands : StandsForShelf bytes capacity (with_files before first)
 
 -- the bytes stand for what the shelf had and the files that are done, or for the next one too
-abbrev pub StandsForOneMore : ℕ → List Item → List Placed → List Placed → List ℕ → Type 0
-StandsForOneMore capacity before done rest bytes =
-    StandsFor bytes capacity (with_files before done)
+abbrev pub StandsForOneFileMore : ℕ → List Item → List Placed → List Placed → List ℕ → Type 0
+StandsForOneFileMore capacity before done rest bytes =
+    StandsForShelf bytes capacity (with_files before done)
     ⊎ ((next : Placed) × (more : List Placed) × (rest ≡ next ∷ more)
-    × StandsFor bytes capacity (with_files before (done ++ next ∷ [])))
+    × StandsForShelf bytes capacity (with_files before (done ++ next ∷ [])))
 
 module _ {D : Type 0} (disk : DiskOf D) (capacity : ℕ) (before : List Item) where
   -- each image since the moment of d stands for what the shelf had and a front of these files
@@ -52,14 +52,14 @@ module _ {D : Type 0} (disk : DiskOf D) (capacity : ℕ) (before : List Item) wh
   LeavesFronts files d d' = LeavesOnly disk.moment disk.left_since d d' (StandsForFront capacity before files 0)
 
   -- the contents and each crash image stand for what the shelf had and a front of these files, of n of them at least
-  pub record Holds (files : List Placed) (n : ℕ) (d : D) : Type 0 where
+  pub record HoldsFront (files : List Placed) (n : ℕ) (d : D) : Type 0 where
     pub contents : StandsForFront capacity before files n (disk.contents d)
     pub images : (c : List ℕ) → disk.may_leave d c → StandsForFront capacity before files n c
 
 module _ {O : Type 0} (out : SinkOf O) where
   -- `out` got this text
-  abbrev pub Got : List ℕ → O → O → Type 0
-  Got text o o' = out.tells o → out.contents o' ≡ out.contents o ++ text
+  abbrev pub GotText : List ℕ → O → O → Type 0
+  GotText text o o' = out.tells o → out.contents o' ≡ out.contents o ++ text
 
   -- `out` got this text, and then a front of the line that isn't all of it
   abbrev pub GotPart : List ℕ → List ℕ → O → O → Type 0
@@ -71,9 +71,9 @@ module _ {D O : Type 0} (disk : DiskOf D) (out : SinkOf O) (capacity : ℕ) (bef
     pub done : List Placed
     pub rest : List Placed
     pub split : files ≡ done ++ rest
-    pub contents : StandsForOneMore capacity before done rest (disk.contents d')
-    pub images : (c : List ℕ) → disk.may_leave d' c → StandsForOneMore capacity before done rest c
-    pub got : Got out (shelved_lines (next_number before) done) o o'
+    pub contents : StandsForOneFileMore capacity before done rest (disk.contents d')
+    pub images : (c : List ℕ) → disk.may_leave d' c → StandsForOneFileMore capacity before done rest c
+    pub got : GotText out (shelved_lines (next_number before) done) o o'
     pub rose : Rose (disk.faults d) (disk.faults d')
 
   -- memory was refused: these files are acknowledged, and they alone stand there
@@ -82,7 +82,7 @@ module _ {D O : Type 0} (disk : DiskOf D) (out : SinkOf O) (capacity : ℕ) (bef
     pub rest : List Placed
     pub split : files ≡ done ++ rest
     pub durable : IsDurable disk capacity (with_files before done) d'
-    pub got : Got out (shelved_lines (next_number before) done) o o'
+    pub got : GotText out (shelved_lines (next_number before) done) o o'
 
   -- the next file doesn't fit
   pub record FullStops (needed most : ℕ) (files : List Placed) (d d' : D) (o o' : O) : Type 0 where
@@ -91,7 +91,7 @@ module _ {D O : Type 0} (disk : DiskOf D) (out : SinkOf O) (capacity : ℕ) (bef
     pub rest : List Placed
     pub split : files ≡ done ++ next ∷ rest
     pub durable : IsDurable disk capacity (with_files before done) d'
-    pub got : Got out (shelved_lines (next_number before) done) o o'
+    pub got : GotText out (shelved_lines (next_number before) done) o o'
     pub needs : needed ≡ end_of (with_files before (done ++ next ∷ []))
     pub of : most ≡ capacity
     pub over : capacity < needed

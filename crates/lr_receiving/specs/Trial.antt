@@ -18,7 +18,7 @@ use Rattle.lr_causes.specs.Causes.{IsEarlier, counts}
 use Rattle.lr_receiving.specs.First.{IsFirst}
 use Rattle.lr_receiving.specs.Inputs.{files_of_bytes}
 use Rattle.lr_receiving.specs.Receive.{receive_last}
-use Rattle.lr_receiving.specs.Shelving.{with_files, StandsForFront, Got}
+use Rattle.lr_receiving.specs.Shelving.{with_files, StandsForFront, GotText}
 
 -- how many bytes the shelf may have
 abbrev pub trial_capacity : ℕ
@@ -40,7 +40,7 @@ module _ {D : Type 0} (disk : DiskOf D) where
 
 module _ {D : Type 0} (disk : DiskOf D) (symbols : List ℕ) where
   -- the contents are such a shelf, and so is the one crash image
-  pub record HoldsPart (n : ℕ) (d : D) : Type 0 where
+  pub record HoldsTrialPart (n : ℕ) (d : D) : Type 0 where
     pub contents : StandsForPart symbols n (disk.contents d)
     pub images : Only (disk.contents d) (disk.may_leave d)
 
@@ -53,7 +53,7 @@ module _ {D : Type 0} (disk : DiskOf D) (symbols : List ℕ) where
   DiskEnds (Failed Disk) d d' = Unit {0}
   DiskEnds (Failed Output) d d' =
       disk.tells d → IsDurable disk trial_capacity (with_files [] (files_of_bytes (Symbols STANDARD) symbols)) d'
-  DiskEnds NoMemory d d' = disk.tells d → (d' ≡ d) ⊎ IsBare disk d' ⊎ HoldsPart 1 d'
+  DiskEnds NoMemory d d' = disk.tells d → (d' ≡ d) ⊎ IsBare disk d' ⊎ HoldsTrialPart 1 d'
   DiskEnds (Refused (NotAShelf at)) d d' = disk.tells d → ⊥
   DiskEnds (Refused (Capacity needed most)) d d' = disk.tells d → ⊥
   DiskEnds (Refused (NotEmpty size)) d d' =
@@ -75,7 +75,7 @@ module _ {D : Type 0} (disk : DiskOf D) (symbols : List ℕ) where
 module _ {D O : Type 0} (disk : DiskOf D) (out : SinkOf O) (symbols : List ℕ) where
   -- what `out` got: the last line of `receive` alone, where the work is done
   abbrev pub OutEnds : Cause → O → O → Type 0
-  OutEnds Done o o' = Got out (receive_last (Symbols STANDARD) symbols End) o o' × (out.faults o' ≡ out.faults o)
+  OutEnds Done o o' = GotText out (receive_last (Symbols STANDARD) symbols End) o o' × (out.faults o' ≡ out.faults o)
   OutEnds (Failed Output) o o' =
       out.tells o → PutsPart (receive_last (Symbols STANDARD) symbols End) (out.contents o) (out.contents o')
   OutEnds _ o o' = o' ≡ o

@@ -2,7 +2,7 @@
 ghost use Rattle.std.specs.Prelude.{◌≡◌, ◌≤◌, ◌<◌, ◌^◌, ◌++◌, [], ℕ, List, length, IfOk, IfErr, OnOk};
 ghost use Rattle.lr_forms.specs.declared.forms.Stop.TheVariants.{End};
 ghost use Rattle.lr_conv.specs.declared.line.TheConstants.{STANDARD as standard};
-ghost use Rattle.lr_shelf_format.specs.Reading.{end_of};
+ghost use Rattle.lr_shelf_format.specs.ShelfBytes.{end_of};
 ghost use Rattle.lr_shelf.specs.Shelf.{IsDurable};
 ghost use Rattle.lr_make.specs.Blocks.{block_at};
 ghost use Rattle.lr_make.specs.Frames.{frame_at};

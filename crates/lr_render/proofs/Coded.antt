@@ -7,7 +7,7 @@ use Rattle.lr_headers.specs.declared.fields.Structure.{Structure}
 use Rattle.lr_headers.specs.declared.fields.Lossless.{Lossless}
 use Rattle.lr_image.specs.declared.fault.ImageFault.{ImageFault}
 use Rattle.lr_image.specs.Pieces.{GiveLines, PiecesFail, pieces_after, piece_with}
-use Rattle.lr_image.specs.Reading.{line_form}
+use Rattle.lr_image.specs.Images.{line_form}
 use Rattle.lr_image.specs.Shapes.{IsCoding, IsSize}
 use Rattle.lr_image.proofs.LineLemmas.{no_lines}
 use Rattle.lr_render.specs.Making.{StripsMake}

@@ -13,9 +13,9 @@ use Rattle.lr_image.specs.declared.fault.ImageFault.TheVariants.{Short}
 use Rattle.lr_image.specs.declared.layout.Layout.{Layout}
 use Rattle.lr_image.specs.declared.pieces.PiecePlace.{PiecePlace}
 use Rattle.lr_image.specs.Picture.{IsPicture}
-use Rattle.lr_image.specs.Places.{first_place}
-use Rattle.lr_image.specs.Reading.{HasImageFault, HasLayout, HasPixels, IsImageOf}
-use Rattle.lr_image.specs.Reading.{data_field, data_pieces}
+use Rattle.lr_image.specs.Places.{first_piece_place}
+use Rattle.lr_image.specs.Images.{HasImageFault, HasLayout, HasPixels, IsImageOf}
+use Rattle.lr_image.specs.Images.{data_field, data_pieces}
 use Rattle.lr_image.proofs.PieceLemmas.{first_in}
 use Rattle.lr_image.proofs.WholePixels.{makes_picture}
 use Rattle.lr_render.specs.Giving.{CanBeCut, GivesOne, GivesStrip, strips_left}
@@ -49,7 +49,7 @@ field_small file layout cut =
 pub new_plan : (file : File) (layout : Layout) (place : PiecePlace) (pixels : List ℕ)
     → HasLayout file layout → CanBeCut file layout
     → layout.shape.structure.columns ≤ 65535 → layout.shape.structure.lines ≤ 65535
-    → place ≡ first_place (10 + layout.header_bytes) → pixels ≡ []
+    → place ≡ first_piece_place (10 + layout.header_bytes) → pixels ≡ []
     → IsPlan file layout (record { strips = 0; lines = 0; place = place })
     (record { strips = 0; lines = 0; pixels = pixels; fault = None })
 new_plan file layout place pixels has cut wide high at none =

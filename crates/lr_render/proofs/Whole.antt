@@ -9,7 +9,7 @@ use Rattle.lr_headers.specs.declared.fields.Lossless.{Lossless}
 use Rattle.lr_image.specs.declared.fault.ImageFault.{ImageFault}
 use Rattle.lr_image.specs.declared.layout.Layout.{Layout}
 use Rattle.lr_image.specs.Plain.{BeginsWithPixels}
-use Rattle.lr_image.specs.Reading.{data_field, data_pieces}
+use Rattle.lr_image.specs.Images.{data_field, data_pieces}
 use Rattle.lr_image.specs.Shapes.{IsShapeOf}
 use Rattle.lr_render.specs.Giving.{HasEnough}
 use Rattle.lr_render.specs.Laws.{HasPixelsOrFault, StripsMakeTheImage}

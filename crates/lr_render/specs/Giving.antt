@@ -5,7 +5,7 @@ use Rattle.lr_headers.specs.declared.fields.Structure.{Structure}
 use Rattle.lr_headers.specs.declared.fields.Lossless.{Lossless}
 use Rattle.lr_image.specs.declared.layout.Layout.{Layout}
 use Rattle.lr_image.specs.Places.{IsPlaceIn, pieces_at}
-use Rattle.lr_image.specs.Reading.{data_field}
+use Rattle.lr_image.specs.Images.{data_field}
 use Rattle.lr_image.specs.Shapes.{IsShape}
 use Rattle.lr_render.specs.Tiling.{line_start, strips_after}
 use Rattle.lr_render.specs.declared.giving.Giving.{Giving}

@@ -4,7 +4,7 @@ use Rattle.lr_bits.specs.File.{File}
 use Rattle.lr_rice.specs.declared.fault.RiceFault.{RiceFault}
 use Rattle.lr_image.specs.declared.fault.ImageFault.{ImageFault}
 use Rattle.lr_image.specs.declared.layout.Layout.{Layout}
-use Rattle.lr_image.specs.Reading.{HasImageFault, HasPixels, LacksPixels}
+use Rattle.lr_image.specs.Images.{HasImageFault, HasPixels, LacksPixels}
 use Rattle.lr_image.specs.Shapes.{IsShape}
 use Rattle.lr_render.specs.Making.{StripsMake}
 use Rattle.lr_render.specs.Plans.{HasNoPlan}

@@ -6,7 +6,7 @@ use Rattle.lr_bits.specs.File.{File}
 use Rattle.lr_image.specs.declared.fault.ImageFault.{ImageFault}
 use Rattle.lr_image.specs.declared.layout.Layout.{Layout}
 use Rattle.lr_image.specs.Plain.{PixelsFail}
-use Rattle.lr_image.specs.Reading.{HasLayout, HasNoLayout, data_field}
+use Rattle.lr_image.specs.Images.{HasLayout, HasNoLayout, data_field}
 use Rattle.lr_image.specs.Shapes.{IsShape}
 use Rattle.lr_render.specs.Strips.{IsStrip}
 use Rattle.lr_render.specs.Tiling.{strips_of}

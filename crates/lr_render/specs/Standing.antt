@@ -5,7 +5,7 @@ use Rattle.lr_bits.specs.File.{File}
 use Rattle.lr_headers.specs.declared.fields.Structure.{Structure}
 use Rattle.lr_image.specs.declared.fault.ImageFault.{ImageFault}
 use Rattle.lr_image.specs.declared.layout.Layout.{Layout}
-use Rattle.lr_image.specs.Reading.{HasLayout}
+use Rattle.lr_image.specs.Images.{HasLayout}
 use Rattle.lr_render.specs.Giving.{CanBeCut, IsWithin, strips_left}
 use Rattle.lr_render.specs.Making.{StripsMake}
 use Rattle.lr_render.specs.Plans.{PlanView}

@@ -7,7 +7,7 @@ use Rattle.lr_bits.specs.File.{File}
 use Rattle.lr_headers.specs.declared.fields.Structure.{Structure}
 use Rattle.lr_headers.specs.declared.fields.Lossless.{Lossless}
 use Rattle.lr_image.specs.declared.layout.Layout.{Layout}
-use Rattle.lr_image.specs.Reading.{data_field, data_pieces}
+use Rattle.lr_image.specs.Images.{data_field, data_pieces}
 use Rattle.lr_render.specs.declared.strip.Coding.TheVariants.{Plain, Coded}
 use Rattle.lr_render.specs.declared.strip.StripSource.{StripSource}
 

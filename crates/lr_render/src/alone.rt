@@ -1,7 +1,7 @@
 //! Strip after strip on one thread.
 
 ghost use Rattle.std.specs.Prelude.{◌≡◌, IfOk, OnOk, length};
-ghost use Rattle.lr_image.specs.Reading.{HasOutcome};
+ghost use Rattle.lr_image.specs.Images.{HasOutcome};
 ghost use Rattle.lr_render.specs.Plans.{planned_strips};
 
 use crate::plan::Plan;

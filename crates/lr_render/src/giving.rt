@@ -2,7 +2,7 @@
 
 ghost use Rattle.std.specs.Prelude.{◌≡◌, ◌-◌, [], Some, None, IfOk, OnErr};
 ghost use Rattle.lr_image.specs.Places.{pieces_at};
-ghost use Rattle.lr_image.specs.Reading.{data_field};
+ghost use Rattle.lr_image.specs.Images.{data_field};
 ghost use Rattle.lr_image.specs.Shapes.{IsCoding};
 ghost use Rattle.lr_render.specs.Giving.{CanBeCut, GivesStrip, IsWithin, strips_left};
 ghost use Rattle.lr_render.specs.Tiling.{coded_strips, strips_after};

@@ -3,7 +3,7 @@
 ghost use Rattle.std.specs.Prelude.{◌≡◌, ◌<◌, ◌*◌, ◌^◌, ◌⊎◌, None, Some};
 ghost use Rattle.std.specs.Prelude.{IfErr, IfNone, IfOk, IfSome, length};
 ghost use Rattle.lr_image.specs.Plain.{PixelsFail};
-ghost use Rattle.lr_image.specs.Reading.{HasLayout};
+ghost use Rattle.lr_image.specs.Images.{HasLayout};
 ghost use Rattle.lr_image.specs.Shapes.{IsShape};
 ghost use Rattle.lr_bits.specs.File.{proper_of};
 ghost use Rattle.lr_headers.specs.Tiling.{first_fault};
@@ -85,7 +85,7 @@ impl Plan {
     ghost use Rattle.lr_headers.specs.Tiling.{first_fault};
     ghost use Rattle.lr_headers.specs.declared.fault.HeaderFault.{HeaderFault};
     ghost use Rattle.lr_image.specs.declared.fault.ImageFault.TheVariants.{Headers, NoMemory as WantOfMemory};
-    ghost use Rattle.lr_image.specs.Reading.{HasOutcome};
+    ghost use Rattle.lr_image.specs.Images.{HasOutcome};
     ghost use Rattle.lr_render.specs.Plans.{GivesNext, HasNoPlan, IsNewPlan, IsStripAt, planned_strips};
 
     /// The plan of a file's image. It takes no memory for pixels. Where it is refused the file is let go.

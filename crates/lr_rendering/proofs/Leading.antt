@@ -25,7 +25,7 @@ use Rattle.lr_io.specs.declared.sink.Sink.{Ghosts as SinkOf}
 use Rattle.lr_disk.specs.Reads.{IsUnwritten}
 use Rattle.lr_disk.specs.declared.disk.Disk.{Ghosts as DiskOf}
 use Rattle.lr_disk.proofs.Moments.{unwritten_joined, unwritten_yet}
-use Rattle.lr_image.specs.Reading.{HasOutcome}
+use Rattle.lr_image.specs.Images.{HasOutcome}
 use Rattle.lr_image.specs.declared.fault.ImageFault.{ImageFault}
 use Rattle.lr_render.specs.Plans.{PlanView, planned_strips}
 use Rattle.lr_render.specs.declared.strip.StripSource.{StripSource}
@@ -66,7 +66,7 @@ use Rattle.lr_rendering.specs.Leading.{
   IsOver,
   IsSameBut,
   IsTally,
-  IsTaken,
+  IsContentTaken,
   MayBeLed,
   MayWait,
   OnlyReads,
@@ -504,7 +504,7 @@ module _ {D O : Type 0} (disk : DiskOf D) (out : SinkOf O) where
         images_are images is next ahead has = subst (HasJobs jobs kept next ahead) (sym is) has
 
         pub reads_content : (content : Content)
-            → IsContent disk (way_in before) before.next before.disk.now content → IsTaken content before now
+            → IsContent disk (way_in before) before.next before.disk.now content → IsContentTaken content before now
             → AllGiven (images_under_way before) → Goes disk out start now jobs kept
         reads_content Gone gone taken given =
             reads_one next_is none there Vacant
@@ -554,21 +554,21 @@ module _ {D O : Type 0} (disk : DiskOf D) (out : SinkOf O) where
               length-append (images_under_way before) (image_of plan ∷ []),
             ))
 
-        joins_first : (content : Content) → IsTaken content before now → FirstWaits (images_under_way before)
+        joins_first : (content : Content) → IsContentTaken content before now → FirstWaits (images_under_way before)
             → FirstWaits (images_under_way now)
         joins_first Gone taken first = subst FirstWaits (sym taken.1) first
         joins_first NoImage taken first = subst FirstWaits (sym taken.1) first
         joins_first (Image plan) taken first =
             subst FirstWaits (sym taken.1) (first_join (images_under_way before) (image_of plan) refl first)
 
-        joins_left : (content : Content) → IsTaken content before now
+        joins_left : (content : Content) → IsContentTaken content before now
             → all_left (images_under_way now) ≤ all_left (images_under_way before) + 65535
         joins_left Gone taken = omega (arith, ap all_left taken.1)
         joins_left NoImage taken = omega (arith, ap all_left taken.1)
         joins_left (Image plan) taken =
             omega (arith, ap all_left taken.1, left-push (images_under_way before) (image_of plan))
 
-        pub reads_one_more : before.refusal ≡ None → (content : Content) → IsTaken content before now
+        pub reads_one_more : before.refusal ≡ None → (content : Content) → IsContentTaken content before now
             → ReadsOne before now
         reads_one_more was content taken =
             let counts : count_in now ≡ count_in before = ap (λ (k : Kept). length k.way.entries) only.kept in
@@ -642,7 +642,7 @@ module _ {D O : Type 0} (disk : DiskOf D) (out : SinkOf O) where
     taken_only = subst (λ (s : Shelf). ReadsOnly disk before.shelf s before.disk.now now.disk.now) (sym takes.shelf)
         (subst (λ (r : _). ReadsOnly disk before.shelf mid.shelf before.disk.now r.now) (sym takes.disk) only)
 
-    taken_is : (content : Content) → IsTaken content mid now → IsTaken content before now
+    taken_is : (content : Content) → IsContentTaken content mid now → IsContentTaken content before now
     taken_is Gone taken = (taken.0 ∙ tally_is, taken.1 ∙ ap (λ (q : Queue). q.images.items) queue_is)
     taken_is NoImage taken = (
       taken.0 ∙ ap (λ (t : Tally). record { images = t.images; skipped = t.skipped + 1 }) tally_is,

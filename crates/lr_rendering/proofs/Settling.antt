@@ -22,7 +22,7 @@ use Rattle.lr_bits.specs.File.{File}
 use Rattle.lr_io.specs.declared.sink.Sink.{Ghosts as SinkOf}
 use Rattle.lr_disk.specs.declared.disk.Disk.{Ghosts as DiskOf}
 use Rattle.lr_image.specs.Picture.{Picture}
-use Rattle.lr_image.specs.Reading.{HasOutcome}
+use Rattle.lr_image.specs.Images.{HasOutcome}
 use Rattle.lr_image.specs.declared.fault.ImageFault.{ImageFault}
 use Rattle.lr_shelf_format.specs.Way.{Way}
 use Rattle.lr_shelf_format.specs.declared.stored.Stored.{Stored}

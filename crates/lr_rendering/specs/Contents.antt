@@ -2,7 +2,7 @@
 use Rattle.std.specs.Prelude.{◌≡◌, ℕ, Option, Some, Err, List}
 use Rattle.lr_bits.specs.Faults.{Rose}
 use Rattle.lr_disk.specs.declared.disk.Disk.{Ghosts as DiskOf}
-use Rattle.lr_image.specs.Reading.{HasImageFault}
+use Rattle.lr_image.specs.Images.{HasImageFault}
 use Rattle.lr_image.specs.declared.fault.ImageFault.{ImageFault}
 use Rattle.lr_render.specs.Plans.{IsNewPlan}
 use Rattle.lr_shelf_format.specs.Way.{Way, Gone, Sound, IsFound}

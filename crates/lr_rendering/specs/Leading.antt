@@ -22,7 +22,7 @@ use Rattle.lr_bits.specs.File.{File}
 use Rattle.lr_io.specs.declared.sink.Sink.{Ghosts as SinkOf}
 use Rattle.lr_disk.specs.Reads.{IsUnwritten}
 use Rattle.lr_disk.specs.declared.disk.Disk.{Ghosts as DiskOf}
-use Rattle.lr_image.specs.Reading.{HasImageFault}
+use Rattle.lr_image.specs.Images.{HasImageFault}
 use Rattle.lr_image.specs.declared.fault.ImageFault.{ImageFault}
 use Rattle.lr_render.specs.declared.strip.StripSource.{StripSource}
 use Rattle.lr_shelf_format.specs.Way.{Way}
@@ -155,12 +155,12 @@ module _ {D O : Type 0} where
     pub given : AllGiven (images_under_way old) → AllGiven (images_under_way new)
 
   -- what an entry holds was counted, or its image joined those under way
-  abbrev pub IsTaken : Content → RenderLead D O → RenderLead D O → Type 0
-  IsTaken Gone old new = (new.tally ≡ old.tally) × (images_under_way new ≡ images_under_way old)
-  IsTaken NoImage old new =
+  abbrev pub IsContentTaken : Content → RenderLead D O → RenderLead D O → Type 0
+  IsContentTaken Gone old new = (new.tally ≡ old.tally) × (images_under_way new ≡ images_under_way old)
+  IsContentTaken NoImage old new =
       (new.tally ≡ record { images = old.tally.images; skipped = old.tally.skipped + 1 })
       × (images_under_way new ≡ images_under_way old)
-  IsTaken (Image plan) old new =
+  IsContentTaken (Image plan) old new =
       (new.tally ≡ old.tally) × (images_under_way new ≡ images_under_way old ++ image_of plan ∷ [])
 
   -- the next entry holds this
@@ -171,7 +171,7 @@ module _ {D O : Type 0} where
     pub next : new.next ≡ old.next + 1
     pub refusal : new.refusal ≡ old.refusal
     pub room : deque_capacity new.queue.images ≡ deque_capacity old.queue.images
-    pub taken : IsTaken content old new
+    pub taken : IsContentTaken content old new
 
   -- an entry was read
   pub record ReadsOne (old new : RenderLead D O) : Type 0 where

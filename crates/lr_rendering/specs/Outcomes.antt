@@ -3,7 +3,7 @@ use Rattle.std.specs.Prelude.{◌≡◌, ◌+◌, Some, Result, Ok, Err}
 use Rattle.lr_bits.specs.File.{File}
 use Rattle.lr_io.specs.declared.sink.Sink.{Ghosts as SinkOf}
 use Rattle.lr_image.specs.Picture.{Picture}
-use Rattle.lr_image.specs.Reading.{HasOutcome}
+use Rattle.lr_image.specs.Images.{HasOutcome}
 use Rattle.lr_image.specs.declared.fault.ImageFault.{ImageFault}
 use Rattle.lr_causes.specs.Puts.{Puts}
 use Rattle.lr_causes.specs.declared.cause.Cause.{Cause}

@@ -39,12 +39,12 @@ one (Ok x) = Ok (1, x.0, x.1)
 one (Err cause) = Err cause
 
 -- the number in the place of the reference is dropped
-abbrev tail_of : List ℕ → List ℕ
-tail_of [] = []
-tail_of (lead ∷ values) = values
+abbrev after_lead : List ℕ → List ℕ
+after_lead [] = []
+after_lead (lead ∷ values) = values
 
 abbrev unlead : Bool → Result (List ℕ × List ℕ) Cause → Body
-unlead first (Ok x) = Ok (1, (if first then tail_of x.0 else x.0), x.1)
+unlead first (Ok x) = Ok (1, (if first then after_lead x.0 else x.0), x.1)
 unlead first (Err cause) = Err cause
 
 abbrev run_at : Bool → ℕ → List ℕ → List ℕ → Body

@@ -14,7 +14,7 @@ use Rattle.lr_rice.specs.CodedLines.{left_in_segment, part_string, places, run_o
 use Rattle.lr_rice.specs.Samples.{IsSingle, whole_block}
 use Rattle.lr_rice.proofs.BlockLemmas.{whole_block-zeros}
 use Rattle.lr_rice.proofs.LineLemmas.{not_first, places_from}
-use Rattle.lr_rice_coder.specs.Shortest.{all_zero, shortest_option, block_at, block_in, block_values, next_part}
+use Rattle.lr_rice_coder.specs.Shortest.{all_zero, shortest_option, places_of_block, block_in, block_values, next_part}
 use Rattle.lr_rice_coder.specs.Shortest.{parts_from, run_number, zero_run}
 use Rattle.lr_rice_coder.specs.Writing.{ArePlaces}
 use Rattle.lr_rice_coder.proofs.CostLemmas.{lead_back}
@@ -60,7 +60,7 @@ run_zeros block places zero at inside =
     ∙ omega arith in
     ap (λ k. take k (drop (at * block) places)) none ∙ ap (λ k. replicate k 0) (sym none)
 run_zeros block places (suc n) at inside =
-    elim (cases_Bool (all_zero (block_at block places at))) [
+    elim (cases_Bool (all_zero (places_of_block block places at))) [
       | inr isnt ↦
           let none : zero_run block places (suc n) at * block ≡ 0 =
           ap (λ r. r * block) (zero_run-stop block places (suc n) at isnt) ∙ omega arith in
@@ -101,19 +101,19 @@ room-for form all at n are reach = omega (
 )
 
 pub block-length : (form : Form) (all : List ℕ) (at : ℕ) → ArePlaces form all → at < block_count form
-    → length (block_at form.block all at) ≡ form.block
+    → length (places_of_block form.block all at) ≡ form.block
 block-length form all at are inside =
     let room = room-for form all at 1 are (omega arith) in
     length-take-le form.block (drop (at * form.block) all) (omega (arith, length-drop (at * form.block) all, room))
 
 block-small : (form : Form) (all : List ℕ) (at k : ℕ) → ArePlaces form all → at < block_count form → k < form.block
-    → get_or (block_at form.block all at) k 0 ≤ greatest form.bits
+    → get_or (places_of_block form.block all at) k 0 ≤ greatest form.bits
 block-small form all at k are inside below =
     subst (λ v. v ≤ greatest form.bits) (sym (get_or-take form.block (drop (at * form.block) all) k 0 below
     ∙ get_or-drop (at * form.block) all k 0)) (are.small (at * form.block + k))
 
 pub block-clear : (form : Form) (all : List ℕ) (at : ℕ) → ArePlaces form all → (at == 0) ≡ true
-    → get_or (block_at form.block all at) 0 0 ≡ 0
+    → get_or (places_of_block form.block all at) 0 0 ≡ 0
 block-clear form all zero are first =
     let wide : 0 < form.block = omega (arith, are.wide) in
     let none : 0 * form.block + 0 ≡ 0 = omega arith in
@@ -179,11 +179,11 @@ good_run form all at run are inside is some =
 
 good_single : (form : Form) (all : List ℕ) (at : ℕ) (option : BlockOption) → ArePlaces form all
     → at < block_count form → IsSingle option → IsOption form.bits option →
-    Good form all at (block_in option (block_values (at == 0) (block_at form.block all at)))
+    Good form all at (block_in option (block_values (at == 0) (places_of_block form.block all at)))
 good_single form all at option are inside single is_option =
     let left = left_in_segment form at in
     let first = at == 0 in
-    let here = block_at form.block all at in
+    let here = places_of_block form.block all at in
     let values = block_values first here in
     let size = block-length form all at are inside in
     let one : span_of left (block_in option values) ≡ 1 = span_of-block_in left option values in
@@ -207,7 +207,7 @@ pub next_good : (form : Form) (all : List ℕ) (at : ℕ) → ArePlaces form all
     → Good form all at (next_part form all at)
 next_good form all at are inside =
     let run = zero_run form.block all (left_in_segment form at) at in
-    let here = block_at form.block all at in
+    let here = places_of_block form.block all at in
     let best = shortest_option-both form.bits (at == 0) here in
     elim (cases_lt run 1) [
       | inl none ↦ subst (Good form all at) (sym (next_part-block form all at (omega arith)))

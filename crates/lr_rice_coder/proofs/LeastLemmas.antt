@@ -18,7 +18,7 @@ use Rattle.lr_rice.specs.Samples.{IsSingle, whole_block}
 use Rattle.lr_rice.proofs.BlockLemmas.{run_of-pos, whole_block-zeros}
 use Rattle.lr_rice.proofs.ItemLemmas.{length-flat_map_numbers}
 use Rattle.lr_rice.proofs.LineLemmas.{not_first, part-length, places-values, places_from, block_count-pos}
-use Rattle.lr_rice_coder.specs.Shortest.{all_zero, shortest_option, block_at, block_in, block_values, cost_of}
+use Rattle.lr_rice_coder.specs.Shortest.{all_zero, shortest_option, places_of_block, block_in, block_values, cost_of}
 use Rattle.lr_rice_coder.specs.Shortest.{line_places, next_part, parts_from, run_number, zero_run}
 use Rattle.lr_rice_coder.specs.Laws.{NoCodingIsShorter}
 use Rattle.lr_rice_coder.specs.Writing.{ArePlaces}
@@ -267,7 +267,7 @@ zero_run-later block all n at zero inside =
     ap (λ k. zero_run block all k (at + 0)) same ∙ ap (zero_run block all n) place ∙ omega arith
 zero_run-later block all zero at (suc r) inside = absurd (omega (arith, zero_run-none block all at))
 zero_run-later block all (suc n) at (suc r) inside =
-    elim (cases_Bool (all_zero (block_at block all at))) [
+    elim (cases_Bool (all_zero (places_of_block block all at))) [
       | inr isnt ↦ absurd (omega (arith, zero_run-stop block all (suc n) at isnt))
       | inl is ↦
           let step = zero_run-more block all n at is in
@@ -278,27 +278,27 @@ zero_run-later block all (suc n) at (suc r) inside =
     ]
 
 zero_run-least : (block : ℕ) (all : List ℕ) (n at r : ℕ) → r ≤ n
-    → ((k : ℕ) → k < r → all_zero (block_at block all (at + k)) ≡ true) → r ≤ zero_run block all n at
+    → ((k : ℕ) → k < r → all_zero (places_of_block block all (at + k)) ≡ true) → r ≤ zero_run block all n at
 zero_run-least block all n at zero inside each = omega arith
 zero_run-least block all zero at (suc r) inside each = absurd (omega arith)
 zero_run-least block all (suc n) at (suc r) inside each =
     let place : at + 0 ≡ at = omega arith in
-    let here : all_zero (block_at block all at) ≡ true =
-    subst (λ (a : ℕ). all_zero (block_at block all a) ≡ true) place (each 0 (omega arith)) in
+    let here : all_zero (places_of_block block all at) ≡ true =
+    subst (λ (a : ℕ). all_zero (places_of_block block all a) ≡ true) place (each 0 (omega arith)) in
     let later = zero_run-least block all n (at + 1) r (omega arith)
     (λ k below.
     let turn : at + suc k ≡ at + 1 + k = omega arith in
-    subst (λ (a : ℕ). all_zero (block_at block all a) ≡ true) turn (each (suc k) (omega arith))) in
+    subst (λ (a : ℕ). all_zero (places_of_block block all a) ≡ true) turn (each (suc k) (omega arith))) in
     omega (arith, zero_run-more block all n at here, later)
 
 block-zero : (block : ℕ) (all : List ℕ) (at r k : ℕ) → k < r
-    → take (r * block) (drop (at * block) all) ≡ replicate (r * block) 0 → all_zero (block_at block all (at + k)) ≡ true
+    → take (r * block) (drop (at * block) all) ≡ replicate (r * block) 0 → all_zero (places_of_block block all (at + k)) ≡ true
 block-zero block all at r k below zeros =
     let rest = drop (at * block) all in
     let n = (r - k) * block in
     let room : block ≤ n = omega (arith, mul-le 1 block (r - k) block (omega arith) (omega arith)) in
     let whole : r * block ≡ k * block + n = omega (arith, ap (λ (j : ℕ). j * block) (split-sub r k (omega arith))) in
-    let moved : block_at block all (at + k) ≡ take block (drop (k * block) rest) =
+    let moved : places_of_block block all (at + k) ≡ take block (drop (k * block) rest) =
     ap (λ j. take block (drop j all)) (omega arith) ∙ ap (take block) (sym (drop-drop (k * block) (at * block) all)) in
     let cut : drop (k * block) (take (r * block) rest) ≡ take n (drop (k * block) rest) =
     ap (λ j. drop (k * block) (take j rest)) whole ∙ drop-take (k * block) n rest in
@@ -395,13 +395,13 @@ unwhole false values here same = same
 key_single : (form : Form) (all : List ℕ) (reference at : ℕ) (part : Part) → ArePlaces form all
     → at < block_count form → 8 ≤ form.block → form.block % 2 ≡ 0 → 5 ≤ form.bits → 1 ≤ left_in_segment form at →
     IsSingle (option_of part) → IsPart form.bits form.block (at == 0) (left_in_segment form at) part →
-    whole_block (at == 0) (values_of form.block (at == 0) (left_in_segment form at) part) ≡ block_at form.block all at →
+    whole_block (at == 0) (values_of form.block (at == 0) (left_in_segment form at) part) ≡ places_of_block form.block all at →
     best form all reference at ≤ length (part_string form.bits (at == 0) reference part) + best form all reference
     (at + 1)
 key_single form all reference at part are before wide even deep some_left single is same =
     let left = left_in_segment form at in
     let first = at == 0 in
-    let here = block_at form.block all at in
+    let here = places_of_block form.block all at in
     let run = zero_run form.block all left at in
     let long = single-long form.bits form.block first left reference part wide even deep single is in
     elim (cases_lt run 1) [
@@ -443,7 +443,7 @@ key_single form all reference at part are before wide even deep some_left single
           ]
     ]
 
-one_block : (block : ℕ) (all : List ℕ) (at : ℕ) → take (1 * block) (drop (at * block) all) ≡ block_at block all at
+one_block : (block : ℕ) (all : List ℕ) (at : ℕ) → take (1 * block) (drop (at * block) all) ≡ places_of_block block all at
 one_block block all at =
     let one : 1 * block ≡ block = omega arith in
     ap (λ (n : ℕ). take n (drop (at * block) all)) one

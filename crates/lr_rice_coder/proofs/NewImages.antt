@@ -27,7 +27,7 @@ use Rattle.lr_rice.proofs.LineLemmas.{block_count-pos}
 use Rattle.lr_image.specs.Pgm.{line_pixels}
 use Rattle.lr_image.specs.Picture.{Picture, IsPicture}
 use Rattle.lr_image.specs.Pieces.{GiveLines, piece_with, pieces_after}
-use Rattle.lr_image.specs.Reading.{IsImageOf}
+use Rattle.lr_image.specs.Images.{IsImageOf}
 use Rattle.lr_image.specs.Shapes.{IsShape, IsSize, coded_shape, lossless_fault, lossless_shape, plain_shape, shape_of}
 use Rattle.lr_image.specs.Shapes.{size_fault, structured_shape, unless}
 use Rattle.lr_image.specs.declared.fault.ImageFault.{ImageFault}

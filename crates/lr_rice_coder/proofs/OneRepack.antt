@@ -8,7 +8,7 @@ use Rattle.lr_headers.specs.Tiling.{Header}
 use Rattle.lr_headers.proofs.Tilings.{headers_are_one}
 use Rattle.lr_rice.specs.CodedLines.{Form}
 use Rattle.lr_image.specs.Picture.{Picture}
-use Rattle.lr_image.specs.Reading.{HasImageFault, IsImageOf}
+use Rattle.lr_image.specs.Images.{HasImageFault, IsImageOf}
 use Rattle.lr_image.specs.declared.fault.ImageFault.{ImageFault}
 use Rattle.lr_image.proofs.OneReading.{outcomes_are_one}
 use Rattle.lr_rice_coder.specs.Coded.{IsCodedLine}

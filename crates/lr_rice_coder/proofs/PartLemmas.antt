@@ -15,12 +15,12 @@ use Rattle.lr_rice.specs.CodedLines.{run_of, span_of, string_from}
 use Rattle.std.proofs.lemmas.Nat.{div-add-mod'}
 use Rattle.lr_rice.specs.Samples.{IsSingle}
 use Rattle.lr_rice.proofs.LineLemmas.{blocks-cover}
-use Rattle.lr_rice_coder.specs.Shortest.{all_zero, shortest_option, block_at, block_in, block_values, line_places}
+use Rattle.lr_rice_coder.specs.Shortest.{all_zero, shortest_option, places_of_block, block_in, block_values, line_places}
 use Rattle.lr_rice_coder.specs.Shortest.{mapped_from, next_part, parts_from, places_past, run_number, shortest_string}
 use Rattle.lr_rice_coder.specs.Shortest.{zero_run}
 
 pub slice : (block at : ℕ) (places : List ℕ) → take (at * block + block - at * block) (drop (at * block) places)
-    ≡ block_at block places at
+    ≡ places_of_block block places at
 slice block at places =
     let size : at * block + block - at * block ≡ block = omega arith in
     ap (λ n. take n (drop (at * block) places)) size
@@ -35,25 +35,25 @@ pub next_part-run : (form : Form) (places : List ℕ) (at run : ℕ)
     next_part form places at ≡ Zeros (run_number (left_in_segment form at) run)
 unfolding next_part
 next_part-run form places at run is some =
-    let here = block_at form.block places at in
+    let here = places_of_block form.block places at in
     let single = block_in (shortest_option form.bits (at == 0) here) (block_values (at == 0) here) in
     ap (λ r. if r == 0 then single else Zeros (run_number (left_in_segment form at) r)) (sym is)
     ∙ ap (λ b. if b then single else Zeros (run_number (left_in_segment form at) run)) (zero_test run some)
 
 pub next_part-block : (form : Form) (places : List ℕ) (at : ℕ)
     → zero_run form.block places (left_in_segment form at) at ≡ 0 →
-    next_part form places at ≡ block_in (shortest_option form.bits (at == 0) (block_at form.block places at))
-    (block_values (at == 0) (block_at form.block places at))
+    next_part form places at ≡ block_in (shortest_option form.bits (at == 0) (places_of_block form.block places at))
+    (block_values (at == 0) (places_of_block form.block places at))
 unfolding next_part
 next_part-block form places at none =
-    let here = block_at form.block places at in
+    let here = places_of_block form.block places at in
     let single = block_in (shortest_option form.bits (at == 0) here) (block_values (at == 0) here) in
     ap (λ r. if r == 0 then single else Zeros (run_number (left_in_segment form at) r)) none
 
 pub zero_run-le : (block : ℕ) (places : List ℕ) (n at : ℕ) → zero_run block places n at ≤ n
 unfolding zero_run
 zero_run-le block places zero at = omega arith
-zero_run-le block places (suc n) at = cond_le (all_zero (block_at block places at))
+zero_run-le block places (suc n) at = cond_le (all_zero (places_of_block block places at))
     (zero_run block places n (at + 1)) n (zero_run-le block places n (at + 1))
   where
     cond_le : (b : Bool) (run n : ℕ) → run ≤ n → (if b then suc run else 0) ≤ suc n

@@ -6,7 +6,7 @@ use Rattle.lr_headers.specs.Fields.{structure_of}
 use Rattle.lr_headers.specs.Tiling.{Header, IsHeaderOf}
 use Rattle.lr_headers.specs.declared.fields.Structure.{Structure}
 use Rattle.lr_image.specs.Picture.{Picture, IsPicture}
-use Rattle.lr_image.specs.Reading.{IsImageOf}
+use Rattle.lr_image.specs.Images.{IsImageOf}
 use Rattle.lr_rice_coder.specs.Coded.{IsBlock}
 use Rattle.lr_rice_coder.specs.Fronts.{IsCodedImage, MakesFile, MakingFails, file_with, front_with, picture_with}
 use Rattle.lr_rice_coder.specs.Refusals.{HasFaultOrMemory}

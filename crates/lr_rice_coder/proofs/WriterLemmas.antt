@@ -10,7 +10,7 @@ use Rattle.lr_bits.specs.Bits.{bits_of, number_bits, zeros_and_one}
 use Rattle.lr_bits.proofs.ReaderLemmas.{bits_of-append, bits_of-cons, bits_of-nil, number_bits_of_parts}
 use Rattle.lr_bits.proofs.ReaderLemmas.{number_bits_split}
 use Rattle.lr_rice.proofs.ItemLemmas.{number_bits-mod}
-use Rattle.lr_rice_coder.specs.Shortest.{all_zero, block_at, zero_run}
+use Rattle.lr_rice_coder.specs.Shortest.{all_zero, places_of_block, zero_run}
 
 pub number_bits-none : (n : ℕ) → number_bits 0 n ≡ []
 unfolding number_bits
@@ -100,13 +100,13 @@ zeros_before (suc m) n =
 
 -- ---- runs
 
-pub zero_run-stop : (block : ℕ) (places : List ℕ) (n at : ℕ) → all_zero (block_at block places at) ≡ false
+pub zero_run-stop : (block : ℕ) (places : List ℕ) (n at : ℕ) → all_zero (places_of_block block places at) ≡ false
     → zero_run block places n at ≡ 0
 unfolding zero_run
 zero_run-stop block places zero at isnt = refl
 zero_run-stop block places (suc n) at isnt = ap (λ b. if b then suc (zero_run block places n (at + 1)) else 0) isnt
 
-pub zero_run-more : (block : ℕ) (places : List ℕ) (n at : ℕ) → all_zero (block_at block places at) ≡ true
+pub zero_run-more : (block : ℕ) (places : List ℕ) (n at : ℕ) → all_zero (places_of_block block places at) ≡ true
     → zero_run block places (suc n) at ≡ suc (zero_run block places n (at + 1))
 unfolding zero_run
 zero_run-more block places n at is = ap (λ b. if b then suc (zero_run block places n (at + 1)) else 0) is

@@ -17,7 +17,7 @@ pub record IsCodable (form : Form) : Type 0 where
   pub block : IsBlock form.block
 
 -- the bytes have these bits, and then zeros up to a whole byte
-pub record Fills (bytes string : List ℕ) : Type 0 where
+pub record ArePaddedBits (bytes string : List ℕ) : Type 0 where
   pub zeros : ℕ
   pub few : zeros < 8
   pub whole : bits_of bytes ≡ string ++ replicate zeros 0
@@ -33,7 +33,7 @@ IsLong form samples = 65534 < byte_count (shortest_string form samples)
 -- the bytes of a line, no more than the body of a packet has
 pub record IsCodedLine (form : Form) (samples bytes : List ℕ) : Type 0 where
   pub small : All (λ byte. byte < 256) bytes
-  pub fills : Fills bytes (shortest_string form samples)
+  pub fills : ArePaddedBits bytes (shortest_string form samples)
   pub short : length bytes ≤ 65534
 
 -- the bytes of the line were appended

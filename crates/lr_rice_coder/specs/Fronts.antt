@@ -77,10 +77,10 @@ pub record MakesFile (file : File) (s : Structure) (pixels : List ℕ) (block : 
   pub is_file : IsFile new
 
 -- why they weren't; want of memory may come at any time
-abbrev pub LinesFail : Picture → ℕ → RepackFault → Type 0
-LinesFail picture block (fault.Line line) = HasLongLine picture block line
-LinesFail picture block fault.NoMemory = Unit {0}
-LinesFail picture block fault = ⊥
+abbrev pub CodingFails : Picture → ℕ → RepackFault → Type 0
+CodingFails picture block (fault.Line line) = HasLongLine picture block line
+CodingFails picture block fault.NoMemory = Unit {0}
+CodingFails picture block fault = ⊥
 
 -- why the file wasn't made: a line, its first body or the file is too long
 pub record FirstIsLong (picture : Picture) (block : ℕ) (others : List ℕ) (size : ℕ) : Type 0 where

@@ -4,8 +4,8 @@ use Rattle.std.specs.List.{All}
 use Rattle.lr_bits.specs.Bits.{bits_of}
 use Rattle.lr_bits.specs.File.{File}
 use Rattle.lr_rice.specs.CodedLines.{BeginsWithLines, Codes, Form, GrowsByLines, IsLine}
-use Rattle.lr_rice_coder.specs.Coded.{Fills, IsBlock, IsCodable, IsCodedLine, byte_count}
-use Rattle.lr_rice_coder.specs.Refusals.{HasOutcome}
+use Rattle.lr_rice_coder.specs.Coded.{ArePaddedBits, IsBlock, IsCodable, IsCodedLine, byte_count}
+use Rattle.lr_rice_coder.specs.Refusals.{HasRepackOutcome}
 use Rattle.lr_rice_coder.specs.Repacked.{HaveOneImage, IsRepacked, KeepsName, TellsLengths}
 use Rattle.lr_rice_coder.specs.declared.fault.RepackFault.{RepackFault}
 use Rattle.lr_rice_coder.specs.Shortest.{line_places, shortest_string}
@@ -41,14 +41,14 @@ NoCodingIsShorter =
 abbrev pub CodedIsDecoded : Type 0
 CodedIsDecoded =
     (form : Form) (reference : ℕ) (samples bytes : List ℕ) → IsRow form (reference ∷ samples)
-    → Fills bytes (shortest_string form (reference ∷ samples))
+    → ArePaddedBits bytes (shortest_string form (reference ∷ samples))
     → BeginsWithLines form 1 (reference ∷ samples) (bits_of bytes)
 
 -- decoding one line of such bytes gives the samples of the line, and no others
 abbrev pub DecodingGivesTheLine : Type 0
 DecodingGivesTheLine =
     (form : Form) (reference : ℕ) (samples bytes old new : List ℕ) → IsRow form (reference ∷ samples)
-    → Fills bytes (shortest_string form (reference ∷ samples)) → GrowsByLines form 1 (bits_of bytes) old new
+    → ArePaddedBits bytes (shortest_string form (reference ∷ samples)) → GrowsByLines form 1 (bits_of bytes) old new
     → new ≡ old ++ (reference ∷ samples)
 
 -- a line has one list of bytes
@@ -59,7 +59,7 @@ CodedLinesAreOne =
 
 -- a string fills as many bytes as its bits need
 abbrev pub FillingsAreWhole : Type 0
-FillingsAreWhole = (string bytes : List ℕ) → Fills bytes string → length bytes ≡ byte_count string
+FillingsAreWhole = (string bytes : List ℕ) → ArePaddedBits bytes string → length bytes ≡ byte_count string
 
 -- a file that is coded anew has the image of the old one
 abbrev pub RepackedKeepsImage : Type 0
@@ -76,5 +76,5 @@ RepackedTellsLengths = (file new : File) (block : ℕ) → IsRepacked file block
 -- a file is coded anew in one way, or has one first refusal, and not both
 abbrev pub RepacksAreOne : Type 0
 RepacksAreOne =
-    (file : File) (block : ℕ) (one other : Result File RepackFault) → HasOutcome file block one
-    → HasOutcome file block other → one ≡ other
+    (file : File) (block : ℕ) (one other : Result File RepackFault) → HasRepackOutcome file block one
+    → HasRepackOutcome file block other → one ≡ other

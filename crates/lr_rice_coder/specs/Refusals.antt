@@ -4,7 +4,7 @@ use Rattle.lr_bits.specs.File.{File}
 use Rattle.lr_headers.specs.Tiling.{Header}
 use Rattle.lr_image.specs.Pgm.{line_pixels}
 use Rattle.lr_image.specs.Picture.{Picture}
-use Rattle.lr_image.specs.Reading.{HasImageFault, IsImageOf}
+use Rattle.lr_image.specs.Images.{HasImageFault, IsImageOf}
 use Rattle.lr_rice_coder.specs.Coded.{IsLong}
 use Rattle.lr_rice_coder.specs.Repacked.{IsRepacked, IsSource, file_size, first_size, form_with}
 use Rattle.lr_rice_coder.specs.declared.fault.RepackFault.{RepackFault}
@@ -71,6 +71,6 @@ HasFaultOrMemory file block fault.NoMemory = Unit {0}
 HasFaultOrMemory file block fault = HasRepackFault file block fault
 
 -- what a file gives: a file coded anew, or a first refusal
-abbrev pub HasOutcome : File → ℕ → Result File RepackFault → Type 0
-HasOutcome file block (Ok new) = IsRepacked file block new
-HasOutcome file block (Err fault) = HasRepackFault file block fault
+abbrev pub HasRepackOutcome : File → ℕ → Result File RepackFault → Type 0
+HasRepackOutcome file block (Ok new) = IsRepacked file block new
+HasRepackOutcome file block (Err fault) = HasRepackFault file block fault

@@ -11,7 +11,7 @@ use Rattle.lr_headers.specs.declared.entry.Entry.{Entry}
 use Rattle.lr_rice.specs.CodedLines.{Form, form_of}
 use Rattle.lr_image.specs.Pgm.{line_pixels}
 use Rattle.lr_image.specs.Picture.{Picture}
-use Rattle.lr_image.specs.Reading.{IsImageOf}
+use Rattle.lr_image.specs.Images.{IsImageOf}
 use Rattle.lr_rice_coder.specs.Coded.{IsCodedLine, byte_count}
 use Rattle.lr_rice_coder.specs.Shortest.{shortest_string}
 

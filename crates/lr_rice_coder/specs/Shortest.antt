@@ -26,8 +26,8 @@ line_places form (reference ∷ samples) =
     0 ∷ mapped_from (greatest form.bits) reference samples ++ replicate (places_past form) 0
 
 -- the values of the places of one block
-abbrev pub block_at : ℕ → List ℕ → ℕ → List ℕ
-block_at block places at = take block (drop (at * block) places)
+abbrev pub places_of_block : ℕ → List ℕ → ℕ → List ℕ
+places_of_block block places at = take block (drop (at * block) places)
 
 -- ---- runs
 
@@ -40,7 +40,7 @@ all_zero (suc value ∷ values) = false
 unfoldable pub zero_run : ℕ → List ℕ → ℕ → ℕ → ℕ
 zero_run block places zero at = 0
 zero_run block places (suc most) at =
-    if all_zero (block_at block places at) then suc (zero_run block places most (at + 1)) else 0
+    if all_zero (places_of_block block places at) then suc (zero_run block places most (at + 1)) else 0
 
 -- The number of a zero block for a run of this many blocks, where `left` are left in the segment. The number 4 stands
 -- for a run of five or more blocks up to the segment's end.
@@ -91,7 +91,7 @@ unfoldable pub next_part : Form → List ℕ → ℕ → Part
 next_part form places at =
     let left = left_in_segment form at in
     let run = zero_run form.block places left at in
-    let here = block_at form.block places at in
+    let here = places_of_block form.block places at in
     let first = at == 0 in
     if run == 0
     then block_in (shortest_option form.bits first here) (block_values first here)

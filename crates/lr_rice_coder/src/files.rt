@@ -4,7 +4,7 @@ ghost use Rattle.std.specs.Prelude.{◌≡◌, ◌<◌, ◌≤◌, ◌+◌, ◌^
 ghost use Rattle.lr_bits.specs.File.{counter_of};
 ghost use Rattle.lr_rice.specs.CodedLines.{form_of};
 ghost use Rattle.lr_rice_coder.specs.Coded.{IsBlock, IsFault};
-ghost use Rattle.lr_rice_coder.specs.Fronts.{AppendsLines, AppendsRow, HoldsLines, IsCodedImage, LinesFail, MakesFile};
+ghost use Rattle.lr_rice_coder.specs.Fronts.{AppendsLines, AppendsRow, HoldsLines, IsCodedImage, CodingFails, MakesFile};
 ghost use Rattle.lr_rice_coder.specs.Fronts.{MakingFails, front_with, picture_with};
 ghost use Rattle.lr_rice_coder.specs.Refusals.{HasFaultOrMemory};
 ghost use Rattle.lr_rice_coder.specs.Repacked.{HaveOneImage, IsRepacked, KeepsName};
@@ -134,7 +134,7 @@ fn coded_lines(
 ) -> Result<LineBytes, RepackFault>
     requires { IsCodedImage structure image.pixels block }
     ensures ok { IfOk result (HoldsLines (picture_with structure image.pixels) block first) }
-    ensures err { IfErr result (LinesFail (picture_with structure image.pixels) block) }
+    ensures err { IfErr result (CodingFails (picture_with structure image.pixels) block) }
 {
     let Ok(lengths) = lengths_from(alloc, first) else {
         return Err(RepackFault::NoMemory);
@@ -187,7 +187,7 @@ fn code_lines(
     requires none { lines.old.bytes ≡ [] }
     requires empty { lines.old.size ≡ 0 }
     ensures ok { OnOk result (AppendsLines (picture_with structure pixels.now) block room lines.old lines.new) }
-    ensures err { IfErr result (LinesFail (picture_with structure pixels.now) block) }
+    ensures err { IfErr result (CodingFails (picture_with structure pixels.now) block) }
 {
     let columns = usize::from(structure.columns);
     for line in 0..structure.lines {

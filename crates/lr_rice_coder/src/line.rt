@@ -3,7 +3,7 @@
 ghost use Rattle.std.specs.Prelude.{◌≡◌, ◌<◌, ◌≤◌, ◌*◌, ◌+◌, ◌-◌, ◌%◌, ◌^◌, ◌++◌, All, Err, IfErr, IfOk, OnErr, OnOk};
 ghost use Rattle.std.specs.Prelude.{length};
 ghost use Rattle.lr_rice.specs.CodedLines.{block_count, form_of, left_in_segment};
-ghost use Rattle.lr_rice_coder.specs.Coded.{AppendsLine, Fills, IsBlock, IsFault};
+ghost use Rattle.lr_rice_coder.specs.Coded.{AppendsLine, ArePaddedBits, IsBlock, IsFault};
 ghost use Rattle.lr_rice_coder.specs.declared.fault.CodeFault.TheVariants.{Long};
 ghost use Rattle.lr_rice_coder.specs.Shortest.{run_number, shortest_string};
 ghost use Rattle.lr_rice_coder.specs.Writing.{IsReady, IsWritten, form_in, line_string};
@@ -71,7 +71,7 @@ fn line_bytes(alloc: Global, samples: &[u16], bits: u32, block: u32) -> Result<V
     requires columns { (1 ≤ length samples.now) × (length samples.now ≤ 65535) }
     requires small { All (λ sample. sample < 2 ^ bits) samples.now }
     ensures { IfOk result (λ bytes.
-        Fills bytes.items (shortest_string (form_of bits block (length samples.now)) samples.now)) }
+        ArePaddedBits bytes.items (shortest_string (form_of bits block (length samples.now)) samples.now)) }
 {
     let places = places_of(alloc, samples, bits, block)?;
     let line = Line {

@@ -2,7 +2,7 @@
 
 ghost use Rattle.std.specs.Prelude.{◌≡◌, ◌<◌, ◌≤◌, ◌*◌, ◌^◌, ◌++◌, [], IfOk, OnOk};
 ghost use Rattle.lr_bits.specs.Bits.{number_bits, zeros_and_one};
-ghost use Rattle.lr_rice_coder.specs.Coded.{Fills};
+ghost use Rattle.lr_rice_coder.specs.Coded.{ArePaddedBits};
 
 use lr_bits::NoMemory;
 use std::alloc::Global;
@@ -81,7 +81,7 @@ impl BitWriter {
 
     /// The bytes of these bits, filled with zeros.
     pub(crate) fn finish(mut self) -> Result<Vec<u8>, NoMemory>
-        ensures { IfOk result (λ bytes. Fills bytes.items self) }
+        ensures { IfOk result (λ bytes. ArePaddedBits bytes.items self) }
     {
         let zeros = 7 - (self.count + 7) % 8;
         self.number(zeros, 0)?;

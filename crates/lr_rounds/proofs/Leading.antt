@@ -39,7 +39,7 @@ use Rattle.lr_gate.specs.declared.gate.Conductor.{Conductor}
 use Rattle.lr_gate.specs.declared.gate.Gate.{Gate}
 use Rattle.lr_gate.specs.declared.view.View.{View}
 use Rattle.lr_rounds.specs.declared.lead.Offer.{Offer}
-use Rattle.lr_rounds.specs.Leads.{Gives, IsDoneNext, MayGive, MayKeep, Begins, EndsWell, GivesJob, GivesNone, Keeps}
+use Rattle.lr_rounds.specs.Leads.{Gives, IsDoneNext, MayGive, MayKeep, HasGivenNothing, EndsWell, GivesJob, GivesNone, Keeps}
 use Rattle.lr_rounds.specs.Rounds.{rounds_left, SameJobs, KeepsNone, PutsNone, MayGoOn}
 use Rattle.lr_rounds.specs.declared.round.Traffic.{Traffic}
 use Rattle.lr_rounds.proofs.Left.{unfinished_more, unfinished_less}
@@ -90,7 +90,7 @@ module _ {L W J D : Type 0} (stands : L → L → List J → ℕ → Type 0) (is
     next : IsDoneNext gives (view_of conductor).jobs (view_of conductor).taken done
     next = done_next gives (cells_of gate) (view_of conductor) (view_of conductor') done takes
 
-    kept_from : (start : L) → Begins stands start entry
+    kept_from : (start : L) → HasGivenNothing stands start entry
         → Keeps stands is_over left (view_of conductor).jobs (view_of conductor).taken start before now
     kept_from start begins =
         keeps start (view_of conductor).jobs (view_of conductor).taken (may.led start begins) next
@@ -138,7 +138,7 @@ module _ {L W J D : Type 0} (stands : L → L → List J → ℕ → Type 0) (is
 
   module _ (job : J) (now : L) (gives : (start : L) (jobs : List J) (kept : ℕ) → stands start before jobs kept
       → GivesJob stands is_over left jobs kept start before now job) where
-    given_from : (start : L) → Begins stands start entry
+    given_from : (start : L) → HasGivenNothing stands start entry
         → GivesJob stands is_over left (view_of conductor).jobs (view_of conductor).taken start before now job
     given_from start begins = gives start (view_of conductor).jobs (view_of conductor).taken (may.led start begins)
 
@@ -182,7 +182,7 @@ module _ {L W J D : Type 0} (stands : L → L → List J → ℕ → Type 0) (is
 
   module _ (now : L) (same : (start : L) (jobs : List J) (kept : ℕ) → stands start before jobs kept
       → GivesNone stands is_over left jobs kept start before now) where
-    none_from : (start : L) → Begins stands start entry
+    none_from : (start : L) → HasGivenNothing stands start entry
         → GivesNone stands is_over left (view_of conductor).jobs (view_of conductor).taken start before now
     none_from start begins = same start (view_of conductor).jobs (view_of conductor).taken (may.led start begins)
 
@@ -234,7 +234,7 @@ module _ {L W J D : Type 0} (stands : L → L → List J → ℕ → Type 0) (is
 
   -- ---- the end
 
-  pub ends_well : traffic.over ≡ true → traffic.waiting ≡ 0 → (start : L) → Begins stands start entry
+  pub ends_well : traffic.over ≡ true → traffic.waiting ≡ 0 → (start : L) → HasGivenNothing stands start entry
       → EndsWell stands is_over start before
   ends_well said none start begins = record {
     jobs = (view_of conductor).jobs;

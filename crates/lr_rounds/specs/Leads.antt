@@ -22,8 +22,8 @@ module _ {L J : Type 0} (stands : L → L → List J → ℕ → Type 0) where
       (start : L) × (jobs : List J) × (kept : ℕ) × stands start now jobs kept × IsDoneNext gives jobs kept done
 
   -- nothing was given or kept yet
-  abbrev pub Begins : L → L → Type 0
-  Begins start now = stands start now [] 0
+  abbrev pub HasGivenNothing : L → L → Type 0
+  HasGivenNothing start now = stands start now [] 0
 
   -- all that came of its jobs was kept, and there are no more
   pub record EndsWell (is_over : L → Type 0) (start now : L) : Type 0 where

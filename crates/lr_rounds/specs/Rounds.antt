@@ -6,7 +6,7 @@ use Rattle.lr_gate.specs.Seats.{cells_of, workers_of, IsConductorOf, view_of, pu
 use Rattle.lr_gate.specs.declared.gate.Conductor.{Conductor}
 use Rattle.lr_gate.specs.declared.gate.Gate.{Gate}
 use Rattle.lr_gate.specs.declared.view.View.{View}
-use Rattle.lr_rounds.specs.Leads.{Begins, EndsWell}
+use Rattle.lr_rounds.specs.Leads.{HasGivenNothing, EndsWell}
 use Rattle.lr_rounds.specs.declared.round.Round.{Round}
 use Rattle.lr_rounds.specs.declared.round.Round.TheVariants.{Worked, Waits, Ended}
 use Rattle.lr_rounds.specs.declared.round.Traffic.{Traffic}
@@ -25,7 +25,7 @@ rounds_left left conductor traffic now =
 -- it stopped for this cause, wherever it began
 abbrev pub Stops : {L J Cause : Type 0} → (L → L → List J → ℕ → Type 0) → (L → Cause → L → Type 0) → Cause → L → L
     → Type 0
-Stops {L} stands stopped cause entry now = (start : L) → Begins stands start entry → stopped start cause now
+Stops {L} stands stopped cause entry now = (start : L) → HasGivenNothing stands start entry → stopped start cause now
 
 -- ---- calls that put no job and take none
 
@@ -62,8 +62,8 @@ module _ {L W J D : Type 0} (stands : L → L → List J → ℕ → Type 0) (is
     pub record MayGoOn (conductor : Conductor W J D) (traffic : Traffic) (entry now : L) : Type 0 where
       pub mine : IsConductorOf gate conductor
       pub running : (view_of conductor).stopped ≡ false
-      pub ready : (start : L) × Begins stands start entry
-      pub led : (start : L) → Begins stands start entry
+      pub ready : (start : L) × HasGivenNothing stands start entry
+      pub led : (start : L) → HasGivenNothing stands start entry
           → stands start now (view_of conductor).jobs (view_of conductor).taken
       pub waiting : traffic.waiting + (view_of conductor).taken ≡ put_count (view_of conductor)
       pub over : traffic.over ≡ true → is_over now
@@ -72,7 +72,7 @@ module _ {L W J D : Type 0} (stands : L → L → List J → ℕ → Type 0) (is
     abbrev pub Goes : Round → Conductor W J D → Traffic → L → L → Type 0
     Goes Worked conductor traffic entry now = MayGoOn conductor traffic entry now
     Goes Waits conductor traffic entry now = MayGoOn conductor traffic entry now
-    Goes Ended conductor traffic entry now = (start : L) → Begins stands start entry → EndsWell stands is_over start now
+    Goes Ended conductor traffic entry now = (start : L) → HasGivenNothing stands start entry → EndsWell stands is_over start now
 
   -- rounds may be made from here on, over this gate of N cells
   pub record MayRound (cells : ℕ) (gate : Gate W J D) (conductor : Conductor W J D) (now : L) : Type 0 where
@@ -86,8 +86,8 @@ module _ {L W J D : Type 0} (stands : L → L → List J → ℕ → Type 0) (is
         (before now : L) : Type 0 where
       pub mine : IsConductorOf gate conductor
       pub running : (view_of conductor).stopped ≡ false
-      pub all : (start : L) → Begins stands start before → IfOk answer (λ _. EndsWell stands is_over start now)
-      pub stops : (start : L) → Begins stands start before → IfErr answer (λ cause. stopped start cause now)
+      pub all : (start : L) → HasGivenNothing stands start before → IfOk answer (λ _. EndsWell stands is_over start now)
+      pub stops : (start : L) → HasGivenNothing stands start before → IfErr answer (λ cause. stopped start cause now)
 
     -- rounds may be made over some gate that the conductor is of, and a call with these conditions makes them
     pub record MayConduct (conductor : Conductor W J D) (now : L)

@@ -1,7 +1,7 @@
 //! A lead is led on one thread.
 ghost use Rattle.std.specs.Prelude.{◌≡◌, IfOk, IfErr};
 ghost use Rattle.lr_gate.specs.Seats.{workers_of};
-ghost use Rattle.lr_rounds.specs.Leads.{Begins, EndsWell};
+ghost use Rattle.lr_rounds.specs.Leads.{HasGivenNothing, EndsWell};
 ghost use Rattle.lr_rounds.specs.Rounds.{MayRound};
 
 use crate::crew::Crew;
@@ -20,9 +20,9 @@ fn go_alone<W: Work, L: Lead<W>>(
 ) -> Result<(), L::Cause>
     requires going { MayRound L.stands L.is_over cells gate.now conductor.old lead.old }
     requires alone { workers_of gate.now ≡ 0 }
-    ensures all { (start : L) → Begins L.stands start lead.old
+    ensures all { (start : L) → HasGivenNothing L.stands start lead.old
         → IfOk result (λ _. EndsWell L.stands L.is_over start lead.new) }
-    ensures stopped { (start : L) → Begins L.stands start lead.old
+    ensures stopped { (start : L) → HasGivenNothing L.stands start lead.old
         → IfErr result (λ cause. L.stopped start cause lead.new) }
 {
     let mut traffic = Traffic {
@@ -42,10 +42,10 @@ fn go_alone<W: Work, L: Lead<W>>(
 /// for every lead.
 pub fn lead_alone<W: Work + Drop, L: Lead<W>>(crew: Crew<W>, lead: &mut L) -> Result<(), L::Cause>
     requires alone { crew.seats ≡ 0 }
-    requires ready { (start : L) × Begins L.stands start lead.old }
-    ensures all { (start : L) → Begins L.stands start lead.old
+    requires ready { (start : L) × HasGivenNothing L.stands start lead.old }
+    ensures all { (start : L) → HasGivenNothing L.stands start lead.old
         → IfOk result (λ _. EndsWell L.stands L.is_over start lead.new) }
-    ensures stopped { (start : L) → Begins L.stands start lead.old
+    ensures stopped { (start : L) → HasGivenNothing L.stands start lead.old
         → IfErr result (λ cause. L.stopped start cause lead.new) }
 {
     let Crew {

@@ -1,6 +1,6 @@
 //! A lead is led with workers beside the caller.
 ghost use Rattle.std.specs.Prelude.{◌≡◌, IfOk, IfErr};
-ghost use Rattle.lr_rounds.specs.Leads.{Begins, EndsWell, IsUnled};
+ghost use Rattle.lr_rounds.specs.Leads.{HasGivenNothing, EndsWell, IsUnled};
 ghost use Rattle.lr_rounds.specs.Rounds.{MayRound, HasRounded};
 
 use crate::alone::lead_alone;
@@ -57,7 +57,7 @@ where
     type Answer = Result<(), L::Cause>;
 
     ghost use Rattle.std.specs.Prelude.{◌≡◌, IfOk, IfErr};
-    ghost use Rattle.lr_rounds.specs.Leads.{Begins, EndsWell};
+    ghost use Rattle.lr_rounds.specs.Leads.{HasGivenNothing, EndsWell};
     ghost use Rattle.lr_rounds.specs.Rounds.{MayConduct};
 
     ghost needs = { λ body conductor. MayConduct L.stands L.is_over L.stopped conductor body.lead.now
@@ -65,9 +65,9 @@ where
 
     ghost conducts = { λ body before after. record {
       same : after.body.lead.ghost_name ≡ body.lead.ghost_name;
-      all : (start : L) → Begins L.stands start body.lead.now
+      all : (start : L) → HasGivenNothing L.stands start body.lead.now
           → IfOk after.answer (λ _. EndsWell L.stands L.is_over start after.body.lead.now);
-      stopped : (start : L) → Begins L.stands start body.lead.now
+      stopped : (start : L) → HasGivenNothing L.stands start body.lead.now
           → IfErr after.answer (λ cause. L.stopped start cause after.body.lead.now);
     } };
 
@@ -95,10 +95,10 @@ pub fn lead_beside<R: Threads + Wait + Sync, W: Work + Send + Drop, L: Lead<W>>(
     crew: Crew<W>,
     lead: &mut L,
 ) -> Result<(), Unled<L::Cause>>
-    requires { (start : L) × Begins L.stands start lead.old }
-    ensures all { (start : L) → Begins L.stands start lead.old
+    requires { (start : L) × HasGivenNothing L.stands start lead.old }
+    ensures all { (start : L) → HasGivenNothing L.stands start lead.old
         → IfOk result (λ _. EndsWell L.stands L.is_over start lead.new) }
-    ensures unled { (start : L) → Begins L.stands start lead.old
+    ensures unled { (start : L) → HasGivenNothing L.stands start lead.old
         → IfErr result (λ why. IsUnled L.stopped why start lead.old lead.new) }
 {
     let Crew {
@@ -167,10 +167,10 @@ pub fn lead_by_all<R: Threads + Wait + Sync, W: Work + Send + Drop, L: Lead<W>>(
     crew: Crew<W>,
     lead: &mut L,
 ) -> Result<(), Unled<L::Cause>>
-    requires { (start : L) × Begins L.stands start lead.old }
-    ensures all { (start : L) → Begins L.stands start lead.old
+    requires { (start : L) × HasGivenNothing L.stands start lead.old }
+    ensures all { (start : L) → HasGivenNothing L.stands start lead.old
         → IfOk result (λ _. EndsWell L.stands L.is_over start lead.new) }
-    ensures unled { (start : L) → Begins L.stands start lead.old
+    ensures unled { (start : L) → HasGivenNothing L.stands start lead.old
         → IfErr result (λ why. IsUnled L.stopped why start lead.old lead.new) }
 {
     if !crew.is_alone() {

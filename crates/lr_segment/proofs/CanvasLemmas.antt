@@ -12,7 +12,7 @@ use Rattle.std.proofs.lemmas.List.FromFn.{get_or-map-range_with_len, length-map-
 use Rattle.lr_image.specs.Picture.{IsPicture}
 use Rattle.lr_segment.specs.declared.rows.Place.{Place}
 use Rattle.lr_segment.specs.Rows.{IsBeside, IsCovered, IsIn, IsOverwritten}
-use Rattle.lr_segment.specs.Canvas.{Adds, Canvas, canvas, IsCanvas, Member, StandsFor, covered_of, covers, given_by}
+use Rattle.lr_segment.specs.Canvas.{Adds, Canvas, canvas, IsCanvas, Member, StandsFor, covered_of, covers, pixel_given_by}
 use Rattle.lr_segment.specs.Canvas.{own_pixel, pixel_at, pixels_of}
 
 replicate-map : {X : Type 0} (x : X) (n : ℕ) → replicate n x ≡ map (λ k. x) (range_with_len 0 n)
@@ -61,15 +61,15 @@ or_assoc None b c = refl
 or_assoc (Some x) b c = refl
 
 pub pixel_at-push : (members : List Member) (m : Member) (column line : ℕ)
-    → pixel_at (members ++ m ∷ []) column line ≡ option_or (given_by m column line) (pixel_at members column line)
-pixel_at-push [] m column line = sym (or_none (given_by m column line))
+    → pixel_at (members ++ m ∷ []) column line ≡ option_or (pixel_given_by m column line) (pixel_at members column line)
+pixel_at-push [] m column line = sym (or_none (pixel_given_by m column line))
 pixel_at-push (x ∷ members) m column line =
-    ap (λ (o : Option ℕ). option_or o (given_by x column line)) (pixel_at-push members m column line)
-    ∙ or_assoc (given_by m column line) (pixel_at members column line) (given_by x column line)
+    ap (λ (o : Option ℕ). option_or o (pixel_given_by x column line)) (pixel_at-push members m column line)
+    ∙ or_assoc (pixel_given_by m column line) (pixel_at members column line) (pixel_given_by x column line)
 
 -- where the member stands, as rows
-abbrev pub place_of : ℕ → Member → Place
-place_of whole m = record {
+abbrev pub place_of_member : ℕ → Member → Place
+place_of_member whole m = record {
   whole = whole;
   column = m.segment.start_column;
   line = m.segment.start_line;
@@ -85,7 +85,7 @@ one_false true b h = inr h
 one_false false b h = inl refl
 
 covered_in : (whole k : ℕ) (m : Member) → covers m (k % whole) (k / whole) ≡ true
-    → IsIn (place_of whole m) m.picture.lines k
+    → IsIn (place_of_member whole m) m.picture.lines k
 covered_in whole k m h =
     let column = k % whole in
     let line = k / whole in
@@ -111,7 +111,7 @@ outside_one start column size h = elim (one_false (nat_le start column) (nat_lt 
 ]
 
 covered_beside : (whole k : ℕ) (m : Member) → covers m (k % whole) (k / whole) ≡ false
-    → IsBeside (place_of whole m) m.picture.lines k
+    → IsBeside (place_of_member whole m) m.picture.lines k
 covered_beside whole k m h =
     let column = k % whole in
     let line = k / whole in
@@ -134,20 +134,20 @@ some_by true own old = refl
 some_by false own old = refl
 
 pixel_here : (whole k : ℕ) (m : Member) (old new : List ℕ) (b : Bool) → covers m (k % whole) (k / whole) ≡ b
-    → IsOverwritten (place_of whole m) m.picture.lines m.picture.pixels old new → k < length old
+    → IsOverwritten (place_of_member whole m) m.picture.lines m.picture.pixels old new → k < length old
     → get_or new k 0 ≡ cond b (own_pixel m (k % whole) (k / whole)) (get_or old k 0)
 pixel_here whole k m old new true is written inside = written.here k inside (covered_in whole k m is)
 pixel_here whole k m old new false is written inside = written.beside k inside (covered_beside whole k m is)
 
 note_here : (whole k : ℕ) (m : Member) (old new : List Bool) (b : Bool) → covers m (k % whole) (k / whole) ≡ b
-    → IsCovered (place_of whole m) m.picture.lines old new → k < length old
+    → IsCovered (place_of_member whole m) m.picture.lines old new → k < length old
     → get_or new k false ≡ cond b true (get_or old k false)
 note_here whole k m old new true is written inside = written.here k inside (covered_in whole k m is)
 note_here whole k m old new false is written inside = written.beside k inside (covered_beside whole k m is)
 
 pub adds : (c : Canvas) (m : Member) (pixels : List ℕ) (covered : List Bool) → IsCanvas c
-    → IsOverwritten (place_of c.columns m) m.picture.lines m.picture.pixels c.pixels pixels
-    → IsCovered (place_of c.columns m) m.picture.lines c.covered covered
+    → IsOverwritten (place_of_member c.columns m) m.picture.lines m.picture.pixels c.pixels pixels
+    → IsCovered (place_of_member c.columns m) m.picture.lines c.covered covered
     → Adds c m (canvas c.bits c.columns c.lines pixels covered)
 adds c m pixels covered is over noted = record {
   bits = refl;
@@ -207,8 +207,8 @@ cond_small limit a b false first second = second
 
 canvas_more : (c : Canvas) (m : Member) (pixels : List ℕ) (covered : List Bool) → IsCanvas c
     → IsPicture m.picture → c.bits ≡ m.picture.bits
-    → IsOverwritten (place_of c.columns m) m.picture.lines m.picture.pixels c.pixels pixels
-    → IsCovered (place_of c.columns m) m.picture.lines c.covered covered
+    → IsOverwritten (place_of_member c.columns m) m.picture.lines m.picture.pixels c.pixels pixels
+    → IsCovered (place_of_member c.columns m) m.picture.lines c.covered covered
     → IsCanvas (canvas c.bits c.columns c.lines pixels covered)
 canvas_more c m pixels covered is picture depth over noted = record {
   least = is.least;
@@ -257,13 +257,13 @@ pub adds_by : (c : Canvas) (m : Member) (place : Place) (lines : ℕ) (segment o
     → IsOverwritten place lines segment old new → IsCovered place lines held noted → AddsTo c m new noted
 adds_by c m place lines segment old new held noted is picture depth whole column line width rows pixels before
     covered over notes =
-    let there : place ≡ place_of c.columns m = place_from whole column line width in
-    let over' : IsOverwritten (place_of c.columns m) m.picture.lines m.picture.pixels c.pixels new =
+    let there : place ≡ place_of_member c.columns m = place_from whole column line width in
+    let over' : IsOverwritten (place_of_member c.columns m) m.picture.lines m.picture.pixels c.pixels new =
     subst (λ (p : Place). IsOverwritten p m.picture.lines m.picture.pixels c.pixels new) there
     (subst (λ (n : ℕ). IsOverwritten place n m.picture.pixels c.pixels new) rows
     (subst (λ (s : List ℕ). IsOverwritten place lines s c.pixels new) pixels
     (subst (λ (o : List ℕ). IsOverwritten place lines segment o new) before over))) in
-    let notes' : IsCovered (place_of c.columns m) m.picture.lines c.covered noted =
+    let notes' : IsCovered (place_of_member c.columns m) m.picture.lines c.covered noted =
     subst (λ (p : Place). IsCovered p m.picture.lines c.covered noted) there
     (subst (λ (n : ℕ). IsCovered place n c.covered noted) rows
     (subst (λ (o : List Bool). IsCovered place lines o noted) covered notes)) in

@@ -28,13 +28,13 @@ abbrev pub own_pixel : Member → ℕ → ℕ → ℕ
 own_pixel m column line =
     slice_index m.picture.pixels ((line - m.segment.start_line) * m.picture.columns + (column - m.segment.start_column))
 
-abbrev pub given_by : Member → ℕ → ℕ → Option ℕ
-given_by m column line = if covers m column line then Some (own_pixel m column line) else None
+abbrev pub pixel_given_by : Member → ℕ → ℕ → Option ℕ
+pixel_given_by m column line = if covers m column line then Some (own_pixel m column line) else None
 
 -- the pixel of the last member that covers the place
 abbrev pub pixel_at : List Member → ℕ → ℕ → Option ℕ
 pixel_at [] column line = None
-pixel_at (m ∷ members) column line = option_or (pixel_at members column line) (given_by m column line)
+pixel_at (m ∷ members) column line = option_or (pixel_at members column line) (pixel_given_by m column line)
 
 -- what is kept: an image, and for each of its pixels whether some member covers it
 pub record Canvas : Type 0 where

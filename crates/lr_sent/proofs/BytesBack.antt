@@ -8,7 +8,7 @@ use Rattle.std.specs.List.{range_with_len}
 use Rattle.lr_bits.specs.Bits.{bit_of}
 use Rattle.lr_conv.specs.Convolution.{bit}
 use Rattle.lr_conv.proofs.SevenBits.{bit_test}
-use Rattle.lr_trellis.specs.Path.{bytes_from, bytes_of}
+use Rattle.lr_trellis.specs.Path.{bytes_from, bytes_of_bits}
 use Rattle.lr_make.specs.Symbols.{bits_of_bytes}
 use Rattle.lr_make.proofs.Coding.{first_bits, length-first_bits}
 
@@ -55,8 +55,8 @@ module _ (block : List ℕ) (bytes : (i : ℕ) → i < length block → get_or b
       ∙ sym (drop-cons block k 0 (omega arith))
 
 pub bytes_back : (block : List ℕ) → ((i : ℕ) → i < length block → get_or block i 0 < 256) →
-    bytes_of (bits_of_bytes block) ≡ block
-unfolding bytes_of bits_of_bytes
+    bytes_of_bits (bits_of_bytes block) ≡ block
+unfolding bytes_of_bits bits_of_bytes
 bytes_back block bytes =
     let bits : List Bool = first_bits block (8 * length block) in
     let count : length bits / 8 ≡ length block = omega (arith, length-first_bits block (8 * length block)) in

@@ -26,8 +26,8 @@ use Rattle.lr_vc.proofs.Fitting.{packets_fit}
 use Rattle.lr_vc.proofs.Lists.{Each-map, Each_any}
 use Rattle.lr_packet.specs.declared.packet.PacketFault.{PacketFault}
 use Rattle.lr_packet.specs.declared.packet.PacketFault.TheVariants.{Version, Idle, TooShort, Crc}
-use Rattle.lr_packet.specs.Head.{head_of}
-use Rattle.lr_packet.specs.Verdict.{Good, data_of, body_of, stored_of, good_of, verdict_of, good_packets}
+use Rattle.lr_packet.specs.Head.{head_fields_of}
+use Rattle.lr_packet.specs.Verdict.{Good, data_of, packet_body, stored_of, good_of, verdict_of, good_packets}
 use Rattle.lr_file.specs.Laws.{Weights, file_weight, packet_weight}
 use Rattle.lr_layers.specs.Layers.{frames_of_outcomes, good_of_outcomes, files_of_outcomes}
 use Rattle.lr_layers.proofs.Fitting.{files_fit_the_packets}
@@ -39,7 +39,7 @@ use Rattle.lr_make.specs.Standing.{image_frames, text_frames}
 use Rattle.lr_make.proofs.Heads.{length-image_packet, length-text_packet}
 use Rattle.lr_make.proofs.Rounds.{frame_at-turn, frame_at-images}
 use Rattle.lr_sent.specs.Carried.{TellsItsLength, frames_of_channel, CarryPackets}
-use Rattle.lr_sent.specs.Made.{made_outcomes, room_of, room_for, MadeFilesFit}
+use Rattle.lr_sent.specs.Made.{made_outcomes, room_of, room_of_files, MadeFilesFit}
 use Rattle.lr_sent.proofs.Carrying.{packets_were_sent, packets_by_channels}
 use Rattle.lr_sent.proofs.MadeFrames.{packet_frame_reads, fill_frame_reads}
 use Rattle.lr_sent.proofs.MadePackets.{image_tells, image_long, image_not_alone, text_tells, text_long}
@@ -87,15 +87,15 @@ flags_of_any flags =
     omega arith
 
 -- a packet is long for what it weighs: a file's only packet has 99 bytes, and any other 42
-IsLong : List ℕ → Type 0
-IsLong bytes = (42 ≤ length bytes) × ((field_of bytes 16 2 < 3) ⊎ (99 ≤ length bytes))
+IsLongEnough : List ℕ → Type 0
+IsLongEnough bytes = (42 ≤ length bytes) × ((field_of bytes 16 2 < 3) ⊎ (99 ≤ length bytes))
 
-body_fits : (packet : Packet) → IsLong packet.bytes → ltb (length (data_of packet.bytes)) 2 ≡ false →
+body_fits : (packet : Packet) → IsLongEnough packet.bytes → ltb (length (data_of packet.bytes)) 2 ≡ false →
     3 * weigh (good_of packet) ≤ 4 * length packet.bytes
-unfolding IsLong
+unfolding IsLongEnough
 body_fits packet long enough =
     let flags = field_of packet.bytes 16 2 in
-    let sizes : length (body_of packet.bytes) + 8 ≤ length packet.bytes =
+    let sizes : length (packet_body packet.bytes) + 8 ≤ length packet.bytes =
     omega (
       arith,
       ltb-false (length (data_of packet.bytes)) 2 enough,
@@ -107,12 +107,12 @@ body_fits packet long enough =
       | inr large ↦ omega (arith, sizes, large, flags_of_any flags)
     ]
 
-packet_fits : (packet : Packet) → IsLong packet.bytes → 3 * weigh_verdict (verdict_of packet) ≤ 4 * length packet.bytes
+packet_fits : (packet : Packet) → IsLongEnough packet.bytes → 3 * weigh_verdict (verdict_of packet) ≤ 4 * length packet.bytes
 packet_fits packet long =
     let bytes = packet.bytes in
-    by_rules (not (nat_eq (head_of bytes).version 0)) (nat_eq (head_of bytes).apid 2047)
-    (ltb (length (data_of bytes)) 2) (not (nat_eq (stored_of bytes) (crc_of (body_of bytes))))
-    (Version (head_of bytes).version) Idle TooShort (Crc (stored_of bytes) (crc_of (body_of bytes))) (good_of packet)
+    by_rules (not (nat_eq (head_fields_of bytes).version 0)) (nat_eq (head_fields_of bytes).apid 2047)
+    (ltb (length (data_of bytes)) 2) (not (nat_eq (stored_of bytes) (crc_of (packet_body bytes))))
+    (Version (head_fields_of bytes).version) Idle TooShort (Crc (stored_of bytes) (crc_of (packet_body bytes))) (good_of packet)
     (4 * length bytes) (body_fits packet long)
 
 verdict_more : (verdict : Result Good PacketFault) (goods : List Good) →
@@ -120,7 +120,7 @@ verdict_more : (verdict : Result Good PacketFault) (goods : List Good) →
 verdict_more (Ok good) goods = sum_by-cons weigh good goods
 verdict_more (Err fault) goods = omega arith
 
-good_fit : (packets : List Packet) → Each (λ packet. IsLong packet.bytes) packets →
+good_fit : (packets : List Packet) → Each (λ packet. IsLongEnough packet.bytes) packets →
     3 * sum_by weigh (good_packets packets) ≤ 4 * sum_by (λ packet. length packet.bytes) packets
 good_fit [] _ = omega arith
 good_fit (packet ∷ packets) long =
@@ -301,15 +301,15 @@ module _ (start : ℕ) where
       All-from_recursion P (first_packets packets n)
       (Each-map P packets (range_with_len 0 n) (Each_any (λ p. P (packets p)) each (range_with_len 0 n)))
 
-  image_is_long : (p : ℕ) → IsLong (images p)
-  unfolding IsLong
+  image_is_long : (p : ℕ) → IsLongEnough (images p)
+  unfolding IsLongEnough
   image_is_long p = (omega (arith, image_long start p), inl (image_not_alone start p))
 
-  text_is_long : (p : ℕ) → IsLong (texts p)
-  unfolding IsLong
+  text_is_long : (p : ℕ) → IsLongEnough (texts p)
+  unfolding IsLongEnough
   text_is_long p = let long = text_long (text_start start) p in (omega (arith, long), inr (omega (arith, long)))
 
-  packets_long : (n : ℕ) → Each (λ packet. IsLong packet.bytes) (packets_of (made_frames n))
+  packets_long : (n : ℕ) → Each (λ packet. IsLongEnough packet.bytes) (packets_of (made_frames n))
   packets_long n =
       let packets = packets_of (made_frames n) in
       let OnImages : Packet → Type 0 = λ packet. packet.vc ≡ 0
@@ -346,16 +346,16 @@ module _ (start : ℕ) where
       each_long : (n : ℕ) (packets : List Packet) →
           Each (λ packet. packet.vc ≡ 0 → Contains (first_packets images (884 * image_frames n)) packet.bytes) packets →
           Each (λ packet. packet.vc ≡ 5 → Contains (first_packets texts (884 * text_frames n)) packet.bytes) packets →
-          Each (λ packet. (packet.vc ≡ 0) ⊎ (packet.vc ≡ 5)) packets → Each (λ packet. IsLong packet.bytes) packets
+          Each (λ packet. (packet.vc ≡ 0) ⊎ (packet.vc ≡ 5)) packets → Each (λ packet. IsLongEnough packet.bytes) packets
       each_long n [] _ _ _ = tt
       each_long n (packet ∷ packets) i t c = (
         elim c.0 [
           | inl image ↦
-              All-contains IsLong (first_packets images (884 * image_frames n)) packet.bytes
-              (all_first IsLong images image_is_long (884 * image_frames n)) (i.0 image)
+              All-contains IsLongEnough (first_packets images (884 * image_frames n)) packet.bytes
+              (all_first IsLongEnough images image_is_long (884 * image_frames n)) (i.0 image)
           | inr text ↦
-              All-contains IsLong (first_packets texts (884 * text_frames n)) packet.bytes
-              (all_first IsLong texts text_is_long (884 * text_frames n)) (t.0 text)
+              All-contains IsLongEnough (first_packets texts (884 * text_frames n)) packet.bytes
+              (all_first IsLongEnough texts text_is_long (884 * text_frames n)) (t.0 text)
         ],
         each_long n packets i.1 t.1 c.1,
       )
@@ -446,19 +446,19 @@ made_files_fit start wrong n front later split =
     let is = front_made start wrong n front later split in
     let m = length front in
     let files = files_of_outcomes (made_outcomes start wrong m) in
-    let sizes : room_for files ≤ sum_by (file_weight weights) files =
+    let sizes : room_of_files files ≤ sum_by (file_weight weights) files =
     sum_by-le-sum_by room_of (file_weight weights) files (λ file. omega arith) in
-    subst (λ (outcomes : List Outcome). room_for (files_of_outcomes outcomes) ≤ 884 * (n + 1)) (sym is.1)
+    subst (λ (outcomes : List Outcome). room_of_files (files_of_outcomes outcomes) ≤ 884 * (n + 1)) (sym is.1)
     (omega (arith, sizes, files_fit start wrong m, is.0))
 
 -- the same of the files with their origins
 pub placed_fit : (start wrong n : ℕ) (front later : List Outcome) → made_outcomes start wrong n ≡ front ++ later →
-    room_for (map (λ placed. placed.file) (placed_of_outcomes front)) ≤ 884 * (n + 1)
+    room_of_files (map (λ placed. placed.file) (placed_of_outcomes front)) ≤ 884 * (n + 1)
 placed_fit start wrong n front later split =
     let is = front_made start wrong n front later split in
     let frames : frames_of_outcomes front ≡ made_frames start (length front) =
     ap frames_of_outcomes is.1 ∙ frames_made start wrong 0 (length front) in
-    subst (λ (files : List File). room_for files ≤ 884 * (n + 1))
+    subst (λ (files : List File). room_of_files files ≤ 884 * (n + 1))
     (sym (have_origins front (subst AreFrames (sym frames) (all_frames start (length front)))))
     (made_files_fit start wrong n front later split)
 

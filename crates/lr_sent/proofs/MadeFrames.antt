@@ -5,7 +5,7 @@ use Rattle.lr_bits.specs.Bits.{field_of}
 use Rattle.lr_bits.proofs.BitsLemmas.{field_of-none, field_of-more}
 use Rattle.lr_block.proofs.Searching.{cases_first}
 use Rattle.lr_vc.specs.Frame.{fields_of, version_of}
-use Rattle.lr_make.specs.Frames.{frame_of, packet_frame, fill_frame}
+use Rattle.lr_make.specs.Frames.{frame_for_zone, packet_frame, fill_frame}
 use Rattle.lr_make.specs.Zones.{is_start, pointer_at, zone_at}
 use Rattle.lr_make.proofs.Heads.{frame_of-bytes}
 
@@ -79,9 +79,9 @@ pub record Reads (frame : List ℕ) (vc counter pointer : ℕ) (zone : List ℕ)
   pub zone_is : (fields_of frame).zone ≡ zone
 
 pub frame_reads : (vc counter pointer : ℕ) (zone : List ℕ) → vc < 64 → counter < 16777216 → pointer < 2048 →
-    Reads (frame_of vc counter pointer zone) vc counter pointer zone
+    Reads (frame_for_zone vc counter pointer zone) vc counter pointer zone
 frame_reads vc counter pointer zone v c p =
-    let bytes = frame_of vc counter pointer zone in
+    let bytes = frame_for_zone vc counter pointer zone in
     let front = (0x41 ∷ (0xC0 + vc) ∷ (counter / 65536) ∷ (counter / 256 % 256) ∷ (counter % 256) ∷ 0
     ∷ (pointer / 256) ∷ (pointer % 256) ∷ []) ++ zone in
     let same : bytes ≡ front = sym (frame_of-bytes vc counter pointer zone v c p) in

@@ -7,7 +7,7 @@ use Rattle.lr_bits.specs.Bits.{field_of}
 use Rattle.lr_bits.specs.Crc.{crc_of}
 use Rattle.lr_bits.proofs.BitsLemmas.{field_of-none, field_of-more}
 use Rattle.lr_vc.proofs.Starts.{length_field}
-use Rattle.lr_make.specs.Packets.{head_of, head_with, packet_of}
+use Rattle.lr_make.specs.Packets.{head_for_body, head_with, packet_for_body}
 use Rattle.lr_make.specs.Files.{image_body, image_flags, image_packet, text_headers, text_bytes, text_packet}
 use Rattle.lr_make.proofs.Drawn.{length-drawn_bytes, length-text_bytes}
 use Rattle.lr_make.proofs.Heads.{length-head_of, length-image_headers, length-text_headers}
@@ -21,12 +21,12 @@ flags_bits bytes l =
     omega (arith, field_of-none bytes 16)
 
 module _ (apid flags count : ℕ) (body : List ℕ) where
-  pub length-packet : length (packet_of apid flags count body) ≡ length body + 8
-  unfolding packet_of
+  pub length-packet : length (packet_for_body apid flags count body) ≡ length body + 8
+  unfolding packet_for_body
   length-packet =
       omega (
         arith,
-        length-append (head_of apid flags count (length body)) (body ++ bytes_high_first 2 (crc_of body)),
+        length-append (head_for_body apid flags count (length body)) (body ++ bytes_high_first 2 (crc_of body)),
         length-append body (bytes_high_first 2 (crc_of body)),
         length-head_of apid flags count (length body),
       )
@@ -35,27 +35,27 @@ module _ (apid flags count : ℕ) (body : List ℕ) where
   abbrev number : ℕ
   number = (((0 + apid) * 4 + flags) * 16384 + count) * 65536 + (length body + 1)
 
-  byte_two : get_or (packet_of apid flags count body) 2 0 ≡ number / 16777216 % 256
-  unfolding packet_of head_with
+  byte_two : get_or (packet_for_body apid flags count body) 2 0 ≡ number / 16777216 % 256
+  unfolding packet_for_body head_with
   byte_two = refl
 
-  byte_four : get_or (packet_of apid flags count body) 4 0 ≡ number / 256 % 256
-  unfolding packet_of head_with
+  byte_four : get_or (packet_for_body apid flags count body) 4 0 ≡ number / 256 % 256
+  unfolding packet_for_body head_with
   byte_four = refl
 
-  byte_five : get_or (packet_of apid flags count body) 5 0 ≡ number % 256
-  unfolding packet_of head_with
+  byte_five : get_or (packet_for_body apid flags count body) 5 0 ≡ number % 256
+  unfolding packet_for_body head_with
   byte_five = refl
 
-  pub tells : length body < 65535 → TellsItsLength (packet_of apid flags count body)
+  pub tells : length body < 65535 → TellsItsLength (packet_for_body apid flags count body)
   tells small =
-      let field = length_field (packet_of apid flags count body) 0 in
+      let field = length_field (packet_for_body apid flags count body) 0 in
       omega (arith, field, byte_four, byte_five, length-packet)
 
   pub flags_are : flags < 4 → count < 16384 → length body < 65535
-      → field_of (packet_of apid flags count body) 16 2 ≡ flags
+      → field_of (packet_for_body apid flags count body) 16 2 ≡ flags
   flags_are few low small =
-      flags_bits (packet_of apid flags count body) (omega (arith, length-packet))
+      flags_bits (packet_for_body apid flags count body) (omega (arith, length-packet))
       ∙ ap (λ b. b / 64 % 4) byte_two ∙ omega arith
 
 -- ---- the packets of images

@@ -19,7 +19,7 @@ use Rattle.lr_conv.specs.Levels.{levels, six_zeros}
 use Rattle.lr_conv.specs.Marker.{marker, marker_start, tail_of}
 use Rattle.lr_conv.specs.declared.line.LineCode.{LineCode}
 use Rattle.lr_conv.proofs.Tails.{tail_size}
-use Rattle.lr_trellis.specs.Path.{bytes_of, nearest_path}
+use Rattle.lr_trellis.specs.Path.{bytes_of_bits, nearest_path}
 use Rattle.lr_lock.specs.Frames.{AreNext, IsHeld, IsNext, last_of}
 use Rattle.lr_lock.specs.Hits.{agreeing, hits}
 use Rattle.lr_lock.specs.Windows.{turned_value, window_of, window_value}
@@ -137,7 +137,7 @@ block_is_read : (line : LineCode) (block : List ℕ) (window : List ℤ) → IsB
     → take 16320 window ≡ map level (path_code line (bits_of_bytes block))
     → (drop 16320 window ≡ map level (drop 16320 (path_code line (bits_of_bytes block ++ marker_start)))) ⊎
     (drop 16320 window ≡ replicate 12 (pos 0))
-    → bytes_of (nearest_path line window) ≡ block
+    → bytes_of_bits (nearest_path line window) ≡ block
 block_is_read line block window whole size front back =
     let bits : List Bool = bits_of_bytes block in
     let twice : 16320 ≡ 2 * length bits = omega (arith, length-block_bits block whole.long) in
@@ -146,7 +146,7 @@ block_is_read line block window whole size front back =
     (subst (λ n. take n window ≡ map level (path_code line bits)) twice front)
     (subst (λ n. (drop n window ≡ map level (drop n (path_code line (bits ++ marker_start)))) ⊎
     (drop n window ≡ replicate 12 (pos 0))) twice back) in
-    ap bytes_of path ∙ bytes_back block (λ i l. whole.bytes i (omega (arith, whole.long)))
+    ap bytes_of_bits path ∙ bytes_back block (λ i l. whole.bytes i (omega (arith, whole.long)))
 
 -- ---- the frames
 
@@ -241,7 +241,7 @@ module _ (line : LineCode) (before : List (List ℕ)) (block : List ℕ) (later 
 
   read_by : (bits : List Bool) → bits_of_blocks later ≡ bits →
       (bits ≡ []) ⊎ ((more : List Bool) × (bits ≡ marker_start ++ more)) →
-      bytes_of (nearest_path line (window_of all place (not turn))) ≡ block
+      bytes_of_bits (nearest_path line (window_of all place (not turn))) ≡ block
   read_by bits are (inl none) =
       let own : List Bool = bits_of_bytes block in
       let sent : List ℤ = map level (path_code line own) in

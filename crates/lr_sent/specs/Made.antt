@@ -33,11 +33,11 @@ FillIsFill = (start k : ℕ) → k % 4 ≡ 3 → field_of (frame_at start k) 10 
 abbrev pub room_of : File → ℕ
 room_of file = length (bytes_of file) + 2 * length file.bodies + 39
 
-abbrev pub room_for : List File → ℕ
-room_for files = sum_by room_of files
+abbrev pub room_of_files : List File → ℕ
+room_of_files files = sum_by room_of files
 
 -- the law: for the files of some first outcomes of n frames as many bytes are enough as n + 1 zones have
 abbrev pub MadeFilesFit : Type 0
 MadeFilesFit =
     (start wrong n : ℕ) (front later : List Outcome) → made_outcomes start wrong n ≡ front ++ later →
-    room_for (files_of_outcomes front) ≤ 884 * (n + 1)
+    room_of_files (files_of_outcomes front) ≤ 884 * (n + 1)

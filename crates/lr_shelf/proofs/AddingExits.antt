@@ -25,7 +25,7 @@ use Rattle.lr_disk.specs.declared.disk.Disk.{Ghosts as DiskOf}
 use Rattle.lr_disk.proofs.Moments.{stays, weaker}
 use Rattle.lr_shelf_format.specs.Gates.{IsClosedAfter}
 use Rattle.lr_shelf_format.specs.Items.{IsItem, Item, extent_of, head_of_item, item_bytes}
-use Rattle.lr_shelf_format.specs.Reading.{StandsFor}
+use Rattle.lr_shelf_format.specs.ShelfBytes.{StandsForShelf}
 use Rattle.lr_shelf_format.specs.Way.{IsWay, MayJoin}
 use Rattle.lr_shelf_format.specs.declared.entry.Entry.{Entry}
 use Rattle.lr_shelf_format.proofs.ItemLemmas.{length-item_bytes}
@@ -118,7 +118,7 @@ module _ {A : Type 0} {D : Type 0} (disk : DiskOf D)
       unchanged : (capacity : ℕ) (items : List Item) → IsSettled disk capacity items shelf d → (c : List ℕ)
           → disk.may_leave d c → StandsForEither capacity items item c
       unchanged capacity items s c image =
-          inl (subst (λ (b : List ℕ). StandsFor b capacity items) (sym (s.on_disk.durable c image)) s.on_disk.stands)
+          inl (subst (λ (b : List ℕ). StandsForShelf b capacity items) (sym (s.on_disk.durable c image)) s.on_disk.stands)
 
 -- what is known when the item has been put, or not
 module _ {D : Type 0} (disk : DiskOf D) (item : Item) (is : IsItem item) (shelf : Shelf)
@@ -221,7 +221,7 @@ module _ {D : Type 0} (disk : DiskOf D) (item : Item) (is : IsItem item) (shelf 
   }
     where
       there : (capacity : ℕ) (items : List Item) → IsSettled disk capacity items shelf d
-          → StandsFor (disk.contents d') capacity (items ++ item ∷ [])
+          → StandsForShelf (disk.contents d') capacity (items ++ item ∷ [])
       there capacity items s =
           with_it capacity items shelf (disk.contents d) item is may fits s.kept s.on_disk.stands (disk.contents d')
           (done _ _ s.told

@@ -7,8 +7,8 @@ use Rattle.std.proofs.lemmas.List.Sums.{sum_by_push}
 use Rattle.lr_shelf_format.specs.Gates.{front, IsClosedAfter}
 use Rattle.lr_shelf_format.specs.Header.{header_bytes}
 use Rattle.lr_shelf_format.specs.Items.{IsItem, IsProper, Item, MayFollow, extent_of, head_of_item, item_bytes}
-use Rattle.lr_shelf_format.specs.Reading.{StandsFor, end_of, steps_of}
-use Rattle.lr_shelf_format.specs.Walk.{Leads, Step, heads_of}
+use Rattle.lr_shelf_format.specs.ShelfBytes.{StandsForShelf, end_of, steps_of}
+use Rattle.lr_shelf_format.specs.Walk.{LeadsToNextGate, Step, heads_of}
 use Rattle.lr_shelf_format.specs.Way.{IsWay, MayJoin, Way, entries_on, entries_with, way_of, way_with}
 use Rattle.lr_shelf_format.specs.declared.entry.Entry.{Entry}
 use Rattle.lr_shelf_format.proofs.ItemLemmas.{length-item_bytes}
@@ -75,10 +75,10 @@ All-push (first ∷ items) item each is (suc k) d inside =
     All-push items item (λ j e within. each (suc j) e (omega arith)) is k d (omega arith)
 
 one_more : (capacity : ℕ) (items : List Item) (item : Item) (bytes bytes' : List ℕ) → IsItem item
-    → MayFollow (map head_of_item items) (head_of_item item) → (stands : StandsFor bytes capacity items)
+    → MayFollow (map head_of_item items) (head_of_item item) → (stands : StandsForShelf bytes capacity items)
     → end_of items + 1 + extent_of (head_of_item item) ≤ capacity
     → IsClosedAfter (front (header_bytes stands.version capacity) (map item_bytes items) ++ 1 ∷ item_bytes item) bytes'
-    → StandsFor bytes' capacity (items ++ item ∷ [])
+    → StandsForShelf bytes' capacity (items ++ item ∷ [])
 one_more capacity items item bytes bytes' is may stands fits shut = record {
   version = stands.version;
   known = stands.known;
@@ -96,7 +96,7 @@ one_more capacity items item bytes bytes' is may stands fits shut = record {
 module _ (capacity : ℕ) (items : List Item) (shelf : Shelf) (bytes : List ℕ) (item : Item) (is : IsItem item)
     (may : MayJoin (kept_by shelf).way.entries (head_of_item item))
     (fits : new_end item (kept_by shelf) ≤ (kept_by shelf).way.capacity) (kept : IsShelfOf capacity items shelf)
-    (stands : StandsFor bytes capacity items) where
+    (stands : StandsForShelf bytes capacity items) where
   ends : (kept_by shelf).way.end ≡ end_of items
   ends = ap (λ (way : Way). way.end) kept.way
 
@@ -116,7 +116,7 @@ module _ (capacity : ℕ) (items : List Item) (shelf : Shelf) (bytes : List ℕ)
 
   pub with_it : (c : List ℕ)
       → IsClosedAfter (front (header_bytes stands.version capacity) (map item_bytes items) ++ 1 ∷ item_bytes item) c
-      → StandsFor c capacity (items ++ item ∷ [])
+      → StandsForShelf c capacity (items ++ item ∷ [])
   with_it c shut =
       one_more capacity items item bytes c is follows stands
       (omega (arith, fits, ends, ap (λ (way : Way). way.capacity) kept.way)) shut
@@ -242,7 +242,7 @@ module _ (bytes : List ℕ) (way : Way) (has : IsWay bytes way) where
         sym (ap (take at) split ∙ take_at before (1 ∷ (item_bytes item ++ tail)) at front) in
         let later : 19 ≤ at = path_forward bytes 19 at has.steps has.walk.path in
         let old_path = IsPath-same bytes bytes' 19 at has.steps (omega (arith, long)) same has.walk.path in
-        let leads = subst (λ (n : ℕ). Leads bytes' (record { gate = n; head = head })) front
+        let leads = subst (λ (n : ℕ). LeadsToNextGate bytes' (record { gate = n; head = head })) front
         (leads_over before item bytes' tail is split (omega arith)) in
         let of : AreOf (heads_of has.steps) way.entries =
         subst (AreOf (heads_of has.steps)) (sym has.entries) (of_walk has.steps has.walk.proper) in

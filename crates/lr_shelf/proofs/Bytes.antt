@@ -32,7 +32,7 @@ use Rattle.lr_shelf_format.specs.Items.{
   computed_checksum,
   stored_checksum,
 }
-use Rattle.lr_shelf_format.specs.Record.{file_from, head_of, origin_of}
+use Rattle.lr_shelf_format.specs.Record.{file_of_body, head_of, origin_of}
 use Rattle.lr_shelf_format.specs.Way.{HasRecord, Sound, IsFound, item_at}
 use Rattle.lr_shelf_format.specs.declared.entry.Entry.{Entry}
 use Rattle.lr_shelf_format.specs.declared.item.ItemHead.{ItemHead}
@@ -62,8 +62,8 @@ fit_item bytes entry size extent front end =
 
 stored_by : Bool → List ℕ → Stored
 stored_by true bytes =
-    record { file = file_from (head_of (drop 1 bytes)) (drop 36 bytes); origin = Some (origin_of (drop 12 bytes)) }
-stored_by false bytes = record { file = file_from (head_of bytes) (drop 11 bytes); origin = None }
+    record { file = file_of_body (head_of (drop 1 bytes)) (drop 36 bytes); origin = Some (origin_of (drop 12 bytes)) }
+stored_by false bytes = record { file = file_of_body (head_of bytes) (drop 11 bytes); origin = None }
 
 -- by the first byte of the item, an Add or an Old one
 pub stored_read : List ℕ → Stored
@@ -81,11 +81,11 @@ module _ (bytes : List ℕ) (fit : All IsByte bytes) (right : stored_checksum by
         eqb-true (slice_index bytes 0) 0x80 is,
       ))
   holds_by (Old head) begins form false is =
-      holds_old bytes fit right head (file_from (head_of bytes) (drop 11 bytes)) begins form
-      (ap (λ (h : RecordHead). file_from h (drop 11 bytes)) (sym begins.1))
+      holds_old bytes fit right head (file_of_body (head_of bytes) (drop 11 bytes)) begins form
+      (ap (λ (h : RecordHead). file_of_body h (drop 11 bytes)) (sym begins.1))
   holds_by (Add head) begins form true is =
-      holds_add bytes fit right head (file_from (head_of (drop 1 bytes)) (drop 36 bytes)) begins form
-      (ap (λ (h : RecordHead). file_from h (drop 36 bytes)) (sym begins.2))
+      holds_add bytes fit right head (file_of_body (head_of (drop 1 bytes)) (drop 36 bytes)) begins form
+      (ap (λ (h : RecordHead). file_of_body h (drop 36 bytes)) (sym begins.2))
   holds_by (Add head) begins form false is =
       absurd (eqb-false (slice_index bytes 0) 0x80 is begins.0)
   holds_by (Discard number) begins form b is = absurd form

@@ -77,10 +77,10 @@ module _ (bytes : List ℕ) (at : ℕ) where
   gate_there (Open head) is = (sym first_of ∙ is.0, begins_there head is.2)
 
 -- a part of what was read ahead
-part_of : (buffer bytes : List ℕ) (start filled at count : ℕ) → take filled buffer ≡ take filled (drop start bytes)
+part_is_there : (buffer bytes : List ℕ) (start filled at count : ℕ) → take filled buffer ≡ take filled (drop start bytes)
     → start ≤ at → count + (at - start) ≤ filled
     → take count (drop (at - start) buffer) ≡ take count (drop at bytes)
-part_of buffer bytes start filled at count held later fits =
+part_is_there buffer bytes start filled at count held later fits =
     let from = at - start in
     let size : from + (filled - from) ≡ filled = omega arith in
     let left : drop from (take filled buffer) ≡ take (filled - from) (drop from buffer) =
@@ -113,7 +113,7 @@ gate_ahead contents at to ahead gate is to_is in_part =
     let count = to - (at - ahead.start) in
     let fits : count + (at - ahead.start) ≤ ahead.filled =
     elim is.enough [ inl all ↦ omega (arith, to_is, all, is.later) | inr more ↦ omega (arith, to_is, more.0) ] in
-    let there = part_of ahead.buffer.items contents ahead.start ahead.filled at count is.held is.later fits in
+    let there = part_is_there ahead.buffer.items contents ahead.start ahead.filled at count is.held is.later fits in
     let whole : take count (drop at contents) ≡ take 13 (drop at contents) =
     elim is.enough [
       | inl all ↦

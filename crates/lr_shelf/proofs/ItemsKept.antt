@@ -36,7 +36,7 @@ use Rattle.lr_shelf_format.specs.Items.{
   head_of_item,
   item_bytes,
 }
-use Rattle.lr_shelf_format.specs.Reading.{StandsFor, entries_of, steps_of}
+use Rattle.lr_shelf_format.specs.ShelfBytes.{StandsForShelf, entries_of, steps_of}
 use Rattle.lr_shelf_format.specs.Walk.{Step, heads_of}
 use Rattle.lr_shelf_format.specs.Way.{Way, entries_after, entries_with, entries_with_gone, entry_in, item_at}
 use Rattle.lr_shelf_format.specs.declared.entry.Entry.{Entry}
@@ -238,7 +238,7 @@ module _ (bytes : List ℕ) where
 
 -- entry n of the items stands at the shelf's
 pub entry_stands : (bytes : List ℕ) (capacity : ℕ) (items : List Item) (shelf : Shelf) (number : ℕ)
-    → StandsFor bytes capacity items → IsShelfOf capacity items shelf → number < length (kept_by shelf).way.entries
+    → StandsForShelf bytes capacity items → IsShelfOf capacity items shelf → number < length (kept_by shelf).way.entries
     → StandsAt bytes items number (entry_in (kept_by shelf).way.entries number)
 entry_stands bytes capacity items shelf number stands kept inside =
     let split = after_header bytes stands.version capacity items stands.shut in

@@ -6,7 +6,7 @@ use Rattle.lr_shelf_format.specs.Items.{Item, discard_item}
 use Rattle.lr_shelf.specs.Adds.{Adds, needed_by, new_end}
 use Rattle.lr_shelf.specs.Append.{Appends, IsAppendRefusal, item_for}
 use Rattle.lr_shelf.specs.Asked.{IsAskable, IsEntryRefusal, entry_of}
-use Rattle.lr_shelf.specs.Discards.{Discards, IsDiscardRefusal}
+use Rattle.lr_shelf.specs.Discards.{Discards, IsDiscardError}
 use Rattle.lr_shelf.specs.Kept.{Kept, kept_by}
 use Rattle.lr_shelf.specs.declared.error.ShelfError.{ShelfError}
 use Rattle.lr_shelf.specs.declared.error.ShelfError.TheVariants.{
@@ -50,7 +50,7 @@ module _ (item : Item) (kept : Kept) where
   full_append Discarded is works over = absurd is
 
 module _ (number : ℕ) (kept : Kept) where
-  spent_discard : (error : ShelfError) → IsDiscardRefusal number kept error → kept.failed ≡ true → error ≡ Failed
+  spent_discard : (error : ShelfError) → IsDiscardError number kept error → kept.failed ≡ true → error ≡ Failed
   spent_discard Disk is failed = cc (is.0.working, failed)
   spent_discard (Capacity needed capacity) is failed = cc (is.0.working, failed)
   spent_discard NoMemory is failed = absurd is
@@ -61,7 +61,7 @@ module _ (number : ℕ) (kept : Kept) where
   spent_discard (Crc stored computed) is failed = absurd is
   spent_discard Discarded is failed = cc (is.0, failed)
 
-  absent_discard : (error : ShelfError) → IsDiscardRefusal number kept error → kept.failed ≡ false
+  absent_discard : (error : ShelfError) → IsDiscardError number kept error → kept.failed ≡ false
       → length kept.way.entries ≤ number → error ≡ NoSuchFile (length kept.way.entries)
   absent_discard Disk is works absent = absurd (omega (arith, is.0.there, absent))
   absent_discard (Capacity needed capacity) is works absent = absurd (omega (arith, is.0.there, absent))
@@ -73,7 +73,7 @@ module _ (number : ℕ) (kept : Kept) where
   absent_discard (Crc stored computed) is works absent = absurd is
   absent_discard Discarded is works absent = absurd (omega (arith, is.1, absent))
 
-  gone_discard : (error : ShelfError) → IsDiscardRefusal number kept error → kept.failed ≡ false
+  gone_discard : (error : ShelfError) → IsDiscardError number kept error → kept.failed ≡ false
       → number < length kept.way.entries → (entry_of kept number).gone ≡ true → error ≡ Discarded
   gone_discard Disk is works there gone = cc (is.0.stays, gone)
   gone_discard (Capacity needed capacity) is works there gone = cc (is.0.stays, gone)
@@ -85,7 +85,7 @@ module _ (number : ℕ) (kept : Kept) where
   gone_discard (Crc stored computed) is works there gone = absurd is
   gone_discard Discarded is works there gone = refl
 
-  full_discard : (error : ShelfError) → IsDiscardRefusal number kept error → IsAskable kept number
+  full_discard : (error : ShelfError) → IsDiscardError number kept error → IsAskable kept number
       → kept.way.capacity < new_end (discard_item number) kept
       → error ≡ Capacity (needed_by (discard_item number) kept) kept.way.capacity
   full_discard Disk is askable over = absurd (omega (arith, is.1, over))
@@ -101,7 +101,7 @@ module _ (number : ℕ) (kept : Kept) where
 
 -- a refusal that the shelf gives by itself
 pub entry_to_discard : (number : ℕ) (kept : Kept) (error : ShelfError) → IsEntryRefusal kept number error
-    → IsDiscardRefusal number kept error
+    → IsDiscardError number kept error
 entry_to_discard number kept Disk is = absurd is
 entry_to_discard number kept (NotAShelf at) is = is
 entry_to_discard number kept (NotEmpty n) is = is
@@ -143,7 +143,7 @@ module _ {D : Type 0} (disk : DiskOf D) where
 
   pub discard_err : (number : ℕ) (old new : Shelf) (d d' : D) (error : ShelfError)
       → Adds disk {A = Unit {0}} (discard_item number) old new d d' (Err error)
-      → IsDiscardRefusal number (kept_by old) error → Discards disk number old new d d' (Err error)
+      → IsDiscardError number (kept_by old) error → Discards disk number old new d d' (Err error)
   discard_err number old new d d' error adds is = record {
     adds = adds;
     refused = is;
@@ -176,7 +176,7 @@ module _ {D : Type 0} (disk : DiskOf D)
       append_err disk placed old new d d error (refused disk only_now (item_for placed) old d new error other same) is
 
   pub discard_refused : (number : ℕ) (old new : Shelf) (d : D) (error : ShelfError)
-      → IsDiscardRefusal number (kept_by old) error → error ≢ Disk → kept_by new ≡ kept_by old
+      → IsDiscardError number (kept_by old) error → error ≢ Disk → kept_by new ≡ kept_by old
       → Discards disk number old new d d (Err error)
   discard_refused number old new d error is other same =
       discard_err disk number old new d d error

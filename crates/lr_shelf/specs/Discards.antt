@@ -10,18 +10,18 @@ use Rattle.lr_shelf.specs.declared.error.ShelfError.TheVariants.{Disk, Capacity,
 use Rattle.lr_shelf.specs.declared.shelf.Shelf.{Shelf}
 
 -- the refusals of `discard`, each with what it says of the shelf that it found
-abbrev pub IsDiscardRefusal : ℕ → Kept → ShelfError → Type 0
-IsDiscardRefusal number kept (Capacity needed capacity) =
+abbrev pub IsDiscardError : ℕ → Kept → ShelfError → Type 0
+IsDiscardError number kept (Capacity needed capacity) =
     IsAskable kept number × (kept.way.capacity < new_end (discard_item number) kept)
     × (needed ≡ needed_by (discard_item number) kept) × (capacity ≡ kept.way.capacity)
-IsDiscardRefusal number kept Disk = IsAskable kept number × (new_end (discard_item number) kept ≤ kept.way.capacity)
-IsDiscardRefusal number kept error = IsEntryRefusal kept number error
+IsDiscardError number kept Disk = IsAskable kept number × (new_end (discard_item number) kept ≤ kept.way.capacity)
+IsDiscardError number kept error = IsEntryRefusal kept number error
 
 module _ {D : Type 0} (disk : DiskOf D) where
   pub record Discards (number : ℕ) (old new : Shelf) (d d' : D) (result : Result (Unit {0}) ShelfError) : Type 0 where
     pub adds : Adds disk (discard_item number) old new d d' result
     -- the refusals, each exactly where it says, in their order
-    pub refused : IfErr result (IsDiscardRefusal number (kept_by old))
+    pub refused : IfErr result (IsDiscardError number (kept_by old))
     pub spent : (kept_by old).failed ≡ true → result ≡ Err Failed
     pub absent : (kept_by old).failed ≡ false → length (kept_by old).way.entries ≤ number
         → result ≡ Err (NoSuchFile (length (kept_by old).way.entries))

@@ -2,7 +2,7 @@
 use Rattle.std.specs.Prelude.{◌≡◌, ◌≢◌, ℕ, slice_get, Option, Some, None, List, Result, IfOk, OnOk, IfErr}
 use Rattle.lr_disk.specs.declared.disk.Disk.{Ghosts as DiskOf}
 use Rattle.lr_shelf_format.specs.Items.{Item, item_of_stored}
-use Rattle.lr_shelf_format.specs.Reading.{entries_of}
+use Rattle.lr_shelf_format.specs.ShelfBytes.{entries_of}
 use Rattle.lr_shelf_format.specs.Way.{Found, Sound, Bad, HasSoundRecord, IsFound}
 use Rattle.lr_shelf_format.specs.declared.entry.Entry.{Entry}
 use Rattle.lr_shelf_format.specs.declared.stored.Stored.{Stored}

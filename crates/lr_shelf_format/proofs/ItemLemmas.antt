@@ -64,10 +64,10 @@ use Rattle.lr_shelf_format.specs.Items.{
   item_of,
 }
 use Rattle.lr_shelf_format.specs.Record.{
-  file_from,
+  file_of_body,
   IsHead,
   body_of,
-  fields_of,
+  bytes_of_head,
   head_of,
   head_of_file,
   origin_bytes,
@@ -234,17 +234,17 @@ unfolding old_bytes add_bytes discard_bytes
 length-item_bytes (old_item file) =
     omega (
       arith,
-      length-append (fields_of (head_of_file file) ++ body_of file)
-          (big_bytes 2 (crc_of (fields_of (head_of_file file) ++ body_of file))),
-      length-append (fields_of (head_of_file file)) (body_of file),
+      length-append (bytes_of_head (head_of_file file) ++ body_of file)
+          (big_bytes 2 (crc_of (bytes_of_head (head_of_file file) ++ body_of file))),
+      length-append (bytes_of_head (head_of_file file)) (body_of file),
       length-body_of file,
     )
 length-item_bytes (add_item file origin) =
-    let content : List ℕ = 0x80 ∷ (fields_of (head_of_file file) ++ (origin_bytes origin ++ body_of file)) in
+    let content : List ℕ = 0x80 ∷ (bytes_of_head (head_of_file file) ++ (origin_bytes origin ++ body_of file)) in
     omega (
       arith,
       length-append content (big_bytes 2 (crc_of content)),
-      length-append (fields_of (head_of_file file)) (origin_bytes origin ++ body_of file),
+      length-append (bytes_of_head (head_of_file file)) (origin_bytes origin ++ body_of file),
       length-append (origin_bytes origin) (body_of file),
       length-body_of file,
     )
@@ -255,24 +255,24 @@ seal_of : List ℕ → List ℕ → List ℕ
 seal_of content rest = big_bytes 2 (crc_of content) ++ rest
 
 split_old : (file : File) (rest : List ℕ)
-    → old_bytes file ++ rest ≡ fields_of (head_of_file file)
-    ++ (body_of file ++ seal_of (fields_of (head_of_file file) ++ body_of file) rest)
+    → old_bytes file ++ rest ≡ bytes_of_head (head_of_file file)
+    ++ (body_of file ++ seal_of (bytes_of_head (head_of_file file) ++ body_of file) rest)
 unfolding old_bytes seal_of
 split_old file rest =
-    let fields = fields_of (head_of_file file) in
+    let fields = bytes_of_head (head_of_file file) in
     append_assoc (fields ++ body_of file) (big_bytes 2 (crc_of (fields ++ body_of file))) rest
     ∙ append_assoc fields (body_of file) (big_bytes 2 (crc_of (fields ++ body_of file)) ++ rest)
 
 add_tail : File → Origin → List ℕ → List ℕ
 add_tail file origin rest = body_of file
-    ++ seal_of (0x80 ∷ (fields_of (head_of_file file) ++ (origin_bytes origin ++ body_of file))) rest
+    ++ seal_of (0x80 ∷ (bytes_of_head (head_of_file file) ++ (origin_bytes origin ++ body_of file))) rest
 
 split_add : (file : File) (origin : Origin) (rest : List ℕ)
     → add_bytes file origin
-    ++ rest ≡ 0x80 ∷ (fields_of (head_of_file file) ++ (origin_bytes origin ++ add_tail file origin rest))
+    ++ rest ≡ 0x80 ∷ (bytes_of_head (head_of_file file) ++ (origin_bytes origin ++ add_tail file origin rest))
 unfolding add_bytes seal_of add_tail
 split_add file origin rest =
-    let fields = fields_of (head_of_file file) in
+    let fields = bytes_of_head (head_of_file file) in
     let content : List ℕ = 0x80 ∷ (fields ++ (origin_bytes origin ++ body_of file)) in
     let end : List ℕ = big_bytes 2 (crc_of content) ++ rest in
     append_assoc content (big_bytes 2 (crc_of content)) rest
@@ -284,7 +284,7 @@ pub begins_item : (item : Item) (rest : List ℕ) → IsItem item → Begins (it
 begins_item (old_item file) rest is = (
   IsHead-file file is,
   sym (ap head_of (split_old file rest)
-      ∙ head_of-fields file (body_of file ++ seal_of (fields_of (head_of_file file) ++ body_of file) rest) is),
+      ∙ head_of-fields file (body_of file ++ seal_of (bytes_of_head (head_of_file file) ++ body_of file) rest) is),
 )
 begins_item (add_item file origin) rest is = (
   ap (λ (l : List ℕ). slice_index l 0) (split_add file origin rest),
@@ -295,7 +295,7 @@ begins_item (add_item file origin) rest is = (
 begins_item (discard_item number) rest is = (is, take_at (discard_bytes number) rest 11 (length-discard_bytes number))
 
 file_of_tail : (file : File) (origin : Origin) (rest : List ℕ) → IsFile file
-    → file_from (head_of_file file) (add_tail file origin rest) ≡ file
+    → file_of_body (head_of_file file) (add_tail file origin rest) ≡ file
 unfolding add_tail
 file_of_tail file origin rest is = file_from-body file _ is
 
@@ -303,15 +303,15 @@ pub item_of-item : (item : Item) (rest : List ℕ) → IsItem item
     → item_of (head_of_item item) (item_bytes item ++ rest) ≡ item
 unfolding item_of
 item_of-item (old_item file) rest is =
-    ap old_item (ap (λ (l : List ℕ). file_from (head_of_file file) (drop 11 l)) (split_old file rest)
+    ap old_item (ap (λ (l : List ℕ). file_of_body (head_of_file file) (drop 11 l)) (split_old file rest)
     ∙ file_from-body file _ is)
 item_of-item (add_item file origin) rest is =
     let tail = add_tail file origin rest in
     let more : drop 12 (add_bytes file origin ++ rest) ≡ origin_bytes origin
     ++ tail = ap (drop 12) (split_add file origin rest) in
     let body : drop 36 (add_bytes file origin ++ rest) ≡ tail = ap (drop 36) (split_add file origin rest) in
-    let files : file_from (head_of_file file) (drop 36 (add_bytes file origin ++ rest)) ≡ file =
-    ap (file_from (head_of_file file)) body ∙ file_of_tail file origin rest is.0 in
+    let files : file_of_body (head_of_file file) (drop 36 (add_bytes file origin ++ rest)) ≡ file =
+    ap (file_of_body (head_of_file file)) body ∙ file_of_tail file origin rest is.0 in
     ap (λ f. add_item f (origin_of (drop 12 (add_bytes file origin ++ rest)))) files
     ∙ ap (add_item file) (ap origin_of more ∙ origin_of-bytes origin tail is.1)
 item_of-item (discard_item number) rest is = refl
@@ -349,21 +349,21 @@ put_sealed before front body first second new start first_is second_is start_is 
     (sym (append_assoc (front ++ body) (big_bytes 2 (crc_of (front ++ body))) (0 ∷ [])))
 
 pub put_old_item : (file : File) (before first second new : List ℕ) (start : ℕ)
-    → first ≡ before ++ fields_of (head_of_file file) → second ≡ first ++ body_of file → start ≡ length before
+    → first ≡ before ++ bytes_of_head (head_of_file file) → second ≡ first ++ body_of file → start ≡ length before
     → new ≡ second ++ (big_bytes 2 (crc_of (drop start second)) ++ 0 ∷ []) → new ≡ before ++ (old_bytes file ++ 0 ∷ [])
 unfolding old_bytes
 put_old_item file before first second new start first_is second_is start_is end =
-    put_sealed before (fields_of (head_of_file file))
+    put_sealed before (bytes_of_head (head_of_file file))
     (body_of file) first second new start first_is second_is start_is end
 
 pub put_add_item : (file : File) (origin : Origin) (before first second new : List ℕ) (start : ℕ)
-    → first ≡ before ++ (0x80 ∷ (fields_of (head_of_file file) ++ origin_bytes origin))
+    → first ≡ before ++ (0x80 ∷ (bytes_of_head (head_of_file file) ++ origin_bytes origin))
     → second ≡ first ++ body_of file → start ≡ length before
     → new ≡ second ++ (big_bytes 2 (crc_of (drop start second)) ++ 0 ∷ [])
     → new ≡ before ++ (add_bytes file origin ++ 0 ∷ [])
 unfolding add_bytes
 put_add_item file origin before first second new start first_is second_is start_is end =
-    let fields = fields_of (head_of_file file) in
+    let fields = bytes_of_head (head_of_file file) in
     let turn : (fields ++ origin_bytes origin) ++ body_of file ≡ fields
     ++ (origin_bytes origin ++ body_of file) = append_assoc fields (origin_bytes origin) (body_of file) in
     put_sealed before (0x80 ∷ (fields ++ origin_bytes origin))
@@ -389,20 +389,20 @@ whole_of content bytes fit long same right =
 
 module _ (bytes : List ℕ) (fit : AreBytes bytes) where
   old_content : (head : RecordHead) → IsHead head → head ≡ head_of bytes → HasBody head 11 bytes
-      → fields_of (head_of_file (file_from head (drop 11 bytes)))
-      ++ body_of (file_from head (drop 11 bytes)) ≡ take (length bytes - 2) bytes
+      → bytes_of_head (head_of_file (file_of_body head (drop 11 bytes)))
+      ++ body_of (file_of_body head (drop 11 bytes)) ≡ take (length bytes - 2) bytes
   old_content head is same has =
       let size : length bytes - 2 ≡ 11 + (2 * head.packets + head.bytes) = omega (arith, has.size) in
-      ap (λ h. fields_of h ++ body_of (file_from head (drop 11 bytes))) (head_of_file-from head 11 bytes is has)
-      ∙ ap (λ (l : List ℕ). fields_of head ++ l) (body_of-from head 11 bytes is has fit)
+      ap (λ h. bytes_of_head h ++ body_of (file_of_body head (drop 11 bytes))) (head_of_file-from head 11 bytes is has)
+      ∙ ap (λ (l : List ℕ). bytes_of_head head ++ l) (body_of-from head 11 bytes is has fit)
       ∙ ap (λ (l : List ℕ). l ++ take (2 * head.packets + head.bytes) (drop 11 bytes))
-      (ap fields_of same ∙ fields_back bytes fit (omega (arith, has.size)))
+      (ap bytes_of_head same ∙ fields_back bytes fit (omega (arith, has.size)))
       ∙ sym (take-add 11 (2 * head.packets + head.bytes) bytes) ∙ ap (λ n. take n bytes) (sym size)
 
   add_content : (head : RecordHead) → slice_index bytes 0 ≡ 0x80 → IsHead head → head ≡ head_of (drop 1 bytes)
       → HasBody head 36 bytes
-      → 0x80 ∷ (fields_of (head_of_file (file_from head (drop 36 bytes)))
-      ++ (origin_bytes (origin_of (drop 12 bytes)) ++ body_of (file_from head (drop 36 bytes)))) ≡ take
+      → 0x80 ∷ (bytes_of_head (head_of_file (file_of_body head (drop 36 bytes)))
+      ++ (origin_bytes (origin_of (drop 12 bytes)) ++ body_of (file_of_body head (drop 36 bytes)))) ≡ take
       (length bytes - 2) bytes
   add_content head first is same has =
       let t = 2 * head.packets + head.bytes in
@@ -415,15 +415,15 @@ module _ (bytes : List ℕ) (fit : AreBytes bytes) where
       let origins : origin_bytes (origin_of (drop 12 bytes)) ≡ take 24 (drop 12 bytes) =
       origin_back (drop 12 bytes) (AreBytes-drop 12 bytes fit) (omega (arith, length-drop 12 bytes, has.size)) in
       let tail : origin_bytes (origin_of (drop 12 bytes))
-      ++ body_of (file_from head (drop 36 bytes)) ≡ take (24 + t) (drop 11 rest) =
-      ap (λ (l : List ℕ). l ++ body_of (file_from head (drop 36 bytes))) origins
+      ++ body_of (file_of_body head (drop 36 bytes)) ≡ take (24 + t) (drop 11 rest) =
+      ap (λ (l : List ℕ). l ++ body_of (file_of_body head (drop 36 bytes))) origins
       ∙ ap (λ (l : List ℕ). take 24 (drop 12 bytes) ++ l)
       (body_of-from head 36 bytes is has fit ∙ ap (take t) (sym body))
       ∙ sym (take-add 24 t (drop 12 bytes)) ∙ ap (take (24 + t)) (sym twelve) in
-      let fields : fields_of (head_of_file (file_from head (drop 36 bytes))) ≡ take 11 rest =
-      ap fields_of (head_of_file-from head 36 bytes is has ∙ same) ∙ fields_back rest back (omega arith) in
+      let fields : bytes_of_head (head_of_file (file_of_body head (drop 36 bytes))) ≡ take 11 rest =
+      ap bytes_of_head (head_of_file-from head 36 bytes is has ∙ same) ∙ fields_back rest back (omega arith) in
       ap (λ (l : List ℕ). 0x80 ∷
-      (l ++ (origin_bytes (origin_of (drop 12 bytes)) ++ body_of (file_from head (drop 36 bytes))))) fields
+      (l ++ (origin_bytes (origin_of (drop 12 bytes)) ++ body_of (file_of_body head (drop 36 bytes))))) fields
       ∙ ap (λ (l : List ℕ). 0x80 ∷ (take 11 rest ++ l)) tail
       ∙ ap (λ (l : List ℕ). 0x80 ∷ l) (sym (take-add 11 (24 + t) rest))
       ∙ ap (λ n. n ∷ take (11 + (24 + t)) rest) (sym first)
@@ -459,20 +459,20 @@ module _ (bytes : List ℕ) (fit : AreBytes bytes) where
 
 pub put_front_of : (file : File) (origin : Origin) (before first second new fields bytes : List ℕ)
     → first ≡ before ++ 0x80 ∷ [] → second ≡ first ++ fields → new ≡ second ++ bytes
-    → fields ≡ fields_of (head_of_file file) → bytes ≡ origin_bytes origin
-    → new ≡ before ++ (0x80 ∷ (fields_of (head_of_file file) ++ origin_bytes origin))
+    → fields ≡ bytes_of_head (head_of_file file) → bytes ≡ origin_bytes origin
+    → new ≡ before ++ (0x80 ∷ (bytes_of_head (head_of_file file) ++ origin_bytes origin))
 put_front_of file origin before first second new fields bytes first_is second_is new_is fields_are bytes_are =
     new_is ∙ ap (λ (l : List ℕ). l ++ bytes) second_is ∙ ap (λ (l : List ℕ). (l ++ fields) ++ bytes) first_is
     ∙ ap (λ (l : List ℕ). ((before ++ 0x80 ∷ []) ++ fields) ++ l) bytes_are
     ∙ ap (λ (l : List ℕ). ((before ++ 0x80 ∷ []) ++ l) ++ origin_bytes origin) fields_are
-    ∙ append_assoc (before ++ 0x80 ∷ []) (fields_of (head_of_file file)) (origin_bytes origin)
-    ∙ append_assoc before (0x80 ∷ []) (fields_of (head_of_file file) ++ origin_bytes origin)
+    ∙ append_assoc (before ++ 0x80 ∷ []) (bytes_of_head (head_of_file file)) (origin_bytes origin)
+    ∙ append_assoc before (0x80 ∷ []) (bytes_of_head (head_of_file file) ++ origin_bytes origin)
 
 -- ---- what an item that is read holds
 
 module _ (bytes : List ℕ) (fit : AreBytes bytes) (right : stored_checksum bytes ≡ computed_checksum bytes) where
   pub holds_old : (head : RecordHead) (file : File) → Begins bytes (Old head) → HasForm bytes (Old head)
-      → file ≡ file_from head (drop 11 bytes)
+      → file ≡ file_of_body head (drop 11 bytes)
       → Holds bytes (record { file = file; origin = None })
   unfolding item_of
   holds_old head file begins form same =
@@ -484,7 +484,7 @@ module _ (bytes : List ℕ) (fit : AreBytes bytes) (right : stored_checksum byte
       }
 
   pub holds_add : (head : RecordHead) (file : File) → Begins bytes (Add head) → HasForm bytes (Add head)
-      → file ≡ file_from head (drop 36 bytes)
+      → file ≡ file_of_body head (drop 36 bytes)
       → Holds bytes (record { file = file; origin = Some (origin_of (drop 12 bytes)) })
   unfolding item_of
   holds_add head file begins form same =

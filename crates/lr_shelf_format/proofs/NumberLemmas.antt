@@ -31,7 +31,7 @@ use Rattle.std.proofs.lemmas.List.{drop-drop, get_or-drop}
 use Rattle.std.proofs.Math.Seq.{take-add}
 use Rattle.byteorder.specs.Endian.{big_bytes, big_number}
 use Rattle.byteorder.specs.Numbers.{big_number-reads_back}
-use Rattle.lr_shelf_format.specs.Record.{fields_of, head_of, numbers_in, origin_bytes, origin_of}
+use Rattle.lr_shelf_format.specs.Record.{bytes_of_head, head_of, numbers_in, origin_bytes, origin_of}
 
 -- ---- lengths of two bytes each
 
@@ -171,7 +171,7 @@ first_one [] long = absurd (omega arith)
 first_one (b ∷ bytes) long = refl
 
 -- the bytes of the fields that are read
-pub fields_back : (bytes : List ℕ) → AreBytes bytes → 11 ≤ length bytes → fields_of (head_of bytes) ≡ take 11 bytes
+pub fields_back : (bytes : List ℕ) → AreBytes bytes → 11 ≤ length bytes → bytes_of_head (head_of bytes) ≡ take 11 bytes
 fields_back bytes fit long =
     let apid = bytes_of_two (drop 1 bytes) (AreBytes-drop 1 bytes fit) (omega (arith, length-drop 1 bytes)) in
     let packets = bytes_of_four (drop 3 bytes) (AreBytes-drop 3 bytes fit) (omega (arith, length-drop 3 bytes)) in

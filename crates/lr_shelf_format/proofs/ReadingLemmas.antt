@@ -32,8 +32,8 @@ use Rattle.std.proofs.lemmas.List.Sums.{sum_by-cons}
 use Rattle.lr_shelf_format.specs.Gates.{front, after_open_gate, IsClosedAfter}
 use Rattle.lr_shelf_format.specs.Header.{HasHeader, header_bytes}
 use Rattle.lr_shelf_format.specs.Items.{AreProper, Begins, IsItem, Item, extent_of, head_of_item, item_bytes}
-use Rattle.lr_shelf_format.specs.Reading.{StandsFor, HasOneReading, IsOneWalk, end_of, steps_of}
-use Rattle.lr_shelf_format.specs.Walk.{IsPath, Leads, heads_of}
+use Rattle.lr_shelf_format.specs.ShelfBytes.{StandsForShelf, HasOneReading, IsOneWalk, end_of, steps_of}
+use Rattle.lr_shelf_format.specs.Walk.{IsPath, LeadsToNextGate, heads_of}
 use Rattle.lr_shelf_format.proofs.HeaderLemmas.{length-header_bytes, take-header_bytes, capacity_is}
 use Rattle.lr_shelf_format.proofs.ItemLemmas.{begins_item, item_is, length-item_bytes}
 
@@ -93,7 +93,7 @@ length-front version capacity items =
       length-gated items,
     )
 
-pub header_of-standing : (bytes : List ℕ) (capacity : ℕ) (items : List Item) → StandsFor bytes capacity items
+pub header_of-standing : (bytes : List ℕ) (capacity : ℕ) (items : List Item) → StandsForShelf bytes capacity items
     → HasHeader bytes capacity
 header_of-standing bytes capacity items stands =
     let split = after_header bytes stands.version capacity items stands.shut in
@@ -128,7 +128,7 @@ has_one_reading bytes capacity capacity' items items' stands stands' =
 -- the gate after these bytes leads over the item after it
 pub leads_over : (before : List ℕ) (item : Item) (bytes rest : List ℕ) → IsItem item
     → bytes ≡ before ++ (1 ∷ (item_bytes item ++ rest)) → 0 < length rest
-    → Leads bytes (record { gate = length before; head = head_of_item item })
+    → LeadsToNextGate bytes (record { gate = length before; head = head_of_item item })
 leads_over before item bytes rest is split more =
     let tail = item_bytes item ++ rest in
     let tail_is : drop (length before + 1) bytes ≡ tail =
@@ -167,7 +167,7 @@ path_over before from (item ∷ items) bytes rest each place split more =
     let ends : next + length (gated items) ≡ from + length (gated (item ∷ items)) =
     omega (arith, length-append (1 ∷ one) (gated items), size) in (
       refl,
-      subst (λ n. Leads bytes (record { gate = n; head = head_of_item item })) place there,
+      subst (λ n. LeadsToNextGate bytes (record { gate = n; head = head_of_item item })) place there,
       subst (IsPath bytes next (steps_of next items)) ends onward,
     )
 

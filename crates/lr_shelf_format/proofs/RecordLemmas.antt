@@ -41,8 +41,8 @@ use Rattle.lr_shelf_format.specs.Items.{HasBody, IsOrigin}
 use Rattle.lr_shelf_format.specs.Record.{
   IsHead,
   body_of,
-  file_from,
-  fields_of,
+  file_of_body,
+  bytes_of_head,
   head_of,
   head_of_file,
   numbers_in,
@@ -74,7 +74,7 @@ IsHead-file file is = record {
 
 -- the fields read back
 pub head_of-fields : (file : File) (more : List ℕ) → IsFile file
-    → head_of (fields_of (head_of_file file) ++ more) ≡ head_of_file file
+    → head_of (bytes_of_head (head_of_file file) ++ more) ≡ head_of_file file
 head_of-fields file more is =
     let k = length file.bodies in
     let t = length (bytes_of file) in
@@ -128,8 +128,8 @@ length-body_of file =
 
 -- the file reads back
 pub file_from-body : (file : File) (more : List ℕ) → IsFile file
-    → file_from (head_of_file file) (body_of file ++ more) ≡ file
-unfolding file_from
+    → file_of_body (head_of_file file) (body_of file ++ more) ≡ file
+unfolding file_of_body
 file_from-body file more is =
     let sizes : List ℕ = map length file.bodies in
     let lengths = flat_map (big_bytes 2) sizes in
@@ -185,12 +185,12 @@ module _ (head : RecordHead) (place : ℕ) (bytes : List ℕ) (is : IsHead head)
         most = omega (arith, size_of, is.most);
       }
 
-  pub IsFile-from : IsFile (file_from head (drop place bytes))
-  unfolding file_from
+  pub IsFile-from : IsFile (file_of_body head (drop place bytes))
+  unfolding file_of_body
   IsFile-from = IsFile-file_of _ _ _ _ MakeFile-body
 
-  pub head_of_file-from : head_of_file (file_from head (drop place bytes)) ≡ head
-  unfolding file_from part
+  pub head_of_file-from : head_of_file (file_of_body head (drop place bytes)) ≡ head
+  unfolding file_of_body part
   head_of_file-from =
       let joined = bytes_of-file_of head.vc head.apid (numbers_in head.packets (drop place bytes))
       (take head.bytes (drop (2 * head.packets) (drop place bytes))) MakeFile-body in
@@ -206,8 +206,8 @@ module _ (head : RecordHead) (place : ℕ) (bytes : List ℕ) (is : IsHead head)
       (ap length joined ∙ size_of)
 
   pub body_of-from : AreBytes bytes
-      → body_of (file_from head (drop place bytes)) ≡ take (2 * head.packets + head.bytes) (drop place bytes)
-  unfolding file_from
+      → body_of (file_of_body head (drop place bytes)) ≡ take (2 * head.packets + head.bytes) (drop place bytes)
+  unfolding file_of_body
   body_of-from fit =
       let rest = drop place bytes in
       let pairs : flat_map (big_bytes 2) (numbers_in head.packets rest) ≡ take (2 * head.packets) rest =
@@ -230,8 +230,8 @@ module _ (head : RecordHead) (place : ℕ) (bytes : List ℕ) (is : IsHead head)
       (subst (λ b. MakeFile head.vc head.apid (numbers_in head.packets (drop place bytes)) b) (sym body_is)
       (MakeFile-body head place bytes is has))
 
-  pub file_of-read : file_of head.vc head.apid lengths body ≡ file_from head (drop place bytes)
-  unfolding file_from
+  pub file_of-read : file_of head.vc head.apid lengths body ≡ file_of_body head (drop place bytes)
+  unfolding file_of_body
   file_of-read =
       ap (λ l. file_of head.vc head.apid l body) lengths_are
       ∙ ap (λ b. file_of head.vc head.apid (numbers_in head.packets (drop place bytes)) b) body_is

@@ -24,7 +24,7 @@ use Rattle.std.proofs.Common.{
 }
 use Rattle.std.proofs.lemmas.List.{append-nil, drop-take, get_or-take, map_push}
 use Rattle.lr_shelf_format.specs.Items.{AreProper, Begins, IsProper, MayFollow}
-use Rattle.lr_shelf_format.specs.Walk.{IsBrokenAt, IsOpen, IsPath, IsWalk, Leads, Step, heads_of, next_gate}
+use Rattle.lr_shelf_format.specs.Walk.{IsBrokenAt, IsOpen, IsPath, IsWalk, LeadsToNextGate, Step, heads_of, next_gate}
 use Rattle.lr_shelf_format.specs.declared.item.ItemHead.{ItemHead}
 use Rattle.lr_shelf_format.proofs.ItemLemmas.{Begins-same, head_is}
 
@@ -46,7 +46,7 @@ IsProper-push heads head proper may = AreProper-push [] heads head proper may
 -- ---- paths
 
 pub IsPath-push : (bytes : List ℕ) (from : ℕ) (steps : List Step) (step : Step) → IsPath bytes from steps step.gate
-    → Leads bytes step → IsPath bytes from (steps ++ step ∷ []) (next_gate step)
+    → LeadsToNextGate bytes step → IsPath bytes from (steps ++ step ∷ []) (next_gate step)
 IsPath-push bytes from [] step path leads = (sym path, leads, refl)
 IsPath-push bytes from (first ∷ steps) step path leads =
     (path.0, path.1, IsPath-push bytes (next_gate first) steps step path.2 leads)
@@ -61,7 +61,7 @@ step_is step gate head gates heads = ap (λ g. record { gate = g; head = step.he
 
 -- no step goes on from this place, after these heads
 abbrev pub IsEnd : List ℕ → List ItemHead → ℕ → Type 0
-IsEnd bytes heads at = (head : ItemHead) → Leads bytes (record { gate = at; head = head }) → MayFollow heads head → ⊥
+IsEnd bytes heads at = (head : ItemHead) → LeadsToNextGate bytes (record { gate = at; head = head }) → MayFollow heads head → ⊥
 
 -- two ways that can't go on are the same
 pub same_ends : (bytes : List ℕ) (before : List ItemHead) (from to to' : ℕ) (steps steps' : List Step)
@@ -72,11 +72,11 @@ pub same_ends : (bytes : List ℕ) (before : List ItemHead) (from to to' : ℕ) 
 same_ends bytes before from to to' [] [] path path' proper proper' ends ends' = (refl, sym path ∙ path')
 same_ends bytes before from to to' [] (step' ∷ steps') path path' proper proper' ends ends' =
     absurd (ends step'.head
-    (subst (λ n. Leads bytes (record { gate = n; head = step'.head })) (path'.0 ∙ path) path'.1)
+    (subst (λ n. LeadsToNextGate bytes (record { gate = n; head = step'.head })) (path'.0 ∙ path) path'.1)
     (subst (λ hs. MayFollow hs step'.head) (sym (append-nil before)) proper'.0))
 same_ends bytes before from to to' (step ∷ steps) [] path path' proper proper' ends ends' =
     absurd (ends' step.head
-    (subst (λ n. Leads bytes (record { gate = n; head = step.head })) (path.0 ∙ path') path.1)
+    (subst (λ n. LeadsToNextGate bytes (record { gate = n; head = step.head })) (path.0 ∙ path') path.1)
     (subst (λ hs. MayFollow hs step.head) (sym (append-nil before)) proper.0))
 same_ends bytes before from to to' (step ∷ steps) (step' ∷ steps') path path' proper proper' ends ends' =
     let gates : step.gate ≡ step'.gate = path.0 ∙ sym path'.0 in
@@ -137,7 +137,7 @@ row_same n k xs ys inside same =
     ∙ ap (λ m. drop k (take m ys)) (sym size) ∙ drop-take k (n - k) ys
 
 pub Leads-same : (n : ℕ) (xs ys : List ℕ) (step : Step) → next_gate step ≤ n → n < length ys → take n xs ≡ take n ys
-    → Leads xs step → Leads ys step
+    → LeadsToNextGate xs step → LeadsToNextGate ys step
 Leads-same n xs ys step within inside same leads = record {
   is_open = sym (byte_same n step.gate xs ys (omega arith) same) ∙ leads.is_open;
   begins = Begins-same (n - (step.gate + 1)) (drop (step.gate + 1) xs) (drop (step.gate + 1) ys) step.head

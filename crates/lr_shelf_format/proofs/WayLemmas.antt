@@ -20,7 +20,7 @@ use Rattle.lr_shelf_format.specs.Items.{
   item_of_file,
   item_of_stored,
 }
-use Rattle.lr_shelf_format.specs.Reading.{steps_of}
+use Rattle.lr_shelf_format.specs.ShelfBytes.{steps_of}
 use Rattle.lr_shelf_format.specs.Walk.{IsOpen, IsWalk, Step, heads_of}
 use Rattle.lr_shelf_format.specs.Way.{
   Sound,

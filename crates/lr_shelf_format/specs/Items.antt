@@ -31,8 +31,8 @@ use Rattle.lr_bits.specs.declared.placed.Origin.{Origin}
 use Rattle.lr_shelf_format.specs.Record.{
   IsHead,
   body_of,
-  fields_of,
-  file_from,
+  bytes_of_head,
+  file_of_body,
   head_of,
   head_of_file,
   numbers_in,
@@ -52,10 +52,10 @@ pub data Item : Type 0 where
   discard_item : (number : ℕ) → Item
 
 unfoldable pub old_bytes : File → List ℕ
-old_bytes file = with_checksum (fields_of (head_of_file file) ++ body_of file)
+old_bytes file = with_checksum (bytes_of_head (head_of_file file) ++ body_of file)
 
 unfoldable pub add_bytes : File → Origin → List ℕ
-add_bytes file origin = with_checksum (0x80 ∷ (fields_of (head_of_file file) ++ (origin_bytes origin ++ body_of file)))
+add_bytes file origin = with_checksum (0x80 ∷ (bytes_of_head (head_of_file file) ++ (origin_bytes origin ++ body_of file)))
 
 unfoldable pub discard_bytes : ℕ → List ℕ
 discard_bytes number = with_checksum (0x81 ∷ big_bytes 8 number)
@@ -141,15 +141,15 @@ HasForm bytes (Add head) = HasBody head 36 bytes
 HasForm bytes (Discard number) = ⊥
 
 -- These bytes have the form of an Old or an Add item, with nothing after it. Nothing is said of its checksum.
-pub record IsRecord (bytes : List ℕ) : Type 0 where
+pub record IsFileRecord (bytes : List ℕ) : Type 0 where
   pub head : ItemHead
   pub begins : Begins bytes head
   pub form : HasForm bytes head
 
 -- the item that a head and the bytes of an item give
 unfoldable pub item_of : ItemHead → List ℕ → Item
-item_of (Old head) bytes = old_item (file_from head (drop 11 bytes))
-item_of (Add head) bytes = add_item (file_from head (drop 36 bytes)) (origin_of (drop 12 bytes))
+item_of (Old head) bytes = old_item (file_of_body head (drop 11 bytes))
+item_of (Add head) bytes = add_item (file_of_body head (drop 36 bytes)) (origin_of (drop 12 bytes))
 item_of (Discard number) bytes = discard_item number
 
 -- the checksum that stands at the end of an item, and the one of the bytes before it

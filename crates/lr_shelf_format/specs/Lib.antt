@@ -1,7 +1,7 @@
 pub mod Gates
 pub mod Header
 pub mod Items
-pub mod Reading
 pub mod Record
+pub mod ShelfBytes
 pub mod Walk
 pub mod Way

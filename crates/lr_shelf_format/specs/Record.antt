@@ -35,8 +35,8 @@ head_of_file file = record {
 }
 
 -- the eleven bytes of these fields: channel, application, number of bodies, number of bytes
-abbrev pub fields_of : RecordHead → List ℕ
-fields_of head = head.vc ∷ (big_bytes 2 head.apid ++ (big_bytes 4 head.packets ++ big_bytes 4 head.bytes))
+abbrev pub bytes_of_head : RecordHead → List ℕ
+bytes_of_head head = head.vc ∷ (big_bytes 2 head.apid ++ (big_bytes 4 head.packets ++ big_bytes 4 head.bytes))
 
 -- the length of each body, and then the bytes
 abbrev pub body_of : File → List ℕ
@@ -83,8 +83,8 @@ numbers_in zero bytes = []
 numbers_in (suc count) bytes = big_number 2 bytes ∷ numbers_in count (drop 2 bytes)
 
 -- the file that fields and the bytes of a body give
-unfoldable pub file_from : RecordHead → List ℕ → File
-file_from head rest = file_of head.vc head.apid (numbers_in head.packets rest)
+unfoldable pub file_of_body : RecordHead → List ℕ → File
+file_of_body head rest = file_of head.vc head.apid (numbers_in head.packets rest)
     (take head.bytes (drop (2 * head.packets) rest))
 
 -- the bytes that were there stay

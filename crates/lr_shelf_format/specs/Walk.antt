@@ -17,7 +17,7 @@ abbrev pub next_gate : Step → ℕ
 next_gate step = step.gate + 1 + extent_of step.head
 
 -- The gate is open, the bytes after it begin such an item, and the next gate is inside.
-pub record Leads (bytes : List ℕ) (step : Step) : Type 0 where
+pub record LeadsToNextGate (bytes : List ℕ) (step : Step) : Type 0 where
   pub is_open : IsOpen bytes step.gate
   pub begins : Begins (drop (step.gate + 1) bytes) step.head
   pub inside : next_gate step < length bytes
@@ -25,7 +25,7 @@ pub record Leads (bytes : List ℕ) (step : Step) : Type 0 where
 -- from one gate by these steps to another
 abbrev pub IsPath : List ℕ → ℕ → List Step → ℕ → Type 0
 IsPath bytes from [] to = from ≡ to
-IsPath bytes from (step ∷ steps) to = (step.gate ≡ from) × Leads bytes step × IsPath bytes (next_gate step) steps to
+IsPath bytes from (step ∷ steps) to = (step.gate ≡ from) × LeadsToNextGate bytes step × IsPath bytes (next_gate step) steps to
 
 abbrev pub heads_of : List Step → List ItemHead
 heads_of steps = map (λ (step : Step). step.head) steps
@@ -44,4 +44,4 @@ pub record IsBrokenAt (bytes : List ℕ) (at : ℕ) : Type 0 where
   pub path : IsPath bytes 19 steps at
   pub proper : IsProper (heads_of steps)
   pub is_open : IsOpen bytes at
-  pub broken : (head : ItemHead) → Leads bytes (record { gate = at; head = head }) → MayFollow (heads_of steps) head → ⊥
+  pub broken : (head : ItemHead) → LeadsToNextGate bytes (record { gate = at; head = head }) → MayFollow (heads_of steps) head → ⊥

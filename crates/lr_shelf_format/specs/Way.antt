@@ -3,8 +3,8 @@
 use Rattle.std.specs.Prelude.{◌≡◌, ◌≢◌, ◌⊎◌, ◌≤◌, ◌<◌, ◌+◌, ◌-◌, ℕ, zero, suc, true, false}
 use Rattle.std.specs.Prelude.{Option, Some, None, List, [], ◌∷◌, ◌++◌, length, take, drop, slice_index_or}
 use Rattle.lr_shelf_format.specs.Header.{HasHeader}
-use Rattle.lr_shelf_format.specs.Items.{Holds, IsRecord, Item, computed_checksum, extent_of, stored_checksum}
-use Rattle.lr_shelf_format.specs.Reading.{StandsFor, end_of, steps_of}
+use Rattle.lr_shelf_format.specs.Items.{Holds, IsFileRecord, Item, computed_checksum, extent_of, stored_checksum}
+use Rattle.lr_shelf_format.specs.ShelfBytes.{StandsForShelf, end_of, steps_of}
 use Rattle.lr_shelf_format.specs.Walk.{IsBrokenAt, IsOpen, IsWalk, Step}
 use Rattle.lr_shelf_format.specs.declared.entry.Entry.{Entry}
 use Rattle.lr_shelf_format.specs.declared.item.ItemHead.{ItemHead}
@@ -90,7 +90,7 @@ item_at bytes entry = take entry.extent (drop (entry.gate + 1) bytes)
 pub record HasRecord (bytes : List ℕ) (entry : Entry) : Type 0 where
   pub is_open : IsOpen bytes entry.gate
   pub inside : entry.gate + 1 + entry.extent ≤ length bytes
-  pub form : IsRecord (item_at bytes entry)
+  pub form : IsFileRecord (item_at bytes entry)
 
 -- and its checksum is right
 pub record HasSoundRecord (bytes : List ℕ) (entry : Entry) : Type 0 where
@@ -125,7 +125,7 @@ pub record HasOneWay (bytes : List ℕ) : Type 0 where
 -- the bytes of a shelf have the way of its items
 abbrev pub HasWay : Type 0
 HasWay =
-    (bytes : List ℕ) (capacity : ℕ) (items : List Item) → StandsFor bytes capacity items
+    (bytes : List ℕ) (capacity : ℕ) (items : List Item) → StandsForShelf bytes capacity items
     → IsWay bytes (way_of capacity items)
 
 -- one thing stands at an entry

@@ -10,9 +10,9 @@
 //! bytes, and the checksum of all of it before that. An Add has 80 hex in front, and the origin (three numbers of 8
 //! bytes) before the lengths. A Discard is 81 hex, the number of the file (8) and their checksum.
 //!
-//! The definitions that the layer above rests on are `StandsFor` of `specs/Reading` (the items that bytes stand for),
-//! the walk from gate to gate of `specs/Walk`, and of `specs/Way` `IsWay` (the entries that a walk gives, each with
-//! its gate, its extent and whether it is gone) and `IsFound` (what stands at an entry: a file, two checksums that
+//! The definitions that the layer above rests on are `StandsForShelf` of `specs/ShelfBytes` (the items that bytes stand
+//! for), the walk from gate to gate of `specs/Walk`, and of `specs/Way` `IsWay` (the entries that a walk gives, each
+//! with its gate, its extent and whether it is gone) and `IsFound` (what stands at an entry: a file, two checksums that
 //! differ, or that it is gone).
 #![tactic(auto)]
 

@@ -20,11 +20,11 @@ ghost use Rattle.lr_shelf_format.specs.Items.{
   HasBody,
   HasForm,
   Holds,
-  IsRecord,
+  IsFileRecord,
   computed_checksum,
   stored_checksum,
 };
-ghost use Rattle.lr_shelf_format.specs.Record.{IsHead, file_from, numbers_in, origin_of};
+ghost use Rattle.lr_shelf_format.specs.Record.{IsHead, file_of_body, numbers_in, origin_of};
 
 use crate::item::{ITEM_BYTES, ItemHead, read_item};
 use crate::record::{
@@ -48,7 +48,7 @@ pub struct Sums {
 pub fn record_in(bytes: &[u8]) -> Option<ItemHead>
     ensures begins { IfSome result (Begins bytes.now) }
     ensures form { IfSome result (HasForm bytes.now) }
-    ensures none { IfNone result (IsRecord bytes.now → ⊥) }
+    ensures none { IfNone result (IsFileRecord bytes.now → ⊥) }
 {
     if bytes.len() < ITEM_BYTES {
         return None;
@@ -162,7 +162,7 @@ fn file_in(
     requires front { front ≤ 36 }
     requires head { IsHead head }
     requires body { HasBody head front bytes.now }
-    ensures { IfOk result (λ file. file ≡ file_from head (drop front bytes.now)) }
+    ensures { IfOk result (λ file. file ≡ file_of_body head (drop front bytes.now)) }
 {
     let lengths = lengths_in(alloc, &bytes[front..], head.packets)?;
     let from = front + LENGTH_BYTES * head.packets as usize;

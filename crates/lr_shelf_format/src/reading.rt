@@ -1,6 +1,6 @@
 //! Laws on the bytes of shelves. Each is the contract of a function that does nothing.
 ghost use Rattle.std.specs.Prelude.{ℕ, List};
-ghost use Rattle.lr_shelf_format.specs.Reading.{HasOneReading, IsOneWalk};
+ghost use Rattle.lr_shelf_format.specs.ShelfBytes.{HasOneReading, IsOneWalk};
 ghost use Rattle.lr_shelf_format.specs.Way.{HasOneWay, HasWay, IsFoundOnce};
 ghost use Rattle.lr_shelf_format.specs.declared.entry.Entry.{Entry};
 

@@ -9,7 +9,7 @@ ghost use Rattle.lr_shelf_format.specs.Record.{
   IsHead,
   StartsWith,
   body_of,
-  fields_of,
+  bytes_of_head,
   head_of,
   head_of_file,
   origin_bytes,
@@ -125,7 +125,7 @@ fn put_record(file: &MissionFile, origin: Origin, out: &mut Bytes) -> Result<(),
 /// Appends the bytes of an Add item before the lengths.
 fn put_front(file: &MissionFile, origin: Origin, out: &mut Bytes) -> Result<(), NoMemory>
     ensures ok { OnOk result
-        (out.new ≡ out.old ++ (0x80 ∷ (fields_of (head_of_file file.now) ++ origin_bytes origin))) }
+        (out.new ≡ out.old ++ (0x80 ∷ (bytes_of_head (head_of_file file.now) ++ origin_bytes origin))) }
     ensures err { OnErr result (StartsWith out.old out.new) }
     ensures file { IsFile file.now }
 {
@@ -137,7 +137,7 @@ fn put_front(file: &MissionFile, origin: Origin, out: &mut Bytes) -> Result<(), 
 
 /// The bytes of the file's fields.
 pub(crate) fn fields_of_file(file: &MissionFile) -> [u8; 11]
-    ensures value { result ≡ fields_of (head_of_file file.now) }
+    ensures value { result ≡ bytes_of_head (head_of_file file.now) }
     ensures file { IsFile file.now }
 {
     fields(

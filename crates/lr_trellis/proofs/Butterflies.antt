@@ -3,7 +3,7 @@ use Rattle.std.proofs.Common.{ap, sym, ◌∙◌, ◌≡◌, ◌+◌, ◌*◌, �
 use Rattle.std.proofs.Common.{slice_index, arith, ⊎_elim}
 use Rattle.std.specs.Int.{bit_at}
 use Rattle.std.proofs.str.Laws.{order}
-use Rattle.lr_trellis.specs.Words.{branch_by, place_of, decision_of}
+use Rattle.lr_trellis.specs.Words.{branch_by, decision_place, decision_of}
 
 -- the two states that butterfly k leads to
 pub record Merged (costs old new : List ℕ) (evens odds k : ℕ) : Type 0 where
@@ -58,7 +58,7 @@ module _
     even_state : (s k : ℕ) → k < 32 → s ≡ 2 * k → decision_of word s ≡ choice (s / 2) (s + 64) s
     unfolding decision_of
     even_state s k l e =
-        let place : place_of s ≡ k = omega arith in
+        let place : decision_place s ≡ k = omega arith in
         let half : s / 2 ≡ k = omega arith in
         let far : s + 64 ≡ 2 * k + 64 = omega arith in
         ap (λ p. nat_eq (bit_at word p) 1) place ∙ ap (λ x. nat_eq x 1) (low k l) ∙ (all k l).even_decided
@@ -67,7 +67,7 @@ module _
     odd_state : (s k : ℕ) → k < 32 → s ≡ 2 * k + 1 → decision_of word s ≡ choice (s / 2) (s + 64) s
     unfolding decision_of
     odd_state s k l e =
-        let place : place_of s ≡ k + 32 = omega arith in
+        let place : decision_place s ≡ k + 32 = omega arith in
         let half : s / 2 ≡ k = omega arith in
         let far : s + 64 ≡ 2 * k + 65 = omega arith in
         ap (λ p. nat_eq (bit_at word p) 1) place ∙ ap (λ x. nat_eq x 1) (high k l) ∙ (all k l).odd_decided

@@ -172,8 +172,8 @@ steps_cost_high start branch k most (b ∷ h) p l =
 
 -- ---- the levels after a frame's bits
 -- the levels of the next marker's first six bits, after the level l, the newest first
-abbrev front : LineCode → Bool → List Bool
-front line l = reverse (levels line l marker_start)
+abbrev next_marker_levels : LineCode → Bool → List Bool
+next_marker_levels line l = reverse (levels line l marker_start)
 
 abbrev newest : LineCode → Bool → Bool
 newest line l = cond line.marks l false
@@ -190,7 +190,7 @@ front_by false l = refl
 front_by true false = refl
 front_by true true = refl
 
-front_is : (line : LineCode) (l : Bool) → front line l ≡ newest line l ∷ five line l
+front_is : (line : LineCode) (l : Bool) → next_marker_levels line l ≡ newest line l ∷ five line l
 front_is line l = front_by line.marks l
 
 length_five_by : (m l : Bool) → length (five_of m l) ≡ 5
@@ -257,7 +257,7 @@ abbrev cut : LineCode → List Bool → List Bool
 cut line y = (five line (last_of line y) ++ reverse (path_levels line y)) ++ back_end line
 
 abbrev whole : LineCode → List Bool → List Bool
-whole line y = (front line (last_of line y) ++ reverse (path_levels line y)) ++ back_end line
+whole line y = (next_marker_levels line (last_of line y) ++ reverse (path_levels line y)) ++ back_end line
 
 six_back_by : (m : Bool) → length (reverse (drop 26 (cond m (marks_of false marker) marker))) ≡ 6
 six_back_by false = refl
@@ -281,22 +281,22 @@ string_of_whole : (line : LineCode) (y : List Bool) →
 string_of_whole line y =
     let z = path_levels line y in
     let behind = levels line (last_of line y) marker_start in
-    let e = reverse-append (front line (last_of line y) ++ reverse z) (back_end line) in
-    let f = reverse-append (front line (last_of line y)) (reverse z) in
+    let e = reverse-append (next_marker_levels line (last_of line y) ++ reverse z) (back_end line) in
+    let f = reverse-append (next_marker_levels line (last_of line y)) (reverse z) in
     let g = reverse-reverse z in
     let h = reverse-reverse behind in
     let i = reverse-reverse (marker_end line) in
     let j = levels-append line (last_marker_level line) y marker_start in
-    e ∙ ap (λ t. t ++ reverse (front line (last_of line y) ++ reverse z)) i
-    ∙ ap (λ t. marker_end line ++ t) (f ∙ ap (λ t. t ++ reverse (front line (last_of line y))) g
+    e ∙ ap (λ t. t ++ reverse (next_marker_levels line (last_of line y) ++ reverse z)) i
+    ∙ ap (λ t. marker_end line ++ t) (f ∙ ap (λ t. t ++ reverse (next_marker_levels line (last_of line y))) g
     ∙ ap (λ t. z ++ t) h ∙ sym j)
 
 length_front_y : (line : LineCode) (y : List Bool) →
-    length (front line (last_of line y) ++ reverse (path_levels line y)) ≡ length (y ++ marker_start)
+    length (next_marker_levels line (last_of line y) ++ reverse (path_levels line y)) ≡ length (y ++ marker_start)
 length_front_y line y =
     omega (
       arith,
-      length-append (front line (last_of line y)) (reverse (path_levels line y)),
+      length-append (next_marker_levels line (last_of line y)) (reverse (path_levels line y)),
       length-reverse (levels line (last_of line y) marker_start),
       length-levels line (last_of line y) marker_start,
       length-append y marker_start,
@@ -318,7 +318,7 @@ string_cost : (line : LineCode) (w : List ℤ) (y : List Bool) → 2 * length (y
     steps_cost (start_of line) (branch_of line w) (length (y ++ marker_start)) (whole line y) ≡ path_cost line w y
 string_cost line w y room =
     let size = length_front_y line y in
-    let h = front line (last_of line y) ++ reverse (path_levels line y) in
+    let h = next_marker_levels line (last_of line y) ++ reverse (path_levels line y) in
     let e = steps_cost_is line w (back_end line) (six_back line) h (omega arith) in
     let k = length (y ++ marker_start) in
     let at_size : steps_cost (start_of line) (branch_of line w) k (whole line y) ≡

@@ -70,5 +70,5 @@ abbrev pub bytes_from : ℕ → List Bool → List ℕ
 bytes_from zero bits = []
 bytes_from (suc n) bits = number_from_digits 2 (map bit (take 8 bits)) ∷ bytes_from n (drop 8 bits)
 
-unfoldable pub bytes_of : List Bool → List ℕ
-bytes_of bits = bytes_from (length bits / 8) bits
+unfoldable pub bytes_of_bits : List Bool → List ℕ
+bytes_of_bits bits = bytes_from (length bits / 8) bits

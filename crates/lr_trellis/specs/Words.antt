@@ -16,11 +16,11 @@ unfoldable pub branch_by : List ℕ → ℕ → ℕ
 branch_by costs m = slice_index costs (pair_of m)
 
 -- A word has the decisions of the even states in its low half, and those of the odd ones above.
-abbrev pub place_of : ℕ → ℕ
-place_of s = s / 2 + 32 * (s % 2)
+abbrev pub decision_place : ℕ → ℕ
+decision_place s = s / 2 + 32 * (s % 2)
 
 unfoldable pub decision_of : ℕ → ℕ → Bool
-decision_of word s = bit_at word (place_of s) == 1
+decision_of word s = bit_at word (decision_place s) == 1
 
 -- the decision of step i at state s
 unfoldable pub decisions : List ℕ → ℕ → ℕ → Bool

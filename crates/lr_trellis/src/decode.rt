@@ -3,7 +3,7 @@
 ghost use Rattle.std.specs.Prelude.{◌≡◌, ◌+◌, ◌*◌, ◌<◌, ◌≤◌, ◌++◌, List, Bool, ℕ, ℤ, length, reverse};
 ghost use Rattle.lr_conv.specs.Levels.{levels};
 ghost use Rattle.lr_conv.specs.declared.line.LineCode.{LineCode};
-ghost use Rattle.lr_trellis.specs.Path.{IsNearestPath, nearest_path, bytes_of};
+ghost use Rattle.lr_trellis.specs.Path.{IsNearestPath, nearest_path, bytes_of_bits};
 ghost use Rattle.lr_trellis.specs.Trellis.{is_odd, read_back};
 ghost use Rattle.lr_trellis.specs.Words.{IsDecided, decisions};
 
@@ -23,7 +23,7 @@ pub fn nearest(
     out: &mut [u8; BLOCK_BYTES],
 )
     requires { length window.now ≡ WINDOW_SYMBOLS }
-    ensures { out.new ≡ bytes_of (nearest_path line window.now) }
+    ensures { out.new ≡ bytes_of_bits (nearest_path line window.now) }
 {
     let costs = scratch.decide(line, window, MOST_STEPS);
     read_bytes(line, window, scratch.words.as_slice(), &costs, out);
@@ -60,7 +60,7 @@ pub fn read_bytes(line: LineCode, window: &[i8], words: &[u64], costs: &[u32; 64
     requires window { length window.now ≡ 2 * (8 * length out.old) + 12 }
     requires words { 8 * length out.old + 5 ≤ length words.now }
     requires decided { IsDecided line window.now (8 * length out.old + 5) words.now costs.now }
-    ensures { out.new ≡ bytes_of (nearest_path line window.now) }
+    ensures { out.new ≡ bytes_of_bits (nearest_path line window.now) }
 {
     let state = last_state(line, window, words, costs, 8 * out.len());
     bytes_back(line, words, state, out);

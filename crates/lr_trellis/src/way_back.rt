@@ -4,7 +4,7 @@ ghost use Rattle.std.specs.Prelude.{◌≡◌, ◌+◌, ◌*◌, ◌/◌, ◌<�
 ghost use Rattle.std.specs.Int.Digits.{number_from_digits};
 ghost use Rattle.lr_conv.specs.Convolution.{bit};
 ghost use Rattle.lr_conv.specs.Levels.{bit_of_level, levels};
-ghost use Rattle.lr_trellis.specs.Path.{bytes_of};
+ghost use Rattle.lr_trellis.specs.Path.{bytes_of_bits};
 ghost use Rattle.lr_trellis.specs.Trellis.{is_odd, read_back, state_before};
 ghost use Rattle.lr_trellis.specs.Words.{decision_of, decisions};
 
@@ -69,7 +69,7 @@ pub(crate) fn bytes_back(line: LineCode, words: &[u64], state: usize, out: &mut 
     requires state { state < 64 }
     requires words { 8 * length out.old ≤ length words.now }
     ensures state { result < 64 }
-    ensures path { (x : List Bool) × (length x ≡ 8 * length out.old) × (out.new ≡ bytes_of x) ×
+    ensures path { (x : List Bool) × (length x ≡ 8 * length out.old) × (out.new ≡ bytes_of_bits x) ×
         (read_back (decisions words.now) (8 * length out.old) state ≡
         reverse (levels line (is_odd result) x) ++ read_back (decisions words.now) 0 result) }
 {

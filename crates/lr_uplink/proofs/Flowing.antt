@@ -22,7 +22,7 @@ use Rattle.lr_sent.specs.Carried.{TellsItsLength}
 use Rattle.lr_sent.proofs.MadeFrames.{Reads, frame_reads}
 use Rattle.lr_uplink.specs.Packets.{file_packets}
 use Rattle.lr_uplink.specs.Received.{IsSendable}
-use Rattle.lr_uplink.specs.Sent.{starts_from, is_in_zone, zone_at, pointer_at, frame_at, frames_of, file_frames}
+use Rattle.lr_uplink.specs.Sent.{packet_starts_from, is_in_zone, sent_zone_at, sent_pointer_at, sent_frame_at, sent_frames_of, file_frames}
 use Rattle.lr_uplink.specs.Sent.{frames_before, packets_before, sent_after}
 use Rattle.lr_uplink.proofs.FilePackets.{file_tells, file_fills}
 use Rattle.lr_uplink.proofs.Walking.{on}
@@ -31,10 +31,10 @@ use Rattle.lr_uplink.proofs.Zones.{Stage, step, concat-both}
 -- ---- what is read of a frame
 
 small_by : (t place : ℕ) (packets : List (List ℕ)) →
-    unwrap_or (option_map (λ start. start - 884 * t) (find (is_in_zone t) (starts_from place packets))) 2047 < 2048
+    unwrap_or (option_map (λ start. start - 884 * t) (find (is_in_zone t) (packet_starts_from place packets))) 2047 < 2048
 small_by t place [] = omega arith
 small_by t place (packet ∷ packets) =
-    let rest = find (is_in_zone t) (starts_from (place + length packet) packets) in
+    let rest = find (is_in_zone t) (packet_starts_from (place + length packet) packets) in
     let Small : Bool → Type 0 =
     λ b. unwrap_or (option_map (λ start. start - 884 * t) (cond b (Some place) rest)) 2047 < 2048 in
     elim (cases_Bool (is_in_zone t place)) [
@@ -45,25 +45,25 @@ small_by t place (packet ∷ packets) =
       | inr outside ↦ subst Small (sym outside) (small_by t (place + length packet) packets)
     ]
 
-pub pointer_small : (packets : List (List ℕ)) (t : ℕ) → pointer_at packets t < 2048
-unfolding pointer_at
+pub pointer_small : (packets : List (List ℕ)) (t : ℕ) → sent_pointer_at packets t < 2048
+unfolding sent_pointer_at
 pointer_small packets t = small_by t 0 packets
 
 pub read_frame : (vc counter : ℕ) (packets : List (List ℕ)) (t : ℕ) → vc < 64 →
-    Reads (frame_at vc counter packets t) vc ((counter + t) % 16777216) (pointer_at packets t) (zone_at packets t)
+    Reads (sent_frame_at vc counter packets t) vc ((counter + t) % 16777216) (sent_pointer_at packets t) (sent_zone_at packets t)
 read_frame vc counter packets t v =
-    frame_reads vc ((counter + t) % 16777216) (pointer_at packets t) (zone_at packets t) v (omega arith)
+    frame_reads vc ((counter + t) % 16777216) (sent_pointer_at packets t) (sent_zone_at packets t) v (omega arith)
     (pointer_small packets t)
 
 pub zone_long : (packets : List (List ℕ)) (t : ℕ) → 884 * t + 884 ≤ length (concat packets) →
-    length (zone_at packets t) ≡ 884
-unfolding zone_at
+    length (sent_zone_at packets t) ≡ 884
+unfolding sent_zone_at
 zone_long packets t h =
     length-take-le 884 (drop (884 * t) (concat packets)) (omega (arith, length-drop (884 * t) (concat packets)))
 
 pub zone_stream : (packets : List (List ℕ)) (t : ℕ) →
-    zone_at packets t ++ drop 884 (drop (884 * t) (concat packets)) ≡ drop (884 * t) (concat packets)
-unfolding zone_at
+    sent_zone_at packets t ++ drop 884 (drop (884 * t) (concat packets)) ≡ drop (884 * t) (concat packets)
+unfolding sent_zone_at
 zone_stream packets t = take-append-drop 884 (drop (884 * t) (concat packets))
 
 -- ---- one frame more
@@ -118,10 +118,10 @@ module _ (vc counter : ℕ) (packets : List (List ℕ)) (channel : vc < 63) (tel
     (total : ℕ) (whole : length (concat packets) ≡ 884 * total)
   where
     abbrev pub frame : ℕ → Fields
-    frame t = fields_of (frame_at vc counter packets t)
+    frame t = fields_of (sent_frame_at vc counter packets t)
 
-    reads : (t : ℕ) → Reads (frame_at vc counter packets t) vc ((counter + t) % 16777216) (pointer_at packets t)
-        (zone_at packets t)
+    reads : (t : ℕ) → Reads (sent_frame_at vc counter packets t) vc ((counter + t) % 16777216) (sent_pointer_at packets t)
+        (sent_zone_at packets t)
     reads t = read_frame vc counter packets t (omega arith)
 
     long : (t : ℕ) → t < total → length (frame t).zone ≡ 884
@@ -245,8 +245,8 @@ map-map f g (k ∷ ks) = ap (λ (fs : List Fields). f (g k) ∷ fs) (map-map f g
 file_received : (vc counter : ℕ) (packets : List (List ℕ)) (history : List Fields) → vc < 63 →
     Each TellsItsLength packets → length (concat packets) ≡ 884 * (length (concat packets) / 884) →
     AreFrames history → AreClosed history →
-    Received history (map fields_of (frames_of vc counter packets)) (map (on vc) packets)
-unfolding frames_of
+    Received history (map fields_of (sent_frames_of vc counter packets)) (map (on vc) packets)
+unfolding sent_frames_of
 file_received vc counter packets history channel tell whole frames closed =
     let total = length (concat packets) / 884 in
     let F = frame vc counter packets channel tell total whole in
@@ -259,7 +259,7 @@ file_received vc counter packets history channel tell whole frames closed =
     }) in
     let taken = take_frames vc counter packets channel tell total whole total 0 history [] [] (omega arith) frames start
     (closed vc) (met_none history vc ((counter + 0) % 16777216) (closed vc)) in
-    let same = map-map fields_of (frame_at vc counter packets) (range_with_len 0 total) in
+    let same = map-map fields_of (sent_frame_at vc counter packets) (range_with_len 0 total) in
     subst (λ (fs : List Fields). Received history fs (map (on vc) packets)) (sym same) (record {
       found = taken.found ∙ ap (λ ps. packets_of history ++ map (on vc) ps) (sym taken.split);
       closed = λ c. elim (cases_eq c vc) [

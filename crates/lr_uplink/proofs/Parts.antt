@@ -7,10 +7,10 @@ use Rattle.std.proofs.lemmas.List.{drop_all, drop-append-le, get_or_append_left}
 use Rattle.lr_bits.specs.File.{File, bytes_of}
 use Rattle.lr_uplink.specs.declared.sending.Sending.{Sending}
 use Rattle.lr_uplink.specs.Packets.{file_packets}
-use Rattle.lr_uplink.specs.Pieces.{IsPacketAt, packet_bytes, size_of}
-use Rattle.lr_uplink.specs.Progress.{IsPart, IsSending}
+use Rattle.lr_uplink.specs.Pieces.{IsPacketAt, packet_bytes, size_of_packet}
+use Rattle.lr_uplink.specs.Progress.{IsUnsentPart, IsSending}
 
-module _ (sending : Sending) (file : File) (count : ℕ) (rest : List ℕ) (part : IsPart sending file count rest) where
+module _ (sending : Sending) (file : File) (count : ℕ) (rest : List ℕ) (part : IsUnsentPart sending file count rest) where
   abbrev packets : List (List ℕ)
   packets = file_packets count file
 
@@ -24,11 +24,11 @@ module _ (sending : Sending) (file : File) (count : ℕ) (rest : List ℕ) (part
       ∙ ap₂ (λ bytes k. drop sending.sent bytes ++ concat (drop k packets)) part.packet.carries.is
       (add-one sending.index)
 
-  size : size_of sending.packet ≡ length own
+  size : size_of_packet sending.packet ≡ length own
   size = part.packet.carries.size
 
   -- the next byte, where the packet has one
-  pub byte_of : sending.sent < size_of sending.packet →
+  pub byte_of : sending.sent < size_of_packet sending.packet →
       get_or (packet_bytes sending.packet (bytes_of file)) sending.sent 0 ≡ get_or rest 0 0
   byte_of inside =
       let within : 0 < length (drop sending.sent own) = omega (arith, length-drop sending.sent own, size) in
@@ -38,7 +38,7 @@ module _ (sending : Sending) (file : File) (count : ℕ) (rest : List ℕ) (part
       ∙ ap (λ bytes. get_or bytes 0 0) (sym rest_of)
 
   -- what is left after it
-  pub behind_byte : sending.sent < size_of sending.packet →
+  pub behind_byte : sending.sent < size_of_packet sending.packet →
       drop 1 rest ≡ drop (sending.sent + 1) (packet_bytes sending.packet (bytes_of file))
       ++ concat (drop (sending.index + 1) packets)
   behind_byte inside =
@@ -50,14 +50,14 @@ module _ (sending : Sending) (file : File) (count : ℕ) (rest : List ℕ) (part
       ∙ ap (λ xs. xs ++ concat (drop (sending.index + 1) packets)) (drop-drop 1 sending.sent bytes)
 
   -- where all of the packet is sent, what is left is the packets after it
-  pub all_sent : sending.sent ≡ size_of sending.packet → rest ≡ concat (drop (suc sending.index) packets)
+  pub all_sent : sending.sent ≡ size_of_packet sending.packet → rest ≡ concat (drop (suc sending.index) packets)
   all_sent e =
       rest_of ∙ ap (λ xs. xs ++ concat (drop (suc sending.index) packets))
       (drop_all sending.sent own (omega (arith, size)))
 
 -- on to the next packet, or to the end
-module _ (sending new : Sending) (file : File) (count : ℕ) (rest : List ℕ) (part : IsPart sending file count rest)
-    (end : sending.sent ≡ size_of sending.packet) where
+module _ (sending new : Sending) (file : File) (count : ℕ) (rest : List ℕ) (part : IsUnsentPart sending file count rest)
+    (end : sending.sent ≡ size_of_packet sending.packet) where
   pub moved_on : new.file ≡ sending.file → new.count ≡ sending.count → new.index ≡ sending.index + 1 → new.sent ≡ 0 →
       IsPacketAt (file_packets sending.count sending.file) (bytes_of sending.file) new.index new.packet →
       IsSending new file count rest
@@ -95,10 +95,10 @@ module _ (sending new : Sending) (file : File) (count : ℕ) (rest : List ℕ) (
       record { part = part; going = λ some. absurd (omega (arith, some, ap length none)) }
 
 -- one byte more of the packet
-pub byte_sent : (sending new : Sending) (file : File) (count : ℕ) (rest : List ℕ) → IsPart sending file count rest →
-    sending.sent < size_of sending.packet → new.file ≡ sending.file → new.count ≡ sending.count →
+pub byte_sent : (sending new : Sending) (file : File) (count : ℕ) (rest : List ℕ) → IsUnsentPart sending file count rest →
+    sending.sent < size_of_packet sending.packet → new.file ≡ sending.file → new.count ≡ sending.count →
     new.index ≡ sending.index → new.packet ≡ sending.packet → new.sent ≡ sending.sent + 1 →
-    IsPart new file count (drop 1 rest)
+    IsUnsentPart new file count (drop 1 rest)
 byte_sent sending new file count rest part inside f c k p n = record {
   is = part.is;
   same = f ∙ part.same;

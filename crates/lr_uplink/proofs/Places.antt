@@ -16,7 +16,7 @@ use Rattle.lr_uplink.specs.declared.packet.Packet.{Packet}
 use Rattle.lr_uplink.specs.Packets.{flags_at, body_packet, body_packets, idle_packet, idle_packets, bytes_left}
 use Rattle.lr_uplink.specs.Packets.{file_packets}
 use Rattle.lr_uplink.specs.Pieces.{IsPacketOf}
-use Rattle.lr_uplink.specs.Sent.{zone_at, pointer_at}
+use Rattle.lr_uplink.specs.Sent.{sent_zone_at, sent_pointer_at}
 use Rattle.lr_uplink.proofs.Flowing.{zone_long, zone_stream}
 use Rattle.lr_uplink.proofs.Zones.{Within, first_pointer, no_start, next_start}
 
@@ -184,8 +184,8 @@ frame_with packets t = record {
   counter = 0;
   replay = false;
   rest = 0;
-  pointer = pointer_at packets t;
-  zone = zone_at packets t;
+  pointer = sent_pointer_at packets t;
+  zone = sent_zone_at packets t;
 }
 
 module _ (packets : List (List ℕ)) (tell : Each TellsItsLength packets) (t i : ℕ)
@@ -211,7 +211,7 @@ module _ (packets : List (List ℕ)) (tell : Each TellsItsLength packets) (t i :
       )
 
   pub pointer_first : drop (884 * t) (concat packets) ≡ own ++ concat (drop (suc i) packets) →
-      pointer_at packets t ≡ 0
+      sent_pointer_at packets t ≡ 0
   pointer_first rest =
       first_pointer packets tell t (frame_with packets t) later (zone_long packets t room) (zone_stream packets t) refl
       (take i packets) own (drop (suc i) packets) (split_at i packets inside)
@@ -236,7 +236,7 @@ module _ (packets : List (List ℕ)) (tell : Each TellsItsLength packets) (t i :
 
   pub pointer_none : (sent : ℕ) → 0 < sent → sent < length own → sent + 884 ≤ length own →
       drop (884 * t) (concat packets) ≡ drop sent own ++ concat (drop (suc i) packets) →
-      pointer_at packets t ≡ 2047
+      sent_pointer_at packets t ≡ 2047
   unfolding within
   pointer_none sent some part far rest =
       let size : length (take sent own) ≡ sent = length-take-le sent own (omega arith) in
@@ -245,7 +245,7 @@ module _ (packets : List (List ℕ)) (tell : Each TellsItsLength packets) (t i :
 
   next_by : (sent : ℕ) → 0 < sent → sent < length own → length own < sent + 884 →
       drop (884 * t) (concat packets) ≡ drop sent own ++ concat (drop (suc i) packets) →
-      (back : List (List ℕ)) → drop (suc i) packets ≡ back → pointer_at packets t ≡ length own - sent
+      (back : List (List ℕ)) → drop (suc i) packets ≡ back → sent_pointer_at packets t ≡ length own - sent
   unfolding within
   next_by sent some part near rest [] is =
       absurd (omega (
@@ -264,5 +264,5 @@ module _ (packets : List (List ℕ)) (tell : Each TellsItsLength packets) (t i :
 
   pub pointer_next : (sent : ℕ) → 0 < sent → sent < length own → length own < sent + 884 →
       drop (884 * t) (concat packets) ≡ drop sent own ++ concat (drop (suc i) packets) →
-      pointer_at packets t ≡ length own - sent
+      sent_pointer_at packets t ≡ length own - sent
   pointer_next sent some part near rest = next_by sent some part near rest (drop (suc i) packets) refl

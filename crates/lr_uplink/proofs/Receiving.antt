@@ -8,7 +8,7 @@ use Rattle.std.proofs.lemmas.List.Elements.{All-nil, recursion_from_All}
 use Rattle.lr_bits.specs.declared.outcome.Outcome.{Outcome}
 use Rattle.lr_bits.specs.declared.outcome.Outcome.TheVariants.{Restored, Lost}
 use Rattle.lr_bits.specs.File.{File}
-use Rattle.lr_file.specs.Files.{files_after, files_of}
+use Rattle.lr_file.specs.Files.{files_after, files_of_packets}
 use Rattle.lr_file.proofs.FileLaws.{files_after-append}
 use Rattle.lr_frame.specs.Outcomes.{outcomes_of_symbols}
 use Rattle.lr_layers.specs.Layers.{frame_in, frames_of_outcomes, good_of_outcomes, files_of_outcomes}
@@ -22,7 +22,7 @@ use Rattle.lr_vc.specs.Packets.{packets_of}
 use Rattle.lr_vc.specs.Runs.{AreFrames}
 use Rattle.lr_uplink.specs.Packets.{file_packets}
 use Rattle.lr_uplink.specs.Received.{IsSendable, FilesAreReceived, SentFilesAreReceived}
-use Rattle.lr_uplink.specs.Sent.{frame_at, frames_of, file_frames, frames_before, packets_before, sent_after, sent}
+use Rattle.lr_uplink.specs.Sent.{sent_frame_at, sent_frames_of, file_frames, frames_before, packets_before, sent_after, sent}
 use Rattle.lr_uplink.proofs.FilePackets.{goods_of, file_good}
 use Rattle.lr_uplink.proofs.Flowing.{read_frame, packets_after, files_received, no_packets}
 use Rattle.lr_uplink.proofs.Joining.{file_joined}
@@ -35,14 +35,14 @@ Each-both P [] ys _ k = k
 Each-both P (x ∷ xs) ys h k = (h.0, Each-both P xs ys h.1 k)
 
 frames_version : (vc counter : ℕ) (packets : List (List ℕ)) → vc < 64 → (a n : ℕ) →
-    Each (λ frame. version_of frame ≡ 1) (map (frame_at vc counter packets) (range_with_len a n))
+    Each (λ frame. version_of frame ≡ 1) (map (sent_frame_at vc counter packets) (range_with_len a n))
 frames_version vc counter packets v a zero = tt
 frames_version vc counter packets v a (suc n) =
     ((read_frame vc counter packets a v).version, frames_version vc counter packets v (a + 1) n)
 
 sent_version : (before files : List File) → Each IsSendable files →
     Each (λ frame. version_of frame ≡ 1) (sent_after before files)
-unfolding frames_of
+unfolding sent_frames_of
 sent_version before [] each = tt
 sent_version before (file ∷ files) each =
     let packets = file_packets (packets_before file.vc file.apid before) file in
@@ -99,7 +99,7 @@ files_joined before (file ∷ files) packets each =
 -- ---- the laws
 
 pub files_are_received : FilesAreReceived
-unfolding sent files_of files_of_outcomes good_of_outcomes
+unfolding sent files_of_packets files_of_outcomes good_of_outcomes
 files_are_received files outcomes all are =
     let each : Each IsSendable files = recursion_from_All IsSendable files all in
     let frames = frames_are (sent_after [] files) outcomes (sent_version [] files each) are in
@@ -107,7 +107,7 @@ files_are_received files outcomes all are =
     let found : packets_of (frames_of_outcomes outcomes) ≡ packets_after [] files =
     ap packets_of frames ∙ r.found ∙ ap (λ ps. ps ++ packets_after [] files) no_packets.0 in
     let same : files_of_outcomes outcomes ≡ files =
-    ap (λ ps. files_of (good_packets ps)) found ∙ ap (files_after []) (good_received [] files each)
+    ap (λ ps. files_of_packets (good_packets ps)) found ∙ ap (files_after []) (good_received [] files each)
     ∙ files_joined [] files [] each in
     record {
       are = same;

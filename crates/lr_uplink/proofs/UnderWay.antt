@@ -14,15 +14,15 @@ use Rattle.lr_bits.specs.File.{File}
 use Rattle.lr_conv.specs.declared.line.LineCode.{LineCode}
 use Rattle.lr_file.specs.Standing.{kept_of_key}
 use Rattle.lr_file.proofs.KeyLemmas.{same_key}
-use Rattle.lr_make.specs.Frames.{frame_of}
-use Rattle.lr_make.specs.Packets.{packet_of}
+use Rattle.lr_make.specs.Frames.{frame_for_zone}
+use Rattle.lr_make.specs.Packets.{packet_for_body}
 use Rattle.lr_sent.specs.Sent.{AreSentFor, IsSentFor}
 use Rattle.lr_sent.proofs.MadePackets.{length-packet}
 use Rattle.lr_uplink.specs.declared.sending.Sending.{Sending}
 use Rattle.lr_uplink.specs.declared.uplink.Uplink.{Uplink}
 use Rattle.lr_uplink.specs.Packets.{flags_at, body_packet, body_packets, file_packets, filled}
 use Rattle.lr_uplink.specs.Pieces.{SetsCount}
-use Rattle.lr_uplink.specs.Sent.{zone_at, pointer_at, frame_at, frames_of, frame_count, frames_before, packets_before}
+use Rattle.lr_uplink.specs.Sent.{sent_zone_at, sent_pointer_at, sent_frame_at, sent_frames_of, frame_count, frames_before, packets_before}
 use Rattle.lr_uplink.specs.Sent.{file_frames, sent_after, sent}
 use Rattle.lr_uplink.specs.Progress.{IsSending, CountsStandFor, IsUnderWay, IsAtRest, FramesStandFor}
 use Rattle.lr_uplink.specs.Standing.{History}
@@ -53,17 +53,17 @@ abbrev pub total_of : List File → File → ℕ
 total_of before file = length (concat (packets_of_file before file)) / 884
 
 pub length-file_frames : (before : List File) (file : File) → length (file_frames before file) ≡ total_of before file
-unfolding frames_of
+unfolding sent_frames_of
 length-file_frames before file =
-    length-map-range_with_len (frame_at file.vc (frames_before file.vc before) (packets_of_file before file)) 0
+    length-map-range_with_len (sent_frame_at file.vc (frames_before file.vc before) (packets_of_file before file)) 0
     (total_of before file)
 
 pub get_or-file_frames : (before : List File) (file : File) (t : ℕ) → t < total_of before file →
     get_or (file_frames before file) t []
-    ≡ frame_at file.vc (frames_before file.vc before) (packets_of_file before file) t
-unfolding frames_of
+    ≡ sent_frame_at file.vc (frames_before file.vc before) (packets_of_file before file) t
+unfolding sent_frames_of
 get_or-file_frames before file t inside =
-    get_or-map-range_with_len (frame_at file.vc (frames_before file.vc before) (packets_of_file before file)) 0
+    get_or-map-range_with_len (sent_frame_at file.vc (frames_before file.vc before) (packets_of_file before file)) 0
     (total_of before file) t t [] inside (omega arith)
 
 pub frame_count-is : (before : List File) (file : File) → frame_count file ≡ total_of before file
@@ -90,7 +90,7 @@ count_part apid count bodies [] = refl
 count_part apid count bodies (k ∷ ks) =
     let same : (count % 16384 + k) % 16384 ≡ (count + k) % 16384 = omega arith in
     ap₂ (λ (x : List ℕ) (xs : List (List ℕ)). x ∷ xs)
-    (ap (λ n. packet_of apid (flags_at (length bodies) k) n (get_or bodies k [])) same)
+    (ap (λ n. packet_for_body apid (flags_at (length bodies) k) n (get_or bodies k [])) same)
     (count_part apid count bodies ks)
 
 pub packets_modulo : (count : ℕ) (file : File) → file_packets (count % 16384) file ≡ file_packets count file
@@ -219,14 +219,14 @@ module _ (counters : List ℕ) (sending : Sending) (files : List File) (given : 
 
   -- the next frame
   pub frame_is : (frame : List ℕ) (counter : ℕ) → counter ≡ get_or counters file.vc 0 →
-      frame ≡ frame_of file.vc (counter % 16777216)
-      (pointer_at (file_packets (first_count % 16384) file) way.frames)
-      (zone_at (file_packets (first_count % 16384) file) way.frames) →
+      frame ≡ frame_for_zone file.vc (counter % 16777216)
+      (sent_pointer_at (file_packets (first_count % 16384) file) way.frames)
+      (sent_zone_at (file_packets (first_count % 16384) file) way.frames) →
       frame ≡ get_or (sent files) given []
   frame_is frame counter is written =
       let number : counter % 16777216 ≡ (frames_before file.vc before + way.frames) % 16777216 =
       omega (arith, is, own_counter) in
-      written ∙ ap₂ (λ n ps. frame_of file.vc n (pointer_at ps way.frames) (zone_at ps way.frames)) number
+      written ∙ ap₂ (λ n ps. frame_for_zone file.vc n (sent_pointer_at ps way.frames) (sent_zone_at ps way.frames)) number
       (packets_modulo first_count file)
       ∙ sym (get_or-file_frames before file way.frames inside)
       ∙ sym (get_or-append-add (sent before) (file_frames before file) way.frames [])

@@ -12,8 +12,8 @@ use Rattle.lr_bits.proofs.BitsLemmas.{field_of-none, field_of-more}
 use Rattle.lr_bits.proofs.CrcLemmas.{crc_is_the_remainder}
 use Rattle.lr_packet.specs.declared.packet.PacketFault.{PacketFault}
 use Rattle.lr_packet.specs.declared.packet.PacketFault.TheVariants.{Version, Idle, TooShort, Crc}
-use Rattle.lr_packet.specs.Verdict.{Good, data_of, body_of, stored_of, good_of, verdict_of}
-use Rattle.lr_make.specs.Packets.{head_with, packet_of}
+use Rattle.lr_packet.specs.Verdict.{Good, data_of, packet_body, stored_of, good_of, verdict_of}
+use Rattle.lr_make.specs.Packets.{head_with, packet_for_body}
 use Rattle.lr_make.proofs.Heads.{drop-head_of}
 use Rattle.lr_sent.specs.Carried.{TellsItsLength}
 use Rattle.lr_sent.proofs.MadePackets.{length-packet, flags_are}
@@ -83,7 +83,7 @@ module _ (apid flags count : ℕ) (body : List ℕ) (application : apid < 2047) 
     (small : count < 16384) (short : length body < 65535) (fit : All (λ byte. byte < 256) body)
   where
     abbrev packet : List ℕ
-    packet = packet_of apid flags count body
+    packet = packet_for_body apid flags count body
 
     long : 6 ≤ length packet
     long = omega (arith, length-packet apid flags count body)
@@ -92,19 +92,19 @@ module _ (apid flags count : ℕ) (body : List ℕ) (application : apid < 2047) 
     number = (((0 + apid) * 4 + flags) * 16384 + count) * 65536 + (length body + 1)
 
     byte_0 : get_or packet 0 0 ≡ number / 1099511627776 % 256
-    unfolding packet_of head_with
+    unfolding packet_for_body head_with
     byte_0 = refl
 
     byte_1 : get_or packet 1 0 ≡ number / 4294967296 % 256
-    unfolding packet_of head_with
+    unfolding packet_for_body head_with
     byte_1 = refl
 
     byte_2 : get_or packet 2 0 ≡ number / 16777216 % 256
-    unfolding packet_of head_with
+    unfolding packet_for_body head_with
     byte_2 = refl
 
     byte_3 : get_or packet 3 0 ≡ number / 65536 % 256
-    unfolding packet_of head_with
+    unfolding packet_for_body head_with
     byte_3 = refl
 
     version_is : field_of packet 0 3 ≡ 0
@@ -120,13 +120,13 @@ module _ (apid flags count : ℕ) (body : List ℕ) (application : apid < 2047) 
     checksum = bytes_high_first 2 (crc_of body)
 
     data_is : data_of packet ≡ body ++ checksum
-    unfolding packet_of
+    unfolding packet_for_body
     data_is = drop-head_of apid flags count (length body) (body ++ checksum)
 
     data_long : length (data_of packet) ≡ length body + 2
     data_long = ap length data_is ∙ length-append body checksum
 
-    body_is : body_of packet ≡ body
+    body_is : packet_body packet ≡ body
     body_is =
         ap (λ n. take n (data_of packet)) (omega (arith, data_long)) ∙ ap (take (length body)) data_is
         ∙ take_at body checksum (length body) refl
@@ -147,8 +147,8 @@ module _ (apid flags count : ℕ) (body : List ℕ) (application : apid < 2047) 
         ne_eqb (field_of packet 5 11) 2047 (λ e. omega (arith, e, application_is)) in
         let enough : ltb (length (data_of packet)) 2 ≡ false =
         le-ltb (length (data_of packet)) 2 (omega (arith, data_long)) in
-        let right : eqb (stored_of packet) (crc_of (body_of packet)) ≡ true =
-        eq-eqb (stored_of packet) (crc_of (body_of packet)) (stored_is ∙ ap crc_of (sym body_is)) in
+        let right : eqb (stored_of packet) (crc_of (packet_body packet)) ≡ true =
+        eq-eqb (stored_of packet) (crc_of (packet_body packet)) (stored_is ∙ ap crc_of (sym body_is)) in
         let good : ◌≡◌ {A = Good} (good_of (on vc packet))
         (record { vc = vc; apid = apid; flags = flags; count = count; body = body }) = λ i. record {
           vc = vc;
@@ -159,14 +159,14 @@ module _ (apid flags count : ℕ) (body : List ℕ) (application : apid < 2047) 
         } in
         ap (λ b. cond (not b) (Err (Version (field_of packet 0 3))) (cond (eqb (field_of packet 5 11) 2047) (Err Idle)
         (cond (ltb (length (data_of packet)) 2) (Err TooShort)
-        (cond (not (eqb (stored_of packet) (crc_of (body_of packet))))
-        (Err (Crc (stored_of packet) (crc_of (body_of packet)))) (Ok (good_of (on vc packet))))))) version
+        (cond (not (eqb (stored_of packet) (crc_of (packet_body packet))))
+        (Err (Crc (stored_of packet) (crc_of (packet_body packet)))) (Ok (good_of (on vc packet))))))) version
         ∙ ap (λ b. cond b (Err Idle) (cond (ltb (length (data_of packet)) 2) (Err TooShort)
-        (cond (not (eqb (stored_of packet) (crc_of (body_of packet))))
-        (Err (Crc (stored_of packet) (crc_of (body_of packet)))) (Ok (good_of (on vc packet)))))) other
-        ∙ ap (λ b. cond b (Err TooShort) (cond (not (eqb (stored_of packet) (crc_of (body_of packet))))
-        (Err (Crc (stored_of packet) (crc_of (body_of packet)))) (Ok (good_of (on vc packet))))) enough
-        ∙ ap (λ b. cond (not b) (Err (Crc (stored_of packet) (crc_of (body_of packet)))) (Ok (good_of (on vc packet))))
+        (cond (not (eqb (stored_of packet) (crc_of (packet_body packet))))
+        (Err (Crc (stored_of packet) (crc_of (packet_body packet)))) (Ok (good_of (on vc packet)))))) other
+        ∙ ap (λ b. cond b (Err TooShort) (cond (not (eqb (stored_of packet) (crc_of (packet_body packet))))
+        (Err (Crc (stored_of packet) (crc_of (packet_body packet)))) (Ok (good_of (on vc packet))))) enough
+        ∙ ap (λ b. cond (not b) (Err (Crc (stored_of packet) (crc_of (packet_body packet)))) (Ok (good_of (on vc packet))))
         right
         ∙ ap Ok good
 
@@ -209,8 +209,8 @@ module _ (size : ℕ) (least : 7 ≤ size) (most : size < 65543) where
       let application_is : field_of filler 5 11 ≡ 2047 =
       omega (arith, application_bits filler enough, idle_0, idle_1) in
       let rest : Result Good PacketFault = cond (ltb (length (data_of filler)) 2) (Err TooShort)
-      (cond (not (eqb (stored_of filler) (crc_of (body_of filler))))
-      (Err (Crc (stored_of filler) (crc_of (body_of filler)))) (Ok (good_of (on vc filler)))) in
+      (cond (not (eqb (stored_of filler) (crc_of (packet_body filler))))
+      (Err (Crc (stored_of filler) (crc_of (packet_body filler)))) (Ok (good_of (on vc filler)))) in
       ap (λ b. cond (not b) (Err (Version (field_of filler 0 3))) (cond (eqb (field_of filler 5 11) 2047) (Err Idle)
       rest)) (eq-eqb (field_of filler 0 3) 0 version_is)
       ∙ ap (λ b. cond b (Err Idle) rest) (eq-eqb (field_of filler 5 11) 2047 application_is)

@@ -19,9 +19,9 @@ abbrev pub on : ℕ → List ℕ → Packet
 on channel bytes = record { vc = channel; bytes = bytes }
 
 -- where a packet ends, whose header is in these bytes
-pub end_of : (zone later packet more : List ℕ) (q : ℕ) → q + 6 ≤ length zone → drop q zone ++ later ≡ packet ++ more →
+pub packet_ends : (zone later packet more : List ℕ) (q : ℕ) → q + 6 ≤ length zone → drop q zone ++ later ≡ packet ++ more →
     TellsItsLength packet → packet_end zone q ≡ q + length packet
-end_of zone later packet more q header e tells =
+packet_ends zone later packet more q header e tells =
     let rest = drop q zone in
     let there : 0 + 6 ≤ length rest = omega (arith, length-drop q zone) in
     let here : packet_end (rest ++ later) 0 ≡ packet_end (packet ++ more) 0 = ap (λ xs. packet_end xs 0) e in
@@ -40,7 +40,7 @@ pub packet_there : (channel : ℕ) (zone later packet more : List ℕ) (q : ℕ)
     drop q zone ++ later ≡ packet ++ more → TellsItsLength packet → packet_at channel zone q ≡ on channel packet
 unfolding packet_at
 packet_there channel zone later packet more q inside e tells =
-    let end = end_of zone later packet more q (omega (arith, tells)) e tells in
+    let end = packet_ends zone later packet more q (omega (arith, tells)) e tells in
     let size : packet_end zone q - q ≡ length packet = omega (arith, end) in
     let fits : length packet ≤ length (drop q zone) = omega (arith, length-drop q zone) in
     ap (on channel)
@@ -94,7 +94,7 @@ module _ (channel : ℕ) (zone : List ℕ) (long : length zone ≡ 884) (later :
       let none : is_whole zone q ≡ false = elim (cases_lt 884 (q + 6)) [
         | inl short ↦ is_whole_no_header zone q (omega arith)
         | inr there ↦ is_whole_too_long zone q
-            (omega (arith, end_of zone later packet (concat packets) q (omega arith) rest tells))
+            (omega (arith, packet_ends zone later packet (concat packets) q (omega arith) rest tells))
       ] in
       record {
         ended = [];
@@ -120,7 +120,7 @@ module _ (channel : ℕ) (zone : List ℕ) (long : length zone ≡ 884) (later :
       Walk channel zone later q (packet ∷ packets)
   one_more q packet packets fits tells rest w =
       let end : packet_end zone q ≡ q + length packet =
-      end_of zone later packet (concat packets) q (omega (arith, tells)) rest tells in
+      packet_ends zone later packet (concat packets) q (omega (arith, tells)) rest tells in
       let whole : is_whole zone q ≡ true = is_whole_if zone q (omega (arith, tells)) (omega (arith, end)) in
       let next : starts_unfinished zone q ≡ starts_unfinished zone (q + length packet) =
       starts_unfinished-whole zone long q whole ∙ ap (starts_unfinished zone) end in

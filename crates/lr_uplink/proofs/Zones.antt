@@ -21,8 +21,8 @@ use Rattle.lr_vc.proofs.Carried.{continued_packet-short}
 use Rattle.lr_vc.proofs.Lists.{Each_left, Each_right}
 use Rattle.lr_sent.specs.Carried.{TellsItsLength}
 use Rattle.lr_sent.proofs.Carrying.{concat-append}
-use Rattle.lr_uplink.specs.Sent.{starts_from, is_in_zone, pointer_at}
-use Rattle.lr_uplink.proofs.Walking.{on, end_of, packet_there, walk}
+use Rattle.lr_uplink.specs.Sent.{packet_starts_from, is_in_zone, sent_pointer_at}
+use Rattle.lr_uplink.proofs.Walking.{on, packet_ends, packet_there, walk}
 
 -- ---- pointers
 
@@ -41,25 +41,25 @@ in_zone t place l h =
 -- what begins before a zone
 early : (t place : ℕ) (done back : List (List ℕ)) → Each TellsItsLength done →
     place + length (concat done) ≤ 884 * t →
-    find (is_in_zone t) (starts_from place (done ++ back))
-    ≡ find (is_in_zone t) (starts_from (place + length (concat done)) back)
-early t place [] back tell h = ap (λ n. find (is_in_zone t) (starts_from n back)) (omega arith)
+    find (is_in_zone t) (packet_starts_from place (done ++ back))
+    ≡ find (is_in_zone t) (packet_starts_from (place + length (concat done)) back)
+early t place [] back tell h = ap (λ n. find (is_in_zone t) (packet_starts_from n back)) (omega arith)
 early t place (packet ∷ done) back tell h =
     let size = length-append packet (concat done) in
     let next : place + length packet + length (concat done) ≡ place + length (packet ++ concat done) =
     omega (arith, size) in
-    let rest = starts_from (place + length packet) (done ++ back) in
+    let rest = packet_starts_from (place + length packet) (done ++ back) in
     ap (λ b. cond b (Some place) (find (is_in_zone t) rest))
     (before_zone t place (omega (arith, size, tell.0)))
     ∙ early t (place + length packet) done back tell.1 (omega (arith, size))
-    ∙ ap (λ n. find (is_in_zone t) (starts_from n back)) next
+    ∙ ap (λ n. find (is_in_zone t) (packet_starts_from n back)) next
 
 -- what begins after a zone
 late : (t place : ℕ) (packets : List (List ℕ)) → 884 * t + 884 ≤ place →
-    find (is_in_zone t) (starts_from place packets) ≡ None
+    find (is_in_zone t) (packet_starts_from place packets) ≡ None
 late t place [] h = refl
 late t place (packet ∷ packets) h =
-    ap (λ b. cond b (Some place) (find (is_in_zone t) (starts_from (place + length packet) packets)))
+    ap (λ b. cond b (Some place) (find (is_in_zone t) (packet_starts_from (place + length packet) packets)))
     (after_zone t place h)
     ∙ late t (place + length packet) packets (omega arith)
 
@@ -156,7 +156,7 @@ module _ (packets : List (List ℕ)) (tell : Each TellsItsLength packets) where
       ]
 
   module _ (t : ℕ) (frame : Fields) (later : List ℕ) (long : length frame.zone ≡ 884)
-      (stream : frame.zone ++ later ≡ drop (884 * t) (concat packets)) (pointer : frame.pointer ≡ pointer_at
+      (stream : frame.zone ++ later ≡ drop (884 * t) (concat packets)) (pointer : frame.pointer ≡ sent_pointer_at
       packets t) where
     -- the stream after the packets that are done
     behind : (done back : List (List ℕ)) → packets ≡ done ++ back → length (concat done) ≡ 884 * t →
@@ -169,14 +169,14 @@ module _ (packets : List (List ℕ)) (tell : Each TellsItsLength packets) where
     pub first_pointer : (done : List (List ℕ)) (packet : List ℕ) (back : List (List ℕ)) → packets ≡ done ++ packet
         ∷ back →
         length (concat done) ≡ 884 * t → frame.pointer ≡ 0
-    unfolding pointer_at
+    unfolding sent_pointer_at
     first_pointer done packet back split size =
         let tells : Each TellsItsLength (done ++ packet ∷ back) = subst (Each TellsItsLength) split tell in
         let place = 0 + length (concat done) in
-        let found : find (is_in_zone t) (starts_from 0 packets) ≡ Some place =
-        ap (λ ps. find (is_in_zone t) (starts_from 0 ps)) split
+        let found : find (is_in_zone t) (packet_starts_from 0 packets) ≡ Some place =
+        ap (λ ps. find (is_in_zone t) (packet_starts_from 0 ps)) split
         ∙ early t 0 done (packet ∷ back) (Each_left TellsItsLength done (packet ∷ back) tells) (omega arith)
-        ∙ ap (λ b. cond b (Some place) (find (is_in_zone t) (starts_from (place + length packet) back)))
+        ∙ ap (λ b. cond b (Some place) (find (is_in_zone t) (packet_starts_from (place + length packet) back)))
         (in_zone t place (omega arith) (omega arith)) in
         pointer ∙ ap (λ o. unwrap_or (option_map (λ start. start - 884 * t) o) 2047) found ∙ omega arith
 
@@ -233,35 +233,35 @@ module _ (packets : List (List ℕ)) (tell : Each TellsItsLength packets) where
       end =
           omega (
             arith,
-            end_of (w.bytes ++ frame.zone) later w.packet (concat w.back) 0 (omega (arith, both)) joined own,
+            packet_ends (w.bytes ++ frame.zone) later w.packet (concat w.back) 0 (omega (arith, both)) joined own,
           )
 
       -- where the next packet starts
-      found : find (is_in_zone t) (starts_from 0 packets)
-          ≡ find (is_in_zone t) (starts_from (length (concat done) + length w.packet) w.back)
+      found : find (is_in_zone t) (packet_starts_from 0 packets)
+          ≡ find (is_in_zone t) (packet_starts_from (length (concat done) + length w.packet) w.back)
       found =
           let place = 0 + length (concat done) in
-          ap (λ ps. find (is_in_zone t) (starts_from 0 ps)) w.split
+          ap (λ ps. find (is_in_zone t) (packet_starts_from 0 ps)) w.split
           ∙ early t 0 done (w.packet ∷ w.back) (Each_left TellsItsLength done (w.packet ∷ w.back) tells)
           (omega (arith, w.size))
-          ∙ ap (λ b. cond b (Some place) (find (is_in_zone t) (starts_from (place + length w.packet) w.back)))
+          ∙ ap (λ b. cond b (Some place) (find (is_in_zone t) (packet_starts_from (place + length w.packet) w.back)))
           (before_zone t place (omega (arith, w.size, w.some)))
-          ∙ ap (λ n. find (is_in_zone t) (starts_from n w.back)) (omega arith)
+          ∙ ap (λ n. find (is_in_zone t) (packet_starts_from n w.back)) (omega arith)
 
       pub no_start : length w.bytes + 884 ≤ length w.packet → frame.pointer ≡ 2047
-      unfolding pointer_at
+      unfolding sent_pointer_at
       no_start h =
           pointer ∙ ap (λ o. unwrap_or (option_map (λ start. start - 884 * t) o) 2047)
           (found ∙ late t (length (concat done) + length w.packet) w.back (omega (arith, w.size)))
 
       pub next_start : (next : List ℕ) (more : List (List ℕ)) → w.back ≡ next ∷ more →
           length w.packet < length w.bytes + 884 → frame.pointer ≡ length w.packet - length w.bytes
-      unfolding pointer_at
+      unfolding sent_pointer_at
       next_start next more is h =
           let place = length (concat done) + length w.packet in
-          let some : find (is_in_zone t) (starts_from 0 packets) ≡ Some place =
-          found ∙ ap (λ ps. find (is_in_zone t) (starts_from place ps)) is
-          ∙ ap (λ b. cond b (Some place) (find (is_in_zone t) (starts_from (place + length next) more)))
+          let some : find (is_in_zone t) (packet_starts_from 0 packets) ≡ Some place =
+          found ∙ ap (λ ps. find (is_in_zone t) (packet_starts_from place ps)) is
+          ∙ ap (λ b. cond b (Some place) (find (is_in_zone t) (packet_starts_from (place + length next) more)))
           (in_zone t place (omega (arith, w.size, w.part)) (omega (arith, w.size))) in
           pointer ∙ ap (λ o. unwrap_or (option_map (λ start. start - 884 * t) o) 2047) some ∙ omega (arith, w.size)
 

@@ -24,22 +24,22 @@ abbrev pub data_size : Data → ℕ
 data_size (Of body) = body.size + 2
 data_size (Zeros size) = size
 
-abbrev pub size_of : Packet → ℕ
-size_of packet = 6 + data_size packet.data
+abbrev pub size_of_packet : Packet → ℕ
+size_of_packet packet = 6 + data_size packet.data
 
 -- where the body ends in the file's bytes
 abbrev pub data_end : Data → ℕ
 data_end (Of body) = body.at + body.size
 data_end (Zeros size) = 0
 
-abbrev pub end_of : Packet → ℕ
-end_of packet = data_end packet.data
+abbrev pub end_of_packet : Packet → ℕ
+end_of_packet packet = data_end packet.data
 
 -- the packet is these bytes, where those are the file's
 pub record Carries (packet : Packet) (bytes whole : List ℕ) : Type 0 where
   pub is : packet_bytes packet bytes ≡ whole
-  pub size : size_of packet ≡ length whole
-  pub within : end_of packet ≤ length bytes
+  pub size : size_of_packet packet ≡ length whole
+  pub within : end_of_packet packet ≤ length bytes
 
 -- the packet is this one of a file's packets
 pub record IsPacketAt (packets : List (List ℕ)) (bytes : List ℕ) (index : ℕ) (packet : Packet) : Type 0 where

@@ -7,13 +7,13 @@ use Rattle.lr_bits.specs.File.{File, IsFile, bytes_of}
 use Rattle.lr_file.specs.Standing.{AreAscending, kept_of_key}
 use Rattle.lr_uplink.specs.declared.sending.Sending.{Sending}
 use Rattle.lr_uplink.specs.Packets.{file_packets}
-use Rattle.lr_uplink.specs.Pieces.{IsPacketAt, packet_bytes, size_of}
+use Rattle.lr_uplink.specs.Pieces.{IsPacketAt, packet_bytes, size_of_packet}
 use Rattle.lr_uplink.specs.Sent.{frames_before, packets_before, sent}
 
 -- ---- a file while it is sent
 
 -- these bytes of a file's packets are left to send, of which the first packet has this count
-pub record IsPart (sending : Sending) (file : File) (count : ℕ) (rest : List ℕ) : Type 0 where
+pub record IsUnsentPart (sending : Sending) (file : File) (count : ℕ) (rest : List ℕ) : Type 0 where
   pub is : IsFile file
   pub same : sending.file ≡ file
   pub counted : sending.count ≡ count
@@ -23,8 +23,8 @@ pub record IsPart (sending : Sending) (file : File) (count : ℕ) (rest : List �
 
 -- the same, and where some are left, some are left of the packet that is being sent
 pub record IsSending (sending : Sending) (file : File) (count : ℕ) (rest : List ℕ) : Type 0 where
-  pub part : IsPart sending file count rest
-  pub going : 0 < length rest → sending.sent < size_of sending.packet
+  pub part : IsUnsentPart sending file count rest
+  pub going : 0 < length rest → sending.sent < size_of_packet sending.packet
 
 -- ---- all files
 

@@ -3,9 +3,9 @@
 ghost use Rattle.std.specs.Prelude.{◌≡◌, ◌<◌, ◌≤◌, ◌+◌, ◌*◌, ◌^◌, ◌++◌, ℕ, List, length, take, drop};
 ghost use Rattle.std.specs.List.{concat};
 ghost use Rattle.lr_bits.specs.File.{File};
-ghost use Rattle.lr_make.specs.Frames.{frame_of};
+ghost use Rattle.lr_make.specs.Frames.{frame_for_zone};
 ghost use Rattle.lr_uplink.specs.Packets.{file_packets};
-ghost use Rattle.lr_uplink.specs.Sent.{pointer_at, zone_at};
+ghost use Rattle.lr_uplink.specs.Sent.{sent_pointer_at, sent_zone_at};
 ghost use Rattle.lr_uplink.specs.Progress.{IsSending};
 
 use crate::sending::Sending;
@@ -18,8 +18,8 @@ pub(crate) fn put_next(frame: &mut [u8; FRAME_BYTES], sending: &mut Sending, cou
     ensures frame { (file : File) (count t : ℕ) →
         ZONE_BYTES * t + ZONE_BYTES ≤ length (concat (file_packets count file)) →
         IsSending sending.old file count (drop (ZONE_BYTES * t) (concat (file_packets count file))) →
-        frame.new ≡ frame_of file.vc counter (pointer_at (file_packets count file) t)
-        (zone_at (file_packets count file) t) }
+        frame.new ≡ frame_for_zone file.vc counter (sent_pointer_at (file_packets count file) t)
+        (sent_zone_at (file_packets count file) t) }
     ensures moves { (file : File) (count : ℕ) (rest : List ℕ) → IsSending sending.old file count rest →
         IsSending sending.new file count (drop ZONE_BYTES rest) }
 {

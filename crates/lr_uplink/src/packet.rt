@@ -1,7 +1,7 @@
 //! The packet that is being sent.
 
 ghost use Rattle.std.specs.Prelude.{◌≡◌, ◌<◌, ◌≤◌, ◌+◌, ◌^◌, ℕ, List, length, take, drop, slice_index};
-ghost use Rattle.lr_make.specs.Packets.{packet_of};
+ghost use Rattle.lr_make.specs.Packets.{packet_for_body};
 ghost use Rattle.lr_uplink.specs.Packets.{flags_at, idle_packet};
 
 use lr_bits::{IDLE_APPLICATION, PACKET_HEADER_BYTES, crc16};
@@ -85,7 +85,7 @@ impl Body {
 }
 
 impl Packet {
-    ghost use Rattle.lr_uplink.specs.Pieces.{Carries, end_of, packet_bytes, size_of};
+    ghost use Rattle.lr_uplink.specs.Pieces.{Carries, end_of_packet, packet_bytes, size_of_packet};
 
     /// The packet of a body of `size` bytes, from place `at` of a file's bytes on.
     pub(crate) fn of_body(
@@ -101,7 +101,7 @@ impl Packet {
         requires count { count < 2 ^ 14 }
         requires inside { at + size ≤ length bytes.now }
         requires size { size < 65535 }
-        ensures { Carries result bytes.now (packet_of apid flags count (take size (drop at bytes.now))) }
+        ensures { Carries result bytes.now (packet_for_body apid flags count (take size (drop at bytes.now))) }
     {
         let body = &bytes[at..at + usize::from(size)];
         Packet {
@@ -128,7 +128,7 @@ impl Packet {
 
     /// The number of bytes.
     pub(crate) fn len(&self) -> usize
-        ensures value { result ≡ size_of self.now }
+        ensures value { result ≡ size_of_packet self.now }
         ensures few { result ≤ 65543 }
     {
         match self.data {
@@ -139,8 +139,8 @@ impl Packet {
 
     /// The byte at a place, where these are the file's bytes.
     pub(crate) fn byte(&self, bytes: &[u8], place: usize) -> u8
-        requires within { end_of self.now ≤ length bytes.now }
-        requires place { place < size_of self.now }
+        requires within { end_of_packet self.now ≤ length bytes.now }
+        requires place { place < size_of_packet self.now }
         ensures { result ≡ slice_index (packet_bytes self.now bytes.now) place }
     {
         if place < PACKET_HEADER_BYTES {

@@ -5,7 +5,7 @@ ghost use Rattle.std.specs.Prelude.{slice_index, slice_index_or, if◌then◌els
 ghost use Rattle.std.specs.List.{concat};
 ghost use Rattle.lr_bits.specs.File.{File, IsFile, bytes_of};
 ghost use Rattle.lr_uplink.specs.Packets.{file_packets, idle_packets, bytes_left};
-ghost use Rattle.lr_uplink.specs.Pieces.{IsPacketOf, end_of, size_of};
+ghost use Rattle.lr_uplink.specs.Pieces.{IsPacketOf, end_of_packet, size_of_packet};
 
 use crate::packet::{Packet, SHORTEST_BYTES, flags_of};
 use lr_bits::{MissionFile, ZONE_BYTES};
@@ -101,13 +101,13 @@ pub struct Sending {
     ghost count_fits: { count < 16384 },
     ghost index_fits: { index ≤ 1048576 },
     ghost taken_is: { taken ≡ length (concat (take (index + 1) file.bodies)) },
-    ghost within: { end_of packet ≤ length (bytes_of file) },
-    ghost sent_fits: { sent ≤ size_of packet },
+    ghost within: { end_of_packet packet ≤ length (bytes_of file) },
+    ghost sent_fits: { sent ≤ size_of_packet packet },
 }
 
 impl Sending {
-    ghost use Rattle.lr_uplink.specs.Progress.{IsPart, IsSending};
-    ghost use Rattle.lr_uplink.specs.Sent.{pointer_at};
+    ghost use Rattle.lr_uplink.specs.Progress.{IsUnsentPart, IsSending};
+    ghost use Rattle.lr_uplink.specs.Sent.{sent_pointer_at};
 
     /// A file of which nothing is sent.
     pub(crate) fn new(file: MissionFile, count: u16) -> Sending
@@ -145,8 +145,8 @@ impl Sending {
 
     /// Goes on to the next packet, if there is one.
     fn advance(&mut self)
-        ensures { (file : File) (count : ℕ) (rest : List ℕ) → IsPart self.old file count rest →
-            self.old.sent ≡ size_of self.old.packet → IsSending self.new file count rest }
+        ensures { (file : File) (count : ℕ) (rest : List ℕ) → IsUnsentPart self.old file count rest →
+            self.old.sent ≡ size_of_packet self.old.packet → IsSending self.new file count rest }
     {
         let next = self.index + 1;
         if let Some(packet) = packet_of_file(&self.file, self.count, next, self.taken) {
@@ -181,7 +181,7 @@ impl Sending {
         ensures value { (file : File) (count t : ℕ) →
             ZONE_BYTES * t + ZONE_BYTES ≤ length (concat (file_packets count file)) →
             IsSending self.now file count (drop (ZONE_BYTES * t) (concat (file_packets count file))) →
-            result ≡ pointer_at (file_packets count file) t }
+            result ≡ sent_pointer_at (file_packets count file) t }
     {
         if self.sent == 0 {
             return 0;

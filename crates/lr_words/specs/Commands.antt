@@ -29,8 +29,8 @@ use Rattle.lr_forms.specs.declared.forms.TheConstants.{MOST_WORKERS}
 use Rattle.lr_words.specs.Arguments.{app_of_shape}
 use Rattle.lr_words.specs.Numbers.{number_given}
 use Rattle.lr_words.specs.Shapes.{shape_named, can_write}
-use Rattle.lr_words.specs.Values.{coded_input, any_input, output_of, most_of, workers_of, line_of}
-use Rattle.lr_words.specs.Words.{is_taken, value_of}
+use Rattle.lr_words.specs.Values.{coded_input, any_input, output_of, most_of, workers_given, line_code_given}
+use Rattle.lr_words.specs.Words.{is_taken, argument_value}
 use Rattle.lr_words.specs.declared.shape.Shape.{Shape}
 use Rattle.lr_words.specs.declared.shape.Shape.TheVariants.{
   Capacity,
@@ -114,61 +114,61 @@ block_of n =
     else if n == 64 then Some 64 else None
 
 -- the number that is given by an argument which has to be there
-abbrev pub number_at : (Text → Option Text) → Text → ℕ → ℕ → Option ℕ
-number_at value id low high = number_given low high (value id)
+abbrev pub required_number : (Text → Option Text) → Text → ℕ → ℕ → Option ℕ
+required_number value id low high = number_given low high (value id)
 
 -- The command of words that look like this, where each argument has this value. `--line` and `--g2` are read in each
 -- form of an intake, and say something of symbols alone.
 abbrev pub given_by : Shape → (Text → Option Text) → Option Command
 given_by Capacity value =
-    option_map (λ n. Init n) (number_at value (codes "capacity") LEAST_CAPACITY MOST_CAPACITY)
+    option_map (λ n. Init n) (required_number value (codes "capacity") LEAST_CAPACITY MOST_CAPACITY)
 given_by (Nothing kind) value = Some (with_nothing kind)
 given_by (Number kind) value =
-    option_map (λ n. with_number kind n) (number_at value (codes "number") 0 most_u64)
+    option_map (λ n. with_number kind n) (required_number value (codes "number") 0 most_u64)
 given_by (Symbols kind) value = option_map (λ n. with_symbols kind n) (most_of (value (codes "symbols")))
 given_by (Intake kind) value =
     option_and_then (λ w. option_and_then (λ line. option_and_then (λ input.
     option_map (λ n. with_intake kind input w n)
     (most_of (value (codes "symbols"))))
     (input_of kind line (value (codes "input"))))
-    (line_of (value (codes "line")) (value (codes "g2"))))
-    (workers_of (value (codes "workers")))
-given_by Line value = option_map (λ line. Downlinks line) (line_of (value (codes "line")) (value (codes "g2")))
-given_by Workers value = option_map (λ w. Render w) (workers_of (value (codes "workers")))
+    (line_code_given (value (codes "line")) (value (codes "g2"))))
+    (workers_given (value (codes "workers")))
+given_by Line value = option_map (λ line. Downlinks line) (line_code_given (value (codes "line")) (value (codes "g2")))
+given_by Workers value = option_map (λ w. Render w) (workers_given (value (codes "workers")))
 given_by Segments value =
     option_and_then (λ f. option_and_then (λ t. option_and_then (λ a. option_map (λ i. Assemble f t a i)
-    (number_at value (codes "image") 0 65535))
-    (number_at value (codes "apid") 0 2046))
-    (number_at value (codes "to") 0 most_u64))
-    (number_at value (codes "from") 0 most_u64)
+    (required_number value (codes "image") 0 65535))
+    (required_number value (codes "apid") 0 2046))
+    (required_number value (codes "to") 0 most_u64))
+    (required_number value (codes "from") 0 most_u64)
 given_by Sent value =
     option_and_then (λ f. option_and_then (λ t. option_and_then (λ w. option_map (λ line. Transmit f t w line)
-    (line_of (value (codes "line")) (value (codes "g2"))))
-    (number_at value (codes "wrong") 0 16))
-    (number_at value (codes "to") 0 most_u64))
-    (number_at value (codes "from") 0 most_u64)
+    (line_code_given (value (codes "line")) (value (codes "g2"))))
+    (required_number value (codes "wrong") 0 16))
+    (required_number value (codes "to") 0 most_u64))
+    (required_number value (codes "from") 0 most_u64)
 given_by Block value =
     option_and_then (λ n. option_and_then (λ b. option_map (λ block. Repack n block) (block_of b))
-    (number_at value (codes "block") 0 most_u64))
-    (number_at value (codes "number") 0 most_u64)
+    (required_number value (codes "block") 0 most_u64))
+    (required_number value (codes "number") 0 most_u64)
 given_by Made value =
     option_and_then (λ s. option_and_then (λ f. option_and_then (λ w. option_map (λ form. Make s f w form)
     (output_of (value (codes "output"))))
-    (number_at value (codes "wrong") 0 16))
-    (number_at value (codes "frames") 1 65536))
-    (number_at value (codes "start") 0 most_u64)
+    (required_number value (codes "wrong") 0 16))
+    (required_number value (codes "frames") 1 65536))
+    (required_number value (codes "start") 0 most_u64)
 given_by Tried value =
     option_and_then (λ s. option_and_then (λ f. option_and_then (λ w. option_map (λ k. Trial s f w k)
-    (workers_of (value (codes "workers"))))
-    (number_at value (codes "wrong") 0 16))
-    (number_at value (codes "frames") 1 1024))
-    (number_at value (codes "start") 0 most_u64)
+    (workers_given (value (codes "workers"))))
+    (required_number value (codes "wrong") 0 16))
+    (required_number value (codes "frames") 1 1024))
+    (required_number value (codes "start") 0 most_u64)
 
 -- words that look like this, of which the first is this name
 abbrev pub command_shaped : Text → List Text → Option Shape → Option Command
 command_shaped name words None = None
 command_shaped name words (Some shape) = if is_taken (app_of_shape shape name) words
-    then given_by shape (value_of (app_of_shape shape name) words)
+    then given_by shape (argument_value (app_of_shape shape name) words)
     else None
 
 unfoldable pub command_of : List Text → Option Command

@@ -51,9 +51,9 @@ output_of (Some text) =
     else None
 
 -- `--line`: whether a 1 is a change of level
-abbrev pub marks_of : Option Text → Option Bool
-marks_of None = Some false
-marks_of (Some text) =
+abbrev pub marks_given : Option Text → Option Bool
+marks_given None = Some false
+marks_given (Some text) =
     if bytes_eq text (codes "nrz-l") then Some false
     else if bytes_eq text (codes "nrz-m") then Some true
     else None
@@ -67,14 +67,14 @@ inverted_of (Some text) =
     else None
 
 -- the line code of `--line` and `--g2`
-abbrev pub line_of : Option Text → Option Text → Option LineCode
-line_of line g2 = option_and_then (λ marks. option_map (λ inverted. record { marks = marks; inverted = inverted })
-    (inverted_of g2)) (marks_of line)
+abbrev pub line_code_given : Option Text → Option Text → Option LineCode
+line_code_given line g2 = option_and_then (λ marks. option_map (λ inverted. record { marks = marks; inverted = inverted })
+    (inverted_of g2)) (marks_given line)
 
 -- `--symbols`: the most bytes that are taken
 abbrev pub most_of : Option Text → Option ℕ
 most_of = number_or 0 MOST_BYTES MOST_BYTES
 
 -- `--workers`: how many work on windows
-abbrev pub workers_of : Option Text → Option ℕ
-workers_of = number_or 1 MOST_WORKERS 1
+abbrev pub workers_given : Option Text → Option ℕ
+workers_given = number_or 1 MOST_WORKERS 1

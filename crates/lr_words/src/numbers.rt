@@ -1,7 +1,7 @@
 //! Numbers as words give them.
 ghost use Rattle.std.specs.Prelude.{◌≡◌, ◌≤◌, IfSome};
 ghost use Rattle.clap.specs.Words.{first_value, found_of};
-ghost use Rattle.lr_words.specs.Numbers.{number_of, number_between, number_or, number_given};
+ghost use Rattle.lr_words.specs.Numbers.{number_in_text, number_between, number_or, number_given};
 
 use clap::ArgMatches;
 
@@ -10,7 +10,7 @@ const MOST_DIGITS: usize = 20;
 
 /// The number that a text of 1 to 20 decimal digits gives, where it is below 2^64.
 fn number_of(text: &str) -> Option<u64>
-    ensures { result ≡ number_of text.now }
+    ensures { result ≡ number_in_text text.now }
 {
     let bytes = text.as_bytes();
     if bytes.len() == 0 {

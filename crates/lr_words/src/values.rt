@@ -5,11 +5,11 @@ ghost use Rattle.lr_words.specs.Values.{
   coded_input,
   any_input,
   output_of,
-  marks_of,
+  marks_given,
   inverted_of,
-  line_of,
+  line_code_given,
   most_of,
-  workers_of,
+  workers_given,
 };
 
 use crate::numbers::number_or;
@@ -74,7 +74,7 @@ pub(crate) fn output_form(matches: &ArgMatches) -> Option<Output>
 
 /// Whether a 1 is a change of level, by the name of the line code.
 fn marks(matches: &ArgMatches) -> Option<bool>
-    ensures { result ≡ marks_of (first_value (found_of matches.now) (codes "line")) }
+    ensures { result ≡ marks_given (first_value (found_of matches.now) (codes "line")) }
 {
     let Some(text) = matches.get_str("line") else {
         return Some(false);
@@ -106,7 +106,7 @@ fn inversion(matches: &ArgMatches) -> Option<bool>
 
 /// The line code of symbols.
 pub(crate) fn line_code(matches: &ArgMatches) -> Option<LineCode>
-    ensures { result ≡ line_of (first_value (found_of matches.now) (codes "line"))
+    ensures { result ≡ line_code_given (first_value (found_of matches.now) (codes "line"))
         (first_value (found_of matches.now) (codes "g2")) }
 {
     let marks = marks(matches)?;
@@ -124,7 +124,7 @@ pub(crate) fn most(matches: &ArgMatches) -> Option<u64>
 
 /// How many work on windows, the caller among them.
 pub(crate) fn workers(matches: &ArgMatches) -> Option<u32>
-    ensures gives { result ≡ workers_of (first_value (found_of matches.now) (codes "workers")) }
+    ensures gives { result ≡ workers_given (first_value (found_of matches.now) (codes "workers")) }
     ensures some { IfSome result (λ n. 1 ≤ n) }
     ensures few { IfSome result (λ n. n ≤ 64) }
 {

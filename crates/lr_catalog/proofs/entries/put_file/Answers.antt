@@ -1,5 +1,5 @@
 use Rattle.lr_bits.specs.File.{declared_bits_of, proper_of, real_bits_of}
-use Rattle.lr_headers.specs.Reading.{header_of}
+use Rattle.lr_headers.specs.Headers.{header_of}
 use Rattle.lr_catalog.specs.Entries.{bits_words, file_line, file_words, key_words, origin_words, size_words, type_word}
 use Rattle.lr_catalog.proofs.Lines.{put_line}
 use Rattle.lr_catalog.proofs.entries.put_file.Goals as goal

@@ -1,6 +1,6 @@
 use Rattle.std.proofs.Common.{◌≡◌, ◌-◌, false, length}
 use Rattle.lr_downlinks.specs.Ending.{GoesOn}
-use Rattle.lr_downlinks.specs.Merge.{times}
+use Rattle.lr_downlinks.specs.Merge.{times_in_order}
 use Rattle.lr_downlinks.proofs.rest.append_left.Given as goal
 
 abbrev pub invariant-files : goal.invariant-files
@@ -10,4 +10,4 @@ invariant-files g l = record {
 }
 
 abbrev pub decreases-files : goal.decreases-files
-decreases-files g l = length l.files - times l.downlink l.book.order
+decreases-files g l = length l.files - times_in_order l.downlink l.book.order

@@ -2,7 +2,7 @@ use Rattle.std.proofs.Common.{◌≡◌, ap, subst, ◌∙◌, sym, arith, lengt
 use Rattle.std.specs.Prelude.{IfSome}
 use Rattle.lr_downlinks.specs.Ending.{IsLeftAt}
 use Rattle.lr_downlinks.specs.Members.{IsMember}
-use Rattle.lr_downlinks.specs.Merge.{times}
+use Rattle.lr_downlinks.specs.Merge.{times_in_order}
 use Rattle.lr_downlinks.specs.Start.{files_in}
 use Rattle.lr_downlinks.proofs.Leftover.{done_more, done_still, ends_full}
 use Rattle.lr_downlinks.proofs.rest.append_rest.Goals as goal
@@ -28,7 +28,7 @@ loop-member-preserved g c =
     let member = subst (λ m. IsMember start place m) (sym c.member-item.is)
     (c.requires.members.each place c.member-item.result c.loop-member-test.true) in
     let files = subst (λ o. IfSome o (λ f. f.items ≡ files_in start place)) c.in-Some.is member.files_are in
-    let here = ap (λ k. times k book.order) (sym member.downlink_is) ∙ c.in-Ok.ensures.all
+    let here = ap (λ k. times_in_order k book.order) (sym member.downlink_is) ∙ c.in-Ok.ensures.all
     ∙ ap (λ l. length l) (c.deref.ensures.value ∙ files) in
     record {
       done =

@@ -2,7 +2,7 @@ use Rattle.std.proofs.Common.{◌≡◌, ◌<◌, ◌≤◌, ◌-◌, ◌*◌, �
 use Rattle.lr_image.specs.declared.fault.ImageFault.TheVariants.{Short}
 use Rattle.lr_image.specs.Pieces.{pieces_after}
 use Rattle.lr_image.specs.Places.{pieces_at}
-use Rattle.lr_image.specs.Reading.{line_form}
+use Rattle.lr_image.specs.Images.{line_form}
 use Rattle.lr_image.proofs.LineLemmas.{fails, finished, lacking, reads, starts}
 use Rattle.lr_image.proofs.PieceLemmas.{first_in}
 use Rattle.lr_image.proofs.coded.coded_pixels.Goals as goal

@@ -1,7 +1,7 @@
 use Rattle.std.proofs.Common.{◌-◌}
 use Rattle.lr_image.specs.Pieces.{pieces_after}
 use Rattle.lr_image.specs.Places.{IsPlaceIn, pieces_at}
-use Rattle.lr_image.specs.Reading.{line_form}
+use Rattle.lr_image.specs.Images.{line_form}
 use Rattle.lr_image.proofs.LineLemmas.{Partway}
 use Rattle.lr_image.proofs.coded.coded_pixels.Given as goal
 

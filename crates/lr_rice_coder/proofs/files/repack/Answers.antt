@@ -15,14 +15,14 @@ use Rattle.lr_rice_coder.proofs.RepackLemmas.{IsReadFile, can_be_coded, no_struc
 use Rattle.lr_rice_coder.proofs.files.repack.Goals as goal
 
 -- the header that was read is the file's
-header_of : (file : File) (header : Header) (proper : List ℕ) → proper ≡ proper_of file → IsHeaderOf proper header
+header_is_of : (file : File) (header : Header) (proper : List ℕ) → proper ≡ proper_of file → IsHeaderOf proper header
     → IsHeaderOf (proper_of file) header
-header_of file header proper is read = subst (λ (l : List ℕ). IsHeaderOf l header) is read
+header_is_of file header proper is read = subst (λ (l : List ℕ). IsHeaderOf l header) is read
 
 pub unreachable-requires : goal.unreachable-requires
 unreachable-requires c =
     no_structure c.args.file.now c.in-Ok.image c.in-Ok-read.records c.in-Ok.ensures.ok
-    (header_of c.args.file.now c.in-Ok-read.records c.proper.result.now c.proper.ensures.value c.in-Ok-read.ensures.ok)
+    (header_is_of c.args.file.now c.in-Ok-read.records c.proper.result.now c.proper.ensures.value c.in-Ok-read.ensures.ok)
     (sym c.structure.ensures ∙ c.in_default-structure.is)
 
 pub code_image-requires : goal.code_image-requires
@@ -33,7 +33,7 @@ code_image-requires c =
     c.as_slice.result.now = record {
       image = c.in-Ok.ensures.ok;
       deep = omega (arith, c.bits-bits.ensures.value, c.if-bits-lt-LEAST_BITS.false);
-      is_header = header_of c.args.file.now c.in-Ok-read.records c.proper.result.now c.proper.ensures.value
+      is_header = header_is_of c.args.file.now c.in-Ok-read.records c.proper.result.now c.proper.ensures.value
           c.in-Ok-read.ensures.ok;
       says = sym c.structure.ensures ∙ c.in-Some.is;
       pixels_are = refl;
@@ -77,7 +77,7 @@ returns-clause-ok c =
     c.as_slice.result.now = record {
       image = c.in-Ok.ensures.ok;
       deep = omega (arith, c.bits-bits.ensures.value, c.if-bits-lt-LEAST_BITS.false);
-      is_header = header_of c.args.file.now c.in-Ok-read.records c.proper.result.now c.proper.ensures.value
+      is_header = header_is_of c.args.file.now c.in-Ok-read.records c.proper.result.now c.proper.ensures.value
           c.in-Ok-read.ensures.ok;
       says = sym c.structure.ensures ∙ c.in-Some.is;
       pixels_are = refl;
@@ -96,7 +96,7 @@ returns-clause-err c =
     c.as_slice.result.now = record {
       image = c.in-Ok.ensures.ok;
       deep = omega (arith, c.bits-bits.ensures.value, c.if-bits-lt-LEAST_BITS.false);
-      is_header = header_of c.args.file.now c.in-Ok-read.records c.proper.result.now c.proper.ensures.value
+      is_header = header_is_of c.args.file.now c.in-Ok-read.records c.proper.result.now c.proper.ensures.value
           c.in-Ok-read.ensures.ok;
       says = sym c.structure.ensures ∙ c.in-Some.is;
       pixels_are = refl;

@@ -5,7 +5,7 @@ use Rattle.std.proofs.lemmas.Nat.{pow_pos}
 use Rattle.lr_bits.specs.Bits.{zeros_and_one}
 use Rattle.lr_rice.specs.declared.choice.BlockOption.TheVariants.{ZeroBlock}
 use Rattle.lr_rice.specs.CodedLines.{Zeros, body_string, greatest, head_string, left_in_segment, part_string, span_of}
-use Rattle.lr_rice_coder.specs.Shortest.{block_at, block_in, block_values, next_part, run_number, shortest_option}
+use Rattle.lr_rice_coder.specs.Shortest.{places_of_block, block_in, block_values, next_part, run_number, shortest_option}
 use Rattle.lr_rice_coder.specs.Shortest.{zero_run}
 use Rattle.lr_rice_coder.specs.Writing.{form_in}
 use Rattle.lr_rice_coder.proofs.PartLemmas.{cut-small, next_part-block, next_part-run, option_of-block_in}
@@ -67,7 +67,7 @@ returns c =
     let none : zero_run form.block places left at ≡ 0 =
     ap (λ n. zero_run form.block places n at) (sym c.left_in_segment-left.ensures) ∙ sym c.run_at-run.ensures
     ∙ omega (arith, c.if-run-gt0.false) in
-    let here = block_at form.block places at in
+    let here = places_of_block form.block places at in
     let cut : take (at * line.block + line.block - at * line.block) (drop (at * line.block) places) ≡ here =
     slice line.block at places in
     let option = c.shortest_option-option.result in

@@ -1,6 +1,6 @@
 use Rattle.std.proofs.Common.{◌≡◌, List, ℕ, Option, IfNone, take, sym, subst, arith}
 use Rattle.std.proofs.lemmas.List.{take-take}
-use Rattle.lr_shelf_format.specs.Items.{Begins, HasForm, IsRecord}
+use Rattle.lr_shelf_format.specs.Items.{Begins, HasForm, IsFileRecord}
 use Rattle.lr_shelf_format.specs.declared.item.ItemHead.{ItemHead}
 use Rattle.lr_shelf_format.proofs.ItemLemmas.{head_is}
 use Rattle.lr_shelf_format.proofs.ItemLemmas.{Begins-twelve}
@@ -10,11 +10,11 @@ pub returns-in_err-head-clause-none : goal.returns-in_err-head-clause-none
 returns-in_err-head-clause-none c =
     let bytes = c.args.bytes.now in
     let same : take 12 bytes ≡ take 12 (take 12 bytes) = sym (take-take 12 12 bytes (omega arith)) in
-    let none : IsRecord bytes → ⊥ = λ is.
+    let none : IsFileRecord bytes → ⊥ = λ is.
     c.in_err-head.ensures.none is.head
     (subst (λ (l : List ℕ). Begins l is.head) (sym c.copy_from_slice.ensures.after)
     (Begins-twelve bytes (take 12 bytes) is.head same is.begins)) in
-    subst (λ (o : Option ItemHead). IfNone o (IsRecord bytes → ⊥)) (sym c.from_residual.ensures) none
+    subst (λ (o : Option ItemHead). IfNone o (IsFileRecord bytes → ⊥)) (sym c.from_residual.ensures) none
 
 pub returns-then-not-has_form-clause-none : goal.returns-then-not-has_form-clause-none
 returns-then-not-has_form-clause-none c is =

@@ -7,7 +7,7 @@ use Rattle.std.proofs.lemmas.List.{drop-set, drop_at, take_at, reverse-append}
 use Rattle.std.proofs.Math.ListN.{length-set}
 use Rattle.std.proofs.Math.Seq.{drop-length}
 use Rattle.lr_conv.specs.Convolution.{bit}
-use Rattle.lr_trellis.specs.Path.{bytes_of, bytes_from}
+use Rattle.lr_trellis.specs.Path.{bytes_of_bits, bytes_from}
 use Rattle.lr_conv.specs.Levels.{last_level, levels}
 use Rattle.lr_conv.specs.declared.line.LineCode.{LineCode}
 use Rattle.lr_conv.proofs.Lines.{length-levels, levels-append, levels-nil}
@@ -17,8 +17,8 @@ use Rattle.lr_trellis.proofs.way_back.bytes_back.Invariants.{BytesRead}
 use Rattle.lr_trellis.proofs.way_back.bytes_back.Goals as goal
 
 -- eight bits more in front
-bytes_of-append : (e x : List Bool) → length e ≡ 8 → bytes_of (e ++ x) ≡ number_from_digits 2 (map bit e) ∷ bytes_of x
-unfolding bytes_of
+bytes_of-append : (e x : List Bool) → length e ≡ 8 → bytes_of_bits (e ++ x) ≡ number_from_digits 2 (map bit e) ∷ bytes_of_bits x
+unfolding bytes_of_bits
 bytes_of-append e x eight =
     let size : length (e ++ x) / 8 ≡ suc (length x / 8) = omega (arith, length-append e x) in
     let front : take 8 (e ++ x) ≡ e = take_at e x 8 eight in
@@ -43,7 +43,7 @@ first_same a b g h k e = cc
 
 module _ (line : LineCode) (older : ℕ → ℕ → Bool) (start : ℕ) where
   none_read : (out : List ℕ) → BytesRead line older start (length out) start out []
-  unfolding bytes_of
+  unfolding bytes_of_bits
   none_read out =
       record {
         size = omega arith;
@@ -69,7 +69,7 @@ module _ (line : LineCode) (older : ℕ → ℕ → Bool) (start : ℕ) where
   one_more j k here next byte out x e at room eight packed walk read =
       let size : length (slice_set out j byte) ≡ length out = length-set out j byte in
       let steps : 8 * k ≡ 8 * j + 8 = omega arith in
-      let rest : drop (suc j) out ≡ bytes_of x = ap (λ n. drop n out) (sym at) ∙ read.bytes in
+      let rest : drop (suc j) out ≡ bytes_of_bits x = ap (λ n. drop n out) (sym at) ∙ read.bytes in
       let ys = levels line (is_odd here) x in
       let es = levels line (is_odd next) e in
       let last : last_level (is_odd next) es ≡ is_odd here =
@@ -92,7 +92,7 @@ module _ (line : LineCode) (older : ℕ → ℕ → Bool) (start : ℕ) where
       }
 
   all_read : (n k here : ℕ) (out : List ℕ) (x : List Bool) → k ≡ 0 → length out ≡ n →
-      BytesRead line older start k here out x → (y : List Bool) × (length y ≡ 8 * n) × (out ≡ bytes_of y) ×
+      BytesRead line older start k here out x → (y : List Bool) × (length y ≡ 8 * n) × (out ≡ bytes_of_bits y) ×
       (read_back older (8 * n) start ≡ reverse (levels line (is_odd here) y) ++ read_back older 0 here)
   all_read n k here out x none size read =
       let at_0 : BytesRead line older start 0 here out x =

@@ -1,5 +1,5 @@
 use Rattle.std.proofs.Common.{◌≡◌, ◌+◌, ◌*◌, ◌<◌, ◌++◌, ℕ, length, reverse, drop, Bool, List}
-use Rattle.lr_trellis.specs.Path.{bytes_of}
+use Rattle.lr_trellis.specs.Path.{bytes_of_bits}
 use Rattle.lr_conv.specs.Levels.{levels}
 use Rattle.lr_conv.specs.declared.line.LineCode.{LineCode}
 use Rattle.lr_trellis.specs.Trellis.{is_odd, read_back}
@@ -10,7 +10,7 @@ use Rattle.lr_trellis.proofs.way_back.bytes_back.Given as goal
 pub record BytesRead (line : LineCode) (older : ℕ → ℕ → Bool) (start k here : ℕ) (out : List ℕ)
     (x : List Bool) : Type 0 where
   pub size : length x + 8 * k ≡ 8 * length out
-  pub bytes : drop k out ≡ bytes_of x
+  pub bytes : drop k out ≡ bytes_of_bits x
   pub path : read_back older (8 * length out) start ≡ reverse (levels line (is_odd here) x)
       ++ read_back older (8 * k) here
 

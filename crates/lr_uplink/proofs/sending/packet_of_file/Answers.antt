@@ -4,7 +4,7 @@ use Rattle.std.specs.Prelude.{All}
 use Rattle.std.specs.List.{concat}
 use Rattle.std.proofs.lemmas.List.{length-map, get_or-map}
 use Rattle.lr_bits.specs.File.{File, IsFile, bytes_of}
-use Rattle.lr_make.specs.Packets.{packet_of}
+use Rattle.lr_make.specs.Packets.{packet_for_body}
 use Rattle.lr_uplink.specs.declared.packet.Packet.{Packet}
 use Rattle.lr_uplink.specs.Packets.{flags_at, file_packets, idle_packets}
 use Rattle.lr_uplink.specs.Pieces.{Carries, IsPacketAt, IsPacketOf}
@@ -37,17 +37,17 @@ body_by file lengths index at is e h place =
 body_is : (file : File) (count index apid flags own : ℕ) (bytes body : List ℕ) (packet : Packet) →
     index < length file.bodies → bytes ≡ bytes_of file → apid ≡ file.apid →
     flags ≡ flags_at (length file.bodies) index → own ≡ (count + index) % 16384 →
-    body ≡ get_or file.bodies index [] → Carries packet bytes (packet_of apid flags own body) →
+    body ≡ get_or file.bodies index [] → Carries packet bytes (packet_for_body apid flags own body) →
     IsPacketAt (file_packets count file) (bytes_of file) index packet
 body_is file count index apid flags own bytes body packet inside b a f o y carries =
     let there = body_there count file index inside in
-    let same : packet_of apid flags own body ≡ get_or (file_packets count file) index [] =
-    ap₂ (λ n k. packet_of n k own body) a f
-    ∙ ap₂ (λ n xs. packet_of file.apid (flags_at (length file.bodies) index) n xs) o y ∙ sym there.1 in
+    let same : packet_for_body apid flags own body ≡ get_or (file_packets count file) index [] =
+    ap₂ (λ n k. packet_for_body n k own body) a f
+    ∙ ap₂ (λ n xs. packet_for_body file.apid (flags_at (length file.bodies) index) n xs) o y ∙ sym there.1 in
     record {
       there = there.0;
       carries = subst (λ xs. Carries packet (bytes_of file) xs) same (subst (λ xs. Carries packet xs
-          (packet_of apid flags own body)) b carries);
+          (packet_for_body apid flags own body)) b carries);
     }
 
 pub of_body-requires-clause-inside : goal.of_body-requires-clause-inside

@@ -2,7 +2,7 @@ use Rattle.std.proofs.Common.{◌≡◌, Some, length, refl, sym, subst}
 use Rattle.std.proofs.lemmas.Bool.{ltb-true}
 use Rattle.std.proofs.lemmas.Option.{slice_get_read}
 use Rattle.std.specs.Prelude.{slice_get}
-use Rattle.lr_downlinks.specs.Merge.{IsNextOf, times}
+use Rattle.lr_downlinks.specs.Merge.{IsNextOf, times_in_order}
 use Rattle.lr_downlinks.specs.Start.{files_in}
 use Rattle.lr_downlinks.proofs.Keeping.{next_kept, some_next}
 use Rattle.lr_downlinks.proofs.book.Book.append_next.Goals as goal
@@ -10,7 +10,7 @@ use Rattle.lr_downlinks.proofs.book.Book.append_next.Goals.{After-self-1}
 
 -- the next file was found
 found : (g : _) (c : After-self-1 g)
-    → slice_get c.args.files.now (times c.args.downlink c.self.inside.order) ≡ Some c.in-Some.placed.now
+    → slice_get c.args.files.now (times_in_order c.args.downlink c.self.inside.order) ≡ Some c.in-Some.placed.now
 found g c =
     let files = c.args.files.now in
     let place = c.count-place.result in
@@ -23,7 +23,7 @@ next_of : (g : _) (c : After-self-1 g)
     c.in-Some.placed.now
 next_of g c = record {
   known = c.requires.known;
-  next = subst (λ files. slice_get files (times c.args.downlink c.self.inside.order) ≡ Some c.in-Some.placed.now)
+  next = subst (λ files. slice_get files (times_in_order c.args.downlink c.self.inside.order) ≡ Some c.in-Some.placed.now)
       c.requires.files (found g c);
 }
 

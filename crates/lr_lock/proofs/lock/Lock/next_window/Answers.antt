@@ -4,7 +4,7 @@ use Rattle.lr_lock.specs.Frames.{last_of}
 use Rattle.lr_conv.specs.Marker.{tail_of}
 use Rattle.lr_conv.specs.declared.line.LineCode.{LineCode}
 use Rattle.lr_lock.specs.Machine.{IsAt}
-use Rattle.lr_lock.specs.Search.{FindsOrWaits, IsFound, IsWaiting, Finds}
+use Rattle.lr_lock.specs.Search.{FindsOrWaits, IsFrameFound, IsWaiting, Finds}
 use Rattle.lr_lock.specs.Standing.{LockState, StandsFor}
 use Rattle.lr_lock.specs.Steps.{Answers, GivesWindow}
 use Rattle.lr_lock.specs.Windows.{WindowView, window_of}
@@ -25,7 +25,7 @@ returns-in-Some-clause-answers c fed given h =
     c.find_next-found.ensures.seen in
     let sees =
     looks fed (last_of None given) opened.within (c.kept_symbols.ensures ∙ kept ∙ opened.rest) opened.stands in
-    let seen : IsFound (tail_of c.self.inside.line) fed (last_of None given)
+    let seen : IsFrameFound (tail_of c.self.inside.line) fed (last_of None given)
     (c.self.inside.place + c.find_next-found.result.passed) c.if-self.needed c.in-Some.frame =
     subst (λ (o : Option Frame). FindsOrWaits (tail_of c.self.inside.line) fed
     (last_of None given) c.find_next-found.result.held

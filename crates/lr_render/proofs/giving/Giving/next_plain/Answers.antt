@@ -1,6 +1,6 @@
 use Rattle.std.proofs.Common.{◌≡◌, ◌-◌, ◌+◌, ◌∷◌, ◌∙◌, List, ℕ, length, take, drop, min, refl, sym, ap, arith}
 use Rattle.std.proofs.lemmas.List.{take_rest}
-use Rattle.lr_image.specs.Reading.{data_field}
+use Rattle.lr_image.specs.Images.{data_field}
 use Rattle.lr_render.specs.Tiling.{plain_count, plain_strip, plain_strips, strip_lines}
 use Rattle.lr_render.specs.declared.strip.StripSource.{StripSource}
 use Rattle.lr_render.proofs.Counting.{strip_lines-some}

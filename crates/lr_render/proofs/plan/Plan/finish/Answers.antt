@@ -1,6 +1,6 @@
 use Rattle.std.proofs.Common.{◌≡◌, ◌*◌, None, length, ap, refl, subst, sym, arith, rules}
 use Rattle.lr_image.specs.declared.fault.ImageFault.TheVariants.{Short}
-use Rattle.lr_image.specs.Reading.{HasImageFault, IsImageOf}
+use Rattle.lr_image.specs.Images.{HasImageFault, IsImageOf}
 use Rattle.lr_bits.specs.File.{File}
 use Rattle.lr_render.specs.Plans.{PlanView, planned_strips}
 use Rattle.lr_render.specs.Tiling.{strips_of}

@@ -3,13 +3,13 @@ use Rattle.std.proofs.Common.{length-drop}
 use Rattle.std.specs.Int.{bytes_high_first}
 use Rattle.std.proofs.lemmas.List.{length-take-le}
 use Rattle.lr_bits.specs.Crc.{crc_of}
-use Rattle.lr_make.specs.Packets.{head_with, packet_of}
+use Rattle.lr_make.specs.Packets.{head_with, packet_for_body}
 use Rattle.lr_sent.proofs.MadePackets.{length-packet}
 use Rattle.lr_uplink.proofs.packet.Packet.of_body.Goals as goal
 
 is_packet : (apid flags count crc : ℕ) (head body : List ℕ) → head ≡ head_with apid flags count (length body + 1) →
-    crc ≡ crc_of body → head ++ (body ++ bytes_high_first 2 crc) ≡ packet_of apid flags count body
-unfolding packet_of
+    crc ≡ crc_of body → head ++ (body ++ bytes_high_first 2 crc) ≡ packet_for_body apid flags count body
+unfolding packet_for_body
 is_packet apid flags count crc head body h k =
     ap₂ (λ front sum. front ++ (body ++ bytes_high_first 2 sum)) h k
 

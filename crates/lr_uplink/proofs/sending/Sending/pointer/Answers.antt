@@ -2,7 +2,7 @@ use Rattle.std.proofs.Common.{◌≡◌, ◌∙◌, ◌-◌, ◌*◌, ◌<◌, [
 use Rattle.std.proofs.Common.{arith, suc, length-drop}
 use Rattle.std.specs.List.{concat}
 use Rattle.lr_uplink.specs.Packets.{file_packets}
-use Rattle.lr_uplink.specs.Pieces.{size_of}
+use Rattle.lr_uplink.specs.Pieces.{size_of_packet}
 use Rattle.lr_uplink.proofs.FilePackets.{file_tells}
 use Rattle.lr_uplink.proofs.Places.{pointer_first, pointer_none, pointer_next}
 use Rattle.lr_uplink.proofs.Parts.{rest_of}
@@ -22,9 +22,9 @@ returns-then-left-lt-ZONE_BYTES-clause-value c = λ file count t room s.
     let sending = c.args.self.now in
     let r = rest_of sending file count (drop (884 * t) (concat packets)) s.part in
     let some : 0 < length (drop (884 * t) (concat packets)) = omega (arith, length-drop (884 * t) (concat packets)) in
-    let size : size_of sending.packet ≡ length (get_or packets sending.index []) = s.part.packet.carries.size in
-    let value : c.len.result ≡ size_of sending.packet = c.len.ensures.value in
-    let going : sending.sent < size_of sending.packet = s.going some in
+    let size : size_of_packet sending.packet ≡ length (get_or packets sending.index []) = s.part.packet.carries.size in
+    let value : c.len.result ≡ size_of_packet sending.packet = c.len.ensures.value in
+    let going : sending.sent < size_of_packet sending.packet = s.going some in
     let left = c.if-left-lt-ZONE_BYTES.true in
     ap (λ n. n - sending.sent) (value ∙ size)
     ∙ sym (pointer_next packets (file_tells count file s.part.is) t sending.index room s.part.packet.there sending.sent
@@ -36,9 +36,9 @@ returns-else-left-lt-ZONE_BYTES-clause-value c = λ file count t room s.
     let sending = c.args.self.now in
     let r = rest_of sending file count (drop (884 * t) (concat packets)) s.part in
     let some : 0 < length (drop (884 * t) (concat packets)) = omega (arith, length-drop (884 * t) (concat packets)) in
-    let size : size_of sending.packet ≡ length (get_or packets sending.index []) = s.part.packet.carries.size in
-    let value : c.len.result ≡ size_of sending.packet = c.len.ensures.value in
-    let going : sending.sent < size_of sending.packet = s.going some in
+    let size : size_of_packet sending.packet ≡ length (get_or packets sending.index []) = s.part.packet.carries.size in
+    let value : c.len.result ≡ size_of_packet sending.packet = c.len.ensures.value in
+    let going : sending.sent < size_of_packet sending.packet = s.going some in
     let left = c.if-left-lt-ZONE_BYTES.false in
     sym (pointer_none packets (file_tells count file s.part.is) t sending.index room s.part.packet.there sending.sent
     (omega (arith, c.if-self-eq0.false)) (omega (arith, size, going)) (omega (arith, size, value, left)) r)

@@ -22,7 +22,7 @@ end_of items = 20 + sum_by (λ item. extent_of (head_of_item item) + 1) items
 
 -- The header for the capacity stands at 0, then for each item in turn an open gate and its bytes, and then a closed
 -- gate, no farther than the capacity allows. Anything may follow.
-pub record StandsFor (bytes : List ℕ) (capacity : ℕ) (items : List Item) : Type 0 where
+pub record StandsForShelf (bytes : List ℕ) (capacity : ℕ) (items : List Item) : Type 0 where
   pub version : ℕ
   pub known : (version ≡ 1) ⊎ (version ≡ 2)
   pub each : All IsItem items
@@ -41,8 +41,8 @@ entries_of (discard_item number ∷ items) = entries_of items
 -- no bytes stand for two shelves
 abbrev pub HasOneReading : Type 0
 HasOneReading =
-    (bytes : List ℕ) (capacity capacity' : ℕ) (items items' : List Item) → StandsFor bytes capacity items
-    → StandsFor bytes capacity' items' → (capacity ≡ capacity') × (items ≡ items')
+    (bytes : List ℕ) (capacity capacity' : ℕ) (items items' : List Item) → StandsForShelf bytes capacity items
+    → StandsForShelf bytes capacity' items' → (capacity ≡ capacity') × (items ≡ items')
 
 -- the steps over these items, the first from that gate
 abbrev pub steps_of : ℕ → List Item → List Step
@@ -53,5 +53,5 @@ steps_of gate (item ∷ items) =
 -- the bytes of a shelf have one walk, over the gates of its items
 abbrev pub IsOneWalk : Type 0
 IsOneWalk =
-    (bytes : List ℕ) (capacity : ℕ) (items : List Item) → StandsFor bytes capacity items
+    (bytes : List ℕ) (capacity : ℕ) (items : List Item) → StandsForShelf bytes capacity items
     → IsWalk bytes (steps_of 19 items) (19 + sum_by (λ item. extent_of (head_of_item item) + 1) items)

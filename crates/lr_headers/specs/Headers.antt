@@ -3,7 +3,7 @@ use Rattle.std.specs.Prelude.{◌+◌, ℕ, zero, suc, List, [], ◌∷◌, leng
 use Rattle.std.specs.Prelude.{if◌then◌else◌}
 use Rattle.lr_headers.specs.declared.entry.Entry.{Entry}
 use Rattle.lr_headers.specs.declared.fault.HeaderFault.{HeaderFault}
-use Rattle.lr_headers.specs.Tiling.{Header, fault_at, first_fault, header_bytes, kind_at, length_at}
+use Rattle.lr_headers.specs.Tiling.{Header, fault_at, first_fault, file_header_bytes, kind_at, length_at}
 
 -- a fault, or else what is read
 abbrev pub unless_fault : {A : Type 0} → Option HeaderFault → Result A HeaderFault → Result A HeaderFault
@@ -36,4 +36,4 @@ header_with bytes (Err fault) = Err fault
 -- there are fewer records than bytes
 unfoldable pub header_of : List ℕ → Result Header HeaderFault
 header_of proper = unless_fault (first_fault proper)
-    (header_with (header_bytes proper) (records_from (length proper) (header_bytes proper) 16))
+    (header_with (file_header_bytes proper) (records_from (length proper) (file_header_bytes proper) 16))
