@@ -1,20 +1,8 @@
 -- Why a call ended, the status of each cause, and the line that it puts on `err`.
-use Rattle.std.specs.Prelude.{ℕ, List, [], ◌++◌, Option, Some, None, codes, decimal}
+use Rattle.std.specs.Prelude.{◌≡◌, ℕ, List, [], ◌++◌, Option, Some, None, codes, decimal}
 use Rattle.lr_bits.specs.Faults.{Rose}
 use Rattle.lr_forms.specs.declared.forms.Stop.{Stop}
 use Rattle.lr_forms.specs.declared.forms.Stop.TheVariants.{End, Limit, Fault}
-use Rattle.lr_shelf.specs.declared.error.ShelfError.{ShelfError}
-use Rattle.lr_shelf.specs.declared.error.ShelfError.TheVariants.{
-  Disk as Disk',
-  NotAShelf as NotAShelf',
-  NotEmpty as NotEmpty',
-  Capacity as Capacity',
-  NoSuchFile as NoSuchFile',
-  Crc as Crc',
-  NoMemory as NoMemory',
-  Failed as Failed',
-  Discarded as Discarded',
-}
 use Rattle.lr_causes.specs.declared.cause.Party.{Party}
 use Rattle.lr_causes.specs.declared.cause.Party.TheVariants.{Source, Disk, Output}
 use Rattle.lr_causes.specs.declared.cause.Refusal.TheVariants.{
@@ -90,18 +78,6 @@ line_of (Refused (BadBundle flaw)) = bundle_line flaw
 line_of (Refused CannotSend) = codes "station: cannot send: fill\n"
 line_of (Refused (CannotRepack fault)) = codes "station: cannot repack: " ++ coding_word fault ++ codes "\n"
 
--- the cause of what a call on a shelf answers; a shelf that failed before answers as a disk that fails
-abbrev pub cause_of : ShelfError → Cause
-cause_of Disk' = Failed Disk
-cause_of Failed' = Failed Disk
-cause_of (NotAShelf' at) = Refused (NotAShelf at)
-cause_of (NotEmpty' size) = Refused (NotEmpty size)
-cause_of (Capacity' needed capacity) = Refused (Capacity needed capacity)
-cause_of (NoSuchFile' count) = Refused (NoSuchFile count)
-cause_of (Crc' stored computed) = Refused BadChecksum
-cause_of NoMemory' = NoMemory
-cause_of Discarded' = Refused Discarded
-
 -- done, with what is told of it, if anything
 abbrev pub done_with : Option Note → Cause
 done_with None = Done
@@ -143,3 +119,11 @@ abbrev pub IsEarlier : Cause → Type 0
 IsEarlier (Failed Disk) = Unit {0}
 IsEarlier NoMemory = Unit {0}
 IsEarlier _ = ⊥
+
+-- the causes that come before any byte is read: the disk failed, no shelf stands there at this place, or memory was
+-- refused
+abbrev pub MayEndBefore : ℕ → Cause → Type 0
+MayEndBefore at (Failed Disk) = Unit {0}
+MayEndBefore at (Refused (NotAShelf at')) = at' ≡ at
+MayEndBefore at NoMemory = Unit {0}
+MayEndBefore at _ = ⊥

@@ -1,30 +1,5 @@
--- Why no PGM can be put, and the word for it.
-use Rattle.std.specs.Prelude.{ℕ, List, Option, Some, None, codes}
-use Rattle.lr_image.specs.declared.fault.ImageFault.{ImageFault}
-use Rattle.lr_image.specs.declared.fault.ImageFault.TheVariants.{
-  Headers as Headers',
-  NotImage as NotImage',
-  NoStructure as NoStructure',
-  Encrypted as Encrypted',
-  Compression as Compression',
-  Depth as Depth',
-  Empty as Empty',
-  TooLarge as TooLarge',
-  Flags as Flags',
-  BlockSize as BlockSize',
-  LinesPerPacket as LinesPerPacket',
-  Rice as Rice',
-  Short as Short',
-  NoMemory,
-}
-use Rattle.lr_segment.specs.declared.fault.AssembleFault.{AssembleFault}
-use Rattle.lr_segment.specs.declared.fault.AssembleFault.TheVariants.{
-  Empty as NoWhole,
-  TooLarge as LargeWhole,
-  Depths as OtherDepth,
-  Outside as PastWhole,
-  NoMemory as NoMemory',
-}
+-- The words for why no PGM can be put, and why an image is not coded anew.
+use Rattle.std.specs.Prelude.{ℕ, List, codes}
 use Rattle.lr_causes.specs.declared.fault.CodingFault.{CodingFault}
 use Rattle.lr_causes.specs.declared.fault.CodingFault.TheVariants.{
   Depth as BelowFive,
@@ -53,31 +28,6 @@ use Rattle.lr_causes.specs.declared.fault.ExportFault.TheVariants.{
 }
 
 -- ---- no PGM
-
--- of an image; want of memory is none
-abbrev pub image_fault : ImageFault → Option ExportFault
-image_fault (Headers' cause) = Some Headers
-image_fault (NotImage' kind) = Some NotImage
-image_fault NoStructure' = Some NoStructure
-image_fault Encrypted' = Some Encrypted
-image_fault (Compression' value) = Some Compression
-image_fault (Depth' bits) = Some Depth
-image_fault Empty' = Some Empty
-image_fault (TooLarge' pixels) = Some TooLarge
-image_fault (Flags' flags) = Some Flags
-image_fault (BlockSize' block) = Some BlockSize
-image_fault LinesPerPacket' = Some LinesPerPacket
-image_fault (Rice' piece rice) = Some Rice
-image_fault (Short' pixels) = Some Short
-image_fault NoMemory = None
-
--- of segments that are put together; want of memory is none
-abbrev pub assembly_fault : AssembleFault → Option ExportFault
-assembly_fault NoWhole = Some Empty
-assembly_fault (LargeWhole pixels) = Some TooLarge
-assembly_fault (OtherDepth kept given) = Some Depths
-assembly_fault PastWhole = Some Outside
-assembly_fault NoMemory' = None
 
 abbrev pub fault_word : ExportFault → List ℕ
 fault_word Headers = codes "headers"

@@ -2,9 +2,6 @@
 use crate::fault::{BundleFlaw, CodingFault, ExportFault};
 use crate::note::Note;
 use lr_bits::NoMemory;
-use lr_image::ImageFault;
-use lr_segment::AssembleFault;
-use lr_shelf::ShelfError;
 
 /// Who failed, and counted it.
 #[derive(Clone, Copy)]
@@ -98,7 +95,7 @@ impl Cause {
     }
 
     /// No PGM can be put for this fault; without one memory was refused.
-    fn of_fault(fault: Option<ExportFault>) -> Self
+    pub fn of_fault(fault: Option<ExportFault>) -> Self
         ensures { result ≡ cause_of_fault fault }
     {
         match fault {
@@ -116,51 +113,5 @@ impl From<NoMemory> for Cause {
 
     fn from(_: NoMemory) -> Self {
         Cause::NoMemory
-    }
-}
-
-impl From<ShelfError> for Cause {
-    ghost use Rattle.std.specs.Prelude.{◌≡◌};
-    ghost use Rattle.lr_causes.specs.Causes.{cause_of};
-
-    ghost from_gives = { λ error cause. cause ≡ cause_of error };
-
-    fn from(error: ShelfError) -> Self {
-        match error {
-            ShelfError::Disk | ShelfError::Failed => Cause::Failed(Party::Disk),
-            ShelfError::NotAShelf { at } => Cause::Refused(Refusal::NotAShelf { at }),
-            ShelfError::NotEmpty { length } => Cause::Refused(Refusal::NotEmpty { length }),
-            ShelfError::Capacity { needed, capacity } => {
-                Cause::Refused(Refusal::Capacity { needed, capacity })
-            }
-            ShelfError::NoSuchFile { count } => Cause::Refused(Refusal::NoSuchFile { count }),
-            ShelfError::Crc { .. } => Cause::Refused(Refusal::BadChecksum),
-            ShelfError::NoMemory => Cause::NoMemory,
-            ShelfError::Discarded => Cause::Refused(Refusal::Discarded),
-        }
-    }
-}
-
-impl From<ImageFault> for Cause {
-    ghost use Rattle.std.specs.Prelude.{◌≡◌};
-    ghost use Rattle.lr_causes.specs.Causes.{cause_of_fault};
-    ghost use Rattle.lr_causes.specs.Faults.{image_fault};
-
-    ghost from_gives = { λ fault cause. cause ≡ cause_of_fault (image_fault fault) };
-
-    fn from(fault: ImageFault) -> Self {
-        Cause::of_fault(ExportFault::of_image(fault))
-    }
-}
-
-impl From<AssembleFault> for Cause {
-    ghost use Rattle.std.specs.Prelude.{◌≡◌};
-    ghost use Rattle.lr_causes.specs.Causes.{cause_of_fault};
-    ghost use Rattle.lr_causes.specs.Faults.{assembly_fault};
-
-    ghost from_gives = { λ fault cause. cause ≡ cause_of_fault (assembly_fault fault) };
-
-    fn from(fault: AssembleFault) -> Self {
-        Cause::of_fault(ExportFault::of_assembly(fault))
     }
 }

@@ -1,6 +1,4 @@
 //! Why no PGM can be put, why an image isn't coded anew, and why bytes are no bundle of recordings.
-use lr_image::ImageFault;
-use lr_segment::AssembleFault;
 
 /// Why no PGM can be put: the fault of an image or of an assembly, without its values, or that no segment was met.
 #[derive(Clone, Copy)]
@@ -41,42 +39,7 @@ pub enum ExportFault {
 
 impl ExportFault {
     ghost use Rattle.std.specs.Prelude.{◌≡◌};
-    ghost use Rattle.lr_causes.specs.Faults.{assembly_fault, image_fault, fault_word};
-
-    /// The fault of an image; want of memory is none.
-    pub fn of_image(fault: ImageFault) -> Option<Self>
-        ensures { result ≡ image_fault fault }
-    {
-        match fault {
-            ImageFault::Headers(_) => Some(ExportFault::Headers),
-            ImageFault::NotImage { .. } => Some(ExportFault::NotImage),
-            ImageFault::NoStructure => Some(ExportFault::NoStructure),
-            ImageFault::Encrypted => Some(ExportFault::Encrypted),
-            ImageFault::Compression { .. } => Some(ExportFault::Compression),
-            ImageFault::Depth { .. } => Some(ExportFault::Depth),
-            ImageFault::Empty => Some(ExportFault::Empty),
-            ImageFault::TooLarge { .. } => Some(ExportFault::TooLarge),
-            ImageFault::Flags { .. } => Some(ExportFault::Flags),
-            ImageFault::BlockSize { .. } => Some(ExportFault::BlockSize),
-            ImageFault::LinesPerPacket => Some(ExportFault::LinesPerPacket),
-            ImageFault::Rice { .. } => Some(ExportFault::Rice),
-            ImageFault::Short { .. } => Some(ExportFault::Short),
-            ImageFault::NoMemory => None,
-        }
-    }
-
-    /// The fault of an assembly; want of memory is none.
-    pub fn of_assembly(fault: AssembleFault) -> Option<Self>
-        ensures { result ≡ assembly_fault fault }
-    {
-        match fault {
-            AssembleFault::Empty => Some(ExportFault::Empty),
-            AssembleFault::TooLarge { .. } => Some(ExportFault::TooLarge),
-            AssembleFault::Depths { .. } => Some(ExportFault::Depths),
-            AssembleFault::Outside => Some(ExportFault::Outside),
-            AssembleFault::NoMemory => None,
-        }
-    }
+    ghost use Rattle.lr_causes.specs.Faults.{fault_word};
 
     /// Its word on `err`.
     pub fn word(self) -> &'static str

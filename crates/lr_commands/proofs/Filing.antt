@@ -46,7 +46,7 @@ use Rattle.lr_causes.specs.declared.cause.Refusal.TheVariants.{NotAShelf, BadChe
 use Rattle.lr_causes.specs.declared.cause.Cause.{Cause}
 use Rattle.lr_commands.specs.declared.opened.Opened.{Opened}
 use Rattle.lr_commands.specs.Asked.{Asked, IsLooked, Seen, Whole, Wrong, Absent}
-use Rattle.lr_causes.specs.Causes.{cause_of}
+use Rattle.lr_refusals.specs.Errors.{cause_of}
 use Rattle.lr_commands.specs.Files.{AskedOfFiles, asked_of_files, files_of}
 use Rattle.lr_commands.specs.Runs.{Counted, counts_of}
 use Rattle.lr_commands.specs.Steps.{PutsText, TextStops, TakesEntry, EntryStops}

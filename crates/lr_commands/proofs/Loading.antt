@@ -62,7 +62,8 @@ use Rattle.lr_commands.specs.Asked.{
   done_answer,
   refused_answer,
 }
-use Rattle.lr_causes.specs.Causes.{Counts, cause_of}
+use Rattle.lr_causes.specs.Causes.{Counts}
+use Rattle.lr_refusals.specs.Errors.{cause_of}
 use Rattle.lr_commands.specs.Runs.{
   Counted,
   PutsFirst,

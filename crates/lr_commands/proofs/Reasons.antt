@@ -75,7 +75,7 @@ use Rattle.lr_commands.specs.Asked.{
 }
 use Rattle.lr_commands.specs.Export.{export_asked}
 use Rattle.lr_commands.specs.Extract.{extract_asked}
-use Rattle.lr_causes.specs.Faults.{image_fault}
+use Rattle.lr_refusals.specs.Errors.{image_fault}
 use Rattle.lr_commands.specs.Files.{one_entry, refused_for}
 use Rattle.lr_commands.specs.Laws.{HasReasons, ExtractHasReasons, HasExportReasons, ExportHasReasons, SaysWhy}
 use Rattle.lr_commands.specs.Laws.{OneFilePutsOneText, VerifyHasReasons}

@@ -37,7 +37,7 @@ use Rattle.lr_shelf.specs.declared.error.ShelfError.TheVariants.{
   Failed as Failed',
   Discarded as Discarded',
 }
-use Rattle.lr_causes.specs.Faults.{image_fault}
+use Rattle.lr_refusals.specs.Errors.{image_fault}
 use Rattle.lr_causes.specs.Puts.{Puts, PutFails}
 use Rattle.lr_causes.specs.declared.fault.CodingFault.TheVariants.{Depth, Line, Header, File as LongFile}
 use Rattle.lr_causes.specs.declared.fault.ExportFault.{ExportFault}
@@ -47,7 +47,8 @@ use Rattle.lr_causes.specs.declared.cause.Refusal.TheVariants.{NotAShelf, NoSuch
 use Rattle.lr_causes.specs.declared.cause.Refusal.TheVariants.{Capacity, CannotExport, CannotRepack}
 use Rattle.lr_causes.specs.declared.cause.Cause.{Cause}
 use Rattle.lr_causes.specs.declared.cause.Cause.TheVariants.{Done, Failed, NoMemory, Refused}
-use Rattle.lr_causes.specs.Causes.{Counts, cause_of}
+use Rattle.lr_causes.specs.Causes.{Counts}
+use Rattle.lr_refusals.specs.Errors.{cause_of}
 use Rattle.lr_commands.specs.Adding.{Addition, Fits, MayEndAdding, RunsAdding, way_added}
 use Rattle.lr_commands.specs.Asked.{entry_at}
 use Rattle.lr_commands.specs.Repack.{

@@ -19,7 +19,7 @@ use Rattle.lr_causes.specs.declared.note.Note.{Note}
 use Rattle.lr_causes.specs.declared.note.Note.TheVariants.{Assembled}
 use Rattle.lr_commands.specs.declared.opened.Opened.{Opened}
 use Rattle.lr_commands.specs.Asked.{Asked}
-use Rattle.lr_causes.specs.Faults.{assembly_fault}
+use Rattle.lr_refusals.specs.Errors.{assembly_fault}
 use Rattle.lr_commands.specs.Files.{AskedOfFiles, asked_of_files, entries_between, no_text, refused_for}
 
 -- ---- the segments of an image

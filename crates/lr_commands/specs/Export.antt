@@ -5,7 +5,7 @@ use Rattle.lr_image.specs.Picture.{Picture}
 use Rattle.lr_image.specs.declared.fault.ImageFault.{ImageFault}
 use Rattle.lr_causes.specs.declared.cause.Refusal.{Refusal}
 use Rattle.lr_commands.specs.Asked.{Asked}
-use Rattle.lr_causes.specs.Faults.{image_fault}
+use Rattle.lr_refusals.specs.Errors.{image_fault}
 use Rattle.lr_commands.specs.declared.opened.Opened.{Opened}
 use Rattle.lr_commands.specs.Files.{asked_of_files, asked_of_one, no_text, refused_for}
 

@@ -11,7 +11,7 @@ use Rattle.lr_shelf_format.specs.declared.stored.Stored.{Stored}
 use Rattle.lr_commands.specs.Asked.{Asked, Answer, entry_at, IsAnswer, IsBegun, IsRefusedFor, PutsOneText, done_answer}
 use Rattle.lr_commands.specs.Export.{export_asked}
 use Rattle.lr_commands.specs.Extract.{extract_asked}
-use Rattle.lr_causes.specs.Faults.{image_fault}
+use Rattle.lr_refusals.specs.Errors.{image_fault}
 use Rattle.lr_commands.specs.Files.{asked_of_files, asked_of_one}
 use Rattle.lr_commands.specs.declared.opened.Opened.{Opened}
 use Rattle.lr_causes.specs.declared.cause.Refusal.{Refusal}

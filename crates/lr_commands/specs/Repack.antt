@@ -10,7 +10,7 @@ use Rattle.lr_rice_coder.specs.Refusals.{HasRepackOutcome, HasRepackFault}
 use Rattle.lr_rice_coder.specs.declared.fault.RepackFault.{RepackFault}
 use Rattle.lr_rice_coder.specs.declared.fault.RepackFault.TheVariants as fault
 use Rattle.lr_catalog.specs.Repacks.{repack_line}
-use Rattle.lr_causes.specs.Faults.{image_fault}
+use Rattle.lr_refusals.specs.Errors.{image_fault}
 use Rattle.lr_causes.specs.declared.cause.Cause.{Cause}
 use Rattle.lr_causes.specs.declared.cause.Cause.TheVariants.{NoMemory, Refused}
 use Rattle.lr_causes.specs.declared.cause.Refusal.{Refusal}

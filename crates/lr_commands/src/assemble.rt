@@ -17,6 +17,7 @@ use lr_disk::Disk;
 use lr_headers::{HeaderFault, Records, Segment};
 use lr_image::Image;
 use lr_io::Sink;
+use lr_refusals::assembly_cause;
 use lr_segment::Assembly;
 use lr_shelf::{Shelf, Stored};
 use std::alloc::Global;
@@ -61,11 +62,11 @@ fn first_assembly(alloc: Global, image: &Image, segment: &Segment) -> Result<Ass
 {
     let mut assembly = match Assembly::new(alloc, segment, image.bits()) {
         Ok(assembly) => assembly,
-        Err(fault) => return Err(Cause::from(fault)),
+        Err(fault) => return Err(assembly_cause(fault)),
     };
     match assembly.add(image, segment) {
         Ok(()) => Ok(assembly),
-        Err(fault) => Err(Cause::from(fault)),
+        Err(fault) => Err(assembly_cause(fault)),
     }
 }
 
@@ -88,7 +89,7 @@ fn assembly_with(
     };
     match assembly.add(image, segment) {
         Ok(()) => Ok(assembly),
-        Err(fault) => Err(Cause::from(fault)),
+        Err(fault) => Err(assembly_cause(fault)),
     }
 }
 

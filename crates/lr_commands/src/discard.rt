@@ -6,6 +6,7 @@ use lr_catalog::discard_line;
 use lr_causes::{Cause, put_text};
 use lr_disk::Disk;
 use lr_io::Sink;
+use lr_refusals::shelf_cause;
 use lr_shelf::Shelf;
 use std::alloc::Global;
 
@@ -20,10 +21,10 @@ pub fn discard<D: Disk, O: Sink>(alloc: Global, number: u64, disk: &mut D, out: 
     }
     let mut shelf = match Shelf::load(alloc, disk) {
         Ok(shelf) => shelf,
-        Err(error) => return Cause::from(error),
+        Err(error) => return shelf_cause(error),
     };
     if let Err(error) = shelf.discard(disk, number) {
-        return Cause::from(error);
+        return shelf_cause(error);
     }
     match put_text(line.as_slice(), out) {
         Ok(()) => Cause::Done,

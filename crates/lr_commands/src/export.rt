@@ -8,6 +8,7 @@ use crate::pgm::put_pgm;
 use lr_causes::Cause;
 use lr_disk::Disk;
 use lr_io::Sink;
+use lr_refusals::image_cause;
 use std::alloc::Global;
 
 #[derive(Drop)]
@@ -34,7 +35,7 @@ impl PutsFile for Exporting {
     ) -> Result<(), Cause> {
         match &opened.image {
             Some(Ok(image)) => put_pgm(alloc, image, out),
-            Some(Err(fault)) => Err(Cause::from(*fault)),
+            Some(Err(fault)) => Err(image_cause(*fault)),
             None => Ok(()),
         }
     }

@@ -11,6 +11,7 @@ use lr_causes::{Cause, Note};
 use lr_disk::Disk;
 use lr_image::{Image, ImageFault, image_of};
 use lr_io::Sink;
+use lr_refusals::shelf_cause;
 use lr_shelf::{Shelf, ShelfError, Stored};
 use std::alloc::Global;
 
@@ -156,7 +157,7 @@ impl<C: ReadsFiles> ReadsEntries for Files<C> {
             },
             Err(error) => match error {
                 ShelfError::Discarded => self.0.gone_entry(alloc, number, out),
-                refused => Err(Cause::from(refused)),
+                refused => Err(shelf_cause(refused)),
             },
         }
     }

@@ -10,6 +10,7 @@ use lr_catalog::repack_line;
 use lr_causes::{Cause, CodingFault, Refusal, put_text};
 use lr_disk::Disk;
 use lr_io::Sink;
+use lr_refusals::{image_cause, shelf_cause};
 use lr_rice_coder::RepackFault;
 use lr_shelf::{Shelf, Stored};
 use std::alloc::Global;
@@ -40,7 +41,7 @@ fn coding_cause(fault: RepackFault) -> Cause
     ensures { result ≡ refusal_cause (repack_refusal fault) }
 {
     match fault {
-        RepackFault::Image(fault) => Cause::from(fault),
+        RepackFault::Image(fault) => image_cause(fault),
         RepackFault::Depth { .. } => Cause::Refused(Refusal::CannotRepack(CodingFault::Depth)),
         RepackFault::Line { .. } => Cause::Refused(Refusal::CannotRepack(CodingFault::Line)),
         RepackFault::Header { .. } => Cause::Refused(Refusal::CannotRepack(CodingFault::Header)),
@@ -90,18 +91,18 @@ pub fn repack<D: Disk, O: Sink>(
 {
     let mut shelf = match Shelf::load(alloc, disk) {
         Ok(shelf) => shelf,
-        Err(error) => return Cause::from(error),
+        Err(error) => return shelf_cause(error),
     };
     let stored = match shelf.get(disk, number) {
         Ok(stored) => stored,
-        Err(error) => return Cause::from(error),
+        Err(error) => return shelf_cause(error),
     };
     let made = match code_stored(alloc, number, shelf.len(), block, stored) {
         Ok(made) => made,
         Err(cause) => return cause,
     };
     if let Err(error) = shelf.append(disk, &made.placed) {
-        return Cause::from(error);
+        return shelf_cause(error);
     }
     match put_text(made.line.as_slice(), out) {
         Ok(()) => Cause::Done,

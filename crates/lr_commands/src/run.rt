@@ -9,6 +9,7 @@ use crate::reads::ReadsEntries;
 use lr_causes::{Cause, Note, Refusal};
 use lr_disk::Disk;
 use lr_io::Sink;
+use lr_refusals::shelf_cause;
 use lr_shelf::Shelf;
 use std::alloc::Global;
 
@@ -64,7 +65,7 @@ pub fn run_entries<C: ReadsEntries, D: Disk, O: Sink>(
     };
     let mut shelf = match Shelf::load(alloc, disk) {
         Ok(shelf) => shelf,
-        Err(error) => return Cause::from(error),
+        Err(error) => return shelf_cause(error),
     };
     match take_entries(alloc, command, gathered, &mut shelf, disk, out) {
         Ok(note) => Cause::done_with(note),

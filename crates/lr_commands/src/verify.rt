@@ -14,6 +14,7 @@ use lr_catalog::check_line;
 use lr_causes::{Cause, Note, Refusal, put_text};
 use lr_disk::Disk;
 use lr_io::Sink;
+use lr_refusals::shelf_cause;
 use lr_shelf::{Shelf, ShelfError};
 use std::alloc::Global;
 
@@ -71,7 +72,7 @@ impl ReadsEntries for VerifyAll {
                     put_check(alloc, number, Some((stored, computed)), out)
                 }
                 ShelfError::Discarded => put_gone(alloc, number, out),
-                refused => Err(Cause::from(refused)),
+                refused => Err(shelf_cause(refused)),
             },
         }
     }

@@ -13,7 +13,8 @@ use Rattle.lr_conv.specs.Marker.{tail_of}
 use Rattle.lr_conv.specs.declared.line.LineCode.{LineCode}
 use Rattle.lr_frame.proofs.Given.{all_outcomes, outcomes_stay}
 use Rattle.lr_frame.specs.Outcomes.{outcome_in, outcome_of_window, outcomes_of_symbols}
-use Rattle.lr_layers.specs.Layers.{is_restored, numbers_of, Numbers}
+use Rattle.lr_bits.specs.Outcomes.{is_restored}
+use Rattle.lr_layers.specs.Layers.{numbers_of, Numbers}
 use Rattle.lr_layers.specs.Origins.{placed_of_outcomes, placed_packets}
 use Rattle.lr_layers.specs.Standing.{AddsFiles, Kept, StandsFor as LayersStandFor}
 use Rattle.lr_lock.proofs.Bytes.{length-symbols_of, symbols_of-append}

@@ -19,63 +19,16 @@ use Rattle.lr_shelf.specs.Shelf.{HasEitherWay, IsSettled, IsShelfOf, KeepsWay}
 use Rattle.lr_shelf.specs.declared.error.ShelfError.{ShelfError}
 use Rattle.lr_shelf.specs.declared.error.ShelfError.TheVariants.{Disk}
 use Rattle.lr_shelf.specs.declared.shelf.Shelf.{Shelf}
-use Rattle.lr_downlinks.specs.Since.{HasAppended, HasFrontWay, MayHaveAppended, way_with_files}
-
--- ---- ways
-
-pub way_with_files-push : (files : List Placed) (placed : Placed) (way : Way)
-    → way_with_files (files ++ placed ∷ []) way ≡ way_with (head_of_item (item_for placed)) (way_with_files files way)
-way_with_files-push [] placed way = refl
-way_with_files-push (first ∷ files) placed way =
-    way_with_files-push files placed (way_with (head_of_item (item_for first)) way)
-
-pub capacity_stays : (files : List Placed) (way : Way) → (way_with_files files way).capacity ≡ way.capacity
-capacity_stays [] way = refl
-capacity_stays (placed ∷ files) way = capacity_stays files (way_with (head_of_item (item_for placed)) way)
-
-pub end_later : (files : List Placed) (way : Way) → way.end ≤ (way_with_files files way).end
-end_later [] way = omega arith
-end_later (placed ∷ files) way = omega (arith, end_later files (way_with (head_of_item (item_for placed)) way))
-
-pub end_more : (files : List Placed) (placed : Placed) (way : Way)
-    → (way_with_files (files ++ placed ∷ []) way).end
-    ≡ (way_with_files files way).end + 1 + extent_of (head_of_item (item_for placed))
-end_more files placed way = ap (λ (w : Way). w.end) (way_with_files-push files placed way)
-
-pub entries_after_files : (files : List Placed) (way : Way)
-    → length (way_with_files files way).entries ≡ length way.entries + length files
-entries_after_files [] way = omega arith
-entries_after_files (placed ∷ files) way =
-    omega (
-      arith,
-      entries_after_files files (way_with (head_of_item (item_for placed)) way),
-      length-append way.entries (record {
-        gate = way.end - 1;
-        extent = extent_of (head_of_item (item_for placed));
-        gone = false;
-      } ∷ []),
-    )
-
-pub front_all : (way : Way) (files : List Placed) (c : List ℕ) → IsWay c (way_with_files files way)
-    → HasFrontWay way files c
-front_all way files c is = record { first = files; rest = []; split = sym (append-nil files); is_way = is }
-
--- also with one more
-pub front_more : (way : Way) (files : List Placed) (placed : Placed) (c : List ℕ) → HasFrontWay way files c
-    → HasFrontWay way (files ++ placed ∷ []) c
-front_more way files placed c front = record {
-  first = front.first;
-  rest = front.rest ++ placed ∷ [];
-  split = ap (λ (l : List Placed). l ++ placed ∷ []) front.split
-      ∙ append_assoc front.first front.rest (placed ∷ []);
-  is_way = front.is_way;
+use Rattle.lr_shelf.specs.Fronts.{HasFrontWay, way_with_files}
+use Rattle.lr_shelf.proofs.Fronts.{
+  either_front,
+  end_later,
+  end_more,
+  front_all,
+  front_more,
+  way_with_files-push,
 }
-
-pub either_front : (way : Way) (files : List Placed) (placed : Placed) (c : List ℕ)
-    → HasEitherWay (way_with_files files way) (item_for placed) c → HasFrontWay way (files ++ placed ∷ []) c
-either_front way files placed c (inl is) = front_more way files placed c (front_all way files c is)
-either_front way files placed c (inr is) =
-    front_all way (files ++ placed ∷ []) c (subst (IsWay c) (sym (way_with_files-push files placed way)) is)
+use Rattle.lr_downlinks.specs.Since.{HasAppended, MayHaveAppended}
 
 -- ---- what stays outside
 

@@ -26,9 +26,11 @@ use Rattle.lr_downlinks.specs.Appending.{
 }
 use Rattle.lr_downlinks.specs.Books.{BeginsRun, BookView, Keeps, StandsOver, Works, WorksOrBroke}
 use Rattle.lr_downlinks.specs.Merge.{IsNextOf, times_in_order}
-use Rattle.lr_downlinks.specs.Since.{HasAppended, way_with_files}
+use Rattle.lr_shelf.specs.Fronts.{way_with_files}
+use Rattle.lr_downlinks.specs.Since.{HasAppended}
 use Rattle.lr_downlinks.specs.Start.{Start, files_in, merged}
-use Rattle.lr_downlinks.proofs.Growing.{none_appended, one_appended, one_failed, settled_one, way_with_files-push}
+use Rattle.lr_shelf.proofs.Fronts.{way_with_files-push}
+use Rattle.lr_downlinks.proofs.Growing.{none_appended, one_appended, one_failed, settled_one}
 use Rattle.lr_downlinks.proofs.Merging.{merge-none, merge-push, order_more, order_none}
 
 -- ---- books

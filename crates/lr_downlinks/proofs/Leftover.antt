@@ -40,10 +40,10 @@ use Rattle.lr_downlinks.specs.Appending.{AppendsFile, AppendsNext, IsSameBook, W
 use Rattle.lr_downlinks.specs.Books.{BookView, IsBookOf}
 use Rattle.lr_downlinks.specs.Ending.{DoesNotFitAt, EndsWith, GoesOn, IsLeftAt}
 use Rattle.lr_downlinks.specs.Merge.{times_in_order}
-use Rattle.lr_downlinks.specs.Since.{way_with_files}
+use Rattle.lr_shelf.specs.Fronts.{way_with_files}
 use Rattle.lr_downlinks.specs.Start.{Start, files_in, merged}
 use Rattle.lr_downlinks.specs.declared.run.RunEnd.TheVariants.{Capacity as EndCapacity}
-use Rattle.lr_downlinks.proofs.Growing.{capacity_stays, end_more}
+use Rattle.lr_shelf.proofs.Fronts.{capacity_stays, end_more}
 use Rattle.lr_downlinks.proofs.Merging.{times-later, times-same}
 
 module _ {D : Type 0} (disk : DiskOf D) (start : Start) (downlink : ℕ) (old new : BookView D) where

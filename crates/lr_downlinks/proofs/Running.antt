@@ -29,7 +29,7 @@ use Rattle.lr_downlinks.specs.Streams.{files_of_downlink}
 use Rattle.lr_downlinks.specs.declared.member.Member.{Member}
 use Rattle.lr_downlinks.specs.declared.run.RunEnd.{RunEnd}
 use Rattle.lr_downlinks.specs.declared.run.RunEnd.TheVariants.{All, Disk, NoMemory, Capacity}
-use Rattle.lr_downlinks.proofs.Growing.{entries_after_files}
+use Rattle.lr_shelf.proofs.Fronts.{entries_after_files}
 use Rattle.lr_downlinks.proofs.Merging.{get-merge, has_file, length-merge, merge-none}
 use Rattle.lr_downlinks.proofs.Room.{full_where_all_do_not_fit}
 

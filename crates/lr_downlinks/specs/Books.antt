@@ -9,7 +9,8 @@ use Rattle.lr_shelf.specs.Kept.{kept_by}
 use Rattle.lr_shelf.specs.Shelf.{IsSettled, IsShelfOf}
 use Rattle.lr_shelf.specs.declared.shelf.Shelf.{Shelf}
 use Rattle.lr_downlinks.specs.Merge.{IsNextOf, IsOrder}
-use Rattle.lr_downlinks.specs.Since.{HasAppended, MayHaveAppended, way_with_files}
+use Rattle.lr_shelf.specs.Fronts.{way_with_files}
+use Rattle.lr_downlinks.specs.Since.{HasAppended, MayHaveAppended}
 use Rattle.lr_downlinks.specs.Start.{Start, files_in, merged}
 use Rattle.lr_downlinks.specs.declared.sizes.TheConstants.{MOST_DOWNLINKS}
 

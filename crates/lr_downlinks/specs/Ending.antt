@@ -10,7 +10,7 @@ use Rattle.lr_shelf.specs.declared.error.ShelfError.TheVariants.{
 use Rattle.lr_downlinks.specs.Books.{BookView}
 use Rattle.lr_downlinks.specs.Merge.{IsWhole, times_in_order}
 use Rattle.lr_downlinks.specs.Runs.{NextDoesNotFitBy}
-use Rattle.lr_downlinks.specs.Since.{way_with_files}
+use Rattle.lr_shelf.specs.Fronts.{way_with_files}
 use Rattle.lr_downlinks.specs.Start.{Start, files_in, merged}
 use Rattle.lr_downlinks.specs.declared.run.RunEnd.{RunEnd}
 use Rattle.lr_downlinks.specs.declared.run.RunEnd.TheVariants.{All, Disk, NoMemory, Capacity}

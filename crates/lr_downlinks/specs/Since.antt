@@ -4,26 +4,15 @@ use Rattle.lr_bits.specs.Faults.{Rose}
 use Rattle.lr_bits.specs.declared.placed.Placed.{Placed}
 use Rattle.lr_disk.specs.Disk.{LeavesOnly, Only}
 use Rattle.lr_disk.specs.declared.disk.Disk.{Ghosts as DiskOf}
-use Rattle.lr_shelf_format.specs.Items.{Item, head_of_item}
-use Rattle.lr_shelf_format.specs.Way.{IsWay, Way, way_with}
+use Rattle.lr_shelf_format.specs.Items.{Item}
+use Rattle.lr_shelf_format.specs.Way.{IsWay}
 use Rattle.lr_shelf.specs.Adding.{StaysOutside}
 use Rattle.lr_shelf.specs.Adds.{last_gate}
 use Rattle.lr_shelf.specs.Append.{item_for}
+use Rattle.lr_shelf.specs.Fronts.{HasFrontWay, way_with_files}
 use Rattle.lr_shelf.specs.Kept.{kept_by}
 use Rattle.lr_shelf.specs.Shelf.{HasEitherWay, IsDurable, IsSettled, KeepsWay, StandsForEither}
 use Rattle.lr_shelf.specs.declared.shelf.Shelf.{Shelf}
-
--- the way with the items of these files at its end
-abbrev pub way_with_files : List Placed → Way → Way
-way_with_files [] way = way
-way_with_files (placed ∷ files) way = way_with_files files (way_with (head_of_item (item_for placed)) way)
-
--- the bytes have this way with a front of the files at its end
-pub record HasFrontWay (way : Way) (files : List Placed) (bytes : List ℕ) : Type 0 where
-  pub first : List Placed
-  pub rest : List Placed
-  pub split : files ≡ first ++ rest
-  pub is_way : IsWay bytes (way_with_files first way)
 
 module _ {D : Type 0} (disk : DiskOf D) where
   -- Contents and each crash image stand for the items, or for these and one more.

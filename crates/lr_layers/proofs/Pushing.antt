@@ -28,7 +28,8 @@ use Rattle.lr_layers.specs.declared.starts.Start.{Start}
 use Rattle.lr_layers.specs.declared.starts.Now.{Now}
 use Rattle.lr_layers.specs.Layers.{Numbers, numbers_of, frame_in, frames_of_outcomes, good_of_outcomes}
 use Rattle.lr_layers.specs.Layers.{files_of_outcomes}
-use Rattle.lr_layers.specs.Layers.{is_restored, is_bad_version, is_fill}
+use Rattle.lr_bits.specs.Outcomes.{is_restored}
+use Rattle.lr_layers.specs.Layers.{is_bad_version, is_fill}
 use Rattle.lr_layers.specs.Origins.{PlacedPacket, packet_of, at_place, placed_packets, placed_file}
 use Rattle.lr_layers.specs.Origins.{placed_files_after, placed_of_outcomes, corrected_in}
 use Rattle.lr_layers.specs.Standing.{Kept, StandsFor, AddsFiles}

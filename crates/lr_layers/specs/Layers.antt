@@ -2,6 +2,7 @@
 use Rattle.std.specs.Prelude.{ℕ, Bool, true, false, not, ◌==◌, ◌&&◌, Option, None, List, length, count_by}
 use Rattle.std.specs.List.{filter_map}
 use Rattle.std.specs.Result.{result_ok}
+use Rattle.lr_bits.specs.Outcomes.{is_restored}
 use Rattle.lr_bits.specs.declared.outcome.Outcome.{Outcome}
 use Rattle.lr_bits.specs.declared.outcome.Outcome.TheVariants.{Restored, Lost}
 use Rattle.lr_bits.specs.File.{File}
@@ -26,10 +27,6 @@ good_of_outcomes outcomes = good_packets (packets_of (frames_of_outcomes outcome
 -- the files of the good packets
 unfoldable pub files_of_outcomes : List Outcome → List File
 files_of_outcomes outcomes = files_of_packets (good_of_outcomes outcomes)
-
-abbrev pub is_restored : Outcome → Bool
-is_restored (Restored corrected frame) = true
-is_restored (Lost word) = false
 
 -- a block was restored to a frame of another version
 abbrev pub is_bad_version : Outcome → Bool

@@ -27,7 +27,8 @@ use Rattle.lr_shelf.specs.declared.error.ShelfError.TheVariants.{
   NotAShelf as NotAShelf',
   NoMemory as NoMemory',
 }
-use Rattle.lr_causes.specs.Causes.{Counts, IsCaused, cause_of, counts}
+use Rattle.lr_causes.specs.Causes.{MayEndBefore, Counts, IsCaused, counts}
+use Rattle.lr_refusals.specs.Errors.{cause_of}
 use Rattle.lr_causes.specs.declared.fault.BundleFlaw.{BundleFlaw}
 use Rattle.lr_causes.specs.declared.cause.Cause.{Cause}
 use Rattle.lr_causes.specs.declared.cause.Cause.TheVariants.{Done, Failed, NoMemory, Refused}
@@ -38,13 +39,15 @@ use Rattle.lr_downlinks.specs.Bundles.{IsBundle}
 use Rattle.lr_downlinks.specs.Merge.{IsWhole, merge}
 use Rattle.lr_downlinks.specs.Room.{AllFit}
 use Rattle.lr_downlinks.specs.Runs.{MergeEnds, MergesOver, NextDoesNotFitBy}
-use Rattle.lr_downlinks.specs.Since.{HasAppended, HasFrontWay, way_with_files}
+use Rattle.lr_shelf.specs.Fronts.{HasFrontWay, way_with_files}
+use Rattle.lr_downlinks.specs.Since.{HasAppended}
 use Rattle.lr_downlinks.specs.Streams.{files_of_downlink}
 use Rattle.lr_downlinks.specs.declared.run.Run.{Run}
 use Rattle.lr_downlinks.specs.declared.run.RunEnd.{RunEnd}
 use Rattle.lr_downlinks.specs.declared.run.RunEnd.TheVariants.{All, Disk as DiskFails, NoMemory as NoneLeft, Capacity}
 use Rattle.lr_merging.specs.Downlinks.{AddsMerged, AreCounted, BreaksMerging, DownlinksRun, EndsMerging, GotReceipts}
-use Rattle.lr_merging.specs.Downlinks.{IsBefore, LeavesAllAlone, LeavesAlone, LeavesMerged, MayEndFirst, Merges, NoCountRose}
+use Rattle.lr_causes.specs.Outside.{NoFault, outside, world_of}
+use Rattle.lr_merging.specs.Downlinks.{IsBefore, LeavesAllAlone, LeavesAlone, LeavesMerged, Merges}
 use Rattle.lr_merging.specs.Lines.{receipt_lines, last_line}
 use Rattle.lr_merging.specs.Taking.{AreAllTaken, HasFlaw, StopsTaking, TakesBundle, TakesNone, most_taken}
 use Rattle.lr_merging.specs.Told.{TellsAll, TellsEnd, TellsSome}
@@ -318,7 +321,7 @@ module _ {S D O : Type 0} (source : SourceOf S) (disk : DiskOf D) (out : SinkOf 
         (λ same. subst (λ x. IsUnwritten disk d x) (sym same) (ready.unwritten t)) (over.untouched none);
   }
 
-  pub whole_run : DownlinksRun source disk out line cause s s' d d' o o'
+  pub whole_run : DownlinksRun (world_of source disk out) line cause (outside s d o) (outside s' d' o')
   whole_run = record {
     counted = done_with.counted;
     told_by_disk =
@@ -355,9 +358,9 @@ module _ {S D O : Type 0} (source : SourceOf S) (disk : DiskOf D) (out : SinkOf 
         (counts (source.faults s') (disk.faults d1) (out.faults o))
         → EndsMerging source disk out line bytes s s' d d1 o o cause
         → ((flaw : BundleFlaw) → HasFlaw bytes flaw → (cause ≡ Refused (BadBundle flaw)) ⊎ IsBefore cause)
-        → (NoCountRose source disk out s s' d d1 o o → (streams : List (List ℕ)) → IsBundle bytes streams
+        → (NoFault (world_of source disk out) (outside s d o) (outside s' d1 o) → (streams : List (List ℕ)) → IsBundle bytes streams
         → length bytes < most_taken → (cause ≡ Done) ⊎ (cause ≡ NoMemory))
-        → DownlinksRun source disk out line cause s s' d d1 o o
+        → DownlinksRun (world_of source disk out) line cause (outside s d o) (outside s' d1 o)
     stopped cause counted ends flaws whole = record {
       counted = counted;
       told_by_disk = ready.told;
@@ -376,7 +379,7 @@ module _ {S D O : Type 0} (source : SourceOf S) (disk : DiskOf D) (out : SinkOf 
     same_source (inr full) = full.1
 
     stops_taking : (cause : Cause) → StopsTaking source cause bytes s s'
-        → DownlinksRun source disk out line cause s s' d d1 o o
+        → DownlinksRun (world_of source disk out) line cause (outside s d o) (outside s' d1 o)
     stops_taking (Failed Source) stops =
         stopped (Failed Source) (stops.1, ready.count, refl) (left_alone, stops) (λ flaw has. inr tt)
         (λ no_fault streams bundle few. absurd (no_fault.of_source stops.1))
@@ -390,7 +393,8 @@ module _ {S D O : Type 0} (source : SourceOf S) (disk : DiskOf D) (out : SinkOf 
         (λ no_fault streams bundle few. absurd (stops.3 streams bundle few))
     stops_taking _ stops = absurd stops
 
-  pub not_taken : (cause : Cause) → TakesNone source cause s s' → DownlinksRun source disk out line cause s s' d d1 o o
+  pub not_taken : (cause : Cause) → TakesNone source cause s s'
+      → DownlinksRun (world_of source disk out) line cause (outside s d o) (outside s' d1 o)
   not_taken cause none = stops_taking none.bytes none.read cause none.stops
 
 -- ---- no shelf was loaded
@@ -405,10 +409,10 @@ module _ {S D O : Type 0} (source : SourceOf S) (disk : DiskOf D) (out : SinkOf 
 
   before_all : (cause : Cause) → AreCounted cause (counts (source.faults s) (disk.faults d) (out.faults o))
       (counts (source.faults s) (disk.faults d1) (out.faults o)) → EndsMerging source disk out line [] s s d d1 o o cause
-      → ((at : ℕ) → disk.tells d → IsNoShelfAt (disk.contents d) at → MayEndFirst at cause) → IsBefore cause
-      → (NoCountRose source disk out s s d d1 o o → (way : Way) → disk.tells d → IsWay (disk.contents d) way
+      → ((at : ℕ) → disk.tells d → IsNoShelfAt (disk.contents d) at → MayEndBefore at cause) → IsBefore cause
+      → (NoFault (world_of source disk out) (outside s d o) (outside s d1 o) → (way : Way) → disk.tells d → IsWay (disk.contents d) way
       → (cause ≡ Done) ⊎ (cause ≡ NoMemory))
-      → DownlinksRun source disk out line cause s s d d1 o o
+      → DownlinksRun (world_of source disk out) line cause (outside s d o) (outside s d1 o)
   before_all cause counted ends places before whole = record {
     counted = counted;
     told_by_disk = loads.calls.told;
@@ -424,7 +428,7 @@ module _ {S D O : Type 0} (source : SourceOf S) (disk : DiskOf D) (out : SinkOf 
   by_error : (error : ShelfError) → IsCounted {A = Shelf} (disk.faults d) (disk.faults d1) (Err error)
       → IsLoadRefusal disk d error
       → ((at : ℕ) → disk.tells d → IsNoShelfAt (disk.contents d) at → MayRefuseAt at error)
-      → DownlinksRun source disk out line (cause_of error) s s d d1 o o
+      → DownlinksRun (world_of source disk out) line (cause_of error) (outside s d o) (outside s d1 o)
   by_error Disk' counted refusal places =
       before_all (Failed Disk) (counted.1, refl) (inl untouched) (λ at t no. tt) tt
       (λ no_fault way t is. absurd (no_fault.of_disk counted.1))
@@ -436,7 +440,7 @@ module _ {S D O : Type 0} (source : SourceOf S) (disk : DiskOf D) (out : SinkOf 
   by_error _ counted refusal places = absurd refusal
 
   pub not_loaded : (error : ShelfError) → result ≡ Err error
-      → DownlinksRun source disk out line (cause_of error) s s d d1 o o
+      → DownlinksRun (world_of source disk out) line (cause_of error) (outside s d o) (outside s d1 o)
   not_loaded error is =
       by_error error
       (subst (λ (r : Result Shelf ShelfError). IsCounted (disk.faults d) (disk.faults d1) r) is loads.calls.counted)

@@ -14,7 +14,8 @@ use Rattle.lr_shelf.specs.Adding.{StaysOutside}
 use Rattle.lr_shelf.specs.Append.{item_for}
 use Rattle.lr_shelf.specs.Shelf.{HasEitherWay, IsDurable}
 use Rattle.lr_forms.specs.declared.forms.Stop.TheVariants.{End, Fault}
-use Rattle.lr_causes.specs.Causes.{Counts, counts}
+use Rattle.lr_causes.specs.Causes.{Counts, MayEndBefore}
+use Rattle.lr_causes.specs.Outside.{NoFault, Outside, World, counts_in}
 use Rattle.lr_causes.specs.Puts.{Puts, PutFails}
 use Rattle.lr_causes.specs.declared.fault.BundleFlaw.{BundleFlaw}
 use Rattle.lr_causes.specs.declared.cause.Cause.{Cause}
@@ -26,7 +27,8 @@ use Rattle.lr_downlinks.specs.Merge.{IsNextOf, IsOrder, IsWhole, merge}
 use Rattle.lr_downlinks.specs.Receipts.{HasFileAt, receipt_at}
 use Rattle.lr_downlinks.specs.Room.{AllFit}
 use Rattle.lr_downlinks.specs.Runs.{NextDoesNotFitBy}
-use Rattle.lr_downlinks.specs.Since.{HasFrontWay, HoldsEither, way_with_files}
+use Rattle.lr_shelf.specs.Fronts.{HasFrontWay, way_with_files}
+use Rattle.lr_downlinks.specs.Since.{HoldsEither}
 use Rattle.lr_downlinks.specs.Streams.{files_of_downlink}
 use Rattle.lr_merging.specs.Lines.{receipt_lines, last_line}
 use Rattle.lr_merging.specs.Taking.{AreAllTaken, HasFlaw, most_taken}
@@ -44,14 +46,6 @@ AreCounted NoMemory before now = (now.source ≡ before.source) × (now.disk ≡
 AreCounted (Refused (Capacity needed capacity)) before now =
     (now.source ≡ before.source) × (now.disk ≡ before.disk)
 AreCounted cause before now = now ≡ before
-
--- the causes that come before any byte is read: the disk failed, no shelf stands there at this place, or memory was
--- refused
-abbrev pub MayEndFirst : ℕ → Cause → Type 0
-MayEndFirst at (Failed Disk) = Unit {0}
-MayEndFirst at (Refused (NotAShelf at')) = at' ≡ at
-MayEndFirst at NoMemory = Unit {0}
-MayEndFirst at _ = ⊥
 
 -- the causes that come before a bundle is there: the same at any place, and that the source failed
 abbrev pub IsBefore : Cause → Type 0
@@ -173,30 +167,25 @@ module _ {S D O : Type 0} (source : SourceOf S) (disk : DiskOf D) (out : SinkOf 
     EndsMerging (Refused (BadBundle flaw)) = LeavesAlone d d' o o' × HasFlaw bytes flaw × AreAllTaken source bytes s s'
     EndsMerging _ = ⊥
 
-  -- no count rose
-  pub record NoCountRose (s s' : S) (d d' : D) (o o' : O) : Type 0 where
-    pub of_source : Rose (source.faults s) (source.faults s') → ⊥
-    pub of_disk : Rose (disk.faults d) (disk.faults d') → ⊥
-    pub of_out : Rose (out.faults o) (out.faults o') → ⊥
-
-  -- the whole call, over every disk
-  pub record DownlinksRun (line : LineCode) (cause : Cause) (s s' : S) (d d' : D) (o o' : O) : Type 0 where
-    pub counted : AreCounted cause (counts (source.faults s) (disk.faults d) (out.faults o))
-        (counts (source.faults s') (disk.faults d') (out.faults o'))
-    pub told_by_disk : disk.tells d → disk.tells d'
-    pub told_by_out : out.tells o → out.tells o'
-    -- these bytes were taken
-    pub bytes : List ℕ
-    pub read : IsRead source most_taken bytes s s'
-    pub ends : EndsMerging line bytes s s' d d' o o' cause
-    -- a disk on which no shelf stands is refused, and nothing is touched
-    pub broken : (at : ℕ) → disk.tells d → IsNoShelfAt (disk.contents d) at
-        → MayEndFirst at cause × LeavesAllAlone s s' d d' o o'
-    -- bytes that are no bundle are refused for their flaw, unless an event came before
-    pub flawed : (flaw : BundleFlaw) → AreAllTaken source bytes s s' → HasFlaw bytes flaw
-        → (cause ≡ Refused (BadBundle flaw)) ⊎ IsBefore cause
-    -- where no count rises, the bytes are a bundle, and all files of its downlinks fit, the work is done or memory was
-    -- refused
-    pub complete : NoCountRose s s' d d' o o' → (streams : List (List ℕ)) → IsBundle bytes streams
-        → length bytes < most_taken → (way : Way) → disk.tells d → IsWay (disk.contents d) way
-        → AllFit (length streams) (files_of_downlink line streams) way → (cause ≡ Done) ⊎ (cause ≡ NoMemory)
+-- the whole call, over every disk
+pub record DownlinksRun {S D O : Type 0} (world : World S D O) (line : LineCode) (cause : Cause) (w w' : Outside S D O)
+    : Type 0 where
+  pub counted : AreCounted cause (counts_in world w) (counts_in world w')
+  pub told_by_disk : world.disk.tells w.disk → world.disk.tells w'.disk
+  pub told_by_out : world.out.tells w.out → world.out.tells w'.out
+  -- these bytes were taken
+  pub bytes : List ℕ
+  pub read : IsRead world.source most_taken bytes w.source w'.source
+  pub ends : EndsMerging world.source world.disk world.out line bytes w.source w'.source w.disk w'.disk w.out w'.out cause
+  -- a disk on which no shelf stands is refused, and nothing is touched
+  pub broken : (at : ℕ) → world.disk.tells w.disk → IsNoShelfAt (world.disk.contents w.disk) at
+      → MayEndBefore at cause
+      × LeavesAllAlone world.source world.disk world.out w.source w'.source w.disk w'.disk w.out w'.out
+  -- bytes that are no bundle are refused for their flaw, unless an event came before
+  pub flawed : (flaw : BundleFlaw) → AreAllTaken world.source bytes w.source w'.source → HasFlaw bytes flaw
+      → (cause ≡ Refused (BadBundle flaw)) ⊎ IsBefore cause
+  -- where no count rises, the bytes are a bundle, and all files of its downlinks fit, the work is done or memory was
+  -- refused
+  pub complete : NoFault world w w' → (streams : List (List ℕ)) → IsBundle bytes streams
+      → length bytes < most_taken → (way : Way) → world.disk.tells w.disk → IsWay (world.disk.contents w.disk) way
+      → AllFit (length streams) (files_of_downlink line streams) way → (cause ≡ Done) ⊎ (cause ≡ NoMemory)

@@ -1,5 +1,6 @@
 //! The command.
 ghost use Rattle.std.specs.Prelude.{◌≡◌};
+ghost use Rattle.lr_causes.specs.Outside.{outside, world_of};
 ghost use Rattle.lr_downlinks.specs.Runs.{MergesOver};
 ghost use Rattle.lr_downlinks.specs.Streams.{files_of_downlink};
 ghost use Rattle.lr_merging.specs.Downlinks.{DownlinksRun};
@@ -12,6 +13,7 @@ use lr_conv::LineCode;
 use lr_disk::Disk;
 use lr_downlinks::{Bundle, Run, RunEnd, run_downlinks};
 use lr_io::{Sink, Source};
+use lr_refusals::shelf_cause;
 use lr_shelf::Shelf;
 use std::alloc::Global;
 use std::sync::Wait;
@@ -67,11 +69,12 @@ pub fn downlinks<R: Threads + Wait + Sync, S: Source, D: Disk + Send, O: Sink>(
     disk: &mut D,
     out: &mut O,
 ) -> Cause
-    ensures { DownlinksRun S.Source D.Disk O.Sink line result source.old source.new disk.old disk.new out.old out.new }
+    ensures { DownlinksRun (world_of S.Source D.Disk O.Sink) line result
+        (outside source.old disk.old out.old) (outside source.new disk.new out.new) }
 {
     let shelf = match Shelf::load(alloc, disk) {
         Ok(shelf) => shelf,
-        Err(error) => return Cause::from(error),
+        Err(error) => return shelf_cause(error),
     };
     let bundle = match take_bundle(alloc, source) {
         Ok(bundle) => bundle,

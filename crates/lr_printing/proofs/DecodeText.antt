@@ -9,7 +9,7 @@ use Rattle.lr_lock.specs.FramesOf.{frames_of}
 use Rattle.lr_lock.specs.Symbols.{symbols_of}
 use Rattle.lr_io.specs.declared.source.Source.{Ghosts as SourceOf}
 use Rattle.lr_io.specs.declared.sink.Sink.{Ghosts as SinkOf}
-use Rattle.lr_layers.specs.Layers.{is_restored}
+use Rattle.lr_bits.specs.Outcomes.{is_restored}
 use Rattle.lr_catalog.specs.declared.summary.Summary.TheVariants.{Decode}
 use Rattle.lr_catalog.specs.Summaries.{summary_line}
 use Rattle.lr_causes.specs.declared.cause.Cause.{Cause}

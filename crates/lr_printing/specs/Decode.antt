@@ -1,7 +1,7 @@
 -- What `decode` prints of the bytes read.
 use Rattle.std.specs.Prelude.{ℕ, ℤ, not, List, length, count_by}
 use Rattle.lr_bits.specs.declared.outcome.Outcome.{Outcome}
-use Rattle.lr_layers.specs.Layers.{is_restored}
+use Rattle.lr_bits.specs.Outcomes.{is_restored}
 use Rattle.lr_forms.specs.declared.forms.Stop.{Stop}
 use Rattle.lr_catalog.specs.declared.summary.Summary.TheVariants.{Decode}
 use Rattle.lr_catalog.specs.Outcomes.{block_line, window_line}

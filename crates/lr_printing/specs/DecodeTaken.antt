@@ -1,7 +1,7 @@
 -- How far `decode` has come. No clause of a public call cites this.
 use Rattle.std.specs.Prelude.{◌≡◌, List, length, count_by}
 use Rattle.lr_io.specs.declared.sink.Sink.{Ghosts as SinkOf}
-use Rattle.lr_layers.specs.Layers.{is_restored}
+use Rattle.lr_bits.specs.Outcomes.{is_restored}
 use Rattle.lr_causes.specs.declared.cause.Cause.{Cause}
 use Rattle.lr_causes.specs.Puts.{Puts}
 use Rattle.lr_reading.specs.Arrivals.{outcomes_of_arrivals}

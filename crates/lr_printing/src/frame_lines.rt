@@ -1,6 +1,6 @@
 //! `frames`: a line for each transfer frame.
 ghost use Rattle.std.specs.Prelude.{◌≡◌, ◌<◌, ◌^◌, List, ℕ, IfOk, IfErr, IsOk, false};
-ghost use Rattle.lr_layers.specs.Layers.{is_restored};
+ghost use Rattle.lr_bits.specs.Outcomes.{is_restored};
 ghost use Rattle.lr_catalog.specs.Summaries.{summary_line};
 ghost use Rattle.lr_reading.specs.Runs.{ReadsInput};
 ghost use Rattle.lr_forms.specs.declared.forms.Input.TheVariants.{Units};
@@ -87,7 +87,8 @@ fn put_each_frame<S: Source, O: Sink>(
         × ReadsInput S.Source (Units Frames) reader.most totals bytes source.old source.new
         × Puts O.Sink (frames_text bytes) out.old out.new) }
     ensures stopped { IfErr result (λ cause.
-        Prints S.Source O.Sink frames_text frames_last reader.most cause source.old source.new out.old out.new) }
+        Prints S.Source O.Sink frames_text frames_last reader.most cause source.old source.new
+        out.old out.new) }
 {
     let mut lines = FrameLines {
         alloc,
@@ -100,10 +101,11 @@ fn put_each_frame<S: Source, O: Sink>(
 
 fn put_last<O: Sink>(alloc: Global, totals: &Totals, out: &mut O) -> Result<(), Cause>
     ensures put { IfOk result (λ _. Puts O.Sink
-        (summary_line (Summary.Frames totals.now.frames totals.now.left) totals.now.stop) out.old out.new) }
+        (summary_line (Summary.Frames totals.now.frames totals.now.left) totals.now.stop)
+        out.old out.new) }
     ensures stopped { IfErr result
-        (λ cause. PutStops O.Sink (summary_line (Summary.Frames totals.now.frames totals.now.left) totals.now.stop)
-        cause out.old out.new) }
+        (λ cause. PutStops O.Sink (summary_line (Summary.Frames totals.now.frames totals.now.left)
+        totals.now.stop) cause out.old out.new) }
 {
     let mut line = Bytes::new(alloc);
     let summary = Summary::Frames {
@@ -120,10 +122,11 @@ fn put_frames<S: Source, O: Sink>(
     source: &mut S,
     out: &mut O,
 ) -> Result<Stop, Cause>
-    ensures all { IfOk result (λ stop. PrintsAll S.Source O.Sink frames_text frames_last most stop source.old
-        source.new out.old out.new) }
+    ensures all { IfOk result (λ stop. PrintsAll S.Source O.Sink frames_text frames_last most stop
+        source.old source.new out.old out.new) }
     ensures stopped { IfErr result
-        (λ cause. Prints S.Source O.Sink frames_text frames_last most cause source.old source.new out.old out.new) }
+        (λ cause. Prints S.Source O.Sink frames_text frames_last most cause source.old source.new
+        out.old out.new) }
 {
     let input = Input::Units(UnitForm::Frames);
     let reader = Reader::<FrameWork>::new(alloc, input, 1, most, &())?;
@@ -134,7 +137,8 @@ fn put_frames<S: Source, O: Sink>(
 
 /// A line for each frame of the source, and a last line. At most `most` bytes are taken.
 pub fn frames<S: Source, O: Sink>(alloc: Global, most: u64, source: &mut S, out: &mut O) -> Cause
-    ensures { Prints S.Source O.Sink frames_text frames_last most result source.old source.new out.old out.new }
+    ensures { Prints S.Source O.Sink frames_text frames_last most result source.old source.new
+        out.old out.new }
 {
     match put_frames(alloc, most, source, out) {
         Ok(stop) => cause_at(stop),

@@ -1,6 +1,6 @@
 //! `decode`: a line for what became of each window or block.
 ghost use Rattle.std.specs.Prelude.{◌≡◌, ◌≤◌, ◌<◌, ◌+◌, ◌-◌, ◌^◌, ◌++◌, List, [], ℕ, IfOk, IfErr, OnOk, count_by, cond};
-ghost use Rattle.lr_layers.specs.Layers.{is_restored};
+ghost use Rattle.lr_bits.specs.Outcomes.{is_restored};
 ghost use Rattle.lr_catalog.specs.Summaries.{summary_line};
 ghost use Rattle.lr_reading.specs.Inputs.{outcomes_of_bytes};
 ghost use Rattle.lr_reading.specs.Leading.{MayLead, Leads};
@@ -90,8 +90,8 @@ fn put_outcome<O: Sink>(
     arrival: &Arrival,
     out: &mut O,
 ) -> Result<(), Cause>
-    ensures put { IfOk result (λ _. Puts O.Sink (outcome_text place arrival.now.position arrival.now.outcome)
-        out.old out.new) }
+    ensures put { IfOk result (λ _. Puts O.Sink (outcome_text place arrival.now.position
+        arrival.now.outcome) out.old out.new) }
     ensures stopped { IfErr result (λ cause. PutStops O.Sink
         (outcome_text place arrival.now.position arrival.now.outcome) cause out.old out.new) }
 {
@@ -115,7 +115,8 @@ fn put_each_outcome<
     read: F,
 ) -> Result<(Totals, u64), Cause>
     requires ready { MayLead (F.pre read) (OutcomesTook O.Sink) }
-    requires leads { Leads (F.post read) S.Source (OutcomesTook O.Sink) (OutcomesStopped O.Sink) input most }
+    requires leads { Leads (F.post read) S.Source (OutcomesTook O.Sink) (OutcomesStopped O.Sink)
+        input most }
     ensures all { IfOk result (λ sums. (bytes : List ℕ)
         × ReadsInput S.Source input most sums.0 bytes source.old source.new
         × (sums.1 ≡ count_by is_restored (outcomes_of_bytes input bytes))
@@ -168,9 +169,10 @@ fn decode_with<
     F: FnOnce(&mut S, &mut OutcomeLines<'_, O>) -> Result<Totals, Cause>,
 >(alloc: Global, input: Input, most: u64, source: &mut S, out: &mut O, read: F) -> Cause
     requires ready { MayLead (F.pre read) (OutcomesTook O.Sink) }
-    requires leads { Leads (F.post read) S.Source (OutcomesTook O.Sink) (OutcomesStopped O.Sink) input most }
-    ensures { Prints S.Source O.Sink (decode_text input) (decode_last input) most result source.old source.new
-        out.old out.new }
+    requires leads { Leads (F.post read) S.Source (OutcomesTook O.Sink) (OutcomesStopped O.Sink)
+        input most }
+    ensures { Prints S.Source O.Sink (decode_text input) (decode_last input) most result
+        source.old source.new out.old out.new }
 {
     let (totals, restored) = match put_each_outcome(alloc, input, most, source, out, read) {
         Ok(sums) => sums,
@@ -192,8 +194,8 @@ pub fn decode<S: Source, O: Sink>(
     out: &mut O,
 ) -> Cause
     requires few { most ≤ 2 ^ 48 }
-    ensures { Prints S.Source O.Sink (decode_text input) (decode_last input) most result source.old source.new
-        out.old out.new }
+    ensures { Prints S.Source O.Sink (decode_text input) (decode_last input) most result
+        source.old source.new out.old out.new }
 {
     let reader = match Reader::<FrameWork>::new(alloc, input, 1, most, &()) {
         Ok(reader) => reader,
@@ -208,8 +210,8 @@ pub fn decode<S: Source, O: Sink>(
         |source, lines| -> Result<Totals, Cause>
             requires { ((reader.workers ≡ 1) × (reader.most ≤ 2 ^ 48))
                 × ((first : _) × OutcomesTook O.Sink first [] lines.old) }
-            ensures { IsLed S.Source (OutcomesTook O.Sink) reader.input reader.most (OutcomesStopped O.Sink) result
-                source.old source.new lines.old lines.new }
+            ensures { IsLed S.Source (OutcomesTook O.Sink) reader.input reader.most
+                (OutcomesStopped O.Sink) result source.old source.new lines.old lines.new }
         { reader.read_alone(source, lines) },
     )
 }
@@ -227,8 +229,8 @@ pub fn decode_by_team<R: Threads + Wait + Sync, H: Hand, S: Source, O: Sink>(
 ) -> Cause
     requires few { most ≤ 2 ^ 48 }
     requires workers { (1 ≤ workers) × (workers ≤ 64) }
-    ensures { Prints S.Source O.Sink (decode_text input) (decode_last input) most result source.old source.new
-        out.old out.new }
+    ensures { Prints S.Source O.Sink (decode_text input) (decode_last input) most result
+        source.old source.new out.old out.new }
 {
     let reader = match Reader::<H>::new(alloc, input, workers, most, tools) {
         Ok(reader) => reader,
@@ -241,9 +243,10 @@ pub fn decode_by_team<R: Threads + Wait + Sync, H: Hand, S: Source, O: Sink>(
         source,
         out,
         |source, lines| -> Result<Totals, Cause>
-            requires { (reader.most ≤ 2 ^ 48) × ((first : _) × OutcomesTook O.Sink first [] lines.old) }
-            ensures { IsLed S.Source (OutcomesTook O.Sink) reader.input reader.most (OutcomesStopped O.Sink) result
-                source.old source.new lines.old lines.new }
+            requires { (reader.most ≤ 2 ^ 48) × ((first : _)
+                × OutcomesTook O.Sink first [] lines.old) }
+            ensures { IsLed S.Source (OutcomesTook O.Sink) reader.input reader.most
+                (OutcomesStopped O.Sink) result source.old source.new lines.old lines.new }
         { reader.read(rt, source, lines) },
     )
 }

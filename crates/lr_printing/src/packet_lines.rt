@@ -148,7 +148,8 @@ fn read_packets(
         → OnOk result (StandsFor channels.new (frames_read (frames ++ frame.now ∷ []))) }
     ensures packets { (frames : List (List ℕ)) → StandsFor channels.old (frames_read frames)
         → OnOk result (packets.new.items ≡ packets.old.items ++ packets_added frames frame.now) }
-    ensures few { OnOk result (length packets.new.items ≤ length packets.old.items + MOST_ENDING_PACKETS) }
+    ensures few { OnOk result (length packets.new.items ≤ length packets.old.items
+        + MOST_ENDING_PACKETS) }
 {
     match TransferFrame::read(frame) {
         Ok(frame) => channels.push(&frame, packets),
@@ -171,7 +172,8 @@ fn put_frame<O: Sink>(
     ensures put { (frames : List (List ℕ)) → IsAfter channels.old counted.old frames
         → OnOk result (Puts O.Sink (lines_added frames frame.now) out.old out.new) }
     ensures stopped { (frames : List (List ℕ)) → IsAfter channels.old counted.old frames
-        → IfErr result (λ cause. PutStops O.Sink (lines_added frames frame.now) cause out.old out.new) }
+        → IfErr result (λ cause. PutStops O.Sink (lines_added frames frame.now) cause
+        out.old out.new) }
     ensures few { OnOk result (counted.new.packets ≤ counted.old.packets + MOST_ENDING_PACKETS) }
     // A frame of another version takes no memory, and nothing is put.
     ensures succeeds { IsErr (frame_of frame.now) → IfErr result (λ cause. cause ≢ NoMemory') }
@@ -200,9 +202,11 @@ fn put_each_packet<S: Source, O: Sink>(
     requires few { reader.most < 2 ^ 64 }
     ensures all { IfOk result (λ sums. (bytes : List ℕ)
         × ReadsInput S.Source (Units Frames) reader.most sums.0 bytes source.old source.new
-        × IsCounted sums.1 (units_of 892 bytes) × Puts O.Sink (packets_text bytes) out.old out.new) }
+        × IsCounted sums.1 (units_of 892 bytes) × Puts O.Sink (packets_text bytes)
+        out.old out.new) }
     ensures stopped { IfErr result (λ cause.
-        Prints S.Source O.Sink packets_text packets_last reader.most cause source.old source.new out.old out.new) }
+        Prints S.Source O.Sink packets_text packets_last reader.most cause source.old source.new
+        out.old out.new) }
 {
     let mut channels = Channels::new(alloc);
     let mut packets = Vec::new(alloc);
@@ -227,11 +231,12 @@ fn put_last<O: Sink>(
     out: &mut O,
 ) -> Result<(), Cause>
     ensures put { (frames : List (List ℕ)) → IsCounted counted frames
-        → IfOk result (λ _. Puts O.Sink (packets_count frames totals.now.frames totals.now.left totals.now.stop)
-        out.old out.new) }
+        → IfOk result (λ _. Puts O.Sink (packets_count frames totals.now.frames totals.now.left
+        totals.now.stop) out.old out.new) }
     ensures stopped { (frames : List (List ℕ)) → IsCounted counted frames
         → IfErr result (λ cause. PutStops O.Sink
-        (packets_count frames totals.now.frames totals.now.left totals.now.stop) cause out.old out.new) }
+        (packets_count frames totals.now.frames totals.now.left totals.now.stop) cause
+        out.old out.new) }
 {
     let mut line = Bytes::new(alloc);
     let summary = Summary::Packets {
@@ -250,10 +255,11 @@ fn put_packets<S: Source, O: Sink>(
     source: &mut S,
     out: &mut O,
 ) -> Result<Stop, Cause>
-    ensures all { IfOk result (λ stop. PrintsAll S.Source O.Sink packets_text packets_last most stop source.old
-        source.new out.old out.new) }
+    ensures all { IfOk result (λ stop. PrintsAll S.Source O.Sink packets_text packets_last most stop
+        source.old source.new out.old out.new) }
     ensures stopped { IfErr result
-        (λ cause. Prints S.Source O.Sink packets_text packets_last most cause source.old source.new out.old out.new) }
+        (λ cause. Prints S.Source O.Sink packets_text packets_last most cause source.old source.new
+        out.old out.new) }
 {
     let input = Input::Units(UnitForm::Frames);
     let reader = Reader::<FrameWork>::new(alloc, input, 1, most, &())?;
@@ -265,7 +271,8 @@ fn put_packets<S: Source, O: Sink>(
 /// A line for each packet of the frames of the source, and a last line. At most `most` bytes are
 /// taken.
 pub fn packets<S: Source, O: Sink>(alloc: Global, most: u64, source: &mut S, out: &mut O) -> Cause
-    ensures { Prints S.Source O.Sink packets_text packets_last most result source.old source.new out.old out.new }
+    ensures { Prints S.Source O.Sink packets_text packets_last most result source.old source.new
+        out.old out.new }
 {
     match put_packets(alloc, most, source, out) {
         Ok(stop) => cause_at(stop),

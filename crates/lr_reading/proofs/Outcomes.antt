@@ -25,7 +25,7 @@ use Rattle.std.specs.Prelude.{◌==◌, count_by, cond, if◌then◌else◌}
 use Rattle.std.proofs.lemmas.List.Sums.{sum_by-cons}
 use Rattle.lr_bits.specs.declared.outcome.Outcome.{Outcome}
 use Rattle.lr_vc.specs.Frame.{Fields, frame_of, fields_of, version_of}
-use Rattle.lr_layers.specs.Layers.{is_restored}
+use Rattle.lr_bits.specs.Outcomes.{is_restored}
 
 -- an outcome is restored or lost
 pub both_kinds : (outcomes : List Outcome) → count_by is_restored outcomes

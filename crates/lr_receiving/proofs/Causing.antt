@@ -25,7 +25,8 @@ use Rattle.lr_forms.specs.declared.forms.Stop.TheVariants.{End, Limit, Fault}
 use Rattle.lr_causes.specs.declared.cause.Cause.{Cause}
 use Rattle.lr_causes.specs.declared.cause.Cause.TheVariants.{Done, Failed, NoMemory}
 use Rattle.lr_causes.specs.declared.cause.Party.TheVariants.{Source, Disk, Output}
-use Rattle.lr_causes.specs.Causes.{Counts, IsCaused, cause_at, cause_of, counts}
+use Rattle.lr_causes.specs.Causes.{Counts, IsCaused, cause_at, counts}
+use Rattle.lr_refusals.specs.Errors.{cause_of}
 use Rattle.lr_causes.specs.Puts.{PutStops}
 use Rattle.lr_reading.specs.Reading.{EndsFor}
 use Rattle.lr_receiving.specs.First.{IsFirst}

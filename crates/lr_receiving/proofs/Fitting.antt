@@ -49,7 +49,7 @@ use Rattle.lr_reading.specs.Inputs.{outcomes_of_bytes}
 use Rattle.lr_receiving.specs.Inputs.{files_of_bytes}
 use Rattle.lr_make.specs.Symbols.{bytes_of_symbols}
 use Rattle.lr_receiving.specs.Made.{made_bytes}
-use Rattle.lr_receiving.specs.Shelving.{with_files}
+use Rattle.lr_shelf.specs.Grounds.{with_files}
 use Rattle.lr_receiving.specs.Trial.{trial_capacity}
 
 -- ---- symbols in bytes

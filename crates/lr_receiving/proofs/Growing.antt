@@ -1,7 +1,6 @@
 -- Over every disk: where a shelf ends after more files, and whether there was room for them.
 use Rattle.std.proofs.Common.{◌≡◌, inl, inr, ◌≤◌, ℕ, List, [], ◌∷◌, ◌++◌, min, refl, sym, ap, ◌∙◌}
 use Rattle.std.proofs.Common.{subst, arith, append_assoc, append-nil}
-use Rattle.std.proofs.lemmas.List.Sums.{sum_by-append}
 use Rattle.lr_bits.specs.declared.placed.Placed.{Placed}
 use Rattle.lr_shelf_format.specs.Way.{Way}
 use Rattle.lr_shelf.specs.Append.{item_for}
@@ -10,12 +9,10 @@ use Rattle.lr_shelf.specs.declared.shelf.Shelf.{Shelf}
 use Rattle.lr_causes.specs.declared.cause.Cause.{Cause}
 use Rattle.lr_causes.specs.declared.cause.Cause.TheVariants.{NoMemory, Refused}
 use Rattle.lr_causes.specs.declared.cause.Refusal.TheVariants.{Capacity}
-use Rattle.lr_receiving.specs.Onto.{room_for, end_with, HasRoom, IsFullWith}
+use Rattle.lr_shelf.specs.Fronts.{HasRoom, end_with}
+use Rattle.lr_shelf.proofs.Fronts.{end_with-append}
+use Rattle.lr_receiving.specs.Onto.{IsFullWith}
 use Rattle.lr_receiving.specs.Shelved.{Grows, GrowsNoMore}
-
--- more files end later
-pub end_with-append : (end : ℕ) (xs ys : List Placed) → end_with end (xs ++ ys) ≡ end_with (end_with end xs) ys
-end_with-append end xs ys = omega (arith, sum_by-append room_for xs ys)
 
 -- there is one file
 pub some : (xs : List Placed) (x : Placed) (ys : List Placed) → xs ++ x ∷ ys ≡ [] → ⊥

@@ -30,10 +30,9 @@ use Rattle.lr_bits.specs.declared.placed.Placed.{Placed}
 use Rattle.lr_io.specs.declared.source.Source.{Ghosts as SourceOf}
 use Rattle.lr_io.specs.declared.sink.Sink.{Ghosts as SinkOf}
 use Rattle.lr_disk.specs.declared.disk.Disk.{Ghosts as DiskOf}
-use Rattle.lr_shelf_format.specs.ShelfBytes.{StandsForShelf, end_of}
+use Rattle.lr_shelf_format.specs.ShelfBytes.{end_of}
 use Rattle.lr_shelf_format.specs.Items.{Item, extent_of, head_of_item}
 use Rattle.lr_shelf.specs.Append.{item_for}
-use Rattle.lr_shelf.specs.Shelf.{IsDurable}
 use Rattle.lr_catalog.specs.Files.{shelved_line}
 use Rattle.lr_causes.specs.declared.cause.Cause.{Cause}
 use Rattle.lr_causes.specs.declared.cause.Cause.TheVariants.{Done, Failed, NoMemory, Refused}
@@ -41,17 +40,32 @@ use Rattle.lr_causes.specs.declared.cause.Party.TheVariants.{Source, Disk, Outpu
 use Rattle.lr_causes.specs.declared.cause.Refusal.TheVariants.{Capacity}
 use Rattle.lr_forms.specs.declared.forms.Input.{Input}
 use Rattle.lr_receiving.specs.Inputs.{files_of_bytes}
-use Rattle.lr_receiving.specs.Shelving.{
-  with_files,
+use Rattle.lr_shelf.specs.Grounds.{
+  Ground,
+  OfItems,
+  OfWay,
+  AllHaveRoom,
+  HoldsStill,
+  SomeLackRoom,
+  StandsWith,
+  capacity_of,
+  end_with_files,
   next_number,
+  with_files,
+}
+use Rattle.lr_shelf.specs.Fronts.{end_with}
+use Rattle.lr_receiving.specs.Shelving.{
   shelved_lines,
   StandsForFront,
   StandsForOneFileMore,
   LeavesFronts,
   HoldsFront,
 }
-use Rattle.lr_receiving.specs.Receive.{NoFault, Ends, Receives}
-use Rattle.lr_receiving.proofs.Shelving.{with_files-append}
+use Rattle.lr_causes.specs.Outside.{NoFault, outside, world_of}
+use Rattle.lr_receiving.specs.Receive.{IsWorkDone, Ends, Receives}
+use Rattle.lr_shelf.proofs.Grounds.{with_files-append}
+use Rattle.lr_shelf.proofs.Fronts.{end_with-append}
+use Rattle.lr_receiving.proofs.Growing.{some}
 use Rattle.lr_receiving.proofs.ShelvedLines.{shelved_lines-none, shelved_lines-cons, shelved_lines-push, line-some}
 
 -- lists that begin alike: the one with no more text has no more lines
@@ -83,10 +97,35 @@ no_more n (w ∷ whole) (x ∷ done) r1 r2 same le =
     )) in
     omega (arith, next)
 
+-- ---- room
+
 -- more items end no earlier
 pub end_of-append : (xs ys : List Item) → end_of xs ≤ end_of (xs ++ ys)
 end_of-append xs ys =
     let size : Item → ℕ = λ item. extent_of (head_of_item item) + 1 in omega (arith, sum_by-append size xs ys)
+
+-- where the next file doesn't fit there is no room for all
+lacks_room : (ground : Ground) (done : List Placed) (next : Placed) (rest : List Placed)
+    → capacity_of ground < end_with_files ground (done ++ next ∷ []) → AllHaveRoom ground (done ++ next ∷ rest) → ⊥
+lacks_room (OfItems capacity items) done next rest over fits =
+    let all : with_files items (done ++ next ∷ rest)
+    ≡ with_files items (done ++ next ∷ []) ++ map item_for rest =
+    ap (with_files items) (sym (append_assoc done (next ∷ []) rest))
+    ∙ with_files-append items (done ++ next ∷ []) rest in
+    let le = subst (λ (l : List Item). end_of (with_files items (done ++ next ∷ [])) ≤ end_of l) (sym all)
+    (end_of-append (with_files items (done ++ next ∷ [])) (map item_for rest)) in
+    omega (arith, le, fits, over)
+lacks_room (OfWay way old) done next rest over (inl none) = some done next rest none
+lacks_room (OfWay way old) done next rest over (inr fits) =
+    let all : end_with way.end (done ++ next ∷ rest) ≡ end_with (end_with way.end (done ++ next ∷ [])) rest =
+    ap (end_with way.end) (sym (append_assoc done (next ∷ []) rest))
+    ∙ end_with-append way.end (done ++ next ∷ []) rest in
+    omega (arith, all, fits, over)
+
+not_both : (ground : Ground) (files : List Placed) → AllHaveRoom ground files → SomeLackRoom ground files → ⊥
+not_both (OfItems capacity items) files fits over = omega (arith, fits, over)
+not_both (OfWay way old) files (inl none) lacks = lacks.0 none
+not_both (OfWay way old) files (inr fits) lacks = omega (arith, fits, lacks.1)
 
 -- a text that went out whole
 no_longer : (old new got a b : List ℕ) → new ≡ old ++ got → new ≡ old ++ (a ++ b) → length a ≤ length got
@@ -100,9 +139,9 @@ no_longer old new got a b first second =
       length-append a b,
     )
 
-module _ {D : Type 0} (disk : DiskOf D) (capacity : ℕ) (before : List Item) (files : List Placed) (d : D) where
+module _ {D : Type 0} (disk : DiskOf D) (ground : Ground) (files : List Placed) (d : D) where
   holds : (first rest : List Placed) (n : ℕ) → files ≡ first ++ rest → n ≤ length first
-      → IsDurable disk capacity (with_files before first) d → HoldsFront disk capacity before files n d
+      → HoldsStill ground first disk d → HoldsFront disk ground files n d
   holds first rest n split enough durable = record {
     contents = record { first = first; rest = rest; split = split; enough = enough; stands = durable.stands };
     images = λ c image. record {
@@ -110,13 +149,13 @@ module _ {D : Type 0} (disk : DiskOf D) (capacity : ℕ) (before : List Item) (f
       rest = rest;
       split = split;
       enough = enough;
-      stands = subst (λ (l : List ℕ). StandsForShelf l capacity (with_files before first))
+      stands = subst (λ (l : List ℕ). StandsWith ground first l)
           (sym (durable.durable c image)) durable.stands;
     };
   }
 
   front_of : (done rest : List Placed) (n : ℕ) (bytes : List ℕ) → files ≡ done ++ rest → n ≤ length done
-      → StandsForOneFileMore capacity before done rest bytes → StandsForFront capacity before files n bytes
+      → StandsForOneFileMore ground done rest bytes → StandsForFront ground files n bytes
   front_of done rest n bytes split enough (inl s) =
       record { first = done; rest = rest; split = split; enough = enough; stands = s }
   front_of done rest n bytes split enough (inr more) = record {
@@ -128,109 +167,109 @@ module _ {D : Type 0} (disk : DiskOf D) (capacity : ℕ) (before : List Item) (f
   }
 
 -- as many files are there as whole lines went out
-module _ (before : List Item) (files whole rest : List Placed) (split : files ≡ whole ++ rest) where
+module _ (ground : Ground) (files whole rest : List Placed) (split : files ≡ whole ++ rest) where
   acknowledged : (first more : List Placed) (old new got text : List ℕ) → files ≡ first ++ more
-      → new ≡ old ++ got → length got ≤ length (shelved_lines (next_number before) first)
-      → new ≡ old ++ (shelved_lines (next_number before) whole ++ text) → length whole ≤ length first
+      → new ≡ old ++ got → length got ≤ length (shelved_lines (next_number ground) first)
+      → new ≡ old ++ (shelved_lines (next_number ground) whole ++ text) → length whole ≤ length first
   acknowledged first more old new got text known put le whole_put =
-      no_more (next_number before) whole first rest more (sym split ∙ known)
-      (omega (arith, le, no_longer old new got (shelved_lines (next_number before) whole) text put whole_put))
+      no_more (next_number ground) whole first rest more (sym split ∙ known)
+      (omega (arith, le, no_longer old new got (shelved_lines (next_number ground) whole) text put whole_put))
 
   all_there : length whole ≤ length files
   all_there = omega (arith, ap length split, length-append whole rest)
 
 module _ {S D O : Type 0} (source : SourceOf S) (disk : DiskOf D) (out : SinkOf O) (input : Input)
-    (capacity : ℕ) (before : List Item) (limit : ℕ) (bytes : List ℕ) (s s' : S) (d d' : D) (o o' : O) where
+    (ground : Ground) (limit : ℕ) (bytes : List ℕ) (s s' : S) (d d' : D) (o o' : O) where
   files : List Placed
   files = files_of_bytes input bytes
 
   -- where the last lines are to come, all files are there
   every : (n : ℕ) → n ≤ length (files_of_bytes input bytes)
-      → IsDurable disk capacity (with_files before (files_of_bytes input bytes)) d'
-      → HoldsFront disk capacity before (files_of_bytes input bytes) n d'
-  every n enough durable = holds disk capacity before (files_of_bytes input bytes) d'
+      → HoldsStill ground (files_of_bytes input bytes) disk d'
+      → HoldsFront disk ground (files_of_bytes input bytes) n d'
+  every n enough durable = holds disk ground (files_of_bytes input bytes) d'
       (files_of_bytes input bytes) [] n (sym (append-nil (files_of_bytes input bytes))) enough durable
 
   module _ (whole rest : List Placed) (text : List ℕ) (told : out.tells o) (split : files_of_bytes input bytes
       ≡ whole ++ rest) (put : out.contents o' ≡ out.contents o
-      ++ (shelved_lines (next_number before) whole ++ text)) where
+      ++ (shelved_lines (next_number ground) whole ++ text)) where
     enough_of : (first more : List Placed) (got : List ℕ) → files_of_bytes input bytes ≡ first ++ more
         → out.contents o' ≡ out.contents o ++ got
-        → length got ≤ length (shelved_lines (next_number before) first) → length whole ≤ length first
+        → length got ≤ length (shelved_lines (next_number ground) first) → length whole ≤ length first
     enough_of first more got known got_put le =
-        acknowledged before (files_of_bytes input bytes) whole rest split first more (out.contents o)
+        acknowledged ground (files_of_bytes input bytes) whole rest split first more (out.contents o)
         (out.contents o') got text known got_put le put
 
-    every_one : IsDurable disk capacity (with_files before (files_of_bytes input bytes)) d'
-        → HoldsFront disk capacity before (files_of_bytes input bytes) (length whole) d'
-    every_one durable = every (length whole) (all_there before (files_of_bytes input bytes) whole rest split) durable
+    every_one : HoldsStill ground (files_of_bytes input bytes) disk d'
+        → HoldsFront disk ground (files_of_bytes input bytes) (length whole) d'
+    every_one durable = every (length whole) (all_there ground (files_of_bytes input bytes) whole rest split) durable
 
-    held : (cause : Cause) → Ends source disk out input capacity before limit bytes cause s s' d d' o o'
-        → HoldsFront disk capacity before (files_of_bytes input bytes) (length whole) d'
+    held : (cause : Cause) → Ends source disk out input ground limit bytes cause s s' d d' o o'
+        → HoldsFront disk ground (files_of_bytes input bytes) (length whole) d'
     held Done (inl e) = every_one e.durable
     held Done (inr e) = every_one e.durable
     held (Failed Source) e = every_one e.durable
     held (Failed Disk) e =
-        let enough = enough_of e.done e.rest (shelved_lines (next_number before) e.done) e.split (e.got told)
+        let enough = enough_of e.done e.rest (shelved_lines (next_number ground) e.done) e.split (e.got told)
         (omega arith) in
         record {
-          contents = front_of disk capacity before (files_of_bytes input bytes) d' e.done e.rest (length whole)
+          contents = front_of disk ground (files_of_bytes input bytes) d' e.done e.rest (length whole)
               (disk.contents d') e.split enough e.contents;
-          images = λ c image. front_of disk capacity before (files_of_bytes input bytes) d' e.done e.rest
+          images = λ c image. front_of disk ground (files_of_bytes input bytes) d' e.done e.rest
               (length whole) c e.split enough (e.images c image);
         }
     held (Failed Output) (inl e) =
         let cut = e.part told in
         let first = e.done ++ e.last ∷ [] in
-        let line = shelved_line (next_number before + length e.done) e.last.file in
-        let got = shelved_lines (next_number before) e.done ++ cut.part in
-        let le : length got ≤ length (shelved_lines (next_number before) first) = omega (
+        let line = shelved_line (next_number ground + length e.done) e.last.file in
+        let got = shelved_lines (next_number ground) e.done ++ cut.part in
+        let le : length got ≤ length (shelved_lines (next_number ground) first) = omega (
           arith,
-          length-append (shelved_lines (next_number before) e.done) cut.part,
+          length-append (shelved_lines (next_number ground) e.done) cut.part,
           cut.shorter,
-          ap length (shelved_lines-push (next_number before) e.done e.last),
-          length-append (shelved_lines (next_number before) e.done) line,
+          ap length (shelved_lines-push (next_number ground) e.done e.last),
+          length-append (shelved_lines (next_number ground) e.done) line,
         ) in
         let put_is : out.contents o' ≡ out.contents o ++ got = cut.put
-        ∙ append_assoc (out.contents o) (shelved_lines (next_number before) e.done) cut.part in
-        holds disk capacity before (files_of_bytes input bytes) d' first e.rest (length whole) e.split
+        ∙ append_assoc (out.contents o) (shelved_lines (next_number ground) e.done) cut.part in
+        holds disk ground (files_of_bytes input bytes) d' first e.rest (length whole) e.split
         (enough_of first e.rest got e.split put_is le) e.durable
     held (Failed Output) (inr e) = every_one e.durable
     held NoMemory e =
-        let enough = enough_of e.done e.rest (shelved_lines (next_number before) e.done) e.split (e.got told)
+        let enough = enough_of e.done e.rest (shelved_lines (next_number ground) e.done) e.split (e.got told)
         (omega arith) in
-        holds disk capacity before (files_of_bytes input bytes) d' e.done e.rest (length whole) e.split enough e.durable
+        holds disk ground (files_of_bytes input bytes) d' e.done e.rest (length whole) e.split enough e.durable
     held (Refused (Capacity needed most)) e =
-        let enough = enough_of e.done (e.next ∷ e.rest) (shelved_lines (next_number before) e.done) e.split
+        let enough = enough_of e.done (e.next ∷ e.rest) (shelved_lines (next_number ground) e.done) e.split
         (e.got told) (omega arith) in
-        holds disk capacity before (files_of_bytes input bytes) d' e.done (e.next ∷ e.rest) (length whole)
+        holds disk ground (files_of_bytes input bytes) d' e.done (e.next ∷ e.rest) (length whole)
         e.split enough e.durable
     held _ e = absurd e
 
-  held_untold : (cause : Cause) → Ends source disk out input capacity before limit bytes cause s s' d d' o o'
-      → HoldsFront disk capacity before (files_of_bytes input bytes) 0 d'
+  held_untold : (cause : Cause) → Ends source disk out input ground limit bytes cause s s' d d' o o'
+      → HoldsFront disk ground (files_of_bytes input bytes) 0 d'
   held_untold Done (inl e) = every 0 (omega arith) e.durable
   held_untold Done (inr e) = every 0 (omega arith) e.durable
   held_untold (Failed Source) e = every 0 (omega arith) e.durable
   held_untold (Failed Disk) e = record {
-    contents = front_of disk capacity before (files_of_bytes input bytes) d' e.done e.rest 0 (disk.contents d')
+    contents = front_of disk ground (files_of_bytes input bytes) d' e.done e.rest 0 (disk.contents d')
         e.split (omega arith) e.contents;
-    images = λ c image. front_of disk capacity before (files_of_bytes input bytes) d' e.done e.rest 0 c e.split
+    images = λ c image. front_of disk ground (files_of_bytes input bytes) d' e.done e.rest 0 c e.split
         (omega arith) (e.images c image);
   }
   held_untold (Failed Output) (inl e) =
-      holds disk capacity before (files_of_bytes input bytes) d' (e.done ++ e.last ∷ []) e.rest 0 e.split
+      holds disk ground (files_of_bytes input bytes) d' (e.done ++ e.last ∷ []) e.rest 0 e.split
       (omega arith) e.durable
   held_untold (Failed Output) (inr e) = every 0 (omega arith) e.durable
-  held_untold NoMemory e = holds disk capacity before (files_of_bytes input bytes) d' e.done e.rest 0 e.split
+  held_untold NoMemory e = holds disk ground (files_of_bytes input bytes) d' e.done e.rest 0 e.split
       (omega arith) e.durable
   held_untold (Refused (Capacity needed most)) e =
-      holds disk capacity before (files_of_bytes input bytes) d' e.done (e.next ∷ e.rest) 0 e.split
+      holds disk ground (files_of_bytes input bytes) d' e.done (e.next ∷ e.rest) 0 e.split
       (omega arith) e.durable
   held_untold _ e = absurd e
 
-  complete : (cause : Cause) → Ends source disk out input capacity before limit bytes cause s s' d d' o o'
-      → NoFault source disk out s s' d d' o o' → end_of (with_files before (files_of_bytes input bytes)) ≤ capacity
+  complete : (cause : Cause) → Ends source disk out input ground limit bytes cause s s' d d' o o'
+      → NoFault (world_of source disk out) (outside s d o) (outside s' d' o') → AllHaveRoom ground (files_of_bytes input bytes)
       → (cause ≡ Done) ⊎ (cause ≡ NoMemory)
   complete Done e quiet fits = inl refl
   complete (Failed Source) e quiet fits = absurd (quiet.of_source e.reason.1)
@@ -239,38 +278,32 @@ module _ {S D O : Type 0} (source : SourceOf S) (disk : DiskOf D) (out : SinkOf 
   complete (Failed Output) (inr e) quiet fits = absurd (quiet.of_out e.rose)
   complete NoMemory e quiet fits = inr refl
   complete (Refused (Capacity needed most)) e quiet fits =
-      let all : with_files before (files_of_bytes input bytes)
-      ≡ with_files before (e.done ++ e.next ∷ []) ++ map item_for e.rest =
-      ap (with_files before) (e.split ∙ sym (append_assoc e.done (e.next ∷ []) e.rest))
-      ∙ with_files-append before (e.done ++ e.next ∷ []) e.rest in
-      let le = subst (λ (l : List Item). end_of (with_files before (e.done ++ e.next ∷ [])) ≤ end_of l) (sym all)
-      (end_of-append (with_files before (e.done ++ e.next ∷ [])) (map item_for e.rest)) in
-      absurd (omega (arith, le, fits, e.needs, e.over))
+      absurd (lacks_room ground e.done e.next e.rest e.over (subst (AllHaveRoom ground) e.split fits))
   complete _ e quiet fits = absurd e
 
-  -- a run that ends well has put all files onto the shelf, so they fit
-  not_done : Ends source disk out input capacity before limit bytes Done s s' d d' o o'
-      → capacity < end_of (with_files before (files_of_bytes input bytes)) → ⊥
-  not_done (inl e) over = omega (arith, e.durable.stands.fits, over)
-  not_done (inr e) over = omega (arith, e.durable.stands.fits, over)
-
-  not_failed : Ends source disk out input capacity before limit bytes (Failed Source) s s' d d' o o'
-      → capacity < end_of (with_files before (files_of_bytes input bytes)) → ⊥
-  not_failed e over = omega (arith, e.durable.stands.fits, over)
-
-  pub receives : (cause : Cause) → LeavesFronts disk capacity before (files_of_bytes input bytes) d d'
-      → Ends source disk out input capacity before limit bytes cause s s' d d' o o'
-      → Receives source disk out input capacity before limit bytes cause s s' d d' o o'
-  receives cause any_moment ends = record {
+  pub receives : (cause : Cause) → LeavesFronts disk ground (files_of_bytes input bytes) d d'
+      → Ends source disk out input ground limit bytes cause s s' d d' o o'
+      → (IsWorkDone cause → AllHaveRoom ground (files_of_bytes input bytes))
+      → Receives (world_of source disk out) input ground limit bytes cause (outside s d o) (outside s' d' o')
+  receives cause any_moment ends room = record {
     held = λ whole rest text told split put. held whole rest text told split put cause ends;
     held_untold = held_untold cause ends;
     any_moment = any_moment;
     ends = ends;
     complete = complete cause ends;
-    overfull = λ over. (
-      λ is. not_done (subst (λ (c : Cause). Ends source disk out input capacity before limit bytes c s s' d d' o
-          o') is ends) over,
-      λ is. not_failed (subst (λ (c : Cause). Ends source disk out input capacity before limit bytes c s s' d d'
-          o o') is ends) over,
+    overfull = λ lacks. (
+      λ is. not_both ground (files_of_bytes input bytes) (room (subst IsWorkDone (sym is) tt)) lacks,
+      λ is. not_both ground (files_of_bytes input bytes) (room (subst IsWorkDone (sym is) tt)) lacks,
     );
   }
+
+-- over a shelf of items: where the work is done, what stands there fits
+pub room_of_items : {S D O : Type 0} (source : SourceOf S) (disk : DiskOf D) (out : SinkOf O) (input : Input)
+    (capacity : ℕ) (items : List Item) (limit : ℕ) (bytes : List ℕ) (s s' : S) (d d' : D) (o o' : O) (cause : Cause)
+    → Ends source disk out input (OfItems capacity items) limit bytes cause s s' d d' o o' → IsWorkDone cause
+    → AllHaveRoom (OfItems capacity items) (files_of_bytes input bytes)
+room_of_items source disk out input capacity items limit bytes s s' d d' o o' Done (inl e) done = e.durable.stands.fits
+room_of_items source disk out input capacity items limit bytes s s' d d' o o' Done (inr e) done = e.durable.stands.fits
+room_of_items source disk out input capacity items limit bytes s s' d d' o o' (Failed Source) e done =
+    e.durable.stands.fits
+room_of_items source disk out input capacity items limit bytes s s' d d' o o' _ e done = absurd done

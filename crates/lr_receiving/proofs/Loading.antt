@@ -1,16 +1,18 @@
 -- What comes of a disk from which no shelf was loaded, and of one from which it was.
-use Rattle.std.proofs.Common.{◌≡◌, inl, ℕ, List, [], ◌∷◌, ◌++◌, refl, sym, ◌∙◌, ap, subst, arith, append-nil}
+use Rattle.std.proofs.Common.{◌≡◌, ◌⊎◌, ◌-◌, inl, inr, false, ℕ, List, [], ◌∷◌, ◌++◌, take, refl, sym, ◌∙◌, ap, subst, arith}
+use Rattle.std.proofs.Common.{append-nil}
 use Rattle.std.proofs.Common.{Result, Ok, Err, IfOk, MatchResult}
 use Rattle.lr_bits.specs.declared.placed.Placed.{Placed}
 use Rattle.lr_io.specs.declared.source.Source.{Ghosts as SourceOf}
 use Rattle.lr_io.specs.declared.sink.Sink.{Ghosts as SinkOf}
 use Rattle.lr_disk.specs.declared.disk.Disk.{Ghosts as DiskOf}
-use Rattle.lr_disk.specs.Disk.{LeavesOnly}
+use Rattle.lr_disk.specs.Disk.{LeavesOnly, Only}
 use Rattle.lr_disk.specs.Reads.{IsUnwritten}
 use Rattle.lr_disk.proofs.Moments.{weaker, stays, unwritten_yet}
 use Rattle.lr_shelf_format.specs.Items.{Item}
 use Rattle.lr_shelf_format.specs.ShelfBytes.{StandsForShelf}
-use Rattle.lr_shelf_format.specs.Way.{IsWay, IsNoShelfAt}
+use Rattle.lr_shelf_format.specs.Way.{IsWay, IsNoShelfAt, Way}
+use Rattle.lr_shelf_format.proofs.WayLemmas.{has_one_way, has_way}
 use Rattle.lr_shelf.specs.Kept.{kept_by}
 use Rattle.lr_shelf.specs.Load.{Loads, IsLoadRefusal, MayRefuseAt}
 use Rattle.lr_shelf.specs.Shelf.{IsDurable, IsSettled, KeepsWay}
@@ -21,24 +23,33 @@ use Rattle.lr_shelf.specs.declared.error.ShelfError.TheVariants.{
   NotAShelf as NotAShelf',
   NoMemory as NoMemory',
 }
-use Rattle.lr_forms.specs.declared.forms.Stop.{Stop}
-use Rattle.lr_forms.specs.declared.forms.Stop.TheVariants.{End, Limit, Fault}
 use Rattle.lr_causes.specs.declared.cause.Cause.{Cause}
-use Rattle.lr_causes.specs.declared.cause.Cause.TheVariants.{Failed, NoMemory, Refused}
-use Rattle.lr_causes.specs.declared.cause.Party.TheVariants.{Disk, Output}
+use Rattle.lr_causes.specs.declared.cause.Cause.TheVariants.{Done, Failed, NoMemory, Refused}
+use Rattle.lr_causes.specs.declared.cause.Party.TheVariants.{Source, Disk, Output}
 use Rattle.lr_causes.specs.declared.cause.Refusal.TheVariants.{NotAShelf, Capacity}
-use Rattle.lr_causes.specs.Causes.{cause_of, cause_at, counts}
+use Rattle.lr_causes.specs.Causes.{MayEndBefore, counts}
+use Rattle.lr_refusals.specs.Errors.{cause_of}
+use Rattle.lr_causes.specs.Outside.{outside, world_of}
 use Rattle.lr_receiving.specs.First.{IsFirst}
 use Rattle.lr_receiving.proofs.Causing.{first_later, first_refused}
 use Rattle.lr_forms.specs.declared.forms.Input.{Input}
 use Rattle.lr_receiving.specs.Inputs.{files_of_bytes}
 use Rattle.lr_reading.specs.Reading.{IsRead}
-use Rattle.lr_receiving.specs.Shelving.{next_number, shelved_lines, LeavesFronts}
+use Rattle.lr_shelf.specs.Grounds.{
+  Ground,
+  OfItems,
+  OfWay,
+  AllHaveRoom,
+  HoldsStill,
+  IsSettledOn,
+  StandsWith,
+}
+use Rattle.lr_shelf.specs.Fronts.{HasRoom}
+use Rattle.lr_receiving.specs.Shelving.{LeavesFronts}
 use Rattle.lr_receiving.specs.Shelved.{MayStop}
 use Rattle.lr_receiving.specs.Receive.{
   Ends,
   Receives,
-  MayEndBefore,
   IsReceiveCause,
   IsWorkDone,
   IsUntouched,
@@ -46,9 +57,9 @@ use Rattle.lr_receiving.specs.Receive.{
 }
 use Rattle.lr_receiving.specs.Reception.{EndsRun}
 use Rattle.lr_receiving.proofs.Growing.{some, none_in}
-use Rattle.lr_receiving.proofs.Headline.{receives}
-use Rattle.lr_receiving.proofs.ReceiveEnding.{front_none, loaded}
-use Rattle.lr_receiving.proofs.ShelvedLines.{shelved_lines-none}
+use Rattle.lr_shelf.proofs.Grounds.{of_items}
+use Rattle.lr_receiving.proofs.Headline.{receives, room_of_items}
+use Rattle.lr_receiving.proofs.ReceiveEnding.{front_none, got_none, loaded}
 use Rattle.lr_receiving.proofs.Shelving.{rose_of, same_of}
 use Rattle.lr_receiving.proofs.Taking.{no_bytes}
 
@@ -89,6 +100,29 @@ module _ {D : Type 0} (disk : DiskOf D) (d : D) where
   load_work NoMemory' refusal done = done
   load_work _ refusal done = absurd refusal
 
+-- ---- the causes of a run
+
+stop_cause : (cause : Cause) → MayStop cause → IsReceiveCause cause
+stop_cause (Failed Disk) may = tt
+stop_cause (Failed Output) may = tt
+stop_cause NoMemory may = tt
+stop_cause (Refused (Capacity needed most)) may = tt
+stop_cause _ may = absurd may
+
+work_cause : (cause : Cause) → IsWorkDone cause → IsReceiveCause cause
+work_cause Done done = tt
+work_cause (Failed Source) done = tt
+work_cause _ done = absurd done
+
+run_cause : (cause : Cause) → MayStop cause ⊎ IsWorkDone cause → IsReceiveCause cause
+run_cause cause (inl may) = stop_cause cause may
+run_cause cause (inr done) = work_cause cause done
+
+-- a run that read was onto a shelf
+run_kind : (cause : Cause) → MayStop cause ⊎ IsWorkDone cause → (at : ℕ) → cause ≡ Refused (NotAShelf at) → ⊥
+run_kind cause (inl may) at is = subst (λ (c : Cause). MayStop c) is may
+run_kind cause (inr done) at is = subst (λ (c : Cause). IsWorkDone c) is done
+
 -- ---- no bytes have no files
 
 -- a full shelf has read some
@@ -99,42 +133,53 @@ full_reads source input limit bytes s s' read tells empty done next rest split =
     let none : bytes ≡ [] = (none_in bytes (source.left s') (sym (read.moved tells) ∙ empty)).0 in
     some done next rest (sym split ∙ ap (files_of_bytes input) none ∙ no_bytes input)
 
+-- ---- what stands there before
+
+begun_items : (capacity : ℕ) (items : List Item) (bytes : List ℕ) → StandsForShelf bytes capacity items
+    → StandsWith (OfItems capacity items) [] bytes
+begun_items capacity items bytes stands =
+    subst (λ (l : List Item). StandsForShelf bytes capacity l) (sym (append-nil items)) stands
+
+begun_way : (way : Way) (bytes : List ℕ) → IsWay bytes way → StandsWith (OfWay way bytes) [] bytes
+begun_way way bytes is = record { is_way = is; front = sym (append-nil (take (way.end - 1) bytes)) }
+
 -- ---- memory for reading was refused, before anything was called
 
 module _ {S D O : Type 0} (source : SourceOf S) (disk : DiskOf D)
     (only_now : (d : D) (c : List ℕ) → disk.tells d → disk.left_since d (disk.moment d) c → disk.may_leave d c)
     (out : SinkOf O) (input : Input) (limit : ℕ) (s : S) (d : D) (o : O) where
-  untouched : (capacity : ℕ) (before : List Item) → disk.tells d → IsDurable disk capacity before d
-      → LeavesOnly disk.moment disk.left_since d d (λ c. StandsForShelf c capacity before)
-  untouched capacity before told durable =
-      stays disk only_now d (λ c. StandsForShelf c capacity before) told
-      (λ c left. subst (λ (l : List ℕ). StandsForShelf l capacity before) (sym (durable.durable c left)) durable.stands)
+  nothing_made : (ground : Ground) → disk.tells d → StandsWith ground [] (disk.contents d)
+      → Only (disk.contents d) (disk.may_leave d)
+      → Receives (world_of source disk out) input ground limit [] NoMemory (outside s d o)
+      (outside s d o)
+  nothing_made ground told stands only =
+      receives source disk out input ground limit [] s s d d o o NoMemory
+      (subst (λ (l : List Placed). LeavesFronts disk ground l d d) (sym (no_bytes input))
+      (weaker disk.moment disk.left_since d d _ _ (front_none disk out ground)
+      (stays disk only_now d (StandsWith ground []) told
+      (λ c left. subst (StandsWith ground []) (sym (only c left)) stands))))
+      (record {
+        done = [];
+        rest = [];
+        split = no_bytes input;
+        durable = record { stands = stands; durable = only };
+        got = got_none disk out ground o;
+      })
+      (λ done. absurd done)
 
-  pub not_made : ReceiveRun source disk out input limit NoMemory s s d d o o
+  pub not_made : ReceiveRun (world_of source disk out) input limit NoMemory (outside s d o) (outside s d o)
   not_made = record {
     causes = tt;
     first = (refl, refl);
     bytes = [];
     read = record { told = λ t. t; moved = λ t. refl; few = omega arith; asked = inl refl };
-    onto_shelf = λ capacity before told durable.
-        receives source disk out input capacity before limit [] s s d d o o NoMemory
-        (subst (λ (l : List Placed). LeavesFronts disk capacity before l d d) (sym (no_bytes input))
-        (weaker disk.moment disk.left_since d d _ _ (front_none disk out capacity before d d o)
-        (untouched capacity before told durable)))
-        (record {
-          done = [];
-          rest = [];
-          split = no_bytes input;
-          durable = record {
-            stands =
-                subst (λ (l : List Item). StandsForShelf (disk.contents d) capacity l) (sym (append-nil before))
-                durable.stands;
-            durable = durable.durable;
-          };
-          got = λ t.
-              sym (ap (λ l. out.contents o ++ l) (shelved_lines-none (next_number before))
-              ∙ append-nil (out.contents o));
-        });
+    told_by_disk = λ t. t;
+    told_by_out = λ t. t;
+    onto_shelf = λ capacity items told durable.
+        nothing_made (OfItems capacity items) told
+        (begun_items capacity items (disk.contents d) durable.stands) durable.durable;
+    onto_way = λ way told is only.
+        nothing_made (OfWay way (disk.contents d)) told (begun_way way (disk.contents d) is) only;
     refused = λ at is. cc (is);
     broken = λ at told no. (
       tt,
@@ -152,56 +197,55 @@ module _ {S D O : Type 0} (source : SourceOf S) (disk : DiskOf D)
 
 module _ {S D O : Type 0} (source : SourceOf S) (disk : DiskOf D) (out : SinkOf O) (input : Input) (limit : ℕ) (s : S)
     (d d1 : D) (o : O) (result : Result Shelf ShelfError) (loads : Loads disk d d1 result) where
-  module _ (capacity : ℕ) (before : List Item) (told : disk.tells d) (durable : IsDurable disk capacity before d) where
-    durable1 : IsDurable disk capacity before d1
-    durable1 = loads.durable capacity before told durable
+  module _ (ground : Ground) (told : disk.tells d) (stands : StandsWith ground [] (disk.contents d))
+      (only : Only (disk.contents d) (disk.may_leave d)) where
+    -- the disk was only read
+    still : HoldsStill ground [] disk d1
+    still =
+        let unwritten = loads.unwritten told in
+        record {
+          stands = subst (StandsWith ground []) (sym unwritten.contents) stands;
+          durable = λ c image. only c (unwritten.images c image) ∙ sym unwritten.contents;
+        }
 
-    pub any_moment : LeavesOnly disk.moment disk.left_since d d1 (λ c. StandsForShelf c capacity before)
-    any_moment =
+    loading : LeavesOnly disk.moment disk.left_since d d1 (StandsWith ground [])
+    loading =
         weaker disk.moment disk.left_since d d1 _ _
-        (λ c image. subst (λ (l : List ℕ). StandsForShelf l capacity before) (sym (durable.durable c image)) durable.stands)
-        (loads.unwritten told).any_moment
+        (λ c image. subst (StandsWith ground []) (sym (only c image)) stands) (loads.unwritten told).any_moment
 
-    none_left : LeavesFronts disk capacity before (files_of_bytes input []) d d1
-    none_left =
-        subst (λ (l : List Placed). LeavesFronts disk capacity before l d d1) (sym (no_bytes input))
-        (weaker disk.moment disk.left_since d d1 _ _ (front_none disk out capacity before d d1 o) any_moment)
-
-    stands : StandsForShelf (disk.contents d1) capacity (before ++ [])
-    stands =
-        subst (λ (l : List Item). StandsForShelf (disk.contents d1) capacity l) (sym (append-nil before)) durable1.stands
-
-    got_none : out.tells o → out.contents o ≡ out.contents o ++ shelved_lines (next_number before) []
-    got_none t =
-        sym (ap (λ l. out.contents o ++ l) (shelved_lines-none (next_number before)) ∙ append-nil (out.contents o))
-
-    none : (cause : Cause) → Ends source disk out input capacity before limit [] cause s s d d1 o o
-        → Receives source disk out input capacity before limit [] cause s s d d1 o o
-    none cause ends = receives source disk out input capacity before limit [] s s d d1 o o cause none_left ends
+    none : (cause : Cause) → Ends source disk out input ground limit [] cause s s d d1 o o → (IsWorkDone cause → ⊥)
+        → Receives (world_of source disk out) input ground limit [] cause (outside s d o)
+        (outside s d1 o)
+    none cause ends undone =
+        receives source disk out input ground limit [] s s d d1 o o cause
+        (subst (λ (l : List Placed). LeavesFronts disk ground l d d1) (sym (no_bytes input))
+        (weaker disk.moment disk.left_since d d1 _ _ (front_none disk out ground) loading))
+        ends (λ done. absurd (undone done))
 
     nothing : (e : ShelfError) → result ≡ Err e → IsLoadRefusal disk d e
-        → Receives source disk out input capacity before limit [] (cause_of e) s s d d1 o o
-    nothing Disk' is refusal = none (Failed Disk) (record {
+        → ((at : ℕ) → IsNoShelfAt (disk.contents d) at → ⊥)
+        → Receives (world_of source disk out) input ground limit [] (cause_of e) (outside s d o)
+        (outside s d1 o)
+    nothing Disk' is refusal shelf = none (Failed Disk) (record {
       done = [];
       rest = [];
       split = no_bytes input;
-      contents = inl stands;
-      images = λ c image.
-          inl (subst (λ (l : List ℕ). StandsForShelf l capacity (before ++ [])) (sym (durable1.durable c image)) stands);
-      got = got_none;
+      contents = inl still.stands;
+      images = λ c image. inl (subst (StandsWith ground []) (sym (still.durable c image)) still.stands);
+      got = got_none disk out ground o;
       rose = rose_of disk d d1 result Disk' is loads.calls.counted refl;
-    })
-    nothing (NotAShelf' at) is refusal = absurd (loads.is_shelf capacity before told durable.stands at is)
-    nothing NoMemory' is refusal = none NoMemory (record {
+    }) (λ done. done)
+    nothing (NotAShelf' at) is refusal shelf = absurd (shelf at (refusal told))
+    nothing NoMemory' is refusal shelf = none NoMemory (record {
       done = [];
       rest = [];
       split = no_bytes input;
-      durable = record { stands = stands; durable = durable1.durable };
-      got = got_none;
-    })
-    nothing _ is refusal = absurd refusal
+      durable = still;
+      got = got_none disk out ground o;
+    }) (λ done. done)
+    nothing _ is refusal shelf = absurd refusal
 
-  only_read : IsUntouched source disk out s s d d1 o o
+  only_read : IsUntouched (world_of source disk out) (outside s d o) (outside s d1 o)
   only_read = record { only_read = loads.unwritten; source_stays = refl; out_stays = refl }
 
   refused : (e : ShelfError) (at : ℕ) → IsLoadRefusal disk d e → cause_of e ≡ Refused (NotAShelf at)
@@ -215,14 +259,22 @@ module _ {S D O : Type 0} (source : SourceOf S) (disk : DiskOf D) (out : SinkOf 
 
   -- it wasn't
   pub not_loaded : (e : ShelfError) → result ≡ Err e → IsLoadRefusal disk d e
-      → ReceiveRun source disk out input limit (cause_of e) s s d d1 o o
+      → ReceiveRun (world_of source disk out) input limit (cause_of e) (outside s d o) (outside s d1 o)
   not_loaded e is refusal = record {
     causes = load_cause disk d e refusal;
     first = first_refused e result (source.faults s) (source.faults s) (disk.faults d) (disk.faults d1) (out.faults o)
         is (λ failed. subst (λ (x : ShelfError). IsLoadRefusal disk d x) failed refusal) loads.calls.counted;
     bytes = [];
     read = record { told = λ t. t; moved = λ t. refl; few = omega arith; asked = inl refl };
-    onto_shelf = λ capacity before told durable. nothing capacity before told durable e is refusal;
+    told_by_disk = loads.calls.told;
+    told_by_out = λ t. t;
+    onto_shelf = λ capacity items told durable.
+        nothing (OfItems capacity items) told (begun_items capacity items (disk.contents d) durable.stands)
+        durable.durable e is refusal
+        (λ at no. (has_one_way (disk.contents d)).none _ at (has_way (disk.contents d) capacity items durable.stands) no);
+    onto_way = λ way told way_is only.
+        nothing (OfWay way (disk.contents d)) told (begun_way way (disk.contents d) way_is) only e is refusal
+        (λ at no. (has_one_way (disk.contents d)).none way at way_is no);
     refused = λ at named. (refused e at refusal named, only_read);
     broken = λ at told no. (ended_before e at (may_refuse at result e is (loads.broken at told no)), only_read);
     full = λ needed most named. absurd (load_room disk d e refusal needed most named);
@@ -239,41 +291,67 @@ module _ {S D O : Type 0} (source : SourceOf S) (disk : DiskOf D) (out : SinkOf 
     if_ok : (P : Shelf → Type 0) → IfOk result P → P shelf
     if_ok P holds = subst (λ (r : Result Shelf ShelfError). IfOk r P) is holds
 
-    onto_shelf : (capacity : ℕ) (before : List Item) → disk.tells d → IsDurable disk capacity before d
-        → Receives source disk out input capacity before limit run.bytes cause s s' d d' o o'
-    onto_shelf capacity before told durable =
-        let settled = if_ok (λ x. IsSettled disk capacity before x d1)
-        (loads.settled capacity before told durable.stands) in
-        let begun = loaded disk out capacity before d d1 o shelf settled (any_moment capacity before told durable)
-        (same_of disk d d1 result shelf is loads.calls.counted) in
-        let all = run.ends capacity before d o begun in
-        receives source disk out input capacity before limit run.bytes s s' d d' o o' cause all.0 all.1
+    same_count : disk.faults d1 ≡ disk.faults d
+    same_count = same_of disk d d1 result shelf is loads.calls.counted
+
+    working : (kept_by shelf).failed ≡ false
+    working = if_ok (λ x. (kept_by x).failed ≡ false) loads.working
 
     is_way : disk.tells d → IsWay (disk.contents d) (kept_by shelf).way
     is_way told =
         subst (λ (l : List ℕ). IsWay l (kept_by shelf).way) (loads.unwritten told).contents
         (if_ok (KeepsWay (disk.contents d1)) (loads.way told))
 
-    -- what came first after it came first of all
-    pub loaded_first : IsFirst cause (counts (source.faults s) (disk.faults d1) (out.faults o))
-        (counts (source.faults s') (disk.faults d') (out.faults o'))
-        → IsFirst cause (counts (source.faults s) (disk.faults d) (out.faults o))
-        (counts (source.faults s') (disk.faults d') (out.faults o'))
-    loaded_first first =
-        first_later cause (source.faults s) (source.faults s') (disk.faults d) (disk.faults d1) (disk.faults d')
-        (out.faults o) (out.faults o) (out.faults o') (same_of disk d d1 result shelf is loads.calls.counted) refl first
+    -- on a ground that the shelf was loaded from
+    onto : (ground : Ground) (told : disk.tells d) → StandsWith ground [] (disk.contents d)
+        → Only (disk.contents d) (disk.may_leave d) → IsSettledOn ground [] disk shelf d1
+        → (Ends source disk out input ground limit run.bytes cause s s' d d' o o' → IsWorkDone cause
+        → AllHaveRoom ground (files_of_bytes input run.bytes))
+        → Receives (world_of source disk out) input ground limit run.bytes cause (outside s d o)
+        (outside s' d' o')
+    onto ground told stands only settled room =
+        let begun = loaded disk out ground d d1 o shelf settled (loading ground told stands only) same_count in
+        let all = run.ends ground d o begun in
+        receives source disk out input ground limit run.bytes s s' d d' o o' cause all.0 all.1 (room all.1)
 
-    pub loaded_run : IsReceiveCause cause → ((at : ℕ) → cause ≡ Refused (NotAShelf at) → ⊥)
-        → IsFirst cause (counts (source.faults s) (disk.faults d1) (out.faults o))
-        (counts (source.faults s') (disk.faults d') (out.faults o'))
-        → ReceiveRun source disk out input limit cause s s' d d' o o'
-    loaded_run causes kind first = record {
-      causes = causes;
-      first = loaded_first first;
+    onto_shelf : (capacity : ℕ) (items : List Item) → disk.tells d → IsDurable disk capacity items d
+        → Receives (world_of source disk out) input (OfItems capacity items) limit run.bytes cause (outside s d o)
+        (outside s' d' o')
+    onto_shelf capacity items told durable =
+        onto (OfItems capacity items) told (begun_items capacity items (disk.contents d) durable.stands)
+        durable.durable
+        (of_items disk [] shelf d1 capacity items
+        (subst (λ (l : List Item). IsSettled disk capacity l shelf d1) (sym (append-nil items))
+        (if_ok (λ x. IsSettled disk capacity items x d1) (loads.settled capacity items told durable.stands))))
+        (room_of_items source disk out input capacity items limit run.bytes s s' d d' o o' cause)
+
+    onto_way : (way : Way) → disk.tells d → IsWay (disk.contents d) way → Only (disk.contents d) (disk.may_leave d)
+        → Receives (world_of source disk out) input (OfWay way (disk.contents d)) limit run.bytes cause (outside s d o)
+        (outside s' d' o')
+    onto_way way told way_is only =
+        let begins = begun_way way (disk.contents d) way_is in
+        let same : (kept_by shelf).way ≡ way =
+        (has_one_way (disk.contents d)).way (kept_by shelf).way way (is_way told) way_is in
+        onto (OfWay way (disk.contents d)) told begins only
+        (record {
+          told = loads.calls.told told;
+          kept = record { way = same; working = working };
+          on_disk = still (OfWay way (disk.contents d)) told begins only;
+        })
+        (λ ends done. subst (λ (w : Way). HasRoom w (files_of_bytes input run.bytes)) same (run.over.room done))
+
+    pub loaded_run : ReceiveRun (world_of source disk out) input limit cause (outside s d o) (outside s' d' o')
+    loaded_run = record {
+      causes = run_cause cause run.kind;
+      first = first_later cause (source.faults s) (source.faults s') (disk.faults d) (disk.faults d1) (disk.faults d')
+          (out.faults o) (out.faults o) (out.faults o') same_count refl (run.first working);
       bytes = run.bytes;
       read = run.read;
+      told_by_disk = λ t. run.told_by_disk (loads.calls.told t);
+      told_by_out = run.told_by_out;
       onto_shelf = onto_shelf;
-      refused = λ at named. absurd (kind at named);
+      onto_way = onto_way;
+      refused = λ at named. absurd (run_kind cause run.kind at named);
       broken = λ at told no.
           absurd (subst (λ (r : Result Shelf ShelfError). MatchResult r (λ _. ⊥) (MayRefuseAt at)) is
           (loads.broken at told no));
@@ -288,27 +366,3 @@ module _ {S D O : Type 0} (source : SourceOf S) (disk : DiskOf D) (out : SinkOf 
       silent = run.over.silent;
       unasked = λ none failed. absurd (run.over.kind none failed);
     }
-
--- ---- the causes of a run
-
--- a run that put its last line was onto a shelf
-pub done_kind : (stop : Stop) (at : ℕ) → cause_at stop ≡ Refused (NotAShelf at) → ⊥
-done_kind End at is = cc (is)
-done_kind Limit at is = cc (is)
-done_kind Fault at is = cc (is)
-
--- so was one that stopped
-pub stop_kind : (cause : Cause) → MayStop cause → (at : ℕ) → cause ≡ Refused (NotAShelf at) → ⊥
-stop_kind cause may at is = subst (λ (c : Cause). MayStop c) is may
-
-pub done_cause : (stop : Stop) → IsReceiveCause (cause_at stop)
-done_cause End = tt
-done_cause Limit = tt
-done_cause Fault = tt
-
-pub stop_cause : (cause : Cause) → MayStop cause → IsReceiveCause cause
-stop_cause (Failed Disk) may = tt
-stop_cause (Failed Output) may = tt
-stop_cause NoMemory may = tt
-stop_cause (Refused (Capacity needed most)) may = tt
-stop_cause _ may = absurd may

@@ -25,9 +25,6 @@ use Rattle.lr_disk.specs.declared.disk.Disk.{Ghosts as DiskOf}
 use Rattle.lr_disk.specs.Disk.{LeavesOnly}
 use Rattle.lr_layers.specs.Layers.{Numbers, numbers_of}
 use Rattle.lr_layers.specs.Standing.{numbers}
-use Rattle.lr_shelf_format.specs.ShelfBytes.{StandsForShelf}
-use Rattle.lr_shelf_format.specs.Items.{Item}
-use Rattle.lr_shelf.specs.Shelf.{IsSettled}
 use Rattle.lr_shelf.specs.declared.shelf.Shelf.{Shelf}
 use Rattle.lr_disk.proofs.Moments.{weaker}
 use Rattle.lr_forms.specs.declared.forms.Stop.{Stop}
@@ -44,7 +41,8 @@ use Rattle.lr_causes.specs.Causes.{IsEarlier, cause_at}
 use Rattle.lr_reading.specs.Inputs.{outcomes_of_bytes}
 use Rattle.lr_receiving.specs.Inputs.{files_of_bytes}
 use Rattle.lr_causes.specs.Puts.{PutFails}
-use Rattle.lr_receiving.specs.Shelving.{next_number, shelved_lines, StandsForFront, StopsBy}
+use Rattle.lr_shelf.specs.Grounds.{Ground, IsSettledOn, StandsWith, next_number}
+use Rattle.lr_receiving.specs.Shelving.{shelved_lines, StandsForFront, StopsBy}
 use Rattle.lr_receiving.specs.Shelved.{MayStop, ShelvesSoFar, Grows, GrowsNoMore}
 use Rattle.lr_receiving.specs.Receive.{counts_line, receive_count, receive_last, IsWorkDone, Finishes, Ends}
 use Rattle.lr_receiving.specs.Reception.{
@@ -56,6 +54,7 @@ use Rattle.lr_receiving.specs.Reception.{
   EndsOver,
   EndsRun,
 }
+use Rattle.lr_receiving.proofs.Causing.{first_beside, first_done, first_end}
 use Rattle.lr_receiving.proofs.ShelvedLines.{shelved_lines-none}
 
 -- the last line tells what was read and counted
@@ -74,33 +73,33 @@ last_line_is source input limit bytes s s' sums ends counted =
     ∙ ap (λ k. counts_line (length bytes) (length (outcomes_of_bytes input bytes))
     (numbers_of (outcomes_of_bytes input bytes)) k totals.stop) ends.left
 
-module _ {D O : Type 0} (disk : DiskOf D) (out : SinkOf O) (capacity : ℕ) (before : List Item) (d d1 : D) (o : O) where
-  pub front_none : (bytes : List ℕ) → StandsForShelf bytes capacity before → StandsForFront capacity before [] 0 bytes
-  front_none bytes s = record {
-    first = [];
-    rest = [];
-    split = refl;
-    enough = omega arith;
-    stands = subst (λ (l : List Item). StandsForShelf bytes capacity l) (sym (append-nil before)) s;
-  }
+module _ {D O : Type 0} (disk : DiskOf D) (out : SinkOf O) (ground : Ground) where
+  pub front_none : (bytes : List ℕ) → StandsWith ground [] bytes → StandsForFront ground [] 0 bytes
+  front_none bytes s = record { first = []; rest = []; split = refl; enough = omega arith; stands = s }
+
+  -- nothing was put
+  pub got_none : (o : O) → out.tells o → out.contents o ≡ out.contents o ++ shelved_lines (next_number ground) []
+  got_none o t =
+      sym (ap (λ l. out.contents o ++ l) (shelved_lines-none (next_number ground)) ∙ append-nil (out.contents o))
 
   -- the shelf is loaded
-  pub loaded : (shelf : Shelf) → IsSettled disk capacity before shelf d1
-      → LeavesOnly disk.moment disk.left_since d d1 (λ c. StandsForShelf c capacity before) → disk.faults d1 ≡ disk.faults d
-      → ShelvesSoFar disk out capacity before [] shelf d d1 o o
-  loaded shelf settled run count = record {
-    settled = subst (λ (l : List Item). IsSettled disk capacity l shelf d1) (sym (append-nil before)) settled;
+  pub loaded : (d d1 : D) (o : O) (shelf : Shelf) → IsSettledOn ground [] disk shelf d1
+      → LeavesOnly disk.moment disk.left_since d d1 (StandsWith ground []) → disk.faults d1 ≡ disk.faults d
+      → ShelvesSoFar disk out ground [] shelf d d1 o o
+  loaded d d1 o shelf settled run count = record {
+    settled = settled;
     any_moment = weaker disk.moment disk.left_since d d1 _ _ front_none run;
-    put = record {
-      told = λ t. t;
-      put = λ t. sym (ap (λ l. out.contents o ++ l) (shelved_lines-none (next_number before))
-          ∙ append-nil (out.contents o));
-      kept = refl;
-    };
+    put = record { told = λ t. t; put = λ t. got_none o t; kept = refl };
     disk_count = count;
   }
 
 -- ---- over every disk
+
+-- a run that put its last line has done its work
+work_at : (stop : Stop) → IsWorkDone (cause_at stop)
+work_at End = tt
+work_at Limit = tt
+work_at Fault = tt
 
 -- the work isn't done where shelving stopped
 no_work : (cause : Cause) → MayStop cause → IsWorkDone cause → ⊥
@@ -144,34 +143,40 @@ module _ {D O : Type 0} {shelf : Shelf} {files : List Placed} {d d1 : D} {o o1 :
         not_disk is = let same : Source ≡ Disk = cc (is) in cc (same)
 
 module _ {S D O : Type 0} (source : SourceOf S) (disk : DiskOf D) (out : SinkOf O) (input : Input) (limit : ℕ) where
-  module _ (capacity : ℕ) (before : List Item) (bytes : List ℕ) (s s' : S) (d d' : D) (o o' : O) where
-    ends_of : (cause : Cause) → StopsBy disk out capacity before cause (files_of_bytes input bytes) d d' o o'
-        → Ends source disk out input capacity before limit bytes cause s s' d d' o o'
+  module _ (ground : Ground) (bytes : List ℕ) (s s' : S) (d d' : D) (o o' : O) where
+    ends_of : (cause : Cause) → StopsBy disk out ground cause (files_of_bytes input bytes) d d' o o'
+        → Ends source disk out input ground limit bytes cause s s' d d' o o'
     ends_of (Failed Disk) stops = stops
     ends_of (Failed Output) stops = inl stops
     ends_of NoMemory stops = stops
     ends_of (Refused (Capacity needed most)) stops = stops
     ends_of _ stops = absurd stops
 
-    ends_at : (stop : Stop) → Finishes source disk out input capacity before limit bytes stop s s' d d' o o'
-        → Ends source disk out input capacity before limit bytes (cause_at stop) s s' d d' o o'
+    ends_at : (stop : Stop) → Finishes source disk out input ground limit bytes stop s s' d d' o o'
+        → Ends source disk out input ground limit bytes (cause_at stop) s s' d d' o o'
     ends_at End done = inl done
     ends_at Limit done = inr done
     ends_at Fault done = done
 
   module _ (shelf : Shelf) (s s' : S) (d d1 : D) (o o1 : O) where
     -- shelving stopped
-    pub ended_some : (cause : Cause) → MayStop cause
-        → ReadsSome source disk out input limit cause shelf s s' d d1 o o1
+    pub ended_some : (cause : Cause) → ReadsSome source disk out input limit cause shelf s s' d d1 o o1
         → EndsRun source disk out input limit cause shelf s s' d d1 o o1
-    ended_some cause may some = record {
-      bytes = some.bytes;
-      read = some.read;
-      ends = λ capacity before d0 o0 so_far.
-          let stops = some.stops capacity before d0 o0 so_far in
-          (stops.any_moment, ends_of capacity before some.bytes s s' d0 d1 o0 o1 cause stops.why);
-      over = over_some cause may some.grown;
-    }
+    ended_some cause some =
+        let stopped = some.stopped in
+        record {
+          bytes = some.bytes;
+          read = some.read;
+          kind = inl stopped.kind;
+          told_by_disk = stopped.told_by_disk;
+          told_by_out = stopped.told_by_out;
+          first = λ works. first_beside cause (source.faults s) (source.faults s') (disk.faults d) (disk.faults d1)
+              (out.faults o) (out.faults o1) stopped.kind (stopped.first works);
+          ends = λ ground d0 o0 so_far.
+              let stops = stopped.stops ground [] d0 o0 so_far in
+              (stops.any_moment, ends_of ground some.bytes s s' d0 d1 o0 o1 cause stops.why);
+          over = over_some cause stopped.kind stopped.grown;
+        }
 
     module _ (sums : Sums) (shelf1 : Shelf)
         (all : ReadsAll source disk out input limit sums shelf shelf1 s s' d d1 o o1) (o2 : O) where
@@ -184,8 +189,15 @@ module _ {S D O : Type 0} (source : SourceOf S) (disk : DiskOf D) (out : SinkOf 
       summary_cut fails = record {
         bytes = all.bytes;
         read = all.ends.read;
-        ends = λ capacity before d0 o0 begun.
-            let so_far = all.shelved capacity before d0 o0 begun in (
+        kind = inl tt;
+        told_by_disk = all.shelved.told_by_disk;
+        told_by_out = λ t. fails.told (all.shelved.told_by_out t);
+        first = λ works. (
+          subst (λ (k : ℕ). Rose k (out.faults o2)) all.shelved.out_count fails.rose,
+          all.shelved.disk_count,
+        );
+        ends = λ ground d0 o0 begun.
+            let so_far = all.shelved.shelved ground [] d0 o0 begun in (
               so_far.any_moment,
               inr (record {
                 stop = sums.totals.stop;
@@ -204,7 +216,7 @@ module _ {S D O : Type 0} (source : SourceOf S) (disk : DiskOf D) (out : SinkOf 
               }),
             );
         over =
-            over_last all.grown o2 (Failed Output) (λ needed most is. cc (is))
+            over_last all.shelved.grown o2 (Failed Output) (λ needed most is. cc (is))
             (λ is. let same : Output ≡ Disk = cc (is) in cc (same)) (λ early. absurd early);
       }
 
@@ -213,8 +225,12 @@ module _ {S D O : Type 0} (source : SourceOf S) (disk : DiskOf D) (out : SinkOf 
       no_summary same = record {
         bytes = all.bytes;
         read = all.ends.read;
-        ends = λ capacity before d0 o0 begun.
-            let so_far = all.shelved capacity before d0 o0 begun in (
+        kind = inl tt;
+        told_by_disk = all.shelved.told_by_disk;
+        told_by_out = λ t. subst out.tells (sym same) (all.shelved.told_by_out t);
+        first = λ works. (all.shelved.disk_count, ap out.faults same ∙ all.shelved.out_count);
+        ends = λ ground d0 o0 begun.
+            let so_far = all.shelved.shelved ground [] d0 o0 begun in (
               so_far.any_moment,
               record {
                 done = files_of_bytes input all.bytes;
@@ -224,7 +240,7 @@ module _ {S D O : Type 0} (source : SourceOf S) (disk : DiskOf D) (out : SinkOf 
                 got = λ t. ap out.contents same ∙ so_far.put.put t;
               },
             );
-        over = over_last all.grown o2 NoMemory (λ needed most is. cc (is)) (λ is. cc (is)) (λ early. same);
+        over = over_last all.shelved.grown o2 NoMemory (λ needed most is. cc (is)) (λ is. cc (is)) (λ early. same);
       }
 
       -- the last line wasn't put
@@ -240,20 +256,27 @@ module _ {S D O : Type 0} (source : SourceOf S) (disk : DiskOf D) (out : SinkOf 
       all_put put = record {
         bytes = all.bytes;
         read = all.ends.read;
-        ends = λ capacity before d0 o0 begun.
-            let so_far = all.shelved capacity before d0 o0 begun in
+        kind = inr (work_at sums.totals.stop);
+        told_by_disk = all.shelved.told_by_disk;
+        told_by_out = λ t. put.told (all.shelved.told_by_out t);
+        first = λ works. first_done sums.totals.stop (source.faults s) (source.faults s') (disk.faults d)
+            (disk.faults d1) (out.faults o) (out.faults o2)
+            (first_end source sums.totals.stop limit all.bytes s s' all.ends.reason)
+            all.shelved.disk_count (put.kept ∙ all.shelved.out_count);
+        ends = λ ground d0 o0 begun.
+            let so_far = all.shelved.shelved ground [] d0 o0 begun in
             let files = files_of_bytes input all.bytes in (
               so_far.any_moment,
-              ends_at capacity before all.bytes s s' d0 d1 o0 o2 sums.totals.stop (record {
+              ends_at ground all.bytes s s' d0 d1 o0 o2 sums.totals.stop (record {
                 reason = all.ends.reason;
                 durable = so_far.settled.on_disk;
                 got = λ t.
                     put.put (so_far.put.told t) ∙ ap (λ (l : List ℕ). l ++ sums_line sums) (so_far.put.put t)
-                    ∙ append_assoc (out.contents o0) (shelved_lines (next_number before) files) (sums_line sums)
-                    ∙ ap (λ (l : List ℕ). out.contents o0 ++ (shelved_lines (next_number before) files ++ l)) line_is;
+                    ∙ append_assoc (out.contents o0) (shelved_lines (next_number ground) files) (sums_line sums)
+                    ∙ ap (λ (l : List ℕ). out.contents o0 ++ (shelved_lines (next_number ground) files ++ l)) line_is;
                 disk_count = so_far.disk_count;
                 out_count = put.kept ∙ so_far.put.kept;
               }),
             );
-        over = over_done all.grown o2 sums.totals.stop;
+        over = over_done all.shelved.grown o2 sums.totals.stop;
       }

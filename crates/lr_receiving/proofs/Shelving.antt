@@ -14,15 +14,12 @@ use Rattle.std.proofs.Common.{
   ◌∷◌,
   ◌++◌,
   length,
-  map,
   min,
   refl,
   sym,
 }
-use Rattle.std.proofs.Common.{◌∙◌, ap, subst, arith, append_assoc, length-append, ⊎_elim, Result, Ok, Err, OnOk}
+use Rattle.std.proofs.Common.{◌∙◌, ap, subst, arith, append_assoc, append-nil, ⊎_elim, Result, Ok, Err, OnOk}
 use Rattle.std.proofs.lemmas.Bool.{cases_lt}
-use Rattle.std.proofs.lemmas.List.{map-append, length-map}
-use Rattle.std.proofs.lemmas.List.Sums.{sum_by-append}
 use Rattle.lr_bits.specs.Faults.{Rose}
 use Rattle.lr_bits.specs.File.{IsFile}
 use Rattle.lr_bits.specs.declared.placed.Placed.{Placed}
@@ -30,14 +27,11 @@ use Rattle.lr_io.specs.declared.sink.Sink.{Ghosts as SinkOf}
 use Rattle.lr_disk.specs.declared.disk.Disk.{Ghosts as DiskOf}
 use Rattle.lr_disk.specs.Disk.{LeavesOnly}
 use Rattle.lr_disk.proofs.Moments.{weaker, joined}
-use Rattle.lr_shelf_format.specs.Items.{Item, old_item, add_item, discard_item, extent_of, head_of_item}
-use Rattle.lr_shelf_format.specs.ShelfBytes.{StandsForShelf, end_of, entries_of}
-use Rattle.lr_shelf_format.specs.Way.{Way}
-use Rattle.lr_shelf.specs.Adds.{new_end, needed_by}
+use Rattle.lr_shelf_format.specs.Items.{Item}
+use Rattle.lr_shelf.specs.Adds.{new_end}
 use Rattle.lr_shelf.specs.Append.{Appends, IsAppendRefusal, item_for}
 use Rattle.lr_shelf.specs.Calls.{IsCounted}
 use Rattle.lr_shelf.specs.Kept.{Kept, kept_by}
-use Rattle.lr_shelf.specs.Shelf.{StandsForEither, IsSettled, IsDurable}
 use Rattle.lr_shelf.specs.declared.shelf.Shelf.{Shelf}
 use Rattle.lr_shelf.specs.declared.error.ShelfError.{ShelfError}
 use Rattle.lr_shelf.specs.declared.error.ShelfError.TheVariants.{
@@ -46,18 +40,16 @@ use Rattle.lr_shelf.specs.declared.error.ShelfError.TheVariants.{
   NoMemory as NoMemory',
   Failed as Failed',
 }
-use Rattle.lr_shelf.proofs.ItemsKept.{entry_count_is}
 use Rattle.lr_catalog.specs.Files.{shelved_line}
 use Rattle.lr_causes.specs.declared.cause.Cause.{Cause}
 use Rattle.lr_causes.specs.declared.cause.Cause.TheVariants.{Failed, NoMemory, Refused}
 use Rattle.lr_causes.specs.declared.cause.Party.TheVariants.{Disk, Output}
 use Rattle.lr_causes.specs.declared.cause.Refusal.TheVariants.{Capacity}
-use Rattle.lr_causes.specs.Causes.{cause_of}
+use Rattle.lr_refusals.specs.Errors.{cause_of}
 use Rattle.lr_causes.specs.Puts.{Puts, PutFails}
-use Rattle.lr_receiving.specs.Onto.{end_with}
+use Rattle.lr_shelf.specs.Grounds.{Ground, HoldsStill, IsSettledOn, next_number}
+use Rattle.lr_shelf.specs.Fronts.{end_with}
 use Rattle.lr_receiving.specs.Shelving.{
-  with_files,
-  next_number,
   shelved_lines,
   StandsForFront,
   StandsForOneFileMore,
@@ -65,88 +57,63 @@ use Rattle.lr_receiving.specs.Shelving.{
   StopsBy,
   Stops,
 }
-use Rattle.lr_receiving.specs.Shelved.{MayStop, ShelvesSoFar, Grows, GrowsNoMore}
-use Rattle.lr_receiving.proofs.Growing.{grows_one, stops_at_one}
+use Rattle.lr_receiving.specs.Shelved.{MayStop, ShelvesSoFar, HasShelved, StopsShelving, Grows, GrowsNoMore}
+use Rattle.lr_receiving.proofs.Causing.{append_works, first_refused}
+use Rattle.lr_shelf.proofs.Grounds.{
+  StandsWithEither,
+  capacity_is,
+  ends,
+  left_on,
+  moments_on,
+  needed_is,
+  now_on,
+  number_is,
+  settled_on,
+}
+use Rattle.lr_receiving.proofs.Growing.{grows_one, stops_at_one, stops_for_memory}
 use Rattle.lr_receiving.proofs.ShelvedLines.{shelved_lines-push}
-
--- ---- items
-
--- files after files
-pub with_files-append : (before : List Item) (done more : List Placed)
-    → with_files before (done ++ more) ≡ with_files before done ++ map item_for more
-with_files-append before done more =
-    ap (λ (l : List Item). before ++ l) (map-append item_for done more)
-    ∙ sym (append_assoc before (map item_for done) (map item_for more))
-
-entries_of-append : (items more : List Item) → entries_of (items ++ more) ≡ entries_of items ++ entries_of more
-entries_of-append [] more = refl
-entries_of-append (old_item file ∷ items) more =
-    ap (λ (l : List Item). old_item file ∷ l) (entries_of-append items more)
-entries_of-append (add_item file origin ∷ items) more =
-    ap (λ (l : List Item). add_item file origin ∷ l) (entries_of-append items more)
-entries_of-append (discard_item number ∷ items) more = entries_of-append items more
-
-entries_of-files : (files : List Placed) → entries_of (map item_for files) ≡ map item_for files
-entries_of-files [] = refl
-entries_of-files (placed ∷ files) = ap (λ (l : List Item). item_for placed ∷ l) (entries_of-files files)
-
--- each file takes a number
-numbers_on : (before : List Item) (done : List Placed)
-    → next_number (with_files before done) ≡ next_number before + length done
-numbers_on before done =
-    ap length (entries_of-append before (map item_for done))
-    ∙ length-append (entries_of before) (entries_of (map item_for done))
-    ∙ ap (λ (n : ℕ). next_number before + n) (ap length (entries_of-files done) ∙ length-map done item_for)
 
 -- ---- fronts
 
-pub front_more : (capacity : ℕ) (before : List Item) (done more : List Placed) (n : ℕ) (bytes : List ℕ)
-    → StandsForFront capacity before done n bytes → StandsForFront capacity before (done ++ more) n bytes
-front_more capacity before done more n bytes s = record {
-  first = s.first;
-  rest = s.rest ++ more;
-  split = ap (λ (l : List Placed). l ++ more) s.split ∙ append_assoc s.first s.rest more;
-  enough = s.enough;
-  stands = s.stands;
-}
+module _ (ground : Ground) where
+  pub front_more : (done more : List Placed) (n : ℕ) (bytes : List ℕ) → StandsForFront ground done n bytes
+      → StandsForFront ground (done ++ more) n bytes
+  front_more done more n bytes s = record {
+    first = s.first;
+    rest = s.rest ++ more;
+    split = ap (λ (l : List Placed). l ++ more) s.split ∙ append_assoc s.first s.rest more;
+    enough = s.enough;
+    stands = s.stands;
+  }
 
-one_more : (capacity : ℕ) (before : List Item) (done : List Placed) (placed : Placed) (bytes : List ℕ)
-    → StandsForShelf bytes capacity (with_files before done ++ item_for placed ∷ [])
-    → StandsForShelf bytes capacity (with_files before (done ++ placed ∷ []))
-one_more capacity before done placed bytes s =
-    subst (λ (l : List Item). StandsForShelf bytes capacity l) (sym (with_files-append before done (placed ∷ []))) s
+  either_front : (done : List Placed) (placed : Placed) (bytes : List ℕ) → StandsWithEither ground done placed bytes
+      → StandsForFront ground (done ++ placed ∷ []) 0 bytes
+  either_front done placed bytes (inl s) =
+      record { first = done; rest = placed ∷ []; split = refl; enough = omega arith; stands = s }
+  either_front done placed bytes (inr s) = record {
+    first = done ++ placed ∷ [];
+    rest = [];
+    split = sym (append-nil (done ++ placed ∷ []));
+    enough = omega arith;
+    stands = s;
+  }
 
-either_front : (capacity : ℕ) (before : List Item) (done : List Placed) (placed : Placed) (rest : List Placed)
-    (bytes : List ℕ) → StandsForEither capacity (with_files before done) (item_for placed) bytes
-    → StandsForFront capacity before (done ++ placed ∷ rest) 0 bytes
-either_front capacity before done placed rest bytes (inl s) =
-    record { first = done; rest = placed ∷ rest; split = refl; enough = omega arith; stands = s }
-either_front capacity before done placed rest bytes (inr s) = record {
-  first = done ++ placed ∷ [];
-  rest = rest;
-  split = sym (append_assoc done (placed ∷ []) rest);
-  enough = omega arith;
-  stands = one_more capacity before done placed bytes s;
-}
+  either_more : (done : List Placed) (placed : Placed) (bytes : List ℕ) → StandsWithEither ground done placed bytes
+      → StandsForOneFileMore ground done (placed ∷ []) bytes
+  either_more done placed bytes (inl s) = inl s
+  either_more done placed bytes (inr s) = inr (placed, [], refl, s)
 
-either_more : (capacity : ℕ) (before : List Item) (done : List Placed) (placed : Placed) (rest : List Placed)
-    (bytes : List ℕ) → StandsForEither capacity (with_files before done) (item_for placed) bytes
-    → StandsForOneFileMore capacity before done (placed ∷ rest) bytes
-either_more capacity before done placed rest bytes (inl s) = inl s
-either_more capacity before done placed rest bytes (inr s) =
-    inr (placed, rest, refl, one_more capacity before done placed bytes s)
-
--- more files that are still to be shelved
-pub one_more_later : (capacity : ℕ) (before : List Item) (done rest more : List Placed) (bytes : List ℕ)
-    → StandsForOneFileMore capacity before done rest bytes → StandsForOneFileMore capacity before done (rest ++ more) bytes
-one_more_later capacity before done rest more bytes (inl s) = inl s
-one_more_later capacity before done rest more bytes (inr s) =
-    inr (s.0, s.1 ++ more, ap (λ (l : List Placed). l ++ more) s.2, s.3)
+  -- more files that are still to be shelved
+  pub one_more_later : (done rest more : List Placed) (bytes : List ℕ) → StandsForOneFileMore ground done rest bytes
+      → StandsForOneFileMore ground done (rest ++ more) bytes
+  one_more_later done rest more bytes (inl s) = inl s
+  one_more_later done rest more bytes (inr s) =
+      inr (s.0, s.1 ++ more, ap (λ (l : List Placed). l ++ more) s.2, s.3)
 
 -- ---- causes
 
 -- what an append refuses for stops shelving
-pub append_kind : (item : Item) (kept : Kept) (e : ShelfError) → IsAppendRefusal item kept e → MayStop (cause_of e)
+append_kind : (item : Item) (kept : Kept) (e : ShelfError) → IsAppendRefusal item kept e → MayStop (cause_of e)
 append_kind item kept Disk' refusal = tt
 append_kind item kept (Capacity' needed most) refusal = tt
 append_kind item kept NoMemory' refusal = tt
@@ -155,19 +122,19 @@ append_kind item kept _ refusal = absurd refusal
 
 -- ---- more files
 
-module _ {D O : Type 0} (disk : DiskOf D) (out : SinkOf O) (capacity : ℕ) (before : List Item) (d d' : D) (o o' : O)
+module _ {D O : Type 0} (disk : DiskOf D) (out : SinkOf O) (ground : Ground) (d d' : D) (o o' : O)
     (files more : List Placed) where
   longer : (done rest : List Placed) → files ≡ done ++ rest → files ++ more ≡ done ++ (rest ++ more)
   longer done rest split = ap (λ (l : List Placed). l ++ more) split ∙ append_assoc done rest more
 
-  stops_by_more : (cause : Cause) → StopsBy disk out capacity before cause files d d' o o'
-      → StopsBy disk out capacity before cause (files ++ more) d d' o o'
+  stops_by_more : (cause : Cause) → StopsBy disk out ground cause files d d' o o'
+      → StopsBy disk out ground cause (files ++ more) d d' o o'
   stops_by_more (Failed Disk) why = record {
     done = why.done;
     rest = why.rest ++ more;
     split = longer why.done why.rest why.split;
-    contents = one_more_later capacity before why.done why.rest more (disk.contents d') why.contents;
-    images = λ c image. one_more_later capacity before why.done why.rest more c (why.images c image);
+    contents = one_more_later ground why.done why.rest more (disk.contents d') why.contents;
+    images = λ c image. one_more_later ground why.done why.rest more c (why.images c image);
     got = why.got;
     rose = why.rose;
   }
@@ -201,26 +168,25 @@ module _ {D O : Type 0} (disk : DiskOf D) (out : SinkOf O) (capacity : ℕ) (bef
   stops_by_more _ why = absurd why
 
   -- shelving that stopped among some files stopped among more of them
-  pub stops_more : (cause : Cause) → Stops disk out capacity before cause files d d' o o'
-      → Stops disk out capacity before cause (files ++ more) d d' o o'
+  pub stops_more : (cause : Cause) → Stops disk out ground cause files d d' o o'
+      → Stops disk out ground cause (files ++ more) d d' o o'
   stops_more cause stops = record {
     any_moment =
-        weaker disk.moment disk.left_since d d' _ _ (λ c s. front_more capacity before files more 0 c s)
+        weaker disk.moment disk.left_since d d' _ _ (λ c s. front_more ground files more 0 c s)
         stops.any_moment;
     why = stops_by_more cause stops.why;
   }
 
--- ---- one file more
+-- ---- one file more, on a ground
 
-module _ {D O : Type 0} (disk : DiskOf D) (out : SinkOf O) (capacity : ℕ) (before : List Item) (done : List Placed)
-    (shelf : Shelf) (d d1 : D) (o o1 : O) (so_far : ShelvesSoFar disk out capacity before done shelf d d1 o o1) where
-  fronts : (more : List Placed) → LeavesFronts disk capacity before (done ++ more) d d1
+module _ {D O : Type 0} (disk : DiskOf D) (out : SinkOf O) (ground : Ground) (done : List Placed) (shelf : Shelf)
+    (d d1 : D) (o o1 : O) (so_far : ShelvesSoFar disk out ground done shelf d d1 o o1) where
+  fronts : (more : List Placed) → LeavesFronts disk ground (done ++ more) d d1
   fronts more =
-      weaker disk.moment disk.left_since d d1 _ _ (λ c s. front_more capacity before done more 0 c s)
-      so_far.any_moment
+      weaker disk.moment disk.left_since d d1 _ _ (λ c s. front_more ground done more 0 c s) so_far.any_moment
 
   -- no memory for what comes next
-  pub out_of_memory : (more : List Placed) → Stops disk out capacity before NoMemory (done ++ more) d d1 o o1
+  pub out_of_memory : (more : List Placed) → Stops disk out ground NoMemory (done ++ more) d d1 o o1
   out_of_memory more = record {
     any_moment = fronts more;
     why = record {
@@ -232,135 +198,97 @@ module _ {D O : Type 0} (disk : DiskOf D) (out : SinkOf O) (capacity : ℕ) (bef
     };
   }
 
-  -- the number that the next file gets
-  pub number : length (kept_by shelf).way.entries ≡ next_number before + length done
-  number =
-      entry_count_is capacity (with_files before done) shelf so_far.settled.on_disk.stands.proper so_far.settled.kept
-      ∙ numbers_on before done
-
-  -- where the shelf ends
-  there : (kept_by shelf).way.end ≡ end_of (with_files before done)
-  there = ap (λ (way : Way). way.end) so_far.settled.kept.way
-
-  capacity_is : (kept_by shelf).way.capacity ≡ capacity
-  capacity_is = ap (λ (way : Way). way.capacity) so_far.settled.kept.way
-
-  -- where it would end with the next file
-  ends : (placed : Placed) → new_end (item_for placed) (kept_by shelf)
-      ≡ end_of (with_files before (done ++ placed ∷ []))
-  ends placed =
-      let size : Item → ℕ = λ item. extent_of (head_of_item item) + 1 in
-      let grown : new_end (item_for placed) (kept_by shelf) ≡ end_of (with_files before done ++ item_for placed ∷ []) =
-      omega (arith, there, sum_by-append size (with_files before done) (item_for placed ∷ [])) in
-      grown ∙ ap end_of (sym (with_files-append before done (placed ∷ [])))
-
-  -- the same number, which is below 2^64
-  needed : (placed : Placed) → IsFile placed.file
-      → needed_by (item_for placed) (kept_by shelf) ≡ end_of (with_files before (done ++ placed ∷ []))
-  needed placed is =
-      let fits : end_of (with_files before done) ≤ capacity = so_far.settled.on_disk.stands.fits in
-      let most : capacity ≤ 1099511627776 = so_far.settled.on_disk.stands.allowed.most in
-      let low : new_end (item_for placed) (kept_by shelf) ≤ 18446744073709551615 =
-      omega (arith, fits, most, there, is.few, is.most) in
-      let same : needed_by (item_for placed) (kept_by shelf) ≡ new_end (item_for placed) (kept_by shelf) =
-      omega (arith, low) in
-      same ∙ ends placed
-
   module _ (placed : Placed) (d2 : D) (run : LeavesOnly disk.moment disk.left_since d1 d2
-      (StandsForEither capacity (with_files before done) (item_for placed))) where
-    moments : (rest : List Placed) → LeavesFronts disk capacity before (done ++ placed ∷ rest) d d2
-    moments rest =
-        joined disk.moment disk.left_since d d1 d2 _ (fronts (placed ∷ rest))
-        (weaker disk.moment disk.left_since d1 d2 _ _ (λ c s. either_front capacity before done placed rest c s) run)
+      (StandsWithEither ground done placed)) where
+    moments : LeavesFronts disk ground (done ++ placed ∷ []) d d2
+    moments =
+        joined disk.moment disk.left_since d d1 d2 _ (fronts (placed ∷ []))
+        (weaker disk.moment disk.left_since d1 d2 _ _ (λ c s. either_front ground done placed c s) run)
 
     -- the append answered an error
-    pub append_stopped : (rest : List Placed) (e : ShelfError) → IsFile placed.file
-        → StandsForEither capacity (with_files before done) (item_for placed) (disk.contents d2)
-        × ((c : List ℕ) → disk.may_leave d2 c → StandsForEither capacity (with_files before done) (item_for placed) c)
+    append_stopped : (e : ShelfError) → IsFile placed.file
+        → StandsWithEither ground done placed (disk.contents d2)
+        → ((c : List ℕ) → disk.may_leave d2 c → StandsWithEither ground done placed c)
         → (e ≡ Disk' → Rose (disk.faults d1) (disk.faults d2))
         → ((e ≡ Disk' → ⊥) → d2 ≡ d1)
         → IsAppendRefusal (item_for placed) (kept_by shelf) e
-        → Stops disk out capacity before (cause_of e) (done ++ placed ∷ rest) d d2 o o1
-    append_stopped rest Disk' is either rose stays refusal = record {
-      any_moment = moments rest;
+        → Stops disk out ground (cause_of e) (done ++ placed ∷ []) d d2 o o1
+    append_stopped Disk' is now left rose stays refusal = record {
+      any_moment = moments;
       why = record {
         done = done;
-        rest = placed ∷ rest;
+        rest = placed ∷ [];
         split = refl;
-        contents = either_more capacity before done placed rest (disk.contents d2) either.0;
-        images = λ c image. either_more capacity before done placed rest c (either.1 c image);
+        contents = either_more ground done placed (disk.contents d2) now;
+        images = λ c image. either_more ground done placed c (left c image);
         got = so_far.put.put;
         rose = subst (λ (k : ℕ). Rose k (disk.faults d2)) so_far.disk_count (rose refl);
       };
     }
-    append_stopped rest (Capacity' needed' most) is either rose stays refusal =
+    append_stopped (Capacity' needed most) is now left rose stays refusal =
         let same : d2 ≡ d1 = stays (λ other. cc (other)) in
-        let of : most ≡ capacity = refusal.3 ∙ capacity_is in
-        let needs : needed' ≡ end_of (with_files before (done ++ placed ∷ [])) = refusal.2 ∙ needed placed is in
         record {
-          any_moment = moments rest;
+          any_moment = moments;
           why = record {
             done = done;
             next = placed;
-            rest = rest;
+            rest = [];
             split = refl;
-            durable =
-                subst (λ (x : D). IsDurable disk capacity (with_files before done) x) (sym same)
-                so_far.settled.on_disk;
+            durable = subst (λ (x : D). HoldsStill ground done disk x) (sym same) so_far.settled.on_disk;
             got = so_far.put.put;
-            needs = needs;
-            of = of;
-            over = omega (arith, needs, refusal.1, capacity_is, ends placed);
+            needs = refusal.2 ∙ needed_is disk done shelf d1 placed is ground so_far.settled;
+            of = refusal.3 ∙ capacity_is disk done shelf d1 ground so_far.settled;
+            over = omega (
+              arith,
+              refusal.1,
+              capacity_is disk done shelf d1 ground so_far.settled,
+              ends disk done shelf d1 placed ground so_far.settled,
+            );
           };
         }
-    append_stopped rest NoMemory' is either rose stays refusal =
+    append_stopped NoMemory' is now left rose stays refusal =
         let same : d2 ≡ d1 = stays (λ other. cc (other)) in
         record {
-          any_moment = moments rest;
+          any_moment = moments;
           why = record {
             done = done;
-            rest = placed ∷ rest;
+            rest = placed ∷ [];
             split = refl;
-            durable =
-                subst (λ (x : D). IsDurable disk capacity (with_files before done) x) (sym same)
-                so_far.settled.on_disk;
+            durable = subst (λ (x : D). HoldsStill ground done disk x) (sym same) so_far.settled.on_disk;
             got = so_far.put.put;
           };
         }
-    append_stopped rest Failed' is either rose stays refusal =
+    append_stopped Failed' is now left rose stays refusal =
         let no : false ≡ true = sym so_far.settled.kept.working ∙ refusal in absurd (cc no)
-    append_stopped rest _ is either rose stays refusal = absurd refusal
+    append_stopped _ is now left rose stays refusal = absurd refusal
 
-    module _ (shelf2 : Shelf)
-        (settled : IsSettled disk capacity (with_files before done ++ item_for placed ∷ []) shelf2 d2) (n : ℕ)
+    module _ (shelf2 : Shelf) (settled : IsSettledOn ground (done ++ placed ∷ []) disk shelf2 d2) (n : ℕ)
         (text : List ℕ) (place : n ≡ length (kept_by shelf).way.entries) (is : text ≡ shelved_line n placed.file)
         (o2 : O) where
-      line_is : text ≡ shelved_line (next_number before + length done) placed.file
-      line_is = is ∙ ap (λ (k : ℕ). shelved_line k placed.file) (place ∙ number)
+      line_is : text ≡ shelved_line (next_number ground + length done) placed.file
+      line_is =
+          is
+          ∙ ap (λ (k : ℕ). shelved_line k placed.file)
+          (place ∙ number_is disk done shelf d1 ground so_far.settled)
 
-      settled_after : IsSettled disk capacity (with_files before (done ++ placed ∷ [])) shelf2 d2
-      settled_after =
-          subst (λ (l : List Item). IsSettled disk capacity l shelf2 d2)
-          (sym (with_files-append before done (placed ∷ []))) settled
-
-      lines_are : shelved_lines (next_number before) (done ++ placed ∷ [])
-          ≡ shelved_lines (next_number before) done ++ text
+      lines_are : shelved_lines (next_number ground) (done ++ placed ∷ [])
+          ≡ shelved_lines (next_number ground) done ++ text
       lines_are =
-          shelved_lines-push (next_number before) done placed
-          ∙ ap (λ (l : List ℕ). shelved_lines (next_number before) done ++ l) (sym line_is)
+          shelved_lines-push (next_number ground) done placed
+          ∙ ap (λ (l : List ℕ). shelved_lines (next_number ground) done ++ l) (sym line_is)
 
       -- the line was put
-      pub shelved : disk.faults d2 ≡ disk.faults d1 → Puts out text o1 o2
-          → ShelvesSoFar disk out capacity before (done ++ placed ∷ []) shelf2 d d2 o o2
-      shelved disk_count put = record {
-        settled = settled_after;
-        any_moment = moments [];
+      line_put : disk.faults d2 ≡ disk.faults d1 → Puts out text o1 o2
+          → ShelvesSoFar disk out ground (done ++ placed ∷ []) shelf2 d d2 o o2
+      line_put disk_count put = record {
+        settled = settled;
+        any_moment = moments;
         put = record {
           told = λ t. put.told (so_far.put.told t);
           put = λ t.
               put.put (so_far.put.told t)
               ∙ ap (λ (l : List ℕ). l ++ text) (so_far.put.put t)
-              ∙ append_assoc (out.contents o) (shelved_lines (next_number before) done) text
+              ∙ append_assoc (out.contents o) (shelved_lines (next_number ground) done) text
               ∙ ap (λ (l : List ℕ). out.contents o ++ l) (sym lines_are);
           kept = put.kept ∙ so_far.put.kept;
         };
@@ -368,16 +296,16 @@ module _ {D O : Type 0} (disk : DiskOf D) (out : SinkOf O) (capacity : ℕ) (bef
       }
 
       -- a part of the line was put
-      pub line_stopped : (rest : List Placed) → PutFails out text o1 o2
-          → Stops disk out capacity before (Failed Output) (done ++ placed ∷ rest) d d2 o o2
-      line_stopped rest fails = record {
-        any_moment = moments rest;
+      line_stopped : PutFails out text o1 o2
+          → Stops disk out ground (Failed Output) (done ++ placed ∷ []) d d2 o o2
+      line_stopped fails = record {
+        any_moment = moments;
         why = record {
           done = done;
           last = placed;
-          rest = rest;
-          split = sym (append_assoc done (placed ∷ []) rest);
-          durable = settled_after.on_disk;
+          rest = [];
+          split = sym (append-nil (done ++ placed ∷ []));
+          durable = settled.on_disk;
           part = λ t.
               let cut = fails.part (so_far.put.told t) in
               record {
@@ -449,3 +377,88 @@ module _ {D O : Type 0} (disk : DiskOf D) (placed : Placed) (shelf shelf' : Shel
   not_appended NoMemory' refusal = stops_at_one NoMemory placed shelf d d' o o (λ needed most is. cc (is))
   not_appended Failed' refusal = stops_at_one (Failed Disk) placed shelf d d' o o (λ needed most is. cc (is))
   not_appended _ refusal = absurd refusal
+
+-- ---- one file
+
+-- there was no memory for its line
+pub no_line : {D O : Type 0} (disk : DiskOf D) (out : SinkOf O) (files : List Placed) (shelf : Shelf) (d : D) (o : O)
+    → StopsShelving disk out NoMemory files shelf d d o o
+no_line disk out files shelf d o = record {
+  kind = tt;
+  told_by_disk = λ t. t;
+  told_by_out = λ t. t;
+  first = λ works. (refl, refl);
+  stops = λ ground done d0 o0 so_far. out_of_memory disk out ground done shelf d0 d o0 o so_far files;
+  grown = stops_for_memory files shelf d o;
+}
+
+module _ {D O : Type 0} (disk : DiskOf D)
+    (leaves_contents : (d : D) → disk.tells d → disk.may_leave d (disk.contents d))
+    (counts_now : (d : D) (t : ℕ) (c : List ℕ) → disk.tells d → t ≤ disk.moment d → disk.may_leave d c
+    → disk.left_since d t c)
+    (out : SinkOf O) (placed : Placed) (shelf shelf' : Shelf) (d d' : D) (o : O) where
+  -- it wasn't appended
+  pub one_refused : (e : ShelfError) → IsFile placed.file
+      → Appends disk placed shelf shelf' d d' (Err e)
+      → StopsShelving disk out (cause_of e) (placed ∷ []) shelf d d' o o
+  one_refused e is appends =
+      let adds = appends.adds in
+      record {
+        kind = append_kind (item_for placed) (kept_by shelf) e appends.refused;
+        told_by_disk = adds.calls.told;
+        told_by_out = λ t. t;
+        first = λ works. first_refused {A = ℕ} e (Err e) 0 0 (disk.faults d) (disk.faults d') (out.faults o) refl
+            (append_works (item_for placed) (kept_by shelf) e appends.refused works) adds.calls.counted;
+        stops = λ ground done d0 o0 so_far.
+            let settled = so_far.settled in
+            append_stopped disk out ground done shelf d0 d o0 o so_far placed d'
+            (moments_on disk leaves_contents counts_now done placed shelf shelf' d d' (Err e) adds ground settled) e is
+            (now_on disk leaves_contents counts_now done placed shelf shelf' d d' (Err e) adds ground settled)
+            (left_on disk leaves_contents counts_now done placed shelf shelf' d d' (Err e) adds ground settled)
+            (rose_of {A = ℕ} disk d d' (Err e) e refl adds.calls.counted)
+            (λ other. ⊎_elim (λ is. absurd (other is)) (λ same. same.0) adds.untouched)
+            appends.refused;
+        grown = not_appended disk placed shelf shelf' d d' o (Err e) appends e appends.refused;
+      }
+
+  -- it was
+  module _ (number : ℕ) (appends : Appends disk placed shelf shelf' d d' (Ok number)) (n : ℕ) (text : List ℕ)
+      (place : n ≡ length (kept_by shelf).way.entries) (is : text ≡ shelved_line n placed.file) (o' : O) where
+    module _ (ground : Ground) (done : List Placed) (d0 : D) (o0 : O)
+        (so_far : ShelvesSoFar disk out ground done shelf d0 d o0 o) where
+      settled_now : IsSettledOn ground (done ++ placed ∷ []) disk shelf' d'
+      settled_now =
+          settled_on disk leaves_contents counts_now done placed shelf shelf' d d' number appends.adds ground
+          so_far.settled
+
+      run : LeavesOnly disk.moment disk.left_since d d' (StandsWithEither ground done placed)
+      run =
+          moments_on disk leaves_contents counts_now done placed shelf shelf' d d' (Ok number) appends.adds ground
+          so_far.settled
+
+    -- and its line was put
+    pub one_shelved : Puts out text o o' → HasShelved disk out (placed ∷ []) shelf shelf' d d' o o'
+    one_shelved put = record {
+      told_by_disk = appends.adds.calls.told;
+      told_by_out = put.told;
+      working = λ works. ap (λ (k : Kept). k.failed) appends.adds.kept ∙ works;
+      disk_count = appends.adds.calls.counted;
+      out_count = put.kept;
+      shelved = λ ground done d0 o0 so_far.
+          line_put disk out ground done shelf d0 d o0 o so_far placed d' (run ground done d0 o0 so_far) shelf'
+          (settled_now ground done d0 o0 so_far) n text place is o' appends.adds.calls.counted put;
+      grown = appended disk placed shelf shelf' d d' o (Ok number) appends number refl o';
+    }
+
+    -- and a part of its line
+    pub one_cut : PutFails out text o o' → StopsShelving disk out (Failed Output) (placed ∷ []) shelf d d' o o'
+    one_cut fails = record {
+      kind = tt;
+      told_by_disk = appends.adds.calls.told;
+      told_by_out = fails.told;
+      first = λ works. (fails.rose, appends.adds.calls.counted);
+      stops = λ ground done d0 o0 so_far.
+          line_stopped disk out ground done shelf d0 d o0 o so_far placed d' (run ground done d0 o0 so_far) shelf'
+          (settled_now ground done d0 o0 so_far) n text place is o' fails;
+      grown = stops_at_one (Failed Output) placed shelf d d' o o' (λ needed most is. cc (is));
+    }

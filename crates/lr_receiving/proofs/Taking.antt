@@ -7,7 +7,6 @@ use Rattle.std.proofs.Common.{
   ◌<◌,
   ◌≤◌,
   ◌^◌,
-  false,
   List,
   [],
   ◌∷◌,
@@ -36,9 +35,6 @@ use Rattle.lr_layers.specs.Layers.{Numbers, frames_of_outcomes, numbers_of}
 use Rattle.lr_layers.specs.Origins.{placed_of_outcomes, placed_packets}
 use Rattle.lr_layers.specs.Standing.{StandsFor, numbers}
 use Rattle.lr_layers.proofs.GoingOn.{go_on}
-use Rattle.lr_shelf_format.specs.Items.{Item}
-use Rattle.lr_shelf.specs.Kept.{kept_by}
-use Rattle.lr_causes.specs.Causes.{counts}
 use Rattle.lr_causes.specs.declared.cause.Cause.{Cause}
 use Rattle.lr_causes.specs.declared.cause.Cause.TheVariants.{NoMemory}
 use Rattle.lr_reading.specs.Arrivals.{HasWholeFrame, arrivals_of, outcomes_of_arrivals}
@@ -52,14 +48,11 @@ use Rattle.lr_receiving.specs.declared.shelver.Shelver.{Shelver}
 use Rattle.lr_receiving.specs.declared.sums.Sums.{Sums}
 use Rattle.lr_receiving.specs.Inputs.{files_of_bytes}
 use Rattle.lr_receiving.specs.Reception.{ReadsAll, ReadsSome}
-use Rattle.lr_receiving.specs.Shelved.{MayStop, ShelvesSoFar, Grows, GrowsNoMore, Gains, GainsNoMore}
+use Rattle.lr_receiving.specs.Shelved.{HasShelved, StopsShelving, Gains, GainsNoMore}
 use Rattle.lr_receiving.specs.ShelverTaken.{IsOnSame, ShelverTook, ShelverStopped}
-use Rattle.lr_receiving.specs.Shelving.{Stops}
 use Rattle.lr_reading.proofs.Outcomes.{both_kinds}
-use Rattle.lr_receiving.proofs.Causing.{first_later}
-use Rattle.lr_receiving.specs.First.{IsFirst}
-use Rattle.lr_receiving.proofs.Growing.{grows_none, grows_on, stops_after, stops_before, stops_for_memory}
-use Rattle.lr_receiving.proofs.Shelving.{out_of_memory, stops_more}
+use Rattle.lr_receiving.proofs.Pieces.{shelved_none, shelved_on, stopped_after, stopped_before}
+use Rattle.lr_receiving.proofs.Shelving.{no_line}
 use Rattle.lr_receiving.proofs.WholeFrames.{with_outcome}
 
 -- no outcomes have no files
@@ -126,17 +119,9 @@ module _ {D O : Type 0} (disk : DiskOf D) (out : SinkOf O) where
     on_same = record { same_layers = refl; same_shelf = refl; same_disk = refl; same_out = refl };
     stands = stands;
     counted = counted;
-    told_by_disk = λ t. t;
-    told_by_out = λ t. t;
-    working = λ works. works;
-    disk_count = refl;
-    out_count = refl;
-    shelved = λ capacity items d o so_far.
-        subst (λ (l : List Placed). ShelvesSoFar disk out capacity items l shelver.shelf.now d shelver.disk.now o
-        shelver.out.now) (sym no_files) so_far;
-    grown = subst (λ (l : List Placed). Grows l shelver.shelf.now shelver.shelf.now shelver.disk.now shelver.disk.now
-        shelver.out.now shelver.out.now) (sym no_files)
-        (grows_none shelver.shelf.now shelver.disk.now shelver.out.now);
+    shelved = subst (λ (l : List Placed). HasShelved disk out l shelver.shelf.now shelver.shelf.now shelver.disk.now
+        shelver.disk.now shelver.out.now shelver.out.now) (sym no_files)
+        (shelved_none disk out shelver.shelf.now shelver.disk.now shelver.out.now);
   }
 
   pub shelver_ready : (shelver : Shelver D O) → StandsFor shelver.layers.now []
@@ -163,18 +148,9 @@ module _ {D O : Type 0} (disk : DiskOf D) (out : SinkOf O) where
         let files = placed_of_outcomes (outcomes_of_arrivals arrivals) in
         record {
           on_same = took.on_same;
-          kind = tt;
-          told_by_disk = took.told_by_disk;
-          told_by_out = took.told_by_out;
-          caused = λ works. (took.disk_count, took.out_count);
-          stops = λ capacity items d o so_far.
-              subst (λ (l : List Placed). Stops disk out capacity items NoMemory l d now.disk.now o now.out.now)
-              (append-nil files)
-              (out_of_memory disk out capacity items files now.shelf.now d now.disk.now o now.out.now
-              (took.shelved capacity items d o so_far) []);
-          grown = subst (λ (l : List Placed). GrowsNoMore NoMemory l before.shelf.now before.disk.now now.disk.now
-              before.out.now now.out.now) (append-nil files)
-              (stops_after took.grown (stops_for_memory [] now.shelf.now now.disk.now now.out.now));
+          stopped = subst (λ (l : List Placed). StopsShelving disk out NoMemory l before.shelf.now before.disk.now
+              now.disk.now before.out.now now.out.now) (append-nil files)
+              (stopped_after disk out took.shelved (no_line disk out [] now.shelf.now now.disk.now now.out.now));
         }
 
     module _ (arrival : Arrival) (now' : Shelver D O) (same : IsOnSame now now') where
@@ -186,9 +162,6 @@ module _ {D O : Type 0} (disk : DiskOf D) (out : SinkOf O) where
         same_out = same.same_out ∙ took.on_same.same_out;
       }
 
-      abbrev files_now : List Placed
-      files_now = placed_of_outcomes (outcomes_of_arrivals arrivals ++ arrival.outcome ∷ [])
-
       is : placed_of_outcomes (outcomes_of_arrivals arrivals ++ arrival.outcome ∷ [])
           ≡ placed_of_outcomes (outcomes_of_arrivals (arrivals ++ arrival ∷ []))
       is = ap placed_of_outcomes (sym (outcomes-push arrivals arrival))
@@ -196,59 +169,29 @@ module _ {D O : Type 0} (disk : DiskOf D) (out : SinkOf O) where
       -- its files were shelved
       pub shelver_more : StandsFor now'.layers.now (outcomes_of_arrivals arrivals ++ arrival.outcome ∷ [])
           → numbers now'.counts ≡ now'.layers.now.numbers
-          → ((kept_by now.shelf.now).failed ≡ false → (kept_by now'.shelf.now).failed ≡ false)
-          → (disk.tells now.disk.now → disk.tells now'.disk.now) → (out.tells now.out.now → out.tells now'.out.now)
-          → disk.faults now'.disk.now ≡ disk.faults now.disk.now → out.faults now'.out.now ≡ out.faults now.out.now
-          → ((capacity : ℕ) (items : List Item) (d : D) (o : O)
-          → ShelvesSoFar disk out capacity items (placed_of_outcomes (outcomes_of_arrivals arrivals)) now.shelf.now
-          d now.disk.now o now.out.now
-          → ShelvesSoFar disk out capacity items files_now now'.shelf.now d now'.disk.now o now'.out.now)
-          → Gains (outcomes_of_arrivals arrivals) arrival.outcome now.shelf.now now'.shelf.now now.disk.now
+          → Gains disk out (outcomes_of_arrivals arrivals) arrival.outcome now.shelf.now now'.shelf.now now.disk.now
           now'.disk.now now.out.now now'.out.now
           → ShelverTook disk out before (arrivals ++ arrival ∷ []) now'
-      shelver_more stands counted works tell_disk tell_out disk_count out_count shelved gains = record {
+      shelver_more stands counted gains = record {
         on_same = both;
         stands = subst (λ (l : List Outcome). StandsFor now'.layers.now l) (sym (outcomes-push arrivals arrival))
             stands;
         counted = counted;
-        told_by_disk = λ t. tell_disk (took.told_by_disk t);
-        told_by_out = λ t. tell_out (took.told_by_out t);
-        working = λ worked. works (took.working worked);
-        disk_count = disk_count ∙ took.disk_count;
-        out_count = out_count ∙ took.out_count;
-        shelved = λ capacity items d o so_far.
-            subst (λ (l : List Placed). ShelvesSoFar disk out capacity items l now'.shelf.now d now'.disk.now o
-            now'.out.now) is (shelved capacity items d o (took.shelved capacity items d o so_far));
-        grown = subst (λ (l : List Placed). Grows l before.shelf.now now'.shelf.now before.disk.now now'.disk.now
-            before.out.now now'.out.now) (sym gains.files ∙ is) (grows_on took.grown gains.grown);
+        shelved = subst (λ (l : List Placed). HasShelved disk out l before.shelf.now now'.shelf.now before.disk.now
+            now'.disk.now before.out.now now'.out.now) (sym gains.files ∙ is)
+            (shelved_on disk out took.shelved gains.shelved);
       }
 
       -- they were not
-      pub shelver_stopped : (cause : Cause) → MayStop cause
-          → (disk.tells now.disk.now → disk.tells now'.disk.now) → (out.tells now.out.now → out.tells now'.out.now)
-          → ((kept_by now.shelf.now).failed ≡ false → IsFirst cause
-          (counts 0 (disk.faults now.disk.now) (out.faults now.out.now))
-          (counts 0 (disk.faults now'.disk.now) (out.faults now'.out.now)))
-          → ((capacity : ℕ) (items : List Item) (d : D) (o : O)
-          → ShelvesSoFar disk out capacity items (placed_of_outcomes (outcomes_of_arrivals arrivals)) now.shelf.now
-          d now.disk.now o now.out.now
-          → Stops disk out capacity items cause files_now d now'.disk.now o now'.out.now)
-          → GainsNoMore cause (outcomes_of_arrivals arrivals) arrival.outcome now.shelf.now now.disk.now
+      pub shelver_stopped : (cause : Cause)
+          → GainsNoMore disk out cause (outcomes_of_arrivals arrivals) arrival.outcome now.shelf.now now.disk.now
           now'.disk.now now.out.now now'.out.now
           → ShelverStopped disk out before (arrivals ++ arrival ∷ []) cause now'
-      shelver_stopped cause may tell_disk tell_out caused stops gains = record {
+      shelver_stopped cause gains = record {
         on_same = both;
-        kind = may;
-        told_by_disk = λ t. tell_disk (took.told_by_disk t);
-        told_by_out = λ t. tell_out (took.told_by_out t);
-        caused = λ works. first_later cause 0 0 (disk.faults before.disk.now) (disk.faults now.disk.now)
-            (disk.faults now'.disk.now) (out.faults before.out.now) (out.faults now.out.now)
-            (out.faults now'.out.now) took.disk_count took.out_count (caused (took.working works));
-        stops = λ capacity items d o so_far.
-            subst (λ (l : List Placed). Stops disk out capacity items cause l d now'.disk.now o now'.out.now) is
-            (stops capacity items d o (took.shelved capacity items d o so_far));
-        grown = subst (λ (l : List Placed). GrowsNoMore cause l before.shelf.now before.disk.now now'.disk.now
-            before.out.now now'.out.now) (sym gains.files ∙ is) (stops_after took.grown gains.grown);
+        stopped = subst (λ (l : List Placed). StopsShelving disk out cause l before.shelf.now before.disk.now
+            now'.disk.now before.out.now now'.out.now) (sym gains.files ∙ is)
+            (stopped_after disk out took.shelved gains.stopped);
       }
 
 -- ---- the whole input
@@ -263,17 +206,13 @@ module _ {S D O : Type 0} (source : SourceOf S) (disk : DiskOf D) (out : SinkOf 
       before.out.now now.out.now
   received_all sums all same =
       let took = all.taken before begun in
-      let is = sym (files_all input all.bytes) in
       record {
         bytes = all.bytes;
         ends = all.ends;
         counts = ap numbers same ∙ took.counted ∙ took.stands.numbers
             ∙ ap (λ (l : List Outcome). numbers_of l) (sym (outcomes_are input all.bytes));
-        shelved = λ capacity items d o so_far.
-            subst (λ (l : List Placed). ShelvesSoFar disk out capacity items l now.shelf.now d now.disk.now o
-            now.out.now) is (took.shelved capacity items d o so_far);
-        grown = subst (λ (l : List Placed). Grows l before.shelf.now now.shelf.now before.disk.now now.disk.now
-            before.out.now now.out.now) is took.grown;
+        shelved = subst (λ (l : List Placed). HasShelved disk out l before.shelf.now now.shelf.now before.disk.now
+            now.disk.now before.out.now now.out.now) (sym (files_all input all.bytes)) took.shelved;
       }
 
   -- they were not
@@ -282,21 +221,15 @@ module _ {S D O : Type 0} (source : SourceOf S) (disk : DiskOf D) (out : SinkOf 
       → ReadsSome source disk out input limit cause before.shelf.now s s' before.disk.now now.disk.now
       before.out.now now.out.now
   received_some cause some =
-      let stopped = some.stops before begun in
+      let stopped = (some.stops before begun).stopped in
       let first = files_first input some.bytes some.passed some.rest some.split in
-      let passed = placed_of_outcomes (outcomes_of_arrivals some.passed) in
       record {
         bytes = some.bytes;
         read = some.read;
-        stops = λ capacity items d o so_far.
-            subst (λ (l : List Placed). Stops disk out capacity items cause l d now.disk.now o now.out.now)
-            (sym first.1)
-            (stops_more disk out capacity items d now.disk.now o now.out.now passed first.0 cause
-            (stopped.stops capacity items d o so_far));
-        grown = subst (λ (l : List Placed). GrowsNoMore cause l before.shelf.now before.disk.now now.disk.now
-            before.out.now now.out.now) (sym first.1) (stops_before first.0 stopped.grown);
-        files = passed;
-        early = stopped.stops;
+        stopped = subst (λ (l : List Placed). StopsShelving disk out cause l before.shelf.now before.disk.now
+            now.disk.now before.out.now now.out.now) (sym first.1) (stopped_before disk out first.0 stopped);
+        files = placed_of_outcomes (outcomes_of_arrivals some.passed);
+        early = stopped;
         first = λ line symbols told few calm.
             let later = some.first line symbols told few calm in
             files_first input (some.bytes ++ source.left s') some.passed later.0 later.1;

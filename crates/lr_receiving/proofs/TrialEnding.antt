@@ -38,10 +38,11 @@ use Rattle.lr_causes.specs.declared.cause.Cause.{Cause}
 use Rattle.lr_causes.specs.declared.cause.Cause.TheVariants.{Done, Failed, NoMemory, Refused}
 use Rattle.lr_causes.specs.declared.cause.Party.TheVariants.{Disk, Output}
 use Rattle.lr_causes.specs.declared.cause.Refusal.TheVariants.{NotAShelf, Capacity, NotEmpty}
-use Rattle.lr_causes.specs.Causes.{cause_of, IsEarlier, counts}
+use Rattle.lr_causes.specs.Causes.{IsEarlier, counts}
+use Rattle.lr_refusals.specs.Errors.{cause_of}
 use Rattle.lr_receiving.specs.Filling.{FillEnds, Fills, IsWithdrawn, LeavesBlankOrItems}
 use Rattle.lr_receiving.specs.First.{IsFirst}
-use Rattle.lr_receiving.specs.Shelving.{with_files}
+use Rattle.lr_shelf.specs.Grounds.{with_files}
 use Rattle.lr_receiving.specs.Trial.{
   trial_capacity,
   StandsForPart,
@@ -107,6 +108,8 @@ module _ {D O : Type 0} (disk : DiskOf D) (out : SinkOf O) (symbols : List ℕ) 
     init_stops = record {
       on_disk = init_refused;
       on_out = refused_out e refusal;
+      told_by_disk = inits.calls.told;
+      told_by_out = λ t. t;
       first = first_refused e result 0 0 (disk.faults d) (disk.faults d1) (out.faults o) is
           (λ failed. subst (λ (x : ShelfError). IsInitRefusal disk d x) failed refusal) inits.calls.counted;
     }
@@ -162,12 +165,16 @@ module _ {D O : Type 0} (disk : DiskOf D) (out : SinkOf O) (symbols : List ℕ) 
       filled other = record {
         on_disk = after cause2 d2 (whole_ends cause2 other fills.on_disk.ends) filled_moments;
         on_out = fills.on_out;
+        told_by_disk = λ t. fills.on_disk.told (inits.calls.told t);
+        told_by_out = fills.told_by_out;
         first = filled_first;
       }
 
     -- ---- memory was refused
-    module _ (d2 : D) (o2 : O) (fills : Fills disk out symbols NoMemory d1 d2 o o2)
-        (told2 : disk.tells d1 → disk.tells d2) where
+    module _ (d2 : D) (o2 : O) (fills : Fills disk out symbols NoMemory d1 d2 o o2) where
+      told_there : disk.tells d → disk.tells d2
+      told_there told = fills.on_disk.told (inits.calls.told told)
+
       abbrev held : disk.tells d → HoldsTrialPart disk symbols 0 d2
       held told = fills.on_disk.ends (inits.calls.told told)
 
@@ -228,21 +235,23 @@ module _ {D O : Type 0} (disk : DiskOf D) (out : SinkOf O) (symbols : List ℕ) 
       out_so NoMemory early = fills.on_out
       out_so _ early = absurd early
 
-      pub withdrawn : (cause : Cause) (d' : D) → IsEarlier cause
+      pub withdrawn : (cause : Cause) (d' : D) → IsEarlier cause → (disk.tells d2 → disk.tells d')
           → IsFirst cause (counts 0 (disk.faults d2) 0) (counts 0 (disk.faults d') 0)
           → (disk.tells d2 → (items : List Item) → IsDurable disk trial_capacity items d2 → cause ≡ NoMemory
           → IsWithdrawn disk items d')
           → (disk.tells d2 → (items : List Item) → IsDurable disk trial_capacity items d2
           → LeavesBlankOrItems disk items d2 d')
           → TrialRun disk out symbols cause d d' o o2
-      withdrawn cause d' early first ends moments = record {
+      withdrawn cause d' early told' first ends moments = record {
         on_disk = after cause d'
-            (ends_so cause d' early (λ told. ends (told2 (inits.calls.told told)) (items told) (durable told)))
+            (ends_so cause d' early (λ told. ends (told_there told) (items told) (durable told)))
             (λ told. joined disk.moment disk.left_since d1 d2 d' _ (filled_moments d2 o2 NoMemory fills told)
             (weaker disk.moment disk.left_since d2 d' _ _
             (λ c left. ⊎_elim (λ blank. inl blank) (λ stands. inr (stands_part told c stands)) left)
-            (moments (told2 (inits.calls.told told)) (items told) (durable told))));
+            (moments (told_there told) (items told) (durable told))));
         on_out = out_so cause early;
+        told_by_disk = λ t. told' (told_there t);
+        told_by_out = fills.told_by_out;
         first = first_after cause (disk.faults d) (disk.faults d2) (disk.faults d') (out.faults o) (out.faults o2) early
             (fills.first.0 ∙ same_count) fills.first.1 first;
       }

@@ -57,21 +57,24 @@ use Rattle.lr_causes.specs.declared.cause.Refusal.TheVariants.{NotAShelf, Capaci
 use Rattle.lr_receiving.specs.declared.sums.Sums.{Sums}
 use Rattle.lr_conv.specs.declared.line.TheConstants.{STANDARD}
 use Rattle.lr_forms.specs.declared.forms.Input.TheVariants.{Symbols}
-use Rattle.lr_causes.specs.Causes.{cause_of, counts}
+use Rattle.lr_causes.specs.Causes.{counts}
+use Rattle.lr_refusals.specs.Errors.{cause_of}
 use Rattle.lr_receiving.specs.Inputs.{files_of_bytes}
 use Rattle.lr_reading.specs.Reading.{IsRead, EndsFor}
 use Rattle.lr_receiving.specs.Receive.{receive_last}
 use Rattle.lr_receiving.specs.Reception.{sums_line, PutsLast, LastStops, ReadsAll, ReadsSome}
-use Rattle.lr_receiving.specs.Shelving.{with_files, StandsForFront, LeavesFronts, StopsBy}
+use Rattle.lr_shelf.specs.Grounds.{OfItems, HoldsStill, with_files}
+use Rattle.lr_receiving.specs.Shelving.{StandsForFront, LeavesFronts, StopsBy}
 use Rattle.lr_receiving.specs.Shelved.{MayStop, StopsTrial, ShelvesSoFar}
 use Rattle.lr_receiving.specs.Trial.{trial_capacity, StandsForPart, HoldsTrialPart, OutEnds}
-use Rattle.lr_receiving.specs.Filling.{FillEnds, FillsDisk, Fills}
-use Rattle.lr_receiving.proofs.Causing.{none_rose}
+use Rattle.lr_receiving.specs.Filling.{FillEnds, FillsDisk, Fills, StopsFilling}
+use Rattle.lr_receiving.proofs.Causing.{first_later, first_refused, none_rose}
 use Rattle.lr_receiving.specs.First.{IsFirst}
 use Rattle.lr_receiving.proofs.Headline.{end_of-append}
 use Rattle.lr_receiving.proofs.Taking.{no_bytes}
 use Rattle.lr_receiving.proofs.ReceiveEnding.{last_line_is, loaded}
-use Rattle.lr_receiving.proofs.Shelving.{with_files-append, same_of}
+use Rattle.lr_shelf.proofs.Grounds.{of_items, with_files-append}
+use Rattle.lr_receiving.proofs.Shelving.{same_of}
 
 -- a sink that counts no fault doesn't stop it
 pub stops_trial : (cause : Cause) (s s' d d' : ℕ) → MayStop cause → IsFirst cause (counts s d 0) (counts s' d' 0)
@@ -84,7 +87,7 @@ stops_trial _ s s' d d' may caused = absurd may
 
 -- a front of the files of a part
 stands_for_part : (symbols part later : List ℕ) → symbols ≡ part ++ later → (bytes : List ℕ)
-    → StandsForFront trial_capacity [] (files_of_bytes (Symbols STANDARD) part) 0 bytes → StandsForPart symbols 0 bytes
+    → StandsForFront (OfItems trial_capacity []) (files_of_bytes (Symbols STANDARD) part) 0 bytes → StandsForPart symbols 0 bytes
 stands_for_part symbols part later split bytes stands = record { part = part; later = later; split = split; stands = stands }
 
 -- an empty shelf
@@ -113,6 +116,12 @@ module _ {D : Type 0} (disk : DiskOf D) (symbols : List ℕ) (d1 : D)
         let durable = loads.durable trial_capacity [] told (empty told) in
         record { contents = none_of symbols (disk.contents d2) durable.stands; images = durable.durable }
 
+    unloaded_kind : (e : ShelfError) → IsLoadRefusal disk d1 e → StopsTrial (cause_of e)
+    unloaded_kind Disk' r = tt
+    unloaded_kind (NotAShelf' at) r = tt
+    unloaded_kind NoMemory' r = tt
+    unloaded_kind _ r = absurd r
+
     unloaded_ends : (e : ShelfError) → result2 ≡ Err e → IsLoadRefusal disk d1 e
         → FillEnds disk symbols (cause_of e) d1 d2
     unloaded_ends Disk' is r = tt
@@ -121,31 +130,40 @@ module _ {D : Type 0} (disk : DiskOf D) (symbols : List ℕ) (d1 : D)
     unloaded_ends _ is r = absurd r
 
     pub not_loaded : (e : ShelfError) → result2 ≡ Err e → IsLoadRefusal disk d1 e
-        → FillsDisk disk symbols (cause_of e) d1 d2
+        → StopsFilling disk symbols (cause_of e) d1 d2
     not_loaded e is r = record {
-      ends = unloaded_ends e is r;
-      any_moment = λ told. weaker disk.moment disk.left_since d1 d2 _ _ (λ c stands. none_of symbols c stands)
-          (empty_moments told);
+      kind = unloaded_kind e r;
+      fills = record {
+        told = loads.calls.told;
+        ends = unloaded_ends e is r;
+        any_moment = λ told. weaker disk.moment disk.left_since d1 d2 _ _ (λ c stands. none_of symbols c stands)
+            (empty_moments told);
+      };
+      first = first_refused e result2 0 0 (disk.faults d1) (disk.faults d2) 0 is
+          (λ failed. subst (λ (x : ShelfError). IsLoadRefusal disk d1 x) failed r) loads.calls.counted;
     }
 
     -- ---- the files of the symbols, or of the first of them
     module _ {S O : Type 0} (source : SourceOf S) (out : SinkOf O) (limit : ℕ) (few : length symbols < limit)
         (shelf : Shelf) (is2 : result2 ≡ Ok shelf) (s s' : S) (given : source.tells s)
         (gives : source.left s ≡ symbols) (d' : D) (o o' : O) where
-      begun : disk.tells d1 → ShelvesSoFar disk out trial_capacity [] [] shelf d1 d2 o o
+      same_count : disk.faults d2 ≡ disk.faults d1
+      same_count = same_of disk d1 d2 result2 shelf is2 loads.calls.counted
+
+      begun : disk.tells d1 → ShelvesSoFar disk out (OfItems trial_capacity []) [] shelf d1 d2 o o
       begun told =
           let settled = subst (λ (r : Result Shelf ShelfError). IfOk r
           (λ x. IsSettled disk trial_capacity [] x d2)) is2
           (loads.settled trial_capacity [] told (empty told).stands) in
-          loaded disk out trial_capacity [] d1 d2 o shelf settled (empty_moments told)
-          (same_of disk d1 d2 result2 shelf is2 loads.calls.counted)
+          loaded disk out (OfItems trial_capacity []) d1 d2 o shelf
+          (of_items disk [] shelf d2 trial_capacity [] settled) (empty_moments told) same_count
 
       -- what was read is the first of the symbols
       split_of : (bytes : List ℕ) → IsRead source limit bytes s s' → symbols ≡ bytes ++ source.left s'
       split_of bytes read = sym gives ∙ read.moved given
 
       module _ (part : List ℕ) (split : symbols ≡ part ++ source.left s') where
-        fronts : LeavesFronts disk trial_capacity [] (files_of_bytes (Symbols STANDARD) part) d1 d'
+        fronts : LeavesFronts disk (OfItems trial_capacity []) (files_of_bytes (Symbols STANDARD) part) d1 d'
             → LeavesOnly disk.moment disk.left_since d1 d' (StandsForPart symbols 0)
         fronts = weaker disk.moment disk.left_since d1 d' _ _ (stands_for_part symbols part (source.left s') split)
 
@@ -156,7 +174,7 @@ module _ {D : Type 0} (disk : DiskOf D) (symbols : List ℕ) (d1 : D)
             (record { first = done; rest = rest; split = is; enough = omega arith; stands = stands })
 
         holds_front : (done rest : List Placed) → files_of_bytes (Symbols STANDARD) part ≡ done ++ rest
-            → IsDurable disk trial_capacity (with_files [] done) d' → HoldsTrialPart disk symbols 0 d'
+            → HoldsStill (OfItems trial_capacity []) done disk d' → HoldsTrialPart disk symbols 0 d'
         holds_front done rest is durable =
             record { contents = front_of done rest is (disk.contents d') durable.stands; images = durable.durable }
 
@@ -171,9 +189,9 @@ module _ {D : Type 0} (disk : DiskOf D) (symbols : List ℕ) (d1 : D)
         files = files_of_bytes (Symbols STANDARD) some.bytes
 
         -- the files that were read are the first ones of all, and these fit
-        all_fit : (done rest : List Placed) (next : Placed) → some.files ≡ done ++ next ∷ rest → (needed : ℕ)
-            → needed ≡ end_of (with_files [] (done ++ next ∷ [])) → trial_capacity < needed → ⊥
-        all_fit done rest next is needed needs over =
+        all_fit : (done rest : List Placed) (next : Placed) → some.files ≡ done ++ next ∷ rest
+            → trial_capacity < end_of (with_files [] (done ++ next ∷ [])) → ⊥
+        all_fit done rest next is over =
             let few_read : length some.bytes < limit =
             omega (arith, few, ap length split, length-append some.bytes (source.left s')) in
             let first = some.first STANDARD refl given few_read calm in
@@ -185,26 +203,45 @@ module _ {D : Type 0} (disk : DiskOf D) (symbols : List ℕ) (d1 : D)
             ap (with_files []) all ∙ with_files-append [] (done ++ next ∷ []) (rest ++ first.0) in
             let le = subst (λ (l : List Item). end_of (with_files [] (done ++ next ∷ [])) ≤ end_of l) (sym whole)
             (end_of-append (with_files [] (done ++ next ∷ [])) (map item_for (rest ++ first.0))) in
-            omega (arith, le, needs, over, fit)
+            omega (arith, le, over, fit)
 
-        stopped_ends : (c : Cause) → (disk.tells d1 → StopsBy disk out trial_capacity [] c files d1 d' o o')
-            → (disk.tells d1 → StopsBy disk out trial_capacity [] c some.files d1 d' o o') → StopsTrial c
+        stopped_ends : (c : Cause) → (disk.tells d1 → StopsBy disk out (OfItems trial_capacity []) c files d1 d' o o')
+            → (disk.tells d1 → StopsBy disk out (OfItems trial_capacity []) c some.files d1 d' o o') → StopsTrial c
             → FillEnds disk symbols c d1 d'
         stopped_ends (Failed Disk) why early kind = tt
         stopped_ends NoMemory why early kind = λ told.
             let w = why told in holds_front some.bytes split w.done w.rest w.split w.durable
         stopped_ends (Refused (NotAShelf at)) why early kind = λ told. absurd (why told)
         stopped_ends (Refused (Capacity needed most)) why early kind = λ told.
-            let w = early told in absurd (all_fit w.done w.rest w.next w.split needed w.needs w.over)
+            let w = early told in absurd (all_fit w.done w.rest w.next w.split w.over)
         stopped_ends _ why early kind = absurd kind
 
-        pub stopped : StopsTrial cause → FillsDisk disk symbols cause d1 d'
-        stopped kind = record {
-          ends = stopped_ends cause (λ told. (some.stops trial_capacity [] d1 o (begun told)).why)
-              (λ told. (some.early trial_capacity [] d1 o (begun told)).why) kind;
-          any_moment = λ told.
-              fronts some.bytes split (some.stops trial_capacity [] d1 o (begun told)).any_moment;
-        }
+        -- a sink that counts no fault
+        module _ (sure : (x : O) → out.faults x ≡ 0) (works : (kept_by shelf).failed ≡ false) where
+          first : IsFirst cause (counts 0 (disk.faults d1) 0) (counts 0 (disk.faults d') 0)
+          first =
+              first_later cause 0 0 (disk.faults d1) (disk.faults d2) (disk.faults d') 0 0 0 same_count refl
+              (subst (λ (k : ℕ). IsFirst cause (counts 0 (disk.faults d2) 0) (counts 0 (disk.faults d') k)) (sure o')
+              (subst (λ (k : ℕ). IsFirst cause (counts 0 (disk.faults d2) k)
+              (counts 0 (disk.faults d') (out.faults o'))) (sure o) (some.stopped.first works)))
+
+          kind : StopsTrial cause
+          kind = stops_trial cause 0 0 (disk.faults d1) (disk.faults d') some.stopped.kind first
+
+          pub stopped : StopsFilling disk symbols cause d1 d'
+          stopped = record {
+            kind = kind;
+            fills = record {
+              told = λ t. some.stopped.told_by_disk (loads.calls.told t);
+              ends = stopped_ends cause
+                  (λ told. (some.stopped.stops (OfItems trial_capacity []) [] d1 o (begun told)).why)
+                  (λ told. (some.early.stops (OfItems trial_capacity []) [] d1 o (begun told)).why) kind;
+              any_moment = λ told.
+                  fronts some.bytes split
+                  (some.stopped.stops (OfItems trial_capacity []) [] d1 o (begun told)).any_moment;
+            };
+            first = first;
+          }
 
       -- all of them are shelved
       module _ (sums : Sums) (shelf' : Shelf)
@@ -229,17 +266,25 @@ module _ {D : Type 0} (disk : DiskOf D) (symbols : List ℕ) (d1 : D)
             ∙ ap (λ stop. receive_last (Symbols STANDARD) all.bytes stop) ended_so.0
             ∙ ap (λ bytes. receive_last (Symbols STANDARD) bytes End) ended_so.1
 
-        pub finished : disk.faults d' ≡ disk.faults d2 → disk.faults d2 ≡ disk.faults d1
-            → FillsDisk disk symbols Done d1 d'
-        finished count count2 = record {
+        so_far : disk.tells d1
+            → ShelvesSoFar disk out (OfItems trial_capacity []) (files_of_bytes (Symbols STANDARD) all.bytes) shelf' d1
+            d' o o'
+        so_far told = all.shelved.shelved (OfItems trial_capacity []) [] d1 o (begun told)
+
+        durable : disk.tells d1
+            → IsDurable disk trial_capacity (with_files [] (files_of_bytes (Symbols STANDARD) all.bytes)) d'
+        durable told =
+            let still = (so_far told).settled.on_disk in record { stands = still.stands; durable = still.durable }
+
+        pub finished : FillsDisk disk symbols Done d1 d'
+        finished = record {
+          told = λ t. all.shelved.told_by_disk (loads.calls.told t);
           ends = (
             λ told. subst (λ (l : List ℕ). IsDurable disk trial_capacity
-                (with_files [] (files_of_bytes (Symbols STANDARD) l)) d') ended_so.1
-                (all.shelved trial_capacity [] d1 o (begun told)).settled.on_disk,
-            count ∙ count2,
+                (with_files [] (files_of_bytes (Symbols STANDARD) l)) d') ended_so.1 (durable told),
+            all.shelved.disk_count ∙ same_count,
           );
-          any_moment = λ told.
-              fronts all.bytes split_all (all.shelved trial_capacity [] d1 o (begun told)).any_moment;
+          any_moment = λ told. fronts all.bytes split_all (so_far told).any_moment;
         }
 
       -- ---- for either answer
@@ -258,25 +303,18 @@ module _ {D : Type 0} (disk : DiskOf D) (symbols : List ℕ) (d1 : D)
       lines shelf' (Err cause) all calm = tt
 
       pub all_done : (shelf' : Shelf) (answer : Result Sums Cause) → AnswersAll shelf' answer
-          → (Rose (source.faults s) (source.faults s') → ⊥)
-          → OnOk answer ((disk.faults d' ≡ disk.faults d2) × (out.faults o' ≡ out.faults o))
-          → OnOk answer (FillsDisk disk symbols Done d1 d')
-      all_done shelf' (Ok sums) all calm same =
-          finished sums shelf' all calm same.0 (same_of disk d1 d2 result2 shelf is2 loads.calls.counted)
-      all_done shelf' (Err cause) all calm same = tt
+          → (Rose (source.faults s) (source.faults s') → ⊥) → OnOk answer (FillsDisk disk symbols Done d1 d')
+      all_done shelf' (Ok sums) all calm = finished sums shelf' all calm
+      all_done shelf' (Err cause) all calm = tt
 
       pub some_done : (answer : Result Sums Cause) → AnswersSome answer
           → (Rose (source.faults s) (source.faults s') → ⊥)
           → end_of (with_files [] (files_of_bytes (Symbols STANDARD) symbols)) ≤ trial_capacity
-          → IfErr answer MayStop → (f f' g g' : ℕ)
-          → ((kept_by shelf).failed ≡ false
-          → IfErr answer (λ cause. IsFirst cause (counts f g 0) (counts f' g' 0)))
-          → IfErr answer (λ cause. FillsDisk disk symbols cause d1 d')
-      some_done (Ok sums) some calm fit may f f' g g' caused = tt
-      some_done (Err cause) some calm fit may f f' g g' caused =
-          let working = subst (λ (r : Result Shelf ShelfError). IfOk r (λ x. (kept_by x).failed ≡ false)) is2
-          loads.working in
-          stopped calm fit cause some (stops_trial cause f f' g g' may (caused working))
+          → ((x : O) → out.faults x ≡ 0) → IfErr answer (λ cause. StopsFilling disk symbols cause d1 d')
+      some_done (Ok sums) some calm fit sure = tt
+      some_done (Err cause) some calm fit sure =
+          stopped calm fit cause some sure
+          (subst (λ (r : Result Shelf ShelfError). IfOk r (λ x. (kept_by x).failed ≡ false)) is2 loads.working)
 
 -- the last line wasn't put, after all was shelved
 module _ {D O : Type 0} (disk : DiskOf D) (out : SinkOf O) (symbols : List ℕ) (d d' : D) (o o' : O)
@@ -298,18 +336,20 @@ module _ {D O : Type 0} (disk : DiskOf D) (out : SinkOf O) (symbols : List ℕ) 
       }
 
   left_by : (cause : Cause) → FillEnds disk symbols cause d d' → FillsDisk disk symbols cause d d'
-  left_by cause ends = record { ends = ends; any_moment = done.any_moment }
+  left_by cause ends = record { told = done.told; ends = ends; any_moment = done.any_moment }
 
   module _ (sums : Sums) (line : sums_line sums ≡ receive_last (Symbols STANDARD) symbols End) where
     pub last_stops : (cause : Cause) → LastStops out sums cause o o' → Fills disk out symbols cause d d' o o'
     last_stops (Failed Output) stops = record {
       on_disk = left_by (Failed Output) done.ends.0;
       on_out = λ told. subst (λ (l : List ℕ). PutsPart l (out.contents o) (out.contents o')) line (stops.part told);
+      told_by_out = stops.told;
       first = (stops.rose, done.ends.1);
     }
     last_stops NoMemory stops = record {
       on_disk = left_by NoMemory all_held;
       on_out = stops;
+      told_by_out = λ t. subst out.tells (sym stops) t;
       first = (done.ends.1, ap out.faults stops);
     }
     last_stops _ stops = absurd stops
@@ -322,6 +362,7 @@ module _ {D O : Type 0} (disk : DiskOf D) (out : SinkOf O) (symbols : List ℕ) 
         λ told. subst (λ (l : List ℕ). out.contents o' ≡ out.contents o ++ l) line (puts.put told),
         puts.kept,
       );
+      told_by_out = puts.told;
       first = (refl, done.ends.1, puts.kept);
     }
 
@@ -343,8 +384,10 @@ module _ {D O : Type 0} (disk : DiskOf D) (out : SinkOf O) (symbols : List ℕ) 
   beside_out (Failed Disk) stops first = (first.0, refl)
   beside_out _ stops first = (first.0, refl)
 
-  pub stream_stops : (cause : Cause) → StopsTrial cause → FillsDisk disk symbols cause d d'
-      → IsFirst cause (counts 0 (disk.faults d) 0) (counts 0 (disk.faults d') 0)
-      → Fills disk out symbols cause d d' o o
-  stream_stops cause stops fills first =
-      record { on_disk = fills; on_out = silent cause stops; first = beside_out cause stops first }
+  pub stream_stops : (cause : Cause) → StopsFilling disk symbols cause d d' → Fills disk out symbols cause d d' o o
+  stream_stops cause stops = record {
+    on_disk = stops.fills;
+    on_out = silent cause stops.kind;
+    told_by_out = λ t. t;
+    first = beside_out cause stops.kind stops.first;
+  }

@@ -12,6 +12,7 @@ use Rattle.lr_causes.specs.declared.cause.Cause.TheVariants.{NoMemory, Refused}
 use Rattle.lr_causes.specs.declared.cause.Refusal.TheVariants.{NotEmpty}
 use Rattle.lr_causes.specs.Causes.{counts}
 use Rattle.lr_receiving.specs.First.{IsFirst}
+use Rattle.lr_receiving.specs.Shelved.{StopsTrial}
 use Rattle.lr_receiving.specs.Trial.{trial_capacity, StandsForPart, IsBare, HoldsTrialPart, DiskEnds, OutEnds}
 
 module _ {D : Type 0} (disk : DiskOf D) (symbols : List ℕ) where
@@ -23,15 +24,23 @@ module _ {D : Type 0} (disk : DiskOf D) (symbols : List ℕ) where
   FillEnds cause d d' = DiskEnds disk symbols cause d d'
 
   pub record FillsDisk (cause : Cause) (d d' : D) : Type 0 where
+    pub told : disk.tells d → disk.tells d'
     pub ends : FillEnds cause d d'
     -- a crash at any moment leaves a shelf with some of the files
     pub any_moment : disk.tells d → LeavesOnly disk.moment disk.left_since d d' (StandsForPart symbols 0)
+
+  -- it stopped before the last line
+  pub record StopsFilling (cause : Cause) (d d' : D) : Type 0 where
+    pub kind : StopsTrial cause
+    pub fills : FillsDisk cause d d'
+    pub first : IsFirst cause (counts 0 (disk.faults d) 0) (counts 0 (disk.faults d') 0)
 
 module _ {D O : Type 0} (disk : DiskOf D) (out : SinkOf O) (symbols : List ℕ) where
   -- what filling the shelf does, from the first read of the disk to the last line
   pub record Fills (cause : Cause) (d d' : D) (o o' : O) : Type 0 where
     pub on_disk : FillsDisk disk symbols cause d d'
     pub on_out : OutEnds disk out symbols cause o o'
+    pub told_by_out : out.tells o → out.tells o'
     pub first : IsFirst cause (counts 0 (disk.faults d) (out.faults o)) (counts 0 (disk.faults d') (out.faults o'))
 
 module _ {D : Type 0} (disk : DiskOf D) (items : List Item) where

@@ -1,23 +1,9 @@
--- Files that come onto a way, whatever its records hold: where they end, and whether there is room for them.
-use Rattle.std.specs.Prelude.{◌≡◌, ◌⊎◌, ◌<◌, ◌≤◌, ◌+◌, ℕ, min, List, [], ◌∷◌, ◌++◌}
-use Rattle.std.specs.List.{sum_by}
+-- Whether there is room for files that come onto a way, whatever its records hold.
+use Rattle.std.specs.Prelude.{◌≡◌, ◌<◌, ℕ, min, List, [], ◌∷◌, ◌++◌}
 use Rattle.lr_bits.specs.declared.placed.Placed.{Placed}
 use Rattle.lr_disk.specs.declared.disk.Disk.{Ghosts as DiskOf}
-use Rattle.lr_shelf_format.specs.Items.{extent_of, head_of_item}
 use Rattle.lr_shelf_format.specs.Way.{Way, IsWay}
-use Rattle.lr_shelf.specs.Append.{item_for}
-
--- how many bytes the item of a file takes, with the gate after it
-abbrev pub room_for : Placed → ℕ
-room_for placed = extent_of (head_of_item (item_for placed)) + 1
-
--- where a shelf that ended there ends with these files
-abbrev pub end_with : ℕ → List Placed → ℕ
-end_with end files = end + sum_by room_for files
-
--- there is room for these files: there is none of them, or the end of the last one is inside the capacity
-abbrev pub HasRoom : Way → List Placed → Type 0
-HasRoom way files = (files ≡ []) ⊎ (end_with way.end files ≤ way.capacity)
+use Rattle.lr_shelf.specs.Fronts.{HasRoom, end_with}
 
 -- There is room for the first of these files, and the end of the next one passes the capacity. Both numbers are
 -- these; an end of more than 64 bits is told as the greatest number of 64 bits.

@@ -6,11 +6,11 @@ use Rattle.lr_bits.specs.Faults.{Rose}
 use Rattle.lr_io.specs.declared.source.Source.{Ghosts as SourceOf}
 use Rattle.lr_io.specs.declared.sink.Sink.{Ghosts as SinkOf}
 use Rattle.lr_disk.specs.declared.disk.Disk.{Ghosts as DiskOf}
+use Rattle.lr_disk.specs.Disk.{Only}
 use Rattle.lr_disk.specs.Reads.{IsUnwritten}
 use Rattle.lr_layers.specs.Layers.{Numbers, numbers_of}
 use Rattle.lr_shelf_format.specs.Items.{Item}
-use Rattle.lr_shelf_format.specs.ShelfBytes.{end_of}
-use Rattle.lr_shelf_format.specs.Way.{IsNoShelfAt}
+use Rattle.lr_shelf_format.specs.Way.{IsNoShelfAt, IsWay, Way}
 use Rattle.lr_shelf.specs.Shelf.{IsDurable}
 use Rattle.lr_forms.specs.declared.forms.Stop.{Stop}
 use Rattle.lr_forms.specs.declared.forms.Stop.TheVariants.{End, Limit, Fault}
@@ -21,15 +21,23 @@ use Rattle.lr_causes.specs.declared.cause.Cause.TheVariants.{Done, Failed, NoMem
 use Rattle.lr_causes.specs.declared.cause.Party.TheVariants.{Source, Disk, Output}
 use Rattle.lr_causes.specs.declared.cause.Refusal.TheVariants.{NotAShelf, Capacity}
 use Rattle.lr_forms.specs.declared.forms.Input.{Input}
-use Rattle.lr_causes.specs.Causes.{IsEarlier, counts}
+use Rattle.lr_causes.specs.Causes.{IsEarlier, MayEndBefore}
+use Rattle.lr_causes.specs.Outside.{NoFault, Outside, World, counts_in}
 use Rattle.lr_receiving.specs.First.{IsFirst}
 use Rattle.lr_reading.specs.Inputs.{outcomes_of_bytes, bytes_left_over}
 use Rattle.lr_receiving.specs.Inputs.{files_of_bytes}
 use Rattle.lr_receiving.specs.Onto.{IsFull, HadRoom}
 use Rattle.lr_reading.specs.Reading.{IsRead, EndsFor}
-use Rattle.lr_receiving.specs.Shelving.{
-  with_files,
+use Rattle.lr_shelf.specs.Grounds.{
+  Ground,
+  OfItems,
+  OfWay,
+  AllHaveRoom,
+  HoldsStill,
+  SomeLackRoom,
   next_number,
+}
+use Rattle.lr_receiving.specs.Shelving.{
   shelved_lines,
   LeavesFronts,
   HoldsFront,
@@ -55,14 +63,6 @@ receive_count outcomes symbols left stop = counts_line symbols (length outcomes)
 unfoldable pub receive_last : Input → List ℕ → Stop → List ℕ
 receive_last input bytes stop = receive_count (outcomes_of_bytes input bytes) (length bytes) (bytes_left_over input bytes) stop
 
--- the causes that come before any byte is read: the disk failed, no shelf stands there at this place, or memory was
--- refused
-abbrev pub MayEndBefore : ℕ → Cause → Type 0
-MayEndBefore at (Failed Disk) = Unit {0}
-MayEndBefore at (Refused (NotAShelf at')) = at' ≡ at
-MayEndBefore at NoMemory = Unit {0}
-MayEndBefore at _ = ⊥
-
 -- the causes that a run may have, over any disk
 abbrev pub IsReceiveCause : Cause → Type 0
 IsReceiveCause Done = Unit {0}
@@ -79,20 +79,14 @@ IsWorkDone (Failed Source) = Unit {0}
 IsWorkDone _ = ⊥
 
 module _ {S D O : Type 0} (source : SourceOf S) (disk : DiskOf D) (out : SinkOf O) where
-  -- no count rose
-  pub record NoFault (s s' : S) (d d' : D) (o o' : O) : Type 0 where
-    pub of_source : Rose (source.faults s) (source.faults s') → ⊥
-    pub of_disk : Rose (disk.faults d) (disk.faults d') → ⊥
-    pub of_out : Rose (out.faults o) (out.faults o') → ⊥
-
-  -- The shelf had these items before, and `files` are those of the bytes read.
-  module _ (input : Input) (capacity : ℕ) (before : List Item) (limit : ℕ) (bytes : List ℕ) where
+  -- What stood there before is the ground, and the files are those of the bytes read.
+  module _ (input : Input) (ground : Ground) (limit : ℕ) (bytes : List ℕ) where
     -- all files are shelved, and the last line is put
     pub record Finishes (stop : Stop) (s s' : S) (d d' : D) (o o' : O) : Type 0 where
       pub reason : EndsFor source stop limit bytes s s'
-      pub durable : IsDurable disk capacity (with_files before (files_of_bytes input bytes)) d'
+      pub durable : HoldsStill ground (files_of_bytes input bytes) disk d'
       pub got : GotText out
-          (shelved_lines (next_number before) (files_of_bytes input bytes) ++ receive_last input bytes stop) o o'
+          (shelved_lines (next_number ground) (files_of_bytes input bytes) ++ receive_last input bytes stop) o o'
       pub disk_count : disk.faults d' ≡ disk.faults d
       pub out_count : out.faults o' ≡ out.faults o
 
@@ -100,8 +94,8 @@ module _ {S D O : Type 0} (source : SourceOf S) (disk : DiskOf D) (out : SinkOf 
     pub record SummaryStops (s s' : S) (d d' : D) (o o' : O) : Type 0 where
       pub stop : Stop
       pub reason : EndsFor source stop limit bytes s s'
-      pub durable : IsDurable disk capacity (with_files before (files_of_bytes input bytes)) d'
-      pub part : GotPart out (shelved_lines (next_number before) (files_of_bytes input bytes))
+      pub durable : HoldsStill ground (files_of_bytes input bytes) disk d'
+      pub part : GotPart out (shelved_lines (next_number ground) (files_of_bytes input bytes))
           (receive_last input bytes stop) o o'
       pub rose : Rose (out.faults o) (out.faults o')
 
@@ -109,64 +103,77 @@ module _ {S D O : Type 0} (source : SourceOf S) (disk : DiskOf D) (out : SinkOf 
     abbrev pub Ends : Cause → S → S → D → D → O → O → Type 0
     Ends Done s s' d d' o o' = Finishes End s s' d d' o o' ⊎ Finishes Limit s s' d d' o o'
     Ends (Failed Source) s s' d d' o o' = Finishes Fault s s' d d' o o'
-    Ends (Failed Disk) s s' d d' o o' = DiskStops disk out capacity before (files_of_bytes input bytes) d d' o o'
+    Ends (Failed Disk) s s' d d' o o' = DiskStops disk out ground (files_of_bytes input bytes) d d' o o'
     Ends (Failed Output) s s' d d' o o' =
-        LineStops disk out capacity before (files_of_bytes input bytes) d d' o o' ⊎ SummaryStops s s' d d' o o'
-    Ends NoMemory s s' d d' o o' = MemoryStops disk out capacity before (files_of_bytes input bytes) d d' o o'
+        LineStops disk out ground (files_of_bytes input bytes) d d' o o' ⊎ SummaryStops s s' d d' o o'
+    Ends NoMemory s s' d d' o o' = MemoryStops disk out ground (files_of_bytes input bytes) d d' o o'
     Ends (Refused (Capacity needed most)) s s' d d' o o' =
-        FullStops disk out capacity before needed most (files_of_bytes input bytes) d d' o o'
+        FullStops disk out ground needed most (files_of_bytes input bytes) d d' o o'
     Ends _ s s' d d' o o' = ⊥
 
-    -- a run that took these bytes
-    pub record Receives (cause : Cause) (s s' : S) (d d' : D) (o o' : O) : Type 0 where
-      -- the contents and each crash image hold each file whose line was put whole
-      pub held : (whole rest : List Placed) (text : List ℕ) → out.tells o → files_of_bytes input bytes ≡ whole ++ rest
-          → out.contents o' ≡ out.contents o ++ (shelved_lines (next_number before) whole ++ text)
-          → HoldsFront disk capacity before (files_of_bytes input bytes) (length whole) d'
-      pub held_untold : HoldsFront disk capacity before (files_of_bytes input bytes) 0 d'
-      -- so does every moment of the call
-      pub any_moment : LeavesFronts disk capacity before (files_of_bytes input bytes) d d'
-      -- what a finished run leaves, and one that stopped early
-      pub ends : Ends cause s s' d d' o o'
-      -- where no count rises and all files fit, the work is done or memory was refused
-      pub complete : NoFault s s' d d' o o' → end_of (with_files before (files_of_bytes input bytes)) ≤ capacity
-          → (cause ≡ Done) ⊎ (cause ≡ NoMemory)
-      -- where they don't all fit, the work isn't done
-      pub overfull : capacity < end_of (with_files before (files_of_bytes input bytes))
-          → (cause ≡ Done → ⊥) × (cause ≡ Failed Source → ⊥)
+-- a run that took these bytes; what stood there before is the ground
+pub record Receives {S D O : Type 0} (world : World S D O) (input : Input) (ground : Ground) (limit : ℕ)
+    (bytes : List ℕ) (cause : Cause) (w w' : Outside S D O) : Type 0 where
+  -- the contents and each crash image hold each file whose line was put whole
+  pub held : (whole rest : List Placed) (text : List ℕ) → world.out.tells w.out
+      → files_of_bytes input bytes ≡ whole ++ rest
+      → world.out.contents w'.out
+      ≡ world.out.contents w.out ++ (shelved_lines (next_number ground) whole ++ text)
+      → HoldsFront world.disk ground (files_of_bytes input bytes) (length whole) w'.disk
+  pub held_untold : HoldsFront world.disk ground (files_of_bytes input bytes) 0 w'.disk
+  -- so does every moment of the call
+  pub any_moment : LeavesFronts world.disk ground (files_of_bytes input bytes) w.disk w'.disk
+  -- what a finished run leaves, and one that stopped early
+  pub ends : Ends world.source world.disk world.out input ground limit bytes cause w.source w'.source w.disk w'.disk
+      w.out w'.out
+  -- where no count rises and all files fit, the work is done or memory was refused
+  pub complete : NoFault world w w' → AllHaveRoom ground (files_of_bytes input bytes)
+      → (cause ≡ Done) ⊎ (cause ≡ NoMemory)
+  -- where they don't all fit, the work isn't done
+  pub overfull : SomeLackRoom ground (files_of_bytes input bytes)
+      → (cause ≡ Done → ⊥) × (cause ≡ Failed Source → ⊥)
 
-  -- the disk was only read, and the source and `out` are as they were
-  pub record IsUntouched (s s' : S) (d d' : D) (o o' : O) : Type 0 where
-    pub only_read : disk.tells d → IsUnwritten disk d d'
-    pub source_stays : s' ≡ s
-    pub out_stays : o' ≡ o
+-- the disk was only read, and the source and `out` are as they were
+pub record IsUntouched {S D O : Type 0} (world : World S D O) (w w' : Outside S D O) : Type 0 where
+  pub only_read : world.disk.tells w.disk → IsUnwritten world.disk w.disk w'.disk
+  pub source_stays : w'.source ≡ w.source
+  pub out_stays : w'.out ≡ w.out
 
-  -- the whole call, over every disk
-  pub record ReceiveRun (input : Input) (limit : ℕ) (cause : Cause) (s s' : S) (d d' : D) (o o' : O) : Type 0 where
-    pub causes : IsReceiveCause cause
-    -- the first event decides
-    pub first : IsFirst cause (counts (source.faults s) (disk.faults d) (out.faults o))
-        (counts (source.faults s') (disk.faults d') (out.faults o'))
-    -- these bytes were taken
-    pub bytes : List ℕ
-    pub read : IsRead source limit bytes s s'
-    -- over a disk that tells its contents, stands for a shelf, and has nothing pending
-    pub onto_shelf : (capacity : ℕ) (before : List Item) → disk.tells d → IsDurable disk capacity before d
-        → Receives input capacity before limit bytes cause s s' d d' o o'
-    -- a disk on which no shelf stands is refused, exactly then
-    pub refused : (at : ℕ) → cause ≡ Refused (NotAShelf at)
-        → (disk.tells d → IsNoShelfAt (disk.contents d) at) × IsUntouched s s' d d' o o'
-    pub broken : (at : ℕ) → disk.tells d → IsNoShelfAt (disk.contents d) at
-        → MayEndBefore at cause × IsUntouched s s' d d' o o'
-    -- over every disk that tells its contents the capacity is refused only where the next file's end passes it, which
-    -- an empty source never brings about, and the work is done only where there was room for all files
-    pub full : (needed most : ℕ) → cause ≡ Refused (Capacity needed most) → disk.tells d
-        → IsFull disk needed most (files_of_bytes input bytes) d
-    pub nothing_fits : (needed most : ℕ) → cause ≡ Refused (Capacity needed most) → source.tells s
-        → source.left s ≡ [] → ⊥
-    pub room : IsWorkDone cause → disk.tells d → HadRoom disk (files_of_bytes input bytes) d
-    -- where no file was read, the disk was only read; where it failed or memory was refused, `out` is as it was, and
-    -- where it failed, the source too
-    pub only_read : files_of_bytes input bytes ≡ [] → disk.tells d → IsUnwritten disk d d'
-    pub silent : files_of_bytes input bytes ≡ [] → IsEarlier cause → o' ≡ o
-    pub unasked : files_of_bytes input bytes ≡ [] → cause ≡ Failed Disk → s' ≡ s
+-- the whole call, over every disk
+pub record ReceiveRun {S D O : Type 0} (world : World S D O) (input : Input) (limit : ℕ) (cause : Cause)
+    (w w' : Outside S D O) : Type 0 where
+  pub causes : IsReceiveCause cause
+  -- the first event decides
+  pub first : IsFirst cause (counts_in world w) (counts_in world w')
+  pub told_by_disk : world.disk.tells w.disk → world.disk.tells w'.disk
+  pub told_by_out : world.out.tells w.out → world.out.tells w'.out
+  -- these bytes were taken
+  pub bytes : List ℕ
+  pub read : IsRead world.source limit bytes w.source w'.source
+  -- over a disk that tells its contents, stands for a shelf, and has nothing pending
+  pub onto_shelf : (capacity : ℕ) (items : List Item) → world.disk.tells w.disk
+      → IsDurable world.disk capacity items w.disk
+      → Receives world input (OfItems capacity items) limit bytes cause w w'
+  -- over one that has a way, whatever its records hold, and has nothing pending
+  pub onto_way : (way : Way) → world.disk.tells w.disk → IsWay (world.disk.contents w.disk) way
+      → Only (world.disk.contents w.disk) (world.disk.may_leave w.disk)
+      → Receives world input (OfWay way (world.disk.contents w.disk)) limit bytes cause w w'
+  -- a disk on which no shelf stands is refused, exactly then
+  pub refused : (at : ℕ) → cause ≡ Refused (NotAShelf at)
+      → (world.disk.tells w.disk → IsNoShelfAt (world.disk.contents w.disk) at) × IsUntouched world w w'
+  pub broken : (at : ℕ) → world.disk.tells w.disk → IsNoShelfAt (world.disk.contents w.disk) at
+      → MayEndBefore at cause × IsUntouched world w w'
+  -- over every disk that tells its contents the capacity is refused only where the next file's end passes it, which
+  -- an empty source never brings about, and the work is done only where there was room for all files
+  pub full : (needed most : ℕ) → cause ≡ Refused (Capacity needed most) → world.disk.tells w.disk
+      → IsFull world.disk needed most (files_of_bytes input bytes) w.disk
+  pub nothing_fits : (needed most : ℕ) → cause ≡ Refused (Capacity needed most)
+      → world.source.tells w.source → world.source.left w.source ≡ [] → ⊥
+  pub room : IsWorkDone cause → world.disk.tells w.disk
+      → HadRoom world.disk (files_of_bytes input bytes) w.disk
+  -- where no file was read, the disk was only read; where it failed or memory was refused, `out` is as it was, and
+  -- where it failed, the source too
+  pub only_read : files_of_bytes input bytes ≡ [] → world.disk.tells w.disk
+      → IsUnwritten world.disk w.disk w'.disk
+  pub silent : files_of_bytes input bytes ≡ [] → IsEarlier cause → w'.out ≡ w.out
+  pub unasked : files_of_bytes input bytes ≡ [] → cause ≡ Failed Disk → w'.source ≡ w.source

@@ -1,8 +1,7 @@
 -- How far `receive` has come in its input. No clause of a public call cites this.
-use Rattle.std.specs.Prelude.{◌≡◌, ◌<◌, ℕ, List, [], ◌++◌, length}
+use Rattle.std.specs.Prelude.{◌≡◌, ◌⊎◌, ◌<◌, ℕ, false, List, [], ◌++◌, length}
 use Rattle.lr_bits.specs.Faults.{Rose}
 use Rattle.lr_bits.specs.declared.placed.Placed.{Placed}
-use Rattle.lr_shelf_format.specs.Items.{Item}
 use Rattle.lr_io.specs.declared.source.Source.{Ghosts as SourceOf}
 use Rattle.lr_io.specs.declared.sink.Sink.{Ghosts as SinkOf}
 use Rattle.lr_disk.specs.declared.disk.Disk.{Ghosts as DiskOf}
@@ -21,13 +20,16 @@ use Rattle.lr_forms.specs.declared.forms.Input.TheVariants.{Symbols}
 use Rattle.lr_reading.specs.Inputs.{outcomes_of_bytes}
 use Rattle.lr_reading.specs.Runs.{ReadsInput}
 use Rattle.lr_receiving.specs.Inputs.{files_of_bytes}
-use Rattle.lr_causes.specs.Causes.{IsEarlier}
-use Rattle.lr_receiving.specs.Onto.{HasRoom, IsFullWith}
+use Rattle.lr_causes.specs.Causes.{IsEarlier, counts}
+use Rattle.lr_receiving.specs.First.{IsFirst}
+use Rattle.lr_shelf.specs.Grounds.{Ground}
+use Rattle.lr_shelf.specs.Fronts.{HasRoom}
+use Rattle.lr_receiving.specs.Onto.{IsFullWith}
 use Rattle.lr_reading.specs.Reading.{IsRead}
 use Rattle.lr_causes.specs.Puts.{Puts, PutStops}
 use Rattle.lr_receiving.specs.Receive.{counts_line, IsWorkDone, Ends}
-use Rattle.lr_receiving.specs.Shelving.{LeavesFronts, Stops}
-use Rattle.lr_receiving.specs.Shelved.{ShelvesSoFar, Grows, GrowsNoMore}
+use Rattle.lr_receiving.specs.Shelving.{LeavesFronts}
+use Rattle.lr_receiving.specs.Shelved.{HasShelved, MayStop, ShelvesSoFar, StopsShelving}
 
 -- the last line of what was read and counted
 abbrev pub sums_line : Sums → List ℕ
@@ -57,24 +59,16 @@ module _ {S D O : Type 0} (source : SourceOf S) (disk : DiskOf D) (out : SinkOf 
     pub bytes : List ℕ
     pub ends : ReadsInput source input limit sums.totals bytes s s'
     pub counts : numbers sums.counts ≡ numbers_of (outcomes_of_bytes input bytes)
-    pub shelved : (capacity : ℕ) (before : List Item) (d0 : D) (o0 : O)
-        → ShelvesSoFar disk out capacity before [] shelf d0 d o0 o
-        → ShelvesSoFar disk out capacity before (files_of_bytes input bytes) shelf' d0 d' o0 o'
-    pub grown : Grows (files_of_bytes input bytes) shelf shelf' d d' o o'
+    pub shelved : HasShelved disk out (files_of_bytes input bytes) shelf shelf' d d' o o'
 
   -- shelving stopped among the files of these bytes
   pub record ReadsSome (cause : Cause) (shelf : Shelf) (s s' : S) (d d' : D) (o o' : O) : Type 0 where
     pub bytes : List ℕ
     pub read : IsRead source limit bytes s s'
-    pub stops : (capacity : ℕ) (before : List Item) (d0 : D) (o0 : O)
-        → ShelvesSoFar disk out capacity before [] shelf d0 d o0 o
-        → Stops disk out capacity before cause (files_of_bytes input bytes) d0 d' o0 o'
-    pub grown : GrowsNoMore cause (files_of_bytes input bytes) shelf d d' o o'
+    pub stopped : StopsShelving disk out cause (files_of_bytes input bytes) shelf d d' o o'
     -- more sharply: among these files, up to those of the last outcome
     pub files : List Placed
-    pub early : (capacity : ℕ) (before : List Item) (d0 : D) (o0 : O)
-        → ShelvesSoFar disk out capacity before [] shelf d0 d o0 o
-        → Stops disk out capacity before cause files d0 d' o0 o'
+    pub early : StopsShelving disk out cause files shelf d d' o o'
     -- of symbols they are the first ones of all that the source gives, where it had not failed nor reached the limit
     pub first : (line : LineCode) → input ≡ Symbols line → source.tells s → length bytes < limit
         → (Rose (source.faults s) (source.faults s') → ⊥)
@@ -84,8 +78,13 @@ module _ {S D O : Type 0} (source : SourceOf S) (disk : DiskOf D) (out : SinkOf 
   pub record EndsRun (cause : Cause) (shelf : Shelf) (s s' : S) (d d' : D) (o o' : O) : Type 0 where
     pub bytes : List ℕ
     pub read : IsRead source limit bytes s s'
-    pub ends : (capacity : ℕ) (before : List Item) (d0 : D) (o0 : O)
-        → ShelvesSoFar disk out capacity before [] shelf d0 d o0 o
-        → LeavesFronts disk capacity before (files_of_bytes input bytes) d0 d'
-        × Ends source disk out input capacity before limit bytes cause s s' d0 d' o0 o'
+    pub kind : MayStop cause ⊎ IsWorkDone cause
+    pub told_by_disk : disk.tells d → disk.tells d'
+    pub told_by_out : out.tells o → out.tells o'
+    pub first : (kept_by shelf).failed ≡ false
+        → IsFirst cause (counts (source.faults s) (disk.faults d) (out.faults o))
+        (counts (source.faults s') (disk.faults d') (out.faults o'))
+    pub ends : (ground : Ground) (d0 : D) (o0 : O) → ShelvesSoFar disk out ground [] shelf d0 d o0 o
+        → LeavesFronts disk ground (files_of_bytes input bytes) d0 d'
+        × Ends source disk out input ground limit bytes cause s s' d0 d' o0 o'
     pub over : EndsOver cause (files_of_bytes input bytes) shelf d d' o o'

@@ -1,21 +1,23 @@
 -- How far shelving files has come. No clause of a public call cites this.
-use Rattle.std.specs.Prelude.{◌≡◌, ℕ, List, [], ◌∷◌, ◌++◌}
+use Rattle.std.specs.Prelude.{◌≡◌, ℕ, false, List, [], ◌∷◌, ◌++◌}
 use Rattle.lr_bits.specs.declared.outcome.Outcome.{Outcome}
 use Rattle.lr_bits.specs.declared.placed.Placed.{Placed}
 use Rattle.lr_io.specs.declared.sink.Sink.{Ghosts as SinkOf}
 use Rattle.lr_disk.specs.declared.disk.Disk.{Ghosts as DiskOf}
 use Rattle.lr_layers.specs.Origins.{placed_of_outcomes}
-use Rattle.lr_shelf_format.specs.Items.{Item}
 use Rattle.lr_shelf.specs.Kept.{kept_by}
-use Rattle.lr_shelf.specs.Shelf.{IsSettled}
 use Rattle.lr_shelf.specs.declared.shelf.Shelf.{Shelf}
 use Rattle.lr_causes.specs.declared.cause.Cause.{Cause}
 use Rattle.lr_causes.specs.declared.cause.Cause.TheVariants.{Failed, NoMemory, Refused}
 use Rattle.lr_causes.specs.declared.cause.Party.TheVariants.{Disk, Output}
 use Rattle.lr_causes.specs.declared.cause.Refusal.TheVariants.{NotAShelf, Capacity}
+use Rattle.lr_causes.specs.Causes.{counts}
 use Rattle.lr_causes.specs.Puts.{Puts}
-use Rattle.lr_receiving.specs.Onto.{end_with, HasRoom, IsFullWith}
-use Rattle.lr_receiving.specs.Shelving.{with_files, next_number, shelved_lines, LeavesFronts}
+use Rattle.lr_receiving.specs.First.{IsFirst}
+use Rattle.lr_shelf.specs.Grounds.{Ground, IsSettledOn, next_number}
+use Rattle.lr_shelf.specs.Fronts.{HasRoom, end_with}
+use Rattle.lr_receiving.specs.Onto.{IsFullWith}
+use Rattle.lr_receiving.specs.Shelving.{shelved_lines, LeavesFronts, Stops}
 
 -- the causes for which shelving may stop, over any disk
 abbrev pub MayStop : Cause → Type 0
@@ -47,30 +49,50 @@ pub record GrowsNoMore {D O : Type 0} (cause : Cause) (files : List Placed) (she
       → IsFullWith (kept_by shelf).way needed most files
   pub none : files ≡ [] → (cause ≡ NoMemory) × (d' ≡ d) × (o' ≡ o)
 
--- over every disk: the files that one outcome more adds were shelved
-pub record Gains {D O : Type 0} (outcomes : List Outcome) (outcome : Outcome) (shelf shelf' : Shelf) (d d' : D)
-    (o o' : O) : Type 0 where
-  pub more : List Placed
-  pub files : placed_of_outcomes (outcomes ++ outcome ∷ []) ≡ placed_of_outcomes outcomes ++ more
-  pub grown : Grows more shelf shelf' d d' o o'
-
--- over every disk: shelving them stopped
-pub record GainsNoMore {D O : Type 0} (cause : Cause) (outcomes : List Outcome) (outcome : Outcome) (shelf : Shelf)
-    (d d' : D) (o o' : O) : Type 0 where
-  pub more : List Placed
-  pub files : placed_of_outcomes (outcomes ++ outcome ∷ []) ≡ placed_of_outcomes outcomes ++ more
-  pub grown : GrowsNoMore cause more shelf d d' o o'
-
-module _ {D O : Type 0} (disk : DiskOf D) (out : SinkOf O) (capacity : ℕ) (before : List Item) where
-  -- these files are shelved and their lines put; nothing failed
-  pub record ShelvesSoFar (done : List Placed) (shelf : Shelf) (d d' : D) (o o' : O) : Type 0 where
-    pub settled : IsSettled disk capacity (with_files before done) shelf d'
-    pub any_moment : LeavesFronts disk capacity before done d d'
-    pub put : Puts out (shelved_lines (next_number before) done) o o'
+module _ {D O : Type 0} (disk : DiskOf D) (out : SinkOf O) where
+  -- these files are shelved on this ground and their lines put; nothing failed
+  pub record ShelvesSoFar (ground : Ground) (done : List Placed) (shelf : Shelf) (d d' : D) (o o' : O) : Type 0 where
+    pub settled : IsSettledOn ground done disk shelf d'
+    pub any_moment : LeavesFronts disk ground done d d'
+    pub put : Puts out (shelved_lines (next_number ground) done) o o'
     pub disk_count : disk.faults d' ≡ disk.faults d
 
-  -- of these files the last ones are still to be shelved
-  pub record Midway (files pending : List Placed) (shelf : Shelf) (d d' : D) (o o' : O) : Type 0 where
-    pub done : List Placed
-    pub split : files ≡ done ++ pending
-    pub so_far : ShelvesSoFar done shelf d d' o o'
+  -- these files were shelved, and their lines put; nothing failed
+  pub record HasShelved (files : List Placed) (shelf shelf' : Shelf) (d d' : D) (o o' : O) : Type 0 where
+    pub told_by_disk : disk.tells d → disk.tells d'
+    pub told_by_out : out.tells o → out.tells o'
+    pub working : (kept_by shelf).failed ≡ false → (kept_by shelf').failed ≡ false
+    pub disk_count : disk.faults d' ≡ disk.faults d
+    pub out_count : out.faults o' ≡ out.faults o
+    -- after others, on any ground
+    pub shelved : (ground : Ground) (done : List Placed) (d0 : D) (o0 : O)
+        → ShelvesSoFar ground done shelf d0 d o0 o → ShelvesSoFar ground (done ++ files) shelf' d0 d' o0 o'
+    -- over every disk
+    pub grown : Grows files shelf shelf' d d' o o'
+
+  -- they were not all
+  pub record StopsShelving (cause : Cause) (files : List Placed) (shelf : Shelf) (d d' : D) (o o' : O) : Type 0 where
+    pub kind : MayStop cause
+    pub told_by_disk : disk.tells d → disk.tells d'
+    pub told_by_out : out.tells o → out.tells o'
+    pub first : (kept_by shelf).failed ≡ false
+        → IsFirst cause (counts 0 (disk.faults d) (out.faults o)) (counts 0 (disk.faults d') (out.faults o'))
+    -- after others, on any ground
+    pub stops : (ground : Ground) (done : List Placed) (d0 : D) (o0 : O)
+        → ShelvesSoFar ground done shelf d0 d o0 o → Stops disk out ground cause (done ++ files) d0 d' o0 o'
+    -- over every disk
+    pub grown : GrowsNoMore cause files shelf d d' o o'
+
+  -- the files that one outcome more adds were shelved
+  pub record Gains (outcomes : List Outcome) (outcome : Outcome) (shelf shelf' : Shelf) (d d' : D) (o o' : O)
+      : Type 0 where
+    pub more : List Placed
+    pub files : placed_of_outcomes (outcomes ++ outcome ∷ []) ≡ placed_of_outcomes outcomes ++ more
+    pub shelved : HasShelved more shelf shelf' d d' o o'
+
+  -- they were not all
+  pub record GainsNoMore (cause : Cause) (outcomes : List Outcome) (outcome : Outcome) (shelf : Shelf) (d d' : D)
+      (o o' : O) : Type 0 where
+    pub more : List Placed
+    pub files : placed_of_outcomes (outcomes ++ outcome ∷ []) ≡ placed_of_outcomes outcomes ++ more
+    pub stopped : StopsShelving cause more shelf d d' o o'

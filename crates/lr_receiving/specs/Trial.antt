@@ -18,7 +18,8 @@ use Rattle.lr_causes.specs.Causes.{IsEarlier, counts}
 use Rattle.lr_receiving.specs.First.{IsFirst}
 use Rattle.lr_receiving.specs.Inputs.{files_of_bytes}
 use Rattle.lr_receiving.specs.Receive.{receive_last}
-use Rattle.lr_receiving.specs.Shelving.{with_files, StandsForFront, GotText}
+use Rattle.lr_shelf.specs.Grounds.{OfItems, with_files}
+use Rattle.lr_receiving.specs.Shelving.{StandsForFront, GotText}
 
 -- how many bytes the shelf may have
 abbrev pub trial_capacity : ℕ
@@ -30,7 +31,7 @@ pub record StandsForPart (symbols : List ℕ) (n : ℕ) (bytes : List ℕ) : Typ
   pub part : List ℕ
   pub later : List ℕ
   pub split : symbols ≡ part ++ later
-  pub stands : StandsForFront trial_capacity [] (files_of_bytes (Symbols STANDARD) part) n bytes
+  pub stands : StandsForFront (OfItems trial_capacity []) (files_of_bytes (Symbols STANDARD) part) n bytes
 
 module _ {D : Type 0} (disk : DiskOf D) where
   -- the disk has no bytes, now and after a crash
@@ -83,5 +84,7 @@ module _ {D O : Type 0} (disk : DiskOf D) (out : SinkOf O) (symbols : List ℕ) 
   pub record TrialRun (cause : Cause) (d d' : D) (o o' : O) : Type 0 where
     pub on_disk : LeavesDisk disk symbols cause d d'
     pub on_out : OutEnds cause o o'
+    pub told_by_disk : disk.tells d → disk.tells d'
+    pub told_by_out : out.tells o → out.tells o'
     -- the first event decides, but a disk that fails as the shelf is taken away is told instead of want of memory
     pub first : IsFirst cause (counts 0 (disk.faults d) (out.faults o)) (counts 0 (disk.faults d') (out.faults o'))

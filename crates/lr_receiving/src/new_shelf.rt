@@ -7,6 +7,7 @@ ghost use Rattle.lr_receiving.specs.Init.{capacity_line, InitRun};
 use lr_causes::{Cause, put_text};
 use lr_disk::Disk;
 use lr_io::Sink;
+use lr_refusals::shelf_cause;
 use lr_shelf::Shelf;
 use std::alloc::{AllocError, Global};
 
@@ -31,7 +32,7 @@ pub fn init<D: Disk, O: Sink>(alloc: Global, capacity: u64, disk: &mut D, out: &
         Err(_) => return Cause::NoMemory,
     };
     match Shelf::init(disk, capacity) {
-        Err(error) => Cause::from(error),
+        Err(error) => shelf_cause(error),
         Ok(()) => match put_text(line.as_bytes(), out) {
             Ok(()) => Cause::Done,
             Err(cause) => cause,

@@ -1,13 +1,10 @@
 //! `receive`: the mission files of the input go onto the shelf.
-ghost use Rattle.std.specs.Prelude.{◌≡◌, ◌≤◌, ◌^◌, false, [], IfOk, IfErr, OnOk};
-ghost use Rattle.lr_shelf.specs.Kept.{kept_by};
-ghost use Rattle.lr_causes.specs.Causes.{IsCaused, cause_at, counts};
+ghost use Rattle.std.specs.Prelude.{◌≡◌, ◌≤◌, ◌^◌, [], IfOk, IfErr};
+ghost use Rattle.lr_causes.specs.Outside.{outside, world_of};
 ghost use Rattle.lr_reading.specs.Leading.{MayLead, Leads};
 ghost use Rattle.lr_reading.specs.Runs.{IsLed};
-ghost use Rattle.lr_receiving.specs.First.{IsFirst};
 ghost use Rattle.lr_receiving.specs.Receive.{ReceiveRun};
 ghost use Rattle.lr_receiving.specs.Reception.{ReadsAll, ReadsSome, EndsRun, PutsLast, LastStops};
-ghost use Rattle.lr_receiving.specs.Shelved.{MayStop};
 ghost use Rattle.lr_receiving.specs.ShelverTaken.{ShelverTook, ShelverStopped};
 
 use crate::shelver::Shelver;
@@ -16,11 +13,12 @@ use lr_bits::{Bytes, NoMemory};
 use lr_catalog::{Summary, summary_line};
 use lr_causes::{Cause, cause_at, put_text};
 use lr_disk::Disk;
-use lr_forms::{Input, Stop};
+use lr_forms::Input;
 use lr_frame::{FrameWork, Hand};
 use lr_io::{Sink, Source};
 use lr_layers::Layers;
 use lr_reading::{Reader, Totals};
+use lr_refusals::shelf_cause;
 use lr_shelf::Shelf;
 use std::alloc::Global;
 use std::sync::Wait;
@@ -43,18 +41,8 @@ pub(crate) fn receive_all<
     read: F,
 ) -> Result<Sums, Cause>
     requires ready { MayLead (F.pre read) (ShelverTook D.Disk O.Sink) }
-    requires leads { Leads (F.post read) S.Source (ShelverTook D.Disk O.Sink) (ShelverStopped D.Disk O.Sink) input
-        most }
-    ensures counts { OnOk result ((D.faults disk.new ≡ D.faults disk.old) × (O.faults out.new ≡ O.faults out.old)) }
-    ensures reason { IfOk result (λ sums. IsFirst (cause_at sums.totals.stop) (counts (S.faults source.old) 0 0)
-        (counts (S.faults source.new) 0 0)) }
-    ensures told_by_disk { D.tells disk.old → D.tells disk.new }
-    ensures told_by_out { O.tells out.old → O.tells out.new }
-    ensures kind { IfErr result MayStop }
-    ensures cause { (kept_by shelf.old).failed ≡ false
-        → IfErr result (λ cause. IsFirst cause
-        (counts (S.faults source.old) (D.faults disk.old) (O.faults out.old))
-        (counts (S.faults source.new) (D.faults disk.new) (O.faults out.new))) }
+    requires leads { Leads (F.post read) S.Source (ShelverTook D.Disk O.Sink)
+        (ShelverStopped D.Disk O.Sink) input most }
     ensures all { IfOk result (λ sums. ReadsAll S.Source D.Disk O.Sink input most sums
         shelf.old shelf.new source.old source.new disk.old disk.new out.old out.new) }
     ensures some { IfErr result (λ cause. ReadsSome S.Source D.Disk O.Sink input most cause
@@ -113,29 +101,21 @@ fn receive_onto<
     disk: &mut D,
     out: &mut O,
     read: F,
-) -> Result<Stop, Cause>
+) -> Cause
     requires ready { MayLead (F.pre read) (ShelverTook D.Disk O.Sink) }
-    requires leads { Leads (F.post read) S.Source (ShelverTook D.Disk O.Sink) (ShelverStopped D.Disk O.Sink) input
-        most }
-    ensures reason { IfOk result (λ stop. IsFirst (cause_at stop)
-        (counts (S.faults source.old) (D.faults disk.old) (O.faults out.old))
-        (counts (S.faults source.new) (D.faults disk.new) (O.faults out.new))) }
-    ensures told_by_disk { D.tells disk.old → D.tells disk.new }
-    ensures told_by_out { O.tells out.old → O.tells out.new }
-    ensures kind { IfErr result MayStop }
-    ensures cause { (kept_by shelf.old).failed ≡ false
-        → IfErr result (λ cause. IsFirst cause
-        (counts (S.faults source.old) (D.faults disk.old) (O.faults out.old))
-        (counts (S.faults source.new) (D.faults disk.new) (O.faults out.new))) }
-    ensures done { IfOk result (λ stop. EndsRun S.Source D.Disk O.Sink input most
-        (cause_at stop) shelf.old source.old source.new disk.old disk.new out.old out.new) }
-    ensures stopped { IfErr result
-        (λ cause. EndsRun S.Source D.Disk O.Sink input most cause shelf.old source.old
-        source.new disk.old disk.new out.old out.new) }
+    requires leads { Leads (F.post read) S.Source (ShelverTook D.Disk O.Sink)
+        (ShelverStopped D.Disk O.Sink) input most }
+    ensures { EndsRun S.Source D.Disk O.Sink input most result shelf.old source.old source.new
+        disk.old disk.new out.old out.new }
 {
-    let sums = receive_all(alloc, input, most, shelf, source, disk, out, read)?;
-    put_last(alloc, &sums, out)?;
-    Ok(sums.totals.stop)
+    let sums = match receive_all(alloc, input, most, shelf, source, disk, out, read) {
+        Ok(sums) => sums,
+        Err(cause) => return cause,
+    };
+    match put_last(alloc, &sums, out) {
+        Ok(()) => cause_at(sums.totals.stop),
+        Err(cause) => cause,
+    }
 }
 
 /// What `receive` does once there is memory for reading: the shelf is loaded, and then the call `read` leads through
@@ -155,22 +135,14 @@ fn receive_with<
     read: F,
 ) -> Cause
     requires ready { MayLead (F.pre read) (ShelverTook D.Disk O.Sink) }
-    requires leads { Leads (F.post read) S.Source (ShelverTook D.Disk O.Sink) (ShelverStopped D.Disk O.Sink) input
-        most }
-    ensures cause { IsCaused result (counts (S.faults source.old) (D.faults disk.old) (O.faults out.old))
-        (counts (S.faults source.new) (D.faults disk.new) (O.faults out.new)) }
-    ensures told_by_disk { D.tells disk.old → D.tells disk.new }
-    ensures told_by_out { O.tells out.old → O.tells out.new }
-    ensures run { ReceiveRun S.Source D.Disk O.Sink input most result source.old source.new disk.old disk.new
-        out.old out.new }
+    requires leads { Leads (F.post read) S.Source (ShelverTook D.Disk O.Sink)
+        (ShelverStopped D.Disk O.Sink) input most }
+    ensures { ReceiveRun (world_of S.Source D.Disk O.Sink) input most result
+        (outside source.old disk.old out.old) (outside source.new disk.new out.new) }
 {
-    let mut shelf = match Shelf::load(alloc, disk) {
-        Ok(shelf) => shelf,
-        Err(error) => return Cause::from(error),
-    };
-    match receive_onto(alloc, input, most, &mut shelf, source, disk, out, read) {
-        Ok(stop) => cause_at(stop),
-        Err(cause) => cause,
+    match Shelf::load(alloc, disk) {
+        Ok(mut shelf) => receive_onto(alloc, input, most, &mut shelf, source, disk, out, read),
+        Err(error) => shelf_cause(error),
     }
 }
 
@@ -185,12 +157,8 @@ pub fn receive<S: Source, D: Disk, O: Sink>(
     out: &mut O,
 ) -> Cause
     requires few { most ≤ 2 ^ 48 }
-    ensures cause { IsCaused result (counts (S.faults source.old) (D.faults disk.old) (O.faults out.old))
-        (counts (S.faults source.new) (D.faults disk.new) (O.faults out.new)) }
-    ensures told_by_disk { D.tells disk.old → D.tells disk.new }
-    ensures told_by_out { O.tells out.old → O.tells out.new }
-    ensures run { ReceiveRun S.Source D.Disk O.Sink input most result source.old source.new disk.old disk.new
-        out.old out.new }
+    ensures { ReceiveRun (world_of S.Source D.Disk O.Sink) input most result
+        (outside source.old disk.old out.old) (outside source.new disk.new out.new) }
 {
     let reader = match Reader::<FrameWork>::new(alloc, input, 1, most, &()) {
         Ok(reader) => reader,
@@ -227,12 +195,8 @@ pub fn receive_by_team<R: Threads + Wait + Sync, H: Hand, S: Source, D: Disk, O:
 ) -> Cause
     requires few { most ≤ 2 ^ 48 }
     requires workers { (1 ≤ workers) × (workers ≤ 64) }
-    ensures cause { IsCaused result (counts (S.faults source.old) (D.faults disk.old) (O.faults out.old))
-        (counts (S.faults source.new) (D.faults disk.new) (O.faults out.new)) }
-    ensures told_by_disk { D.tells disk.old → D.tells disk.new }
-    ensures told_by_out { O.tells out.old → O.tells out.new }
-    ensures run { ReceiveRun S.Source D.Disk O.Sink input most result source.old source.new disk.old disk.new
-        out.old out.new }
+    ensures { ReceiveRun (world_of S.Source D.Disk O.Sink) input most result
+        (outside source.old disk.old out.old) (outside source.new disk.new out.new) }
 {
     let reader = match Reader::<H>::new(alloc, input, workers, most, tools) {
         Ok(reader) => reader,
@@ -246,7 +210,8 @@ pub fn receive_by_team<R: Threads + Wait + Sync, H: Hand, S: Source, D: Disk, O:
         disk,
         out,
         |source, shelver| -> Result<Totals, Cause>
-            requires { (reader.most ≤ 2 ^ 48) × ((first : _) × ShelverTook D.Disk O.Sink first [] shelver.old) }
+            requires { (reader.most ≤ 2 ^ 48) × ((first : _)
+                × ShelverTook D.Disk O.Sink first [] shelver.old) }
             ensures { IsLed S.Source (ShelverTook D.Disk O.Sink) reader.input reader.most
                 (ShelverStopped D.Disk O.Sink) result source.old source.new shelver.old shelver.new }
         { reader.read(rt, source, shelver) },

@@ -35,7 +35,8 @@ fn make_frames<O: Sink>(start: u64, frames: u64, out: &mut O) -> Result<(), Caus
 fn make_blocks<O: Sink>(start: u64, frames: u64, wrong: u8, out: &mut O) -> Result<(), Cause>
     requires { wrong ≤ 16 }
     ensures put { IfOk result (λ _. Puts O.Sink (block_stream start wrong frames) out.old out.new) }
-    ensures failed { OnErr result (PutFails O.Sink (block_stream start wrong frames) out.old out.new) }
+    ensures failed { OnErr result
+        (PutFails O.Sink (block_stream start wrong frames) out.old out.new) }
     ensures cause { IfErr result (λ cause. cause ≡ Cause.Failed OutputParty) }
 {
     let Ok(mut maker) = Maker::new(start, wrong) else {
@@ -54,7 +55,8 @@ fn make_blocks<O: Sink>(start: u64, frames: u64, wrong: u8, out: &mut O) -> Resu
 
 fn make_symbols<O: Sink>(start: u64, frames: u64, wrong: u8, out: &mut O) -> Result<(), Cause>
     requires { wrong ≤ 16 }
-    ensures put { IfOk result (λ _. Puts O.Sink (bytes_of_symbols (symbol_stream start wrong frames)) out.old out.new) }
+    ensures put { IfOk result (λ _. Puts O.Sink (bytes_of_symbols
+        (symbol_stream start wrong frames)) out.old out.new) }
     ensures failed { OnErr result
         (PutFails O.Sink (bytes_of_symbols (symbol_stream start wrong frames)) out.old out.new) }
     ensures cause { IfErr result (λ cause. cause ≡ Cause.Failed OutputParty) }
@@ -94,7 +96,8 @@ fn make_units<O: Sink>(
     out: &mut O,
 ) -> Result<(), Cause>
     requires { wrong ≤ 16 }
-    ensures put { IfOk result (λ _. Puts O.Sink (made_bytes (Output.Units form) start wrong frames) out.old out.new) }
+    ensures put { IfOk result (λ _. Puts O.Sink (made_bytes (Output.Units form) start wrong frames)
+        out.old out.new) }
     ensures failed { OnErr result
         (PutFails O.Sink (made_bytes (Output.Units form) start wrong frames) out.old out.new) }
     ensures cause { IfErr result (λ cause. cause ≡ Cause.Failed OutputParty) }
@@ -109,7 +112,8 @@ fn make_units<O: Sink>(
 /// block or of its symbols. It takes no memory.
 pub fn make<O: Sink>(start: u64, frames: u64, wrong: u8, form: Output, out: &mut O) -> Cause
     requires { wrong ≤ 16 }
-    ensures cause { IsCaused result (counts 0 0 (O.faults out.old)) (counts 0 0 (O.faults out.new)) }
+    ensures cause { IsCaused result (counts 0 0 (O.faults out.old))
+        (counts 0 0 (O.faults out.new)) }
     ensures ends { MakeEnds O.Sink (made_bytes form start wrong frames) result out.old out.new }
 {
     match form {

@@ -7,18 +7,15 @@ ghost use Rattle.lr_shelf.specs.Shelf.{IsDurable};
 ghost use Rattle.lr_make.specs.Blocks.{block_at};
 ghost use Rattle.lr_make.specs.Frames.{frame_at};
 ghost use Rattle.lr_make.specs.Received.{IsReceivedAs};
-ghost use Rattle.lr_causes.specs.Causes.{IsCaused, counts};
-ghost use Rattle.lr_receiving.specs.Filling.{FillsDisk, Fills};
-ghost use Rattle.lr_receiving.specs.First.{IsFirst};
+ghost use Rattle.lr_receiving.specs.Filling.{FillsDisk, Fills, StopsFilling};
+ghost use Rattle.lr_shelf.specs.Grounds.{with_files};
 ghost use Rattle.lr_receiving.specs.Inputs.{files_of_bytes};
 ghost use Rattle.lr_receiving.specs.Made.{made_bytes};
 ghost use Rattle.lr_receiving.specs.Receive.{receive_last};
 ghost use Rattle.lr_receiving.specs.Reception.{sums_line};
 ghost use Rattle.lr_reading.specs.Leading.{MayLead, Leads};
 ghost use Rattle.lr_reading.specs.Runs.{IsLed};
-ghost use Rattle.lr_receiving.specs.Shelved.{StopsTrial};
 ghost use Rattle.lr_receiving.specs.ShelverTaken.{ShelverTook, ShelverStopped};
-ghost use Rattle.lr_receiving.specs.Shelving.{with_files};
 ghost use Rattle.lr_receiving.specs.Sure.{sure_source, sure_sink};
 ghost use Rattle.lr_receiving.specs.Trial.{trial_capacity, TrialRun};
 ghost use Rattle.lr_forms.specs.declared.forms.Input.TheVariants.{Symbols};
@@ -37,6 +34,7 @@ use lr_frame::{FrameWork, Hand};
 use lr_io::{Sink, Source, SureSink, SureSource};
 use lr_make::{Maker, put_bytes};
 use lr_reading::{Reader, Totals};
+use lr_refusals::shelf_cause;
 use lr_shelf::Shelf;
 use std::alloc::Global;
 use std::sync::Wait;
@@ -49,7 +47,8 @@ const CAPACITY: u64 = 1_048_576;
 fn stream(alloc: Global, start: u64, frames: u64, wrong: u8) -> Result<Vec<u8>, NoMemory>
     requires few { frames ≤ 1024 }
     requires wrong { wrong ≤ 16 }
-    ensures bytes { IfOk result (λ bytes. bytes.items ≡ made_bytes Output.Symbols start wrong frames) }
+    ensures bytes { IfOk result (λ bytes. bytes.items
+        ≡ made_bytes Output.Symbols start wrong frames) }
     ensures received { (k : ℕ) → k < frames
         → IfOk result (λ _. IsReceivedAs wrong (frame_at start k) (block_at start wrong k)) }
 {
@@ -76,17 +75,19 @@ fn shelve_stream<
     requires leads { Leads (F.post read) sure_source (ShelverTook D.Disk sure_sink)
         (ShelverStopped D.Disk sure_sink) (Symbols standard) most_bytes }
     requires few { length symbols.items < most_bytes }
-    requires fit { end_of (with_files [] (files_of_bytes (Symbols standard) symbols.items)) ≤ trial_capacity }
+    requires fit { end_of (with_files [] (files_of_bytes (Symbols standard) symbols.items))
+        ≤ trial_capacity }
     requires empty { D.tells disk.old → IsDurable D.Disk trial_capacity [] disk.old }
-    ensures cause { IfErr result (λ cause. IsFirst cause (counts 0 (D.faults disk.old) 0)
-        (counts 0 (D.faults disk.new) 0)) }
-    ensures told { D.tells disk.old → D.tells disk.new }
-    ensures kind { IfErr result StopsTrial }
-    ensures line { IfOk result (λ sums. sums_line sums ≡ receive_last (Symbols standard) symbols.items End) }
+    ensures line { IfOk result (λ sums. sums_line sums
+        ≡ receive_last (Symbols standard) symbols.items End) }
     ensures done { OnOk result (FillsDisk D.Disk symbols.items Cause.Done disk.old disk.new) }
-    ensures stopped { IfErr result (λ cause. FillsDisk D.Disk symbols.items cause disk.old disk.new) }
+    ensures stopped { IfErr result (λ cause. StopsFilling D.Disk symbols.items cause
+        disk.old disk.new) }
 {
-    let mut shelf = Shelf::load(alloc, disk)?;
+    let mut shelf = match Shelf::load(alloc, disk) {
+        Ok(shelf) => shelf,
+        Err(error) => return Err(shelf_cause(error)),
+    };
     let mut source = SureSource::of(symbols);
     let mut lines = SureSink::new();
     let input = Input::Symbols(STANDARD);
@@ -112,11 +113,10 @@ fn fill<
     requires leads { Leads (F.post read) sure_source (ShelverTook D.Disk sure_sink)
         (ShelverStopped D.Disk sure_sink) (Symbols standard) most_bytes }
     requires few { length symbols.items < most_bytes }
-    requires fit { end_of (with_files [] (files_of_bytes (Symbols standard) symbols.items)) ≤ trial_capacity }
+    requires fit { end_of (with_files [] (files_of_bytes (Symbols standard) symbols.items))
+        ≤ trial_capacity }
     requires empty { D.tells disk.old → IsDurable D.Disk trial_capacity [] disk.old }
-    ensures told_by_disk { D.tells disk.old → D.tells disk.new }
-    ensures told_by_out { O.tells out.old → O.tells out.new }
-    ensures fills { Fills D.Disk O.Sink symbols.items result disk.old disk.new out.old out.new }
+    ensures { Fills D.Disk O.Sink symbols.items result disk.old disk.new out.old out.new }
 {
     let sums = match shelve_stream(alloc, symbols, disk, read) {
         Ok(sums) => sums,
@@ -140,19 +140,15 @@ fn trial_with<
     requires ready { MayLead (F.pre read) (ShelverTook D.Disk sure_sink) }
     requires leads { Leads (F.post read) sure_source (ShelverTook D.Disk sure_sink)
         (ShelverStopped D.Disk sure_sink) (Symbols standard) most_bytes }
-    ensures cause { IsCaused result (counts 0 (D.faults disk.old) (O.faults out.old))
-        (counts 0 (D.faults disk.new) (O.faults out.new)) }
-    ensures told_by_disk { D.tells disk.old → D.tells disk.new }
-    ensures told_by_out { O.tells out.old → O.tells out.new }
-    ensures run { TrialRun D.Disk O.Sink (made_bytes Output.Symbols start wrong frames) result disk.old disk.new
-        out.old out.new }
+    ensures { TrialRun D.Disk O.Sink (made_bytes Output.Symbols start wrong frames) result
+        disk.old disk.new out.old out.new }
 {
     let symbols = match stream(alloc, start, frames, wrong) {
         Ok(symbols) => symbols,
         Err(NoMemory) => return Cause::NoMemory,
     };
     match Shelf::init(disk, CAPACITY) {
-        Err(error) => Cause::from(error),
+        Err(error) => shelf_cause(error),
         Ok(()) => match fill(alloc, symbols, disk, out, read) {
             Cause::NoMemory => withdraw(disk),
             cause => cause,
@@ -173,12 +169,8 @@ pub fn trial<D: Disk, O: Sink>(
 ) -> Cause
     requires few { frames ≤ 1024 }
     requires wrong { wrong ≤ 16 }
-    ensures cause { IsCaused result (counts 0 (D.faults disk.old) (O.faults out.old))
-        (counts 0 (D.faults disk.new) (O.faults out.new)) }
-    ensures told_by_disk { D.tells disk.old → D.tells disk.new }
-    ensures told_by_out { O.tells out.old → O.tells out.new }
-    ensures run { TrialRun D.Disk O.Sink (made_bytes Output.Symbols start wrong frames) result disk.old disk.new
-        out.old out.new }
+    ensures { TrialRun D.Disk O.Sink (made_bytes Output.Symbols start wrong frames) result
+        disk.old disk.new out.old out.new }
 {
     let input = Input::Symbols(STANDARD);
     let reader = match Reader::<FrameWork>::new(alloc, input, 1, MOST_BYTES, &()) {
@@ -196,7 +188,8 @@ pub fn trial<D: Disk, O: Sink>(
             requires { ((reader.workers ≡ 1) × (reader.most ≤ 2 ^ 48))
                 × ((first : _) × ShelverTook D.Disk sure_sink first [] shelver.old) }
             ensures { IsLed sure_source (ShelverTook D.Disk sure_sink) reader.input reader.most
-                (ShelverStopped D.Disk sure_sink) result source.old source.new shelver.old shelver.new }
+                (ShelverStopped D.Disk sure_sink) result source.old source.new
+                shelver.old shelver.new }
         { reader.read_alone(source, shelver) },
     )
 }
@@ -216,12 +209,8 @@ pub fn trial_by_team<R: Threads + Wait + Sync, H: Hand, D: Disk, O: Sink>(
     requires few { frames ≤ 1024 }
     requires wrong { wrong ≤ 16 }
     requires workers { (1 ≤ workers) × (workers ≤ 64) }
-    ensures cause { IsCaused result (counts 0 (D.faults disk.old) (O.faults out.old))
-        (counts 0 (D.faults disk.new) (O.faults out.new)) }
-    ensures told_by_disk { D.tells disk.old → D.tells disk.new }
-    ensures told_by_out { O.tells out.old → O.tells out.new }
-    ensures run { TrialRun D.Disk O.Sink (made_bytes Output.Symbols start wrong frames) result disk.old disk.new
-        out.old out.new }
+    ensures { TrialRun D.Disk O.Sink (made_bytes Output.Symbols start wrong frames) result
+        disk.old disk.new out.old out.new }
 {
     let input = Input::Symbols(STANDARD);
     let reader = match Reader::<H>::new(alloc, input, workers, MOST_BYTES, tools) {
@@ -236,9 +225,11 @@ pub fn trial_by_team<R: Threads + Wait + Sync, H: Hand, D: Disk, O: Sink>(
         disk,
         out,
         |source, shelver| -> Result<Totals, Cause>
-            requires { (reader.most ≤ 2 ^ 48) × ((first : _) × ShelverTook D.Disk sure_sink first [] shelver.old) }
+            requires { (reader.most ≤ 2 ^ 48) × ((first : _)
+                × ShelverTook D.Disk sure_sink first [] shelver.old) }
             ensures { IsLed sure_source (ShelverTook D.Disk sure_sink) reader.input reader.most
-                (ShelverStopped D.Disk sure_sink) result source.old source.new shelver.old shelver.new }
+                (ShelverStopped D.Disk sure_sink) result source.old source.new
+                shelver.old shelver.new }
         { reader.read(rt, source, shelver) },
     )
 }

@@ -46,7 +46,8 @@ fn clear<D: Disk>(disk: &mut D) -> Result<(), Failed>
 /// Takes the shelf on this disk away, unless an item stands on it.
 fn take_away<D: Disk>(disk: &mut D) -> Result<(), Failed>
     ensures call { IsCall D.Disk disk.old disk.new result }
-    ensures ends { D.tells disk.old → (items : List Item) → IsDurable D.Disk trial_capacity items disk.old
+    ensures ends { D.tells disk.old → (items : List Item)
+        → IsDurable D.Disk trial_capacity items disk.old
         → OnOk result (IsWithdrawn D.Disk items disk.new) }
     ensures any_moment { D.tells disk.old → (items : List Item)
         → IsDurable D.Disk trial_capacity items disk.old
@@ -62,9 +63,11 @@ fn take_away<D: Disk>(disk: &mut D) -> Result<(), Failed>
 /// takes no memory.
 pub(crate) fn withdraw<D: Disk>(disk: &mut D) -> Cause
     ensures kind { IsEarlier result }
-    ensures first { IsFirst result (counts 0 (D.faults disk.old) 0) (counts 0 (D.faults disk.new) 0) }
+    ensures first { IsFirst result (counts 0 (D.faults disk.old) 0)
+        (counts 0 (D.faults disk.new) 0) }
     ensures told { D.tells disk.old → D.tells disk.new }
-    ensures ends { D.tells disk.old → (items : List Item) → IsDurable D.Disk trial_capacity items disk.old
+    ensures ends { D.tells disk.old → (items : List Item)
+        → IsDurable D.Disk trial_capacity items disk.old
         → result ≡ Cause.NoMemory → IsWithdrawn D.Disk items disk.new }
     ensures any_moment { D.tells disk.old → (items : List Item)
         → IsDurable D.Disk trial_capacity items disk.old

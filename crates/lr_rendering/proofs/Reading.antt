@@ -31,7 +31,7 @@ use Rattle.lr_shelf.specs.declared.error.ShelfError.TheVariants.{
   Failed,
   Discarded,
 }
-use Rattle.lr_causes.specs.Causes.{cause_of}
+use Rattle.lr_refusals.specs.Errors.{cause_of}
 use Rattle.lr_causes.specs.declared.cause.Refusal.TheVariants.{NotAShelf}
 use Rattle.lr_commands.specs.Asked.{Wrong}
 use Rattle.lr_rendering.specs.Contents.{ReadStops}

@@ -8,6 +8,7 @@ use lr_bits::NoMemory;
 use lr_causes::Cause;
 use lr_disk::Disk;
 use lr_image::ImageFault;
+use lr_refusals::shelf_cause;
 use lr_render::Plan;
 use lr_shelf::{Shelf, ShelfError, Stored};
 use std::alloc::Global;
@@ -58,7 +59,7 @@ pub(crate) fn read_content<D: Disk>(
         },
         Err(error) => match error {
             ShelfError::Discarded => Ok(Content::Gone),
-            refused => Err(Cause::from(refused)),
+            refused => Err(shelf_cause(refused)),
         },
     }
 }

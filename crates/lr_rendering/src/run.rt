@@ -15,6 +15,7 @@ use lr_bits::NoMemory;
 use lr_causes::{Cause, Note};
 use lr_disk::Disk;
 use lr_io::Sink;
+use lr_refusals::shelf_cause;
 use lr_render::RenderWork;
 use lr_rounds::{Crew, Unled, lead_alone, lead_by_all};
 use lr_shelf::Shelf;
@@ -146,7 +147,7 @@ fn render_with<
     };
     let shelf = match Shelf::load(alloc, disk) {
         Ok(shelf) => shelf,
-        Err(error) => return Cause::from(error),
+        Err(error) => return shelf_cause(error),
     };
     render_entries(alloc, desk, shelf, disk, out, lead)
 }

@@ -9,7 +9,12 @@ use crate::sizes::WORD_BYTES;
 use lr_gf::{Gf, from_dual, to_dual};
 
 /// Adds the error values to a word at their places.
-pub(crate) fn correct(word: &mut [u8; WORD_BYTES], places: &[usize; WORD_BYTES], count: usize, errors: &[Gf; 16])
+pub(crate) fn correct(
+    word: &mut [u8; WORD_BYTES],
+    places: &[usize; WORD_BYTES],
+    count: usize,
+    errors: &[Gf; 16],
+)
     requires count { count ≤ 16 }
     requires places { (l : ℕ) → l < count → slice_index places.now l < 255 }
     requires different { (i j : ℕ) → i < count → j < count

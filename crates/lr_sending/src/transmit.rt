@@ -16,6 +16,7 @@ use lr_conv::LineCode;
 use lr_disk::Disk;
 use lr_io::Sink;
 use lr_make::{put_block, put_bytes};
+use lr_refusals::shelf_cause;
 use lr_shelf::{Shelf, ShelfError};
 use lr_uplink::{Uplink, UplinkFault};
 use std::alloc::Global;
@@ -116,7 +117,7 @@ impl ReadsEntries for TransmitRange {
             Ok(stored) => send_file(uplink, stored.file, self.wrong, out),
             Err(error) => match error {
                 ShelfError::Discarded => Ok(()),
-                refused => Err(Cause::from(refused)),
+                refused => Err(shelf_cause(refused)),
             },
         }
     }

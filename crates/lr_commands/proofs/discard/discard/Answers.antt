@@ -12,7 +12,7 @@ returns-in-Err g c =
 
 pub returns-in-Err-load : goal.returns-in-Err-load
 returns-in-Err-load g c =
-    rw c.from-in-Err-load.ensures
+    rw c.shelf_cause.ensures
     (not_loaded g.D.Disk g.O.Sink c.args.number c.args.disk.now c.load.new.disk c.args.out.now c.load.result
     c.in-Err-load.error c.load.ensures c.in-Err-load.is c.in-Err-load.ensures.refused)
 
@@ -20,7 +20,7 @@ pub returns-in-Err-discard : goal.returns-in-Err-discard
 returns-in-Err-discard g c =
     let ready = ready_loaded g.D.Disk c.args.disk.now c.load.new.disk c.load.result c.in-Ok.shelf c.load.ensures
     c.in-Ok.is in
-    rw c.from-in-Err-discard.ensures
+    rw c.shelf_cause-in-Err-discard.ensures
     (not_added g.D.Disk g.O.Sink c.args.number c.args.disk.now c.load.new.disk c.discard.new.disk c.args.out.now
     c.in-Ok.shelf c.discard.new.self ready c.discard.result c.discard.ensures c.in-Err-discard.error
     c.in-Err-discard.is c.in-Err-discard.ensures.refused)

@@ -9,7 +9,7 @@ use Rattle.lr_commands.proofs.repack.repack.Goals as goal
 
 pub returns-in-Err : goal.returns-in-Err
 returns-in-Err g c =
-    rw c.from.ensures
+    rw c.shelf_cause.ensures
     (not_loaded g.D.Disk g.O.Sink (MakesRepacked c.args.number c.args.block) (DecidesRepack c.args.number c.args.block)
     (repack_once c.args.number c.args.block) c.args.disk.now c.load.new.disk c.args.out.now c.load.result c.in-Err.error
     c.load.ensures c.in-Err.is)
@@ -18,7 +18,7 @@ pub returns-in-Err-get : goal.returns-in-Err-get
 returns-in-Err-get g c =
     let ready = ready_loaded g.D.Disk c.args.disk.now c.load.new.disk c.load.result c.in-Ok.shelf c.load.ensures
     c.in-Ok.is in
-    rw c.from-in-Err-get.ensures
+    rw c.shelf_cause-in-Err-get.ensures
     (not_read g.D.Disk g.O.Sink c.args.number c.args.block c.args.disk.now c.load.new.disk c.get.new.disk
     c.args.out.now c.in-Ok.shelf c.get.new.self c.get.result ready c.get.ensures c.in-Err-get.error c.in-Err-get.is
     c.in-Err-get.ensures.refused)
@@ -45,7 +45,7 @@ returns-in-Err-append g c =
     let decides = decides_made g.D.Disk g.O.Sink c.args.number block d c.load.new.disk c.get.new.disk c.args.out.now
     c.in-Ok.shelf c.get.new.self c.get.result loaded c.get.ensures c.in-Ok-get.stored c.in-Ok-get.is c.len.result made
     c.len.ensures is in
-    rw c.from-in-Err-append.ensures
+    rw c.shelf_cause-in-Err-append.ensures
     (not_added g.D.Disk g.O.Sink c.args.number block d c.get.new.disk c.append.new.disk c.args.out.now c.get.new.self
     c.append.new.self made.placed c.in-Ok-get.stored made.line ready c.append.result c.append.ensures makes decides
     c.in-Err-append.error c.in-Err-append.is c.in-Err-append.ensures.refused)

@@ -1,5 +1,6 @@
 use Rattle.lr_causes.specs.declared.cause.Cause.TheVariants.{NoMemory}
-use Rattle.lr_causes.specs.Causes.{cause_of, done_with}
+use Rattle.lr_causes.specs.Causes.{done_with}
+use Rattle.lr_refusals.specs.Errors.{cause_of}
 use Rattle.lr_commands.proofs.Loading.{not_started, not_loaded, loaded, over}
 use Rattle.lr_commands.proofs.run.run_entries.Goals as goal
 
@@ -13,7 +14,7 @@ returns-in-Err-clause-runs g c =
 pub returns-in-Err-load-clause-runs : goal.returns-in-Err-load-clause-runs
 returns-in-Err-load-clause-runs g c =
     let asked = g.C.ReadsEntries.asked c.args.command.now in
-    rw c.from-in-Err-load.ensures
+    rw c.shelf_cause.ensures
     (over g.D.Disk g.O.Sink asked c.args.disk.now c.load.new.disk c.args.out.now c.args.out.now
     (cause_of c.in-Err-load.error)
     (not_loaded g.D.Disk g.O.Sink asked c.args.disk.now c.load.new.disk c.args.out.now c.load.result c.load.ensures

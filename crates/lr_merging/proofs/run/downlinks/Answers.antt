@@ -1,14 +1,16 @@
 use Rattle.std.proofs.Common.{subst, sym}
 use Rattle.lr_causes.specs.declared.cause.Cause.{Cause}
 use Rattle.lr_commands.proofs.AddingRuns.{ready_loaded}
+use Rattle.lr_causes.specs.Outside.{outside, world_of}
 use Rattle.lr_merging.specs.Downlinks.{DownlinksRun}
 use Rattle.lr_merging.proofs.Merging.{not_loaded, not_taken, whole_run}
 use Rattle.lr_merging.proofs.run.downlinks.Goals as goal
 
 pub returns-in-Err : goal.returns-in-Err
 returns-in-Err g c =
-    subst (λ (cause : Cause). DownlinksRun g.S.Source g.D.Disk g.O.Sink c.args.line cause c.args.source.now
-    c.args.source.now c.args.disk.now c.load.new.disk c.args.out.now c.args.out.now) (sym c.from.ensures)
+    subst (λ (cause : Cause). DownlinksRun (world_of g.S.Source g.D.Disk g.O.Sink) c.args.line cause
+    (outside c.args.source.now c.args.disk.now c.args.out.now)
+    (outside c.args.source.now c.load.new.disk c.args.out.now)) (sym c.shelf_cause.ensures)
     (not_loaded g.S.Source g.D.Disk g.O.Sink c.args.line c.args.source.now c.args.disk.now c.load.new.disk
     c.args.out.now c.load.result c.load.ensures c.in-Err.error c.in-Err.is)
 

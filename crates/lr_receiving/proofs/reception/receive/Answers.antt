@@ -3,8 +3,8 @@ use Rattle.lr_reading.specs.Readers.{ReaderView}
 use Rattle.lr_receiving.proofs.Loading.{not_made}
 use Rattle.lr_receiving.proofs.reception.receive.Goals as goal
 
-pub returns-in-Err-clause-run : goal.returns-in-Err-clause-run
-returns-in-Err-clause-run g c =
+pub returns-in-Err : goal.returns-in-Err
+returns-in-Err g c =
     not_made g.S.Source g.D.Disk g.met.D.Disk.only_now g.O.Sink c.args.input c.args.most c.args.source.now
     c.args.disk.now c.args.out.now
 

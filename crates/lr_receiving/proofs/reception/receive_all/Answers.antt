@@ -1,6 +1,5 @@
 use Rattle.std.proofs.Common.{rules, refl}
 use Rattle.std.proofs.lemmas.Result.{err_from_is_err_and}
-use Rattle.lr_receiving.proofs.Causing.{first_beside, first_same, first_end}
 use Rattle.lr_receiving.proofs.Taking.{shelver_begun, shelver_ready, received_all, received_some}
 use Rattle.lr_receiving.proofs.reception.receive_all.Goals as goal
 
@@ -10,39 +9,6 @@ read-requires g c =
     let stands = c.new-layers.ensures in
     let counted = c.counts.ensures.value in
     search (rules, shelver_ready)
-
-pub returns-in_err-totals-clause-kind : goal.returns-in_err-totals-clause-kind
-returns-in_err-totals-clause-kind g c =
-    let p = err_from_is_err_and c.from_residual.result c.from_residual.ensures.1 in
-    rw (p.1, p.2) ((c.requires.leads _ _ _ _ _ c.in_err-totals.ensures).stops _
-    (shelver_begun g.D.Disk g.O.Sink _ c.new-layers.ensures c.counts.ensures.value)).kind
-
-pub returns-in_err-totals-clause-told_by_disk : goal.returns-in_err-totals-clause-told_by_disk
-returns-in_err-totals-clause-told_by_disk g c =
-    let stopped = (c.requires.leads _ _ _ _ _ c.in_err-totals.ensures).stops _
-    (shelver_begun g.D.Disk g.O.Sink _ c.new-layers.ensures c.counts.ensures.value) in
-    let same = stopped.on_same.same_disk in
-    let told = stopped.told_by_disk in
-    search rules
-
-pub returns-in_err-totals-clause-told_by_out : goal.returns-in_err-totals-clause-told_by_out
-returns-in_err-totals-clause-told_by_out g c =
-    let stopped = (c.requires.leads _ _ _ _ _ c.in_err-totals.ensures).stops _
-    (shelver_begun g.D.Disk g.O.Sink _ c.new-layers.ensures c.counts.ensures.value) in
-    let same = stopped.on_same.same_out in
-    let told = stopped.told_by_out in
-    search rules
-
-pub returns-in_err-totals-clause-cause : goal.returns-in_err-totals-clause-cause
-returns-in_err-totals-clause-cause g c = λ works.
-    let p = err_from_is_err_and c.from_residual.result c.from_residual.ensures.1 in
-    let stopped = (c.requires.leads _ _ _ _ _ c.in_err-totals.ensures).stops _
-    (shelver_begun g.D.Disk g.O.Sink _ c.new-layers.ensures c.counts.ensures.value) in
-    let same_disk = stopped.on_same.same_disk in
-    let same_out = stopped.on_same.same_out in
-    let first = first_beside _ _ _ _ _ _ _ stopped.kind (stopped.caused works) in
-    rw (p.1, p.2)
-    (first_same g.D.Disk g.O.Sink _ _ _ _ _ _ _ _ _ first (search rules) (search rules))
 
 pub returns-in_err-totals-clause-some : goal.returns-in_err-totals-clause-some
 returns-in_err-totals-clause-some g c =
@@ -54,38 +20,6 @@ returns-in_err-totals-clause-some g c =
     let same_out = stopped.on_same.same_out in
     let received = received_some g.S.Source g.D.Disk g.O.Sink c.args.input c.args.most begun _ some in
     rw (p.1, p.2) (search rules)
-
-pub returns-clause-counts : goal.returns-clause-counts
-returns-clause-counts g c =
-    let all = c.requires.leads _ _ _ _ _ c.in_ok-totals.ensures in
-    let took = all.taken _ (shelver_begun g.D.Disk g.O.Sink _ c.new-layers.ensures c.counts.ensures.value) in
-    let same_disk = took.on_same.same_disk in
-    let same_out = took.on_same.same_out in
-    let disk_count = took.disk_count in
-    let out_count = took.out_count in
-    search rules
-
-pub returns-clause-reason : goal.returns-clause-reason
-returns-clause-reason g c =
-    let all = c.requires.leads _ _ _ _ _ c.in_ok-totals.ensures in
-    first_end g.S.Source c.in_ok-totals.totals.stop c.args.most all.bytes c.args.source.now _
-    all.ends.reason
-
-pub returns-clause-told_by_disk : goal.returns-clause-told_by_disk
-returns-clause-told_by_disk g c =
-    let took = (c.requires.leads _ _ _ _ _ c.in_ok-totals.ensures).taken _
-    (shelver_begun g.D.Disk g.O.Sink _ c.new-layers.ensures c.counts.ensures.value) in
-    let same = took.on_same.same_disk in
-    let told = took.told_by_disk in
-    search rules
-
-pub returns-clause-told_by_out : goal.returns-clause-told_by_out
-returns-clause-told_by_out g c =
-    let took = (c.requires.leads _ _ _ _ _ c.in_ok-totals.ensures).taken _
-    (shelver_begun g.D.Disk g.O.Sink _ c.new-layers.ensures c.counts.ensures.value) in
-    let same = took.on_same.same_out in
-    let told = took.told_by_out in
-    search rules
 
 pub returns-clause-all : goal.returns-clause-all
 returns-clause-all g c =

@@ -3,11 +3,10 @@ use Rattle.lr_shelf_format.specs.ShelfBytes.{end_of}
 use Rattle.lr_conv.specs.declared.line.TheConstants.{STANDARD}
 use Rattle.lr_forms.specs.declared.forms.Input.TheVariants.{Symbols}
 use Rattle.lr_receiving.specs.Inputs.{files_of_bytes}
-use Rattle.lr_receiving.specs.Shelving.{with_files}
+use Rattle.lr_shelf.specs.Grounds.{with_files}
 use Rattle.lr_receiving.specs.Trial.{trial_capacity}
 use Rattle.lr_receiving.proofs.Fitting.{made_length, made_files_fit}
-use Rattle.lr_receiving.proofs.Causing.{caused_first}
-use Rattle.lr_receiving.proofs.TrialEnding.{init_stops, filled, filled_first, withdrawn}
+use Rattle.lr_receiving.proofs.TrialEnding.{init_stops, filled, withdrawn}
 use Rattle.lr_receiving.proofs.trial_run.trial_with.Goals as goal
 
 pub fill-requires-clause-few : goal.fill-requires-clause-few
@@ -20,28 +19,22 @@ fill-requires-clause-fit g c =
     (sym c.in-Ok.ensures.bytes)
     (made_files_fit c.args.start c.args.wrong c.args.frames c.requires.few c.in-Ok.ensures.received)
 
-pub returns-in-Err-init-clause-run : goal.returns-in-Err-init-clause-run
-returns-in-Err-init-clause-run g c =
-    rw (sym c.in-Ok.ensures.bytes, c.from.ensures)
+pub returns-in-Err-init : goal.returns-in-Err-init
+returns-in-Err-init g c =
+    rw (sym c.in-Ok.ensures.bytes, c.shelf_cause.ensures)
     (init_stops g.D.Disk g.O.Sink c.in-Ok.symbols.items c.args.disk.now c.init.new.disk c.args.out.now c.init.result
     c.init.ensures c.in-Err-init.error c.in-Err-init.is)
 
-pub returns-in-NoMemory-clause-run : goal.returns-in-NoMemory-clause-run
-returns-in-NoMemory-clause-run g c =
+pub returns-in-NoMemory : goal.returns-in-NoMemory
+returns-in-NoMemory g c =
     rw (sym c.in-Ok.ensures.bytes)
     (withdrawn g.D.Disk g.O.Sink c.in-Ok.symbols.items c.args.disk.now c.init.new.disk c.args.out.now c.init.result
-    c.init.ensures c.in-Ok-init.is c.fill.new.disk c.fill.new.out c.in-NoMemory.ensures.fills
-    c.fill.ensures.told_by_disk _ _ (search rules) (search rules) (search rules) (search rules))
+    c.init.ensures c.in-Ok-init.is c.fill.new.disk c.fill.new.out c.in-NoMemory.ensures _ _ c.withdraw.ensures.kind
+    c.withdraw.ensures.told c.withdraw.ensures.first c.withdraw.ensures.ends c.withdraw.ensures.any_moment)
 
-pub returns-in_default-clause-run : goal.returns-in_default-clause-run
-returns-in_default-clause-run g c =
+pub returns-in_default : goal.returns-in_default
+returns-in_default g c =
     rw (sym c.in-Ok.ensures.bytes)
     (filled g.D.Disk g.O.Sink c.in-Ok.symbols.items c.args.disk.now c.init.new.disk c.args.out.now c.init.result
-    c.init.ensures c.in-Ok-init.is c.fill.new.disk c.fill.new.out c.fill.result c.fill.ensures.fills
+    c.init.ensures c.in-Ok-init.is c.fill.new.disk c.fill.new.out c.fill.result c.fill.ensures
     c.in_default.not-NoMemory)
-
-pub returns-in_default-clause-cause : goal.returns-in_default-clause-cause
-returns-in_default-clause-cause g c =
-    caused_first _ _ _
-    (filled_first g.D.Disk g.O.Sink c.in-Ok.symbols.items c.args.disk.now c.init.new.disk c.args.out.now c.init.result
-    c.init.ensures c.in-Ok-init.is c.fill.new.disk c.fill.new.out c.fill.result c.fill.ensures.fills)

@@ -1,4 +1,4 @@
-use Rattle.lr_causes.specs.Causes.{cause_of}
+use Rattle.lr_refusals.specs.Errors.{cause_of}
 use Rattle.lr_causes.specs.declared.cause.Cause.TheVariants.{NoMemory}
 use Rattle.lr_commands.specs.Render.{render_asked}
 use Rattle.lr_commands.proofs.Loading.{not_started, not_loaded, loaded, over}
@@ -12,7 +12,7 @@ returns-in-Err g c =
 
 pub returns-in-Err-load : goal.returns-in-Err-load
 returns-in-Err-load g c =
-    rw c.from-in-Err-load.ensures
+    rw c.shelf_cause.ensures
     (over g.D.Disk g.O.Sink render_asked c.args.disk.now c.load.new.disk c.args.out.now c.args.out.now
     (cause_of c.in-Err-load.error)
     (not_loaded g.D.Disk g.O.Sink render_asked c.args.disk.now c.load.new.disk c.args.out.now c.load.result

@@ -1,4 +1,5 @@
 use Rattle.std.proofs.Common.{Option, inr, refl, subst, ◌∙◌}
+use Rattle.lr_causes.specs.Outside.{outside, world_of}
 use Rattle.lr_words.specs.declared.command.Command.{Command}
 use Rattle.lr_station.specs.Deeds.{alone}
 use Rattle.lr_station.specs.Runs.{Runs}
@@ -10,6 +11,7 @@ returns-in-Err-clause-runs g c = inr (record { is = refl; source_stays = refl; d
 
 pub returns-in-Ok-clause-unknown : goal.returns-in-Ok-clause-unknown
 returns-in-Ok-clause-unknown g c = λ unknown.
-    (subst (λ (command : Option Command). Runs g.S.Source g.D.Disk g.O.Sink (alone command) c.run.result
-    c.args.source.now c.run.new.source c.args.disk.now c.run.new.disk c.args.out.now c.run.new.out)
+    (subst (λ (command : Option Command). Runs (world_of g.S.Source g.D.Disk g.O.Sink) (alone command) c.run.result
+    (outside c.args.source.now c.args.disk.now c.args.out.now)
+    (outside c.run.new.source c.run.new.disk c.run.new.out))
     (c.in-Ok.ensures.gives ∙ unnamed _ unknown) c.run.ensures.runs).is

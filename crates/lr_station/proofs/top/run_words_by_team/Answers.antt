@@ -1,4 +1,5 @@
 use Rattle.std.proofs.Common.{Option, inr, refl, subst, ◌∙◌}
+use Rattle.lr_causes.specs.Outside.{outside, world_of}
 use Rattle.lr_words.specs.declared.command.Command.{Command}
 use Rattle.lr_station.specs.Runs.{Runs}
 use Rattle.lr_station.proofs.Unknown.{unnamed}
@@ -10,6 +11,6 @@ returns-in_default-clause-runs g c =
 
 pub returns-clause-unknown : goal.returns-clause-unknown
 returns-clause-unknown g c = λ unknown.
-    (subst (λ (command : Option Command). Runs g.S.Source g.D.Disk g.O.Sink command c.run_by_team.result
-    c.args.source.now c.run_by_team.new.source c.args.disk.now c.run_by_team.new.disk c.args.out.now
-    c.run_by_team.new.out) (c.in-Ok.ensures.gives ∙ unnamed _ unknown) c.run_by_team.ensures.runs).is
+    (subst (λ (command : Option Command). Runs (world_of g.S.Source g.D.Disk g.O.Sink) command c.run_by_team.result
+    (outside c.args.source.now c.args.disk.now c.args.out.now)
+    (outside c.run_by_team.new.source c.run_by_team.new.disk c.run_by_team.new.out)) (c.in-Ok.ensures.gives ∙ unnamed _ unknown) c.run_by_team.ensures.runs).is

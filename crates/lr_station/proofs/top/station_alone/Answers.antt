@@ -1,4 +1,5 @@
 use Rattle.std.proofs.Common.{rules, arith}
+use Rattle.lr_causes.specs.Outside.{outside, world_of}
 use Rattle.lr_station.proofs.StatusLemmas.{says}
 use Rattle.lr_station.proofs.top.station_alone.Goals as goal
 
@@ -14,9 +15,10 @@ returns-clause-stations g c =
       source_failed = search (rules, arith);
       disk_failed = search (rules, arith);
       output_failed = search (rules, arith);
-      says = says g.S.Source g.D.Disk g.O.Sink c.args.source.now c.run_words-cause.new.source c.args.disk.now
-          c.run_words-cause.new.disk c.args.out.now c.run_words-cause.new.out _ c.run_words-cause.result
-          c.status.result c.status.ensures ran.runs ran.caused;
+      says = says (world_of g.S.Source g.D.Disk g.O.Sink)
+          (outside c.args.source.now c.args.disk.now c.args.out.now)
+          (outside c.run_words-cause.new.source c.run_words-cause.new.disk c.run_words-cause.new.out) _
+          c.run_words-cause.result c.status.result c.status.ensures ran.runs ran.caused;
       tell = record {
         by_source = ran.told_by_source;
         by_disk = ran.told_by_disk;

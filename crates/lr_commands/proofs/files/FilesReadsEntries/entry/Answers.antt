@@ -64,7 +64,7 @@ pub returns-in_default-clause-counted : goal.returns-in_default-clause-counted
 returns-in_default-clause-counted g c = λ read gathered.
     let error = c.in-Err.error in
     let e = c.in-Err.ensures in
-    rw c.from.ensures
+    rw c.shelf_cause.ensures
     (shelf_counted g.D.Disk g.O.Sink Stored c.args.disk.now c.get.new.disk c.args.out.now error
     (not_failed g.D.Disk g.O.Sink (kept_by c.args.shelf.now) c.args.number c.args.disk.now c.requires.working
     c.requires.there error e.refused)
@@ -72,7 +72,7 @@ returns-in_default-clause-counted g c = λ read gathered.
 
 pub returns-in_default-clause-stops : goal.returns-in_default-clause-stops
 returns-in_default-clause-stops g c = λ read gathered.
-    rw c.from.ensures
+    rw c.shelf_cause.ensures
     (get_stops g.D.Disk g.O.Sink (kept_by c.args.shelf.now) c.args.number c.args.disk.now c.requires.working
     c.requires.there (asked_of_files (g.C.ReadsFiles.asked c.args.self.now.0)) read c.args.out.now c.in-Err.error
     (λ stored computed is. refl) c.in_default.not-Discarded c.in-Err.ensures.refused)

@@ -70,7 +70,7 @@ returns-in_default-clause-counted g c = λ read is.
     let error = c.in-Err.error in
     let e = c.in-Err.ensures in
     let kept = kept_by c.args.shelf.now in
-    rw c.from.ensures
+    rw c.shelf_cause.ensures
     (shelf_counted g.D.Disk g.O.Sink (Unit {0}) c.args.disk.now c.check.new.disk c.args.out.now error
     (not_failed g.D.Disk g.O.Sink kept c.args.number c.args.disk.now c.requires.working c.requires.there error
     (check_refusal g.D.Disk kept c.args.number c.args.disk.now error e.refused))
@@ -80,7 +80,7 @@ pub returns-in_default-clause-stops : goal.returns-in_default-clause-stops
 returns-in_default-clause-stops g c = λ read is.
     let error = c.in-Err.error in
     let kept = kept_by c.args.shelf.now in
-    rw c.from.ensures
+    rw c.shelf_cause.ensures
     (get_stops g.D.Disk g.O.Sink kept c.args.number c.args.disk.now c.requires.working c.requires.there verify_asked
     read c.args.out.now error (λ stored computed same. absurd (c.in_default.not-Crc stored computed same))
     c.in_default.not-Discarded (check_refusal g.D.Disk kept c.args.number c.args.disk.now error

@@ -6,20 +6,14 @@ use Rattle.lr_receiving.proofs.shelver.ShelverConsumer.take.Goals as goal
 pub returns-in_err-shelve_outcome-clause-stops : goal.returns-in_err-shelve_outcome-clause-stops
 returns-in_err-shelve_outcome-clause-stops g c = λ before arrivals took.
     let p = err_from_is_err_and c.from_residual.result c.from_residual.ensures.1 in
-    let e = c.in_err-shelve_outcome.ensures in
     rw (p.1, p.2)
     (shelver_stopped g.D.Disk g.O.Sink took c.args.arrival.now _
-    (record { same_layers = refl; same_shelf = refl; same_disk = refl; same_out = refl }) _ e.kind
-    c.shelve_outcome.ensures.told_by_disk c.shelve_outcome.ensures.told_by_out e.cause
-    (λ capacity items d o so_far. e.stopped _ capacity items d o took.stands c.requires.whole so_far)
-    (e.grown_no_more _ took.stands c.requires.whole))
+    (record { same_layers = refl; same_shelf = refl; same_disk = refl; same_out = refl }) _
+    (c.in_err-shelve_outcome.ensures.stopped _ took.stands c.requires.whole))
 
 pub returns-clause-takes : goal.returns-clause-takes
 returns-clause-takes g c = λ before arrivals took.
     let e = c.in_ok-shelve_outcome.ensures in
     shelver_more g.D.Disk g.O.Sink took c.args.arrival.now _
     (record { same_layers = refl; same_shelf = refl; same_disk = refl; same_out = refl }) (e.stands _ took.stands)
-    c.counts-self.ensures.value e.working
-    c.shelve_outcome.ensures.told_by_disk c.shelve_outcome.ensures.told_by_out e.counts.0 e.counts.1
-    (λ capacity items d o so_far. e.shelved _ capacity items d o took.stands so_far)
-    (e.grown _ took.stands)
+    c.counts-self.ensures.value (e.gained _ took.stands)

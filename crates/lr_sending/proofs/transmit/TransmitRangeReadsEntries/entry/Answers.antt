@@ -55,7 +55,7 @@ returns-in-Discarded-clause-takes g c = λ read few gathered.
 pub returns-in_default-clause-counted : goal.returns-in_default-clause-counted
 returns-in_default-clause-counted g c = λ read gathered.
     let e = c.in-Err.ensures in
-    rw c.from.ensures
+    rw c.shelf_cause.ensures
     (shelf_counted g.D.Disk g.O.Sink Stored c.args.disk.now c.get.new.disk c.args.out.now c.in-Err.error
     (not_failed g.D.Disk g.O.Sink (kept_by c.args.shelf.now) c.args.number c.args.disk.now c.requires.working
     c.requires.there c.in-Err.error e.refused)
@@ -64,7 +64,7 @@ returns-in_default-clause-counted g c = λ read gathered.
 pub returns-in_default-clause-stops : goal.returns-in_default-clause-stops
 returns-in_default-clause-stops g c = λ read gathered.
     let s = c.args.self.now in
-    rw c.from.ensures
+    rw c.shelf_cause.ensures
     (get_stops g.D.Disk g.O.Sink (kept_by c.args.shelf.now) c.args.number c.args.disk.now c.requires.working
     c.requires.there (transmit_asked s.from s.to s.wrong s.line) read c.args.out.now c.in-Err.error
     (λ stored computed is. refl) c.in_default.not-Discarded c.in-Err.ensures.refused)

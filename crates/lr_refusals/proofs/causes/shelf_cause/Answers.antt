@@ -1,5 +1,5 @@
 use Rattle.std.proofs.Common.{rules, arith}
-use Rattle.lr_causes.proofs.cause.CauseFromShelfError.from.Goals as goal
+use Rattle.lr_refusals.proofs.causes.shelf_cause.Goals as goal
 
 pub returns-in-Disk : goal.returns-in-Disk
 returns-in-Disk c = search (rules, arith)

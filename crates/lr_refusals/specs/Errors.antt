@@ -1,0 +1,106 @@
+-- The cause of what a shelf, an image or an assembly of segments was refused for.
+use Rattle.std.specs.Prelude.{Option, Some, None}
+use Rattle.lr_image.specs.declared.fault.ImageFault.{ImageFault}
+use Rattle.lr_image.specs.declared.fault.ImageFault.TheVariants.{
+  Headers as Headers',
+  NotImage as NotImage',
+  NoStructure as NoStructure',
+  Encrypted as Encrypted',
+  Compression as Compression',
+  Depth as Depth',
+  Empty as Empty',
+  TooLarge as TooLarge',
+  Flags as Flags',
+  BlockSize as BlockSize',
+  LinesPerPacket as LinesPerPacket',
+  Rice as Rice',
+  Short as Short',
+  NoMemory as NoImageMemory,
+}
+use Rattle.lr_segment.specs.declared.fault.AssembleFault.{AssembleFault}
+use Rattle.lr_segment.specs.declared.fault.AssembleFault.TheVariants.{
+  Empty as NoWhole,
+  TooLarge as LargeWhole,
+  Depths as OtherDepth,
+  Outside as PastWhole,
+  NoMemory as NoWholeMemory,
+}
+use Rattle.lr_shelf.specs.declared.error.ShelfError.{ShelfError}
+use Rattle.lr_shelf.specs.declared.error.ShelfError.TheVariants.{
+  Disk as Disk',
+  NotAShelf as NotAShelf',
+  NotEmpty as NotEmpty',
+  Capacity as Capacity',
+  NoSuchFile as NoSuchFile',
+  Crc as Crc',
+  NoMemory as NoMemory',
+  Failed as Failed',
+  Discarded as Discarded',
+}
+use Rattle.lr_causes.specs.declared.cause.Cause.{Cause}
+use Rattle.lr_causes.specs.declared.cause.Cause.TheVariants.{Failed, NoMemory, Refused}
+use Rattle.lr_causes.specs.declared.cause.Party.TheVariants.{Disk}
+use Rattle.lr_causes.specs.declared.cause.Refusal.TheVariants.{
+  NotAShelf,
+  NoSuchFile,
+  Capacity,
+  NotEmpty,
+  BadChecksum,
+  Discarded,
+}
+use Rattle.lr_causes.specs.declared.fault.ExportFault.{ExportFault}
+use Rattle.lr_causes.specs.declared.fault.ExportFault.TheVariants.{
+  Headers,
+  NotImage,
+  NoStructure,
+  Encrypted,
+  Compression,
+  Depth,
+  Empty,
+  TooLarge,
+  Flags,
+  BlockSize,
+  LinesPerPacket,
+  Rice,
+  Short,
+  Depths,
+  Outside,
+}
+
+-- the cause of what a call on a shelf answers; a shelf that failed before answers as a disk that fails
+abbrev pub cause_of : ShelfError → Cause
+cause_of Disk' = Failed Disk
+cause_of Failed' = Failed Disk
+cause_of (NotAShelf' at) = Refused (NotAShelf at)
+cause_of (NotEmpty' size) = Refused (NotEmpty size)
+cause_of (Capacity' needed capacity) = Refused (Capacity needed capacity)
+cause_of (NoSuchFile' count) = Refused (NoSuchFile count)
+cause_of (Crc' stored computed) = Refused BadChecksum
+cause_of NoMemory' = NoMemory
+cause_of Discarded' = Refused Discarded
+
+-- why no PGM can be put:
+-- of an image; want of memory is none
+abbrev pub image_fault : ImageFault → Option ExportFault
+image_fault (Headers' cause) = Some Headers
+image_fault (NotImage' kind) = Some NotImage
+image_fault NoStructure' = Some NoStructure
+image_fault Encrypted' = Some Encrypted
+image_fault (Compression' value) = Some Compression
+image_fault (Depth' bits) = Some Depth
+image_fault Empty' = Some Empty
+image_fault (TooLarge' pixels) = Some TooLarge
+image_fault (Flags' flags) = Some Flags
+image_fault (BlockSize' block) = Some BlockSize
+image_fault LinesPerPacket' = Some LinesPerPacket
+image_fault (Rice' piece rice) = Some Rice
+image_fault (Short' pixels) = Some Short
+image_fault NoImageMemory = None
+
+-- of segments that are put together; want of memory is none
+abbrev pub assembly_fault : AssembleFault → Option ExportFault
+assembly_fault NoWhole = Some Empty
+assembly_fault (LargeWhole pixels) = Some TooLarge
+assembly_fault (OtherDepth kept given) = Some Depths
+assembly_fault PastWhole = Some Outside
+assembly_fault NoWholeMemory = None

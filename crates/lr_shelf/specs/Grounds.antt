@@ -1,0 +1,78 @@
+-- What files come onto, and what stands there with them.
+use Rattle.std.specs.Prelude.{◌≡◌, ◌≢◌, ◌<◌, ◌≤◌, ◌++◌, ℕ, false, min, List, [], length, map}
+use Rattle.lr_bits.specs.declared.placed.Placed.{Placed}
+use Rattle.lr_disk.specs.Disk.{Only}
+use Rattle.lr_disk.specs.declared.disk.Disk.{Ghosts as DiskOf}
+use Rattle.lr_shelf_format.specs.Items.{Item}
+use Rattle.lr_shelf_format.specs.ShelfBytes.{StandsForShelf, end_of, entries_of}
+use Rattle.lr_shelf_format.specs.Way.{Way, way_of}
+use Rattle.lr_shelf.specs.Append.{item_for}
+use Rattle.lr_shelf.specs.Fronts.{HasFilesAfter, HasRoom, end_with, way_with_files}
+use Rattle.lr_shelf.specs.Kept.{kept_by}
+use Rattle.lr_shelf.specs.declared.shelf.Shelf.{Shelf}
+
+-- a shelf of this capacity and these items; or bytes that have this way, whatever their records hold
+pub data Ground : Type 0 where
+  OfItems : (capacity : ℕ) (items : List Item) → Ground
+  OfWay : (way : Way) (bytes : List ℕ) → Ground
+
+-- the items, and after them the Add items of these files
+abbrev pub with_files : List Item → List Placed → List Item
+with_files items files = items ++ map item_for files
+
+-- the number that the next file gets: how many files stand there, discarded ones too
+abbrev pub next_number : Ground → ℕ
+next_number (OfItems capacity items) = length (entries_of items)
+next_number (OfWay way bytes) = length way.entries
+
+abbrev pub capacity_of : Ground → ℕ
+capacity_of (OfItems capacity items) = capacity
+capacity_of (OfWay way bytes) = way.capacity
+
+-- the bytes stand for what was there, and for these files after it
+abbrev pub StandsWith : Ground → List Placed → List ℕ → Type 0
+StandsWith (OfItems capacity items) files bytes = StandsForShelf bytes capacity (with_files items files)
+StandsWith (OfWay way old) files bytes = HasFilesAfter way old files bytes
+
+-- where it ends with these files
+abbrev pub end_with_files : Ground → List Placed → ℕ
+end_with_files (OfItems capacity items) files = end_of (with_files items files)
+end_with_files (OfWay way bytes) files = end_with way.end files
+
+-- that end as a refusal tells it: of a way at most the greatest number of 64 bits
+abbrev pub told_end : Ground → List Placed → ℕ
+told_end (OfItems capacity items) files = end_of (with_files items files)
+told_end (OfWay way bytes) files = min (end_with way.end files) 18446744073709551615
+
+-- there is room for all these files
+abbrev pub AllHaveRoom : Ground → List Placed → Type 0
+AllHaveRoom (OfItems capacity items) files = end_of (with_files items files) ≤ capacity
+AllHaveRoom (OfWay way bytes) files = HasRoom way files
+
+-- there is none for some of them
+abbrev pub SomeLackRoom : Ground → List Placed → Type 0
+SomeLackRoom (OfItems capacity items) files = capacity < end_of (with_files items files)
+SomeLackRoom (OfWay way bytes) files = (files ≢ []) × (way.capacity < end_with way.end files)
+
+-- the way that a shelf in memory keeps then
+abbrev pub way_on : Ground → List Placed → Way
+way_on (OfItems capacity items) files = way_of capacity (with_files items files)
+way_on (OfWay way bytes) files = way_with_files files way
+
+module _ (ground : Ground) (files : List Placed) where
+  -- the shelf in memory keeps that way, and works
+  pub record KeepsOn (shelf : Shelf) : Type 0 where
+    pub way : (kept_by shelf).way ≡ way_on ground files
+    pub working : (kept_by shelf).failed ≡ false
+
+  module _ {D : Type 0} (disk : DiskOf D) where
+    -- the contents, and the one crash image, stand for what was there and these files
+    pub record HoldsStill (d : D) : Type 0 where
+      pub stands : StandsWith ground files (disk.contents d)
+      pub durable : Only (disk.contents d) (disk.may_leave d)
+
+    -- so does the shelf in memory, and the disk tells its contents
+    pub record IsSettledOn (shelf : Shelf) (d : D) : Type 0 where
+      pub told : disk.tells d
+      pub kept : KeepsOn shelf
+      pub on_disk : HoldsStill d
