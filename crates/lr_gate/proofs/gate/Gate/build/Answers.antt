@@ -1,6 +1,7 @@
 use Rattle.std.proofs.Common.{rules, arith, ◌≡◌, ◌∙◌, ℕ, ◌+◌, sym, ap, subst, replicate, length}
 use lib.ListN.{length-replicate}
 use Rattle.atomic_table.specs.Table.{opening}
+use Rattle.lr_gate.specs.declared.view.Size.{Size}
 use Rattle.lr_gate.specs.declared.cargo.Cargo.TheVariants.{Empty}
 use Rattle.lr_gate.specs.Shows.{Shows}
 use Rattle.lr_gate.specs.Steps.{new_view}
@@ -27,3 +28,22 @@ load-requires g c = let n : ℕ = c.args.cells in let ok = c.in-Ok.ensures.ok in
       stocks_go _ _ _ _ _ _ _
           (ok.1 ∙ (many ∙ (sym c.from.ensures ∙ ap (λ k. k.cells) (sym ok.5)))) ok.3 ok.4,
     )
+
+pub invariant_of-gate : goal.invariant_of-gate
+invariant_of-gate g c =
+    let n : ℕ = c.args.cells in
+    let ok = c.in-Ok.ensures.ok in
+    let many : length c.in_ok-slots.slots.items ≡ n = ap length c.in_ok-slots.ensures ∙ length-replicate n Empty in
+    let long : length c.in_ok-words.words.items ≡ n + 1 = search rules in
+    let same : length c.as_slice.result.now ≡ n + 1 = ap length c.as_slice.ensures.value ∙ long in
+    record {
+      sized = record {
+        slots = ok.1 ∙ (many ∙ sym c.from-3.ensures);
+        words = omega (arith, ok.0, same, c.from-3.ensures);
+        cells_are = ap (λ (size : Size). size.cells) ok.5 ∙ (c.from.ensures ∙ sym c.from-3.ensures);
+        workers_are = ap (λ (size : Size). size.workers) ok.5 ∙ (c.from-2.ensures ∙ sym c.from-4.ensures);
+        some_cell = omega (arith, c.requires.cells.0, c.from-3.ensures);
+        most_cells = omega (arith, c.requires.cells.1, c.from-3.ensures);
+        most_workers = omega (arith, c.requires.workers, c.from-4.ensures);
+      };
+    }

@@ -16,3 +16,17 @@ loop-self-preserved g c = record {
   kept = c.in-Ok.ensures.cause.kept ∙ c.loop-self.invariant.kept;
   short = c.in-Ok.ensures.short;
 }
+
+pub returns-then-is_at_limit-clause-gathered : goal.returns-then-is_at_limit-clause-gathered
+returns-then-is_at_limit-clause-gathered g c = c.loop-self.invariant.gathered
+
+pub returns-clause-gathered : goal.returns-clause-gathered
+returns-clause-gathered g c = c.loop-self.invariant.gathered
+
+pub returns-in-Ok-eq0-clause-gathered : goal.returns-in-Ok-eq0-clause-gathered
+returns-in-Ok-eq0-clause-gathered g c =
+    joined g.S.Source c.loop-self.invariant.gathered c.loop-self.invariant.kept c.take.ensures.gathered
+
+pub returns-in-Err-clause-gathered : goal.returns-in-Err-clause-gathered
+returns-in-Err-clause-gathered g c =
+    joined g.S.Source c.loop-self.invariant.gathered c.loop-self.invariant.kept c.take.ensures.gathered
