@@ -184,7 +184,8 @@ module _ {D O : Type 0} (disk : DiskOf D) (out : SinkOf O) (makes : Addition →
         full.is ∙ ap (λ (a : Addition). Capacity (min (way_added a.item way).end 18446744073709551615) way.capacity)
         addition ∙ sym full'.is
 
-    pub refused_once : (one other : Refusal) → IsRefusedOnWay decides bytes way one → IsRefusedOnWay decides bytes way other
+    pub refused_once : (one other : Refusal) → IsRefusedOnWay decides bytes way one
+        → IsRefusedOnWay decides bytes way other
         → one ≡ other
     refused_once one other (inl is) (inl is') =
         let same = once bytes way (Err one) (Err other) is is' in

@@ -23,7 +23,15 @@ use Rattle.lr_causes.specs.declared.cause.Party.TheVariants.{Source, Disk, Outpu
 use Rattle.lr_causes.specs.declared.cause.Refusal.{Refusal}
 use Rattle.lr_commands.specs.declared.gathering.Gathering.{Gathering}
 use Rattle.lr_commands.specs.declared.opened.Opened.{Opened}
-use Rattle.lr_commands.specs.Assemble.{whole_fate, if_of, is_without, member_of, members_of, segment_for_image, skipped_of}
+use Rattle.lr_commands.specs.Assemble.{
+  whole_fate,
+  if_of,
+  is_without,
+  member_of,
+  members_of,
+  segment_for_image,
+  skipped_of,
+}
 use Rattle.lr_commands.specs.Gathered.{Gathers, IsStop, with_member, with_skipped}
 use Rattle.lr_commands.specs.Steps.{PutsText, TextStops}
 use Rattle.lr_commands.proofs.Exporting.{pgm_some}
@@ -71,11 +79,13 @@ module _ (apid image : ℕ) where
 
   skipped_more : (read : List Opened) (opened : Opened)
       → skipped_of apid image (read ++ opened ∷ [])
-      ≡ with_skipped (skipped_of apid image read) (is_without (segment_for_image apid image opened.stored.file) opened.image)
+      ≡ with_skipped (skipped_of apid image read)
+      (is_without (segment_for_image apid image opened.stored.file) opened.image)
   skipped_more read opened =
       sum_by-append (λ (o : Opened). cond (is_without (segment_for_image apid image o.stored.file) o.image) 1 0) read
       (opened ∷ [])
-      ∙ count_more (skipped_of apid image read) (is_without (segment_for_image apid image opened.stored.file) opened.image)
+      ∙ count_more (skipped_of apid image read)
+      (is_without (segment_for_image apid image opened.stored.file) opened.image)
 
   few_members : (read : List Opened) → length (members_of apid image read) ≤ length read
   few_members [] = omega arith
@@ -85,7 +95,8 @@ module _ (apid image : ℕ) where
   -- what was gathered, of one file more
   pub gathers_more : (read : List Opened) (opened : Opened) (gathering : Gathering)
       → Gathers (with_member (members_of apid image read) (member_of apid image opened))
-      (with_skipped (skipped_of apid image read) (is_without (segment_for_image apid image opened.stored.file) opened.image))
+      (with_skipped (skipped_of apid image read)
+      (is_without (segment_for_image apid image opened.stored.file) opened.image))
       gathering
       → Gathers (members_of apid image (read ++ opened ∷ [])) (skipped_of apid image (read ++ opened ∷ [])) gathering
   gathers_more read opened gathering gathers =

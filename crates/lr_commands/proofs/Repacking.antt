@@ -103,7 +103,8 @@ module _ (number block : ℕ) where
       (subst (λ (f : Option Found). DecidesFound number block way f one) same is.1.2) is'.1.2
 
 -- no file is refused as a disk that isn't empty
-may_refuse : (fault : RepackFault) (refusal : Refusal) → repack_refusal fault ≡ Some refusal → MayEndAdding (Refused refusal)
+may_refuse : (fault : RepackFault) (refusal : Refusal) → repack_refusal fault ≡ Some refusal
+    → MayEndAdding (Refused refusal)
 may_refuse (fault.Image cause) refusal names = by (image_fault cause) names where
   by : (named : Option ExportFault) → option_map CannotExport named ≡ Some refusal → MayEndAdding (Refused refusal)
   by None same = cc (same)

@@ -90,7 +90,8 @@ then_rest text rest = record { text = text ++ rest.text; refusal = rest.refusal;
 
 module _ (asked : Asked) (bytes : List ℕ) (way : Way) where
   -- an entry at which the run isn't refused, and what comes after it
-  pub record PassesEntry (read : List Seen) (number : ℕ) (After : Seen → Answer → Type 0) (answer : Answer) : Type 0 where
+  pub record PassesEntry (read : List Seen) (number : ℕ) (After : Seen → Answer → Type 0) (answer : Answer)
+      : Type 0 where
     pub seen : Seen
     pub text : List ℕ
     pub rest : Answer

@@ -1,7 +1,14 @@
 //! `assemble`: the segments of an image, put together.
 ghost use Rattle.std.specs.Prelude.{◌≡◌, ◌+◌, ◌<◌, ◌^◌, ◌∷◌, ◌++◌, ℕ, [], length, List, Ok, Some, IfErr, IfOk, OnOk};
 ghost use Rattle.lr_segment.specs.Canvas.{Member, member};
-ghost use Rattle.lr_commands.specs.Assemble.{assemble_asked, if_of, is_without, join_fate, member_with, segment_for_image};
+ghost use Rattle.lr_commands.specs.Assemble.{
+  assemble_asked,
+  if_of,
+  is_without,
+  join_fate,
+  member_with,
+  segment_for_image,
+};
 ghost use Rattle.lr_commands.specs.Gathered.{Gathers, IsCanvasOf, IsStop, with_member, with_skipped};
 ghost use Rattle.lr_commands.specs.Runs.{RunsOver};
 

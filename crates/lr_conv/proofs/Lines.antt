@@ -1,7 +1,15 @@
 -- The levels of a list with one bit more.
 use Rattle.std.proofs.Common.{refl, ap, ◌∙◌, ◌≡◌, ◌<◌, ℕ, zero, suc, Bool, true, false, List, [], ◌∷◌, ◌++◌, length}
 use Rattle.std.proofs.Common.{drop, arith, cond}
-use Rattle.lr_conv.specs.Levels.{bit_of_level, changed_by, level_of, marks_of, changes_of_levels, levels, bits_of_levels}
+use Rattle.lr_conv.specs.Levels.{
+  bit_of_level,
+  changed_by,
+  level_of,
+  marks_of,
+  changes_of_levels,
+  levels,
+  bits_of_levels,
+}
 use Rattle.lr_conv.specs.Levels.{last_level}
 use Rattle.lr_conv.specs.declared.line.LineCode.{LineCode}
 

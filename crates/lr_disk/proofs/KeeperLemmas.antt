@@ -47,7 +47,18 @@ use Rattle.std.proofs.lemmas.List.{
 use Rattle.std.proofs.lemmas.Grind.{same_number_lists}
 use Rattle.std.proofs.lemmas.List.FromFn.{length-map-range_with_len, get_or-map-range_with_len}
 use Rattle.lr_disk.specs.Disk.{Torn, Cut}
-use Rattle.lr_disk.specs.Mem.{Pending, State, torn, cut, IsImage, IsCrashImageOf, after, after_all, at_start, step_contents}
+use Rattle.lr_disk.specs.Mem.{
+  Pending,
+  State,
+  torn,
+  cut,
+  IsImage,
+  IsCrashImageOf,
+  after,
+  after_all,
+  at_start,
+  step_contents,
+}
 use Rattle.lr_disk.specs.declared.past.Call.{Call}
 use Rattle.lr_disk.specs.declared.past.Call.TheVariants.{Kept, Wrote, Shortened, Synced}
 use Rattle.lr_disk.proofs.RangeLemmas.{no_longer_than}

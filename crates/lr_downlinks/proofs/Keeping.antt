@@ -276,7 +276,8 @@ module _ {D : Type 0} (disk : DiskOf D) (start : Start) (handed : Shelf → D �
 -- ---- what a call answers
 
 module _ {D : Type 0} (disk : DiskOf D) (downlink : ℕ) (files : List Placed) (old : BookView D) where
-  module _ (placed : Placed) (some : slice_get files (times_in_order downlink old.order) ≡ Some placed) (shelf : Shelf) (d : D)
+  module _ (placed : Placed) (some : slice_get files (times_in_order downlink old.order) ≡ Some placed)
+      (shelf : Shelf) (d : D)
       (order : List ℕ) where
     one_refused : (answer : Result ℕ ShelfError) → Appends disk placed old.shelf shelf old.disk d answer
         → OnErr answer (order ≡ old.order)

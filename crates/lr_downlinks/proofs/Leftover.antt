@@ -139,7 +139,8 @@ module _ {D : Type 0} (disk : DiskOf D) (start : Start) (downlink : ℕ) (old ne
           subst (λ (r : Result Bool ShelfError). IfErr r (λ e. e ≢ Disk → IsSameBook old new)) is next.refused other
 
       module _ (is_book : IsBookOf start old) (works : old.failed ≡ false) where
-        full_at : (placed : Placed) → slice_get (files_in start downlink) (times_in_order downlink old.order) ≡ Some placed
+        full_at : (placed : Placed)
+            → slice_get (files_in start downlink) (times_in_order downlink old.order) ≡ Some placed
             → (needed capacity : ℕ) → IsAppendRefusal (item_for placed) (kept_by old.shelf) (Capacity needed capacity)
             → IsSameBook old new → DoesNotFitAt start downlink needed capacity new
         full_at placed some needed capacity refusal same =
@@ -153,13 +154,15 @@ module _ {D : Type 0} (disk : DiskOf D) (start : Start) (downlink : ℕ) (old ne
             omega (arith, ap (λ (w : Way). w.end) way, end_more files placed start.way) in
             record {
               placed = placed;
-              next = ap (λ (o : List ℕ). slice_get (files_in start downlink) (times_in_order downlink o)) same.order ∙ some;
+              next = ap (λ (o : List ℕ). slice_get (files_in start downlink) (times_in_order downlink o)) same.order
+                  ∙ some;
               over = omega (arith, refusal.1, most, end);
               needs = refusal.2 ∙ ap (λ (n : ℕ). min n 18446744073709551615) end;
               of = refusal.3 ∙ most;
             }
 
-        left_for : (placed : Placed) → slice_get (files_in start downlink) (times_in_order downlink old.order) ≡ Some placed
+        left_for : (placed : Placed)
+            → slice_get (files_in start downlink) (times_in_order downlink old.order) ≡ Some placed
             → (error : ShelfError) → IsAppendRefusal (item_for placed) (kept_by old.shelf) error → result ≡ Err error
             → IsLeftAt start downlink new error
         left_for placed some Disk refusal is = next.failed ∙ ap (failed_after old.failed) is
@@ -173,7 +176,8 @@ module _ {D : Type 0} (disk : DiskOf D) (start : Start) (downlink : ℕ) (old ne
             absurd (cc (refusal, kept, works))
         left_for placed some _ refusal is = absurd refusal
 
-        left_by : (placed : Placed) → slice_get (files_in start downlink) (times_in_order downlink old.order) ≡ Some placed
+        left_by : (placed : Placed)
+            → slice_get (files_in start downlink) (times_in_order downlink old.order) ≡ Some placed
             → (error : ShelfError) → result ≡ Err error → (answer : Result ℕ ShelfError)
             → Appends disk placed old.shelf new.shelf old.disk new.disk answer → answer_to answer ≡ Err error
             → IsLeftAt start downlink new error
@@ -246,5 +250,6 @@ done_still start old new n few done on is downlink inside =
 pub done_more : {D : Type 0} (start : Start) (book : BookView D) (n : ℕ) → AreDone start book n
     → times_in_order n book.order ≡ length (files_in start n) → AreDone start book (n + 1)
 done_more start book n done here downlink inside =
-    ⊎_elim (λ (same : downlink ≡ n). subst (λ (k : ℕ). times_in_order k book.order ≡ length (files_in start k)) (sym same) here)
+    ⊎_elim (λ (same : downlink ≡ n).
+    subst (λ (k : ℕ). times_in_order k book.order ≡ length (files_in start k)) (sym same) here)
     (λ (other : downlink ≡ n → ⊥). done downlink (omega (arith, inside, other))) (cases_eq downlink n)

@@ -65,7 +65,8 @@ module _ (d : ℕ) where
   times_apart e order is = omega (arith, times-append d (e ∷ []) order, times-other d e is)
 
   -- where it doesn't stand in the order, there is none
-  pub no_receipt : (place number : ℕ) (order : List ℕ) → times_in_order d order ≡ 0 → receipts_from d place number order ≡ []
+  pub no_receipt : (place number : ℕ) (order : List ℕ) → times_in_order d order ≡ 0
+      → receipts_from d place number order ≡ []
   no_receipt place number [] none = refl
   no_receipt place number (e ∷ order) none = ⊎_elim
       (λ (t : (eqb e d ≡ true) × (e ≡ d)). absurd (omega (arith, times_here e order t.1, none)))
@@ -140,16 +141,20 @@ module _ (d : ℕ) where
           let before : (place + 1) + times_in_order d (take at order) ≡ place + times_in_order d (e ∷ take at order) =
           omega (arith, count) in
           let later : (number + 1) + at ≡ number + suc at = omega arith in
-          ap (λ (l : List Receipt). slice_get l (times_in_order d (e ∷ take at order))) (here place number e order same.1)
+          ap (λ (l : List Receipt). slice_get l (times_in_order d (e ∷ take at order)))
+          (here place number e order same.1)
           ∙ ap (slice_get (made place number ∷ receipts_from d (place + 1) (number + 1) order)) count
           ∙ rest (place + 1) (number + 1)
           ∙ ap (λ (p : ℕ). Some (made p ((number + 1) + at))) before
           ∙ ap (λ (n : ℕ). Some (made (place + times_in_order d (e ∷ take at order)) n)) later
       by_first (inr apart) rest =
-          let count : times_in_order d (e ∷ take at order) ≡ times_in_order d (take at order) = times_apart e (take at order) apart.1 in
-          let before : place + times_in_order d (take at order) ≡ place + times_in_order d (e ∷ take at order) = omega (arith, count) in
+          let count : times_in_order d (e ∷ take at order) ≡ times_in_order d (take at order) =
+          times_apart e (take at order) apart.1 in
+          let before : place + times_in_order d (take at order) ≡ place + times_in_order d (e ∷ take at order) =
+          omega (arith, count) in
           let later : (number + 1) + at ≡ number + suc at = omega arith in
-          ap (λ (l : List Receipt). slice_get l (times_in_order d (e ∷ take at order))) (other place number e order apart.1)
+          ap (λ (l : List Receipt). slice_get l (times_in_order d (e ∷ take at order)))
+          (other place number e order apart.1)
           ∙ ap (slice_get (receipts_from d place (number + 1) order)) count
           ∙ rest place (number + 1)
           ∙ ap (λ (p : ℕ). Some (made p ((number + 1) + at))) before

@@ -16,7 +16,8 @@ use Rattle.lr_downlinks.specs.Merge.{IsNextOf, IsOrder, merge, merge_after, time
 
 -- ---- how often a downlink stands in an order
 
-pub times-append : (d : ℕ) (order more : List ℕ) → times_in_order d (order ++ more) ≡ times_in_order d order + times_in_order d more
+pub times-append : (d : ℕ) (order more : List ℕ)
+    → times_in_order d (order ++ more) ≡ times_in_order d order + times_in_order d more
 times-append d order more = sum_by-append (λ one. cond (eqb one d) 1 0) order more
 
 abbrev tick : Bool → ℕ
@@ -74,10 +75,12 @@ record Places (files : ℕ → List Placed) (before order : List ℕ) : Type 0 w
       ≡ slice_get (files (slice_index order at)) (times_in_order (slice_index order at) (before ++ take at order))
 
 place_more : (files : ℕ → List Placed) (before : List ℕ) (e : ℕ) (order : List ℕ)
-    → ((x : Placed) × (times_in_order e before < length (files e)) × (slice_get (files e) (times_in_order e before) ≡ Some x)
+    → ((x : Placed) × (times_in_order e before < length (files e))
+    × (slice_get (files e) (times_in_order e before) ≡ Some x)
     × (get_or (files e) (times_in_order e before) x ≡ x))
     ⊎ ((length (files e) ≤ times_in_order e before) × (slice_get (files e) (times_in_order e before) ≡ None))
-    → times_in_order e before < length (files e) → Places files (before ++ e ∷ []) order → Places files before (e ∷ order)
+    → times_in_order e before < length (files e) → Places files (before ++ e ∷ []) order
+    → Places files before (e ∷ order)
 place_more files before e order (inr none) here rest = absurd (omega (arith, none.0, here))
 place_more files before e order (inl found) here rest =
     let x = found.0 in
@@ -190,7 +193,8 @@ found_in d place before e order low (inr other) which rest =
     found_later d place before e order (rest (omega (arith, times-stays d e before other.1, low)))
 
 -- where it stands before fewer times, and in all more
-finds_place : (d place : ℕ) (before order : List ℕ) → times_in_order d before ≤ place → place < times_in_order d (before ++ order)
+finds_place : (d place : ℕ) (before order : List ℕ) → times_in_order d before ≤ place
+    → place < times_in_order d (before ++ order)
     → FoundAt d place before order
 finds_place d place before [] low high = absurd (omega (arith, ap (times_in_order d) (append-nil before), low, high))
 finds_place d place before (e ∷ order) low high =
@@ -203,12 +207,17 @@ each_receipt base order d place inside =
     let found = finds_place d place [] order (omega arith) inside in (
       found.0,
       found.1,
-      (λ i. record { downlink = found.2 i; place = times_in_order (found.2 i) (take found.0 order); number = base + found.0 })
+      (λ i. record {
+        downlink = found.2 i;
+        place = times_in_order (found.2 i) (take found.0 order);
+        number = base + found.0;
+      })
           ∙ ap (λ (k : ℕ). record { downlink = d; place = k; number = base + found.0 }) found.3,
     )
 
 -- later places count no fewer
-times-take : (d : ℕ) (order : List ℕ) (i j : ℕ) → i ≤ j → times_in_order d (take i order) ≤ times_in_order d (take j order)
+times-take : (d : ℕ) (order : List ℕ) (i j : ℕ) → i ≤ j
+    → times_in_order d (take i order) ≤ times_in_order d (take j order)
 times-take d order zero j le = omega arith
 times-take d [] (suc i) zero le = omega arith
 times-take d [] (suc i) (suc j) le = omega arith
@@ -235,7 +244,8 @@ times-after d order i j inside is less =
 
 pub places_differ : (order : List ℕ) (one other : ℕ) → one < length order → other < length order
     → slice_index order one ≡ slice_index order other
-    → times_in_order (slice_index order one) (take one order) ≡ times_in_order (slice_index order other) (take other order)
+    → times_in_order (slice_index order one) (take one order)
+    ≡ times_in_order (slice_index order other) (take other order)
     → one ≡ other
 places_differ order one other inside inside' same place =
     let d = slice_index order other in

@@ -119,7 +119,8 @@ module _ (files : ℕ → List Placed) where
   taken_stays : (order : List ℕ) (d n : ℕ) → n ≤ d → taken (order ++ d ∷ []) n ≡ taken order n
   taken_stays order d zero below = refl
   taken_stays order d (suc n) below =
-      let other : times_in_order n (order ++ d ∷ []) ≡ times_in_order n order = times-stays n d order (λ e. omega (arith, below, e)) in
+      let other : times_in_order n (order ++ d ∷ []) ≡ times_in_order n order =
+      times-stays n d order (λ e. omega (arith, below, e)) in
       omega (
         arith,
         taken_stays order d n (omega (arith, below)),
@@ -157,7 +158,8 @@ module _ (files : ℕ → List Placed) where
       → bytes_for_all (option_to_list (slice_get (files d) (times_in_order d before))) + taken before count
       ≤ taken (before ++ d ∷ []) count
   one_step count d before known = by_file (slice_get_cases (files d) (times_in_order d before)).1 where
-    by_file : ((x : Placed) × (times_in_order d before < length (files d)) × (slice_get (files d) (times_in_order d before) ≡ Some x)
+    by_file : ((x : Placed) × (times_in_order d before < length (files d))
+        × (slice_get (files d) (times_in_order d before) ≡ Some x)
         × (get_or (files d) (times_in_order d before) x ≡ x))
         ⊎ ((length (files d) ≤ times_in_order d before) × (slice_get (files d) (times_in_order d before) ≡ None))
         → bytes_for_all (option_to_list (slice_get (files d) (times_in_order d before))) + taken before count

@@ -22,7 +22,8 @@ EachFileHasAReceipt = (base : ℕ) (order : List ℕ) → EachHasReceipt base or
 pub record AreReceiptsOf (base : ℕ) (order : List ℕ) (downlink : ℕ) : Type 0 where
   pub all : length (receipts_of base order downlink) ≡ times_in_order downlink order
   pub each : (at : ℕ) → at < length order → slice_index order at ≡ downlink
-      → slice_get (receipts_of base order downlink) (times_in_order downlink (take at order)) ≡ Some (receipt_at base order at)
+      → slice_get (receipts_of base order downlink) (times_in_order downlink (take at order))
+      ≡ Some (receipt_at base order at)
 
 abbrev pub ReceiptsComeInOrder : Type 0
 ReceiptsComeInOrder = (base : ℕ) (order : List ℕ) (downlink : ℕ) → AreReceiptsOf base order downlink

@@ -51,4 +51,5 @@ FilesFitThePackets = (weights : Weights) (packets : List Good) →
 -- each file has a body, and ten bytes
 abbrev pub FilesAreSome : Type 0
 FilesAreSome =
-    (packets : List Good) → All (λ file. (1 ≤ length file.bodies) × (10 ≤ length (bytes_of file))) (files_of_packets packets)
+    (packets : List Good)
+    → All (λ file. (1 ≤ length file.bodies) × (10 ≤ length (bytes_of file))) (files_of_packets packets)

@@ -314,7 +314,8 @@ header_faults_are_one proper fault other (inr a) (inl b) = let sound = a.0 in ab
 header_faults_are_one proper fault other (inr a) (inr b) =
     let s = a.1 in
     let t = b.1 in
-    front_stops (file_header_bytes proper) s.entries t.entries s.place t.place fault other s.front t.front s.fails t.fails
+    front_stops (file_header_bytes proper) s.entries t.entries s.place t.place fault other s.front
+    t.front s.fails t.fails
 
 second_true : (a b : Bool) → (a && b) ≡ true → b ≡ true
 second_true true b h = h

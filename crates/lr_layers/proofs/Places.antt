@@ -8,7 +8,14 @@ use Rattle.lr_bits.specs.declared.outcome.Outcome.{Outcome}
 use Rattle.lr_vc.proofs.Lists.{Each-append}
 use Rattle.lr_packet.specs.Verdict.{Good}
 use Rattle.lr_layers.specs.Layers.{good_of_outcomes}
-use Rattle.lr_layers.specs.Origins.{PlacedPacket, packet_of, at_place, good_packets_ending, placed_after, placed_packets}
+use Rattle.lr_layers.specs.Origins.{
+  PlacedPacket,
+  packet_of,
+  at_place,
+  good_packets_ending,
+  placed_after,
+  placed_packets,
+}
 
 placed_after-end : (before os : List Outcome) (o : Outcome) →
     placed_after before (os ++ o ∷ [])
@@ -33,7 +40,8 @@ placed_packets-more outcomes o = placed_after-end [] outcomes o
 
 -- the packets that end in it, where the good packets grow by some
 pub packets_ending-are : (outcomes : List Outcome) (o : Outcome) (ending : List Good) →
-    good_of_outcomes (outcomes ++ o ∷ []) ≡ good_of_outcomes outcomes ++ ending → good_packets_ending outcomes o ≡ ending
+    good_of_outcomes (outcomes ++ o ∷ []) ≡ good_of_outcomes outcomes ++ ending
+    → good_packets_ending outcomes o ≡ ending
 packets_ending-are outcomes o ending is =
     ap (drop (length (good_of_outcomes outcomes))) is ∙ drop-append_seam (good_of_outcomes outcomes) ending
 

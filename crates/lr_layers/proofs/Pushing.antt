@@ -164,7 +164,8 @@ pub stands_for_none : (kept : Kept) → kept.spent ≡ false → ChannelsStandFo
     StartsStandFor [] kept.starts [] → kept.corrected ≡ 0 →
     kept.numbers ≡ record { restored = 0; lost = 0; bad_versions = 0; fill = 0; packets = 0; files = 0 } →
     StandsFor kept []
-unfolding frames_of_outcomes good_of_outcomes files_of_outcomes packets_of files_of_packets placed_packets corrected_before
+unfolding frames_of_outcomes good_of_outcomes files_of_outcomes packets_of files_of_packets
+    placed_packets corrected_before
 stands_for_none kept unspent channels files starts corrected none = record {
   unspent =
       unspent;

@@ -108,11 +108,13 @@ count_picked f g (one ∷ tail) (symbol ∷ symbols) =
     ∙ ap (λ x. cond x 1 0 + count_ones (bit_or (bit_and fs t) (bit_and gs n))) (pick one a b)
     ∙ ap (λ k. cond (cond one a b) 1 0 + k) (count_picked f g tail symbols)
 
-upright : (one : Bool) (symbol : ℤ) → cond one (leans true symbol) (leans false symbol) ≡ leans_at_polarity true one symbol
+upright : (one : Bool) (symbol : ℤ)
+    → cond one (leans true symbol) (leans false symbol) ≡ leans_at_polarity true one symbol
 upright true symbol = refl
 upright false symbol = refl
 
-turned_value : (one : Bool) (symbol : ℤ) → cond one (leans false symbol) (leans true symbol) ≡ leans_at_polarity false one symbol
+turned_value : (one : Bool) (symbol : ℤ)
+    → cond one (leans false symbol) (leans true symbol) ≡ leans_at_polarity false one symbol
 turned_value true symbol = refl
 turned_value false symbol = refl
 

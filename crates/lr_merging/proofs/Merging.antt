@@ -275,7 +275,8 @@ module _ {S D O : Type 0} (source : SourceOf S) (disk : DiskOf D) (out : SinkOf 
 to_ends : {S D O : Type 0} (source : SourceOf S) (disk : DiskOf D) (out : SinkOf O) (line : LineCode)
     (bytes : List ℕ) (s s' : S) (d d' : D) (o o' : O) (streams : List (List ℕ)) (order : List ℕ) (cause : Cause)
     → LeavesMerged disk (length streams) (files_of_downlink line streams) order d d' cause
-    → Merges source disk out line bytes s s' d d' o o' cause → EndsMerging source disk out line bytes s s' d d' o o' cause
+    → Merges source disk out line bytes s s' d d' o o' cause
+    → EndsMerging source disk out line bytes s s' d d' o o' cause
 to_ends source disk out line bytes s s' d d' o o' streams order Done leaves merges = merges
 to_ends source disk out line bytes s s' d d' o o' streams order (Failed Output) leaves merges = merges
 to_ends source disk out line bytes s s' d d' o o' streams order (Failed Disk) leaves merges = inr merges
@@ -358,7 +359,8 @@ module _ {S D O : Type 0} (source : SourceOf S) (disk : DiskOf D) (out : SinkOf 
         (counts (source.faults s') (disk.faults d1) (out.faults o))
         → EndsMerging source disk out line bytes s s' d d1 o o cause
         → ((flaw : BundleFlaw) → HasFlaw bytes flaw → (cause ≡ Refused (BadBundle flaw)) ⊎ IsBefore cause)
-        → (NoFault (world_of source disk out) (outside s d o) (outside s' d1 o) → (streams : List (List ℕ)) → IsBundle bytes streams
+        → (NoFault (world_of source disk out) (outside s d o) (outside s' d1 o) → (streams : List (List ℕ))
+        → IsBundle bytes streams
         → length bytes < most_taken → (cause ≡ Done) ⊎ (cause ≡ NoMemory))
         → DownlinksRun (world_of source disk out) line cause (outside s d o) (outside s' d1 o)
     stopped cause counted ends flaws whole = record {
@@ -408,9 +410,11 @@ module _ {S D O : Type 0} (source : SourceOf S) (disk : DiskOf D) (out : SinkOf 
   }
 
   before_all : (cause : Cause) → AreCounted cause (counts (source.faults s) (disk.faults d) (out.faults o))
-      (counts (source.faults s) (disk.faults d1) (out.faults o)) → EndsMerging source disk out line [] s s d d1 o o cause
+      (counts (source.faults s) (disk.faults d1) (out.faults o))
+      → EndsMerging source disk out line [] s s d d1 o o cause
       → ((at : ℕ) → disk.tells d → IsNoShelfAt (disk.contents d) at → MayEndBefore at cause) → IsBefore cause
-      → (NoFault (world_of source disk out) (outside s d o) (outside s d1 o) → (way : Way) → disk.tells d → IsWay (disk.contents d) way
+      → (NoFault (world_of source disk out) (outside s d o) (outside s d1 o) → (way : Way)
+      → disk.tells d → IsWay (disk.contents d) way
       → (cause ≡ Done) ⊎ (cause ≡ NoMemory))
       → DownlinksRun (world_of source disk out) line cause (outside s d o) (outside s d1 o)
   before_all cause counted ends places before whole = record {

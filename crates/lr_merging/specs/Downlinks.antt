@@ -176,7 +176,8 @@ pub record DownlinksRun {S D O : Type 0} (world : World S D O) (line : LineCode)
   -- these bytes were taken
   pub bytes : List ℕ
   pub read : IsRead world.source most_taken bytes w.source w'.source
-  pub ends : EndsMerging world.source world.disk world.out line bytes w.source w'.source w.disk w'.disk w.out w'.out cause
+  pub ends : EndsMerging world.source world.disk world.out line bytes w.source w'.source w.disk
+      w'.disk w.out w'.out cause
   -- a disk on which no shelf stands is refused, and nothing is touched
   pub broken : (at : ℕ) → world.disk.tells w.disk → IsNoShelfAt (world.disk.contents w.disk) at
       → MayEndBefore at cause

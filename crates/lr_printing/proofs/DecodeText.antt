@@ -133,7 +133,8 @@ module _ {S : Type 0} (source : SourceOf S) (input : Input) (limit : ℕ) (total
       (count_by (λ o. not (is_restored o)) outcomes) (bytes_left_over input bytes)) totals.stop) frames_are
       ∙ ap (λ k. summary_line (Decode totals.symbols totals.frames k
       (count_by (λ o. not (is_restored o)) outcomes) (bytes_left_over input bytes)) totals.stop) (sym restored_is)
-      ∙ ap (λ k. summary_line (Decode totals.symbols totals.frames restored k (bytes_left_over input bytes)) totals.stop) lost
+      ∙ ap (λ k. summary_line (Decode totals.symbols totals.frames restored k (bytes_left_over input bytes))
+      totals.stop) lost
       ∙ ap (λ k. summary_line (Decode totals.symbols totals.frames restored (totals.frames - restored) k)
       totals.stop) (sym ends.left)
 

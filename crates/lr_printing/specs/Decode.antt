@@ -42,4 +42,5 @@ decode_count outcomes symbols left stop =
     (count_by (λ o. not (is_restored o)) outcomes) left) stop
 
 abbrev pub decode_last : Input → List ℕ → Stop → List ℕ
-decode_last input bytes stop = decode_count (outcomes_of_bytes input bytes) (length bytes) (bytes_left_over input bytes) stop
+decode_last input bytes stop =
+    decode_count (outcomes_of_bytes input bytes) (length bytes) (bytes_left_over input bytes) stop

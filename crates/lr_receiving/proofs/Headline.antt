@@ -269,7 +269,8 @@ module _ {S D O : Type 0} (source : SourceOf S) (disk : DiskOf D) (out : SinkOf 
   held_untold _ e = absurd e
 
   complete : (cause : Cause) → Ends source disk out input ground limit bytes cause s s' d d' o o'
-      → NoFault (world_of source disk out) (outside s d o) (outside s' d' o') → AllHaveRoom ground (files_of_bytes input bytes)
+      → NoFault (world_of source disk out) (outside s d o) (outside s' d' o')
+      → AllHaveRoom ground (files_of_bytes input bytes)
       → (cause ≡ Done) ⊎ (cause ≡ NoMemory)
   complete Done e quiet fits = inl refl
   complete (Failed Source) e quiet fits = absurd (quiet.of_source e.reason.1)

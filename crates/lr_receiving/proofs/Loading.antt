@@ -1,5 +1,24 @@
 -- What comes of a disk from which no shelf was loaded, and of one from which it was.
-use Rattle.std.proofs.Common.{◌≡◌, ◌⊎◌, ◌-◌, inl, inr, false, ℕ, List, [], ◌∷◌, ◌++◌, take, refl, sym, ◌∙◌, ap, subst, arith}
+use Rattle.std.proofs.Common.{
+  ◌≡◌,
+  ◌⊎◌,
+  ◌-◌,
+  inl,
+  inr,
+  false,
+  ℕ,
+  List,
+  [],
+  ◌∷◌,
+  ◌++◌,
+  take,
+  refl,
+  sym,
+  ◌∙◌,
+  ap,
+  subst,
+  arith,
+}
 use Rattle.std.proofs.Common.{append-nil}
 use Rattle.std.proofs.Common.{Result, Ok, Err, IfOk, MatchResult}
 use Rattle.lr_bits.specs.declared.placed.Placed.{Placed}
@@ -271,7 +290,8 @@ module _ {S D O : Type 0} (source : SourceOf S) (disk : DiskOf D) (out : SinkOf 
     onto_shelf = λ capacity items told durable.
         nothing (OfItems capacity items) told (begun_items capacity items (disk.contents d) durable.stands)
         durable.durable e is refusal
-        (λ at no. (has_one_way (disk.contents d)).none _ at (has_way (disk.contents d) capacity items durable.stands) no);
+        (λ at no. (has_one_way (disk.contents d)).none _ at (has_way (disk.contents d) capacity items durable.stands)
+        no);
     onto_way = λ way told way_is only.
         nothing (OfWay way (disk.contents d)) told (begun_way way (disk.contents d) way_is) only e is refusal
         (λ at no. (has_one_way (disk.contents d)).none way at way_is no);

@@ -58,7 +58,8 @@ use Rattle.lr_receiving.proofs.Causing.{first_beside, first_done, first_end}
 use Rattle.lr_receiving.proofs.ShelvedLines.{shelved_lines-none}
 
 -- the last line tells what was read and counted
-pub last_line_is : {S : Type 0} (source : SourceOf S) (input : Input) (limit : ℕ) (bytes : List ℕ) (s s' : S) (sums : Sums)
+pub last_line_is : {S : Type 0} (source : SourceOf S) (input : Input) (limit : ℕ) (bytes : List ℕ)
+    (s s' : S) (sums : Sums)
     → ReadsInput source input limit sums.totals bytes s s'
     → numbers sums.counts ≡ numbers_of (outcomes_of_bytes input bytes)
     → sums_line sums ≡ receive_last input bytes sums.totals.stop

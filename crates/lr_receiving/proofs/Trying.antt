@@ -87,8 +87,10 @@ stops_trial _ s s' d d' may caused = absurd may
 
 -- a front of the files of a part
 stands_for_part : (symbols part later : List ℕ) → symbols ≡ part ++ later → (bytes : List ℕ)
-    → StandsForFront (OfItems trial_capacity []) (files_of_bytes (Symbols STANDARD) part) 0 bytes → StandsForPart symbols 0 bytes
-stands_for_part symbols part later split bytes stands = record { part = part; later = later; split = split; stands = stands }
+    → StandsForFront (OfItems trial_capacity []) (files_of_bytes (Symbols STANDARD) part) 0 bytes
+    → StandsForPart symbols 0 bytes
+stands_for_part symbols part later split bytes stands =
+    record { part = part; later = later; split = split; stands = stands }
 
 -- an empty shelf
 none_of : (symbols bytes : List ℕ) → StandsForShelf bytes trial_capacity [] → StandsForPart symbols 0 bytes
@@ -104,7 +106,8 @@ module _ {D : Type 0} (disk : DiskOf D) (symbols : List ℕ) (d1 : D)
     (empty : disk.tells d1 → IsDurable disk trial_capacity [] d1) where
   -- ---- the empty shelf was loaded, or not
   module _ (d2 : D) (result2 : Result Shelf ShelfError) (loads : Loads disk d1 d2 result2) where
-    empty_moments : disk.tells d1 → LeavesOnly disk.moment disk.left_since d1 d2 (λ c. StandsForShelf c trial_capacity [])
+    empty_moments : disk.tells d1
+        → LeavesOnly disk.moment disk.left_since d1 d2 (λ c. StandsForShelf c trial_capacity [])
     empty_moments told =
         let durable = empty told in
         weaker disk.moment disk.left_since d1 d2 _ _

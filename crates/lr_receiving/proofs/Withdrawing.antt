@@ -48,7 +48,8 @@ use Rattle.lr_receiving.specs.Trial.{trial_capacity, IsBare}
 
 -- ---- the first gate
 
-pub has_gate : (bytes : List ℕ) (capacity : ℕ) (items : List Item) → StandsForShelf bytes capacity items → 19 < length bytes
+pub has_gate : (bytes : List ℕ) (capacity : ℕ) (items : List Item) → StandsForShelf bytes capacity items
+    → 19 < length bytes
 has_gate bytes capacity items stands = omega (arith, (is_one_walk bytes capacity items stands).inside)
 
 -- it is open exactly where an item stands

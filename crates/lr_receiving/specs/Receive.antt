@@ -61,7 +61,8 @@ receive_count outcomes symbols left stop = counts_line symbols (length outcomes)
 
 -- the last line of the bytes read
 unfoldable pub receive_last : Input → List ℕ → Stop → List ℕ
-receive_last input bytes stop = receive_count (outcomes_of_bytes input bytes) (length bytes) (bytes_left_over input bytes) stop
+receive_last input bytes stop =
+    receive_count (outcomes_of_bytes input bytes) (length bytes) (bytes_left_over input bytes) stop
 
 -- the causes that a run may have, over any disk
 abbrev pub IsReceiveCause : Cause → Type 0

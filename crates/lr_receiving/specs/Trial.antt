@@ -25,8 +25,8 @@ use Rattle.lr_receiving.specs.Shelving.{StandsForFront, GotText}
 abbrev pub trial_capacity : ℕ
 trial_capacity = 1048576
 
--- these bytes stand for a shelf of that capacity with a front of the files of these symbols, or of the first of them; it
--- has n of the files at least
+-- these bytes stand for a shelf of that capacity with a front of the files of these symbols, or of the first of
+-- them; it has n of the files at least
 pub record StandsForPart (symbols : List ℕ) (n : ℕ) (bytes : List ℕ) : Type 0 where
   pub part : List ℕ
   pub later : List ℕ

@@ -292,7 +292,8 @@ zero_run-least block all (suc n) at (suc r) inside each =
     omega (arith, zero_run-more block all n at here, later)
 
 block-zero : (block : ℕ) (all : List ℕ) (at r k : ℕ) → k < r
-    → take (r * block) (drop (at * block) all) ≡ replicate (r * block) 0 → all_zero (places_of_block block all (at + k)) ≡ true
+    → take (r * block) (drop (at * block) all) ≡ replicate (r * block) 0
+    → all_zero (places_of_block block all (at + k)) ≡ true
 block-zero block all at r k below zeros =
     let rest = drop (at * block) all in
     let n = (r - k) * block in
@@ -395,7 +396,8 @@ unwhole false values here same = same
 key_single : (form : Form) (all : List ℕ) (reference at : ℕ) (part : Part) → ArePlaces form all
     → at < block_count form → 8 ≤ form.block → form.block % 2 ≡ 0 → 5 ≤ form.bits → 1 ≤ left_in_segment form at →
     IsSingle (option_of part) → IsPart form.bits form.block (at == 0) (left_in_segment form at) part →
-    whole_block (at == 0) (values_of form.block (at == 0) (left_in_segment form at) part) ≡ places_of_block form.block all at →
+    whole_block (at == 0) (values_of form.block (at == 0) (left_in_segment form at) part)
+    ≡ places_of_block form.block all at →
     best form all reference at ≤ length (part_string form.bits (at == 0) reference part) + best form all reference
     (at + 1)
 key_single form all reference at part are before wide even deep some_left single is same =
@@ -443,7 +445,8 @@ key_single form all reference at part are before wide even deep some_left single
           ]
     ]
 
-one_block : (block : ℕ) (all : List ℕ) (at : ℕ) → take (1 * block) (drop (at * block) all) ≡ places_of_block block all at
+one_block : (block : ℕ) (all : List ℕ) (at : ℕ)
+    → take (1 * block) (drop (at * block) all) ≡ places_of_block block all at
 one_block block all at =
     let one : 1 * block ≡ block = omega arith in
     ap (λ (n : ℕ). take n (drop (at * block) all)) one

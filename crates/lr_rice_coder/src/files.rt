@@ -4,7 +4,14 @@ ghost use Rattle.std.specs.Prelude.{◌≡◌, ◌<◌, ◌≤◌, ◌+◌, ◌^
 ghost use Rattle.lr_bits.specs.File.{counter_of};
 ghost use Rattle.lr_rice.specs.CodedLines.{form_of};
 ghost use Rattle.lr_rice_coder.specs.Coded.{IsBlock, IsFault};
-ghost use Rattle.lr_rice_coder.specs.Fronts.{AppendsLines, AppendsRow, HoldsLines, IsCodedImage, CodingFails, MakesFile};
+ghost use Rattle.lr_rice_coder.specs.Fronts.{
+  AppendsLines,
+  AppendsRow,
+  HoldsLines,
+  IsCodedImage,
+  CodingFails,
+  MakesFile,
+};
 ghost use Rattle.lr_rice_coder.specs.Fronts.{MakingFails, front_with, picture_with};
 ghost use Rattle.lr_rice_coder.specs.Refusals.{HasFaultOrMemory};
 ghost use Rattle.lr_rice_coder.specs.Repacked.{HaveOneImage, IsRepacked, KeepsName};

@@ -12,7 +12,8 @@ use Rattle.lr_rounds.specs.Rounds.{MayRound}
 -- rounds may be made at a ring with nothing in it
 pub may_begin : {L W J D : Type 0} (stands : L → L → List J → ℕ → Type 0) (is_over : L → Type 0) (gate : Gate W J D)
     (conductor : Conductor W J D) (seats : List (WorkerSeat W J D)) (seat_count work_count cells : ℕ)
-    → IsFreshRing gate conductor seats seat_count work_count cells → (now : L) → (start : L) × HasGivenNothing stands start now
+    → IsFreshRing gate conductor seats seat_count work_count cells → (now : L)
+    → (start : L) × HasGivenNothing stands start now
     → MayRound stands is_over cells gate conductor now
 may_begin {L} {W} {J} {D} stands is_over gate conductor seats seat_count work_count cells fresh now ready =
     let no_jobs : (view_of conductor).jobs ≡ [] = ap (λ (v : View J). v.jobs) fresh.empty in

@@ -39,7 +39,17 @@ use Rattle.lr_gate.specs.declared.gate.Conductor.{Conductor}
 use Rattle.lr_gate.specs.declared.gate.Gate.{Gate}
 use Rattle.lr_gate.specs.declared.view.View.{View}
 use Rattle.lr_rounds.specs.declared.lead.Offer.{Offer}
-use Rattle.lr_rounds.specs.Leads.{Gives, IsDoneNext, MayGive, MayKeep, HasGivenNothing, EndsWell, GivesJob, GivesNone, Keeps}
+use Rattle.lr_rounds.specs.Leads.{
+  Gives,
+  IsDoneNext,
+  MayGive,
+  MayKeep,
+  HasGivenNothing,
+  EndsWell,
+  GivesJob,
+  GivesNone,
+  Keeps,
+}
 use Rattle.lr_rounds.specs.Rounds.{rounds_left, SameJobs, KeepsNone, PutsNone, MayGoOn}
 use Rattle.lr_rounds.specs.declared.round.Traffic.{Traffic}
 use Rattle.lr_rounds.proofs.Left.{unfinished_more, unfinished_less}

@@ -72,7 +72,8 @@ module _ {L W J D : Type 0} (stands : L → L → List J → ℕ → Type 0) (is
     abbrev pub Goes : Round → Conductor W J D → Traffic → L → L → Type 0
     Goes Worked conductor traffic entry now = MayGoOn conductor traffic entry now
     Goes Waits conductor traffic entry now = MayGoOn conductor traffic entry now
-    Goes Ended conductor traffic entry now = (start : L) → HasGivenNothing stands start entry → EndsWell stands is_over start now
+    Goes Ended conductor traffic entry now = (start : L) → HasGivenNothing stands start entry
+        → EndsWell stands is_over start now
 
   -- rounds may be made from here on, over this gate of N cells
   pub record MayRound (cells : ℕ) (gate : Gate W J D) (conductor : Conductor W J D) (now : L) : Type 0 where

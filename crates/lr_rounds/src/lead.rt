@@ -42,8 +42,8 @@ pub trait Lead<W: Work> {
         ensures stops { (start : Self) (jobs : List W.Job) (kept : ℕ) → stands start self.old jobs kept
             → IfErr result (λ cause. stopped start cause self.new) };
 
-    /// Whether a job is put as soon as one is kept. A lead that waits for something outside to give one doesn't want that:
-    /// all that is done is kept first.
+    /// Whether a job is put as soon as one is kept. A lead that waits for something outside to give one doesn't
+    /// want that: all that is done is kept first.
     fn gives_at_once(&self) -> bool;
 
     /// Keeps what came of the next job, the oldest one of which that wasn't kept.

@@ -12,7 +12,17 @@ use Rattle.std.proofs.lemmas.List.FromFn.{get_or-map-range_with_len, length-map-
 use Rattle.lr_image.specs.Picture.{IsPicture}
 use Rattle.lr_segment.specs.declared.rows.Place.{Place}
 use Rattle.lr_segment.specs.Rows.{IsBeside, IsCovered, IsIn, IsOverwritten}
-use Rattle.lr_segment.specs.Canvas.{Adds, Canvas, canvas, IsCanvas, Member, StandsFor, covered_of, covers, pixel_given_by}
+use Rattle.lr_segment.specs.Canvas.{
+  Adds,
+  Canvas,
+  canvas,
+  IsCanvas,
+  Member,
+  StandsFor,
+  covered_of,
+  covers,
+  pixel_given_by,
+}
 use Rattle.lr_segment.specs.Canvas.{own_pixel, pixel_at, pixels_of}
 
 replicate-map : {X : Type 0} (x : X) (n : ℕ) → replicate n x ≡ map (λ k. x) (range_with_len 0 n)

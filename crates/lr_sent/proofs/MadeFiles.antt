@@ -107,12 +107,14 @@ body_fits packet long enough =
       | inr large ↦ omega (arith, sizes, large, flags_of_any flags)
     ]
 
-packet_fits : (packet : Packet) → IsLongEnough packet.bytes → 3 * weigh_verdict (verdict_of packet) ≤ 4 * length packet.bytes
+packet_fits : (packet : Packet) → IsLongEnough packet.bytes
+    → 3 * weigh_verdict (verdict_of packet) ≤ 4 * length packet.bytes
 packet_fits packet long =
     let bytes = packet.bytes in
     by_rules (not (nat_eq (head_fields_of bytes).version 0)) (nat_eq (head_fields_of bytes).apid 2047)
     (ltb (length (data_of bytes)) 2) (not (nat_eq (stored_of bytes) (crc_of (packet_body bytes))))
-    (Version (head_fields_of bytes).version) Idle TooShort (Crc (stored_of bytes) (crc_of (packet_body bytes))) (good_of packet)
+    (Version (head_fields_of bytes).version) Idle TooShort (Crc (stored_of bytes) (crc_of (packet_body bytes)))
+    (good_of packet)
     (4 * length bytes) (body_fits packet long)
 
 verdict_more : (verdict : Result Good PacketFault) (goods : List Good) →
@@ -346,7 +348,8 @@ module _ (start : ℕ) where
       each_long : (n : ℕ) (packets : List Packet) →
           Each (λ packet. packet.vc ≡ 0 → Contains (first_packets images (884 * image_frames n)) packet.bytes) packets →
           Each (λ packet. packet.vc ≡ 5 → Contains (first_packets texts (884 * text_frames n)) packet.bytes) packets →
-          Each (λ packet. (packet.vc ≡ 0) ⊎ (packet.vc ≡ 5)) packets → Each (λ packet. IsLongEnough packet.bytes) packets
+          Each (λ packet. (packet.vc ≡ 0) ⊎ (packet.vc ≡ 5)) packets
+          → Each (λ packet. IsLongEnough packet.bytes) packets
       each_long n [] _ _ _ = tt
       each_long n (packet ∷ packets) i t c = (
         elim c.0 [

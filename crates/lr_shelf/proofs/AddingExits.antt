@@ -118,7 +118,8 @@ module _ {A : Type 0} {D : Type 0} (disk : DiskOf D)
       unchanged : (capacity : ℕ) (items : List Item) → IsSettled disk capacity items shelf d → (c : List ℕ)
           → disk.may_leave d c → StandsForEither capacity items item c
       unchanged capacity items s c image =
-          inl (subst (λ (b : List ℕ). StandsForShelf b capacity items) (sym (s.on_disk.durable c image)) s.on_disk.stands)
+          inl (subst (λ (b : List ℕ). StandsForShelf b capacity items) (sym (s.on_disk.durable c image))
+          s.on_disk.stands)
 
 -- what is known when the item has been put, or not
 module _ {D : Type 0} (disk : DiskOf D) (item : Item) (is : IsItem item) (shelf : Shelf)

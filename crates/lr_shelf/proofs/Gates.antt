@@ -77,7 +77,8 @@ module _ (bytes : List ℕ) (at : ℕ) where
   gate_there (Open head) is = (sym first_of ∙ is.0, begins_there head is.2)
 
 -- a part of what was read ahead
-part_is_there : (buffer bytes : List ℕ) (start filled at count : ℕ) → take filled buffer ≡ take filled (drop start bytes)
+part_is_there : (buffer bytes : List ℕ) (start filled at count : ℕ)
+    → take filled buffer ≡ take filled (drop start bytes)
     → start ≤ at → count + (at - start) ≤ filled
     → take count (drop (at - start) buffer) ≡ take count (drop at bytes)
 part_is_there buffer bytes start filled at count held later fits =

@@ -148,7 +148,8 @@ either_items : (capacity : ℕ) (items : List Item) (done : List Placed) (placed
     → StandsWithEither (OfItems capacity items) done placed bytes
 either_items capacity items done placed bytes (inl s) = inl s
 either_items capacity items done placed bytes (inr s) =
-    inr (subst (λ (l : List Item). StandsForShelf bytes capacity l) (sym (with_files-append items done (placed ∷ []))) s)
+    inr (subst (λ (l : List Item). StandsForShelf bytes capacity l) (sym (with_files-append items done (placed ∷ [])))
+    s)
 
 module _ {D A : Type 0} (disk : DiskOf D)
     (leaves_contents : (d : D) → disk.tells d → disk.may_leave d (disk.contents d))

@@ -61,7 +61,8 @@ step_is step gate head gates heads = ap (λ g. record { gate = g; head = step.he
 
 -- no step goes on from this place, after these heads
 abbrev pub IsEnd : List ℕ → List ItemHead → ℕ → Type 0
-IsEnd bytes heads at = (head : ItemHead) → LeadsToNextGate bytes (record { gate = at; head = head }) → MayFollow heads head → ⊥
+IsEnd bytes heads at = (head : ItemHead) → LeadsToNextGate bytes (record { gate = at; head = head })
+    → MayFollow heads head → ⊥
 
 -- two ways that can't go on are the same
 pub same_ends : (bytes : List ℕ) (before : List ItemHead) (from to to' : ℕ) (steps steps' : List Step)

@@ -55,7 +55,8 @@ unfoldable pub old_bytes : File → List ℕ
 old_bytes file = with_checksum (bytes_of_head (head_of_file file) ++ body_of file)
 
 unfoldable pub add_bytes : File → Origin → List ℕ
-add_bytes file origin = with_checksum (0x80 ∷ (bytes_of_head (head_of_file file) ++ (origin_bytes origin ++ body_of file)))
+add_bytes file origin =
+    with_checksum (0x80 ∷ (bytes_of_head (head_of_file file) ++ (origin_bytes origin ++ body_of file)))
 
 unfoldable pub discard_bytes : ℕ → List ℕ
 discard_bytes number = with_checksum (0x81 ∷ big_bytes 8 number)

@@ -25,7 +25,8 @@ pub record LeadsToNextGate (bytes : List ℕ) (step : Step) : Type 0 where
 -- from one gate by these steps to another
 abbrev pub IsPath : List ℕ → ℕ → List Step → ℕ → Type 0
 IsPath bytes from [] to = from ≡ to
-IsPath bytes from (step ∷ steps) to = (step.gate ≡ from) × LeadsToNextGate bytes step × IsPath bytes (next_gate step) steps to
+IsPath bytes from (step ∷ steps) to = (step.gate ≡ from) × LeadsToNextGate bytes step
+    × IsPath bytes (next_gate step) steps to
 
 abbrev pub heads_of : List Step → List ItemHead
 heads_of steps = map (λ (step : Step). step.head) steps
@@ -44,4 +45,5 @@ pub record IsBrokenAt (bytes : List ℕ) (at : ℕ) : Type 0 where
   pub path : IsPath bytes 19 steps at
   pub proper : IsProper (heads_of steps)
   pub is_open : IsOpen bytes at
-  pub broken : (head : ItemHead) → LeadsToNextGate bytes (record { gate = at; head = head }) → MayFollow (heads_of steps) head → ⊥
+  pub broken : (head : ItemHead) → LeadsToNextGate bytes (record { gate = at; head = head })
+      → MayFollow (heads_of steps) head → ⊥

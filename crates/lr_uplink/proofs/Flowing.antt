@@ -22,7 +22,15 @@ use Rattle.lr_sent.specs.Carried.{TellsItsLength}
 use Rattle.lr_sent.proofs.MadeFrames.{Reads, frame_reads}
 use Rattle.lr_uplink.specs.Packets.{file_packets}
 use Rattle.lr_uplink.specs.Received.{IsSendable}
-use Rattle.lr_uplink.specs.Sent.{packet_starts_from, is_in_zone, sent_zone_at, sent_pointer_at, sent_frame_at, sent_frames_of, file_frames}
+use Rattle.lr_uplink.specs.Sent.{
+  packet_starts_from,
+  is_in_zone,
+  sent_zone_at,
+  sent_pointer_at,
+  sent_frame_at,
+  sent_frames_of,
+  file_frames,
+}
 use Rattle.lr_uplink.specs.Sent.{frames_before, packets_before, sent_after}
 use Rattle.lr_uplink.proofs.FilePackets.{file_tells, file_fills}
 use Rattle.lr_uplink.proofs.Walking.{on}
@@ -31,7 +39,8 @@ use Rattle.lr_uplink.proofs.Zones.{Stage, step, concat-both}
 -- ---- what is read of a frame
 
 small_by : (t place : ℕ) (packets : List (List ℕ)) →
-    unwrap_or (option_map (λ start. start - 884 * t) (find (is_in_zone t) (packet_starts_from place packets))) 2047 < 2048
+    unwrap_or (option_map (λ start. start - 884 * t) (find (is_in_zone t) (packet_starts_from place packets)))
+    2047 < 2048
 small_by t place [] = omega arith
 small_by t place (packet ∷ packets) =
     let rest = find (is_in_zone t) (packet_starts_from (place + length packet) packets) in
@@ -50,7 +59,8 @@ unfolding sent_pointer_at
 pointer_small packets t = small_by t 0 packets
 
 pub read_frame : (vc counter : ℕ) (packets : List (List ℕ)) (t : ℕ) → vc < 64 →
-    Reads (sent_frame_at vc counter packets t) vc ((counter + t) % 16777216) (sent_pointer_at packets t) (sent_zone_at packets t)
+    Reads (sent_frame_at vc counter packets t) vc ((counter + t) % 16777216) (sent_pointer_at packets t)
+    (sent_zone_at packets t)
 read_frame vc counter packets t v =
     frame_reads vc ((counter + t) % 16777216) (sent_pointer_at packets t) (sent_zone_at packets t) v (omega arith)
     (pointer_small packets t)
@@ -120,7 +130,8 @@ module _ (vc counter : ℕ) (packets : List (List ℕ)) (channel : vc < 63) (tel
     abbrev pub frame : ℕ → Fields
     frame t = fields_of (sent_frame_at vc counter packets t)
 
-    reads : (t : ℕ) → Reads (sent_frame_at vc counter packets t) vc ((counter + t) % 16777216) (sent_pointer_at packets t)
+    reads : (t : ℕ) → Reads (sent_frame_at vc counter packets t) vc ((counter + t) % 16777216)
+        (sent_pointer_at packets t)
         (sent_zone_at packets t)
     reads t = read_frame vc counter packets t (omega arith)
 

@@ -10,7 +10,8 @@ use Rattle.lr_uplink.specs.Packets.{file_packets}
 use Rattle.lr_uplink.specs.Pieces.{IsPacketAt, packet_bytes, size_of_packet}
 use Rattle.lr_uplink.specs.Progress.{IsUnsentPart, IsSending}
 
-module _ (sending : Sending) (file : File) (count : ℕ) (rest : List ℕ) (part : IsUnsentPart sending file count rest) where
+module _ (sending : Sending) (file : File) (count : ℕ) (rest : List ℕ)
+    (part : IsUnsentPart sending file count rest) where
   abbrev packets : List (List ℕ)
   packets = file_packets count file
 
@@ -95,7 +96,8 @@ module _ (sending new : Sending) (file : File) (count : ℕ) (rest : List ℕ) (
       record { part = part; going = λ some. absurd (omega (arith, some, ap length none)) }
 
 -- one byte more of the packet
-pub byte_sent : (sending new : Sending) (file : File) (count : ℕ) (rest : List ℕ) → IsUnsentPart sending file count rest →
+pub byte_sent : (sending new : Sending) (file : File) (count : ℕ) (rest : List ℕ)
+    → IsUnsentPart sending file count rest →
     sending.sent < size_of_packet sending.packet → new.file ≡ sending.file → new.count ≡ sending.count →
     new.index ≡ sending.index → new.packet ≡ sending.packet → new.sent ≡ sending.sent + 1 →
     IsUnsentPart new file count (drop 1 rest)

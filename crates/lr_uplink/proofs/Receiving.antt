@@ -22,7 +22,15 @@ use Rattle.lr_vc.specs.Packets.{packets_of}
 use Rattle.lr_vc.specs.Runs.{AreFrames}
 use Rattle.lr_uplink.specs.Packets.{file_packets}
 use Rattle.lr_uplink.specs.Received.{IsSendable, FilesAreReceived, SentFilesAreReceived}
-use Rattle.lr_uplink.specs.Sent.{sent_frame_at, sent_frames_of, file_frames, frames_before, packets_before, sent_after, sent}
+use Rattle.lr_uplink.specs.Sent.{
+  sent_frame_at,
+  sent_frames_of,
+  file_frames,
+  frames_before,
+  packets_before,
+  sent_after,
+  sent,
+}
 use Rattle.lr_uplink.proofs.FilePackets.{goods_of, file_good}
 use Rattle.lr_uplink.proofs.Flowing.{read_frame, packets_after, files_received, no_packets}
 use Rattle.lr_uplink.proofs.Joining.{file_joined}

@@ -22,7 +22,15 @@ use Rattle.lr_uplink.specs.declared.sending.Sending.{Sending}
 use Rattle.lr_uplink.specs.declared.uplink.Uplink.{Uplink}
 use Rattle.lr_uplink.specs.Packets.{flags_at, body_packet, body_packets, file_packets, filled}
 use Rattle.lr_uplink.specs.Pieces.{SetsCount}
-use Rattle.lr_uplink.specs.Sent.{sent_zone_at, sent_pointer_at, sent_frame_at, sent_frames_of, frame_count, frames_before, packets_before}
+use Rattle.lr_uplink.specs.Sent.{
+  sent_zone_at,
+  sent_pointer_at,
+  sent_frame_at,
+  sent_frames_of,
+  frame_count,
+  frames_before,
+  packets_before,
+}
 use Rattle.lr_uplink.specs.Sent.{file_frames, sent_after, sent}
 use Rattle.lr_uplink.specs.Progress.{IsSending, CountsStandFor, IsUnderWay, IsAtRest, FramesStandFor}
 use Rattle.lr_uplink.specs.Standing.{History}
@@ -226,7 +234,8 @@ module _ (counters : List ℕ) (sending : Sending) (files : List File) (given : 
   frame_is frame counter is written =
       let number : counter % 16777216 ≡ (frames_before file.vc before + way.frames) % 16777216 =
       omega (arith, is, own_counter) in
-      written ∙ ap₂ (λ n ps. frame_for_zone file.vc n (sent_pointer_at ps way.frames) (sent_zone_at ps way.frames)) number
+      written ∙ ap₂ (λ n ps. frame_for_zone file.vc n (sent_pointer_at ps way.frames) (sent_zone_at ps way.frames))
+      number
       (packets_modulo first_count file)
       ∙ sym (get_or-file_frames before file way.frames inside)
       ∙ sym (get_or-append-add (sent before) (file_frames before file) way.frames [])

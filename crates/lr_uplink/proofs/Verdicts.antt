@@ -166,7 +166,8 @@ module _ (apid flags count : ℕ) (body : List ℕ) (application : apid < 2047) 
         (Err (Crc (stored_of packet) (crc_of (packet_body packet)))) (Ok (good_of (on vc packet)))))) other
         ∙ ap (λ b. cond b (Err TooShort) (cond (not (eqb (stored_of packet) (crc_of (packet_body packet))))
         (Err (Crc (stored_of packet) (crc_of (packet_body packet)))) (Ok (good_of (on vc packet))))) enough
-        ∙ ap (λ b. cond (not b) (Err (Crc (stored_of packet) (crc_of (packet_body packet)))) (Ok (good_of (on vc packet))))
+        ∙ ap (λ b. cond (not b) (Err (Crc (stored_of packet) (crc_of (packet_body packet))))
+        (Ok (good_of (on vc packet))))
         right
         ∙ ap Ok good
 

@@ -19,7 +19,8 @@ abbrev pub on : ℕ → List ℕ → Packet
 on channel bytes = record { vc = channel; bytes = bytes }
 
 -- where a packet ends, whose header is in these bytes
-pub packet_ends : (zone later packet more : List ℕ) (q : ℕ) → q + 6 ≤ length zone → drop q zone ++ later ≡ packet ++ more →
+pub packet_ends : (zone later packet more : List ℕ) (q : ℕ) → q + 6 ≤ length zone
+    → drop q zone ++ later ≡ packet ++ more →
     TellsItsLength packet → packet_end zone q ≡ q + length packet
 packet_ends zone later packet more q header e tells =
     let rest = drop q zone in

@@ -68,7 +68,8 @@ inverted_of (Some text) =
 
 -- the line code of `--line` and `--g2`
 abbrev pub line_code_given : Option Text → Option Text → Option LineCode
-line_code_given line g2 = option_and_then (λ marks. option_map (λ inverted. record { marks = marks; inverted = inverted })
+line_code_given line g2 =
+    option_and_then (λ marks. option_map (λ inverted. record { marks = marks; inverted = inverted })
     (inverted_of g2)) (marks_given line)
 
 -- `--symbols`: the most bytes that are taken

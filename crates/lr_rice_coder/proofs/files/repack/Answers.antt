@@ -22,7 +22,8 @@ header_is_of file header proper is read = subst (λ (l : List ℕ). IsHeaderOf l
 pub unreachable-requires : goal.unreachable-requires
 unreachable-requires c =
     no_structure c.args.file.now c.in-Ok.image c.in-Ok-read.records c.in-Ok.ensures.ok
-    (header_is_of c.args.file.now c.in-Ok-read.records c.proper.result.now c.proper.ensures.value c.in-Ok-read.ensures.ok)
+    (header_is_of c.args.file.now c.in-Ok-read.records c.proper.result.now c.proper.ensures.value
+    c.in-Ok-read.ensures.ok)
     (sym c.structure.ensures ∙ c.in_default-structure.is)
 
 pub code_image-requires : goal.code_image-requires

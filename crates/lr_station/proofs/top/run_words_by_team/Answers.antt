@@ -13,4 +13,5 @@ pub returns-clause-unknown : goal.returns-clause-unknown
 returns-clause-unknown g c = λ unknown.
     (subst (λ (command : Option Command). Runs (world_of g.S.Source g.D.Disk g.O.Sink) command c.run_by_team.result
     (outside c.args.source.now c.args.disk.now c.args.out.now)
-    (outside c.run_by_team.new.source c.run_by_team.new.disk c.run_by_team.new.out)) (c.in-Ok.ensures.gives ∙ unnamed _ unknown) c.run_by_team.ensures.runs).is
+    (outside c.run_by_team.new.source c.run_by_team.new.disk c.run_by_team.new.out))
+    (c.in-Ok.ensures.gives ∙ unnamed _ unknown) c.run_by_team.ensures.runs).is

@@ -17,7 +17,8 @@ use Rattle.lr_trellis.proofs.way_back.bytes_back.Invariants.{BytesRead}
 use Rattle.lr_trellis.proofs.way_back.bytes_back.Goals as goal
 
 -- eight bits more in front
-bytes_of-append : (e x : List Bool) → length e ≡ 8 → bytes_of_bits (e ++ x) ≡ number_from_digits 2 (map bit e) ∷ bytes_of_bits x
+bytes_of-append : (e x : List Bool) → length e ≡ 8
+    → bytes_of_bits (e ++ x) ≡ number_from_digits 2 (map bit e) ∷ bytes_of_bits x
 unfolding bytes_of_bits
 bytes_of-append e x eight =
     let size : length (e ++ x) / 8 ≡ suc (length x / 8) = omega (arith, length-append e x) in

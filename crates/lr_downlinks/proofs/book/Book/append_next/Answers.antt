@@ -23,7 +23,8 @@ next_of : (g : _) (c : After-self-1 g)
     c.in-Some.placed.now
 next_of g c = record {
   known = c.requires.known;
-  next = subst (λ files. slice_get files (times_in_order c.args.downlink c.self.inside.order) ≡ Some c.in-Some.placed.now)
+  next = subst (λ files. slice_get files (times_in_order c.args.downlink c.self.inside.order)
+      ≡ Some c.in-Some.placed.now)
       c.requires.files (found g c);
 }
 
