@@ -53,7 +53,7 @@ way_made : ℕ → List Entry → ℕ → Way
 way_made capacity entries end = record { capacity = capacity; entries = entries; end = end }
 
 -- the way with an item more is the way of the items with it
-way_of-push : (capacity : ℕ) (items : List Item) (item : Item)
+pub way_of-push : (capacity : ℕ) (items : List Item) (item : Item)
     → way_with (head_of_item item) (way_of capacity items) ≡ way_of capacity (items ++ item ∷ [])
 unfolding way_made step_at
 way_of-push capacity items item =

@@ -35,6 +35,7 @@ use Rattle.lr_shelf.specs.Grounds.{
   OfWay,
   IsSettledOn,
   StandsWith,
+  StandsWithEither,
   capacity_of,
   end_with_files,
   next_number,
@@ -51,7 +52,7 @@ with_files-append items done more =
     ap (λ (l : List Item). items ++ l) (map-append item_for done more)
     ∙ sym (append_assoc items (map item_for done) (map item_for more))
 
-entries_of-append : (items more : List Item) → entries_of (items ++ more) ≡ entries_of items ++ entries_of more
+pub entries_of-append : (items more : List Item) → entries_of (items ++ more) ≡ entries_of items ++ entries_of more
 entries_of-append [] more = refl
 entries_of-append (old_item file ∷ items) more =
     ap (λ (l : List Item). old_item file ∷ l) (entries_of-append items more)
@@ -59,7 +60,7 @@ entries_of-append (add_item file origin ∷ items) more =
     ap (λ (l : List Item). add_item file origin ∷ l) (entries_of-append items more)
 entries_of-append (discard_item number ∷ items) more = entries_of-append items more
 
-entries_of-files : (files : List Placed) → entries_of (map item_for files) ≡ map item_for files
+pub entries_of-files : (files : List Placed) → entries_of (map item_for files) ≡ map item_for files
 entries_of-files [] = refl
 entries_of-files (placed ∷ files) = ap (λ (l : List Item). item_for placed ∷ l) (entries_of-files files)
 
@@ -137,11 +138,6 @@ module _ {D : Type 0} (disk : DiskOf D) (done : List Placed) (shelf : Shelf) (d 
       ap (λ (n : ℕ). min n 18446744073709551615) (ends placed (OfWay way old) s)
 
 -- ---- an append
-
-module _ (ground : Ground) (done : List Placed) (placed : Placed) where
-  -- the files that are done, or one more
-  abbrev pub StandsWithEither : List ℕ → Type 0
-  StandsWithEither bytes = StandsWith ground done bytes ⊎ StandsWith ground (done ++ placed ∷ []) bytes
 
 either_items : (capacity : ℕ) (items : List Item) (done : List Placed) (placed : Placed) (bytes : List ℕ)
     → StandsForEither capacity (with_files items done) (item_for placed) bytes

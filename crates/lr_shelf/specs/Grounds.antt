@@ -1,7 +1,7 @@
 -- What files come onto, and what stands there with them.
-use Rattle.std.specs.Prelude.{◌≡◌, ◌≢◌, ◌<◌, ◌≤◌, ◌++◌, ℕ, false, min, List, [], length, map}
+use Rattle.std.specs.Prelude.{◌≡◌, ◌≢◌, ◌⊎◌, ◌<◌, ◌≤◌, ◌++◌, ◌∷◌, ℕ, false, min, List, [], length, map}
 use Rattle.lr_bits.specs.declared.placed.Placed.{Placed}
-use Rattle.lr_disk.specs.Disk.{Only}
+use Rattle.lr_disk.specs.Disk.{LeavesOnly, Only}
 use Rattle.lr_disk.specs.declared.disk.Disk.{Ghosts as DiskOf}
 use Rattle.lr_shelf_format.specs.Items.{Item}
 use Rattle.lr_shelf_format.specs.ShelfBytes.{StandsForShelf, end_of, entries_of}
@@ -33,6 +33,19 @@ capacity_of (OfWay way bytes) = way.capacity
 abbrev pub StandsWith : Ground → List Placed → List ℕ → Type 0
 StandsWith (OfItems capacity items) files bytes = StandsForShelf bytes capacity (with_files items files)
 StandsWith (OfWay way old) files bytes = HasFilesAfter way old files bytes
+
+-- the bytes stand for what was there and the files that are done, or for one more too
+abbrev pub StandsWithEither : Ground → List Placed → Placed → List ℕ → Type 0
+StandsWithEither ground done placed bytes =
+    StandsWith ground done bytes ⊎ StandsWith ground (done ++ placed ∷ []) bytes
+
+-- the bytes stand for what was there and a front of these files, of n of them at least
+pub record StandsForFront (ground : Ground) (files : List Placed) (n : ℕ) (bytes : List ℕ) : Type 0 where
+  pub first : List Placed
+  pub rest : List Placed
+  pub split : files ≡ first ++ rest
+  pub enough : n ≤ length first
+  pub stands : StandsWith ground first bytes
 
 -- where it ends with these files
 abbrev pub end_with_files : Ground → List Placed → ℕ
@@ -76,3 +89,18 @@ module _ (ground : Ground) (files : List Placed) where
       pub told : disk.tells d
       pub kept : KeepsOn shelf
       pub on_disk : HoldsStill d
+
+module _ {D : Type 0} (disk : DiskOf D) (ground : Ground) where
+  -- each image since the moment of d stands for what was there and a front of these files
+  abbrev pub LeavesFronts : List Placed → D → D → Type 0
+  LeavesFronts files d d' = LeavesOnly disk.moment disk.left_since d d' (StandsForFront ground files 0)
+
+  -- the contents and each crash image stand for what was there and a front of these files, of n of them at least
+  pub record HoldsFront (files : List Placed) (n : ℕ) (d : D) : Type 0 where
+    pub contents : StandsForFront ground files n (disk.contents d)
+    pub images : (c : List ℕ) → disk.may_leave d c → StandsForFront ground files n c
+
+  -- they stand for what was there and the files that are done, or for one more too
+  pub record HoldsEitherOn (done : List Placed) (placed : Placed) (d : D) : Type 0 where
+    pub contents : StandsWithEither ground done placed (disk.contents d)
+    pub images : (c : List ℕ) → disk.may_leave d c → StandsWithEither ground done placed c
