@@ -1,5 +1,5 @@
 -- Files that come after a way: one file more.
-use Rattle.std.proofs.Common.{◌≡◌, ◌⊎◌, inl, inr, ⊎_elim, false, ℕ, ◌+◌, ◌-◌, ◌<◌, ◌≤◌, List, [], ◌∷◌, ◌++◌, Ok, Result}
+use Rattle.std.proofs.Common.{◌≡◌, ◌⊎◌, inl, inr, ⊎_elim, false, ℕ, ◌+◌, ◌-◌, ◌≤◌, List, [], ◌∷◌, ◌++◌, Ok, Result}
 use Rattle.std.proofs.Common.{length, take, slice_index, refl, sym, ◌∙◌, ap, subst, arith}
 use Rattle.std.proofs.Common.{append_assoc, length-append, length-take}
 use Rattle.std.proofs.lemmas.List.{append-nil, get_or_at, take_at}
@@ -16,7 +16,7 @@ use Rattle.lr_shelf_format.proofs.WayLemmas.{has_one_way}
 use Rattle.lr_shelf.specs.Adding.{WithOrWithout}
 use Rattle.lr_shelf.specs.Adds.{Adds, last_gate}
 use Rattle.lr_shelf.specs.Append.{item_for}
-use Rattle.lr_shelf.specs.Fronts.{HasFilesAfter, HasFrontWay, end_with, gated_file, room_for, way_with_files}
+use Rattle.lr_shelf.specs.Fronts.{HasFilesAfter, end_with, gated_file, room_for, way_with_files}
 use Rattle.lr_shelf.specs.Kept.{Kept, kept_by}
 use Rattle.lr_shelf.specs.Shelf.{HasEitherWay, KeepsWay}
 use Rattle.lr_shelf.specs.declared.error.ShelfError.{ShelfError}
@@ -68,27 +68,6 @@ way_end [] way = omega arith
 way_end (placed ∷ files) way =
     let next = way_with (head_of_item (item_for placed)) way in
     omega (arith, way_end files next, end_with-append way.end (placed ∷ []) files)
-
-pub front_all : (way : Way) (files : List Placed) (c : List ℕ) → IsWay c (way_with_files files way)
-    → HasFrontWay way files c
-front_all way files c is = record { first = files; rest = []; split = sym (append-nil files); is_way = is }
-
--- also with one more
-pub front_more : (way : Way) (files : List Placed) (placed : Placed) (c : List ℕ) → HasFrontWay way files c
-    → HasFrontWay way (files ++ placed ∷ []) c
-front_more way files placed c front = record {
-  first = front.first;
-  rest = front.rest ++ placed ∷ [];
-  split = ap (λ (l : List Placed). l ++ placed ∷ []) front.split
-      ∙ append_assoc front.first front.rest (placed ∷ []);
-  is_way = front.is_way;
-}
-
-pub either_front : (way : Way) (files : List Placed) (placed : Placed) (c : List ℕ)
-    → HasEitherWay (way_with_files files way) (item_for placed) c → HasFrontWay way (files ++ placed ∷ []) c
-either_front way files placed c (inl is) = front_more way files placed c (front_all way files c is)
-either_front way files placed c (inr is) =
-    front_all way (files ++ placed ∷ []) c (subst (IsWay c) (sym (way_with_files-push files placed way)) is)
 
 -- ---- the bytes before the last gate
 

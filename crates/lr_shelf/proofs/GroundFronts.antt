@@ -6,9 +6,9 @@ use Rattle.lr_disk.specs.Disk.{LeavesOnly, Only}
 use Rattle.lr_disk.specs.Reads.{IsUnwritten}
 use Rattle.lr_disk.specs.declared.disk.Disk.{Ghosts as DiskOf}
 use Rattle.lr_disk.proofs.Moments.{joined, weaker}
-use Rattle.lr_shelf_format.specs.Items.{Item, head_of_item}
+use Rattle.lr_shelf_format.specs.Items.{Item}
 use Rattle.lr_shelf_format.specs.ShelfBytes.{StandsForShelf}
-use Rattle.lr_shelf_format.specs.Way.{IsWay, Way, way_of, way_with}
+use Rattle.lr_shelf_format.specs.Way.{IsWay, Way, way_of}
 use Rattle.lr_shelf.specs.Append.{item_for}
 use Rattle.lr_shelf.specs.Fronts.{way_with_files}
 use Rattle.lr_shelf.specs.Kept.{kept_by}

@@ -1,5 +1,5 @@
 -- One file more, on each ground.
-use Rattle.std.proofs.Common.{◌≡◌, ◌⊎◌, inl, inr, ℕ, ◌+◌, ◌≤◌, List, [], ◌∷◌, ◌++◌, Result, Ok}
+use Rattle.std.proofs.Common.{◌≡◌, inl, inr, ℕ, ◌+◌, ◌≤◌, List, [], ◌∷◌, ◌++◌, Result, Ok}
 use Rattle.std.proofs.Common.{length, map, min, refl, sym, ◌∙◌, ap, subst, arith, append_assoc, length-append}
 use Rattle.std.proofs.lemmas.List.{map-append, length-map}
 use Rattle.std.proofs.lemmas.List.Sums.{sum_by-append}
@@ -29,19 +29,7 @@ use Rattle.lr_shelf.proofs.Fronts.{
   way_with_files-push,
 }
 use Rattle.lr_shelf.proofs.ItemsKept.{entry_count_is}
-use Rattle.lr_shelf.specs.Grounds.{
-  Ground,
-  OfItems,
-  OfWay,
-  IsSettledOn,
-  StandsWith,
-  StandsWithEither,
-  capacity_of,
-  end_with_files,
-  next_number,
-  told_end,
-  with_files,
-}
+use Rattle.lr_shelf.specs.Grounds.{Ground, OfItems, OfWay, IsSettledOn, StandsWithEither, capacity_of, end_with_files, next_number, told_end, with_files}
 
 -- ---- items
 

@@ -12,13 +12,6 @@ abbrev pub way_with_files : List Placed → Way → Way
 way_with_files [] way = way
 way_with_files (placed ∷ files) way = way_with_files files (way_with (head_of_item (item_for placed)) way)
 
--- the bytes have this way with a front of the files at its end
-pub record HasFrontWay (way : Way) (files : List Placed) (bytes : List ℕ) : Type 0 where
-  pub first : List Placed
-  pub rest : List Placed
-  pub split : files ≡ first ++ rest
-  pub is_way : IsWay bytes (way_with_files first way)
-
 -- an open gate, and the Add item of the file
 abbrev pub gated_file : Placed → List ℕ
 gated_file placed = after_open_gate (item_bytes (item_for placed))
