@@ -1,7 +1,9 @@
 // Which words are read, and as which command.
 use lr_conv::LineCode;
 use lr_forms::{Input, Output, UnitForm};
-use lr_words::{Command, read_words, writes_shelf};
+use lr_words::{
+    Command, FileAction, FrameLines, IntakeAction, ShelfAction, read_words, writes_shelf,
+};
 use std::alloc::{AllocError, Global};
 use std::test::Fail;
 
@@ -269,6 +271,36 @@ const WRONG_VALUES: [&str; 58] = [
     "trial 0 1025 0",
 ];
 
+fn lines_name(lines: FrameLines) -> &'static str {
+    match lines {
+        FrameLines::Frames => "frames",
+        FrameLines::Packets => "packets",
+    }
+}
+
+fn intake_name(action: IntakeAction) -> &'static str {
+    match action {
+        IntakeAction::Decode => "decode",
+        IntakeAction::Receive => "receive",
+    }
+}
+
+fn shelf_name(action: ShelfAction) -> &'static str {
+    match action {
+        ShelfAction::List => "list",
+        ShelfAction::Verify => "verify",
+    }
+}
+
+fn file_name(action: FileAction) -> &'static str {
+    match action {
+        FileAction::Extract => "extract",
+        FileAction::Show => "show",
+        FileAction::Export => "export",
+        FileAction::Discard => "discard",
+    }
+}
+
 fn unit_name(form: UnitForm) -> &'static str {
     match form {
         UnitForm::Blocks => "blocks",
@@ -315,28 +347,20 @@ fn input_text(
 fn text_of(alloc: Global, command: Command) -> Result<String, AllocError> {
     match command {
         Command::Init { capacity } => format!(in alloc; "init {capacity}"),
-        Command::Frames { most } => format!(in alloc; "frames {most}"),
-        Command::Packets { most } => format!(in alloc; "packets {most}"),
-        Command::Decode {
+        Command::Frames { lines, most } => format!(in alloc; "{} {most}", lines_name(lines)),
+        Command::Intake {
+            action,
             input,
             workers,
             most,
-        } => input_text(alloc, "decode", input, workers, most),
-        Command::Receive {
-            input,
-            workers,
-            most,
-        } => input_text(alloc, "receive", input, workers, most),
+        } => input_text(alloc, intake_name(action), input, workers, most),
         Command::Downlinks { line } => {
             let code = line_name(line);
             let g2 = g2_name(line);
             format!(in alloc; "downlinks {code} {g2}")
         }
-        Command::Extract { number } => format!(in alloc; "extract {number}"),
-        Command::List => String::from_str(alloc, "list"),
-        Command::Show { number } => format!(in alloc; "show {number}"),
-        Command::Verify => String::from_str(alloc, "verify"),
-        Command::Export { number } => format!(in alloc; "export {number}"),
+        Command::OnShelf(action) => String::from_str(alloc, shelf_name(action)),
+        Command::OnFile(action, number) => format!(in alloc; "{} {number}", file_name(action)),
         Command::Render { workers } => format!(in alloc; "render by {workers}"),
         Command::Assemble {
             from,
@@ -354,7 +378,6 @@ fn text_of(alloc: Global, command: Command) -> Result<String, AllocError> {
             let g2 = g2_name(line);
             format!(in alloc; "transmit {from} {to} {wrong} {code} {g2}")
         }
-        Command::Discard { number } => format!(in alloc; "discard {number}"),
         Command::Repack { number, block } => format!(in alloc; "repack {number} {block}"),
         Command::Make {
             start,

@@ -37,7 +37,7 @@ use Rattle.lr_words.specs.declared.shape.Shape.TheVariants.{
   Nothing,
   Number,
   Symbols,
-  Intake,
+  Intake as IntakeWords,
   Line,
   Workers,
   Segments,
@@ -46,36 +46,19 @@ use Rattle.lr_words.specs.declared.shape.Shape.TheVariants.{
   Made,
   Tried,
 }
-use Rattle.lr_words.specs.declared.shape.OfNothing.{OfNothing}
-use Rattle.lr_words.specs.declared.shape.OfNothing.TheVariants.{List as OfList, Verify as OfVerify}
-use Rattle.lr_words.specs.declared.shape.OfNumber.{OfNumber}
-use Rattle.lr_words.specs.declared.shape.OfNumber.TheVariants.{
-  Extract as OfExtract,
-  Show as OfShow,
-  Export as OfExport,
-  Discard as OfDiscard,
-}
-use Rattle.lr_words.specs.declared.shape.OfSymbols.{OfSymbols}
-use Rattle.lr_words.specs.declared.shape.OfSymbols.TheVariants.{Frames as OfFrames, Packets as OfPackets}
-use Rattle.lr_words.specs.declared.shape.OfIntake.{OfIntake}
-use Rattle.lr_words.specs.declared.shape.OfIntake.TheVariants.{Decode as OfDecode, Receive as OfReceive}
+use Rattle.lr_words.specs.declared.command.IntakeAction.{IntakeAction}
+use Rattle.lr_words.specs.declared.command.IntakeAction.TheVariants.{Decode, Receive}
 use Rattle.lr_words.specs.declared.command.Command.{Command}
 use Rattle.lr_words.specs.declared.command.Command.TheVariants.{
   Init,
   Frames,
-  Packets,
-  Decode,
-  Receive,
+  Intake,
   Downlinks,
-  Extract,
-  List as ListAll,
-  Show,
-  Verify,
-  Export,
+  OnShelf,
+  OnFile,
   Render,
   Assemble,
   Transmit,
-  Discard,
   Repack,
   Make,
   Trial,
@@ -84,28 +67,10 @@ use Rattle.lr_words.specs.declared.command.Command.TheVariants.{
 abbrev pub most_u64 : ℕ
 most_u64 = 18446744073709551615
 
-abbrev pub with_nothing : OfNothing → Command
-with_nothing OfList = ListAll
-with_nothing OfVerify = Verify
-
-abbrev pub with_number : OfNumber → ℕ → Command
-with_number OfExtract n = Extract n
-with_number OfShow n = Show n
-with_number OfExport n = Export n
-with_number OfDiscard n = Discard n
-
-abbrev pub with_symbols : OfSymbols → ℕ → Command
-with_symbols OfFrames most = Frames most
-with_symbols OfPackets most = Packets most
-
 -- `decode` reads no frames
-abbrev pub input_of : OfIntake → LineCode → Option Text → Option Input
-input_of OfDecode = coded_input
-input_of OfReceive = any_input
-
-abbrev pub with_intake : OfIntake → Input → ℕ → ℕ → Command
-with_intake OfDecode input workers most = Decode input workers most
-with_intake OfReceive input workers most = Receive input workers most
+abbrev pub input_of : IntakeAction → LineCode → Option Text → Option Input
+input_of Decode = coded_input
+input_of Receive = any_input
 
 -- a block has 8, 16, 32 or 64 samples
 abbrev pub block_of : ℕ → Option ℕ
@@ -122,15 +87,15 @@ required_number value id low high = number_given low high (value id)
 abbrev pub given_by : Shape → (Text → Option Text) → Option Command
 given_by Capacity value =
     option_map (λ n. Init n) (required_number value (codes "capacity") LEAST_CAPACITY MOST_CAPACITY)
-given_by (Nothing kind) value = Some (with_nothing kind)
-given_by (Number kind) value =
-    option_map (λ n. with_number kind n) (required_number value (codes "number") 0 most_u64)
-given_by (Symbols kind) value = option_map (λ n. with_symbols kind n) (most_of (value (codes "symbols")))
-given_by (Intake kind) value =
+given_by (Nothing action) value = Some (OnShelf action)
+given_by (Number action) value =
+    option_map (λ n. OnFile action n) (required_number value (codes "number") 0 most_u64)
+given_by (Symbols lines) value = option_map (λ n. Frames lines n) (most_of (value (codes "symbols")))
+given_by (IntakeWords action) value =
     option_and_then (λ w. option_and_then (λ line. option_and_then (λ input.
-    option_map (λ n. with_intake kind input w n)
+    option_map (λ n. Intake action input w n)
     (most_of (value (codes "symbols"))))
-    (input_of kind line (value (codes "input"))))
+    (input_of action line (value (codes "input"))))
     (line_code_given (value (codes "line")) (value (codes "g2"))))
     (workers_given (value (codes "workers")))
 given_by Line value = option_map (λ line. Downlinks line) (line_code_given (value (codes "line")) (value (codes "g2")))
@@ -196,10 +161,8 @@ IsCrew workers = (1 ≤ workers) × (workers ≤ MOST_WORKERS)
 -- The numbers of a command are in their ranges.
 abbrev pub IsInRange : Option Command → Type 0
 IsInRange (Some (Init capacity)) = IsCapacity capacity
-IsInRange (Some (Frames most)) = most ≤ 2 ^ 48
-IsInRange (Some (Packets most)) = most ≤ 2 ^ 48
-IsInRange (Some (Decode input workers most)) = (most ≤ 2 ^ 48) × IsCrew workers
-IsInRange (Some (Receive input workers most)) = (most ≤ 2 ^ 48) × IsCrew workers
+IsInRange (Some (Frames lines most)) = most ≤ 2 ^ 48
+IsInRange (Some (Intake action input workers most)) = (most ≤ 2 ^ 48) × IsCrew workers
 IsInRange (Some (Render workers)) = IsCrew workers
 IsInRange (Some (Assemble from to apid image)) = (apid ≤ 2046) × (image ≤ 65535)
 IsInRange (Some (Transmit from to wrong line)) = wrong ≤ 16

@@ -17,10 +17,10 @@ use Rattle.lr_words.specs.declared.shape.Shape.TheVariants.{
   Made,
   Tried,
 }
-use Rattle.lr_words.specs.declared.shape.OfNothing.TheVariants.{List as OfList, Verify}
-use Rattle.lr_words.specs.declared.shape.OfNumber.TheVariants.{Extract, Show, Export, Discard}
-use Rattle.lr_words.specs.declared.shape.OfSymbols.TheVariants.{Frames, Packets}
-use Rattle.lr_words.specs.declared.shape.OfIntake.TheVariants.{Decode, Receive}
+use Rattle.lr_words.specs.declared.command.FileAction.TheVariants.{Extract, Show, Export, Discard}
+use Rattle.lr_words.specs.declared.command.FrameLines.TheVariants.{Frames, Packets}
+use Rattle.lr_words.specs.declared.command.IntakeAction.TheVariants.{Decode, Receive}
+use Rattle.lr_words.specs.declared.command.ShelfAction.TheVariants.{List as ListAll, Verify}
 
 -- what the words after this name look like, if it names a command
 abbrev pub shape_named : Text → Option Shape
@@ -28,7 +28,7 @@ shape_named name =
     if bytes_eq name (codes "init") then Some Capacity
     else if bytes_eq name (codes "receive") then Some (Intake Receive)
     else if bytes_eq name (codes "downlinks") then Some Line
-    else if bytes_eq name (codes "list") then Some (Nothing OfList)
+    else if bytes_eq name (codes "list") then Some (Nothing ListAll)
     else if bytes_eq name (codes "show") then Some (Number Show)
     else if bytes_eq name (codes "extract") then Some (Number Extract)
     else if bytes_eq name (codes "export") then Some (Number Export)

@@ -8,24 +8,14 @@ pub enum Command {
     Init {
         capacity: u64,
     },
-    /// A line for each transfer frame; at most `most` bytes are taken.
+    /// Lines of the transfer frames; at most `most` bytes are taken.
     Frames {
+        lines: FrameLines,
         most: u64,
     },
-    /// A line for each packet of the transfer frames; at most `most` bytes are taken.
-    Packets {
-        most: u64,
-    },
-    /// A line for what became of each window or block; at most `most` bytes are taken. Of symbols this many work on
-    /// windows, the caller among them.
-    Decode {
-        input: Input,
-        workers: u32,
-        most: u64,
-    },
-    /// Puts each mission file onto the shelf; at most `most` bytes are taken. Of symbols this many work on windows, the
-    /// caller among them.
-    Receive {
+    /// Work on a stream; at most `most` bytes are taken. Of symbols this many work on windows, the caller among them.
+    Intake {
+        action: IntakeAction,
         input: Input,
         workers: u32,
         most: u64,
@@ -34,22 +24,10 @@ pub enum Command {
     Downlinks {
         line: LineCode,
     },
-    /// The bytes of the mission file of this number.
-    Extract {
-        number: u64,
-    },
-    /// A line for each entry, and one for the shelf.
-    List,
-    /// The line of the file of this number, and a line for each record of its header.
-    Show {
-        number: u64,
-    },
-    /// A line for each file's checksum.
-    Verify,
-    /// The image of the file of this number, as PGM.
-    Export {
-        number: u64,
-    },
+    /// Something on all entries.
+    OnShelf(ShelfAction),
+    /// Something on the file of this number.
+    OnFile(FileAction, u64),
     /// The images of all files, as PGM. This many work on strips of them, the caller among them.
     Render {
         workers: u32,
@@ -69,10 +47,6 @@ pub enum Command {
         to: u64,
         wrong: u8,
         line: LineCode,
-    },
-    /// Closes the entry of this number.
-    Discard {
-        number: u64,
     },
     /// Codes the image of the file of this number anew, in blocks of this many samples, and adds the file.
     Repack {
@@ -94,4 +68,44 @@ pub enum Command {
         wrong: u8,
         workers: u32,
     },
+}
+
+/// What is printed of the transfer frames.
+#[derive(Clone, Copy)]
+pub enum FrameLines {
+    /// A line for each transfer frame.
+    Frames,
+    /// A line for each packet of the transfer frames.
+    Packets,
+}
+
+/// What is done with a stream.
+#[derive(Clone, Copy)]
+pub enum IntakeAction {
+    /// A line for what became of each window or block.
+    Decode,
+    /// Puts each mission file onto the shelf.
+    Receive,
+}
+
+/// What is done with all entries.
+#[derive(Clone, Copy)]
+pub enum ShelfAction {
+    /// A line for each entry, and one for the shelf.
+    List,
+    /// A line for each file's checksum.
+    Verify,
+}
+
+/// What is done with the file of a number.
+#[derive(Clone, Copy)]
+pub enum FileAction {
+    /// Puts its bytes.
+    Extract,
+    /// Puts its line, and a line for each record of its header.
+    Show,
+    /// Puts its image as PGM.
+    Export,
+    /// Closes its entry.
+    Discard,
 }

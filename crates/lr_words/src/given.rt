@@ -1,16 +1,7 @@
 //! The command that the values of arguments give, by what the words look like.
 ghost use Rattle.std.specs.Prelude.{◌≡◌, codes};
 ghost use Rattle.clap.specs.Words.{first_value, found_of};
-ghost use Rattle.lr_words.specs.Commands.{
-  block_of,
-  input_of,
-  with_nothing,
-  with_number,
-  with_symbols,
-  with_intake,
-  given_by,
-  IsInRange,
-};
+ghost use Rattle.lr_words.specs.Commands.{block_of, input_of, given_by, IsInRange};
 ghost use Rattle.lr_words.specs.declared.shape.Shape.TheVariants.{
   Capacity,
   Number,
@@ -25,9 +16,9 @@ ghost use Rattle.lr_words.specs.declared.shape.Shape.TheVariants.{
   Tried,
 };
 
-use crate::command::Command;
+use crate::command::{Command, FileAction, FrameLines, IntakeAction};
 use crate::numbers::number_given;
-use crate::shape::{OfIntake, OfNothing, OfNumber, OfSymbols, Shape};
+use crate::shape::Shape;
 use crate::values::{MOST_WRONG, any_input, coded_input, line_code, most, output_form, workers};
 use clap::ArgMatches;
 use lr_conv::LineCode;
@@ -46,66 +37,14 @@ const MOST_MADE_FRAMES: u64 = 65_536;
 /// The most frames that `trial` takes.
 const MOST_TRIED_FRAMES: u64 = 1024;
 
-impl OfNothing {
-    fn command(self) -> Command
-        ensures { result ≡ with_nothing self }
-    {
-        match self {
-            OfNothing::List => Command::List,
-            OfNothing::Verify => Command::Verify,
-        }
-    }
-}
-
-impl OfNumber {
-    fn command(self, number: u64) -> Command
-        ensures { result ≡ with_number self number }
-    {
-        match self {
-            OfNumber::Extract => Command::Extract { number },
-            OfNumber::Show => Command::Show { number },
-            OfNumber::Export => Command::Export { number },
-            OfNumber::Discard => Command::Discard { number },
-        }
-    }
-}
-
-impl OfSymbols {
-    fn command(self, most: u64) -> Command
-        ensures { result ≡ with_symbols self most }
-    {
-        match self {
-            OfSymbols::Frames => Command::Frames { most },
-            OfSymbols::Packets => Command::Packets { most },
-        }
-    }
-}
-
-impl OfIntake {
+impl IntakeAction {
     /// What is read, where symbols are of this line code.
     fn input(self, matches: &ArgMatches, line: LineCode) -> Option<Input>
         ensures { result ≡ input_of self line (first_value (found_of matches.now) (codes "input")) }
     {
         match self {
-            OfIntake::Decode => coded_input(matches, line),
-            OfIntake::Receive => any_input(matches, line),
-        }
-    }
-
-    fn command(self, input: Input, workers: u32, most: u64) -> Command
-        ensures { result ≡ with_intake self input workers most }
-    {
-        match self {
-            OfIntake::Decode => Command::Decode {
-                input,
-                workers,
-                most,
-            },
-            OfIntake::Receive => Command::Receive {
-                input,
-                workers,
-                most,
-            },
+            IntakeAction::Decode => coded_input(matches, line),
+            IntakeAction::Receive => any_input(matches, line),
         }
     }
 }
@@ -118,31 +57,36 @@ fn with_capacity(matches: &ArgMatches) -> Option<Command>
     Some(Command::Init { capacity })
 }
 
-fn with_number(kind: OfNumber, matches: &ArgMatches) -> Option<Command>
-    ensures gives { result ≡ given_by (Number kind) (first_value (found_of matches.now)) }
+fn with_number(action: FileAction, matches: &ArgMatches) -> Option<Command>
+    ensures gives { result ≡ given_by (Number action) (first_value (found_of matches.now)) }
     ensures range { IsInRange result }
 {
     let number = number_given(matches, "number", 0, u64::MAX)?;
-    Some(kind.command(number))
+    Some(Command::OnFile(action, number))
 }
 
-fn with_symbols(kind: OfSymbols, matches: &ArgMatches) -> Option<Command>
-    ensures gives { result ≡ given_by (Symbols kind) (first_value (found_of matches.now)) }
+fn with_symbols(lines: FrameLines, matches: &ArgMatches) -> Option<Command>
+    ensures gives { result ≡ given_by (Symbols lines) (first_value (found_of matches.now)) }
     ensures range { IsInRange result }
 {
     let most = most(matches)?;
-    Some(kind.command(most))
+    Some(Command::Frames { lines, most })
 }
 
-fn with_intake(kind: OfIntake, matches: &ArgMatches) -> Option<Command>
-    ensures gives { result ≡ given_by (Intake kind) (first_value (found_of matches.now)) }
+fn with_intake(action: IntakeAction, matches: &ArgMatches) -> Option<Command>
+    ensures gives { result ≡ given_by (Intake action) (first_value (found_of matches.now)) }
     ensures range { IsInRange result }
 {
     let workers = workers(matches)?;
     let line = line_code(matches)?;
-    let input = kind.input(matches, line)?;
+    let input = action.input(matches, line)?;
     let most = most(matches)?;
-    Some(kind.command(input, workers, most))
+    Some(Command::Intake {
+        action,
+        input,
+        workers,
+        most,
+    })
 }
 
 fn with_line(matches: &ArgMatches) -> Option<Command>
@@ -254,10 +198,10 @@ pub(crate) fn command_given(shape: Shape, matches: &ArgMatches) -> Option<Comman
 {
     match shape {
         Shape::Capacity => with_capacity(matches),
-        Shape::Nothing(kind) => Some(kind.command()),
-        Shape::Number(kind) => with_number(kind, matches),
-        Shape::Symbols(kind) => with_symbols(kind, matches),
-        Shape::Intake(kind) => with_intake(kind, matches),
+        Shape::Nothing(action) => Some(Command::OnShelf(action)),
+        Shape::Number(action) => with_number(action, matches),
+        Shape::Symbols(lines) => with_symbols(lines, matches),
+        Shape::Intake(action) => with_intake(action, matches),
         Shape::Line => with_line(matches),
         Shape::Workers => with_workers(matches),
         Shape::Segments => with_segments(matches),

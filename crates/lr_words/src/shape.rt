@@ -2,19 +2,21 @@
 ghost use Rattle.std.specs.Prelude.{◌≡◌};
 ghost use Rattle.lr_words.specs.Shapes.{shape_named, can_write};
 
+use crate::command::{FileAction, FrameLines, IntakeAction, ShelfAction};
+
 /// What the words after a command's name look like.
 #[derive(Clone, Copy)]
 pub(crate) enum Shape {
     /// `CAPACITY`
     Capacity,
     /// No words.
-    Nothing(OfNothing),
+    Nothing(ShelfAction),
     /// `NUMBER`
-    Number(OfNumber),
+    Number(FileAction),
     /// `[--symbols N]`
-    Symbols(OfSymbols),
+    Symbols(FrameLines),
     /// `[--input FORM] [--workers W] [--symbols N] [--line CODE] [--g2 G2]`
-    Intake(OfIntake),
+    Intake(IntakeAction),
     /// `[--line CODE] [--g2 G2]`
     Line,
     /// `[--workers W]`
@@ -31,57 +33,27 @@ pub(crate) enum Shape {
     Tried,
 }
 
-/// The commands with no words.
-#[derive(Clone, Copy)]
-pub(crate) enum OfNothing {
-    List,
-    Verify,
-}
-
-/// The commands on an entry's number.
-#[derive(Clone, Copy)]
-pub(crate) enum OfNumber {
-    Extract,
-    Show,
-    Export,
-    Discard,
-}
-
-/// The commands on transfer frames.
-#[derive(Clone, Copy)]
-pub(crate) enum OfSymbols {
-    Frames,
-    Packets,
-}
-
-/// The commands on a stream.
-#[derive(Clone, Copy)]
-pub(crate) enum OfIntake {
-    Decode,
-    Receive,
-}
-
 /// What the words after this name look like, if it names a command.
 pub(crate) fn shape_of(name: &str) -> Option<Shape>
     ensures { result ≡ shape_named name.now }
 {
     match name {
         "init" => Some(Shape::Capacity),
-        "receive" => Some(Shape::Intake(OfIntake::Receive)),
+        "receive" => Some(Shape::Intake(IntakeAction::Receive)),
         "downlinks" => Some(Shape::Line),
-        "list" => Some(Shape::Nothing(OfNothing::List)),
-        "show" => Some(Shape::Number(OfNumber::Show)),
-        "extract" => Some(Shape::Number(OfNumber::Extract)),
-        "export" => Some(Shape::Number(OfNumber::Export)),
+        "list" => Some(Shape::Nothing(ShelfAction::List)),
+        "show" => Some(Shape::Number(FileAction::Show)),
+        "extract" => Some(Shape::Number(FileAction::Extract)),
+        "export" => Some(Shape::Number(FileAction::Export)),
         "render" => Some(Shape::Workers),
         "assemble" => Some(Shape::Segments),
-        "verify" => Some(Shape::Nothing(OfNothing::Verify)),
-        "discard" => Some(Shape::Number(OfNumber::Discard)),
+        "verify" => Some(Shape::Nothing(ShelfAction::Verify)),
+        "discard" => Some(Shape::Number(FileAction::Discard)),
         "repack" => Some(Shape::Block),
         "transmit" => Some(Shape::Sent),
-        "decode" => Some(Shape::Intake(OfIntake::Decode)),
-        "frames" => Some(Shape::Symbols(OfSymbols::Frames)),
-        "packets" => Some(Shape::Symbols(OfSymbols::Packets)),
+        "decode" => Some(Shape::Intake(IntakeAction::Decode)),
+        "frames" => Some(Shape::Symbols(FrameLines::Frames)),
+        "packets" => Some(Shape::Symbols(FrameLines::Packets)),
         "make" => Some(Shape::Made),
         "trial" => Some(Shape::Tried),
         _ => None,
@@ -96,9 +68,9 @@ impl Shape {
         matches!(
             self,
             Shape::Capacity
-                | Shape::Intake(OfIntake::Receive)
+                | Shape::Intake(IntakeAction::Receive)
                 | Shape::Line
-                | Shape::Number(OfNumber::Discard)
+                | Shape::Number(FileAction::Discard)
                 | Shape::Block
                 | Shape::Tried
         )
