@@ -29,7 +29,18 @@ use Rattle.lr_shelf.proofs.Fronts.{
   way_with_files-push,
 }
 use Rattle.lr_shelf.proofs.ItemsKept.{entry_count_is}
-use Rattle.lr_shelf.specs.Grounds.{Ground, OfItems, OfWay, IsSettledOn, StandsWithEither, capacity_of, end_with_files, next_number, told_end, with_files}
+use Rattle.lr_shelf.specs.Grounds.{
+  Ground,
+  OfItems,
+  OfWay,
+  IsSettledOn,
+  StandsWithEither,
+  capacity_of,
+  end_with_files,
+  next_number,
+  told_end,
+  with_files,
+}
 
 -- ---- items
 
