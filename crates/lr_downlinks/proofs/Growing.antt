@@ -1,33 +1,27 @@
 -- One file more: what becomes of the disk since it was handed in.
-use Rattle.std.proofs.Common.{◌≡◌, inl, inr, ◌≤◌, ◌+◌, ◌-◌, ℕ, min, false, Result, Ok, Err, List, [], ◌∷◌, ◌++◌}
-use Rattle.std.proofs.Common.{length, map, take}
-use Rattle.std.proofs.Common.{drop, refl, sym, ap, ◌∙◌, subst, arith, append_assoc, length-append, length-take}
-use Rattle.std.proofs.lemmas.List.{append-nil, drop-drop, map_push, take-take}
+use Rattle.std.proofs.Common.{◌≡◌, ◌≤◌, ◌+◌, ◌-◌, ℕ, min, Result, Ok, Err, List, [], ◌∷◌, ◌++◌}
+use Rattle.std.proofs.Common.{length, take, drop, refl, sym, ap, ◌∙◌, subst, arith, length-append, length-take}
+use Rattle.std.proofs.lemmas.List.{drop-drop, take-take}
 use Rattle.lr_bits.specs.Faults.{Rose}
 use Rattle.lr_bits.specs.declared.placed.Placed.{Placed}
 use Rattle.lr_disk.specs.Disk.{LeavesOnly, Only}
 use Rattle.lr_disk.specs.declared.disk.Disk.{Ghosts as DiskOf}
 use Rattle.lr_disk.proofs.Moments.{joined, stays, weaker}
-use Rattle.lr_shelf_format.specs.Items.{Item, extent_of, head_of_item}
-use Rattle.lr_shelf_format.specs.ShelfBytes.{StandsForShelf}
+use Rattle.lr_shelf_format.specs.Items.{head_of_item}
 use Rattle.lr_shelf_format.specs.Way.{IsWay, Way, way_with}
 use Rattle.lr_shelf.specs.Adding.{StaysOutside}
 use Rattle.lr_shelf.specs.Adds.{Adds, last_gate, new_end}
 use Rattle.lr_shelf.specs.Append.{item_for}
+use Rattle.lr_shelf.specs.Grounds.{Ground, IsSettledOn, KeepsOn, LeavesFronts, StandsForFront, StandsWith}
 use Rattle.lr_shelf.specs.Kept.{Kept, kept_by}
-use Rattle.lr_shelf.specs.Shelf.{HasEitherWay, IsSettled, IsShelfOf, KeepsWay}
+use Rattle.lr_shelf.specs.Shelf.{HasEitherWay, KeepsWay}
 use Rattle.lr_shelf.specs.declared.error.ShelfError.{ShelfError}
 use Rattle.lr_shelf.specs.declared.error.ShelfError.TheVariants.{Disk}
 use Rattle.lr_shelf.specs.declared.shelf.Shelf.{Shelf}
-use Rattle.lr_shelf.specs.Fronts.{HasFrontWay, way_with_files}
-use Rattle.lr_shelf.proofs.Fronts.{
-  either_front,
-  end_later,
-  end_more,
-  front_all,
-  front_more,
-  way_with_files-push,
-}
+use Rattle.lr_shelf.specs.Fronts.{way_with_files}
+use Rattle.lr_shelf.proofs.Fronts.{end_later, end_more, way_with_files-push}
+use Rattle.lr_shelf.proofs.GroundFronts.{front_none, fronts_with}
+use Rattle.lr_shelf.proofs.Grounds.{left_on, moments_on, now_on, settled_on}
 use Rattle.lr_downlinks.specs.Since.{HasAppended, MayHaveAppended}
 
 -- ---- what stays outside
@@ -65,14 +59,6 @@ outside_on gate gate' to to' file mid c later further first second =
       after = second.after ∙ drop_more to to' file mid further first.after;
     }
 
--- ---- items
-
-pub items-push : (items : List Item) (files : List Placed) (placed : Placed)
-    → items ++ map item_for (files ++ placed ∷ []) ≡ (items ++ map item_for files) ++ item_for placed ∷ []
-items-push items files placed =
-    ap (λ (l : List Item). items ++ l) (map_push item_for files placed)
-    ∙ sym (append_assoc items (map item_for files) (item_for placed ∷ []))
-
 -- ---- the beginning
 
 module _ {D : Type 0} (disk : DiskOf D)
@@ -90,14 +76,12 @@ module _ {D : Type 0} (disk : DiskOf D)
         stays disk only_now d (StaysOutside (last_gate (kept_by shelf)) (kept_by shelf).way.end (disk.contents d)) t
         (λ c image. same_outside c (only c image));
     way = λ t keeps. keeps;
-    way_any_moment = λ t keeps only.
-        stays disk only_now d (HasFrontWay (kept_by shelf).way []) t
-        (λ c image. front_all (kept_by shelf).way [] c
-        (subst (λ (l : List ℕ). IsWay l (kept_by shelf).way) (sym (only c image)) keeps));
-    stands = λ capacity items s. record {
-      stands = subst (StandsForShelf (disk.contents d) capacity) (sym (append-nil items)) s.on_disk.stands;
-      durable = s.on_disk.durable;
-    };
+    on = λ ground s. (
+      s.on_disk,
+      stays disk only_now d (StandsForFront ground [] 0) s.told
+          (λ c image. front_none ground c
+          (subst (StandsWith ground []) (sym (s.on_disk.durable c image)) s.on_disk.stands)),
+    );
   }
     where
       same_outside : (c : List ℕ) → c ≡ disk.contents d
@@ -153,35 +137,24 @@ module _ {D : Type 0} (disk : DiskOf D) (shelf : Shelf) (d : D) (files : List Pl
         (StaysOutside gate to' (disk.contents d)) (λ c one. outside_one c t one)
         (adds.outside_any_moment (so_far.told t) (so_far.durable t only)))
 
-    way_moments : disk.tells d → KeepsWay (disk.contents d) shelf → Only (disk.contents d) (disk.may_leave d)
-        → LeavesOnly disk.moment disk.left_since d d' (HasFrontWay (kept_by shelf).way (files ++ placed ∷ []))
-    way_moments t keeps only =
-        let way = (kept_by shelf).way in
-        joined disk.moment disk.left_since d mid d' (HasFrontWay way (files ++ placed ∷ []))
-        (weaker disk.moment disk.left_since d mid (HasFrontWay way files) (HasFrontWay way (files ++ placed ∷ []))
-        (λ c front. front_more way files placed c front) (so_far.way_any_moment t keeps only))
-        (weaker disk.moment disk.left_since mid d' (HasEitherWay (kept_by old).way (item_for placed))
-        (HasFrontWay way (files ++ placed ∷ []))
-        (λ c either. either_front way files placed c
-        (subst (λ (w : Way). HasEitherWay w (item_for placed) c) way_is either))
-        (adds.way_any_moment (so_far.told t) (keeps_way t keeps) (so_far.durable t only)))
-
-  module _ (keeps : (capacity : ℕ) (items : List Item) → IsSettled disk capacity items shelf d
-      → IsShelfOf capacity (items ++ map item_for files) old) where
-    settled_mid : (capacity : ℕ) (items : List Item) → IsSettled disk capacity items shelf d
-        → IsSettled disk capacity (items ++ map item_for files) old mid
-    settled_mid capacity items s = record {
+  module _ (leaves_contents : (d : D) → disk.tells d → disk.may_leave d (disk.contents d))
+      (counts_now : (d : D) (t : ℕ) (c : List ℕ) → disk.tells d → t ≤ disk.moment d → disk.may_leave d c
+      → disk.left_since d t c)
+      (keeps : (ground : Ground) → IsSettledOn ground [] disk shelf d → KeepsOn ground files old) where
+    settled_mid : (ground : Ground) → IsSettledOn ground [] disk shelf d → IsSettledOn ground files disk old mid
+    settled_mid ground s = record {
       told = so_far.told s.told;
-      kept = keeps capacity items s;
-      on_disk = so_far.stands capacity items s;
+      kept = keeps ground s;
+      on_disk = (so_far.on ground s).0;
     }
 
-    pub settled_one : {A : Type 0} (answer : A) → Adds disk (item_for placed) old new mid d' (Ok answer)
-        → (capacity : ℕ) (items : List Item) → IsSettled disk capacity items shelf d
-        → IsSettled disk capacity (items ++ map item_for (files ++ placed ∷ [])) new d'
-    settled_one answer adds capacity items s =
-        subst (λ (l : List Item). IsSettled disk capacity l new d') (sym (items-push items files placed))
-        (adds.acknowledged capacity (items ++ map item_for files) (settled_mid capacity items s))
+    fronts_moments : {A : Type 0} (result : Result A ShelfError)
+        → Adds disk (item_for placed) old new mid d' result → (ground : Ground) → IsSettledOn ground [] disk shelf d
+        → LeavesFronts disk ground (files ++ placed ∷ []) d d'
+    fronts_moments result adds ground s =
+        fronts_with disk ground d mid d' files (so_far.on ground s).1 placed
+        (moments_on disk leaves_contents counts_now files placed old new mid d' result adds ground
+        (settled_mid ground s))
 
     -- the file was appended
     pub one_appended : {A : Type 0} (answer : A) → Adds disk (item_for placed) old new mid d' (Ok answer)
@@ -204,8 +177,11 @@ module _ {D : Type 0} (disk : DiskOf D) (shelf : Shelf) (d : D) (files : List Pl
           durable = λ t only. adds.durable (so_far.told t);
           outside_any_moment = λ t only. outside_moments (Ok answer) adds t only;
           way = λ t keeps. subst (IsWay (disk.contents d')) way (adds.way (so_far.told t) (keeps_way t keeps));
-          way_any_moment = λ t keeps only. way_moments (Ok answer) adds t keeps only;
-          stands = λ capacity items s. (settled_one answer adds capacity items s).on_disk;
+          on = λ ground s. (
+            (settled_on disk leaves_contents counts_now files placed old new mid d' answer adds ground
+                (settled_mid ground s)).on_disk,
+            fronts_moments (Ok answer) adds ground s,
+          );
         }
 
     -- the disk failed in it
@@ -222,12 +198,14 @@ module _ {D : Type 0} (disk : DiskOf D) (shelf : Shelf) (d : D) (files : List Pl
       way = λ t keeps.
           subst (λ (w : Way). HasEitherWay w (item_for placed) (disk.contents d')) way_is
           (adds.either_way (so_far.told t) (keeps_way t keeps));
-      way_any_moment = λ t keeps only. way_moments (Err Disk) adds t keeps only;
-      stands = λ capacity items s.
-          let either = adds.either capacity (items ++ map item_for files) (settled_mid capacity items s) in
-          record {
-            told = adds.calls.told (so_far.told s.told);
-            contents = either.0;
-            images = either.1;
-          };
+      on = λ ground s.
+          let before = settled_mid ground s in (
+            record {
+              contents =
+                  now_on disk leaves_contents counts_now files placed old new mid d' (Err Disk) adds ground before;
+              images =
+                  left_on disk leaves_contents counts_now files placed old new mid d' (Err Disk) adds ground before;
+            },
+            fronts_moments (Err Disk) adds ground s,
+          );
     }

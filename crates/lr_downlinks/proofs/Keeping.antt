@@ -1,17 +1,14 @@
 -- What a book keeps, from one append to the next.
 use Rattle.std.proofs.Common.{◌≡◌, ◌≢◌, ◌⊎◌, inl, inr, ◌≤◌, ℕ, Bool, true, false, Some, Result, Ok, Err, List, []}
-use Rattle.std.proofs.Common.{◌∷◌, ◌++◌, length, map, refl, sym}
-use Rattle.std.proofs.Common.{ap, ◌∙◌, subst, ⊎_elim}
+use Rattle.std.proofs.Common.{◌∷◌, ◌++◌, length, refl, sym, ap, ◌∙◌, subst, ⊎_elim}
 use Rattle.std.specs.Prelude.{slice_get, OnOk, OnErr, IfErr}
 use Rattle.std.specs.Borrow.{GName}
-use Rattle.std.proofs.lemmas.List.{append-nil}
 use Rattle.lr_bits.specs.declared.placed.Placed.{Placed}
 use Rattle.lr_disk.specs.declared.disk.Disk.{Ghosts as DiskOf}
-use Rattle.lr_shelf_format.specs.Items.{Item, head_of_item}
+use Rattle.lr_shelf_format.specs.Items.{head_of_item}
 use Rattle.lr_shelf_format.specs.Way.{Way, way_with}
 use Rattle.lr_shelf.specs.Append.{Appends, item_for}
 use Rattle.lr_shelf.specs.Kept.{Kept, kept_by, kept_with}
-use Rattle.lr_shelf.specs.Shelf.{IsShelfOf}
 use Rattle.lr_shelf.specs.declared.error.ShelfError.{ShelfError}
 use Rattle.lr_shelf.specs.declared.error.ShelfError.TheVariants.{Disk}
 use Rattle.lr_shelf.specs.declared.shelf.Shelf.{Shelf}
@@ -24,18 +21,39 @@ use Rattle.lr_downlinks.specs.Appending.{
   failed_after,
   view_of,
 }
-use Rattle.lr_downlinks.specs.Books.{BeginsRun, BookView, Keeps, StandsOver, Works, WorksOrBroke}
+use Rattle.lr_downlinks.specs.Books.{BeginsRun, BookView, IsBookOf, Keeps, StandsOver, Works, WorksOrBroke}
 use Rattle.lr_downlinks.specs.Merge.{IsNextOf, times_in_order}
 use Rattle.lr_shelf.specs.Fronts.{way_with_files}
 use Rattle.lr_downlinks.specs.Since.{HasAppended}
 use Rattle.lr_downlinks.specs.Start.{Start, files_in, merged}
 use Rattle.lr_shelf.proofs.Fronts.{way_with_files-push}
-use Rattle.lr_downlinks.proofs.Growing.{none_appended, one_appended, one_failed, settled_one}
+use Rattle.lr_shelf.proofs.GroundFronts.{keeps_on}
+use Rattle.lr_downlinks.proofs.Growing.{none_appended, one_appended, one_failed}
 use Rattle.lr_downlinks.proofs.Merging.{merge-none, merge-push, order_more, order_none}
 
 -- ---- books
 
-module _ {D : Type 0} (disk : DiskOf D) (start : Start) (handed : Shelf → D → Type 0) (name : GName) where
+module _ {D : Type 0} (start : Start) (shelf : Shelf) (same_way : (kept_by shelf).way ≡ start.way)
+    (book : BookView D) (is : IsBookOf start book) where
+  -- the way of its shelf, from the one of the shelf that was handed in
+  book_way : (kept_by book.shelf).way ≡ way_with_files (merged start book.order) (kept_by shelf).way
+  book_way = ap (λ (k : Kept). k.way) is.kept ∙ ap (way_with_files (merged start book.order)) (sym same_way)
+
+  -- no append met a fault
+  book_works : (disk : DiskOf D) (d : D) → book.failed ≡ false
+      → HasAppended disk shelf d (merged start book.order) book.disk → Works disk start shelf d book
+  book_works disk d working appended = record {
+    appended = appended;
+    keeps = λ ground s.
+        keeps_on ground (merged start book.order) shelf book.shelf s.kept book_way
+        (ap (λ (k : Kept). k.failed) is.kept ∙ working);
+  }
+
+module _ {D : Type 0} (disk : DiskOf D)
+    (leaves_contents : (d : D) → disk.tells d → disk.may_leave d (disk.contents d))
+    (counts_now : (d : D) (t : ℕ) (c : List ℕ) → disk.tells d → t ≤ disk.moment d → disk.may_leave d c
+    → disk.left_since d t c)
+    (start : Start) (handed : Shelf → D → Type 0) (name : GName) where
   -- the same shelf, as far as it keeps something
   state_same : (shelf : Shelf) (d : D) (old : BookView D) (shelf' : Shelf) → kept_by shelf' ≡ kept_by old.shelf
       → (failed : Bool) → WorksOrBroke disk start shelf d failed old
@@ -47,8 +65,8 @@ module _ {D : Type 0} (disk : DiskOf D) (start : Start) (handed : Shelf → D �
       })
   state_same shelf d old shelf' same false works = record {
     appended = works.appended;
-    keeps = λ capacity items s.
-        let is = works.keeps capacity items s in
+    keeps = λ ground s.
+        let is = works.keeps ground s in
         record {
           way = ap (λ (k : Kept). k.way) same ∙ is.way;
           working = ap (λ (k : Kept). k.failed) same ∙ is.working;
@@ -104,9 +122,7 @@ module _ {D : Type 0} (disk : DiskOf D) (start : Start) (handed : Shelf → D �
       works_if e = subst (λ (b : Bool). WorksOrBroke disk start shelf d b old) e over.state
 
       way_is : (kept_by old.shelf).way ≡ way_with_files (merged start old.order) (kept_by shelf).way
-      way_is =
-          ap (λ (k : Kept). k.way) keeps.files.kept
-          ∙ ap (way_with_files (merged start old.order)) (sym over.same_way)
+      way_is = book_way start shelf over.same_way old keeps.files
 
     module _ (downlink : ℕ) (placed : Placed)
         (next : IsNextOf (length start.streams) (files_in start) old.order downlink placed) where
@@ -124,24 +140,28 @@ module _ {D : Type 0} (disk : DiskOf D) (start : Start) (handed : Shelf → D �
           })
       more_kept shelf' d' number a =
           let works : old.failed ≡ false = sym failed_is ∙ a.adds.working in
+          let grown : BookView D = record {
+            shelf = shelf';
+            disk = d';
+            order = old.order ++ downlink ∷ [];
+            failed = old.failed;
+          } in
+          let files : IsBookOf start grown = record {
+            order_is = order_more (length start.streams) (files_in start) old.order downlink placed
+                keeps.files.order_is next;
+            kept = kept_more a.adds.kept;
+          } in
           record {
             same_disk = keeps.same_disk;
             few = keeps.few;
-            files = record {
-              order_is = order_more (length start.streams) (files_in start) old.order downlink placed
-                  keeps.files.order_is next;
-              kept = kept_more a.adds.kept;
-            };
+            files = files;
             stands = λ shelf d is.
                 let over = keeps.stands shelf d is in
                 record {
                   same_way = over.same_way;
-                  state = subst (λ (b : Bool). WorksOrBroke disk start shelf d b (record {
-                    shelf = shelf';
-                    disk = d';
-                    order = old.order ++ downlink ∷ [];
-                    failed = old.failed;
-                  })) (sym works) (works_more shelf d over (works_if shelf d over works));
+                  state = subst (λ (b : Bool). WorksOrBroke disk start shelf d b grown) (sym works)
+                      (book_works start shelf over.same_way grown files disk d works
+                      (appended_more shelf d over (works_if shelf d over works)));
                 };
           }
         where
@@ -158,25 +178,13 @@ module _ {D : Type 0} (disk : DiskOf D) (start : Start) (handed : Shelf → D �
               one ∙ ap (kept_with (item_for placed)) keeps.files.kept
               ∙ ap (λ (w : Way). record { way = w; failed = old.failed }) (sym way)
 
-          works_more : (shelf : Shelf) (d : D) → StandsOver disk start shelf d old → Works disk start shelf d old
-              → Works disk start shelf d (record {
-                shelf = shelf';
-                disk = d';
-                order = old.order ++ downlink ∷ [];
-                failed = old.failed;
-              })
-          works_more shelf d over is =
-              let files = merged start old.order in
-              let way = way_is shelf d over in
-              record {
-                appended = subst (λ (l : List Placed). HasAppended disk shelf d l d') (sym more)
-                    (one_appended disk shelf d files placed old.shelf shelf' old.disk d' way is.appended is.keeps
-                    number a.adds);
-                keeps = λ capacity items s.
-                    subst (λ (l : List Placed). IsShelfOf capacity (items ++ map item_for l) shelf') (sym more)
-                    (settled_one disk shelf d files placed old.shelf shelf' old.disk d' way is.appended is.keeps
-                    number a.adds capacity items s).kept;
-              }
+          appended_more : (shelf : Shelf) (d : D) → StandsOver disk start shelf d old
+              → Works disk start shelf d old
+              → HasAppended disk shelf d (merged start (old.order ++ downlink ∷ [])) d'
+          appended_more shelf d over was =
+              subst (λ (l : List Placed). HasAppended disk shelf d l d') (sym more)
+              (one_appended disk shelf d (merged start old.order) placed old.shelf shelf' old.disk d'
+              (way_is shelf d over) was.appended leaves_contents counts_now was.keeps number a.adds)
 
       -- the disk failed in it
       pub broke_kept : (shelf' : Shelf) (d' : D) → Appends disk placed old.shelf shelf' old.disk d' (Err Disk)
@@ -205,7 +213,7 @@ module _ {D : Type 0} (disk : DiskOf D) (start : Start) (handed : Shelf → D �
                     placed = placed;
                     next = next;
                     appended = one_failed disk shelf d (merged start old.order) placed old.shelf shelf' old.disk d'
-                        (way_is shelf d over) was.appended was.keeps a.adds;
+                        (way_is shelf d over) was.appended leaves_contents counts_now was.keeps a.adds;
                   };
                 };
           }
@@ -366,45 +374,36 @@ module _ {D : Type 0} (disk : DiskOf D)
     (start : Start) (handed : Shelf → D → Type 0) (shelf : Shelf) (name : GName) (d : D)
     (working : (kept_by shelf).failed ≡ false) (begun : BeginsRun disk start handed shelf name d)
     (few : length start.streams ≤ 16) where
-  begins_over : StandsOver disk start shelf d (record { shelf = shelf; disk = d; order = []; failed = false })
-  begins_over = record {
-    same_way = sym begun.way_is;
-    state = record {
-      appended = subst (λ (l : List Placed). HasAppended disk shelf d l d) (sym (merge-none (files_in start)))
-          (none_appended disk only_now shelf d);
-      keeps = λ capacity items s.
-          subst (λ (l : List Item). IsShelfOf capacity l shelf)
-          (sym (ap (λ (l : List Placed). items ++ map item_for l) (merge-none (files_in start)) ∙ append-nil items))
-          s.kept;
-    };
+  abbrev opened : BookView D
+  opened = record { shelf = shelf; disk = d; order = []; failed = false }
+
+  opened_is : IsBookOf start opened
+  opened_is = record {
+    order_is = order_none (length start.streams) (files_in start);
+    kept =
+        ap (λ (b : Bool). record { way = (kept_by shelf).way; failed = b }) working
+        ∙ ap (λ (w : Way). record { way = w; failed = false })
+        (sym begun.way_is
+        ∙ sym (ap (λ (l : List Placed). way_with_files l start.way) (merge-none (files_in start))));
   }
 
-  begins : Keeps disk start handed name (record { shelf = shelf; disk = d; order = []; failed = false })
+  begins_over : StandsOver disk start shelf d opened
+  begins_over = record {
+    same_way = sym begun.way_is;
+    state = book_works start shelf (sym begun.way_is) opened opened_is disk d refl
+        (subst (λ (l : List Placed). HasAppended disk shelf d l d) (sym (merge-none (files_in start)))
+        (none_appended disk only_now shelf d));
+  }
+
+  begins : Keeps disk start handed name opened
   begins = record {
     same_disk = sym begun.disk_is;
     few = few;
-    files = record {
-      order_is = order_none (length start.streams) (files_in start);
-      kept =
-          ap (λ (b : Bool). record { way = (kept_by shelf).way; failed = b }) working
-          ∙ ap (λ (w : Way). record { way = w; failed = false })
-          (sym begun.way_is
-          ∙ sym (ap (λ (l : List Placed). way_with_files l start.way) (merge-none (files_in start))));
-    };
+    files = opened_is;
     stands = λ shelf' d' is.
         let same = begun.only shelf' d' is in
-        subst (λ (s : Shelf). StandsOver disk start s d' (record {
-          shelf = shelf;
-          disk = d;
-          order = [];
-          failed = false;
-        })) (sym same.0)
-        (subst (λ (e : D). StandsOver disk start shelf e (record {
-          shelf = shelf;
-          disk = d;
-          order = [];
-          failed = false;
-        })) (sym same.1) begins_over);
+        subst (λ (s : Shelf). StandsOver disk start s d' opened) (sym same.0)
+        (subst (λ (e : D). StandsOver disk start shelf e opened) (sym same.1) begins_over);
   }
 
   -- also where the order is known to be empty

@@ -1,7 +1,6 @@
 -- What a run leaves, from what the type of its book keeps.
 use Rattle.std.proofs.Common.{◌≡◌, ◌⊎◌, inl, inr, ◌<◌, ◌+◌, ℕ, zero, suc, Bool, true, false, Some, List, [], ◌∷◌}
-use Rattle.std.proofs.Common.{◌++◌, length, take, map, refl, sym}
-use Rattle.std.proofs.Common.{ap, ◌∙◌, subst, arith}
+use Rattle.std.proofs.Common.{◌++◌, length, take, map, refl, sym, ap, ◌∙◌, subst, arith}
 use Rattle.std.specs.Prelude.{slice_get, option_map}
 use Rattle.std.specs.Borrow.{GName}
 use Rattle.std.proofs.lemmas.Option.{slice_get-map, slice_get_within}
@@ -10,12 +9,15 @@ use Rattle.lr_bits.specs.Faults.{Rose}
 use Rattle.lr_bits.specs.declared.placed.Placed.{Placed}
 use Rattle.lr_conv.specs.declared.line.LineCode.{LineCode}
 use Rattle.lr_disk.specs.declared.disk.Disk.{Ghosts as DiskOf}
-use Rattle.lr_shelf_format.specs.Items.{Item, old_item, add_item, discard_item}
+use Rattle.lr_shelf_format.specs.Items.{Item}
 use Rattle.lr_shelf_format.specs.ShelfBytes.{StandsForShelf, entries_of}
 use Rattle.lr_shelf.specs.Append.{item_for}
+use Rattle.lr_shelf.specs.Grounds.{OfItems, StandsWithEither, with_files}
 use Rattle.lr_shelf.specs.Kept.{Kept, kept_by}
-use Rattle.lr_shelf.specs.Shelf.{IsDurable, IsSettled, StandsForEither}
+use Rattle.lr_shelf.specs.Shelf.{IsSettled}
 use Rattle.lr_shelf.specs.declared.shelf.Shelf.{Shelf}
+use Rattle.lr_shelf.proofs.GroundFronts.{settled_on_items}
+use Rattle.lr_shelf.proofs.Grounds.{entries_of-append, entries_of-files}
 use Rattle.lr_shelf.proofs.ItemsKept.{entry_count_is}
 use Rattle.lr_downlinks.specs.Books.{BeginsRun, BookView, Broke, IsBookOf, Keeps, StandsOver, Works, WorksOrBroke}
 use Rattle.lr_downlinks.specs.Ending.{EndsWith}
@@ -24,6 +26,7 @@ use Rattle.lr_downlinks.specs.Merge.{IsNextOf, IsWhole, merge, times_in_order}
 use Rattle.lr_downlinks.specs.Receipts.{HasFileAt}
 use Rattle.lr_downlinks.specs.Room.{AllFit, NextDoesNotFit}
 use Rattle.lr_downlinks.specs.Runs.{MergeEnds, MergesOver}
+use Rattle.lr_downlinks.specs.Since.{HasAppended}
 use Rattle.lr_downlinks.specs.Start.{Start, files_in, merged}
 use Rattle.lr_downlinks.specs.Streams.{files_of_downlink}
 use Rattle.lr_downlinks.specs.declared.member.Member.{Member}
@@ -34,18 +37,6 @@ use Rattle.lr_downlinks.proofs.Merging.{get-merge, has_file, length-merge, merge
 use Rattle.lr_downlinks.proofs.Room.{full_where_all_do_not_fit}
 
 -- ---- entries
-
-entries_of-append : (items more : List Item) → entries_of (items ++ more) ≡ entries_of items ++ entries_of more
-entries_of-append [] more = refl
-entries_of-append (old_item file ∷ items) more =
-    ap (λ (l : List Item). old_item file ∷ l) (entries_of-append items more)
-entries_of-append (add_item file origin ∷ items) more =
-    ap (λ (l : List Item). add_item file origin ∷ l) (entries_of-append items more)
-entries_of-append (discard_item number ∷ items) more = entries_of-append items more
-
-entries_of-files : (files : List Placed) → entries_of (map item_for files) ≡ map item_for files
-entries_of-files [] = refl
-entries_of-files (placed ∷ files) = ap (λ (l : List Item). item_for placed ∷ l) (entries_of-files files)
 
 get_after : {A : Type 0} (xs ys : List A) (k : ℕ) → slice_get (xs ++ ys) (length xs + k) ≡ slice_get ys k
 get_after {A} [] ys k = let e : length {A = A} [] + k ≡ k = omega arith in ap (slice_get ys) e
@@ -58,38 +49,30 @@ get_before [] ys k x e = absurd (cc (e))
 get_before (y ∷ xs) ys zero x e = e
 get_before (y ∷ xs) ys (suc k) x e = get_before xs ys k x e
 
--- the entry of a file that was put after some items
-pub file_there : (items : List Item) (files : List Placed) (at : ℕ) (placed : Placed)
-    → slice_get files at ≡ Some placed
-    → slice_get (entries_of (items ++ map item_for files)) (length (entries_of items) + at) ≡ Some (item_for placed)
-file_there items files at placed is =
-    ap (λ (l : List Item). slice_get l (length (entries_of items) + at))
-    (entries_of-append items (map item_for files)
-    ∙ ap (λ (l : List Item). entries_of items ++ l) (entries_of-files files))
-    ∙ get_after (entries_of items) (map item_for files) at
-    ∙ slice_get-map item_for files at
-    ∙ ap (option_map item_for) is
-
--- also before one more
-pub file_still_there : (items : List Item) (item : Item) (number : ℕ) (one : Item)
-    → slice_get (entries_of items) number ≡ Some one → slice_get (entries_of (items ++ item ∷ [])) number ≡ Some one
-file_still_there items item number one is =
-    ap (λ (l : List Item). slice_get l number) (entries_of-append items (item ∷ []))
-    ∙ get_before (entries_of items) (entries_of (item ∷ [])) number one is
-
-module _ (capacity number : ℕ) (placed : Placed) (items : List Item)
-    (there : slice_get (entries_of items) number ≡ Some (item_for placed)) where
-  has_file_at : (bytes : List ℕ) → StandsForShelf bytes capacity items → HasFileAt capacity number placed bytes
-  has_file_at bytes stands = record { items = items; stands = stands; there = there }
-
-  has_file_either : (item : Item) (bytes : List ℕ) → StandsForEither capacity items item bytes
-      → HasFileAt capacity number placed bytes
-  has_file_either item bytes (inl stands) = has_file_at bytes stands
-  has_file_either item bytes (inr stands) = record {
-    items = items ++ item ∷ [];
+module _ (capacity : ℕ) (items : List Item) (at : ℕ) (placed : Placed) where
+  -- the entry of a file that was put after some items
+  has_file_at : (files : List Placed) → slice_get files at ≡ Some placed → (bytes : List ℕ)
+      → StandsForShelf bytes capacity (with_files items files)
+      → HasFileAt capacity (length (entries_of items) + at) placed bytes
+  has_file_at files is bytes stands = record {
+    items = with_files items files;
     stands = stands;
-    there = file_still_there items item number (item_for placed) there;
+    there =
+        ap (λ (l : List Item). slice_get l (length (entries_of items) + at))
+        (entries_of-append items (map item_for files)
+        ∙ ap (λ (l : List Item). entries_of items ++ l) (entries_of-files files))
+        ∙ get_after (entries_of items) (map item_for files) at
+        ∙ slice_get-map item_for files at
+        ∙ ap (option_map item_for) is;
   }
+
+  -- also where one more came
+  has_file_either : (files : List Placed) → slice_get files at ≡ Some placed → (more : Placed) (bytes : List ℕ)
+      → StandsWithEither (OfItems capacity items) files more bytes
+      → HasFileAt capacity (length (entries_of items) + at) placed bytes
+  has_file_either files is more bytes (inl stands) = has_file_at files is bytes stands
+  has_file_either files is more bytes (inr stands) =
+      has_file_at (files ++ more ∷ []) (get_before files (more ∷ []) at placed is) bytes stands
 
 -- ---- a run
 
@@ -174,47 +157,42 @@ module _ {D : Type 0} (disk : DiskOf D) (handed : Shelf → D → Type 0) (strea
       by_end NoMemory ends = inr ((works ends).appended.none nothing)
       by_end (Capacity needed capacity) ends = inr ((works ends.0).appended.none nothing)
 
-    -- what stands on the disk has the entry
-    durable_has : (capacity number : ℕ) (placed : Placed) (items : List Item)
-        → slice_get (entries_of items) number ≡ Some (item_for placed) → IsDurable disk capacity items book.disk
-        → HasFileAt capacity number placed (disk.contents book.disk)
-        × ((c : List ℕ) → disk.may_leave book.disk c → HasFileAt capacity number placed c)
-    durable_has capacity number placed items there on = (
-      has_file_at capacity number placed items there (disk.contents book.disk) on.stands,
-      λ c image. has_file_at capacity number placed items there c
-          (subst (λ (b : List ℕ). StandsForShelf b capacity items) (sym (on.durable c image)) on.stands),
-    )
+    module _ (at : ℕ) (placed : Placed) (is : slice_get (merge files book.order) at ≡ Some placed) (capacity : ℕ)
+        (items : List Item) (s : IsSettled disk capacity items shelf d) where
+      -- contents and crash images have the file at this number
+      abbrev has_entry : ℕ → Type 0
+      has_entry number =
+          HasFileAt capacity number placed (disk.contents book.disk)
+          × ((c : List ℕ) → disk.may_leave book.disk c → HasFileAt capacity number placed c)
 
-    entry_in : (result : RunEnd) → EndsWith begun_as book result → (at : ℕ) (placed : Placed)
-        → slice_get (merge files book.order) at ≡ Some placed
-        → (capacity : ℕ) (items : List Item) → IsSettled disk capacity items shelf d
-        → HasFileAt capacity (length (kept_by shelf).way.entries + at) placed (disk.contents book.disk)
-        × ((c : List ℕ) → disk.may_leave book.disk c
-        → HasFileAt capacity (length (kept_by shelf).way.entries + at) placed c)
-    entry_in result ends at placed is capacity items s =
-        by_end result ends
-        (subst (λ (n : ℕ).
-        slice_get (entries_of (items ++ map item_for (merge files book.order))) (n + at) ≡ Some (item_for placed))
-        (sym (entry_count_is capacity items shelf s.on_disk.stands.proper s.kept))
-        (file_there items (merge files book.order) at placed is))
-      where
-        by_end : (result : RunEnd) → EndsWith begun_as book result
-            → slice_get (entries_of (items ++ map item_for (merge files book.order)))
-            (length (kept_by shelf).way.entries + at) ≡ Some (item_for placed)
-            → HasFileAt capacity (length (kept_by shelf).way.entries + at) placed (disk.contents book.disk)
-            × ((c : List ℕ) → disk.may_leave book.disk c
-            → HasFileAt capacity (length (kept_by shelf).way.entries + at) placed c)
-        by_end All ends there =
-            durable_has capacity _ placed _ there ((works ends.0).appended.stands capacity items s)
-        by_end Disk ends there =
-            let l = (broke ends).appended.stands capacity items s in (
-              has_file_either capacity _ placed _ there _ (disk.contents book.disk) l.contents,
-              λ c image. has_file_either capacity _ placed _ there _ c (l.images c image),
-            )
-        by_end NoMemory ends there =
-            durable_has capacity _ placed _ there ((works ends).appended.stands capacity items s)
-        by_end (Capacity needed most) ends there =
-            durable_has capacity _ placed _ there ((works ends.0).appended.stands capacity items s)
+      entry_appended : HasAppended disk shelf d (merge files book.order) book.disk
+          → has_entry (length (entries_of items) + at)
+      entry_appended has =
+          let still = (has.on (OfItems capacity items) (settled_on_items disk capacity items shelf d s)).0 in (
+            has_file_at capacity items at placed (merge files book.order) is (disk.contents book.disk) still.stands,
+            λ c image. has_file_at capacity items at placed (merge files book.order) is c
+                (subst (λ (l : List ℕ). StandsForShelf l capacity (with_files items (merge files book.order)))
+                (sym (still.durable c image)) still.stands),
+          )
+
+      entry_by_end : (result : RunEnd) → EndsWith begun_as book result → has_entry (length (entries_of items) + at)
+      entry_by_end All ends = entry_appended (works ends.0).appended
+      entry_by_end Disk ends =
+          let has = (broke ends).appended in
+          let either = (has.on (OfItems capacity items) (settled_on_items disk capacity items shelf d s)).0 in (
+            has_file_either capacity items at placed (merge files book.order) is (broke ends).placed
+                (disk.contents book.disk) either.contents,
+            λ c image. has_file_either capacity items at placed (merge files book.order) is (broke ends).placed c
+                (either.images c image),
+          )
+      entry_by_end NoMemory ends = entry_appended (works ends).appended
+      entry_by_end (Capacity needed most) ends = entry_appended (works ends.0).appended
+
+      entry_in : (result : RunEnd) → EndsWith begun_as book result
+          → has_entry (length (kept_by shelf).way.entries + at)
+      entry_in result ends =
+          subst (λ (n : ℕ). has_entry (n + at))
+          (sym (entry_count_is capacity items shelf s.on_disk.stands.proper s.kept)) (entry_by_end result ends)
 
     merges : (result : RunEnd) → EndsWith begun_as book result
         → (fits : length (kept_by shelf).way.entries + length book.order < 18446744073709551616)
@@ -236,7 +214,7 @@ module _ {D : Type 0} (disk : DiskOf D) (handed : Shelf → D → Type 0) (strea
           let one = has_file count files book.order keeps.files.order_is at inside in (
             one.0,
             sym (get-merge count files book.order keeps.files.order_is at inside) ∙ one.1,
-            entry_in result ends at one.0 one.1,
+            λ capacity items s. entry_in at one.0 one.1 capacity items s result ends,
           );
     }
 

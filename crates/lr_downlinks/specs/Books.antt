@@ -1,12 +1,10 @@
 -- What the type of a book keeps, whichever thread had it.
-use Rattle.std.specs.Prelude.{◌≡◌, ◌≤◌, ℕ, Bool, true, false, List, ◌++◌, map, length}
+use Rattle.std.specs.Prelude.{◌≡◌, ◌≤◌, ℕ, Bool, true, false, List, [], length}
 use Rattle.std.specs.Borrow.{GName}
 use Rattle.lr_bits.specs.declared.placed.Placed.{Placed}
 use Rattle.lr_disk.specs.declared.disk.Disk.{Ghosts as DiskOf}
-use Rattle.lr_shelf_format.specs.Items.{Item}
-use Rattle.lr_shelf.specs.Append.{item_for}
+use Rattle.lr_shelf.specs.Grounds.{Ground, IsSettledOn, KeepsOn}
 use Rattle.lr_shelf.specs.Kept.{kept_by}
-use Rattle.lr_shelf.specs.Shelf.{IsSettled, IsShelfOf}
 use Rattle.lr_shelf.specs.declared.shelf.Shelf.{Shelf}
 use Rattle.lr_downlinks.specs.Merge.{IsNextOf, IsOrder}
 use Rattle.lr_shelf.specs.Fronts.{way_with_files}
@@ -33,8 +31,8 @@ module _ {D : Type 0} (disk : DiskOf D) (start : Start) where
     -- no append met a fault of the disk
     pub record Works (book : BookView D) : Type 0 where
       pub appended : HasAppended disk shelf d (merged start book.order) book.disk
-      pub keeps : (capacity : ℕ) (items : List Item) → IsSettled disk capacity items shelf d
-          → IsShelfOf capacity (items ++ map item_for (merged start book.order)) book.shelf
+      pub keeps : (ground : Ground) → IsSettledOn ground [] disk shelf d
+          → KeepsOn ground (merged start book.order) book.shelf
 
     -- one did, in the next file of some downlink
     pub record Broke (book : BookView D) : Type 0 where

@@ -1,26 +1,20 @@
 -- What becomes of a shelf and its disk since they were handed in, while files are appended one by one.
-use Rattle.std.specs.Prelude.{◌≡◌, ◌≤◌, ℕ, List, [], ◌∷◌, ◌++◌, map}
+use Rattle.std.specs.Prelude.{◌≡◌, ◌≤◌, List, [], ◌∷◌, ◌++◌}
 use Rattle.lr_bits.specs.Faults.{Rose}
 use Rattle.lr_bits.specs.declared.placed.Placed.{Placed}
 use Rattle.lr_disk.specs.Disk.{LeavesOnly, Only}
 use Rattle.lr_disk.specs.declared.disk.Disk.{Ghosts as DiskOf}
-use Rattle.lr_shelf_format.specs.Items.{Item}
 use Rattle.lr_shelf_format.specs.Way.{IsWay}
 use Rattle.lr_shelf.specs.Adding.{StaysOutside}
 use Rattle.lr_shelf.specs.Adds.{last_gate}
 use Rattle.lr_shelf.specs.Append.{item_for}
-use Rattle.lr_shelf.specs.Fronts.{HasFrontWay, way_with_files}
+use Rattle.lr_shelf.specs.Fronts.{way_with_files}
+use Rattle.lr_shelf.specs.Grounds.{Ground, HoldsEitherOn, HoldsStill, IsSettledOn, LeavesFronts}
 use Rattle.lr_shelf.specs.Kept.{kept_by}
-use Rattle.lr_shelf.specs.Shelf.{HasEitherWay, IsDurable, IsSettled, KeepsWay, StandsForEither}
+use Rattle.lr_shelf.specs.Shelf.{HasEitherWay, KeepsWay}
 use Rattle.lr_shelf.specs.declared.shelf.Shelf.{Shelf}
 
 module _ {D : Type 0} (disk : DiskOf D) where
-  -- Contents and each crash image stand for the items, or for these and one more.
-  pub record HoldsEither (capacity : ℕ) (items : List Item) (item : Item) (d : D) : Type 0 where
-    pub told : disk.tells d
-    pub contents : StandsForEither capacity items item (disk.contents d)
-    pub images : (c : List ℕ) → disk.may_leave d c → StandsForEither capacity items item c
-
   -- `shelf` and `d` are those that were handed in, and `d'` is the disk now
   module _ (shelf : Shelf) (d : D) (files : List Placed) where
     -- these files were appended
@@ -39,16 +33,12 @@ module _ {D : Type 0} (disk : DiskOf D) where
       pub outside_any_moment : disk.tells d → Only (disk.contents d) (disk.may_leave d)
           → LeavesOnly disk.moment disk.left_since d d'
           (StaysOutside (last_gate (kept_by shelf)) (way_with_files files (kept_by shelf).way).end (disk.contents d))
-      -- over one whose way the shelf kept, whatever its records hold and wherever it ends: what is there now, and, with
-      -- nothing pending, what a stop at any moment leaves
+      -- over one whose way the shelf kept, whatever its records hold and wherever it ends: what is there now
       pub way : disk.tells d → KeepsWay (disk.contents d) shelf
           → IsWay (disk.contents d') (way_with_files files (kept_by shelf).way)
-      pub way_any_moment : disk.tells d → KeepsWay (disk.contents d) shelf
-          → Only (disk.contents d) (disk.may_leave d)
-          → LeavesOnly disk.moment disk.left_since d d' (HasFrontWay (kept_by shelf).way files)
-      -- over a shelf of these items with nothing pending
-      pub stands : (capacity : ℕ) (items : List Item) → IsSettled disk capacity items shelf d
-          → IsDurable disk capacity (items ++ map item_for files) d'
+      -- on a ground with nothing pending: what is there now, and what a stop at any moment leaves
+      pub on : (ground : Ground) → IsSettledOn ground [] disk shelf d
+          → HoldsStill ground files disk d' × LeavesFronts disk ground files d d'
 
     -- these files were appended, and the disk failed in the next one: it is there, or it isn't
     pub record MayHaveAppended (placed : Placed) (d' : D) : Type 0 where
@@ -67,9 +57,6 @@ module _ {D : Type 0} (disk : DiskOf D) where
       -- over one whose way the shelf kept
       pub way : disk.tells d → KeepsWay (disk.contents d) shelf
           → HasEitherWay (way_with_files files (kept_by shelf).way) (item_for placed) (disk.contents d')
-      pub way_any_moment : disk.tells d → KeepsWay (disk.contents d) shelf
-          → Only (disk.contents d) (disk.may_leave d)
-          → LeavesOnly disk.moment disk.left_since d d' (HasFrontWay (kept_by shelf).way (files ++ placed ∷ []))
-      -- over a shelf of these items with nothing pending
-      pub stands : (capacity : ℕ) (items : List Item) → IsSettled disk capacity items shelf d
-          → HoldsEither capacity (items ++ map item_for files) (item_for placed) d'
+      -- on a ground with nothing pending
+      pub on : (ground : Ground) → IsSettledOn ground [] disk shelf d
+          → HoldsEitherOn disk ground files placed d' × LeavesFronts disk ground (files ++ placed ∷ []) d d'

@@ -11,15 +11,18 @@ use Rattle.lr_disk.specs.Disk.{LeavesOnly, Only}
 use Rattle.lr_disk.specs.Reads.{IsUnwritten}
 use Rattle.lr_disk.specs.declared.disk.Disk.{Ghosts as DiskOf}
 use Rattle.lr_disk.proofs.Moments.{joined, weaker}
+use Rattle.lr_shelf_format.specs.Items.{Item}
 use Rattle.lr_shelf_format.specs.Way.{IsNoShelfAt, IsWay, Way}
 use Rattle.lr_shelf_format.proofs.WayLemmas.{has_one_way}
 use Rattle.lr_shelf.specs.Adding.{StaysOutside}
 use Rattle.lr_shelf.specs.Adds.{last_gate}
 use Rattle.lr_shelf.specs.Append.{item_for}
 use Rattle.lr_shelf.specs.Calls.{IsCounted}
+use Rattle.lr_shelf.specs.Fronts.{way_with_files}
+use Rattle.lr_shelf.specs.Grounds.{Ground, OfItems, OfWay, IsSettledOn, LeavesFronts, StandsWith}
 use Rattle.lr_shelf.specs.Kept.{kept_by}
 use Rattle.lr_shelf.specs.Load.{IsLoadRefusal, Loads, MayRefuseAt}
-use Rattle.lr_shelf.specs.Shelf.{HasEitherWay}
+use Rattle.lr_shelf.specs.Shelf.{HasEitherWay, IsDurable}
 use Rattle.lr_shelf.specs.declared.shelf.Shelf.{Shelf}
 use Rattle.lr_shelf.specs.declared.error.ShelfError.{ShelfError}
 use Rattle.lr_shelf.specs.declared.error.ShelfError.TheVariants.{
@@ -27,6 +30,8 @@ use Rattle.lr_shelf.specs.declared.error.ShelfError.TheVariants.{
   NotAShelf as NotAShelf',
   NoMemory as NoMemory',
 }
+use Rattle.lr_shelf.proofs.GroundFronts.{begun_items, begun_way, front_none, fronts_of_more, settled_on_items}
+use Rattle.lr_shelf.proofs.GroundFronts.{still_holds, still_left}
 use Rattle.lr_causes.specs.Causes.{MayEndBefore, Counts, IsCaused, counts}
 use Rattle.lr_refusals.specs.Errors.{cause_of}
 use Rattle.lr_causes.specs.declared.fault.BundleFlaw.{BundleFlaw}
@@ -39,14 +44,14 @@ use Rattle.lr_downlinks.specs.Bundles.{IsBundle}
 use Rattle.lr_downlinks.specs.Merge.{IsWhole, merge}
 use Rattle.lr_downlinks.specs.Room.{AllFit}
 use Rattle.lr_downlinks.specs.Runs.{MergeEnds, MergesOver, NextDoesNotFitBy}
-use Rattle.lr_shelf.specs.Fronts.{HasFrontWay, way_with_files}
-use Rattle.lr_downlinks.specs.Since.{HasAppended}
+use Rattle.lr_downlinks.specs.Since.{HasAppended, MayHaveAppended}
 use Rattle.lr_downlinks.specs.Streams.{files_of_downlink}
 use Rattle.lr_downlinks.specs.declared.run.Run.{Run}
 use Rattle.lr_downlinks.specs.declared.run.RunEnd.{RunEnd}
 use Rattle.lr_downlinks.specs.declared.run.RunEnd.TheVariants.{All, Disk as DiskFails, NoMemory as NoneLeft, Capacity}
-use Rattle.lr_merging.specs.Downlinks.{AddsMerged, AreCounted, BreaksMerging, DownlinksRun, EndsMerging, GotReceipts}
-use Rattle.lr_causes.specs.Outside.{NoFault, outside, world_of}
+use Rattle.lr_merging.specs.Downlinks.{AddsAllOn, AddsMerged, AreCounted, BreaksMerging, BreaksOn, DownlinksRun}
+use Rattle.lr_merging.specs.Downlinks.{EndsMerging, GotReceipts}
+use Rattle.lr_causes.specs.Outside.{NoFault, outside, world_of, World, Outside}
 use Rattle.lr_merging.specs.Downlinks.{IsBefore, LeavesAllAlone, LeavesAlone, LeavesMerged, Merges}
 use Rattle.lr_merging.specs.Lines.{receipt_lines, last_line}
 use Rattle.lr_merging.specs.Taking.{AreAllTaken, HasFlaw, StopsTaking, TakesBundle, TakesNone, most_taken}
@@ -55,26 +60,61 @@ use Rattle.lr_reading.specs.Reading.{IsRead}
 
 -- ---- the disk, since the shelf was loaded from it
 
-module _ {D : Type 0} (disk : DiskOf D) (shelf : Shelf) (d d1 d' : D) (ready : IsReady disk d d1 shelf)
-    (files : List Placed) where
+module _ {D : Type 0} (disk : DiskOf D) (shelf : Shelf) (d d1 : D) (ready : IsReady disk d d1 shelf) where
   kept_way : (way : Way) → disk.tells d → IsWay (disk.contents d) way → (kept_by shelf).way ≡ way
   kept_way way t is =
       (has_one_way (disk.contents d)).way (kept_by shelf).way way (way_read disk d d1 shelf ready t) is
 
-  -- as the shelf was loaded, nothing of the files was there
-  none_yet : (way : Way) → disk.tells d → IsWay (disk.contents d) way → Only (disk.contents d) (disk.may_leave d)
-      → LeavesOnly disk.moment disk.left_since d d1 (HasFrontWay way files)
-  none_yet way t is only =
-      weaker disk.moment disk.left_since d d1 (disk.may_leave d) (HasFrontWay way files)
-      (λ c image. record {
-        first = [];
-        rest = files;
-        split = refl;
-        is_way = subst (λ (l : List ℕ). IsWay l way) (sym (only c image)) is;
-      })
-      (ready.unwritten t).any_moment
+  -- the shelf, as it was loaded, is the one of this ground, and nothing else stood on the disk
+  record BeginsOn (ground : Ground) : Type 0 where
+    settled : IsSettledOn ground [] disk shelf d1
+    alone : LeavesFronts disk ground [] d d1
 
-  -- nor did any byte change
+  alone_on : (ground : Ground) → disk.tells d → StandsWith ground [] (disk.contents d)
+      → Only (disk.contents d) (disk.may_leave d) → LeavesFronts disk ground [] d d1
+  alone_on ground t stands only =
+      weaker disk.moment disk.left_since d d1 _ _ (front_none ground)
+      (still_left disk ground d d1 (ready.unwritten t) stands only)
+
+  on_items : (capacity : ℕ) (items : List Item) → disk.tells d → IsDurable disk capacity items d
+      → BeginsOn (OfItems capacity items)
+  on_items capacity items t durable = record {
+    settled = settled_on_items disk capacity items shelf d1 (ready.settled capacity items t durable);
+    alone = alone_on (OfItems capacity items) t (begun_items capacity items (disk.contents d) durable.stands)
+        durable.durable;
+  }
+
+  on_way : (way : Way) → disk.tells d → IsWay (disk.contents d) way → Only (disk.contents d) (disk.may_leave d)
+      → BeginsOn (OfWay way (disk.contents d))
+  on_way way t is only =
+      let begun = begun_way way (disk.contents d) is in
+      record {
+        settled = record {
+          told = ready.told t;
+          kept = record { way = kept_way way t is; working = ready.works };
+          on_disk = still_holds disk (OfWay way (disk.contents d)) d d1 (ready.unwritten t) begun only;
+        };
+        alone = alone_on (OfWay way (disk.contents d)) t begun only;
+      }
+
+  module _ (d' : D) (files : List Placed) (ground : Ground) (begins : BeginsOn ground) where
+    fronts_since : (all : List Placed) → LeavesFronts disk ground all d1 d' → LeavesFronts disk ground all d d'
+    fronts_since all fronts =
+        joined disk.moment disk.left_since d d1 d' _ (fronts_of_more disk ground d d1 d' [] begins.alone all) fronts
+
+    added_on : HasAppended disk shelf d1 files d' → AddsAllOn disk files d d' ground
+    added_on has =
+        let on = has.on ground begins.settled in record { now = on.0; any_moment = fronts_since files on.1 }
+
+    broken_on : (placed : Placed) → MayHaveAppended disk shelf d1 files placed d'
+        → BreaksOn disk files d d' placed ground
+    broken_on placed has =
+        let on = has.on ground begins.settled in
+        record { now = on.0; any_moment = fronts_since (files ++ placed ∷ []) on.1 }
+
+module _ {D : Type 0} (disk : DiskOf D) (shelf : Shelf) (d d1 d' : D) (ready : IsReady disk d d1 shelf)
+    (files : List Placed) where
+  -- as the shelf was loaded, no byte changed
   same_yet : (from to : ℕ) → disk.tells d → Only (disk.contents d) (disk.may_leave d)
       → LeavesOnly disk.moment disk.left_since d d1 (StaysOutside from to (disk.contents d))
   same_yet from to t only =
@@ -89,9 +129,11 @@ module _ {D : Type 0} (disk : DiskOf D) (shelf : Shelf) (d d1 d' : D) (ready : I
         (disk.contents d1) (disk.contents d')
         → StaysOutside (way.end - 1) (way_with_files files way).end (disk.contents d) (disk.contents d')
     as_found stays =
-        subst (λ (w : Way). StaysOutside (w.end - 1) (way_with_files files w).end (disk.contents d) (disk.contents d'))
-        (kept_way way told is)
-        (subst (λ (l : List ℕ). StaysOutside (last_gate (kept_by shelf)) (way_with_files files (kept_by shelf).way).end
+        subst (λ (w : Way). StaysOutside (w.end - 1) (way_with_files files w).end (disk.contents d)
+        (disk.contents d'))
+        (kept_way disk shelf d d1 ready way told is)
+        (subst (λ (l : List ℕ).
+        StaysOutside (last_gate (kept_by shelf)) (way_with_files files (kept_by shelf).way).end
         l (disk.contents d')) (ready.unwritten told).contents stays)
 
     as_found_since : Only (disk.contents d) (disk.may_leave d)
@@ -104,21 +146,19 @@ module _ {D : Type 0} (disk : DiskOf D) (shelf : Shelf) (d d1 d' : D) (ready : I
         (StaysOutside (way.end - 1) (way_with_files files way).end (disk.contents d))
         (same_yet (way.end - 1) (way_with_files files way).end told only)
         (subst (λ (w : Way). LeavesOnly disk.moment disk.left_since d1 d'
-        (StaysOutside (w.end - 1) (way_with_files files w).end (disk.contents d))) (kept_way way told is)
+        (StaysOutside (w.end - 1) (way_with_files files w).end (disk.contents d)))
+        (kept_way disk shelf d d1 ready way told is)
         (subst (λ (l : List ℕ). LeavesOnly disk.moment disk.left_since d1 d'
         (StaysOutside (last_gate (kept_by shelf)) (way_with_files files (kept_by shelf).way).end l))
         (ready.unwritten told).contents stays))
 
 module _ {D : Type 0} (disk : DiskOf D) (count : ℕ) (files : ℕ → List Placed) (order : List ℕ) (shelf : Shelf)
     (d d1 d' : D) (ready : IsReady disk d d1 shelf) where
-  merged : List Placed
-  merged = merge files order
-
   added : HasAppended disk shelf d1 (merge files order) d' → AddsMerged disk count files order d d'
   added has = record {
     way = λ way t is. (
       subst (λ (w : Way). IsWay (disk.contents d') (way_with_files (merge files order) w))
-          (kept_way disk shelf d d1 d' ready (merge files order) way t is) (has.way (ready.told t) (ready.keeps t)),
+          (kept_way disk shelf d d1 ready way t is) (has.way (ready.told t) (ready.keeps t)),
       has.durable (ready.told t) (ready.synced t),
     );
     outside = λ way t is.
@@ -126,13 +166,12 @@ module _ {D : Type 0} (disk : DiskOf D) (count : ℕ) (files : ℕ → List Plac
     outside_any_moment = λ way t is only.
         as_found_since disk shelf d d1 d' ready (merge files order) way t is only
         (has.outside_any_moment (ready.told t) (ready.synced t));
-    stands = λ capacity items t durable. has.stands capacity items (ready.settled capacity items t durable);
-    any_moment = λ way t is only.
-        joined disk.moment disk.left_since d d1 d' (HasFrontWay way (merge files order))
-        (none_yet disk shelf d d1 d' ready (merge files order) way t is only)
-        (subst (λ (w : Way). LeavesOnly disk.moment disk.left_since d1 d' (HasFrontWay w (merge files order)))
-        (kept_way disk shelf d d1 d' ready (merge files order) way t is)
-        (has.way_any_moment (ready.told t) (ready.keeps t) (ready.synced t)));
+    onto_shelf = λ capacity items t durable.
+        added_on disk shelf d d1 ready d' (merge files order) (OfItems capacity items)
+        (on_items disk shelf d d1 ready capacity items t durable) has;
+    onto_way = λ way t is only.
+        added_on disk shelf d d1 ready d' (merge files order) (OfWay way (disk.contents d))
+        (on_way disk shelf d d1 ready way t is only) has;
   }
 
   broken_in : MergeEnds count files order disk DiskFails shelf d1 d' → BreaksMerging disk count files order d d'
@@ -142,7 +181,7 @@ module _ {D : Type 0} (disk : DiskOf D) (count : ℕ) (files : ℕ → List Plac
     next = breaks.next;
     way = λ way t is.
         subst (λ (w : Way). HasEitherWay (way_with_files (merge files order) w) (item_for breaks.placed)
-        (disk.contents d')) (kept_way disk shelf d d1 d' ready (merge files order) way t is)
+        (disk.contents d')) (kept_way disk shelf d d1 ready way t is)
         (breaks.appended.way (ready.told t) (ready.keeps t));
     outside = λ way t is.
         as_found disk shelf d d1 d' ready (merge files order ++ breaks.placed ∷ []) way t is
@@ -150,15 +189,12 @@ module _ {D : Type 0} (disk : DiskOf D) (count : ℕ) (files : ℕ → List Plac
     outside_any_moment = λ way t is only.
         as_found_since disk shelf d d1 d' ready (merge files order ++ breaks.placed ∷ []) way t is only
         (breaks.appended.outside_any_moment (ready.told t) (ready.synced t));
-    stands = λ capacity items t durable.
-        breaks.appended.stands capacity items (ready.settled capacity items t durable);
-    any_moment = λ way t is only.
-        joined disk.moment disk.left_since d d1 d' (HasFrontWay way (merge files order ++ breaks.placed ∷ []))
-        (none_yet disk shelf d d1 d' ready (merge files order ++ breaks.placed ∷ []) way t is only)
-        (subst (λ (w : Way). LeavesOnly disk.moment disk.left_since d1 d'
-        (HasFrontWay w (merge files order ++ breaks.placed ∷ [])))
-        (kept_way disk shelf d d1 d' ready (merge files order) way t is)
-        (breaks.appended.way_any_moment (ready.told t) (ready.keeps t) (ready.synced t)));
+    onto_shelf = λ capacity items t durable.
+        broken_on disk shelf d d1 ready d' (merge files order) (OfItems capacity items)
+        (on_items disk shelf d d1 ready capacity items t durable) breaks.placed breaks.appended;
+    onto_way = λ way t is only.
+        broken_on disk shelf d d1 ready d' (merge files order) (OfWay way (disk.contents d))
+        (on_way disk shelf d d1 ready way t is only) breaks.placed breaks.appended;
   }
 
   not_fitting : (needed capacity : ℕ) → NextDoesNotFitBy count files order (kept_by shelf).way needed capacity
@@ -166,7 +202,7 @@ module _ {D : Type 0} (disk : DiskOf D) (count : ℕ) (files : ℕ → List Plac
       → NextDoesNotFitBy count files order way needed capacity
   not_fitting needed capacity full way t is =
       subst (λ (w : Way). NextDoesNotFitBy count files order w needed capacity)
-      (kept_way disk shelf d d1 d' ready (merge files order) way t is) full
+      (kept_way disk shelf d d1 ready way t is) full
 
 -- ---- how a run over a bundle ends
 
@@ -195,13 +231,19 @@ module _ {S D O : Type 0} (source : SourceOf S) (disk : DiskOf D) (out : SinkOf 
       × IsWhole (length streams) (files_of_downlink line streams) order
       → TellsAll out streams base order cause o o' → IsFinished cause
   finish_all Done ends tells = record {
-    leaves = (added disk (length streams) (files_of_downlink line streams) order shelf d d1 d' ready ends.0, ends.1);
+    leaves = (
+      added disk (length streams) (files_of_downlink line streams) order shelf d d1 d' ready ends.0,
+      ends.1,
+    );
     got = tells;
     counted = same_all (ends.0.count ∙ ready.count) tells.kept;
     told = tells.told;
   }
   finish_all (Failed Output) ends tells = record {
-    leaves = (added disk (length streams) (files_of_downlink line streams) order shelf d d1 d' ready ends.0, ends.1);
+    leaves = (
+      added disk (length streams) (files_of_downlink line streams) order shelf d d1 d' ready ends.0,
+      ends.1,
+    );
     got = tells;
     counted = (tells.rose, same_source, ends.0.count ∙ ready.count);
     told = tells.told;
@@ -230,7 +272,8 @@ module _ {S D O : Type 0} (source : SourceOf S) (disk : DiskOf D) (out : SinkOf 
       subst IsFinished (sym tells.0) (record {
         leaves = (
           added disk (length streams) (files_of_downlink line streams) order shelf d d1 d' ready ends.0,
-          not_fitting disk (length streams) (files_of_downlink line streams) order shelf d d1 d' ready needed capacity
+          not_fitting disk (length streams) (files_of_downlink line streams) order shelf d
+              d1 d' ready needed capacity
               ends.1,
         );
         got = tells.1;
@@ -272,18 +315,16 @@ module _ {S D O : Type 0} (source : SourceOf S) (disk : DiskOf D) (out : SinkOf 
   done_or_none (Capacity needed capacity) cause tells sure (inr none) = absurd (cc (none))
 
 -- a run that goes on to its bundle ends as its files were merged
-to_ends : {S D O : Type 0} (source : SourceOf S) (disk : DiskOf D) (out : SinkOf O) (line : LineCode)
-    (bytes : List ℕ) (s s' : S) (d d' : D) (o o' : O) (streams : List (List ℕ)) (order : List ℕ) (cause : Cause)
-    → LeavesMerged disk (length streams) (files_of_downlink line streams) order d d' cause
-    → Merges source disk out line bytes s s' d d' o o' cause
-    → EndsMerging source disk out line bytes s s' d d' o o' cause
-to_ends source disk out line bytes s s' d d' o o' streams order Done leaves merges = merges
-to_ends source disk out line bytes s s' d d' o o' streams order (Failed Output) leaves merges = merges
-to_ends source disk out line bytes s s' d d' o o' streams order (Failed Disk) leaves merges = inr merges
-to_ends source disk out line bytes s s' d d' o o' streams order NoMemory leaves merges = inr merges
-to_ends source disk out line bytes s s' d d' o o' streams order (Refused (IsFull needed capacity)) leaves merges =
-    merges
-to_ends source disk out line bytes s s' d d' o o' streams order _ leaves merges = absurd leaves
+to_ends : {S D O : Type 0} (world : World S D O) (line : LineCode) (bytes : List ℕ) (w w' : Outside S D O)
+    (streams : List (List ℕ)) (order : List ℕ) (cause : Cause)
+    → LeavesMerged world.disk (length streams) (files_of_downlink line streams) order w.disk w'.disk cause
+    → Merges world line bytes cause w w' → EndsMerging world line bytes cause w w'
+to_ends world line bytes w w' streams order Done leaves merges = merges
+to_ends world line bytes w w' streams order (Failed Output) leaves merges = merges
+to_ends world line bytes w w' streams order (Failed Disk) leaves merges = inr merges
+to_ends world line bytes w w' streams order NoMemory leaves merges = inr merges
+to_ends world line bytes w w' streams order (Refused (IsFull needed capacity)) leaves merges = merges
+to_ends world line bytes w w' streams order _ leaves merges = absurd leaves
 
 module _ {S D O : Type 0} (source : SourceOf S) (disk : DiskOf D) (out : SinkOf O) (line : LineCode)
     (s s' : S) (d d1 d' : D) (o o' : O) (shelf : Shelf) (ready : IsReady disk d d1 shelf) (streams : List (List ℕ))
@@ -293,12 +334,14 @@ module _ {S D O : Type 0} (source : SourceOf S) (disk : DiskOf D) (out : SinkOf 
   same_count : source.faults s' ≡ source.faults s
   same_count = taken.taken.reason.2
 
-  done_with : IsFinished source disk out line s s' d d1 d' o o' shelf ready streams same_count run.base run.order cause
+  done_with : IsFinished source disk out line s s' d d1 d' o o' shelf ready streams same_count
+      run.base run.order cause
   done_with =
-      finished source disk out line s s' d d1 d' o o' shelf ready streams same_count run.base run.order run.result cause
+      finished source disk out line s s' d d1 d' o o' shelf ready streams same_count run.base
+      run.order run.result cause
       over.ends tells
 
-  merges : Merges source disk out line taken.bytes s s' d d' o o' cause
+  merges : Merges (world_of source disk out) line taken.bytes cause (outside s d o) (outside s' d' o')
   merges = record {
     ended = taken.taken.reason;
     streams = streams;
@@ -308,7 +351,7 @@ module _ {S D O : Type 0} (source : SourceOf S) (disk : DiskOf D) (out : SinkOf 
     leaves = done_with.leaves;
     base = run.base;
     base_is = λ way t is.
-        over.base ∙ ap (λ (w : Way). length w.entries) (kept_way disk shelf d d1 d' ready [] way t is);
+        over.base ∙ ap (λ (w : Way). length w.entries) (kept_way disk shelf d d1 ready way t is);
     receipts = λ at less.
         let one = over.receipts at less in
         (one.0, one.1, λ capacity items t durable. one.2 capacity items (ready.settled capacity items t durable));
@@ -317,7 +360,8 @@ module _ {S D O : Type 0} (source : SourceOf S) (disk : DiskOf D) (out : SinkOf 
         ⊎_elim
         (λ failed.
         absurd (not_failed
-        (disk_failed source disk out line s s' d d1 d' o o' shelf ready streams same_count run.base run.order run.result
+        (disk_failed source disk out line s s' d d1 d' o o' shelf ready streams same_count
+        run.base run.order run.result
         cause tells failed)))
         (λ same. subst (λ x. IsUnwritten disk d x) (sym same) (ready.unwritten t)) (over.untouched none);
   }
@@ -326,12 +370,14 @@ module _ {S D O : Type 0} (source : SourceOf S) (disk : DiskOf D) (out : SinkOf 
   whole_run = record {
     counted = done_with.counted;
     told_by_disk =
-        told_since source disk out line s s' d d1 d' o o' shelf ready streams same_count run.base run.order run.result
+        told_since source disk out line s s' d d1 d' o o' shelf ready streams same_count
+        run.base run.order run.result
         over.ends;
     told_by_out = done_with.told;
     bytes = taken.bytes;
     read = taken.taken.read;
-    ends = to_ends source disk out line taken.bytes s s' d d' o o' streams run.order cause done_with.leaves merges;
+    ends = to_ends (world_of source disk out) line taken.bytes (outside s d o) (outside s' d' o')
+        streams run.order cause done_with.leaves merges;
     broken = λ at t no.
         absurd ((has_one_way (disk.contents d)).none (kept_by shelf).way at (way_read disk d d1 shelf ready t) no);
     flawed = λ flaw all has. absurd (taken.sound flaw has);
@@ -339,9 +385,10 @@ module _ {S D O : Type 0} (source : SourceOf S) (disk : DiskOf D) (out : SinkOf 
         let same = taken.only others bundle in
         let fits : AllFit (length streams) (files_of_downlink line streams) (kept_by shelf).way =
         subst (λ (w : Way). AllFit (length streams) (files_of_downlink line streams) w)
-        (sym (kept_way disk shelf d d1 d' ready [] way t is))
+        (sym (kept_way disk shelf d d1 ready way t is))
         (subst (λ (them : List (List ℕ)). AllFit (length them) (files_of_downlink line them) way) same fit) in
-        done_or_none source disk out line s s' d d1 d' o o' shelf ready streams same_count run.base run.order run.result
+        done_or_none source disk out line s s' d d1 d' o o' shelf ready streams same_count
+        run.base run.order run.result
         cause tells no_fault.of_out
         (over.complete (λ rose. no_fault.of_disk (subst (λ n. Rose n (disk.faults d')) ready.count rose)) fits);
   }
@@ -350,14 +397,14 @@ module _ {S D O : Type 0} (source : SourceOf S) (disk : DiskOf D) (out : SinkOf 
 
 module _ {S D O : Type 0} (source : SourceOf S) (disk : DiskOf D) (out : SinkOf O) (line : LineCode)
     (s s' : S) (d d1 : D) (o : O) (shelf : Shelf) (ready : IsReady disk d d1 shelf) where
-  left_alone : LeavesAlone source disk out d d1 o o
+  left_alone : LeavesAlone (world_of source disk out) (outside s d o) (outside s' d1 o)
   left_alone = record { only_read = ready.unwritten; out_stays = refl }
 
   module _ (bytes : List ℕ) (read : IsRead source most_taken bytes s s') where
     -- where counts and end are told
     stopped : (cause : Cause) → AreCounted cause (counts (source.faults s) (disk.faults d) (out.faults o))
         (counts (source.faults s') (disk.faults d1) (out.faults o))
-        → EndsMerging source disk out line bytes s s' d d1 o o cause
+        → EndsMerging (world_of source disk out) line bytes cause (outside s d o) (outside s' d1 o)
         → ((flaw : BundleFlaw) → HasFlaw bytes flaw → (cause ≡ Refused (BadBundle flaw)) ⊎ IsBefore cause)
         → (NoFault (world_of source disk out) (outside s d o) (outside s' d1 o) → (streams : List (List ℕ))
         → IsBundle bytes streams
@@ -371,7 +418,8 @@ module _ {S D O : Type 0} (source : SourceOf S) (disk : DiskOf D) (out : SinkOf 
       read = read;
       ends = ends;
       broken = λ at t no.
-          absurd ((has_one_way (disk.contents d)).none (kept_by shelf).way at (way_read disk d d1 shelf ready t) no);
+          absurd ((has_one_way (disk.contents d)).none (kept_by shelf).way at
+          (way_read disk d d1 shelf ready t) no);
       flawed = λ flaw all has. flaws flaw has;
       complete = λ no_fault streams bundle few way t is fit. whole no_fault streams bundle few;
     }
@@ -403,7 +451,7 @@ module _ {S D O : Type 0} (source : SourceOf S) (disk : DiskOf D) (out : SinkOf 
 
 module _ {S D O : Type 0} (source : SourceOf S) (disk : DiskOf D) (out : SinkOf O) (line : LineCode)
     (s : S) (d d1 : D) (o : O) (result : Result Shelf ShelfError) (loads : Loads disk d d1 result) where
-  untouched : LeavesAllAlone source disk out s s d d1 o o
+  untouched : LeavesAllAlone (world_of source disk out) (outside s d o) (outside s d1 o)
   untouched = record {
     alone = record { only_read = loads.unwritten; out_stays = refl };
     source_stays = refl;
@@ -411,7 +459,7 @@ module _ {S D O : Type 0} (source : SourceOf S) (disk : DiskOf D) (out : SinkOf 
 
   before_all : (cause : Cause) → AreCounted cause (counts (source.faults s) (disk.faults d) (out.faults o))
       (counts (source.faults s) (disk.faults d1) (out.faults o))
-      → EndsMerging source disk out line [] s s d d1 o o cause
+      → EndsMerging (world_of source disk out) line [] cause (outside s d o) (outside s d1 o)
       → ((at : ℕ) → disk.tells d → IsNoShelfAt (disk.contents d) at → MayEndBefore at cause) → IsBefore cause
       → (NoFault (world_of source disk out) (outside s d o) (outside s d1 o) → (way : Way)
       → disk.tells d → IsWay (disk.contents d) way

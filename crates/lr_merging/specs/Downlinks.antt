@@ -1,8 +1,7 @@
 -- What `downlinks` does to the outside.
-use Rattle.std.specs.Prelude.{◌≡◌, ◌⊎◌, ◌<◌, ◌+◌, ◌-◌, ℕ, List, [], ◌∷◌, ◌++◌, length, map, slice_get, Some}
+use Rattle.std.specs.Prelude.{◌≡◌, ◌⊎◌, ◌<◌, ◌+◌, ◌-◌, ℕ, List, [], ◌∷◌, ◌++◌, length, slice_get, Some}
 use Rattle.lr_bits.specs.declared.placed.Placed.{Placed}
 use Rattle.lr_bits.specs.Faults.{Rose}
-use Rattle.lr_io.specs.declared.source.Source.{Ghosts as SourceOf}
 use Rattle.lr_io.specs.declared.sink.Sink.{Ghosts as SinkOf}
 use Rattle.lr_disk.specs.Disk.{LeavesOnly, Only}
 use Rattle.lr_disk.specs.Reads.{IsUnwritten}
@@ -27,15 +26,15 @@ use Rattle.lr_downlinks.specs.Merge.{IsNextOf, IsOrder, IsWhole, merge}
 use Rattle.lr_downlinks.specs.Receipts.{HasFileAt, receipt_at}
 use Rattle.lr_downlinks.specs.Room.{AllFit}
 use Rattle.lr_downlinks.specs.Runs.{NextDoesNotFitBy}
-use Rattle.lr_shelf.specs.Fronts.{HasFrontWay, way_with_files}
-use Rattle.lr_downlinks.specs.Since.{HoldsEither}
+use Rattle.lr_shelf.specs.Fronts.{way_with_files}
+use Rattle.lr_shelf.specs.Grounds.{OfItems, OfWay, Ground, HoldsEitherOn, HoldsStill, LeavesFronts}
 use Rattle.lr_downlinks.specs.Streams.{files_of_downlink}
 use Rattle.lr_merging.specs.Lines.{receipt_lines, last_line}
 use Rattle.lr_merging.specs.Taking.{AreAllTaken, HasFlaw, most_taken}
 use Rattle.lr_reading.specs.Reading.{IsRead, EndsFor}
 
--- The counts for each cause. The first event decides, but for this: after the files were put onto the shelf, `out` may
--- fail in the receipts, and the cause stays.
+-- The counts for each cause. The first event decides, but for this: after the files were put onto the shelf, `out`
+-- may fail in the receipts, and the cause stays.
 abbrev pub AreCounted : Cause → Counts → Counts → Type 0
 AreCounted (Failed Source) before now =
     Rose before.source now.source × (now.disk ≡ before.disk) × (now.output ≡ before.output)
@@ -57,7 +56,19 @@ IsBefore _ = ⊥
 
 -- ---- the files of all downlinks, merged in an order
 
-module _ {D : Type 0} (disk : DiskOf D) (count : ℕ) (files : ℕ → List Placed) (order : List ℕ) (d d' : D) where
+module _ {D : Type 0} (disk : DiskOf D) (files : List Placed) (d d' : D) where
+  -- what was there and these files stand on the disk, and a stop at any moment leaves a front of them
+  pub record AddsAllOn (ground : Ground) : Type 0 where
+    pub now : HoldsStill ground files disk d'
+    pub any_moment : LeavesFronts disk ground files d d'
+
+  -- the same, and the disk failed in the next file: that is there, or it isn't
+  pub record BreaksOn (placed : Placed) (ground : Ground) : Type 0 where
+    pub now : HoldsEitherOn disk ground files placed d'
+    pub any_moment : LeavesFronts disk ground (files ++ placed ∷ []) d d'
+
+module _ {D : Type 0} (disk : DiskOf D) (count : ℕ) (files : ℕ → List Placed)
+    (order : List ℕ) (d d' : D) where
   -- the files that the order names were put onto the shelf
   pub record AddsMerged : Type 0 where
     -- over every disk that has a way, whatever its items hold
@@ -66,18 +77,20 @@ module _ {D : Type 0} (disk : DiskOf D) (count : ℕ) (files : ℕ → List Plac
         × Only (disk.contents d') (disk.may_leave d')
     -- the bytes before its last gate and after the new end stay, at every moment
     pub outside : (way : Way) → disk.tells d → IsWay (disk.contents d) way
-        → StaysOutside (way.end - 1) (way_with_files (merge files order) way).end (disk.contents d) (disk.contents d')
+        → StaysOutside (way.end - 1) (way_with_files (merge files order) way).end
+        (disk.contents d) (disk.contents d')
     pub outside_any_moment : (way : Way) → disk.tells d → IsWay (disk.contents d) way
         → Only (disk.contents d) (disk.may_leave d)
         → LeavesOnly disk.moment disk.left_since d d'
         (StaysOutside (way.end - 1) (way_with_files (merge files order) way).end (disk.contents d))
-    -- over a shelf of these items with nothing pending
-    pub stands : (capacity : ℕ) (items : List Item) → disk.tells d → IsDurable disk capacity items d
-        → IsDurable disk capacity (items ++ map item_for (merge files order)) d'
-    -- with nothing pending, what a stop at any moment leaves
-    pub any_moment : (way : Way) → disk.tells d → IsWay (disk.contents d) way
+    -- over a shelf of these items, and over every disk that has a way, whatever its records hold, with nothing
+    -- pending
+    pub onto_shelf : (capacity : ℕ) (items : List Item) → disk.tells d
+        → IsDurable disk capacity items d
+        → AddsAllOn disk (merge files order) d d' (OfItems capacity items)
+    pub onto_way : (way : Way) → disk.tells d → IsWay (disk.contents d) way
         → Only (disk.contents d) (disk.may_leave d)
-        → LeavesOnly disk.moment disk.left_since d d' (HasFrontWay way (merge files order))
+        → AddsAllOn disk (merge files order) d d' (OfWay way (disk.contents d))
 
   -- so they were, and the disk failed in the next file of some downlink: that is there, or it isn't
   pub record BreaksMerging : Type 0 where
@@ -87,17 +100,20 @@ module _ {D : Type 0} (disk : DiskOf D) (count : ℕ) (files : ℕ → List Plac
     pub way : (way : Way) → disk.tells d → IsWay (disk.contents d) way
         → HasEitherWay (way_with_files (merge files order) way) (item_for placed) (disk.contents d')
     pub outside : (way : Way) → disk.tells d → IsWay (disk.contents d) way
-        → StaysOutside (way.end - 1) (way_with_files (merge files order ++ placed ∷ []) way).end (disk.contents d)
+        → StaysOutside (way.end - 1) (way_with_files (merge files order ++ placed ∷ []) way).end
+        (disk.contents d)
         (disk.contents d')
     pub outside_any_moment : (way : Way) → disk.tells d → IsWay (disk.contents d) way
         → Only (disk.contents d) (disk.may_leave d)
         → LeavesOnly disk.moment disk.left_since d d'
-        (StaysOutside (way.end - 1) (way_with_files (merge files order ++ placed ∷ []) way).end (disk.contents d))
-    pub stands : (capacity : ℕ) (items : List Item) → disk.tells d → IsDurable disk capacity items d
-        → HoldsEither disk capacity (items ++ map item_for (merge files order)) (item_for placed) d'
-    pub any_moment : (way : Way) → disk.tells d → IsWay (disk.contents d) way
+        (StaysOutside (way.end - 1) (way_with_files (merge files order ++ placed ∷ []) way).end
+        (disk.contents d))
+    pub onto_shelf : (capacity : ℕ) (items : List Item) → disk.tells d
+        → IsDurable disk capacity items d
+        → BreaksOn disk (merge files order) d d' placed (OfItems capacity items)
+    pub onto_way : (way : Way) → disk.tells d → IsWay (disk.contents d) way
         → Only (disk.contents d) (disk.may_leave d)
-        → LeavesOnly disk.moment disk.left_since d d' (HasFrontWay way (merge files order ++ placed ∷ []))
+        → BreaksOn disk (merge files order) d d' placed (OfWay way (disk.contents d))
 
   -- what becomes of the disk, for each cause
   abbrev pub LeavesMerged : Cause → Type 0
@@ -110,11 +126,12 @@ module _ {D : Type 0} (disk : DiskOf D) (count : ℕ) (files : ℕ → List Plac
       → NextDoesNotFitBy count files order way needed capacity)
   LeavesMerged _ = ⊥
 
-  -- Over a shelf of these items, each receipt is that of a file of its downlink at its place, which is the entry of its
-  -- number in the contents and in every crash image.
+  -- Over a shelf of these items, each receipt is that of a file of its downlink at its place, which is the entry of
+  -- its number in the contents and in every crash image.
   abbrev pub HaveReceipts : ℕ → Type 0
   HaveReceipts base = (at : ℕ) → at < length order → (placed : Placed)
-      × (slice_get (files (receipt_at base order at).downlink) (receipt_at base order at).place ≡ Some placed)
+      × (slice_get (files (receipt_at base order at).downlink) (receipt_at base order at).place
+      ≡ Some placed)
       × ((capacity : ℕ) (items : List Item) → disk.tells d → IsDurable disk capacity items d
       → HasFileAt capacity (base + at) placed (disk.contents d')
       × ((c : List ℕ) → disk.may_leave d' c → HasFileAt capacity (base + at) placed c))
@@ -126,67 +143,77 @@ GotReceipts out Done receipts last o o' = Puts out (receipts ++ last) o o'
 GotReceipts out (Failed Output) receipts last o o' = PutFails out (receipts ++ last) o o'
 GotReceipts out cause receipts last o o' = Puts out receipts o o' ⊎ PutFails out receipts o o'
 
-module _ {S D O : Type 0} (source : SourceOf S) (disk : DiskOf D) (out : SinkOf O) where
+module _ {S D O : Type 0} (world : World S D O) where
   -- the disk was only read, and `out` is as it was
-  pub record LeavesAlone (d d' : D) (o o' : O) : Type 0 where
-    pub only_read : disk.tells d → IsUnwritten disk d d'
-    pub out_stays : o' ≡ o
+  pub record LeavesAlone (w w' : Outside S D O) : Type 0 where
+    pub only_read : world.disk.tells w.disk → IsUnwritten world.disk w.disk w'.disk
+    pub out_stays : w'.out ≡ w.out
 
   -- and the source is as it was
-  pub record LeavesAllAlone (s s' : S) (d d' : D) (o o' : O) : Type 0 where
-    pub alone : LeavesAlone d d' o o'
-    pub source_stays : s' ≡ s
+  pub record LeavesAllAlone (w w' : Outside S D O) : Type 0 where
+    pub alone : LeavesAlone w w'
+    pub source_stays : w'.source ≡ w.source
 
-  module _ (line : LineCode) (bytes : List ℕ) (s s' : S) (d d' : D) (o o' : O) where
+  module _ (line : LineCode) (bytes : List ℕ) where
     -- The bytes are a bundle, and the files of its downlinks were put onto the shelf in this order. The shelf had
     -- `base` entries before.
-    pub record Merges (cause : Cause) : Type 0 where
-      pub ended : EndsFor source End most_taken bytes s s'
+    pub record Merges (cause : Cause) (w w' : Outside S D O) : Type 0 where
+      pub ended : EndsFor world.source End most_taken bytes w.source w'.source
       pub streams : List (List ℕ)
       pub bundle : IsBundle bytes streams
       pub order : List ℕ
       pub order_is : IsOrder (length streams) (files_of_downlink line streams) order
-      pub leaves : LeavesMerged disk (length streams) (files_of_downlink line streams) order d d' cause
+      pub leaves : LeavesMerged world.disk (length streams) (files_of_downlink line streams) order
+          w.disk w'.disk cause
       pub base : ℕ
-      pub base_is : (way : Way) → disk.tells d → IsWay (disk.contents d) way → base ≡ length way.entries
-      pub receipts : HaveReceipts disk (length streams) (files_of_downlink line streams) order d d' base
-      pub got : GotReceipts out cause (receipt_lines base order (length streams)) (last_line streams order) o o'
+      pub base_is : (way : Way) → world.disk.tells w.disk → IsWay (world.disk.contents w.disk) way
+          → base ≡ length way.entries
+      pub receipts : HaveReceipts world.disk (length streams) (files_of_downlink line streams) order
+          w.disk w'.disk base
+      pub got : GotReceipts world.out cause (receipt_lines base order (length streams))
+          (last_line streams order) w.out w'.out
       -- where no file was put onto the shelf, and the disk didn't fail, it was only read
-      pub only_read : order ≡ [] → (cause ≡ Failed Disk → ⊥) → disk.tells d → IsUnwritten disk d d'
+      pub only_read : order ≡ [] → (cause ≡ Failed Disk → ⊥) → world.disk.tells w.disk
+          → IsUnwritten world.disk w.disk w'.disk
 
     -- how a run ends, for each cause that it may have
-    abbrev pub EndsMerging : Cause → Type 0
-    EndsMerging Done = Merges Done
-    EndsMerging (Failed Source) = LeavesAlone d d' o o' × EndsFor source Fault most_taken bytes s s'
-    EndsMerging (Failed Disk) = LeavesAllAlone s s' d d' o o' ⊎ Merges (Failed Disk)
-    EndsMerging (Failed Output) = Merges (Failed Output)
-    EndsMerging NoMemory = LeavesAlone d d' o o' ⊎ Merges NoMemory
-    EndsMerging (Refused (NotAShelf at)) =
-        LeavesAllAlone s s' d d' o o' × (disk.tells d → IsNoShelfAt (disk.contents d) at)
-    EndsMerging (Refused (Capacity needed capacity)) = Merges (Refused (Capacity needed capacity))
-    EndsMerging (Refused (BadBundle flaw)) = LeavesAlone d d' o o' × HasFlaw bytes flaw × AreAllTaken source bytes s s'
-    EndsMerging _ = ⊥
+    abbrev pub EndsMerging : Cause → Outside S D O → Outside S D O → Type 0
+    EndsMerging Done w w' = Merges Done w w'
+    EndsMerging (Failed Source) w w' =
+        LeavesAlone w w' × EndsFor world.source Fault most_taken bytes w.source w'.source
+    EndsMerging (Failed Disk) w w' = LeavesAllAlone w w' ⊎ Merges (Failed Disk) w w'
+    EndsMerging (Failed Output) w w' = Merges (Failed Output) w w'
+    EndsMerging NoMemory w w' = LeavesAlone w w' ⊎ Merges NoMemory w w'
+    EndsMerging (Refused (NotAShelf at)) w w' =
+        LeavesAllAlone w w'
+        × (world.disk.tells w.disk → IsNoShelfAt (world.disk.contents w.disk) at)
+    EndsMerging (Refused (Capacity needed capacity)) w w' =
+        Merges (Refused (Capacity needed capacity)) w w'
+    EndsMerging (Refused (BadBundle flaw)) w w' =
+        LeavesAlone w w' × HasFlaw bytes flaw × AreAllTaken world.source bytes w.source w'.source
+    EndsMerging _ w w' = ⊥
 
 -- the whole call, over every disk
-pub record DownlinksRun {S D O : Type 0} (world : World S D O) (line : LineCode) (cause : Cause) (w w' : Outside S D O)
-    : Type 0 where
+pub record DownlinksRun {S D O : Type 0} (world : World S D O) (line : LineCode)
+    (cause : Cause) (w w' : Outside S D O) : Type 0 where
   pub counted : AreCounted cause (counts_in world w) (counts_in world w')
   pub told_by_disk : world.disk.tells w.disk → world.disk.tells w'.disk
   pub told_by_out : world.out.tells w.out → world.out.tells w'.out
   -- these bytes were taken
   pub bytes : List ℕ
   pub read : IsRead world.source most_taken bytes w.source w'.source
-  pub ends : EndsMerging world.source world.disk world.out line bytes w.source w'.source w.disk
-      w'.disk w.out w'.out cause
+  pub ends : EndsMerging world line bytes cause w w'
   -- a disk on which no shelf stands is refused, and nothing is touched
   pub broken : (at : ℕ) → world.disk.tells w.disk → IsNoShelfAt (world.disk.contents w.disk) at
-      → MayEndBefore at cause
-      × LeavesAllAlone world.source world.disk world.out w.source w'.source w.disk w'.disk w.out w'.out
+      → MayEndBefore at cause × LeavesAllAlone world w w'
   -- bytes that are no bundle are refused for their flaw, unless an event came before
-  pub flawed : (flaw : BundleFlaw) → AreAllTaken world.source bytes w.source w'.source → HasFlaw bytes flaw
+  pub flawed : (flaw : BundleFlaw) → AreAllTaken world.source bytes w.source w'.source
+      → HasFlaw bytes flaw
       → (cause ≡ Refused (BadBundle flaw)) ⊎ IsBefore cause
   -- where no count rises, the bytes are a bundle, and all files of its downlinks fit, the work is done or memory was
   -- refused
   pub complete : NoFault world w w' → (streams : List (List ℕ)) → IsBundle bytes streams
-      → length bytes < most_taken → (way : Way) → world.disk.tells w.disk → IsWay (world.disk.contents w.disk) way
-      → AllFit (length streams) (files_of_downlink line streams) way → (cause ≡ Done) ⊎ (cause ≡ NoMemory)
+      → length bytes < most_taken → (way : Way) → world.disk.tells w.disk
+      → IsWay (world.disk.contents w.disk) way
+      → AllFit (length streams) (files_of_downlink line streams) way
+      → (cause ≡ Done) ⊎ (cause ≡ NoMemory)

@@ -31,8 +31,8 @@ next_of g c = record {
 pub invariant_of-self : goal.invariant_of-self
 invariant_of-self g c =
     rw c.is_failed_after-self-inside.ensures
-    (next_kept g.D.Disk g.N.Beginning.start g.N.Beginning.handed c.self.inside.disk.ghost_name
-    (record {
+    (next_kept g.D.Disk g.met.D.Disk.leaves_contents g.met.D.Disk.counts_now g.N.Beginning.start
+    g.N.Beginning.handed c.self.inside.disk.ghost_name (record {
       shelf = c.self.inside.shelf;
       disk = c.self.inside.disk.now;
       order = c.self.inside.order;
