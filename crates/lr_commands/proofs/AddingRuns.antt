@@ -1,15 +1,14 @@
 -- What a command that adds an item does, by what it read before and what adding the item answered.
-use Rattle.std.proofs.Common.{◌≡◌, ◌⊎◌, ◌<◌, ◌≤◌, inl, inr, ℕ, false, Result, Ok, Err, IfOk, IfErr, OnOk, List, []}
-use Rattle.std.proofs.Common.{◌∷◌, ◌++◌, length, min, refl, arith, ap, ◌∙◌, sym, subst}
-use Rattle.std.proofs.lemmas.Bool.{cases_lt}
+use Rattle.std.proofs.Common.{◌≡◌, ◌⊎◌, ◌<◌, inl, inr, ℕ, false, Result, Ok, Err, IfOk, IfErr, OnOk, List, []}
+use Rattle.std.proofs.Common.{◌∷◌, ◌++◌, min, refl, arith, ap, ◌∙◌, sym, subst}
 use Rattle.lr_io.specs.declared.sink.Sink.{Ghosts as SinkOf}
 use Rattle.lr_disk.specs.Disk.{LeavesOnly, Only}
 use Rattle.lr_disk.specs.Reads.{IsUnwritten}
 use Rattle.lr_disk.specs.declared.disk.Disk.{Ghosts as DiskOf}
 use Rattle.lr_disk.proofs.Moments.{joined, unwritten_joined, weaker}
-use Rattle.lr_shelf_format.specs.Items.{Item, head_of_item}
+use Rattle.lr_shelf_format.specs.Items.{Item}
 use Rattle.lr_shelf_format.specs.ShelfBytes.{StandsForShelf}
-use Rattle.lr_shelf_format.specs.Way.{Way, IsWay, IsNoShelfAt}
+use Rattle.lr_shelf_format.specs.Way.{Way, IsWay}
 use Rattle.lr_shelf_format.specs.declared.stored.Stored.{Stored}
 use Rattle.lr_shelf_format.proofs.WayLemmas.{has_one_way}
 use Rattle.lr_shelf.specs.Adds.{Adds}
@@ -17,7 +16,7 @@ use Rattle.lr_shelf.specs.Calls.{IsCounted}
 use Rattle.lr_shelf.specs.Kept.{Kept, kept_by, kept_with}
 use Rattle.lr_shelf.specs.Load.{Loads, IsLoadRefusal}
 use Rattle.lr_shelf.specs.Read.{Gets}
-use Rattle.lr_shelf.specs.Shelf.{HasEitherWay, IsDurable, IsSettled, IsShelfOf, KeepsWay, StandsForEither}
+use Rattle.lr_shelf.specs.Shelf.{HasEitherWay, IsDurable, IsSettled, KeepsWay, StandsForEither}
 use Rattle.lr_shelf.specs.declared.shelf.Shelf.{Shelf}
 use Rattle.lr_shelf.specs.declared.error.ShelfError.{ShelfError}
 use Rattle.lr_shelf.specs.declared.error.ShelfError.TheVariants.{
@@ -37,27 +36,24 @@ use Rattle.lr_causes.specs.declared.cause.Refusal.TheVariants.{NotAShelf, Capaci
 use Rattle.lr_causes.specs.declared.cause.Cause.{Cause}
 use Rattle.lr_causes.specs.declared.cause.Cause.TheVariants.{Done, DoneWith, Usage, Failed, NoMemory, Refused}
 use Rattle.lr_causes.specs.Causes.{Counts, IsEarlier}
+use Rattle.lr_causes.specs.Outside.{outlet_counts, outlets, outlets_of}
 use Rattle.lr_refusals.specs.Errors.{cause_of}
 use Rattle.lr_causes.specs.Puts.{Puts, PutFails}
 use Rattle.lr_commands.specs.Adding.{
   Addition,
   AddsItem,
-  DoesNothing,
   Fits,
   HasWayOrOneMore,
-  IsAdded,
   IsFullFor,
   IsRefusedOnWay,
   IsAddingRefused,
-  LeavesAdding,
   MayAdd,
   MayEndAdding,
-  MayHaveAdded,
   RunsAdding,
   StandsForOneMore,
   way_added,
 }
-use Rattle.lr_commands.specs.Runs.{Counted, counts_of}
+use Rattle.lr_commands.specs.Runs.{Counted}
 use Rattle.lr_commands.proofs.Filing.{shelf_counted}
 use Rattle.lr_commands.proofs.Texts.{same_counts}
 
@@ -249,8 +245,9 @@ module _ {D O : Type 0} (disk : DiskOf D) (out : SinkOf O) (makes : Addition →
       (unwritten : disk.tells d → IsUnwritten disk d d') where
     -- an event came first
     pub earlier_run : (cause : Cause) → IsEarlier cause
-        → Counted cause (counts_of disk out d o) (counts_of disk out d' o)
-        → RunsAdding disk out makes decides d d' o o cause
+        → Counted cause (outlet_counts (outlets_of disk out) (outlets d o))
+        (outlet_counts (outlets_of disk out) (outlets d' o))
+        → RunsAdding (outlets_of disk out) makes decides cause (outlets d o) (outlets d' o)
     earlier_run Done is counted = absurd is
     earlier_run (DoneWith note) is counted = absurd is
     earlier_run Usage is counted = absurd is
@@ -285,7 +282,7 @@ module _ {D O : Type 0} (disk : DiskOf D) (out : SinkOf O) (makes : Addition →
     -- this is refused
     pub refused_run : (refusal : Refusal) → MayEndAdding (Refused refusal) → disk.faults d' ≡ disk.faults d
         → (disk.tells d → IsAddingRefused decides (disk.contents d) refusal)
-        → RunsAdding disk out makes decides d d' o o (Refused refusal)
+        → RunsAdding (outlets_of disk out) makes decides (Refused refusal) (outlets d o) (outlets d' o)
     refused_run refusal may count over = record {
       may = may;
       counted = same_counts disk out d d' o o count refl;
@@ -302,7 +299,8 @@ module _ {D O : Type 0} (disk : DiskOf D) (out : SinkOf O) (makes : Addition →
 
   -- no shelf was loaded
   pub not_loaded : (d d' : D) (o : O) (result : Result Shelf ShelfError) (error : ShelfError) → Loads disk d d' result
-      → result ≡ Err error → RunsAdding disk out makes decides d d' o o (cause_of error)
+      → result ≡ Err error
+      → RunsAdding (outlets_of disk out) makes decides (cause_of error) (outlets d o) (outlets d' o)
   not_loaded d d' o result error loads is = by_error error is
       (subst (λ (r : Result Shelf ShelfError). IfErr r (IsLoadRefusal disk d)) is loads.refused) where
         counted : (e : ShelfError) → result ≡ Err e → IsCounted {A = Shelf} (disk.faults d) (disk.faults d') (Err e)
@@ -311,7 +309,7 @@ module _ {D O : Type 0} (disk : DiskOf D) (out : SinkOf O) (makes : Addition →
             loads.calls.counted
 
         by_error : (e : ShelfError) → result ≡ Err e → IsLoadRefusal disk d e
-            → RunsAdding disk out makes decides d d' o o (cause_of e)
+            → RunsAdding (outlets_of disk out) makes decides (cause_of e) (outlets d o) (outlets d' o)
         by_error Disk' same refusal =
             earlier_run d d' o loads.calls.told loads.unwritten (Failed Disk) tt ((counted Disk' same).1, refl, refl)
         by_error (NotAShelf' at) same refusal =
@@ -388,7 +386,8 @@ module _ {D O : Type 0} (disk : DiskOf D) (out : SinkOf O) (makes : Addition →
     pub full_run : (needed : ℕ) → answer ≡ Err (Capacity' needed there.capacity)
         → there.capacity < (way_added addition.item there).end
         → needed ≡ min (way_added addition.item there).end 18446744073709551615
-        → RunsAdding disk out makes decides d d2 o o (Refused (Capacity needed there.capacity))
+        → RunsAdding (outlets_of disk out) makes decides (Refused (Capacity needed there.capacity)) (outlets d o)
+        (outlets d2 o)
     full_run needed is over needs =
         refused_run d d2 o told_both (refusal_unwritten (Capacity' needed there.capacity) is (λ same. cc (same)))
         (Capacity needed there.capacity) tt
@@ -404,18 +403,19 @@ module _ {D O : Type 0} (disk : DiskOf D) (out : SinkOf O) (makes : Addition →
         ))
 
     -- memory was refused
-    pub no_memory_run : answer ≡ Err NoMemory' → RunsAdding disk out makes decides d d2 o o NoMemory
+    pub no_memory_run : answer ≡ Err NoMemory'
+        → RunsAdding (outlets_of disk out) makes decides NoMemory (outlets d o) (outlets d2 o)
     no_memory_run is =
         earlier_run d d2 o told_both (refusal_unwritten NoMemory' is (λ same. cc (same))) NoMemory tt
         (same_counts disk out d d2 o o (refusal_counted NoMemory' is (λ same. cc (same))) refl)
 
     -- the disk failed: with the item or without it
     pub failed_run : answer ≡ Err Disk' → Fits addition.item there
-        → RunsAdding disk out makes decides d d2 o o (Failed Disk)
+        → RunsAdding (outlets_of disk out) makes decides (Failed Disk) (outlets d o) (outlets d2 o)
     failed_run is fits = record {
       may = tt;
       counted =
-          subst (λ (c : Counts). Counted (Failed Disk) c (counts_of disk out d2 o))
+          subst (λ (c : Counts). Counted (Failed Disk) c (outlet_counts (outlets_of disk out) (outlets d2 o)))
           (same_counts disk out d d1 o o ready.count refl)
           (shelf_counted disk out A d1 d2 o Disk' (λ same. cc (same))
           (subst (λ (r : Result A ShelfError). IsCounted (disk.faults d1) (disk.faults d2) r) is
@@ -460,7 +460,7 @@ module _ {D O : Type 0} (disk : DiskOf D) (out : SinkOf O) (makes : Addition →
           (on_ok (KeepsWay (disk.contents d2) shelf2) (adding.way (ready.told t) (ready.keeps t)))
 
       adds_item : (IsPut : List ℕ → O → O → Type 0) (o2 : O) → IsPut addition.text o o2
-          → AddsItem disk out makes decides d d2 o o2 IsPut
+          → AddsItem (outlets_of disk out) makes decides IsPut (outlets d o) (outlets d2 o2)
       adds_item IsPut o2 put = record {
         addition = addition;
         made = made;
@@ -477,7 +477,8 @@ module _ {D O : Type 0} (disk : DiskOf D) (out : SinkOf O) (makes : Addition →
       }
 
       -- and the text was put
-      pub done_run : (o2 : O) → Puts out addition.text o o2 → RunsAdding disk out makes decides d d2 o o2 Done
+      pub done_run : (o2 : O) → Puts out addition.text o o2
+          → RunsAdding (outlets_of disk out) makes decides Done (outlets d o) (outlets d2 o2)
       done_run o2 puts = record {
         may = tt;
         counted = same_counts disk out d d2 o o2 count_both puts.kept;
@@ -493,7 +494,7 @@ module _ {D O : Type 0} (disk : DiskOf D) (out : SinkOf O) (makes : Addition →
 
       -- or it wasn't
       pub cut_run : (o2 : O) → PutFails out addition.text o o2
-          → RunsAdding disk out makes decides d d2 o o2 (Failed Output)
+          → RunsAdding (outlets_of disk out) makes decides (Failed Output) (outlets d o) (outlets d2 o2)
       cut_run o2 fails = record {
         may = tt;
         counted = (fails.rose, refl, count_both);

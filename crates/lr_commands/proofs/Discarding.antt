@@ -1,9 +1,9 @@
 -- `discard N` as a command that adds an item: what it decides, and what its run says then.
-use Rattle.std.proofs.Common.{◌≡◌, ◌⊎◌, ◌<◌, ◌≤◌, inl, inr, ℕ, Bool, true, false, Result, Ok, Err, OnOk, List, []}
+use Rattle.std.proofs.Common.{◌≡◌, ◌⊎◌, ◌<◌, inl, inr, ℕ, Bool, true, false, Result, Ok, Err, List, []}
 use Rattle.std.proofs.Common.{◌∷◌, ◌++◌, length, min, refl, arith, ap, ◌∙◌, sym, subst}
 use Rattle.std.proofs.lemmas.Bool.{cases_lt}
 use Rattle.lr_io.specs.declared.sink.Sink.{Ghosts as SinkOf}
-use Rattle.lr_disk.specs.Disk.{LeavesOnly, Only}
+use Rattle.lr_disk.specs.Disk.{Only}
 use Rattle.lr_disk.specs.Reads.{IsUnwritten}
 use Rattle.lr_disk.specs.declared.disk.Disk.{Ghosts as DiskOf}
 use Rattle.lr_disk.proofs.Moments.{unwritten_yet, weaker}
@@ -35,6 +35,7 @@ use Rattle.lr_causes.specs.declared.cause.Refusal.TheVariants.{NotAShelf, NoSuch
 use Rattle.lr_causes.specs.declared.cause.Cause.{Cause}
 use Rattle.lr_causes.specs.declared.cause.Cause.TheVariants.{Done, DoneWith, Usage, Failed, NoMemory, Refused}
 use Rattle.lr_causes.specs.Causes.{IsEarlier}
+use Rattle.lr_causes.specs.Outside.{outlets, outlets_of}
 use Rattle.lr_refusals.specs.Errors.{cause_of}
 use Rattle.lr_causes.specs.Puts.{Puts, PutFails}
 use Rattle.lr_commands.specs.Adding.{
@@ -153,10 +154,13 @@ module _ (number : ℕ) where
 
 module _ {D O : Type 0} (disk : DiskOf D) (out : SinkOf O) (number : ℕ) (d d' : D) (o o' : O) where
   abbrev Ran : Cause → Type 0
-  Ran cause = RunsAdding disk out (MakesDiscard number) (DecidesDiscard number) d d' o o' cause
+  Ran cause =
+      RunsAdding (outlets_of disk out) (MakesDiscard number) (DecidesDiscard number) cause (outlets d o) (outlets d' o')
 
   abbrev Left : Cause → Type 0
-  Left cause = LeavesAdding disk out (MakesDiscard number) (DecidesDiscard number) d d' o o' cause
+  Left cause =
+      LeavesAdding (outlets_of disk out) (MakesDiscard number) (DecidesDiscard number) cause (outlets d o)
+      (outlets d' o')
 
   free_of : (bytes : List ℕ) (addition : Addition) → MayAdd (DecidesDiscard number) bytes addition
       → (way : Way) × IsWay bytes way × IsFree number way
@@ -281,7 +285,8 @@ module _ {D O : Type 0} (disk : DiskOf D) (out : SinkOf O) (number : ℕ) (d d' 
       inr (subst (λ (a : Addition). IsWay c (way_added a.item way))
       (discard_of number (disk.contents d) is.1.way is.0 is.1.decided).1 is.2)
 
-  pub discard_runs : (cause : Cause) → MayEnd cause → Ran cause → RunsDiscard disk out number cause d d' o o'
+  pub discard_runs : (cause : Cause) → MayEnd cause → Ran cause
+      → RunsDiscard (outlets_of disk out) number cause (outlets d o) (outlets d' o')
   discard_runs cause may run = record {
     may = may;
     counted = run.counted;
@@ -326,7 +331,7 @@ module _ {D O : Type 0} (disk : DiskOf D) (out : SinkOf O) (number : ℕ) where
   pub not_begun :
       ((x : D) (c : List ℕ) → disk.tells x → disk.left_since x (disk.moment x) c → disk.may_leave x c)
       → (d : D) (o : O)
-      → RunsDiscard disk out number NoMemory d d o o
+      → RunsDiscard (outlets_of disk out) number NoMemory (outlets d o) (outlets d o)
   not_begun only_now d o =
       discard_runs disk out number d d o o NoMemory tt
       (earlier_run disk out (MakesDiscard number) (DecidesDiscard number) (discard_once number) d d o (λ t. t)
@@ -334,7 +339,8 @@ module _ {D O : Type 0} (disk : DiskOf D) (out : SinkOf O) (number : ℕ) where
 
   -- no shelf was loaded
   pub not_loaded : (d d' : D) (o : O) (result : Result Shelf ShelfError) (error : ShelfError) → Loads disk d d' result
-      → result ≡ Err error → IsLoadRefusal disk d error → RunsDiscard disk out number (cause_of error) d d' o o
+      → result ≡ Err error → IsLoadRefusal disk d error
+      → RunsDiscard (outlets_of disk out) number (cause_of error) (outlets d o) (outlets d' o)
   not_loaded d d' o result error loads is refusal =
       discard_runs disk out number d d' o o (cause_of error) (may_load error refusal)
       (never_loaded disk out (MakesDiscard number) (DecidesDiscard number) (discard_once number) d d' o result error
@@ -363,7 +369,7 @@ module _ {D O : Type 0} (disk : DiskOf D) (out : SinkOf O) (number : ℕ) where
     refused_by : (error : ShelfError) (refusal : Refusal) → MayEnd (Refused refusal) → MayEndAdding (Refused refusal)
         → answer ≡ Err error → (error ≡ Disk' → ⊥)
         → ((bytes : List ℕ) → DecidesDiscard number bytes there (Err refusal))
-        → RunsDiscard disk out number (Refused refusal) d d2 o o
+        → RunsDiscard (outlets_of disk out) number (Refused refusal) (outlets d o) (outlets d2 o)
     refused_by error refusal may also is not_disk is_decided =
         discard_runs disk out number d d2 o o (Refused refusal) may
         (refused_run disk out (MakesDiscard number) (DecidesDiscard number) (discard_once number) d d2 o
@@ -378,7 +384,7 @@ module _ {D O : Type 0} (disk : DiskOf D) (out : SinkOf O) (number : ℕ) where
 
     -- no Discard was added
     pub not_added : (error : ShelfError) → answer ≡ Err error → IsDiscardError number (kept_by shelf) error
-        → RunsDiscard disk out number (cause_of error) d d2 o o
+        → RunsDiscard (outlets_of disk out) number (cause_of error) (outlets d o) (outlets d2 o)
     not_added Disk' is refusal =
         discard_runs disk out number d d2 o o (Failed Disk) tt
         (failed_run disk out (MakesDiscard number) (DecidesDiscard number) (discard_once number) d d1 d2 o shelf shelf2
@@ -387,7 +393,8 @@ module _ {D O : Type 0} (disk : DiskOf D) (out : SinkOf O) (number : ℕ) where
     not_added (NotEmpty' size) is refusal = absurd refusal
     not_added (Capacity' needed most) is refusal =
         let same : Capacity' needed most ≡ Capacity' needed there.capacity = ap (Capacity' needed) refusal.3 in
-        subst (λ (n : ℕ). RunsDiscard disk out number (Refused (Capacity needed n)) d d2 o o) (sym refusal.3)
+        subst (λ (n : ℕ). RunsDiscard (outlets_of disk out) number (Refused (Capacity needed n)) (outlets d o)
+        (outlets d2 o)) (sym refusal.3)
         (discard_runs disk out number d d2 o o (Refused (Capacity needed there.capacity)) tt
         (full_run disk out (MakesDiscard number) (DecidesDiscard number) (discard_once number) d d1 d2 o shelf shelf2
         (discard_addition number) refl ready answer discards.adds (decided (may_of refusal.0)) needed
@@ -430,7 +437,8 @@ module _ {D O : Type 0} (disk : DiskOf D) (out : SinkOf O) (number : ℕ) where
       ]
 
       -- and its line was put
-      pub told_line : (o2 : O) → Puts out (discard_line number) o o2 → RunsDiscard disk out number Done d d2 o o2
+      pub told_line : (o2 : O) → Puts out (discard_line number) o o2
+          → RunsDiscard (outlets_of disk out) number Done (outlets d o) (outlets d2 o2)
       told_line o2 puts =
           discard_runs disk out number d d2 o o2 Done tt
           (done_run disk out (MakesDiscard number) (DecidesDiscard number) (discard_once number) d d1 d2 o shelf shelf2
@@ -438,7 +446,7 @@ module _ {D O : Type 0} (disk : DiskOf D) (out : SinkOf O) (number : ℕ) where
 
       -- or it wasn't
       pub cut_line : (o2 : O) → PutFails out (discard_line number) o o2
-          → RunsDiscard disk out number (Failed Output) d d2 o o2
+          → RunsDiscard (outlets_of disk out) number (Failed Output) (outlets d o) (outlets d2 o2)
       cut_line o2 fails =
           discard_runs disk out number d d2 o o2 (Failed Output) tt
           (cut_run disk out (MakesDiscard number) (DecidesDiscard number) (discard_once number) d d1 d2 o shelf shelf2

@@ -43,12 +43,13 @@ use Rattle.lr_shelf.specs.declared.error.ShelfError.TheVariants.{
   Discarded as Discarded',
 }
 use Rattle.lr_causes.specs.declared.cause.Refusal.TheVariants.{NotAShelf, BadChecksum}
+use Rattle.lr_causes.specs.Outside.{outlet_counts, outlets, outlets_of}
 use Rattle.lr_causes.specs.declared.cause.Cause.{Cause}
 use Rattle.lr_commands.specs.declared.opened.Opened.{Opened}
 use Rattle.lr_commands.specs.Asked.{Asked, IsLooked, Seen, Whole, Wrong, Absent}
 use Rattle.lr_refusals.specs.Errors.{cause_of}
 use Rattle.lr_commands.specs.Files.{AskedOfFiles, asked_of_files, files_of}
-use Rattle.lr_commands.specs.Runs.{Counted, counts_of}
+use Rattle.lr_commands.specs.Runs.{Counted}
 use Rattle.lr_commands.specs.Steps.{PutsText, TextStops, TakesEntry, EntryStops}
 use Rattle.lr_commands.proofs.Texts.{same_counts, stops_seen}
 
@@ -91,7 +92,8 @@ module _ {D O : Type 0} (disk : DiskOf D) (out : SinkOf O) where
   -- a call on a shelf that works was refused, and `out` was left alone
   pub shelf_counted : (A : Type 0) (d d' : D) (o : O) (error : ShelfError) → (error ≡ Failed' → ⊥)
       → IsCounted {A = A} (disk.faults d) (disk.faults d') (Err error)
-      → Counted (cause_of error) (counts_of disk out d o) (counts_of disk out d' o)
+      → Counted (cause_of error) (outlet_counts (outlets_of disk out) (outlets d o))
+      (outlet_counts (outlets_of disk out) (outlets d' o))
   shelf_counted A d d' o Disk' works counted = (counted.1, refl, refl)
   shelf_counted A d d' o (NotAShelf' at) works counted = same_counts disk out d d' o o counted refl
   shelf_counted A d d' o (NotEmpty' size) works counted = same_counts disk out d d' o o counted refl
@@ -110,41 +112,42 @@ module _ {D O : Type 0} (disk : DiskOf D) (out : SinkOf O) (kept : Kept) (number
     failed_or_not failed = cc (works, failed)
 
   -- what is refused at an entry by every command, or else by what was found there
-  pub get_stops : (asked : Asked) (read : List Seen) (o : O) (error : ShelfError)
+  pub get_stops : (asked : Asked) (read : List Seen) (d' : D) (o : O) (error : ShelfError)
       → ((stored computed : ℕ) → error ≡ Crc' stored computed
       → asked.becomes read number (Wrong stored computed) ≡ Err BadChecksum)
       → (error ≡ Discarded' → ⊥) → IsGetRefusal disk kept number d error
-      → EntryStops disk out asked kept.way read number (cause_of error) d o o
-  get_stops asked read o Disk' bad stays refusal = refl
-  get_stops asked read o (NotAShelf' at) bad stays refusal = record {
+      → EntryStops (outlets_of disk out) asked kept.way read number (cause_of error) (outlets d o) (outlets d' o)
+  get_stops asked read d' o Disk' bad stays refusal = refl
+  get_stops asked read d' o (NotAShelf' at) bad stays refusal = record {
     seen = None;
     stands = refusal.1.1;
     stops = (ap (λ (n : ℕ). Err (NotAShelf n)) (sym refusal.1.0), refl);
   }
-  get_stops asked read o (NotEmpty' size) bad stays refusal = absurd refusal.1
-  get_stops asked read o (Capacity' needed most) bad stays refusal = absurd refusal.1
-  get_stops asked read o (NoSuchFile' count) bad stays refusal =
+  get_stops asked read d' o (NotEmpty' size) bad stays refusal = absurd refusal.1
+  get_stops asked read d' o (Capacity' needed most) bad stays refusal = absurd refusal.1
+  get_stops asked read d' o (NoSuchFile' count) bad stays refusal =
       absurd (omega (arith, there, refusal.1, refusal.2))
-  get_stops asked read o (Crc' stored computed) bad stays refusal = record {
+  get_stops asked read d' o (Crc' stored computed) bad stays refusal = record {
     seen = Some (Wrong stored computed);
     stands = refusal.1.1;
     stops = (bad stored computed refl, refl);
   }
-  get_stops asked read o NoMemory' bad stays refusal = refl
-  get_stops asked read o Failed' bad stays refusal = absurd (not_failed Failed' refusal refl)
-  get_stops asked read o Discarded' bad stays refusal = absurd (stays refl)
+  get_stops asked read d' o NoMemory' bad stays refusal = refl
+  get_stops asked read d' o Failed' bad stays refusal = absurd (not_failed Failed' refusal refl)
+  get_stops asked read d' o Discarded' bad stays refusal = absurd (stays refl)
 
   -- one that is gone
   pub found_gone : IsGetRefusal disk kept number d Discarded' → Finds disk (entry_of kept number) d (Some Gone)
   found_gone refusal t = refusal.2
 
-  module _ (asked : AskedOfFiles) (read : List Seen) (o o' : O) where
+  module _ (asked : AskedOfFiles) (read : List Seen) (d' : D) (o o' : O) where
     module _ (opened : Opened) (finds : Finds disk (entry_of kept number) d (Some (Sound opened.stored)))
         (looked : IsLooked (asked.looks opened.stored) opened.stored.file opened.image) where
       pub takes_file : (gathers : List Opened → Type 0)
           → PutsText out (asked.becomes (files_of read) number opened) o o'
           → gathers (files_of read ++ opened ∷ [])
-          → TakesEntry disk out (asked_of_files asked) kept.way read number (λ read'. gathers (files_of read')) d o o'
+          → TakesEntry (outlets_of disk out) (asked_of_files asked) kept.way read number
+          (λ read'. gathers (files_of read')) (outlets d o) (outlets d' o')
       takes_file gathers puts gathered = record {
         seen = Whole opened;
         stands = λ t. (finds t, looked);
@@ -153,14 +156,16 @@ module _ {D O : Type 0} (disk : DiskOf D) (out : SinkOf O) (kept : Kept) (number
       }
 
       pub stops_file : (cause : Cause) → TextStops out (asked.becomes (files_of read) number opened) cause o o'
-          → EntryStops disk out (asked_of_files asked) kept.way read number cause d o o'
-      stops_file = stops_seen disk out (asked_of_files asked) kept.way read number d o o' (Some (Whole opened))
+          → EntryStops (outlets_of disk out) (asked_of_files asked) kept.way read number cause (outlets d o)
+          (outlets d' o')
+      stops_file = stops_seen disk out (asked_of_files asked) kept.way read number d d' o o' (Some (Whole opened))
           (λ t. (finds t, looked))
 
     module _ (gone : IsGetRefusal disk kept number d Discarded') where
       pub takes_gone : (gathers : List Opened → Type 0) → PutsText out (asked.gone number) o o'
           → gathers (files_of read)
-          → TakesEntry disk out (asked_of_files asked) kept.way read number (λ read'. gathers (files_of read')) d o o'
+          → TakesEntry (outlets_of disk out) (asked_of_files asked) kept.way read number
+          (λ read'. gathers (files_of read')) (outlets d o) (outlets d' o')
       takes_gone gathers puts gathered = record {
         seen = Absent;
         stands = found_gone gone;
@@ -169,6 +174,7 @@ module _ {D O : Type 0} (disk : DiskOf D) (out : SinkOf O) (kept : Kept) (number
       }
 
       pub stops_gone : (cause : Cause) → TextStops out (asked.gone number) cause o o'
-          → EntryStops disk out (asked_of_files asked) kept.way read number cause d o o'
+          → EntryStops (outlets_of disk out) (asked_of_files asked) kept.way read number cause (outlets d o)
+          (outlets d' o')
       stops_gone =
-          stops_seen disk out (asked_of_files asked) kept.way read number d o o' (Some Absent) (found_gone gone)
+          stops_seen disk out (asked_of_files asked) kept.way read number d d' o o' (Some Absent) (found_gone gone)

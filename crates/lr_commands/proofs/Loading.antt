@@ -63,6 +63,7 @@ use Rattle.lr_commands.specs.Asked.{
   refused_answer,
 }
 use Rattle.lr_causes.specs.Causes.{Counts}
+use Rattle.lr_causes.specs.Outside.{outlet_counts, outlets, outlets_of}
 use Rattle.lr_refusals.specs.Errors.{cause_of}
 use Rattle.lr_commands.specs.Runs.{
   Counted,
@@ -74,7 +75,6 @@ use Rattle.lr_commands.specs.Runs.{
   RunsOver,
   at_place,
   cause_for,
-  counts_of,
 }
 use Rattle.lr_commands.proofs.Answering.{answer_is, begun_front}
 use Rattle.lr_commands.proofs.Texts.{same_counts}
@@ -87,7 +87,7 @@ some_after text one rest whole same some =
 module _ {D O : Type 0} (disk : DiskOf D) (out : SinkOf O) (asked : Asked) where
   -- what the bytes answer comes, unless an event came before it
   ends : (bytes : List ℕ) (o o' : O) (cause : Cause)
-      → Got disk out (IsAnswer asked bytes) (IsBegun asked bytes) cause o o' → (answer : Answer)
+      → Got out (IsAnswer asked bytes) (IsBegun asked bytes) cause o o' → (answer : Answer)
       → IsAnswer asked bytes answer → (cause ≡ cause_for answer.refusal answer.note) ⊎ Precedes cause answer
   ends bytes o o' Done got answer is =
       inl (ap (λ (a : Answer). cause_for a.refusal a.note)
@@ -116,13 +116,13 @@ module _ {D O : Type 0} (disk : DiskOf D) (out : SinkOf O) (asked : Asked) where
       (answer_is asked bytes (refused_answer got.first.text refusal) answer got.is is))
 
   pub over : (d d' : D) (o o' : O) (cause : Cause)
-      → RunsReading disk out asked (IsAnswer asked) (IsBegun asked) cause d d' o o'
-      → RunsOver disk out asked cause d d' o o'
+      → RunsReading (outlets_of disk out) asked (IsAnswer asked) (IsBegun asked) cause (outlets d o) (outlets d' o')
+      → RunsOver (outlets_of disk out) asked cause (outlets d o) (outlets d' o')
   over d d' o o' cause runs =
       record { runs = runs; ends = λ answer t. ends (disk.contents d) o o' cause (runs.got t) answer }
 
   -- nothing was put
-  nothing : (bytes : List ℕ) (o : O) → PutsFirst disk out (IsAnswer asked bytes) (IsBegun asked bytes) 1 o o
+  nothing : (bytes : List ℕ) (o : O) → PutsFirst out (IsAnswer asked bytes) (IsBegun asked bytes) 1 o o
   nothing bytes o = record {
     passed = 0;
     text = [];
@@ -131,7 +131,7 @@ module _ {D O : Type 0} (disk : DiskOf D) (out : SinkOf O) (asked : Asked) where
     untouched = λ none. refl;
   }
 
-  nothing_yet : (bytes : List ℕ) (o : O) → PutsFirst disk out (IsAnswer asked bytes) (IsBegun asked bytes) 0 o o
+  nothing_yet : (bytes : List ℕ) (o : O) → PutsFirst out (IsAnswer asked bytes) (IsBegun asked bytes) 0 o o
   nothing_yet bytes o = record {
     passed = 0;
     text = [];
@@ -143,7 +143,8 @@ module _ {D O : Type 0} (disk : DiskOf D) (out : SinkOf O) (asked : Asked) where
   -- memory was refused before the shelf was loaded
   pub not_started :
       ((x : D) (c : List ℕ) → disk.tells x → disk.left_since x (disk.moment x) c → disk.may_leave x c)
-      → (d : D) (o : O) → RunsReading disk out asked (IsAnswer asked) (IsBegun asked) NoMemory d d o o
+      → (d : D) (o : O)
+      → RunsReading (outlets_of disk out) asked (IsAnswer asked) (IsBegun asked) NoMemory (outlets d o) (outlets d o)
   not_started only_now d o = record {
     may = tt;
     counted = refl;
@@ -162,7 +163,8 @@ module _ {D O : Type 0} (disk : DiskOf D) (out : SinkOf O) (asked : Asked) where
 
     -- no shelf was loaded
     pub not_loaded : (error : ShelfError) → result ≡ Err error → IsLoadRefusal disk d error
-        → RunsReading disk out asked (IsAnswer asked) (IsBegun asked) (cause_of error) d d1 o o
+        → RunsReading (outlets_of disk out) asked (IsAnswer asked) (IsBegun asked) (cause_of error) (outlets d o)
+        (outlets d1 o)
     not_loaded Disk' is refusal = record {
       may = tt;
       counted = ((counted_load Disk' is).1, refl, refl);
@@ -233,8 +235,8 @@ module _ {D O : Type 0} (disk : DiskOf D) (out : SinkOf O) (asked : Asked) where
         first passed left text (inr begun) = inr (way, way_there t, begun)
 
         first_all : (left : ℕ) (o' : O)
-            → PutsFirst disk out (AnswersOn asked bytes way) (BegunBy asked bytes way) left o o'
-            → PutsFirst disk out (IsAnswer asked bytes) (IsBegun asked bytes) left o o'
+            → PutsFirst out (AnswersOn asked bytes way) (BegunBy asked bytes way) left o o'
+            → PutsFirst out (IsAnswer asked bytes) (IsBegun asked bytes) left o o'
         first_all left o' got = record {
           passed = got.passed;
           text = got.text;
@@ -252,8 +254,8 @@ module _ {D O : Type 0} (disk : DiskOf D) (out : SinkOf O) (asked : Asked) where
         next_all passed text (inr one) = inr (one.0, onto (done_answer text one.0) one.1)
 
         got_all : (cause : Cause) (o' : O)
-            → Got disk out (AnswersOn asked bytes way) (BegunBy asked bytes way) cause o o'
-            → Got disk out (IsAnswer asked bytes) (IsBegun asked bytes) cause o o'
+            → Got out (AnswersOn asked bytes way) (BegunBy asked bytes way) cause o o'
+            → Got out (IsAnswer asked bytes) (IsBegun asked bytes) cause o o'
         unfolding first_all
         got_all Done o' got = record {
           text = got.text;
@@ -285,11 +287,11 @@ module _ {D O : Type 0} (disk : DiskOf D) (out : SinkOf O) (asked : Asked) where
 
       -- a shelf was loaded, and its entries were run over
       pub loaded : (d2 : D) (o' : O) (cause : Cause)
-          → RunsOn disk out asked (kept_by shelf).way cause d1 d2 o o'
-          → RunsReading disk out asked (IsAnswer asked) (IsBegun asked) cause d d2 o o'
+          → RunsOn (outlets_of disk out) asked (kept_by shelf).way cause (outlets d1 o) (outlets d2 o')
+          → RunsReading (outlets_of disk out) asked (IsAnswer asked) (IsBegun asked) cause (outlets d o) (outlets d2 o')
       loaded d2 o' cause runs = record {
         may = runs.may;
-        counted = subst (λ (c : Counts). Counted cause c (counts_of disk out d2 o'))
+        counted = subst (λ (c : Counts). Counted cause c (outlet_counts (outlets_of disk out) (outlets d2 o')))
             (same_counts disk out d d1 o o counted_ok refl) runs.counted;
         told = λ t. runs.told (loads.calls.told t);
         told_by_out = runs.told_by_out;
@@ -297,7 +299,7 @@ module _ {D O : Type 0} (disk : DiskOf D) (out : SinkOf O) (asked : Asked) where
         got = λ t.
             got_all t cause o'
             (subst
-            (λ (b : List ℕ). Got disk out (AnswersOn asked b (kept_by shelf).way) (BegunBy asked b (kept_by shelf).way)
+            (λ (b : List ℕ). Got out (AnswersOn asked b (kept_by shelf).way) (BegunBy asked b (kept_by shelf).way)
             cause o o') (loads.unwritten t).contents (runs.got (loads.calls.told t)));
         untouched = runs.untouched;
       }

@@ -1,5 +1,5 @@
 -- What `repack N BLOCK` decides, and what it does by what its calls answered.
-use Rattle.std.proofs.Common.{◌≡◌, ◌⊎◌, ◌<◌, ◌≤◌, inl, inr, ℕ, Option, Some, None, Result, Ok, Err, IfErr, List}
+use Rattle.std.proofs.Common.{◌≡◌, ◌<◌, inl, inr, ℕ, Option, Some, None, Result, Ok, Err, List}
 use Rattle.std.proofs.Common.{IfOk, OnOk, length, refl, arith, ap, ◌∙◌, sym, subst}
 use Rattle.std.specs.Prelude.{option_map}
 use Rattle.std.proofs.lemmas.Bool.{cases_lt}
@@ -20,7 +20,7 @@ use Rattle.lr_rice_coder.specs.declared.fault.RepackFault.TheVariants as fault
 use Rattle.lr_rice_coder.specs.Refusals.{HasRepackFault}
 use Rattle.lr_rice_coder.proofs.OneRepack.{repacks_are_one}
 use Rattle.lr_shelf.specs.Append.{Appends, IsAppendRefusal, item_for}
-use Rattle.lr_shelf.specs.Asked.{IsAskable, entry_of}
+use Rattle.lr_shelf.specs.Asked.{IsAskable}
 use Rattle.lr_shelf.specs.Calls.{IsCounted}
 use Rattle.lr_shelf.specs.Kept.{Kept, kept_by}
 use Rattle.lr_shelf.specs.Read.{Finds, Gets, IsGetRefusal}
@@ -48,6 +48,7 @@ use Rattle.lr_causes.specs.declared.cause.Refusal.TheVariants.{Capacity, CannotE
 use Rattle.lr_causes.specs.declared.cause.Cause.{Cause}
 use Rattle.lr_causes.specs.declared.cause.Cause.TheVariants.{Done, Failed, NoMemory, Refused}
 use Rattle.lr_causes.specs.Causes.{Counts}
+use Rattle.lr_causes.specs.Outside.{outlet_counts, outlets, outlets_of}
 use Rattle.lr_refusals.specs.Errors.{cause_of}
 use Rattle.lr_commands.specs.Adding.{Addition, Fits, MayEndAdding, RunsAdding, way_added}
 use Rattle.lr_commands.specs.Asked.{entry_at}
@@ -63,7 +64,7 @@ use Rattle.lr_commands.specs.Repack.{
   repack_refusal,
 }
 use Rattle.lr_commands.specs.declared.repack.Repacked.{Repacked}
-use Rattle.lr_commands.specs.Runs.{Counted, counts_of}
+use Rattle.lr_commands.specs.Runs.{Counted}
 use Rattle.lr_commands.proofs.AddingRuns.{IsReady, earlier_run, refused_run, told_got, unwritten_got}
 use Rattle.lr_commands.proofs.AddingRuns.{cut_run, done_run, failed_run, full_run, no_memory_run}
 use Rattle.lr_commands.proofs.Filing.{shelf_counted}
@@ -128,7 +129,8 @@ may_refuse fault.NoMemory refusal names = cc (names)
 module _ {D O : Type 0} (disk : DiskOf D) (out : SinkOf O) (number block : ℕ) where
   abbrev pub RunsRepack : Cause → D → D → O → O → Type 0
   RunsRepack cause d d' o o' =
-      RunsAdding disk out (MakesRepacked number block) (DecidesRepack number block) d d' o o' cause
+      RunsAdding (outlets_of disk out) (MakesRepacked number block) (DecidesRepack number block) cause (outlets d o)
+      (outlets d' o')
 
   module _ (d d1 d2 : D) (o : O) (old new : Shelf) (result : Result Stored ShelfError) (ready : IsReady disk d d1 old)
       (gets : Gets disk number old new d1 d2 result) where
@@ -171,7 +173,7 @@ module _ {D O : Type 0} (disk : DiskOf D) (out : SinkOf O) (number block : ℕ) 
     not_read Disk' is refusal =
         earlier_run disk out (MakesRepacked number block) (DecidesRepack number block) (repack_once number block) d d2 o
         told_to unwritten_to (Failed Disk) tt
-        (subst (λ (c : Counts). Counted (Failed Disk) c (counts_of disk out d2 o))
+        (subst (λ (c : Counts). Counted (Failed Disk) c (outlet_counts (outlets_of disk out) (outlets d2 o)))
         (same_counts disk out d d1 o o ready.count refl)
         (shelf_counted disk out Stored d1 d2 o Disk' (λ same. cc (same)) (counted_at Disk' is)))
     not_read (NotAShelf' at) is refusal =

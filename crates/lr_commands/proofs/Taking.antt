@@ -34,7 +34,6 @@ use Rattle.lr_io.specs.Pieces.{PutsPart}
 use Rattle.lr_disk.specs.Reads.{IsUnwritten}
 use Rattle.lr_disk.specs.declared.disk.Disk.{Ghosts as DiskOf}
 use Rattle.lr_disk.proofs.Moments.{unwritten_joined, unwritten_yet}
-use Rattle.std.specs.List.{concat}
 use Rattle.lr_shelf_format.specs.Way.{Way}
 use Rattle.lr_causes.specs.declared.cause.Party.TheVariants.{Source, Disk, Output}
 use Rattle.lr_causes.specs.declared.cause.Refusal.{Refusal}
@@ -60,10 +59,10 @@ use Rattle.lr_commands.specs.Asked.{
   BegunBy,
 }
 use Rattle.lr_causes.specs.Causes.{Counts, done_with}
-use Rattle.lr_causes.specs.Puts.{Puts}
-use Rattle.lr_commands.specs.Runs.{Counted, PutsAll, PutsFirst, PutsRefused, PutsCut, Got, RunsOn, by_count, counts_of}
+use Rattle.lr_causes.specs.Outside.{outlet_counts, outlets, outlets_of}
+use Rattle.lr_commands.specs.Runs.{Counted, PutsAll, PutsFirst, PutsRefused, PutsCut, Got, RunsOn, by_count}
 use Rattle.lr_commands.specs.Steps.{PutsText, CutsText, TextStops, TakesEntry, EntryStops}
-use Rattle.lr_commands.specs.Read.{AreSeen, HasGathered, IsDone}
+use Rattle.lr_commands.specs.Read.{HasGathered, IsDone}
 use Rattle.lr_commands.proofs.Reading.{none_seen, one_more_seen, concat-push}
 use Rattle.lr_commands.specs.Reached.{SoFar}
 use Rattle.lr_commands.proofs.Answering.{
@@ -124,7 +123,7 @@ module _ {D O : Type 0} (disk : DiskOf D) (out : SinkOf O) (asked : Asked) (way 
       })
 
       -- nothing was put after them
-      pub first_put : (left : ℕ) → number + left ≤ range.to → o2 ≡ o1 → PutsFirst disk out IsOne IsFirst left o o2
+      pub first_put : (left : ℕ) → number + left ≤ range.to → o2 ≡ o1 → PutsFirst out IsOne IsFirst left o o2
       first_put left inside still = record {
         passed = number - range.from;
         text = so.text;
@@ -136,7 +135,7 @@ module _ {D O : Type 0} (disk : DiskOf D) (out : SinkOf O) (asked : Asked) (way 
       pub refused_put : (refusal : Refusal) → number ≤ range.to → o2 ≡ o1
           → AnswersFrom asked (disk.contents d) way (range.to - range.from) range.from []
           (refused_answer so.text refusal)
-          → PutsRefused disk out IsOne IsFirst refusal o o2
+          → PutsRefused out IsOne IsFirst refusal o o2
       unfolding first_put
       refused_put refusal inside still is = record {
         first = first_put 0 (omega (arith, inside)) still;
@@ -152,10 +151,10 @@ module _ {D O : Type 0} (disk : DiskOf D) (out : SinkOf O) (asked : Asked) (way 
       at_start seen stands t =
           subst (λ (b : List ℕ). IsSeen asked.looks b (entry_at way number) seen) (same t) (stands (told t))
 
-      pub so_more : (gathers' : List Seen → Type 0)
-          → TakesEntry disk out asked way so.read number gathers' d1 o1 o2
+      pub so_more : (gathers' : List Seen → Type 0) (d2 : D)
+          → TakesEntry (outlets_of disk out) asked way so.read number gathers' (outlets d1 o1) (outlets d2 o2)
           → SoFar disk out asked way range d o gathers' (number + 1) o2
-      so_more gathers' takes = record {
+      so_more gathers' d2 takes = record {
         read = so.read ++ takes.seen ∷ [];
         text = so.text ++ takes.puts.text;
         gathered = takes.gathered;
@@ -191,7 +190,7 @@ module _ {D O : Type 0} (disk : DiskOf D) (out : SinkOf O) (asked : Asked) (way 
         cut_here : (seen : Option Seen)
             → (disk.tells d1 → IsSeen asked.looks (disk.contents d1) (entry_at way number) seen)
             → CutsText out (fate_of asked way so.read number seen) o1 o2
-            → PutsCut disk out (IsOne t allowed) (IsFirst t allowed) o o2
+            → PutsCut out (IsOne t allowed) (IsFirst t allowed) o o2
         cut_here None stands cuts = absurd (no_text cuts.is) where
           no_text : {e : Refusal} → ◌≡◌ {A = Result (List ℕ) Refusal} (Err e) (Ok cuts.text) → ⊥
           no_text same = cc (same)
@@ -220,16 +219,17 @@ module _ {D O : Type 0} (disk : DiskOf D) (out : SinkOf O) (asked : Asked) (way 
               (cuts.fails.part (so.puts.told told_out));
         }
 
-        pub entry_got : (cause : Cause) → EntryStops disk out asked way so.read number cause d1 o1 o2
-            → Got disk out (IsOne t allowed) (IsFirst t allowed) cause o o2
-        entry_got Done stops = absurd stops.stops
-        entry_got (DoneWith note) stops = absurd stops.stops
-        entry_got Usage stops = absurd stops.stops
-        entry_got (Failed Source) stops = absurd stops.stops
-        entry_got (Failed Disk) stops = first_put t allowed 1 (omega (arith, more)) stops
-        entry_got (Failed Output) stops = cut_here stops.seen stops.stands stops.stops
-        entry_got NoMemory stops = first_put t allowed 0 (omega (arith, more)) stops
-        entry_got (Refused refusal) stops =
+        pub entry_got : (d2 : D) (cause : Cause)
+            → EntryStops (outlets_of disk out) asked way so.read number cause (outlets d1 o1) (outlets d2 o2)
+            → Got out (IsOne t allowed) (IsFirst t allowed) cause o o2
+        entry_got d2 Done stops = absurd stops.stops
+        entry_got d2 (DoneWith note) stops = absurd stops.stops
+        entry_got d2 Usage stops = absurd stops.stops
+        entry_got d2 (Failed Source) stops = absurd stops.stops
+        entry_got d2 (Failed Disk) stops = first_put t allowed 1 (omega (arith, more)) stops
+        entry_got d2 (Failed Output) stops = cut_here stops.seen stops.stands stops.stops
+        entry_got d2 NoMemory stops = first_put t allowed 0 (omega (arith, more)) stops
+        entry_got d2 (Refused refusal) stops =
             refused_put t allowed refusal (omega (arith, more)) stops.stops.1
             (refused_here asked (disk.contents d) way range.from number so.read so.text (so.reaches t) range.to more
             stops.seen refusal (at_start stops.seen stops.stands t) stops.stops.0)
@@ -245,7 +245,7 @@ module _ {D O : Type 0} (disk : DiskOf D) (out : SinkOf O) (asked : Asked) (way 
           last is
 
       pub last_put : PutsText out (asked.last way so.read) o1 o2
-          → PutsAll disk out (IsOne t allowed) (IsFirst t allowed) (asked.tells so.read) o o2
+          → PutsAll out (IsOne t allowed) (IsFirst t allowed) (asked.tells so.read) o o2
       last_put puts = record {
         text = so.text ++ puts.text;
         is = onto t allowed (then_rest so.text (answer_of (Ok puts.text) (asked.tells so.read)))
@@ -256,7 +256,7 @@ module _ {D O : Type 0} (disk : DiskOf D) (out : SinkOf O) (asked : Asked) (way 
       }
 
       pub last_got : (cause : Cause) → TextStops out (asked.last way so.read) cause o1 o2
-          → Got disk out (IsOne t allowed) (IsFirst t allowed) cause o o2
+          → Got out (IsOne t allowed) (IsFirst t allowed) cause o o2
       last_got Done stops = absurd stops
       last_got (DoneWith note) stops = absurd stops
       last_got Usage stops = absurd stops
@@ -292,7 +292,7 @@ module _ {D O : Type 0} (disk : DiskOf D) (out : SinkOf O) (asked : Asked) (way 
   pub not_allowed :
       ((x : D) (c : List ℕ) → disk.tells x → disk.left_since x (disk.moment x) c → disk.may_leave x c)
       → (count : ℕ) → count ≡ length way.entries → asked.range count ≡ None
-      → RunsOn disk out asked way (Refused (NoSuchFile count)) d d o o
+      → RunsOn (outlets_of disk out) asked way (Refused (NoSuchFile count)) (outlets d o) (outlets d o)
   not_allowed only_now count count_is none = record {
     may = by_count count none refl;
     counted = refl;
@@ -321,46 +321,50 @@ module _ {D O : Type 0} (disk : DiskOf D) (out : SinkOf O) (asked : Asked) (way 
       (gathers : List Seen → Type 0) (number : ℕ) (d1 : D) (o1 o2 : O)
       (so : SoFar disk out asked way range d o gathers number o1) (told : disk.tells d → disk.tells d1)
       (reads : disk.tells d → IsUnwritten disk d d1) (count : disk.faults d1 ≡ disk.faults d) where
-    same_here : counts_of disk out d1 o1 ≡ counts_of disk out d o
+    same_here : outlet_counts (outlets_of disk out) (outlets d1 o1) ≡ outlet_counts (outlets_of disk out) (outlets d o)
     same_here = same_counts disk out d d1 o o1 count so.puts.kept
 
     -- an entry was not taken
     pub entry_stopped : (d2 : D) → number < range.to → (disk.tells d1 → disk.tells d2)
         → (disk.tells d1 → IsUnwritten disk d1 d2) → (cause : Cause)
-        → EntryStops disk out asked way so.read number cause d1 o1 o2
-        → Counted cause (counts_of disk out d1 o1) (counts_of disk out d2 o2)
-        → RunsOn disk out asked way cause d d2 o o2
+        → EntryStops (outlets_of disk out) asked way so.read number cause (outlets d1 o1) (outlets d2 o2)
+        → Counted cause (outlet_counts (outlets_of disk out) (outlets d1 o1))
+        (outlet_counts (outlets_of disk out) (outlets d2 o2))
+        → RunsOn (outlets_of disk out) asked way cause (outlets d o) (outlets d2 o2)
     entry_stopped d2 more told2 unwritten cause stops counted = record {
-      may = entry_may disk out asked way so.read number d1 o1 o2 cause stops;
-      counted = subst (λ (c : Counts). Counted cause c (counts_of disk out d2 o2)) same_here counted;
+      may = entry_may disk out asked way so.read number d1 d2 o1 o2 cause stops;
+      counted =
+          subst (λ (c : Counts). Counted cause c (outlet_counts (outlets_of disk out) (outlets d2 o2))) same_here
+          counted;
       told = λ t. told2 (told t);
       told_by_out = λ t.
-          entry_told disk out asked way so.read number d1 o1 o2 cause stops (so.puts.told t);
+          entry_told disk out asked way so.read number d1 d2 o1 o2 cause stops (so.puts.told t);
       reads = λ t. unwritten_joined disk d d1 d2 (reads t) (unwritten (told t));
       got = λ t.
           entry_got disk out asked way range d o gathers number o1 o2 so more d1 told (λ t'. (reads t').contents)
-          allowed t cause stops;
+          allowed t d2 cause stops;
       untouched = λ one cuts.
-          entry_untouched disk out asked way so.read number d1 o1 o2 cause stops cuts
+          entry_untouched disk out asked way so.read number d1 d2 o1 o2 cause stops cuts
           ∙ so.untouched (omega (arith, so.after, more, one.one (length way.entries) range allowed));
     }
 
     -- the last text was put, and this is told beside it
     module _ (inside : number ≤ range.to) (all : range.to ≤ number)
         (puts : PutsText out (asked.last way so.read) o1 o2) where
-      counts_stay : counts_of disk out d1 o2 ≡ counts_of disk out d o
+      counts_stay : outlet_counts (outlets_of disk out) (outlets d1 o2)
+          ≡ outlet_counts (outlets_of disk out) (outlets d o)
       counts_stay = same_counts disk out d d1 o o2 count (puts.puts.kept ∙ so.puts.kept)
 
       put_so : (t : disk.tells d) → (noted : Option Note) → noted ≡ asked.tells so.read
-          → PutsAll disk out (AnswersOn asked (disk.contents d) way) (BegunBy asked (disk.contents d) way) noted o o2
+          → PutsAll out (AnswersOn asked (disk.contents d) way) (BegunBy asked (disk.contents d) way) noted o o2
       put_so t noted is =
           subst
-          (λ (n : Option Note). PutsAll disk out (AnswersOn asked (disk.contents d) way)
+          (λ (n : Option Note). PutsAll out (AnswersOn asked (disk.contents d) way)
           (BegunBy asked (disk.contents d) way) n o o2) (sym is)
           (last_put disk out asked way range d o gathers number o1 o2 so inside all allowed t puts)
 
       pub last_taken : (note : Option Note) → note ≡ asked.tells so.read
-          → RunsOn disk out asked way (done_with note) d d1 o o2
+          → RunsOn (outlets_of disk out) asked way (done_with note) (outlets d o) (outlets d1 o2)
       last_taken None is = record {
         may = tt;
         counted = counts_stay;
@@ -406,10 +410,10 @@ module _ {D O : Type 0} (disk : DiskOf D) (out : SinkOf O) (asked : Asked) (way 
     -- or it was not
     pub last_stopped : number ≤ range.to → range.to ≤ number → (cause : Cause)
         → TextStops out (asked.last way so.read) cause o1 o2 → (asked.last way so.read ≡ Ok [] → ⊥)
-        → RunsOn disk out asked way cause d d1 o o2
+        → RunsOn (outlets_of disk out) asked way cause (outlets d o) (outlets d1 o2)
     last_stopped inside all cause stops some = record {
       may = last_may disk out asked way so.read o1 o2 cause stops;
-      counted = subst (λ (c : Counts). Counted cause c (counts_of disk out d1 o2)) same_here
+      counted = subst (λ (c : Counts). Counted cause c (outlet_counts (outlets_of disk out) (outlets d1 o2))) same_here
           (text_counted disk out (asked.last way so.read) d1 d1 o1 o2 refl cause stops);
       told = told;
       told_by_out = λ t. text_told disk out (asked.last way so.read) o1 o2 cause stops (so.puts.told t);
@@ -430,11 +434,11 @@ module _ {D O : Type 0} (disk : DiskOf D) (out : SinkOf O) where
   text_undone fate o o' NoMemory stops done = done
   text_undone fate o o' (Refused refusal) stops done = done
 
-  pub entry_undone : (asked : Asked) (way : Way) (read : List Seen) (number : ℕ) (d : D) (o o' : O) (cause : Cause)
-      → EntryStops disk out asked way read number cause d o o' → IsDone cause → ⊥
-  entry_undone asked way read number d o o' Done stops done = stops.stops
-  entry_undone asked way read number d o o' (DoneWith note) stops done = stops.stops
-  entry_undone asked way read number d o o' Usage stops done = done
-  entry_undone asked way read number d o o' (Failed party) stops done = done
-  entry_undone asked way read number d o o' NoMemory stops done = done
-  entry_undone asked way read number d o o' (Refused refusal) stops done = done
+  pub entry_undone : (asked : Asked) (way : Way) (read : List Seen) (number : ℕ) (d d' : D) (o o' : O) (cause : Cause)
+      → EntryStops (outlets_of disk out) asked way read number cause (outlets d o) (outlets d' o') → IsDone cause → ⊥
+  entry_undone asked way read number d d' o o' Done stops done = stops.stops
+  entry_undone asked way read number d d' o o' (DoneWith note) stops done = stops.stops
+  entry_undone asked way read number d d' o o' Usage stops done = done
+  entry_undone asked way read number d d' o o' (Failed party) stops done = done
+  entry_undone asked way read number d d' o o' NoMemory stops done = done
+  entry_undone asked way read number d d' o o' (Refused refusal) stops done = done

@@ -4,6 +4,7 @@ use Rattle.std.proofs.Common.{ap, subst, ◌∙◌}
 use Rattle.lr_io.specs.declared.sink.Sink.{Ghosts as SinkOf}
 use Rattle.lr_disk.specs.declared.disk.Disk.{Ghosts as DiskOf}
 use Rattle.lr_shelf_format.specs.Way.{Way}
+use Rattle.lr_causes.specs.Outside.{outlet_counts, outlets, outlets_of}
 use Rattle.lr_causes.specs.declared.cause.Party.TheVariants.{Source, Disk, Output}
 use Rattle.lr_causes.specs.declared.cause.Refusal.{Refusal}
 use Rattle.lr_causes.specs.declared.cause.Refusal.TheVariants.{NotAShelf}
@@ -11,7 +12,7 @@ use Rattle.lr_causes.specs.declared.cause.Cause.{Cause}
 use Rattle.lr_causes.specs.declared.cause.Cause.TheVariants.{Done, DoneWith, Usage, Failed, NoMemory, Refused}
 use Rattle.lr_commands.specs.Asked.{Asked, IsSeen, Seen, entry_at, fate_of}
 use Rattle.lr_commands.proofs.Answering.{err_is}
-use Rattle.lr_commands.specs.Runs.{Counted, CutsNothing, MayCause, MayRefuse, at_place, at_entry, at_end, counts_of}
+use Rattle.lr_commands.specs.Runs.{Counted, CutsNothing, MayCause, MayRefuse, at_place, at_entry, at_end}
 use Rattle.lr_commands.specs.Steps.{TextStops, EntryStops}
 
 pub on_both : {T E A B C : Type 0} (r : Result T E) → (A → B → C) → OnOk r A → OnOk r B → OnOk r C
@@ -48,7 +49,7 @@ on_sure (Err e) f p sure = f e p sure
 
 module _ {D O : Type 0} (disk : DiskOf D) (out : SinkOf O) where
   pub same_counts : (d d1 : D) (o o1 : O) → disk.faults d1 ≡ disk.faults d → out.faults o1 ≡ out.faults o
-      → counts_of disk out d1 o1 ≡ counts_of disk out d o
+      → outlet_counts (outlets_of disk out) (outlets d1 o1) ≡ outlet_counts (outlets_of disk out) (outlets d o)
   same_counts d d1 o o1 first second =
       ap (λ (n : ℕ). record { source = 0; disk = n; output = out.faults o1 }) first
       ∙ ap (λ (n : ℕ). record { source = 0; disk = disk.faults d; output = n }) second
@@ -56,7 +57,8 @@ module _ {D O : Type 0} (disk : DiskOf D) (out : SinkOf O) where
   -- where a text was not put, nobody failed but `out`
   module _ (fate : Result (List ℕ) Refusal) (d d' : D) (o o' : O) (same : disk.faults d' ≡ disk.faults d) where
     pub text_counted : (cause : Cause) → TextStops out fate cause o o'
-        → Counted cause (counts_of disk out d o) (counts_of disk out d' o')
+        → Counted cause (outlet_counts (outlets_of disk out) (outlets d o))
+        (outlet_counts (outlets_of disk out) (outlets d' o'))
     text_counted Done stops = absurd stops
     text_counted (DoneWith note) stops = absurd stops
     text_counted Usage stops = absurd stops
@@ -85,7 +87,7 @@ module _ {D O : Type 0} (disk : DiskOf D) (out : SinkOf O) where
   last_may asked way read o o' NoMemory stops = tt
   last_may asked way read o o' (Refused refusal) stops = at_end way read stops.0
 
-  module _ (asked : Asked) (way : Way) (read : List Seen) (number : ℕ) (d : D) (o o' : O) where
+  module _ (asked : Asked) (way : Way) (read : List Seen) (number : ℕ) (d d' : D) (o o' : O) where
     entry_refused : (seen : Option Seen) (refusal : Refusal) → fate_of asked way read number seen ≡ Err refusal
         → MayRefuse asked refusal
     entry_refused None refusal fate =
@@ -93,7 +95,9 @@ module _ {D O : Type 0} (disk : DiskOf D) (out : SinkOf O) where
         (err_is (fate_of asked way read number None) refusal (NotAShelf (entry_at way number).gate) fate refl)
     entry_refused (Some seen) refusal fate = at_entry read number seen fate
 
-    pub entry_may : (cause : Cause) → EntryStops disk out asked way read number cause d o o' → MayCause asked cause
+    pub entry_may : (cause : Cause)
+        → EntryStops (outlets_of disk out) asked way read number cause (outlets d o) (outlets d' o')
+        → MayCause asked cause
     entry_may Done stops = absurd stops.stops
     entry_may (DoneWith note) stops = absurd stops.stops
     entry_may Usage stops = absurd stops.stops
@@ -103,7 +107,8 @@ module _ {D O : Type 0} (disk : DiskOf D) (out : SinkOf O) where
     entry_may NoMemory stops = tt
     entry_may (Refused refusal) stops = entry_refused stops.seen refusal stops.stops.0
 
-    pub entry_untouched : (cause : Cause) → EntryStops disk out asked way read number cause d o o' → CutsNothing cause
+    pub entry_untouched : (cause : Cause)
+        → EntryStops (outlets_of disk out) asked way read number cause (outlets d o) (outlets d' o') → CutsNothing cause
         → o' ≡ o
     entry_untouched Done stops cuts = absurd cuts
     entry_untouched (DoneWith note) stops cuts = absurd cuts
@@ -115,7 +120,8 @@ module _ {D O : Type 0} (disk : DiskOf D) (out : SinkOf O) where
     entry_untouched (Refused refusal) stops cuts = stops.stops.1
 
     -- a sink still tells what it holds
-    pub entry_told : (cause : Cause) → EntryStops disk out asked way read number cause d o o' → out.tells o
+    pub entry_told : (cause : Cause)
+        → EntryStops (outlets_of disk out) asked way read number cause (outlets d o) (outlets d' o') → out.tells o
         → out.tells o'
     entry_told (Failed Disk) stops t = subst (λ (x : O). out.tells x) (sym stops) t
     entry_told (Failed Output) stops t = stops.stops.fails.told t
@@ -130,7 +136,7 @@ module _ {D O : Type 0} (disk : DiskOf D) (out : SinkOf O) where
     pub stops_seen : (seen : Option Seen)
         → (disk.tells d → IsSeen asked.looks (disk.contents d) (entry_at way number) seen) → (cause : Cause)
         → TextStops out (fate_of asked way read number seen) cause o o'
-        → EntryStops disk out asked way read number cause d o o'
+        → EntryStops (outlets_of disk out) asked way read number cause (outlets d o) (outlets d' o')
     stops_seen seen stands Done stops = absurd stops
     stops_seen seen stands (DoneWith note) stops = absurd stops
     stops_seen seen stands Usage stops = absurd stops

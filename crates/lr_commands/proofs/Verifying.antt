@@ -19,6 +19,7 @@ use Rattle.lr_shelf.specs.declared.error.ShelfError.TheVariants.{
 }
 use Rattle.lr_catalog.specs.Discards.{gone_line}
 use Rattle.lr_catalog.specs.Files.{check_line}
+use Rattle.lr_causes.specs.Outside.{outlets, outlets_of}
 use Rattle.lr_causes.specs.declared.cause.Cause.{Cause}
 use Rattle.lr_commands.specs.declared.opened.Opened.{Opened}
 use Rattle.lr_commands.specs.Asked.{Seen, Whole, Wrong, Absent, plain}
@@ -57,13 +58,15 @@ check_refusal disk kept number d NoMemory' refusal = absurd refusal
 check_refusal disk kept number d Failed' refusal = refusal
 check_refusal disk kept number d Discarded' refusal = refusal
 
-module _ {D O : Type 0} (disk : DiskOf D) (out : SinkOf O) (kept : Kept) (read : List Seen) (number : ℕ) (d : D)
+module _ {D O : Type 0} (disk : DiskOf D) (out : SinkOf O) (kept : Kept) (read : List Seen) (number : ℕ) (d d' : D)
     (o o' : O) where
   abbrev Takes : Bool → Type 0
-  Takes sound = TakesEntry disk out verify_asked kept.way read number (λ read'. sound ≡ none_bad read') d o o'
+  Takes sound =
+      TakesEntry (outlets_of disk out) verify_asked kept.way read number (λ read'. sound ≡ none_bad read')
+      (outlets d o) (outlets d' o')
 
   abbrev Stops : Cause → Type 0
-  Stops cause = EntryStops disk out verify_asked kept.way read number cause d o o'
+  Stops cause = EntryStops (outlets_of disk out) verify_asked kept.way read number cause (outlets d o) (outlets d' o')
 
   module _ (right : FindsFile disk (entry_of kept number) d) where
     pub takes_right : (sound : Bool) → sound ≡ none_bad read → PutsText out (Ok (check_line number None)) o o'
@@ -77,7 +80,7 @@ module _ {D O : Type 0} (disk : DiskOf D) (out : SinkOf O) (kept : Kept) (read :
 
     pub stops_right : (cause : Cause) → TextStops out (Ok (check_line number None)) cause o o' → Stops cause
     stops_right =
-        stops_seen disk out verify_asked kept.way read number d o o' (Some (plain right.0)) (λ t. (right.1 t, tt))
+        stops_seen disk out verify_asked kept.way read number d d' o o' (Some (plain right.0)) (λ t. (right.1 t, tt))
 
   module _ (stored computed : ℕ) (wrong : IsCheckRefusal disk kept number d (Crc' stored computed)) where
     pub takes_wrong : PutsText out (Ok (check_line number (Some (stored, computed)))) o o' → Takes false
@@ -91,7 +94,7 @@ module _ {D O : Type 0} (disk : DiskOf D) (out : SinkOf O) (kept : Kept) (read :
     pub stops_wrong : (cause : Cause) → TextStops out (Ok (check_line number (Some (stored, computed)))) cause o o'
         → Stops cause
     stops_wrong =
-        stops_seen disk out verify_asked kept.way read number d o o' (Some (Wrong stored computed)) wrong.1.1
+        stops_seen disk out verify_asked kept.way read number d d' o o' (Some (Wrong stored computed)) wrong.1.1
 
   module _ (gone : IsCheckRefusal disk kept number d Discarded') where
     pub takes_gone : (sound : Bool) → sound ≡ none_bad read → PutsText out (Ok (gone_line number)) o o' → Takes sound
@@ -103,4 +106,4 @@ module _ {D O : Type 0} (disk : DiskOf D) (out : SinkOf O) (kept : Kept) (read :
     }
 
     pub stops_gone : (cause : Cause) → TextStops out (Ok (gone_line number)) cause o o' → Stops cause
-    stops_gone = stops_seen disk out verify_asked kept.way read number d o o' (Some Absent) (λ t. gone.2)
+    stops_gone = stops_seen disk out verify_asked kept.way read number d d' o o' (Some Absent) (λ t. gone.2)

@@ -1,10 +1,8 @@
 -- Commands that add an item to a shelf: what they decide of its bytes, what is put once the item stands, and what
 -- becomes of the disk.
 use Rattle.std.specs.Prelude.{◌≡◌, ◌⊎◌, ◌<◌, ◌≤◌, ℕ, min, Result, Ok, Err, List, [], ◌∷◌, ◌++◌}
-use Rattle.lr_io.specs.declared.sink.Sink.{Ghosts as SinkOf}
 use Rattle.lr_disk.specs.Disk.{LeavesOnly, Only}
 use Rattle.lr_disk.specs.Reads.{IsUnwritten}
-use Rattle.lr_disk.specs.declared.disk.Disk.{Ghosts as DiskOf}
 use Rattle.lr_shelf_format.specs.Items.{Item, head_of_item}
 use Rattle.lr_shelf_format.specs.ShelfBytes.{StandsForShelf}
 use Rattle.lr_shelf_format.specs.Way.{Way, IsWay, IsNoShelfAt, way_with}
@@ -15,8 +13,9 @@ use Rattle.lr_causes.specs.declared.cause.Refusal.TheVariants.{NotAShelf, Capaci
 use Rattle.lr_causes.specs.declared.cause.Cause.{Cause}
 use Rattle.lr_causes.specs.declared.cause.Cause.TheVariants.{Done, Failed, NoMemory, Refused}
 use Rattle.lr_causes.specs.Causes.{IsEarlier}
+use Rattle.lr_causes.specs.Outside.{Outlets, OutletsOf, outlet_counts}
 use Rattle.lr_causes.specs.Puts.{Puts, PutFails}
-use Rattle.lr_commands.specs.Runs.{Counted, counts_of}
+use Rattle.lr_commands.specs.Runs.{Counted}
 
 -- an item that is added, and the text that tells it then
 pub record Addition : Type 0 where
@@ -90,62 +89,69 @@ IsAdded _ = ⊥
 
 -- ---- a run
 
-module _ {D O : Type 0} (disk : DiskOf D) (out : SinkOf O) (makes : Addition → Type 0)
-    (decides : List ℕ → Way → Result Addition Refusal → Type 0) (d d' : D) (o o' : O) where
+module _ {D O : Type 0} (world : OutletsOf D O) (makes : Addition → Type 0)
+    (decides : List ℕ → Way → Result Addition Refusal → Type 0) where
   -- the item was added, and its text was put in this manner
-  pub record AddsItem (IsPut : List ℕ → O → O → Type 0) : Type 0 where
+  pub record AddsItem (IsPut : List ℕ → O → O → Type 0) (w w' : Outlets D O) : Type 0 where
     pub addition : Addition
     pub made : makes addition
-    pub decided : disk.tells d → MayAdd decides (disk.contents d) addition
-    pub put : IsPut addition.text o o'
+    pub decided : world.disk.tells w.disk → MayAdd decides (world.disk.contents w.disk) addition
+    pub put : IsPut addition.text w.out w'.out
     -- over every disk that has a way, whatever its items hold, and over a shelf of these items
-    pub way : (way : Way) → disk.tells d → IsWay (disk.contents d) way
-        → IsWay (disk.contents d') (way_added addition.item way) × Only (disk.contents d') (disk.may_leave d')
-    pub stands : (capacity : ℕ) (items : List Item) → disk.tells d → IsDurable disk capacity items d
-        → IsDurable disk capacity (items ++ addition.item ∷ []) d'
+    pub way : (way : Way) → world.disk.tells w.disk → IsWay (world.disk.contents w.disk) way
+        → IsWay (world.disk.contents w'.disk) (way_added addition.item way)
+        × Only (world.disk.contents w'.disk) (world.disk.may_leave w'.disk)
+    pub stands : (capacity : ℕ) (items : List Item) → world.disk.tells w.disk
+        → IsDurable world.disk capacity items w.disk
+        → IsDurable world.disk capacity (items ++ addition.item ∷ []) w'.disk
 
   -- the disk failed while the item was added: it is there, or it isn't
-  pub record MayHaveAdded : Type 0 where
+  pub record MayHaveAdded (w w' : Outlets D O) : Type 0 where
     pub addition : Addition
     pub made : makes addition
-    pub decided : disk.tells d → MayAdd decides (disk.contents d) addition
-    pub way : (way : Way) → disk.tells d → IsWay (disk.contents d) way
-        → HasEitherWay way addition.item (disk.contents d')
-    pub stands : (capacity : ℕ) (items : List Item) → disk.tells d → IsDurable disk capacity items d
-        → StandsForEither capacity items addition.item (disk.contents d')
-        × ((c : List ℕ) → disk.may_leave d' c → StandsForEither capacity items addition.item c)
+    pub decided : world.disk.tells w.disk → MayAdd decides (world.disk.contents w.disk) addition
+    pub way : (way : Way) → world.disk.tells w.disk → IsWay (world.disk.contents w.disk) way
+        → HasEitherWay way addition.item (world.disk.contents w'.disk)
+    pub stands : (capacity : ℕ) (items : List Item) → world.disk.tells w.disk
+        → IsDurable world.disk capacity items w.disk
+        → StandsForEither capacity items addition.item (world.disk.contents w'.disk)
+        × ((c : List ℕ) → world.disk.may_leave w'.disk c → StandsForEither capacity items addition.item c)
 
   -- nothing was put, and nothing was written
-  pub record DoesNothing : Type 0 where
-    pub silent : o' ≡ o
-    pub unwritten : disk.tells d → IsUnwritten disk d d'
+  pub record DoesNothing (w w' : Outlets D O) : Type 0 where
+    pub silent : w'.out ≡ w.out
+    pub unwritten : world.disk.tells w.disk → IsUnwritten world.disk w.disk w'.disk
 
   -- what stands at the return, for each cause
-  abbrev pub LeavesAdding : Cause → Type 0
-  LeavesAdding Done = AddsItem (Puts out)
-  LeavesAdding (Failed Output) = AddsItem (PutFails out)
-  LeavesAdding (Failed Disk) = DoesNothing ⊎ ((o' ≡ o) × MayHaveAdded)
-  LeavesAdding NoMemory = DoesNothing
-  LeavesAdding (Refused refusal) = DoesNothing
-  LeavesAdding _ = ⊥
+  abbrev pub LeavesAdding : Cause → Outlets D O → Outlets D O → Type 0
+  LeavesAdding Done w w' = AddsItem (Puts world.out) w w'
+  LeavesAdding (Failed Output) w w' = AddsItem (PutFails world.out) w w'
+  LeavesAdding (Failed Disk) w w' = DoesNothing w w' ⊎ ((w'.out ≡ w.out) × MayHaveAdded w w')
+  LeavesAdding NoMemory w w' = DoesNothing w w'
+  LeavesAdding (Refused refusal) w w' = DoesNothing w w'
+  LeavesAdding _ w w' = ⊥
 
-  pub record RunsAdding (cause : Cause) : Type 0 where
+  pub record RunsAdding (cause : Cause) (w w' : Outlets D O) : Type 0 where
     pub may : MayEndAdding cause
-    pub counted : Counted cause (counts_of disk out d o) (counts_of disk out d' o')
-    pub told : disk.tells d → disk.tells d'
-    pub told_by_out : out.tells o → out.tells o'
-    pub leaves : LeavesAdding cause
+    pub counted : Counted cause (outlet_counts world w) (outlet_counts world w')
+    pub told : world.disk.tells w.disk → world.disk.tells w'.disk
+    pub told_by_out : world.out.tells w.out → world.out.tells w'.out
+    pub leaves : LeavesAdding cause w w'
     -- a refusal comes exactly where it stands, unless the disk failed or memory was refused; the item is added exactly
     -- where none stands
-    pub refused : (refusal : Refusal) → cause ≡ Refused refusal → disk.tells d
-        → IsAddingRefused decides (disk.contents d) refusal
-    pub refuses : (refusal : Refusal) → disk.tells d → IsAddingRefused decides (disk.contents d) refusal
+    pub refused : (refusal : Refusal) → cause ≡ Refused refusal → world.disk.tells w.disk
+        → IsAddingRefused decides (world.disk.contents w.disk) refusal
+    pub refuses : (refusal : Refusal) → world.disk.tells w.disk
+        → IsAddingRefused decides (world.disk.contents w.disk) refusal
         → (cause ≡ Refused refusal) ⊎ IsEarlier cause
-    pub adds : (addition : Addition) → disk.tells d → MayAdd decides (disk.contents d) addition
-        → IsAdded cause ⊎ IsEarlier cause
+    pub adds : (addition : Addition) → world.disk.tells w.disk
+        → MayAdd decides (world.disk.contents w.disk) addition → IsAdded cause ⊎ IsEarlier cause
     -- with nothing pending, what a stop at any moment leaves
-    pub way_any_moment : (way : Way) → disk.tells d → IsWay (disk.contents d) way
-        → Only (disk.contents d) (disk.may_leave d)
-        → LeavesOnly disk.moment disk.left_since d d' (HasWayOrOneMore decides (disk.contents d) way)
-    pub any_moment : (capacity : ℕ) (items : List Item) → disk.tells d → IsDurable disk capacity items d
-        → LeavesOnly disk.moment disk.left_since d d' (StandsForOneMore decides (disk.contents d) capacity items)
+    pub way_any_moment : (way : Way) → world.disk.tells w.disk → IsWay (world.disk.contents w.disk) way
+        → Only (world.disk.contents w.disk) (world.disk.may_leave w.disk)
+        → LeavesOnly world.disk.moment world.disk.left_since w.disk w'.disk
+        (HasWayOrOneMore decides (world.disk.contents w.disk) way)
+    pub any_moment : (capacity : ℕ) (items : List Item) → world.disk.tells w.disk
+        → IsDurable world.disk capacity items w.disk
+        → LeavesOnly world.disk.moment world.disk.left_since w.disk w'.disk
+        (StandsForOneMore decides (world.disk.contents w.disk) capacity items)

@@ -17,8 +17,9 @@ use Rattle.lr_causes.specs.declared.cause.Cause.TheVariants.{Done, Failed, NoMem
 use Rattle.lr_commands.specs.Adding.{Addition}
 use Rattle.lr_commands.specs.Asked.{entry_at}
 use Rattle.lr_causes.specs.Causes.{IsEarlier}
+use Rattle.lr_causes.specs.Outside.{Outlets, OutletsOf, outlet_counts}
 use Rattle.lr_causes.specs.Puts.{Puts, PutFails}
-use Rattle.lr_commands.specs.Runs.{Counted, counts_of}
+use Rattle.lr_commands.specs.Runs.{Counted}
 
 -- ---- what it is refused for
 
@@ -125,32 +126,38 @@ module _ {D : Type 0} (disk : DiskOf D) (number : ℕ) where
 
 -- ---- a run
 
-pub record RunsDiscard {D O : Type 0} (disk : DiskOf D) (out : SinkOf O) (number : ℕ) (cause : Cause) (d d' : D)
-    (o o' : O) : Type 0 where
+pub record RunsDiscard {D O : Type 0} (world : OutletsOf D O) (number : ℕ) (cause : Cause)
+    (w w' : Outlets D O) : Type 0 where
   pub may : MayEnd cause
-  pub counted : Counted cause (counts_of disk out d o) (counts_of disk out d' o')
-  pub got : GotLine out number cause o o'
+  pub counted : Counted cause (outlet_counts world w) (outlet_counts world w')
+  pub got : GotLine world.out number cause w.out w'.out
   -- a refusal comes exactly where it stands, unless the disk failed or memory was refused; the entry is discarded
   -- exactly where none stands
-  pub refused : (refusal : Refusal) → cause ≡ Refused refusal → disk.tells d
-      → IsDiscardRefusal number (disk.contents d) refusal
-  pub refuses : (refusal : Refusal) → disk.tells d → IsDiscardRefusal number (disk.contents d) refusal
+  pub refused : (refusal : Refusal) → cause ≡ Refused refusal → world.disk.tells w.disk
+      → IsDiscardRefusal number (world.disk.contents w.disk) refusal
+  pub refuses : (refusal : Refusal) → world.disk.tells w.disk
+      → IsDiscardRefusal number (world.disk.contents w.disk) refusal
       → (cause ≡ Refused refusal) ⊎ IsEarlier cause
-  pub discarded : IsDiscarded cause → disk.tells d
-      → (way : Way) × IsWay (disk.contents d) way × IsFree number way
-  pub discards : (way : Way) → disk.tells d → IsWay (disk.contents d) way → IsFree number way
-      → IsDiscarded cause ⊎ IsEarlier cause
+  pub discarded : IsDiscarded cause → world.disk.tells w.disk
+      → (way : Way) × IsWay (world.disk.contents w.disk) way × IsFree number way
+  pub discards : (way : Way) → world.disk.tells w.disk → IsWay (world.disk.contents w.disk) way
+      → IsFree number way → IsDiscarded cause ⊎ IsEarlier cause
   -- the disk: where something is refused, or memory is, nothing is written
-  pub told : disk.tells d → disk.tells d'
-  pub unwritten : WritesNothing cause → disk.tells d → IsUnwritten disk d d'
+  pub told : world.disk.tells w.disk → world.disk.tells w'.disk
+  pub unwritten : WritesNothing cause → world.disk.tells w.disk → IsUnwritten world.disk w.disk w'.disk
   -- over every disk that has a way, whatever its items hold: what is there at the return, and, with nothing pending,
   -- what a stop at any moment leaves
-  pub way : (way : Way) → disk.tells d → IsWay (disk.contents d) way → LeavesWay disk number way cause d'
-  pub way_any_moment : (way : Way) → disk.tells d → IsWay (disk.contents d) way
-      → Only (disk.contents d) (disk.may_leave d)
-      → LeavesOnly disk.moment disk.left_since d d' (HasEitherWay way (discard_item number))
+  pub way : (way : Way) → world.disk.tells w.disk → IsWay (world.disk.contents w.disk) way
+      → LeavesWay world.disk number way cause w'.disk
+  pub way_any_moment : (way : Way) → world.disk.tells w.disk → IsWay (world.disk.contents w.disk) way
+      → Only (world.disk.contents w.disk) (world.disk.may_leave w.disk)
+      → LeavesOnly world.disk.moment world.disk.left_since w.disk w'.disk
+      (HasEitherWay way (discard_item number))
   -- over a shelf of these items with nothing pending: what is there at the return, and what a stop at any moment leaves
-  pub leaves : (capacity : ℕ) (items : List Item) → disk.tells d → IsDurable disk capacity items d
-      → Leaves disk number capacity items cause d'
-  pub any_moment : (capacity : ℕ) (items : List Item) → disk.tells d → IsDurable disk capacity items d
-      → LeavesOnly disk.moment disk.left_since d d' (StandsForEither capacity items (discard_item number))
+  pub leaves : (capacity : ℕ) (items : List Item) → world.disk.tells w.disk
+      → IsDurable world.disk capacity items w.disk
+      → Leaves world.disk number capacity items cause w'.disk
+  pub any_moment : (capacity : ℕ) (items : List Item) → world.disk.tells w.disk
+      → IsDurable world.disk capacity items w.disk
+      → LeavesOnly world.disk.moment world.disk.left_since w.disk w'.disk
+      (StandsForEither capacity items (discard_item number))

@@ -4,7 +4,6 @@ use Rattle.lr_bits.specs.Faults.{Rose}
 use Rattle.lr_io.specs.declared.sink.Sink.{Ghosts as SinkOf}
 use Rattle.lr_io.specs.Pieces.{PutsPart}
 use Rattle.lr_disk.specs.Reads.{IsUnwritten}
-use Rattle.lr_disk.specs.declared.disk.Disk.{Ghosts as DiskOf}
 use Rattle.lr_causes.specs.declared.cause.Party.TheVariants.{Source, Disk, Output}
 use Rattle.lr_causes.specs.declared.cause.Refusal.{Refusal}
 use Rattle.lr_causes.specs.declared.cause.Refusal.TheVariants.{NotAShelf, NoSuchFile}
@@ -25,6 +24,7 @@ use Rattle.lr_commands.specs.Asked.{
   refused_answer,
 }
 use Rattle.lr_causes.specs.Causes.{Counts, done_with}
+use Rattle.lr_causes.specs.Outside.{Outlets, OutletsOf, outlet_counts}
 
 -- what a command may be refused for, over any disk: no shelf or no item at a place, a count by which a number isn't
 -- allowed, or what it says of something that was seen or of all that was
@@ -74,73 +74,73 @@ CutsNothing NoMemory = Unit {0}
 CutsNothing (Refused refusal) = Unit {0}
 CutsNothing _ = ⊥
 
-module _ {D O : Type 0} (disk : DiskOf D) (out : SinkOf O) where
-  -- such a command has no source
-  abbrev pub counts_of : D → O → Counts
-  counts_of d o = record { source = 0; disk = disk.faults d; output = out.faults o }
+-- which answers there are, and which texts are begun
+module _ {O : Type 0} (out : SinkOf O) (IsOne : Answer → Type 0)
+    (IsFirst : (passed left : ℕ) → List ℕ → Type 0) where
+  -- there is an answer that refuses nothing and tells this, and its text was put
+  pub record PutsAll (note : Option Note) (o o' : O) : Type 0 where
+    pub text : List ℕ
+    pub is : IsOne (done_answer text note)
+    pub put : out.tells o → out.contents o' ≡ out.contents o ++ text
 
-  -- which answers there are, and which texts are begun
-  module _ (IsOne : Answer → Type 0) (IsFirst : (passed left : ℕ) → List ℕ → Type 0) where
-    -- there is an answer that refuses nothing and tells this, and its text was put
-    pub record PutsAll (note : Option Note) (o o' : O) : Type 0 where
-      pub text : List ℕ
-      pub is : IsOne (done_answer text note)
-      pub put : out.tells o → out.contents o' ≡ out.contents o ++ text
+  -- the texts of the first entries were put, and at least this many entries are left
+  pub record PutsFirst (left : ℕ) (o o' : O) : Type 0 where
+    pub passed : ℕ
+    pub text : List ℕ
+    pub begun : IsFirst passed left text
+    pub put : out.tells o → out.contents o' ≡ out.contents o ++ text
+    pub untouched : passed ≡ 0 → o' ≡ o
 
-    -- the texts of the first entries were put, and at least this many entries are left
-    pub record PutsFirst (left : ℕ) (o o' : O) : Type 0 where
-      pub passed : ℕ
-      pub text : List ℕ
-      pub begun : IsFirst passed left text
-      pub put : out.tells o → out.contents o' ≡ out.contents o ++ text
-      pub untouched : passed ≡ 0 → o' ≡ o
+  -- they are all of an answer with this refusal
+  pub record PutsRefused (refusal : Refusal) (o o' : O) : Type 0 where
+    pub first : PutsFirst 0 o o'
+    pub is : IsOne (refused_answer first.text refusal)
 
-    -- they are all of an answer with this refusal
-    pub record PutsRefused (refusal : Refusal) (o o' : O) : Type 0 where
-      pub first : PutsFirst 0 o o'
-      pub is : IsOne (refused_answer first.text refusal)
+  -- `out` failed in the text of an entry, or in the last one: those before it were put, and a part of it
+  pub record PutsCut (o o' : O) : Type 0 where
+    pub passed : ℕ
+    pub text : List ℕ
+    pub one : List ℕ
+    pub begun : IsFirst passed 0 text
+    pub next : IsFirst (passed + 1) 0 (text ++ one) ⊎ ((note : Option Note) × IsOne (done_answer (text ++ one) note))
+    pub some : 0 < length one
+    pub part : out.tells o → PutsPart one (out.contents o ++ text) (out.contents o')
 
-    -- `out` failed in the text of an entry, or in the last one: those before it were put, and a part of it
-    pub record PutsCut (o o' : O) : Type 0 where
-      pub passed : ℕ
-      pub text : List ℕ
-      pub one : List ℕ
-      pub begun : IsFirst passed 0 text
-      pub next : IsFirst (passed + 1) 0 (text ++ one) ⊎ ((note : Option Note) × IsOne (done_answer (text ++ one) note))
-      pub some : 0 < length one
-      pub part : out.tells o → PutsPart one (out.contents o ++ text) (out.contents o')
+  -- what `out` got, for each cause
+  abbrev pub Got : Cause → O → O → Type 0
+  Got Done o o' = PutsAll None o o'
+  Got (DoneWith note) o o' = PutsAll (Some note) o o'
+  Got (Failed Disk) o o' = PutsFirst 1 o o'
+  Got (Failed Output) o o' = PutsCut o o'
+  Got NoMemory o o' = PutsFirst 0 o o'
+  Got (Refused refusal) o o' = PutsRefused refusal o o'
+  Got _ o o' = ⊥
 
-    -- what `out` got, for each cause
-    abbrev pub Got : Cause → O → O → Type 0
-    Got Done o o' = PutsAll None o o'
-    Got (DoneWith note) o o' = PutsAll (Some note) o o'
-    Got (Failed Disk) o o' = PutsFirst 1 o o'
-    Got (Failed Output) o o' = PutsCut o o'
-    Got NoMemory o o' = PutsFirst 0 o o'
-    Got (Refused refusal) o o' = PutsRefused refusal o o'
-    Got _ o o' = ⊥
-
+module _ {D O : Type 0} (world : OutletsOf D O) where
   pub record RunsReading (asked : Asked) (IsOne : List ℕ → Answer → Type 0)
       (IsFirst : List ℕ → (passed left : ℕ) → List ℕ → Type 0)
-      (cause : Cause) (d d' : D) (o o' : O) : Type 0 where
+      (cause : Cause) (w w' : Outlets D O) : Type 0 where
     pub may : MayCause asked cause
-    pub counted : Counted cause (counts_of d o) (counts_of d' o')
+    pub counted : Counted cause (outlet_counts world w) (outlet_counts world w')
     -- nothing on the disk changes
-    pub told : disk.tells d → disk.tells d'
-    pub told_by_out : out.tells o → out.tells o'
-    pub reads : disk.tells d → IsUnwritten disk d d'
+    pub told : world.disk.tells w.disk → world.disk.tells w'.disk
+    pub told_by_out : world.out.tells w.out → world.out.tells w'.out
+    pub reads : world.disk.tells w.disk → IsUnwritten world.disk w.disk w'.disk
     -- `out` got what the bytes answer; a refusal comes only where it is that of the answer, with its values
-    pub got : disk.tells d → Got (IsOne (disk.contents d)) (IsFirst (disk.contents d)) cause o o'
+    pub got : world.disk.tells w.disk
+        → Got world.out (IsOne (world.disk.contents w.disk)) (IsFirst (world.disk.contents w.disk)) cause
+        w.out w'.out
     -- over any disk, where the only text is that of one entry
-    pub untouched : PutsOneText asked → CutsNothing cause → o' ≡ o
+    pub untouched : PutsOneText asked → CutsNothing cause → w'.out ≡ w.out
 
   -- a run over the entries of a shelf of this way
-  abbrev pub RunsOn : Asked → Way → Cause → D → D → O → O → Type 0
+  abbrev pub RunsOn : Asked → Way → Cause → Outlets D O → Outlets D O → Type 0
   RunsOn asked way = RunsReading asked (λ bytes. AnswersOn asked bytes way) (λ bytes. BegunBy asked bytes way)
 
   -- a whole run
-  pub record RunsOver (asked : Asked) (cause : Cause) (d d' : D) (o o' : O) : Type 0 where
-    pub runs : RunsReading asked (IsAnswer asked) (IsBegun asked) cause d d' o o'
+  pub record RunsOver (asked : Asked) (cause : Cause) (w w' : Outlets D O) : Type 0 where
+    pub runs : RunsReading asked (IsAnswer asked) (IsBegun asked) cause w w'
     -- what the bytes answer decides, unless an event comes before: done, or refused for this
-    pub ends : (answer : Answer) → disk.tells d → IsAnswer asked (disk.contents d) answer
+    pub ends : (answer : Answer) → world.disk.tells w.disk
+        → IsAnswer asked (world.disk.contents w.disk) answer
         → (cause ≡ cause_for answer.refusal answer.note) ⊎ Precedes cause answer

@@ -11,6 +11,7 @@ use Rattle.lr_causes.specs.declared.cause.Refusal.{Refusal}
 use Rattle.lr_causes.specs.declared.cause.Cause.{Cause}
 use Rattle.lr_causes.specs.declared.cause.Cause.TheVariants.{Failed, NoMemory, Refused}
 use Rattle.lr_commands.specs.Asked.{Asked, IsSeen, Seen, entry_at, fate_of}
+use Rattle.lr_causes.specs.Outside.{Outlets, OutletsOf}
 use Rattle.lr_causes.specs.Puts.{Puts, PutFails}
 
 module _ {O : Type 0} (out : SinkOf O) (fate : Result (List ℕ) Refusal) where
@@ -34,26 +35,28 @@ module _ {O : Type 0} (out : SinkOf O) (fate : Result (List ℕ) Refusal) where
   TextStops (Refused refusal) o o' = (fate ≡ Err refusal) × (o' ≡ o)
   TextStops _ o o' = ⊥
 
-module _ {D O : Type 0} (disk : DiskOf D) (out : SinkOf O) (asked : Asked) (way : Way) (read : List Seen)
+module _ {D O : Type 0} (world : OutletsOf D O) (asked : Asked) (way : Way) (read : List Seen)
     (number : ℕ) where
   -- the text of the entry was put, and it was gathered
-  pub record TakesEntry (gathers : List Seen → Type 0) (d : D) (o o' : O) : Type 0 where
+  pub record TakesEntry (gathers : List Seen → Type 0) (w w' : Outlets D O) : Type 0 where
     pub seen : Seen
-    pub stands : disk.tells d → IsSeen asked.looks (disk.contents d) (entry_at way number) (Some seen)
-    pub puts : PutsText out (asked.becomes read number seen) o o'
+    pub stands : world.disk.tells w.disk
+        → IsSeen asked.looks (world.disk.contents w.disk) (entry_at way number) (Some seen)
+    pub puts : PutsText world.out (asked.becomes read number seen) w.out w'.out
     pub gathered : gathers (read ++ seen ∷ [])
 
   -- what stands there is known, and its text was not put
-  pub record SeenStops (cause : Cause) (d : D) (o o' : O) : Type 0 where
+  pub record SeenStops (cause : Cause) (w w' : Outlets D O) : Type 0 where
     pub seen : Option Seen
-    pub stands : disk.tells d → IsSeen asked.looks (disk.contents d) (entry_at way number) seen
-    pub stops : TextStops out (fate_of asked way read number seen) cause o o'
+    pub stands : world.disk.tells w.disk
+        → IsSeen asked.looks (world.disk.contents w.disk) (entry_at way number) seen
+    pub stops : TextStops world.out (fate_of asked way read number seen) cause w.out w'.out
 
   -- why an entry was not taken
-  abbrev pub EntryStops : Cause → D → O → O → Type 0
-  EntryStops (Failed Disk) d o o' = o' ≡ o
-  EntryStops NoMemory d o o' = o' ≡ o
-  EntryStops cause d o o' = SeenStops cause d o o'
+  abbrev pub EntryStops : Cause → Outlets D O → Outlets D O → Type 0
+  EntryStops (Failed Disk) w w' = w'.out ≡ w.out
+  EntryStops NoMemory w w' = w'.out ≡ w.out
+  EntryStops cause w w' = SeenStops cause w w'
 
 -- a call that reads the disk alone, and keeps the shelf as it is
 pub record ReadsOnly {D : Type 0} (disk : DiskOf D) (shelf shelf' : Shelf) (d d' : D) : Type 0 where

@@ -1,6 +1,7 @@
 //! `assemble`: the segments of an image, put together.
 ghost use Rattle.std.specs.Prelude.{◌≡◌, ◌+◌, ◌<◌, ◌^◌, ◌∷◌, ◌++◌, ℕ, [], length, List, Ok, Some, IfErr, IfOk, OnOk};
 ghost use Rattle.lr_segment.specs.Canvas.{Member, member};
+ghost use Rattle.lr_causes.specs.Outside.{outlets, outlets_of};
 ghost use Rattle.lr_commands.specs.Assemble.{
   assemble_asked,
   if_of,
@@ -242,7 +243,8 @@ pub fn assemble<D: Disk, O: Sink>(
     disk: &mut D,
     out: &mut O,
 ) -> Cause
-    ensures { RunsOver D.Disk O.Sink (assemble_asked from to apid image) result disk.old disk.new out.old out.new }
+    ensures { RunsOver (outlets_of D.Disk O.Sink) (assemble_asked from to apid image) result
+        (outlets disk.old out.old) (outlets disk.new out.new) }
 {
     let command = AssembleRange {
         from,

@@ -1,4 +1,5 @@
 //! `discard`: a file is discarded.
+ghost use Rattle.lr_causes.specs.Outside.{outlets, outlets_of};
 ghost use Rattle.lr_commands.specs.Discard.{RunsDiscard};
 
 use lr_bits::Bytes;
@@ -13,7 +14,8 @@ use std::alloc::Global;
 /// Discards the file of this number on the disk, and then puts a line that says so. The line is composed first, so that
 /// want of memory leaves the disk as it was. Refused, in this order: no shelf, no such file, discarded, capacity.
 pub fn discard<D: Disk, O: Sink>(alloc: Global, number: u64, disk: &mut D, out: &mut O) -> Cause
-    ensures { RunsDiscard D.Disk O.Sink number result disk.old disk.new out.old out.new }
+    ensures { RunsDiscard (outlets_of D.Disk O.Sink) number result
+        (outlets disk.old out.old) (outlets disk.new out.new) }
 {
     let mut line = Bytes::new(alloc);
     if let Err(error) = discard_line(alloc, number, &mut line) {

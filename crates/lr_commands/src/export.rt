@@ -1,4 +1,5 @@
 //! `export`: the image of one file.
+ghost use Rattle.lr_causes.specs.Outside.{outlets, outlets_of};
 ghost use Rattle.lr_commands.specs.Export.{export_asked};
 ghost use Rattle.lr_commands.specs.Runs.{RunsOver};
 
@@ -43,7 +44,8 @@ impl PutsFile for Exporting {
 
 /// Puts the image of the file of this number as PGM. It is read whole before the first byte is put.
 pub fn export<D: Disk, O: Sink>(alloc: Global, number: u64, disk: &mut D, out: &mut O) -> Cause
-    ensures { RunsOver D.Disk O.Sink (export_asked number) result disk.old disk.new out.old out.new }
+    ensures { RunsOver (outlets_of D.Disk O.Sink) (export_asked number) result
+        (outlets disk.old out.old) (outlets disk.new out.new) }
 {
     run_one(alloc, number, Exporting, disk, out)
 }

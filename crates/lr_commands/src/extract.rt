@@ -1,4 +1,5 @@
 //! `extract`: one mission file.
+ghost use Rattle.lr_causes.specs.Outside.{outlets, outlets_of};
 ghost use Rattle.lr_commands.specs.Extract.{extract_asked};
 ghost use Rattle.lr_commands.specs.Runs.{RunsOver};
 
@@ -31,7 +32,8 @@ impl PutsFile for Extracting {
 
 /// Puts the mission file proper of the file of this number: its bytes without the transport header.
 pub fn extract<D: Disk, O: Sink>(alloc: Global, number: u64, disk: &mut D, out: &mut O) -> Cause
-    ensures { RunsOver D.Disk O.Sink (extract_asked number) result disk.old disk.new out.old out.new }
+    ensures { RunsOver (outlets_of D.Disk O.Sink) (extract_asked number) result
+        (outlets disk.old out.old) (outlets disk.new out.new) }
 {
     run_one(alloc, number, Extracting, disk, out)
 }

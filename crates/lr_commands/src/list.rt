@@ -1,6 +1,7 @@
 //! `list`: a line for each entry, and one for the shelf.
 ghost use Rattle.std.specs.Prelude.{◌≡◌, Ok, OnOk, IfErr};
 ghost use Rattle.lr_catalog.specs.Entries.{file_line, shelf_line};
+ghost use Rattle.lr_causes.specs.Outside.{outlets, outlets_of};
 ghost use Rattle.lr_commands.specs.List.{list_asked};
 ghost use Rattle.lr_commands.specs.Runs.{RunsOver};
 ghost use Rattle.lr_commands.specs.Steps.{PutsText, TextStops};
@@ -101,7 +102,8 @@ impl ReadsFiles for ListAll {
 /// A line for each entry, of its file or that it is gone, and a last one with the number of entries, the shelf's end
 /// and its capacity, both in bytes. A file whose checksum is wrong is refused.
 pub fn list<D: Disk, O: Sink>(alloc: Global, disk: &mut D, out: &mut O) -> Cause
-    ensures { RunsOver D.Disk O.Sink list_asked result disk.old disk.new out.old out.new }
+    ensures { RunsOver (outlets_of D.Disk O.Sink) list_asked result
+        (outlets disk.old out.old) (outlets disk.new out.new) }
 {
     run_entries(alloc, &Files(ListAll), disk, out)
 }

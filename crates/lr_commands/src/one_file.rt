@@ -1,4 +1,5 @@
 //! Commands on the file of one number.
+ghost use Rattle.lr_causes.specs.Outside.{outlets, outlets_of};
 ghost use Rattle.lr_commands.specs.Runs.{RunsOver};
 ghost use Rattle.lr_commands.specs.Files.{asked_of_files, asked_of_one};
 
@@ -99,8 +100,9 @@ pub(crate) fn run_one<C: PutsFile + Drop, D: Disk, O: Sink>(
     disk: &mut D,
     out: &mut O,
 ) -> Cause
-    ensures { RunsOver D.Disk O.Sink (asked_of_files (asked_of_one (C.looks command) (C.becomes command) number))
-        result disk.old disk.new out.old out.new }
+    ensures { RunsOver (outlets_of D.Disk O.Sink)
+        (asked_of_files (asked_of_one (C.looks command) (C.becomes command) number)) result
+        (outlets disk.old out.old) (outlets disk.new out.new) }
 {
     run_entries(alloc, &Files(OneFile { number, command }), disk, out)
 }

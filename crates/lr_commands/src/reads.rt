@@ -13,8 +13,9 @@ pub trait ReadsEntries {
     ghost use Rattle.std.specs.Prelude.{◌≡◌, ◌+◌, ◌<◌, ◌≤◌, ◌^◌, ℕ, false, Ok, List, [], length};
     ghost use Rattle.std.specs.Prelude.{IfOk, IfErr, IfSome, OnOk};
     ghost use Rattle.lr_shelf.specs.Kept.{kept_by};
+    ghost use Rattle.lr_causes.specs.Outside.{outlet_counts, outlets, outlets_of};
     ghost use Rattle.lr_commands.specs.Asked.{Asked, Seen};
-    ghost use Rattle.lr_commands.specs.Runs.{Counted, counts_of};
+    ghost use Rattle.lr_commands.specs.Runs.{Counted};
     ghost use Rattle.lr_commands.specs.Steps.{PutsText, ReadsOnly, TextStops, TakesEntry, EntryStops};
 
     /// What it gathers of the entries.
@@ -51,13 +52,15 @@ pub trait ReadsEntries {
         ensures reads { ReadsOnly D.Disk shelf.old shelf.new disk.old disk.new }
         ensures same { OnOk result (D.faults disk.new ≡ D.faults disk.old) }
         ensures counted { (read : List Seen) → gathers self.now gathered.old read → IfErr result (λ cause.
-            Counted cause (counts_of D.Disk O.Sink disk.old out.old) (counts_of D.Disk O.Sink disk.new out.new)) }
-        ensures takes { (read : List Seen) → length read + 1 < 2 ^ 64 → gathers self.now gathered.old read → OnOk result
-            (TakesEntry D.Disk O.Sink (asked self.now) (kept_by shelf.old).way read number
-            (gathers self.now gathered.new) disk.old out.old out.new) }
+            Counted cause (outlet_counts (outlets_of D.Disk O.Sink) (outlets disk.old out.old))
+            (outlet_counts (outlets_of D.Disk O.Sink) (outlets disk.new out.new))) }
+        ensures takes { (read : List Seen) → length read + 1 < 2 ^ 64 → gathers self.now gathered.old read
+            → OnOk result (TakesEntry (outlets_of D.Disk O.Sink) (asked self.now)
+            (kept_by shelf.old).way read number (gathers self.now gathered.new)
+            (outlets disk.old out.old) (outlets disk.new out.new)) }
         ensures stops { (read : List Seen) → gathers self.now gathered.old read → IfErr result (λ cause.
-            EntryStops D.Disk O.Sink (asked self.now) (kept_by shelf.old).way read number cause
-            disk.old out.old out.new) };
+            EntryStops (outlets_of D.Disk O.Sink) (asked self.now) (kept_by shelf.old).way read number
+            cause (outlets disk.old out.old) (outlets disk.new out.new)) };
 
     /// Puts the last text, and answers what is told beside it. Memory is taken before the text, and none where there
     /// is no text.

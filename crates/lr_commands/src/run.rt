@@ -2,6 +2,7 @@
 ghost use Rattle.std.specs.Prelude.{◌≡◌, ◌++◌, ℕ, List, false, [], IfErr, IfOk, OnOk};
 ghost use Rattle.lr_shelf.specs.Kept.{kept_by};
 ghost use Rattle.lr_causes.specs.Causes.{done_with};
+ghost use Rattle.lr_causes.specs.Outside.{outlets, outlets_of};
 ghost use Rattle.lr_commands.specs.Read.{GathersOver, HasGathered, IsDone};
 ghost use Rattle.lr_commands.specs.Runs.{RunsOn, RunsOver};
 
@@ -24,10 +25,12 @@ fn take_entries<C: ReadsEntries, D: Disk, O: Sink>(
 ) -> Result<Option<Note>, Cause>
     requires fresh { C.gathers command.now gathered [] }
     requires working { (kept_by shelf.old).failed ≡ false }
-    ensures takes { IfOk result (λ note. RunsOn D.Disk O.Sink (C.asked command.now) (kept_by shelf.old).way
-        (done_with note) disk.old disk.new out.old out.new) }
-    ensures stops { IfErr result (λ cause. RunsOn D.Disk O.Sink (C.asked command.now) (kept_by shelf.old).way cause
-        disk.old disk.new out.old out.new) }
+    ensures takes { IfOk result (λ note. RunsOn (outlets_of D.Disk O.Sink) (C.asked command.now)
+        (kept_by shelf.old).way (done_with note)
+        (outlets disk.old out.old) (outlets disk.new out.new)) }
+    ensures stops { IfErr result (λ cause. RunsOn (outlets_of D.Disk O.Sink) (C.asked command.now)
+        (kept_by shelf.old).way cause
+        (outlets disk.old out.old) (outlets disk.new out.new)) }
     ensures undone { IfErr result (λ cause. IsDone cause → ⊥) }
     ensures gathers { OnOk result (D.tells disk.old → O.tells out.old → (put : List ℕ)
         × (O.contents out.new ≡ O.contents out.old ++ put)
@@ -54,7 +57,8 @@ pub fn run_entries<C: ReadsEntries, D: Disk, O: Sink>(
     disk: &mut D,
     out: &mut O,
 ) -> Cause
-    ensures runs { RunsOver D.Disk O.Sink (C.asked command.now) result disk.old disk.new out.old out.new }
+    ensures runs { RunsOver (outlets_of D.Disk O.Sink) (C.asked command.now) result
+        (outlets disk.old out.old) (outlets disk.new out.new) }
     ensures gathers { IsDone result → D.tells disk.old → O.tells out.old → (put : List ℕ)
         × (O.contents out.new ≡ O.contents out.old ++ put)
         × GathersOver (C.asked command.now) (C.gathers command.now) (D.contents disk.old) put }

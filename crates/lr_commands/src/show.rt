@@ -1,5 +1,6 @@
 //! `show`: one file and its header.
 ghost use Rattle.std.specs.Prelude.{◌≡◌, IfOk};
+ghost use Rattle.lr_causes.specs.Outside.{outlets, outlets_of};
 ghost use Rattle.lr_commands.specs.Runs.{RunsOver};
 ghost use Rattle.lr_commands.specs.Show.{show_asked, show_text};
 
@@ -53,7 +54,8 @@ impl PutsFile for Showing {
 /// Puts the line of the file of this number and a line for each record of its header, or one for the header's first
 /// fault.
 pub fn show<D: Disk, O: Sink>(alloc: Global, number: u64, disk: &mut D, out: &mut O) -> Cause
-    ensures { RunsOver D.Disk O.Sink (show_asked number) result disk.old disk.new out.old out.new }
+    ensures { RunsOver (outlets_of D.Disk O.Sink) (show_asked number) result
+        (outlets disk.old out.old) (outlets disk.new out.new) }
 {
     run_one(alloc, number, Showing, disk, out)
 }

@@ -1,6 +1,7 @@
 //! `verify`: a line for each entry.
 ghost use Rattle.std.specs.Prelude.{◌≡◌, Ok, OnOk, IfErr};
 ghost use Rattle.lr_catalog.specs.Files.{check_line};
+ghost use Rattle.lr_causes.specs.Outside.{outlets, outlets_of};
 ghost use Rattle.lr_commands.specs.Runs.{RunsOver};
 ghost use Rattle.lr_commands.specs.Steps.{PutsText, TextStops};
 ghost use Rattle.lr_commands.specs.Verify.{verify_asked};
@@ -94,7 +95,8 @@ impl ReadsEntries for VerifyAll {
 
 /// A line for each entry: whether its checksum is right, or that it is gone. It goes on to the last where one is wrong.
 pub fn verify<D: Disk, O: Sink>(alloc: Global, disk: &mut D, out: &mut O) -> Cause
-    ensures { RunsOver D.Disk O.Sink verify_asked result disk.old disk.new out.old out.new }
+    ensures { RunsOver (outlets_of D.Disk O.Sink) verify_asked result
+        (outlets disk.old out.old) (outlets disk.new out.new) }
 {
     run_entries(alloc, &VerifyAll, disk, out)
 }

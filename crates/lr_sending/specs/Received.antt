@@ -2,12 +2,11 @@
 use Rattle.std.specs.Prelude.{◌≡◌, ◌<◌, ◌+◌, ◌-◌, ◌++◌, ℕ, Some, List, length, slice_get}
 use Rattle.lr_bits.specs.File.{File}
 use Rattle.lr_conv.specs.declared.line.LineCode.{LineCode}
-use Rattle.lr_disk.specs.declared.disk.Disk.{Ghosts as DiskOf}
 use Rattle.lr_frame.specs.Outcomes.{outcomes_of_symbols}
-use Rattle.lr_io.specs.declared.sink.Sink.{Ghosts as SinkOf}
 use Rattle.lr_shelf_format.specs.Way.{Way, IsWay}
 use Rattle.lr_uplink.specs.Received.{AreFilesOf}
 use Rattle.lr_uplink.specs.Sent.{sent}
+use Rattle.lr_causes.specs.Outside.{Outlets, OutletsOf}
 use Rattle.lr_causes.specs.declared.cause.Cause.{Cause}
 use Rattle.lr_commands.specs.Asked.{IsSeen, Seen, Wrong, entry_at}
 use Rattle.lr_commands.specs.Files.{files_of, no_image}
@@ -32,8 +31,9 @@ pub record IsTransmitted (line : LineCode) (from to wrong : ℕ) (bytes put : Li
   pub received : AreFilesOf (outcomes_of_symbols line (symbols_for line wrong (sent files))) files
 
 -- Where the call is done, this is what it put.
-module _ {D O : Type 0} (disk : DiskOf D) (out : SinkOf O) (line : LineCode) (from to wrong : ℕ) where
-  abbrev pub Transmits : Cause → D → O → O → Type 0
-  Transmits cause d o o' = IsDone cause → disk.tells d → out.tells o → (put : List ℕ)
-      × (out.contents o' ≡ out.contents o ++ put)
-      × IsTransmitted line from to wrong (disk.contents d) put
+module _ {D O : Type 0} (world : OutletsOf D O) (line : LineCode) (from to wrong : ℕ) where
+  abbrev pub Transmits : Cause → Outlets D O → Outlets D O → Type 0
+  Transmits cause w w' =
+      IsDone cause → world.disk.tells w.disk → world.out.tells w.out → (put : List ℕ)
+      × (world.out.contents w'.out ≡ world.out.contents w.out ++ put)
+      × IsTransmitted line from to wrong (world.disk.contents w.disk) put

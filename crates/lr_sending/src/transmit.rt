@@ -2,6 +2,7 @@
 ghost use Rattle.std.specs.Prelude.{◌≡◌, ◌<◌, ◌≤◌, ◌++◌, ◌∷◌, [], ℕ, List, IfErr, OnErr, OnOk, length};
 ghost use Rattle.lr_bits.specs.File.{File};
 ghost use Rattle.lr_conv.specs.declared.line.LineCode.{LineCode as LineCode'};
+ghost use Rattle.lr_causes.specs.Outside.{outlets, outlets_of};
 ghost use Rattle.lr_causes.specs.Puts.{Puts, PutFails};
 ghost use Rattle.lr_commands.specs.Runs.{RunsOver};
 ghost use Rattle.lr_commands.specs.Steps.{PutsText, TextStops};
@@ -147,9 +148,10 @@ pub fn transmit<D: Disk, O: Sink>(
     out: &mut O,
 ) -> Cause
     requires { wrong ≤ 16 }
-    ensures runs { RunsOver D.Disk O.Sink (transmit_asked from to wrong line) result
-        disk.old disk.new out.old out.new }
-    ensures sent { Transmits D.Disk O.Sink line from to wrong result disk.old out.old out.new }
+    ensures runs { RunsOver (outlets_of D.Disk O.Sink) (transmit_asked from to wrong line) result
+        (outlets disk.old out.old) (outlets disk.new out.new) }
+    ensures sent { Transmits (outlets_of D.Disk O.Sink) line from to wrong result
+        (outlets disk.old out.old) (outlets disk.new out.new) }
 {
     let command = TransmitRange {
         from,

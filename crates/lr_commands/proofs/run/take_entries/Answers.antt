@@ -2,6 +2,7 @@ use Rattle.std.proofs.Common.{◌≡◌, ◌∙◌, ◌+◌, ◌<◌, ◌^◌, s
 use Rattle.std.proofs.lemmas.Result.{err_from_is_err_and}
 use Rattle.lr_disk.proofs.Moments.{unwritten_joined, unwritten_yet}
 use Rattle.lr_shelf.specs.Kept.{Kept, kept_by}
+use Rattle.lr_causes.specs.Outside.{outlets, outlets_of}
 use Rattle.lr_commands.specs.Steps.{PutsText, TextStops, TakesEntry, EntryStops}
 use Rattle.lr_commands.proofs.Texts.{on_err, on_noted, on_ok, on_sure}
 use Rattle.lr_commands.proofs.Taking.{so_first, so_more, not_allowed, entry_stopped, last_taken, last_stopped}
@@ -45,8 +46,9 @@ returns-in_err-entry-clause-stops g c =
     let allowed = ap asked.range (sym c.len-count.ensures) ∙ sym c.range.ensures.is ∙ c.in-Some.is in
     let stops =
     subst
-    (λ (k : Kept). EntryStops g.D.Disk g.O.Sink asked k.way inv.so_far.read c.loop-number.number
-    c.in_err-entry.field-0.0 c.loop-number.disk c.loop-number.out c.entry.new.out) inv.kept
+    (λ (k : Kept). EntryStops (outlets_of g.D.Disk g.O.Sink) asked k.way inv.so_far.read c.loop-number.number
+    c.in_err-entry.field-0.0 (outlets c.loop-number.disk c.loop-number.out) (outlets c.entry.new.disk c.entry.new.out))
+    inv.kept
     (e.stops inv.so_far.read inv.so_far.gathered) in
     rw (p.1, p.2)
     (entry_stopped g.D.Disk g.O.Sink asked way c.args.disk.now c.args.out.now c.in-Some.range allowed
@@ -72,10 +74,11 @@ loop-number-preserved g c =
           (g.C.ReadsEntries.gathers c.args.command.now c.loop-number.gathered) c.loop-number.number c.loop-number.out
           c.entry.new.out inv.so_far c.loop-number-test.true c.loop-number.disk
           inv.told (λ t. (inv.reads t).contents) (g.C.ReadsEntries.gathers c.args.command.now c.entry.new.gathered)
+          c.entry.new.disk
           (subst
-          (λ (k : Kept). TakesEntry g.D.Disk g.O.Sink asked k.way inv.so_far.read c.loop-number.number
+          (λ (k : Kept). TakesEntry (outlets_of g.D.Disk g.O.Sink) asked k.way inv.so_far.read c.loop-number.number
           (g.C.ReadsEntries.gathers c.args.command.now c.entry.new.gathered)
-          c.loop-number.disk c.loop-number.out c.entry.new.out) inv.kept
+          (outlets c.loop-number.disk c.loop-number.out) (outlets c.entry.new.disk c.entry.new.out)) inv.kept
           (e.takes inv.so_far.read few inv.so_far.gathered));
     }
 
@@ -127,7 +130,7 @@ returns-in_err-entry-clause-undone g c =
     let e = c.in_err-entry.ensures in
     rw (p.1, p.2)
     (entry_undone g.D.Disk g.O.Sink asked (kept_by c.loop-number.shelf).way inv.so_far.read c.loop-number.number
-    c.loop-number.disk c.loop-number.out c.entry.new.out c.in_err-entry.field-0.0
+    c.loop-number.disk c.entry.new.disk c.loop-number.out c.entry.new.out c.in_err-entry.field-0.0
     (e.stops inv.so_far.read inv.so_far.gathered))
 
 pub returns-clause-undone : goal.returns-clause-undone
