@@ -10,7 +10,7 @@ use crate::text::Text;
 use lr_bits::MissionFile;
 use lr_commands::export::export;
 use lr_disk::MemDisk;
-use lr_rendering::{render, render_by_all};
+use lr_rendering::{render, render_alone};
 use std::alloc::Global;
 use std::io::Read;
 use std::sync::Wait;
@@ -63,8 +63,8 @@ fn write_images<T: Threads + Wait + Sync>(
 ) -> u8 {
     match task.workers {
         0 => export_each(alloc, task.images, disk, out),
-        1 => render(alloc, disk, out).status(),
-        workers => render_by_all(threads, alloc, workers, disk, out).status(),
+        1 => render_alone(alloc, disk, out).status(),
+        workers => render(threads, alloc, workers, disk, out).status(),
     }
 }
 

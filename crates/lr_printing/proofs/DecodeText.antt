@@ -41,6 +41,7 @@ use Rattle.lr_printing.specs.declared.outcome_lines.OutcomeLines.{OutcomeLines}
 use Rattle.lr_printing.specs.Decode.{lines_of_units, lines_of_windows, decode_text, decode_last, decode_count}
 use Rattle.lr_printing.specs.DecodeTaken.{OutcomesTook, OutcomesStopped}
 use Rattle.lr_printing.specs.OutcomeLines.{outcome_text, text_of_outcomes}
+use Rattle.lr_causes.specs.Outside.{pipe, pipe_of}
 use Rattle.lr_printing.specs.Printing.{Prints}
 use Rattle.lr_printing.specs.Progress.{LinesStop}
 use Rattle.lr_causes.proofs.Joining.{puts_both, puts_none}
@@ -196,7 +197,8 @@ module _ {O : Type 0} (out : SinkOf O) where
     pub outcomes_stopped : (cause : Cause)
         → TakesSome source (OutcomesTook out) input limit (OutcomesStopped out) cause s s' before now
         → (now.out.ghost_name ≡ before.out.ghost_name)
-        × Prints source out (decode_text input) (decode_last input) limit cause s s' before.out.now now.out.now
+        × Prints (pipe_of source out) (decode_text input) (decode_last input) limit cause (pipe s before.out.now)
+        (pipe s' now.out.now)
     outcomes_stopped cause some =
         let stopped = some.stops before (outcomes_begun before none none_restored) in
         let first = text_first some.passed some.rest in (

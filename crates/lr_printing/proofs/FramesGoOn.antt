@@ -29,6 +29,7 @@ use Rattle.lr_printing.specs.declared.frame_lines.FrameLines.{FrameLines}
 use Rattle.lr_printing.specs.FrameLines.{frame_text, text_of_frames}
 use Rattle.lr_printing.specs.Frames.{lines_of_frames, frames_text, frames_last}
 use Rattle.lr_printing.specs.FramesTaken.{FramesTook, FramesStopped}
+use Rattle.lr_causes.specs.Outside.{pipe, pipe_of}
 use Rattle.lr_printing.specs.Printing.{Prints}
 use Rattle.lr_printing.specs.Progress.{LinesStop}
 use Rattle.lr_causes.proofs.Joining.{puts_both, puts_none}
@@ -121,7 +122,7 @@ module _ {O : Type 0} (out : SinkOf O) where
     pub frames_stopped : (cause : Cause)
         → TakesSome source (FramesTook out) (Units Frames) limit (FramesStopped out) cause s s' before now
         → (now.out.ghost_name ≡ before.out.ghost_name)
-        × Prints source out frames_text frames_last limit cause s s' before.out.now now.out.now
+        × Prints (pipe_of source out) frames_text frames_last limit cause (pipe s before.out.now) (pipe s' now.out.now)
     frames_stopped cause some =
         let stopped = some.stops before (frames_begun before none) in
         let first = text_first some.passed some.rest in (

@@ -28,6 +28,7 @@ use Rattle.lr_causes.specs.declared.cause.Cause.{Cause}
 use Rattle.lr_causes.specs.declared.cause.Cause.TheVariants.{Failed, NoMemory}
 use Rattle.lr_causes.specs.declared.cause.Party.TheVariants.{Output}
 use Rattle.lr_causes.proofs.Joining.{puts_both}
+use Rattle.lr_causes.specs.Outside.{pipe, pipe_of}
 use Rattle.lr_printing.specs.Printing.{Prints, PrintsAll}
 use Rattle.lr_causes.specs.Puts.{Puts, PutStops}
 use Rattle.lr_printing.specs.Progress.{LinesStop}
@@ -59,14 +60,15 @@ lines_stop out front line o p o' put _ stop = absurd stop
 module _ {S O : Type 0} (source : SourceOf S) (out : SinkOf O) (lines : List ℕ → List ℕ) (last : List ℕ → Stop
     → List ℕ) (limit : ℕ) where
   -- the last line was put, whatever the input ended for
-  pub printed : (stop : Stop) (s s' : S) (o o' : O) → PrintsAll source out lines last limit stop s s' o o'
-      → Prints source out lines last limit (cause_at stop) s s' o o'
+  pub printed : (stop : Stop) (s s' : S) (o o' : O)
+      → PrintsAll (pipe_of source out) lines last limit stop (pipe s o) (pipe s' o')
+      → Prints (pipe_of source out) lines last limit (cause_at stop) (pipe s o) (pipe s' o')
   printed End s s' o o' all = inl all
   printed Limit s s' o o' all = inr all
   printed Fault s s' o o' all = all
 
   -- memory was refused before anything was read
-  pub none_read : (s : S) (o : O) → Prints source out lines last limit NoMemory s s o o
+  pub none_read : (s : S) (o : O) → Prints (pipe_of source out) lines last limit NoMemory (pipe s o) (pipe s o)
   none_read s o = record {
     bytes = [];
     read = record { told = λ t. t; moved = λ t. refl; few = omega arith; asked = inl refl };
@@ -78,7 +80,7 @@ module _ {S O : Type 0} (source : SourceOf S) (out : SinkOf O) (lines : List ℕ
   -- the lines of the bytes read begin with these, which were not all put
   pub lines_stopped : (bytes front later : List ℕ) (s s' : S) (o o' : O) → IsRead source limit bytes s s'
       → lines bytes ≡ front ++ later → (cause : Cause) → LinesStop out front cause o o'
-      → Prints source out lines last limit cause s s' o o'
+      → Prints (pipe_of source out) lines last limit cause (pipe s o) (pipe s' o')
   lines_stopped bytes front later s s' o o' read all (Failed Output) stop = inl (record {
     bytes = bytes;
     read = read;
@@ -115,7 +117,8 @@ module _ {S O : Type 0} (source : SourceOf S) (out : SinkOf O) (lines : List ℕ
       (reason : EndsFor source stop limit bytes s s') (put : Puts out (lines bytes) o p) (line : List ℕ)
       (is : last bytes stop ≡ line) where
     -- all lines and the last one were put
-    pub all_put : {o' : O} → Puts out line p o' → PrintsAll source out lines last limit stop s s' o o'
+    pub all_put : {o' : O} → Puts out line p o'
+        → PrintsAll (pipe_of source out) lines last limit stop (pipe s o) (pipe s' o')
     all_put {o'} more = record {
       bytes = bytes;
       read = read;
@@ -128,7 +131,7 @@ module _ {S O : Type 0} (source : SourceOf S) (out : SinkOf O) (lines : List ℕ
 
     -- the last line wasn't put
     pub last_stopped : (o' : O) (cause : Cause) → PutStops out line cause p o'
-        → Prints source out lines last limit cause s s' o o'
+        → Prints (pipe_of source out) lines last limit cause (pipe s o) (pipe s' o')
     last_stopped o' (Failed Output) failed = inr (record {
       bytes = bytes;
       stop = stop;

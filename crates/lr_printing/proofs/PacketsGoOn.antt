@@ -61,6 +61,7 @@ use Rattle.lr_printing.specs.Packets.{
 }
 use Rattle.lr_printing.specs.PacketsRead.{IsAfter, IsCounted}
 use Rattle.lr_printing.specs.PacketsTaken.{restored_frame, frames_in, PacketsTook, PacketsStopped}
+use Rattle.lr_causes.specs.Outside.{pipe, pipe_of}
 use Rattle.lr_printing.specs.Printing.{Prints}
 use Rattle.lr_printing.specs.Progress.{LinesStop}
 use Rattle.lr_reading.proofs.Outcomes.{zone_is}
@@ -245,7 +246,8 @@ module _ {O : Type 0} (out : SinkOf O) where
     pub some_packets : (cause : Cause)
         → TakesSome source (PacketsTook out) (Units Frames) limit (PacketsStopped out) cause s s' before now
         → (now.out.ghost_name ≡ before.out.ghost_name)
-        × Prints source out packets_text packets_last limit cause s s' before.out.now now.out.now
+        × Prints (pipe_of source out) packets_text packets_last limit cause (pipe s before.out.now)
+        (pipe s' now.out.now)
     some_packets cause some =
         let stopped = some.stops before begun in
         let units : units_of 892 some.bytes ≡ frames_in some.passed ++ frames_in some.rest =

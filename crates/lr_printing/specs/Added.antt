@@ -4,7 +4,8 @@ use Rattle.lr_bits.specs.Packet.{Packet}
 use Rattle.lr_printing.specs.Packets.{packets_read, lines_from}
 
 unfoldable pub packets_added : List (List ℕ) → List ℕ → List Packet
-packets_added frames frame = drop (length (packets_read frames)) (packets_read (frames ++ frame ∷ []))
+packets_added frames frame =
+    drop (length (packets_read frames)) (packets_read (frames ++ frame ∷ []))
 
 unfoldable pub lines_added : List (List ℕ) → List ℕ → List ℕ
 lines_added frames frame = lines_from (length (packets_read frames)) (packets_added frames frame)

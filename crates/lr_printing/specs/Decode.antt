@@ -21,7 +21,8 @@ use Rattle.lr_reading.specs.Reading.{units_of}
 
 -- the lines of these blocks, each numbered by its place
 unfoldable pub lines_of_units : UnitForm → List (List ℕ) → List ℕ
-lines_of_units form units = numbered_lines (λ place unit. block_line place (outcome_of_unit form unit)) 0 units
+lines_of_units form units =
+    numbered_lines (λ place unit. block_line place (outcome_of_unit form unit)) 0 units
 
 -- the lines of the windows of these frames of some symbols, each numbered by its place among the frames
 unfoldable pub lines_of_windows : LineCode → List ℤ → List Frame → List ℕ

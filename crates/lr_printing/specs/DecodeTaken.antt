@@ -12,7 +12,8 @@ use Rattle.lr_printing.specs.Progress.{LinesStop}
 
 module _ {O : Type 0} (out : SinkOf O) where
   -- the lines of these outcomes were put, and those that are restored counted
-  pub record OutcomesTook (before : OutcomeLines O) (arrivals : List Arrival) (now : OutcomeLines O) : Type 0 where
+  pub record OutcomesTook (before : OutcomeLines O) (arrivals : List Arrival)
+      (now : OutcomeLines O) : Type 0 where
     pub same_out : now.out.ghost_name ≡ before.out.ghost_name
     pub count : now.outcomes ≡ length arrivals
     pub restored : now.restored ≡ count_by is_restored (outcomes_of_arrivals arrivals)

@@ -13,4 +13,5 @@ frame_text place (Restored corrected frame) = frame_line place (frame_of frame)
 frame_text place (Lost word) = []
 
 abbrev pub text_of_frames : List Arrival → List ℕ
-text_of_frames arrivals = numbered_lines (λ place (arrival : Arrival). frame_text place arrival.outcome) 0 arrivals
+text_of_frames arrivals =
+    numbered_lines (λ place (arrival : Arrival). frame_text place arrival.outcome) 0 arrivals

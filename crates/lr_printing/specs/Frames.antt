@@ -19,4 +19,5 @@ frames_text bytes = lines_of_frames (units_of FRAME_BYTES bytes)
 
 -- how many they are, and how many bytes are no whole frame
 abbrev pub frames_last : List ℕ → Stop → List ℕ
-frames_last bytes stop = summary_line (Frames (length bytes / FRAME_BYTES) (length bytes % FRAME_BYTES)) stop
+frames_last bytes stop =
+    summary_line (Frames (length bytes / FRAME_BYTES) (length bytes % FRAME_BYTES)) stop

@@ -10,13 +10,14 @@ use Rattle.lr_printing.specs.Progress.{LinesStop}
 
 module _ {O : Type 0} (out : SinkOf O) where
   -- the lines of these frames were put
-  pub record FramesTook (before : FrameLines O) (arrivals : List Arrival) (now : FrameLines O) : Type 0 where
+  pub record FramesTook (before : FrameLines O) (arrivals : List Arrival)
+      (now : FrameLines O) : Type 0 where
     pub same_out : now.out.ghost_name ≡ before.out.ghost_name
     pub count : now.frames ≡ length arrivals
     pub put : Puts out (text_of_frames arrivals) before.out.now now.out.now
 
   -- they were not all put
-  pub record FramesStopped (before : FrameLines O) (arrivals : List Arrival) (cause : Cause) (now : FrameLines O)
-      : Type 0 where
+  pub record FramesStopped (before : FrameLines O) (arrivals : List Arrival)
+      (cause : Cause) (now : FrameLines O) : Type 0 where
     pub same_out : now.out.ghost_name ≡ before.out.ghost_name
     pub stops : LinesStop out (text_of_frames arrivals) cause before.out.now now.out.now

@@ -37,7 +37,8 @@ packets_text bytes = lines_of_packets (units_of FRAME_BYTES bytes)
 -- how many frames, packets and good packets there are, and how many bytes are no whole frame
 unfoldable pub packets_count : List (List ℕ) → ℕ → ℕ → Stop → List ℕ
 packets_count frames count left stop =
-    summary_line (Packets count (length (packets_read frames)) (length (good_packets (packets_read frames))) left) stop
+    summary_line (Packets count (length (packets_read frames))
+    (length (good_packets (packets_read frames))) left) stop
 
 abbrev pub packets_last : List ℕ → Stop → List ℕ
 packets_last bytes stop = packets_count (units_of FRAME_BYTES bytes) (length bytes / FRAME_BYTES)

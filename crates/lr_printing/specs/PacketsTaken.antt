@@ -23,7 +23,8 @@ frames_in arrivals = filter_map (λ (arrival : Arrival). restored_frame arrival.
 
 module _ {O : Type 0} (out : SinkOf O) where
   -- the lines of the packets of these frames were put, and the packets counted
-  pub record PacketsTook (before : PacketLines O) (arrivals : List Arrival) (now : PacketLines O) : Type 0 where
+  pub record PacketsTook (before : PacketLines O) (arrivals : List Arrival)
+      (now : PacketLines O) : Type 0 where
     pub same_out : now.out.ghost_name ≡ before.out.ghost_name
     pub after : IsAfter now.channels.now now.counted (frames_in arrivals)
     pub few : now.counted.packets ≤ MOST_ENDING_PACKETS * length arrivals
@@ -33,4 +34,5 @@ module _ {O : Type 0} (out : SinkOf O) where
   pub record PacketsStopped (before : PacketLines O) (arrivals : List Arrival) (cause : Cause)
       (now : PacketLines O) : Type 0 where
     pub same_out : now.out.ghost_name ≡ before.out.ghost_name
-    pub stops : LinesStop out (lines_of_packets (frames_in arrivals)) cause before.out.now now.out.now
+    pub stops : LinesStop out (lines_of_packets (frames_in arrivals)) cause
+        before.out.now now.out.now

@@ -8,6 +8,7 @@ ghost use Rattle.lr_forms.specs.declared.forms.UnitForm.TheVariants.{Frames};
 ghost use Rattle.lr_printing.specs.Frames.{frames_text, frames_last};
 ghost use Rattle.lr_printing.specs.FrameLines.{frame_text};
 ghost use Rattle.lr_printing.specs.Printing.{Prints, PrintsAll};
+ghost use Rattle.lr_causes.specs.Outside.{pipe, pipe_of};
 ghost use Rattle.lr_causes.specs.Puts.{Puts, PutStops};
 
 use lr_bits::{Bytes, Outcome};
@@ -87,8 +88,8 @@ fn put_each_frame<S: Source, O: Sink>(
         × ReadsInput S.Source (Units Frames) reader.most totals bytes source.old source.new
         × Puts O.Sink (frames_text bytes) out.old out.new) }
     ensures stopped { IfErr result (λ cause.
-        Prints S.Source O.Sink frames_text frames_last reader.most cause source.old source.new
-        out.old out.new) }
+        Prints (pipe_of S.Source O.Sink) frames_text frames_last reader.most cause
+        (pipe source.old out.old) (pipe source.new out.new)) }
 {
     let mut lines = FrameLines {
         alloc,
@@ -122,11 +123,12 @@ fn put_frames<S: Source, O: Sink>(
     source: &mut S,
     out: &mut O,
 ) -> Result<Stop, Cause>
-    ensures all { IfOk result (λ stop. PrintsAll S.Source O.Sink frames_text frames_last most stop
-        source.old source.new out.old out.new) }
+    ensures all { IfOk result
+        (λ stop. PrintsAll (pipe_of S.Source O.Sink) frames_text frames_last most stop
+        (pipe source.old out.old) (pipe source.new out.new)) }
     ensures stopped { IfErr result
-        (λ cause. Prints S.Source O.Sink frames_text frames_last most cause source.old source.new
-        out.old out.new) }
+        (λ cause. Prints (pipe_of S.Source O.Sink) frames_text frames_last most cause
+        (pipe source.old out.old) (pipe source.new out.new)) }
 {
     let input = Input::Units(UnitForm::Frames);
     let reader = Reader::<FrameWork>::new(alloc, input, 1, most, &())?;
@@ -137,8 +139,8 @@ fn put_frames<S: Source, O: Sink>(
 
 /// A line for each frame of the source, and a last line. At most `most` bytes are taken.
 pub fn frames<S: Source, O: Sink>(alloc: Global, most: u64, source: &mut S, out: &mut O) -> Cause
-    ensures { Prints S.Source O.Sink frames_text frames_last most result source.old source.new
-        out.old out.new }
+    ensures { Prints (pipe_of S.Source O.Sink) frames_text frames_last most result
+        (pipe source.old out.old) (pipe source.new out.new) }
 {
     match put_frames(alloc, most, source, out) {
         Ok(stop) => cause_at(stop),

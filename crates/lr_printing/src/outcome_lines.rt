@@ -9,6 +9,7 @@ ghost use Rattle.lr_printing.specs.Decode.{decode_text, decode_last};
 ghost use Rattle.lr_printing.specs.DecodeTaken.{OutcomesTook, OutcomesStopped};
 ghost use Rattle.lr_printing.specs.OutcomeLines.{outcome_text};
 ghost use Rattle.lr_printing.specs.Printing.{Prints};
+ghost use Rattle.lr_causes.specs.Outside.{pipe, pipe_of};
 ghost use Rattle.lr_causes.specs.Puts.{Puts, PutStops};
 
 use lr_bits::{Bytes, NoMemory, Outcome};
@@ -121,8 +122,8 @@ fn put_each_outcome<
         × ReadsInput S.Source input most sums.0 bytes source.old source.new
         × (sums.1 ≡ count_by is_restored (outcomes_of_bytes input bytes))
         × Puts O.Sink (decode_text input bytes) out.old out.new) }
-    ensures stopped { IfErr result (λ cause. Prints S.Source O.Sink (decode_text input)
-        (decode_last input) most cause source.old source.new out.old out.new) }
+    ensures stopped { IfErr result (λ cause. Prints (pipe_of S.Source O.Sink) (decode_text input)
+        (decode_last input) most cause (pipe source.old out.old) (pipe source.new out.new)) }
 {
     let mut lines = OutcomeLines {
         alloc,
@@ -171,8 +172,8 @@ fn decode_with<
     requires ready { MayLead (F.pre read) (OutcomesTook O.Sink) }
     requires leads { Leads (F.post read) S.Source (OutcomesTook O.Sink) (OutcomesStopped O.Sink)
         input most }
-    ensures { Prints S.Source O.Sink (decode_text input) (decode_last input) most result
-        source.old source.new out.old out.new }
+    ensures { Prints (pipe_of S.Source O.Sink) (decode_text input) (decode_last input) most result
+        (pipe source.old out.old) (pipe source.new out.new) }
 {
     let (totals, restored) = match put_each_outcome(alloc, input, most, source, out, read) {
         Ok(sums) => sums,
@@ -184,9 +185,9 @@ fn decode_with<
     }
 }
 
-/// A line for what became of each window or block of the source, and a last line. At most `most` bytes are
-/// taken.
-pub fn decode<S: Source, O: Sink>(
+/// A line for what became of each window or block of the source, and a last line, all on the caller's thread. At
+/// most `most` bytes are taken.
+pub fn decode_alone<S: Source, O: Sink>(
     alloc: Global,
     input: Input,
     most: u64,
@@ -194,8 +195,8 @@ pub fn decode<S: Source, O: Sink>(
     out: &mut O,
 ) -> Cause
     requires few { most ≤ 2 ^ 48 }
-    ensures { Prints S.Source O.Sink (decode_text input) (decode_last input) most result
-        source.old source.new out.old out.new }
+    ensures { Prints (pipe_of S.Source O.Sink) (decode_text input) (decode_last input) most result
+        (pipe source.old out.old) (pipe source.new out.new) }
 {
     let reader = match Reader::<FrameWork>::new(alloc, input, 1, most, &()) {
         Ok(reader) => reader,
@@ -216,8 +217,8 @@ pub fn decode<S: Source, O: Sink>(
     )
 }
 
-/// What `decode` does, where this many work on windows of symbols, the caller among them.
-pub fn decode_by_team<R: Threads + Wait + Sync, H: Hand, S: Source, O: Sink>(
+/// What `decode_alone` does, where this many work on windows of symbols, the caller among them.
+pub fn decode<R: Threads + Wait + Sync, H: Hand, S: Source, O: Sink>(
     rt: &R,
     alloc: Global,
     tools: &H::Tools,
@@ -229,8 +230,8 @@ pub fn decode_by_team<R: Threads + Wait + Sync, H: Hand, S: Source, O: Sink>(
 ) -> Cause
     requires few { most ≤ 2 ^ 48 }
     requires workers { (1 ≤ workers) × (workers ≤ 64) }
-    ensures { Prints S.Source O.Sink (decode_text input) (decode_last input) most result
-        source.old source.new out.old out.new }
+    ensures { Prints (pipe_of S.Source O.Sink) (decode_text input) (decode_last input) most result
+        (pipe source.old out.old) (pipe source.new out.new) }
 {
     let reader = match Reader::<H>::new(alloc, input, workers, most, tools) {
         Ok(reader) => reader,

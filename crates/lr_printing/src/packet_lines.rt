@@ -39,6 +39,7 @@ ghost use Rattle.lr_printing.specs.Packets.{
 };
 ghost use Rattle.lr_printing.specs.PacketsRead.{IsAfter, IsCounted};
 ghost use Rattle.lr_printing.specs.Printing.{Prints, PrintsAll};
+ghost use Rattle.lr_causes.specs.Outside.{pipe, pipe_of};
 ghost use Rattle.lr_causes.specs.Puts.{Puts, PutStops};
 ghost use Rattle.lr_causes.specs.declared.cause.Cause.TheVariants.{NoMemory as NoMemory'};
 
@@ -205,8 +206,8 @@ fn put_each_packet<S: Source, O: Sink>(
         × IsCounted sums.1 (units_of 892 bytes) × Puts O.Sink (packets_text bytes)
         out.old out.new) }
     ensures stopped { IfErr result (λ cause.
-        Prints S.Source O.Sink packets_text packets_last reader.most cause source.old source.new
-        out.old out.new) }
+        Prints (pipe_of S.Source O.Sink) packets_text packets_last reader.most cause
+        (pipe source.old out.old) (pipe source.new out.new)) }
 {
     let mut channels = Channels::new(alloc);
     let mut packets = Vec::new(alloc);
@@ -255,11 +256,12 @@ fn put_packets<S: Source, O: Sink>(
     source: &mut S,
     out: &mut O,
 ) -> Result<Stop, Cause>
-    ensures all { IfOk result (λ stop. PrintsAll S.Source O.Sink packets_text packets_last most stop
-        source.old source.new out.old out.new) }
+    ensures all { IfOk result
+        (λ stop. PrintsAll (pipe_of S.Source O.Sink) packets_text packets_last most stop
+        (pipe source.old out.old) (pipe source.new out.new)) }
     ensures stopped { IfErr result
-        (λ cause. Prints S.Source O.Sink packets_text packets_last most cause source.old source.new
-        out.old out.new) }
+        (λ cause. Prints (pipe_of S.Source O.Sink) packets_text packets_last most cause
+        (pipe source.old out.old) (pipe source.new out.new)) }
 {
     let input = Input::Units(UnitForm::Frames);
     let reader = Reader::<FrameWork>::new(alloc, input, 1, most, &())?;
@@ -271,8 +273,8 @@ fn put_packets<S: Source, O: Sink>(
 /// A line for each packet of the frames of the source, and a last line. At most `most` bytes are
 /// taken.
 pub fn packets<S: Source, O: Sink>(alloc: Global, most: u64, source: &mut S, out: &mut O) -> Cause
-    ensures { Prints S.Source O.Sink packets_text packets_last most result source.old source.new
-        out.old out.new }
+    ensures { Prints (pipe_of S.Source O.Sink) packets_text packets_last most result
+        (pipe source.old out.old) (pipe source.new out.new) }
 {
     match put_packets(alloc, most, source, out) {
         Ok(stop) => cause_at(stop),

@@ -47,10 +47,11 @@ use Rattle.lr_causes.specs.declared.cause.Refusal.{Refusal}
 use Rattle.lr_causes.specs.declared.note.Note.TheVariants.{Rendered}
 use Rattle.lr_commands.specs.declared.range.Range.{Range}
 use Rattle.lr_commands.specs.Asked.{Asked, IsSeen, Seen, Whole, entry_at, fate_of}
+use Rattle.lr_causes.specs.Outside.{outlet_counts, outlets, outlets_of}
 use Rattle.lr_commands.specs.Reached.{SoFar}
 use Rattle.lr_commands.specs.Files.{files_of}
 use Rattle.lr_commands.specs.Render.{image_text, images_in, render_asked, skipped_in}
-use Rattle.lr_commands.specs.Runs.{Counted, RunsOn, counts_of}
+use Rattle.lr_commands.specs.Runs.{Counted, RunsOn}
 use Rattle.lr_commands.specs.Steps.{EntryStops, ReadsOnly}
 use Rattle.lr_commands.proofs.Taking.{entry_stopped, last_taken, so_first}
 use Rattle.lr_commands.proofs.Texts.{same_counts, stops_seen, text_counted}
@@ -688,8 +689,10 @@ module _ {D O : Type 0} (disk : DiskOf D) (out : SinkOf O) where
         → (disk.tells start.disk.now → IsUnwritten disk start.disk.now now.disk.now)
         → (ahead : List Ahead) (tally : Tally) (number : ℕ) (o1 : O) → number < count_in start
         → (so : Settles disk out start ahead tally number o1) → (cause : Cause)
-        → EntryStops disk out render_asked (way_in start) so.read number cause start.disk.now o1 now.out.now
-        → Counted cause (counts_of disk out start.disk.now o1) (counts_of disk out now.disk.now now.out.now)
+        → EntryStops (outlets_of disk out) render_asked (way_in start) so.read number cause (outlets start.disk.now o1)
+        (outlets now.disk.now now.out.now)
+        → Counted cause (outlet_counts (outlets_of disk out) (outlets start.disk.now o1))
+        (outlet_counts (outlets_of disk out) (outlets now.disk.now now.out.now))
         → StopsFor disk out start cause now
     stops_with now disk_name out_name told unwritten ahead tally number o1 there so cause stops counted = record {
       same_disk = disk_name ∙ goes.same_disk;
@@ -725,7 +728,7 @@ module _ {D O : Type 0} (disk : DiskOf D) (out : SinkOf O) where
         (Pending first.stored ∷ first.rest) before.tally first.number before.out.now
         (first_there goes plan mid same takes) first.settles cause
         (stops_seen disk out render_asked (way_in start) first.settles.read first.number start.disk.now
-        before.out.now now.out.now (Some (Whole opened))
+        now.disk.now before.out.now now.out.now (Some (Whole opened))
         (λ t. (first.stands t, subst (λ (f : File). HasOutcome f stops.outcome) (sym first.file_is) stops.has)) cause
         stops.stops)
         (text_counted disk out fate start.disk.now now.disk.now before.out.now now.out.now reads.faults cause
@@ -749,8 +752,8 @@ module _ {D O : Type 0} (disk : DiskOf D) (out : SinkOf O) where
 
         stays : (cause : Cause) → ((refusal : Refusal) → cause ≡ Refused refusal → ⊥)
             → ReadStops disk (way_in before) before.next cause before.disk.now now.disk.now
-            → EntryStops disk out render_asked (way_in start) goes.settles.read goes.settled cause start.disk.now
-            before.out.now now.out.now
+            → EntryStops (outlets_of disk out) render_asked (way_in start) goes.settles.read goes.settled cause
+            (outlets start.disk.now before.out.now) (outlets now.disk.now now.out.now)
         stays Done other stops = absurd stops
         stays (DoneWith note) other stops = absurd stops
         stays Usage other stops = absurd stops
@@ -762,8 +765,8 @@ module _ {D O : Type 0} (disk : DiskOf D) (out : SinkOf O) where
 
         counted : (cause : Cause) → ((refusal : Refusal) → cause ≡ Refused refusal → ⊥)
             → ReadStops disk (way_in before) before.next cause before.disk.now now.disk.now
-            → Counted cause (counts_of disk out start.disk.now before.out.now)
-            (counts_of disk out now.disk.now now.out.now)
+            → Counted cause (outlet_counts (outlets_of disk out) (outlets start.disk.now before.out.now))
+            (outlet_counts (outlets_of disk out) (outlets now.disk.now now.out.now))
         counted Done other stops = absurd stops
         counted (DoneWith note) other stops = absurd stops
         counted Usage other stops = absurd stops
@@ -801,9 +804,9 @@ module _ {D O : Type 0} (disk : DiskOf D) (out : SinkOf O) where
     -- ---- all was put
 
     pub ends_run : images_under_way before ≡ [] → count_in before ≤ before.next
-        → RunsOn disk out render_asked (way_in start)
-        (DoneWith (Rendered before.tally.images before.tally.skipped)) start.disk.now before.disk.now start.out.now
-        before.out.now
+        → RunsOn (outlets_of disk out) render_asked (way_in start)
+        (DoneWith (Rendered before.tally.images before.tally.skipped)) (outlets start.disk.now start.out.now)
+        (outlets before.disk.now before.out.now)
     ends_run none all =
         let so = settles_all none in
         let images : before.tally.images ≡ images_in (files_of so.read) = so.gathered.images in
@@ -891,7 +894,8 @@ module _ {D O : Type 0} (disk : DiskOf D) (out : SinkOf O) where
 
   -- nothing was put where memory was refused at once
   pub nothing_put : ((x : D) (c : List ℕ) → disk.tells x → disk.left_since x (disk.moment x) c → disk.may_leave x c)
-      → (over : Way) (d : D) (o : O) → RunsOn disk out render_asked over NoMemory d d o o
+      → (over : Way) (d : D) (o : O)
+      → RunsOn (outlets_of disk out) render_asked over NoMemory (outlets d o) (outlets d o)
   nothing_put only_now over d o = record {
     may = tt;
     counted = refl;

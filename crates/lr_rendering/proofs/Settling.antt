@@ -144,7 +144,7 @@ module _ {D O : Type 0} (disk : DiskOf D) (out : SinkOf O) (start : RenderLead D
         → StandsAt disk way d number Vacant → Settles disk out start rest tally (number + 1) o
     vacant rest tally so stands =
         so_more disk out render_asked way (record { from = 0; to = count_in start }) d start.out.now
-        (IsTally (Vacant ∷ rest) tally) number o o so more d (λ t. t) (λ t. refl) (IsTally rest tally) (record {
+        (IsTally (Vacant ∷ rest) tally) number o o so more d (λ t. t) (λ t. refl) (IsTally rest tally) d (record {
           seen = Absent;
           stands = stands;
           puts = record { text = []; is = refl; puts = nothing_put o };
@@ -157,7 +157,7 @@ module _ {D O : Type 0} (disk : DiskOf D) (out : SinkOf O) (start : RenderLead D
     imageless stored fault rest tally so stands =
         so_more disk out render_asked way (record { from = 0; to = count_in start }) d start.out.now
         (IsTally (Imageless stored fault ∷ rest) tally) number o o so more d (λ t. t) (λ t. refl)
-        (IsTally rest tally) (record {
+        (IsTally rest tally) d (record {
           seen = Whole (opened_with stored (Err fault));
           stands = λ t. (stands.0 t, stands.1);
           puts = record { text = []; is = refl; puts = nothing_put o };
@@ -173,7 +173,7 @@ module _ {D O : Type 0} (disk : DiskOf D) (out : SinkOf O) (start : RenderLead D
     pending stored outcome rest tally o' so stands has puts =
         so_more disk out render_asked way (record { from = 0; to = count_in start }) d start.out.now
         (IsTally (Pending stored ∷ rest) tally) number o o' so more d (λ t. t) (λ t. refl)
-        (IsTally rest (tally_with outcome tally)) (record {
+        (IsTally rest (tally_with outcome tally)) d (record {
           seen = Whole (opened_with stored outcome);
           stands = λ t. (stands t, has);
           puts = record { text = image_text (Some outcome); is = refl; puts = puts };

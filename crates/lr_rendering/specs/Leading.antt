@@ -32,6 +32,7 @@ use Rattle.lr_causes.specs.declared.cause.Cause.{Cause}
 use Rattle.lr_causes.specs.declared.cause.Refusal.{Refusal}
 use Rattle.lr_commands.specs.Asked.{Seen}
 use Rattle.lr_commands.specs.Files.{files_of}
+use Rattle.lr_causes.specs.Outside.{outlets, outlets_of}
 use Rattle.lr_commands.specs.Reached.{SoFar}
 use Rattle.lr_commands.specs.Render.{images_in, render_asked, skipped_in}
 use Rattle.lr_commands.specs.Runs.{RunsOn}
@@ -224,4 +225,5 @@ module _ {D O : Type 0} (disk : DiskOf D) (out : SinkOf O) where
   pub record StopsFor (start : RenderLead D O) (cause : Cause) (now : RenderLead D O) : Type 0 where
     pub same_disk : now.disk.ghost_name ≡ start.disk.ghost_name
     pub same_out : now.out.ghost_name ≡ start.out.ghost_name
-    pub runs : RunsOn disk out render_asked (way_in start) cause start.disk.now now.disk.now start.out.now now.out.now
+    pub runs : RunsOn (outlets_of disk out) render_asked (way_in start) cause
+        (outlets start.disk.now start.out.now) (outlets now.disk.now now.out.now)

@@ -4,7 +4,7 @@
 //! before it has no strip left to give, gives the strips of the images in order, and keeps what comes of them. An image
 //! is put once all its strips were kept, and what an entry is refused for waits until all earlier images were put. So
 //! what is put doesn't depend on how many work. `Leading` in specs/ says what the lead has become by the strips that it
-//! gave and kept. `render` leads on the caller's thread, `render_by_all` with a thread for each other worker.
+//! gave and kept. `render_alone` leads on the caller's thread, `render` with a thread for each other worker.
 #![tactic(auto)]
 
 mod content;
@@ -15,4 +15,4 @@ mod run;
 mod tally;
 mod under_way;
 
-pub use run::{render, render_by_all};
+pub use run::{render, render_alone};

@@ -3,6 +3,7 @@ ghost use Rattle.std.specs.Prelude.{◌≡◌, ◌<◌, ◌≤◌, ◌-◌, [], 
 ghost use Rattle.std.specs.VecDeque.{deque_capacity};
 ghost use Rattle.lr_rounds.specs.Crews.{crew_with};
 ghost use Rattle.lr_shelf.specs.Kept.{kept_by};
+ghost use Rattle.lr_causes.specs.Outside.{outlets, outlets_of};
 ghost use Rattle.lr_commands.specs.Render.{render_asked};
 ghost use Rattle.lr_commands.specs.Runs.{RunsOn, RunsOver};
 ghost use Rattle.lr_rendering.specs.Leading.{Stands};
@@ -91,7 +92,8 @@ fn render_entries<
     requires fresh { IsFresh desk.queue }
     requires ready { MayLead D.Disk O.Sink (F.pre lead) desk.crew }
     requires leads { Leads D.Disk O.Sink (F.post lead) }
-    ensures { RunsOn D.Disk O.Sink render_asked (kept_by shelf).way result disk.old disk.new out.old out.new }
+    ensures { RunsOn (outlets_of D.Disk O.Sink) render_asked (kept_by shelf).way result
+        (outlets disk.old out.old) (outlets disk.new out.new) }
 {
     if shelf.len() >= MOST_ENTRIES {
         return Cause::NoMemory;
@@ -139,7 +141,8 @@ fn render_with<
     requires workers { (1 ≤ workers) × (workers ≤ 64) }
     requires ready { MayLead D.Disk O.Sink (F.pre lead) (crew_with (workers - 1)) }
     requires leads { Leads D.Disk O.Sink (F.post lead) }
-    ensures { RunsOver D.Disk O.Sink render_asked result disk.old disk.new out.old out.new }
+    ensures { RunsOver (outlets_of D.Disk O.Sink) render_asked result
+        (outlets disk.old out.old) (outlets disk.new out.new) }
 {
     let desk = match Desk::new(alloc, workers) {
         Ok(desk) => desk,
@@ -154,8 +157,9 @@ fn render_with<
 
 /// Puts the image of each file that has one as PGM, in the order of the entries, each once all of it was read. Where
 /// that is done it tells how many there were, and how many files were skipped. All is done on the caller's thread.
-pub fn render<D: Disk, O: Sink>(alloc: Global, disk: &mut D, out: &mut O) -> Cause
-    ensures { RunsOver D.Disk O.Sink render_asked result disk.old disk.new out.old out.new }
+pub fn render_alone<D: Disk, O: Sink>(alloc: Global, disk: &mut D, out: &mut O) -> Cause
+    ensures { RunsOver (outlets_of D.Disk O.Sink) render_asked result
+        (outlets disk.old out.old) (outlets disk.new out.new) }
 {
     render_with(
         alloc,
@@ -169,8 +173,8 @@ pub fn render<D: Disk, O: Sink>(alloc: Global, disk: &mut D, out: &mut O) -> Cau
     )
 }
 
-/// Does what `render` does, where this many work, the caller among them. A thread is started for each other worker.
-pub fn render_by_all<R: Threads + Wait + Sync, D: Disk, O: Sink>(
+/// Does what `render_alone` does, where this many work, the caller among them. A thread is started for each other worker.
+pub fn render<R: Threads + Wait + Sync, D: Disk, O: Sink>(
     rt: &R,
     alloc: Global,
     workers: u32,
@@ -178,7 +182,8 @@ pub fn render_by_all<R: Threads + Wait + Sync, D: Disk, O: Sink>(
     out: &mut O,
 ) -> Cause
     requires { (1 ≤ workers) × (workers ≤ 64) }
-    ensures { RunsOver D.Disk O.Sink render_asked result disk.old disk.new out.old out.new }
+    ensures { RunsOver (outlets_of D.Disk O.Sink) render_asked result
+        (outlets disk.old out.old) (outlets disk.new out.new) }
 {
     render_with(
         alloc,

@@ -8,7 +8,7 @@ use lr_bits::{MissionFile, Origin, Placed};
 use lr_causes::{Cause, line_for};
 use lr_disk::MemDisk;
 use lr_io::MemSink;
-use lr_rendering::{render, render_by_all};
+use lr_rendering::{render, render_alone};
 use lr_shelf::Shelf;
 use std::alloc::Global;
 use std::sync::Wait;
@@ -44,7 +44,7 @@ fn sink(alloc: Global, room: usize) -> Result<MemSink, Fail> {
 /// Whether a run on the caller's thread comes to this end.
 fn ends_alone(alloc: Global, disk: &mut MemDisk, end: End<'_>) -> Result<bool, Fail> {
     let mut out = sink(alloc, end.room)?;
-    let cause = render(alloc, disk, &mut out);
+    let cause = render_alone(alloc, disk, &mut out);
     Ok(came_to(cause, &out, end))
 }
 
@@ -59,7 +59,7 @@ fn ends_by<R: Threads + Wait + Sync>(
     requires { (1 ≤ workers) × (workers ≤ 64) }
 {
     let mut out = sink(alloc, end.room)?;
-    let cause = render_by_all(rt, alloc, workers, disk, &mut out);
+    let cause = render(rt, alloc, workers, disk, &mut out);
     Ok(came_to(cause, &out, end))
 }
 
