@@ -27,8 +27,6 @@ use Rattle.std.proofs.Common.{
 }
 use Rattle.std.proofs.lemmas.List.Sums.{sum_by-append}
 use Rattle.lr_bits.specs.declared.placed.Placed.{Placed}
-use Rattle.lr_io.specs.declared.source.Source.{Ghosts as SourceOf}
-use Rattle.lr_io.specs.declared.sink.Sink.{Ghosts as SinkOf}
 use Rattle.lr_disk.specs.declared.disk.Disk.{Ghosts as DiskOf}
 use Rattle.lr_shelf_format.specs.ShelfBytes.{end_of}
 use Rattle.lr_shelf_format.specs.Items.{Item, extent_of, head_of_item}
@@ -52,16 +50,13 @@ use Rattle.lr_shelf.specs.Grounds.{
   end_with_files,
   next_number,
   with_files,
-}
-use Rattle.lr_shelf.specs.Fronts.{end_with}
-use Rattle.lr_receiving.specs.Shelving.{
-  shelved_lines,
   StandsForFront,
-  StandsForOneFileMore,
   LeavesFronts,
   HoldsFront,
 }
-use Rattle.lr_causes.specs.Outside.{NoFault, outside, world_of}
+use Rattle.lr_shelf.specs.Fronts.{end_with}
+use Rattle.lr_receiving.specs.Shelving.{shelved_lines, StandsForOneFileMore}
+use Rattle.lr_causes.specs.Outside.{NoFault, World, Outside}
 use Rattle.lr_receiving.specs.Receive.{IsWorkDone, Ends, Receives}
 use Rattle.lr_shelf.proofs.Grounds.{with_files-append}
 use Rattle.lr_shelf.proofs.Fronts.{end_with-append}
@@ -178,34 +173,36 @@ module _ (ground : Ground) (files whole rest : List Placed) (split : files ≡ w
   all_there : length whole ≤ length files
   all_there = omega (arith, ap length split, length-append whole rest)
 
-module _ {S D O : Type 0} (source : SourceOf S) (disk : DiskOf D) (out : SinkOf O) (input : Input)
-    (ground : Ground) (limit : ℕ) (bytes : List ℕ) (s s' : S) (d d' : D) (o o' : O) where
+module _ {S D O : Type 0} (world : World S D O) (input : Input) (ground : Ground) (limit : ℕ) (bytes : List ℕ)
+    (w w' : Outside S D O) where
   files : List Placed
   files = files_of_bytes input bytes
 
   -- where the last lines are to come, all files are there
   every : (n : ℕ) → n ≤ length (files_of_bytes input bytes)
-      → HoldsStill ground (files_of_bytes input bytes) disk d'
-      → HoldsFront disk ground (files_of_bytes input bytes) n d'
-  every n enough durable = holds disk ground (files_of_bytes input bytes) d'
+      → HoldsStill ground (files_of_bytes input bytes) world.disk w'.disk
+      → HoldsFront world.disk ground (files_of_bytes input bytes) n w'.disk
+  every n enough durable = holds world.disk ground (files_of_bytes input bytes) w'.disk
       (files_of_bytes input bytes) [] n (sym (append-nil (files_of_bytes input bytes))) enough durable
 
-  module _ (whole rest : List Placed) (text : List ℕ) (told : out.tells o) (split : files_of_bytes input bytes
-      ≡ whole ++ rest) (put : out.contents o' ≡ out.contents o
+  module _ (whole rest : List Placed) (text : List ℕ) (told : world.out.tells w.out)
+      (split : files_of_bytes input bytes
+      ≡ whole ++ rest) (put : world.out.contents w'.out ≡ world.out.contents w.out
       ++ (shelved_lines (next_number ground) whole ++ text)) where
     enough_of : (first more : List Placed) (got : List ℕ) → files_of_bytes input bytes ≡ first ++ more
-        → out.contents o' ≡ out.contents o ++ got
+        → world.out.contents w'.out ≡ world.out.contents w.out ++ got
         → length got ≤ length (shelved_lines (next_number ground) first) → length whole ≤ length first
     enough_of first more got known got_put le =
-        acknowledged ground (files_of_bytes input bytes) whole rest split first more (out.contents o)
-        (out.contents o') got text known got_put le put
+        acknowledged ground (files_of_bytes input bytes) whole rest split first more (world.out.contents w.out)
+        (world.out.contents w'.out) got text known got_put le put
 
-    every_one : HoldsStill ground (files_of_bytes input bytes) disk d'
-        → HoldsFront disk ground (files_of_bytes input bytes) (length whole) d'
-    every_one durable = every (length whole) (all_there ground (files_of_bytes input bytes) whole rest split) durable
+    every_one : HoldsStill ground (files_of_bytes input bytes) world.disk w'.disk
+        → HoldsFront world.disk ground (files_of_bytes input bytes) (length whole) w'.disk
+    every_one durable = every (length whole) (all_there ground (files_of_bytes input bytes) whole rest split)
+        durable
 
-    held : (cause : Cause) → Ends source disk out input ground limit bytes cause s s' d d' o o'
-        → HoldsFront disk ground (files_of_bytes input bytes) (length whole) d'
+    held : (cause : Cause) → Ends world input ground limit bytes cause w w'
+        → HoldsFront world.disk ground (files_of_bytes input bytes) (length whole) w'.disk
     held Done (inl e) = every_one e.durable
     held Done (inr e) = every_one e.durable
     held (Failed Source) e = every_one e.durable
@@ -213,9 +210,9 @@ module _ {S D O : Type 0} (source : SourceOf S) (disk : DiskOf D) (out : SinkOf 
         let enough = enough_of e.done e.rest (shelved_lines (next_number ground) e.done) e.split (e.got told)
         (omega arith) in
         record {
-          contents = front_of disk ground (files_of_bytes input bytes) d' e.done e.rest (length whole)
-              (disk.contents d') e.split enough e.contents;
-          images = λ c image. front_of disk ground (files_of_bytes input bytes) d' e.done e.rest
+          contents = front_of world.disk ground (files_of_bytes input bytes) w'.disk e.done e.rest (length whole)
+              (world.disk.contents w'.disk) e.split enough e.contents;
+          images = λ c image. front_of world.disk ground (files_of_bytes input bytes) w'.disk e.done e.rest
               (length whole) c e.split enough (e.images c image);
         }
     held (Failed Output) (inl e) =
@@ -230,46 +227,48 @@ module _ {S D O : Type 0} (source : SourceOf S) (disk : DiskOf D) (out : SinkOf 
           ap length (shelved_lines-push (next_number ground) e.done e.last),
           length-append (shelved_lines (next_number ground) e.done) line,
         ) in
-        let put_is : out.contents o' ≡ out.contents o ++ got = cut.put
-        ∙ append_assoc (out.contents o) (shelved_lines (next_number ground) e.done) cut.part in
-        holds disk ground (files_of_bytes input bytes) d' first e.rest (length whole) e.split
+        let put_is : world.out.contents w'.out ≡ world.out.contents w.out ++ got = cut.put
+        ∙ append_assoc (world.out.contents w.out) (shelved_lines (next_number ground) e.done) cut.part in
+        holds world.disk ground (files_of_bytes input bytes) w'.disk first e.rest (length whole) e.split
         (enough_of first e.rest got e.split put_is le) e.durable
     held (Failed Output) (inr e) = every_one e.durable
     held NoMemory e =
         let enough = enough_of e.done e.rest (shelved_lines (next_number ground) e.done) e.split (e.got told)
         (omega arith) in
-        holds disk ground (files_of_bytes input bytes) d' e.done e.rest (length whole) e.split enough e.durable
+        holds world.disk ground (files_of_bytes input bytes) w'.disk e.done e.rest (length whole)
+        e.split enough e.durable
     held (Refused (Capacity needed most)) e =
         let enough = enough_of e.done (e.next ∷ e.rest) (shelved_lines (next_number ground) e.done) e.split
         (e.got told) (omega arith) in
-        holds disk ground (files_of_bytes input bytes) d' e.done (e.next ∷ e.rest) (length whole)
+        holds world.disk ground (files_of_bytes input bytes) w'.disk e.done (e.next ∷ e.rest) (length whole)
         e.split enough e.durable
     held _ e = absurd e
 
-  held_untold : (cause : Cause) → Ends source disk out input ground limit bytes cause s s' d d' o o'
-      → HoldsFront disk ground (files_of_bytes input bytes) 0 d'
+  held_untold : (cause : Cause) → Ends world input ground limit bytes cause w w'
+      → HoldsFront world.disk ground (files_of_bytes input bytes) 0 w'.disk
   held_untold Done (inl e) = every 0 (omega arith) e.durable
   held_untold Done (inr e) = every 0 (omega arith) e.durable
   held_untold (Failed Source) e = every 0 (omega arith) e.durable
   held_untold (Failed Disk) e = record {
-    contents = front_of disk ground (files_of_bytes input bytes) d' e.done e.rest 0 (disk.contents d')
+    contents = front_of world.disk ground (files_of_bytes input bytes) w'.disk e.done e.rest
+        0 (world.disk.contents w'.disk)
         e.split (omega arith) e.contents;
-    images = λ c image. front_of disk ground (files_of_bytes input bytes) d' e.done e.rest 0 c e.split
+    images = λ c image. front_of world.disk ground (files_of_bytes input bytes) w'.disk e.done e.rest 0 c e.split
         (omega arith) (e.images c image);
   }
   held_untold (Failed Output) (inl e) =
-      holds disk ground (files_of_bytes input bytes) d' (e.done ++ e.last ∷ []) e.rest 0 e.split
+      holds world.disk ground (files_of_bytes input bytes) w'.disk (e.done ++ e.last ∷ []) e.rest 0 e.split
       (omega arith) e.durable
   held_untold (Failed Output) (inr e) = every 0 (omega arith) e.durable
-  held_untold NoMemory e = holds disk ground (files_of_bytes input bytes) d' e.done e.rest 0 e.split
+  held_untold NoMemory e = holds world.disk ground (files_of_bytes input bytes) w'.disk e.done e.rest 0 e.split
       (omega arith) e.durable
   held_untold (Refused (Capacity needed most)) e =
-      holds disk ground (files_of_bytes input bytes) d' e.done (e.next ∷ e.rest) 0 e.split
+      holds world.disk ground (files_of_bytes input bytes) w'.disk e.done (e.next ∷ e.rest) 0 e.split
       (omega arith) e.durable
   held_untold _ e = absurd e
 
-  complete : (cause : Cause) → Ends source disk out input ground limit bytes cause s s' d d' o o'
-      → NoFault (world_of source disk out) (outside s d o) (outside s' d' o')
+  complete : (cause : Cause) → Ends world input ground limit bytes cause w w'
+      → NoFault world w w'
       → AllHaveRoom ground (files_of_bytes input bytes)
       → (cause ≡ Done) ⊎ (cause ≡ NoMemory)
   complete Done e quiet fits = inl refl
@@ -282,10 +281,10 @@ module _ {S D O : Type 0} (source : SourceOf S) (disk : DiskOf D) (out : SinkOf 
       absurd (lacks_room ground e.done e.next e.rest e.over (subst (AllHaveRoom ground) e.split fits))
   complete _ e quiet fits = absurd e
 
-  pub receives : (cause : Cause) → LeavesFronts disk ground (files_of_bytes input bytes) d d'
-      → Ends source disk out input ground limit bytes cause s s' d d' o o'
+  pub receives : (cause : Cause) → LeavesFronts world.disk ground (files_of_bytes input bytes) w.disk w'.disk
+      → Ends world input ground limit bytes cause w w'
       → (IsWorkDone cause → AllHaveRoom ground (files_of_bytes input bytes))
-      → Receives (world_of source disk out) input ground limit bytes cause (outside s d o) (outside s' d' o')
+      → Receives world input ground limit bytes cause w w'
   receives cause any_moment ends room = record {
     held = λ whole rest text told split put. held whole rest text told split put cause ends;
     held_untold = held_untold cause ends;
@@ -299,12 +298,12 @@ module _ {S D O : Type 0} (source : SourceOf S) (disk : DiskOf D) (out : SinkOf 
   }
 
 -- over a shelf of items: where the work is done, what stands there fits
-pub room_of_items : {S D O : Type 0} (source : SourceOf S) (disk : DiskOf D) (out : SinkOf O) (input : Input)
-    (capacity : ℕ) (items : List Item) (limit : ℕ) (bytes : List ℕ) (s s' : S) (d d' : D) (o o' : O) (cause : Cause)
-    → Ends source disk out input (OfItems capacity items) limit bytes cause s s' d d' o o' → IsWorkDone cause
+pub room_of_items : {S D O : Type 0} (world : World S D O) (input : Input) (capacity : ℕ) (items : List Item)
+    (limit : ℕ) (bytes : List ℕ) (w w' : Outside S D O) (cause : Cause)
+    → Ends world input (OfItems capacity items) limit bytes cause w w' → IsWorkDone cause
     → AllHaveRoom (OfItems capacity items) (files_of_bytes input bytes)
-room_of_items source disk out input capacity items limit bytes s s' d d' o o' Done (inl e) done = e.durable.stands.fits
-room_of_items source disk out input capacity items limit bytes s s' d d' o o' Done (inr e) done = e.durable.stands.fits
-room_of_items source disk out input capacity items limit bytes s s' d d' o o' (Failed Source) e done =
+room_of_items world input capacity items limit bytes w w' Done (inl e) done = e.durable.stands.fits
+room_of_items world input capacity items limit bytes w w' Done (inr e) done = e.durable.stands.fits
+room_of_items world input capacity items limit bytes w w' (Failed Source) e done =
     e.durable.stands.fits
-room_of_items source disk out input capacity items limit bytes s s' d d' o o' _ e done = absurd done
+room_of_items world input capacity items limit bytes w w' _ e done = absurd done

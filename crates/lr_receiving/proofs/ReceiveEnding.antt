@@ -21,7 +21,6 @@ use Rattle.lr_bits.specs.Faults.{Rose}
 use Rattle.lr_bits.specs.declared.placed.Placed.{Placed}
 use Rattle.lr_io.specs.declared.source.Source.{Ghosts as SourceOf}
 use Rattle.lr_io.specs.declared.sink.Sink.{Ghosts as SinkOf}
-use Rattle.lr_disk.specs.declared.disk.Disk.{Ghosts as DiskOf}
 use Rattle.lr_disk.specs.Disk.{LeavesOnly}
 use Rattle.lr_layers.specs.Layers.{Numbers, numbers_of}
 use Rattle.lr_layers.specs.Standing.{numbers}
@@ -42,7 +41,7 @@ use Rattle.lr_reading.specs.Inputs.{outcomes_of_bytes}
 use Rattle.lr_receiving.specs.Inputs.{files_of_bytes}
 use Rattle.lr_causes.specs.Puts.{PutFails}
 use Rattle.lr_shelf.specs.Grounds.{Ground, IsSettledOn, StandsWith, next_number}
-use Rattle.lr_receiving.specs.Shelving.{shelved_lines, StandsForFront, StopsBy}
+use Rattle.lr_receiving.specs.Shelving.{shelved_lines, StopsBy}
 use Rattle.lr_receiving.specs.Shelved.{MayStop, ShelvesSoFar, Grows, GrowsNoMore}
 use Rattle.lr_receiving.specs.Receive.{counts_line, receive_count, receive_last, IsWorkDone, Finishes, Ends}
 use Rattle.lr_receiving.specs.Reception.{
@@ -56,6 +55,8 @@ use Rattle.lr_receiving.specs.Reception.{
 }
 use Rattle.lr_receiving.proofs.Causing.{first_beside, first_done, first_end}
 use Rattle.lr_receiving.proofs.ShelvedLines.{shelved_lines-none}
+use Rattle.lr_causes.specs.Outside.{outlets, outside, outlets_in, world_outlets, Outlets, OutletsOf, World, Outside}
+use Rattle.lr_shelf.proofs.GroundFronts.{front_none}
 
 -- the last line tells what was read and counted
 pub last_line_is : {S : Type 0} (source : SourceOf S) (input : Input) (limit : ℕ) (bytes : List ℕ)
@@ -74,25 +75,23 @@ last_line_is source input limit bytes s s' sums ends counted =
     ∙ ap (λ k. counts_line (length bytes) (length (outcomes_of_bytes input bytes))
     (numbers_of (outcomes_of_bytes input bytes)) k totals.stop) ends.left
 
-module _ {D O : Type 0} (disk : DiskOf D) (out : SinkOf O) (ground : Ground) where
-  pub front_none : (bytes : List ℕ) → StandsWith ground [] bytes → StandsForFront ground [] 0 bytes
-  front_none bytes s = record { first = []; rest = []; split = refl; enough = omega arith; stands = s }
+-- nothing was put
+pub got_none : {O : Type 0} (out : SinkOf O) (ground : Ground) (o : O) → out.tells o
+    → out.contents o ≡ out.contents o ++ shelved_lines (next_number ground) []
+got_none out ground o t =
+    sym (ap (λ l. out.contents o ++ l) (shelved_lines-none (next_number ground)) ∙ append-nil (out.contents o))
 
-  -- nothing was put
-  pub got_none : (o : O) → out.tells o → out.contents o ≡ out.contents o ++ shelved_lines (next_number ground) []
-  got_none o t =
-      sym (ap (λ l. out.contents o ++ l) (shelved_lines-none (next_number ground)) ∙ append-nil (out.contents o))
-
-  -- the shelf is loaded
-  pub loaded : (d d1 : D) (o : O) (shelf : Shelf) → IsSettledOn ground [] disk shelf d1
-      → LeavesOnly disk.moment disk.left_since d d1 (StandsWith ground []) → disk.faults d1 ≡ disk.faults d
-      → ShelvesSoFar disk out ground [] shelf d d1 o o
-  loaded d d1 o shelf settled run count = record {
-    settled = settled;
-    any_moment = weaker disk.moment disk.left_since d d1 _ _ front_none run;
-    put = record { told = λ t. t; put = λ t. got_none o t; kept = refl };
-    disk_count = count;
-  }
+-- the shelf is loaded
+pub loaded : {D O : Type 0} (world : OutletsOf D O) (ground : Ground) (w : Outlets D O) (d1 : D) (shelf : Shelf)
+    → IsSettledOn ground [] world.disk shelf d1
+    → LeavesOnly world.disk.moment world.disk.left_since w.disk d1 (StandsWith ground [])
+    → world.disk.faults d1 ≡ world.disk.faults w.disk → ShelvesSoFar world ground [] shelf w (outlets d1 w.out)
+loaded world ground w d1 shelf settled run count = record {
+  settled = settled;
+  any_moment = weaker world.disk.moment world.disk.left_since w.disk d1 _ _ (front_none ground) run;
+  put = record { told = λ t. t; put = λ t. got_none world.out ground w.out t; kept = refl };
+  disk_count = count;
+}
 
 -- ---- over every disk
 
@@ -110,10 +109,10 @@ no_work NoMemory may done = done
 no_work (Refused (Capacity needed most)) may done = done
 no_work _ may done = absurd may
 
-module _ {D O : Type 0} {shelf : Shelf} {files : List Placed} {d d1 : D} {o o1 : O} where
+module _ {D O : Type 0} {shelf : Shelf} {files : List Placed} {w w1 : Outlets D O} where
   -- shelving stopped
-  over_some : (cause : Cause) → MayStop cause → GrowsNoMore cause files shelf d d1 o o1
-      → EndsOver cause files shelf d d1 o o1
+  over_some : (cause : Cause) → MayStop cause → GrowsNoMore cause files shelf w w1
+      → EndsOver cause files shelf w w1
   over_some cause may stops = record {
     full = stops.full;
     room = λ done. absurd (no_work cause may done);
@@ -122,10 +121,11 @@ module _ {D O : Type 0} {shelf : Shelf} {files : List Placed} {d d1 : D} {o o1 :
     kind = λ none failed. cc (failed, (stops.none none).0);
   }
 
-  module _ {shelf1 : Shelf} (grown : Grows files shelf shelf1 d d1 o o1) (o2 : O) where
+  module _ {shelf1 : Shelf} (grown : Grows files shelf shelf1 w w1) (o2 : O) where
     -- all files are shelved, and the last line isn't put
     over_last : (cause : Cause) → ((needed most : ℕ) → cause ≡ Refused (Capacity needed most) → ⊥)
-        → (cause ≡ Failed Disk → ⊥) → (IsEarlier cause → o2 ≡ o1) → EndsOver cause files shelf d d1 o o2
+        → (cause ≡ Failed Disk → ⊥) → (IsEarlier cause → o2 ≡ w1.out)
+        → EndsOver cause files shelf w (outlets w1.disk o2)
     over_last cause other no_fault same = record {
       full = λ needed most is. absurd (other needed most is);
       room = λ done. grown.room;
@@ -135,7 +135,7 @@ module _ {D O : Type 0} {shelf : Shelf} {files : List Placed} {d d1 : D} {o o1 :
     }
 
     -- it is put
-    over_done : (stop : Stop) → EndsOver (cause_at stop) files shelf d d1 o o2
+    over_done : (stop : Stop) → EndsOver (cause_at stop) files shelf w (outlets w1.disk o2)
     over_done End = over_last (cause_at End) (λ needed most is. cc (is)) (λ is. cc (is)) (λ early. absurd early)
     over_done Limit = over_last (cause_at Limit) (λ needed most is. cc (is)) (λ is. cc (is)) (λ early. absurd early)
     over_done Fault = over_last (cause_at Fault) (λ needed most is. cc (is)) not_disk (λ early. absurd early)
@@ -143,26 +143,28 @@ module _ {D O : Type 0} {shelf : Shelf} {files : List Placed} {d d1 : D} {o o1 :
         not_disk : Failed Source ≡ Failed Disk → ⊥
         not_disk is = let same : Source ≡ Disk = cc (is) in cc (same)
 
-module _ {S D O : Type 0} (source : SourceOf S) (disk : DiskOf D) (out : SinkOf O) (input : Input) (limit : ℕ) where
-  module _ (ground : Ground) (bytes : List ℕ) (s s' : S) (d d' : D) (o o' : O) where
-    ends_of : (cause : Cause) → StopsBy disk out ground cause (files_of_bytes input bytes) d d' o o'
-        → Ends source disk out input ground limit bytes cause s s' d d' o o'
+module _ {S D O : Type 0} (world : World S D O) (input : Input) (limit : ℕ) where
+  module _ (ground : Ground) (bytes : List ℕ) (w w' : Outside S D O) where
+    ends_of : (cause : Cause)
+        → StopsBy (world_outlets world) ground cause (files_of_bytes input bytes) (outlets_in w)
+        (outlets_in w')
+        → Ends world input ground limit bytes cause w w'
     ends_of (Failed Disk) stops = stops
     ends_of (Failed Output) stops = inl stops
     ends_of NoMemory stops = stops
     ends_of (Refused (Capacity needed most)) stops = stops
     ends_of _ stops = absurd stops
 
-    ends_at : (stop : Stop) → Finishes source disk out input ground limit bytes stop s s' d d' o o'
-        → Ends source disk out input ground limit bytes (cause_at stop) s s' d d' o o'
+    ends_at : (stop : Stop) → Finishes world input ground limit bytes stop w w'
+        → Ends world input ground limit bytes (cause_at stop) w w'
     ends_at End done = inl done
     ends_at Limit done = inr done
     ends_at Fault done = done
 
-  module _ (shelf : Shelf) (s s' : S) (d d1 : D) (o o1 : O) where
+  module _ (shelf : Shelf) (w w1 : Outside S D O) where
     -- shelving stopped
-    pub ended_some : (cause : Cause) → ReadsSome source disk out input limit cause shelf s s' d d1 o o1
-        → EndsRun source disk out input limit cause shelf s s' d d1 o o1
+    pub ended_some : (cause : Cause) → ReadsSome world input limit cause shelf w w1
+        → EndsRun world input limit cause shelf w w1
     ended_some cause some =
         let stopped = some.stopped in
         record {
@@ -171,22 +173,26 @@ module _ {S D O : Type 0} (source : SourceOf S) (disk : DiskOf D) (out : SinkOf 
           kind = inl stopped.kind;
           told_by_disk = stopped.told_by_disk;
           told_by_out = stopped.told_by_out;
-          first = λ works. first_beside cause (source.faults s) (source.faults s') (disk.faults d) (disk.faults d1)
-              (out.faults o) (out.faults o1) stopped.kind (stopped.first works);
-          ends = λ ground d0 o0 so_far.
-              let stops = stopped.stops ground [] d0 o0 so_far in
-              (stops.any_moment, ends_of ground some.bytes s s' d0 d1 o0 o1 cause stops.why);
+          first = λ works. first_beside cause (world.source.faults w.source)
+              (world.source.faults w1.source) (world.disk.faults w.disk) (world.disk.faults w1.disk)
+              (world.out.faults w.out) (world.out.faults w1.out) stopped.kind (stopped.first works);
+          ends = λ ground before so_far.
+              let stops = stopped.stops ground [] before so_far in (
+                stops.any_moment,
+                ends_of ground some.bytes (outside w.source before.disk before.out)
+                    w1 cause stops.why,
+              );
           over = over_some cause stopped.kind stopped.grown;
         }
 
     module _ (sums : Sums) (shelf1 : Shelf)
-        (all : ReadsAll source disk out input limit sums shelf shelf1 s s' d d1 o o1) (o2 : O) where
+        (all : ReadsAll world input limit sums shelf shelf1 w w1) (o2 : O) where
       line_is : sums_line sums ≡ receive_last input all.bytes sums.totals.stop
-      line_is = last_line_is source input limit all.bytes s s' sums all.ends all.counts
+      line_is = last_line_is world.source input limit all.bytes w.source w1.source sums all.ends all.counts
 
       -- a part of the last line was put
-      summary_cut : PutFails out (sums_line sums) o1 o2
-          → EndsRun source disk out input limit (Failed Output) shelf s s' d d1 o o2
+      summary_cut : PutFails world.out (sums_line sums) w1.out o2
+          → EndsRun world input limit (Failed Output) shelf w (outside w1.source w1.disk o2)
       summary_cut fails = record {
         bytes = all.bytes;
         read = all.ends.read;
@@ -194,11 +200,11 @@ module _ {S D O : Type 0} (source : SourceOf S) (disk : DiskOf D) (out : SinkOf 
         told_by_disk = all.shelved.told_by_disk;
         told_by_out = λ t. fails.told (all.shelved.told_by_out t);
         first = λ works. (
-          subst (λ (k : ℕ). Rose k (out.faults o2)) all.shelved.out_count fails.rose,
+          subst (λ (k : ℕ). Rose k (world.out.faults o2)) all.shelved.out_count fails.rose,
           all.shelved.disk_count,
         );
-        ends = λ ground d0 o0 begun.
-            let so_far = all.shelved.shelved ground [] d0 o0 begun in (
+        ends = λ ground before begun.
+            let so_far = all.shelved.shelved ground [] before begun in (
               so_far.any_moment,
               inr (record {
                 stop = sums.totals.stop;
@@ -213,7 +219,7 @@ module _ {S D O : Type 0} (source : SourceOf S) (disk : DiskOf D) (out : SinkOf 
                       shorter = omega (arith, cut.shorter, ap length line_is);
                       put = cut.put ∙ ap (λ (l : List ℕ). l ++ cut.part) (so_far.put.put t);
                     };
-                rose = subst (λ (k : ℕ). Rose k (out.faults o2)) so_far.put.kept fails.rose;
+                rose = subst (λ (k : ℕ). Rose k (world.out.faults o2)) so_far.put.kept fails.rose;
               }),
             );
         over =
@@ -222,62 +228,66 @@ module _ {S D O : Type 0} (source : SourceOf S) (disk : DiskOf D) (out : SinkOf 
       }
 
       -- there was no memory for it
-      no_summary : o2 ≡ o1 → EndsRun source disk out input limit NoMemory shelf s s' d d1 o o2
+      no_summary : o2 ≡ w1.out → EndsRun world input limit NoMemory shelf w (outside w1.source w1.disk o2)
       no_summary same = record {
         bytes = all.bytes;
         read = all.ends.read;
         kind = inl tt;
         told_by_disk = all.shelved.told_by_disk;
-        told_by_out = λ t. subst out.tells (sym same) (all.shelved.told_by_out t);
-        first = λ works. (all.shelved.disk_count, ap out.faults same ∙ all.shelved.out_count);
-        ends = λ ground d0 o0 begun.
-            let so_far = all.shelved.shelved ground [] d0 o0 begun in (
+        told_by_out = λ t. subst world.out.tells (sym same) (all.shelved.told_by_out t);
+        first = λ works. (all.shelved.disk_count, ap world.out.faults same ∙ all.shelved.out_count);
+        ends = λ ground before begun.
+            let so_far = all.shelved.shelved ground [] before begun in (
               so_far.any_moment,
               record {
                 done = files_of_bytes input all.bytes;
                 rest = [];
                 split = sym (append-nil (files_of_bytes input all.bytes));
                 durable = so_far.settled.on_disk;
-                got = λ t. ap out.contents same ∙ so_far.put.put t;
+                got = λ t. ap world.out.contents same ∙ so_far.put.put t;
               },
             );
         over = over_last all.shelved.grown o2 NoMemory (λ needed most is. cc (is)) (λ is. cc (is)) (λ early. same);
       }
 
       -- the last line wasn't put
-      pub last_stopped : (cause : Cause) → LastStops out sums cause o1 o2
-          → EndsRun source disk out input limit cause shelf s s' d d1 o o2
+      pub last_stopped : (cause : Cause) → LastStops world.out sums cause w1.out o2
+          → EndsRun world input limit cause shelf w (outside w1.source w1.disk o2)
       last_stopped (Failed Output) stops = summary_cut stops
       last_stopped NoMemory stops = no_summary stops
       last_stopped _ stops = absurd stops
 
       -- it was put
-      pub all_put : PutsLast out sums o1 o2
-          → EndsRun source disk out input limit (cause_at sums.totals.stop) shelf s s' d d1 o o2
+      pub all_put : PutsLast world.out sums w1.out o2
+          → EndsRun world input limit (cause_at sums.totals.stop) shelf w (outside w1.source w1.disk o2)
       all_put put = record {
         bytes = all.bytes;
         read = all.ends.read;
         kind = inr (work_at sums.totals.stop);
         told_by_disk = all.shelved.told_by_disk;
         told_by_out = λ t. put.told (all.shelved.told_by_out t);
-        first = λ works. first_done sums.totals.stop (source.faults s) (source.faults s') (disk.faults d)
-            (disk.faults d1) (out.faults o) (out.faults o2)
-            (first_end source sums.totals.stop limit all.bytes s s' all.ends.reason)
+        first = λ works. first_done sums.totals.stop (world.source.faults w.source)
+            (world.source.faults w1.source) (world.disk.faults w.disk)
+            (world.disk.faults w1.disk) (world.out.faults w.out) (world.out.faults o2)
+            (first_end world.source sums.totals.stop limit all.bytes w.source w1.source all.ends.reason)
             all.shelved.disk_count (put.kept ∙ all.shelved.out_count);
-        ends = λ ground d0 o0 begun.
-            let so_far = all.shelved.shelved ground [] d0 o0 begun in
+        ends = λ ground before begun.
+            let so_far = all.shelved.shelved ground [] before begun in
             let files = files_of_bytes input all.bytes in (
               so_far.any_moment,
-              ends_at ground all.bytes s s' d0 d1 o0 o2 sums.totals.stop (record {
-                reason = all.ends.reason;
-                durable = so_far.settled.on_disk;
-                got = λ t.
-                    put.put (so_far.put.told t) ∙ ap (λ (l : List ℕ). l ++ sums_line sums) (so_far.put.put t)
-                    ∙ append_assoc (out.contents o0) (shelved_lines (next_number ground) files) (sums_line sums)
-                    ∙ ap (λ (l : List ℕ). out.contents o0 ++ (shelved_lines (next_number ground) files ++ l)) line_is;
-                disk_count = so_far.disk_count;
-                out_count = put.kept ∙ so_far.put.kept;
-              }),
+              ends_at ground all.bytes (outside w.source before.disk before.out)
+                  (outside w1.source w1.disk o2) sums.totals.stop (record {
+                    reason = all.ends.reason;
+                    durable = so_far.settled.on_disk;
+                    got = λ t.
+                        put.put (so_far.put.told t) ∙ ap (λ (l : List ℕ). l ++ sums_line sums) (so_far.put.put t)
+                        ∙ append_assoc (world.out.contents before.out) (shelved_lines (next_number ground) files)
+                        (sums_line sums)
+                        ∙ ap (λ (l : List ℕ). world.out.contents before.out
+                        ++ (shelved_lines (next_number ground) files ++ l)) line_is;
+                    disk_count = so_far.disk_count;
+                    out_count = put.kept ∙ so_far.put.kept;
+                  }),
             );
         over = over_done all.shelved.grown o2 sums.totals.stop;
       }

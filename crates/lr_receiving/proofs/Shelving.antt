@@ -26,7 +26,6 @@ use Rattle.lr_bits.specs.declared.placed.Placed.{Placed}
 use Rattle.lr_io.specs.declared.sink.Sink.{Ghosts as SinkOf}
 use Rattle.lr_disk.specs.declared.disk.Disk.{Ghosts as DiskOf}
 use Rattle.lr_disk.specs.Disk.{LeavesOnly}
-use Rattle.lr_disk.proofs.Moments.{weaker, joined}
 use Rattle.lr_shelf_format.specs.Items.{Item}
 use Rattle.lr_shelf.specs.Adds.{new_end}
 use Rattle.lr_shelf.specs.Append.{Appends, IsAppendRefusal, item_for}
@@ -47,57 +46,20 @@ use Rattle.lr_causes.specs.declared.cause.Party.TheVariants.{Disk, Output}
 use Rattle.lr_causes.specs.declared.cause.Refusal.TheVariants.{Capacity}
 use Rattle.lr_refusals.specs.Errors.{cause_of}
 use Rattle.lr_causes.specs.Puts.{Puts, PutFails}
-use Rattle.lr_shelf.specs.Grounds.{Ground, HoldsStill, IsSettledOn, next_number}
+use Rattle.lr_shelf.specs.Grounds.{Ground, HoldsStill, IsSettledOn, next_number, LeavesFronts, StandsWithEither}
 use Rattle.lr_shelf.specs.Fronts.{end_with}
-use Rattle.lr_receiving.specs.Shelving.{
-  shelved_lines,
-  StandsForFront,
-  StandsForOneFileMore,
-  LeavesFronts,
-  StopsBy,
-  Stops,
-}
+use Rattle.lr_receiving.specs.Shelving.{shelved_lines, StandsForOneFileMore, StopsBy, Stops}
 use Rattle.lr_receiving.specs.Shelved.{MayStop, ShelvesSoFar, HasShelved, StopsShelving, Grows, GrowsNoMore}
 use Rattle.lr_receiving.proofs.Causing.{append_works, first_refused}
-use Rattle.lr_shelf.proofs.Grounds.{
-  StandsWithEither,
-  capacity_is,
-  ends,
-  left_on,
-  moments_on,
-  needed_is,
-  now_on,
-  number_is,
-  settled_on,
-}
+use Rattle.lr_shelf.proofs.Grounds.{capacity_is, ends, left_on, moments_on, needed_is, now_on, number_is, settled_on}
 use Rattle.lr_receiving.proofs.Growing.{grows_one, stops_at_one, stops_for_memory}
 use Rattle.lr_receiving.proofs.ShelvedLines.{shelved_lines-push}
+use Rattle.lr_causes.specs.Outside.{outlets, outlets_of, Outlets, OutletsOf}
+use Rattle.lr_shelf.proofs.GroundFronts.{fronts_of_more, fronts_with}
 
--- ---- fronts
+-- ---- one file more
 
 module _ (ground : Ground) where
-  pub front_more : (done more : List Placed) (n : ℕ) (bytes : List ℕ) → StandsForFront ground done n bytes
-      → StandsForFront ground (done ++ more) n bytes
-  front_more done more n bytes s = record {
-    first = s.first;
-    rest = s.rest ++ more;
-    split = ap (λ (l : List Placed). l ++ more) s.split ∙ append_assoc s.first s.rest more;
-    enough = s.enough;
-    stands = s.stands;
-  }
-
-  either_front : (done : List Placed) (placed : Placed) (bytes : List ℕ) → StandsWithEither ground done placed bytes
-      → StandsForFront ground (done ++ placed ∷ []) 0 bytes
-  either_front done placed bytes (inl s) =
-      record { first = done; rest = placed ∷ []; split = refl; enough = omega arith; stands = s }
-  either_front done placed bytes (inr s) = record {
-    first = done ++ placed ∷ [];
-    rest = [];
-    split = sym (append-nil (done ++ placed ∷ []));
-    enough = omega arith;
-    stands = s;
-  }
-
   either_more : (done : List Placed) (placed : Placed) (bytes : List ℕ) → StandsWithEither ground done placed bytes
       → StandsForOneFileMore ground done (placed ∷ []) bytes
   either_more done placed bytes (inl s) = inl s
@@ -122,18 +84,18 @@ append_kind item kept _ refusal = absurd refusal
 
 -- ---- more files
 
-module _ {D O : Type 0} (disk : DiskOf D) (out : SinkOf O) (ground : Ground) (d d' : D) (o o' : O)
+module _ {D O : Type 0} (world : OutletsOf D O) (ground : Ground) (w w' : Outlets D O)
     (files more : List Placed) where
   longer : (done rest : List Placed) → files ≡ done ++ rest → files ++ more ≡ done ++ (rest ++ more)
   longer done rest split = ap (λ (l : List Placed). l ++ more) split ∙ append_assoc done rest more
 
-  stops_by_more : (cause : Cause) → StopsBy disk out ground cause files d d' o o'
-      → StopsBy disk out ground cause (files ++ more) d d' o o'
+  stops_by_more : (cause : Cause) → StopsBy world ground cause files w w'
+      → StopsBy world ground cause (files ++ more) w w'
   stops_by_more (Failed Disk) why = record {
     done = why.done;
     rest = why.rest ++ more;
     split = longer why.done why.rest why.split;
-    contents = one_more_later ground why.done why.rest more (disk.contents d') why.contents;
+    contents = one_more_later ground why.done why.rest more (world.disk.contents w'.disk) why.contents;
     images = λ c image. one_more_later ground why.done why.rest more c (why.images c image);
     got = why.got;
     rose = why.rose;
@@ -168,27 +130,28 @@ module _ {D O : Type 0} (disk : DiskOf D) (out : SinkOf O) (ground : Ground) (d 
   stops_by_more _ why = absurd why
 
   -- shelving that stopped among some files stopped among more of them
-  pub stops_more : (cause : Cause) → Stops disk out ground cause files d d' o o'
-      → Stops disk out ground cause (files ++ more) d d' o o'
+  pub stops_more : (cause : Cause) → Stops world ground cause files w w'
+      → Stops world ground cause (files ++ more) w w'
   stops_more cause stops = record {
     any_moment =
-        weaker disk.moment disk.left_since d d' _ _ (λ c s. front_more ground files more 0 c s)
-        stops.any_moment;
+        fronts_of_more world.disk ground w.disk w'.disk w'.disk files stops.any_moment more;
     why = stops_by_more cause stops.why;
   }
 
 -- ---- one file more, on a ground
 
-module _ {D O : Type 0} (disk : DiskOf D) (out : SinkOf O) (ground : Ground) (done : List Placed) (shelf : Shelf)
-    (d d1 : D) (o o1 : O) (so_far : ShelvesSoFar disk out ground done shelf d d1 o o1) where
-  fronts : (more : List Placed) → LeavesFronts disk ground (done ++ more) d d1
-  fronts more =
-      weaker disk.moment disk.left_since d d1 _ _ (λ c s. front_more ground done more 0 c s) so_far.any_moment
+module _ {D O : Type 0} (world : OutletsOf D O) (ground : Ground) (done : List Placed) (shelf : Shelf)
+    (w w1 : Outlets D O) (so_far : ShelvesSoFar world ground done shelf w w1) where
+  abbrev disk : DiskOf D
+  disk = world.disk
+
+  abbrev out : SinkOf O
+  out = world.out
 
   -- no memory for what comes next
-  pub out_of_memory : (more : List Placed) → Stops disk out ground NoMemory (done ++ more) d d1 o o1
+  pub out_of_memory : (more : List Placed) → Stops world ground NoMemory (done ++ more) w w1
   out_of_memory more = record {
-    any_moment = fronts more;
+    any_moment = fronts_of_more disk ground w.disk w1.disk w1.disk done so_far.any_moment more;
     why = record {
       done = done;
       rest = more;
@@ -198,21 +161,19 @@ module _ {D O : Type 0} (disk : DiskOf D) (out : SinkOf O) (ground : Ground) (do
     };
   }
 
-  module _ (placed : Placed) (d2 : D) (run : LeavesOnly disk.moment disk.left_since d1 d2
+  module _ (placed : Placed) (d2 : D) (run : LeavesOnly disk.moment disk.left_since w1.disk d2
       (StandsWithEither ground done placed)) where
-    moments : LeavesFronts disk ground (done ++ placed ∷ []) d d2
-    moments =
-        joined disk.moment disk.left_since d d1 d2 _ (fronts (placed ∷ []))
-        (weaker disk.moment disk.left_since d1 d2 _ _ (λ c s. either_front ground done placed c s) run)
+    moments : LeavesFronts disk ground (done ++ placed ∷ []) w.disk d2
+    moments = fronts_with disk ground w.disk w1.disk d2 done so_far.any_moment placed run
 
     -- the append answered an error
     append_stopped : (e : ShelfError) → IsFile placed.file
         → StandsWithEither ground done placed (disk.contents d2)
         → ((c : List ℕ) → disk.may_leave d2 c → StandsWithEither ground done placed c)
-        → (e ≡ Disk' → Rose (disk.faults d1) (disk.faults d2))
-        → ((e ≡ Disk' → ⊥) → d2 ≡ d1)
+        → (e ≡ Disk' → Rose (disk.faults w1.disk) (disk.faults d2))
+        → ((e ≡ Disk' → ⊥) → d2 ≡ w1.disk)
         → IsAppendRefusal (item_for placed) (kept_by shelf) e
-        → Stops disk out ground (cause_of e) (done ++ placed ∷ []) d d2 o o1
+        → Stops world ground (cause_of e) (done ++ placed ∷ []) w (outlets d2 w1.out)
     append_stopped Disk' is now left rose stays refusal = record {
       any_moment = moments;
       why = record {
@@ -226,7 +187,7 @@ module _ {D O : Type 0} (disk : DiskOf D) (out : SinkOf O) (ground : Ground) (do
       };
     }
     append_stopped (Capacity' needed most) is now left rose stays refusal =
-        let same : d2 ≡ d1 = stays (λ other. cc (other)) in
+        let same : d2 ≡ w1.disk = stays (λ other. cc (other)) in
         record {
           any_moment = moments;
           why = record {
@@ -236,18 +197,18 @@ module _ {D O : Type 0} (disk : DiskOf D) (out : SinkOf O) (ground : Ground) (do
             split = refl;
             durable = subst (λ (x : D). HoldsStill ground done disk x) (sym same) so_far.settled.on_disk;
             got = so_far.put.put;
-            needs = refusal.2 ∙ needed_is disk done shelf d1 placed is ground so_far.settled;
-            of = refusal.3 ∙ capacity_is disk done shelf d1 ground so_far.settled;
+            needs = refusal.2 ∙ needed_is disk done shelf w1.disk placed is ground so_far.settled;
+            of = refusal.3 ∙ capacity_is disk done shelf w1.disk ground so_far.settled;
             over = omega (
               arith,
               refusal.1,
-              capacity_is disk done shelf d1 ground so_far.settled,
-              ends disk done shelf d1 placed ground so_far.settled,
+              capacity_is disk done shelf w1.disk ground so_far.settled,
+              ends disk done shelf w1.disk placed ground so_far.settled,
             );
           };
         }
     append_stopped NoMemory' is now left rose stays refusal =
-        let same : d2 ≡ d1 = stays (λ other. cc (other)) in
+        let same : d2 ≡ w1.disk = stays (λ other. cc (other)) in
         record {
           any_moment = moments;
           why = record {
@@ -269,7 +230,7 @@ module _ {D O : Type 0} (disk : DiskOf D) (out : SinkOf O) (ground : Ground) (do
       line_is =
           is
           ∙ ap (λ (k : ℕ). shelved_line k placed.file)
-          (place ∙ number_is disk done shelf d1 ground so_far.settled)
+          (place ∙ number_is disk done shelf w1.disk ground so_far.settled)
 
       lines_are : shelved_lines (next_number ground) (done ++ placed ∷ [])
           ≡ shelved_lines (next_number ground) done ++ text
@@ -278,8 +239,8 @@ module _ {D O : Type 0} (disk : DiskOf D) (out : SinkOf O) (ground : Ground) (do
           ∙ ap (λ (l : List ℕ). shelved_lines (next_number ground) done ++ l) (sym line_is)
 
       -- the line was put
-      line_put : disk.faults d2 ≡ disk.faults d1 → Puts out text o1 o2
-          → ShelvesSoFar disk out ground (done ++ placed ∷ []) shelf2 d d2 o o2
+      line_put : disk.faults d2 ≡ disk.faults w1.disk → Puts out text w1.out o2
+          → ShelvesSoFar world ground (done ++ placed ∷ []) shelf2 w (outlets d2 o2)
       line_put disk_count put = record {
         settled = settled;
         any_moment = moments;
@@ -288,16 +249,16 @@ module _ {D O : Type 0} (disk : DiskOf D) (out : SinkOf O) (ground : Ground) (do
           put = λ t.
               put.put (so_far.put.told t)
               ∙ ap (λ (l : List ℕ). l ++ text) (so_far.put.put t)
-              ∙ append_assoc (out.contents o) (shelved_lines (next_number ground) done) text
-              ∙ ap (λ (l : List ℕ). out.contents o ++ l) (sym lines_are);
+              ∙ append_assoc (out.contents w.out) (shelved_lines (next_number ground) done) text
+              ∙ ap (λ (l : List ℕ). out.contents w.out ++ l) (sym lines_are);
           kept = put.kept ∙ so_far.put.kept;
         };
         disk_count = disk_count ∙ so_far.disk_count;
       }
 
       -- a part of the line was put
-      line_stopped : PutFails out text o1 o2
-          → Stops disk out ground (Failed Output) (done ++ placed ∷ []) d d2 o o2
+      line_stopped : PutFails out text w1.out o2
+          → Stops world ground (Failed Output) (done ++ placed ∷ []) w (outlets d2 o2)
       line_stopped fails = record {
         any_moment = moments;
         why = record {
@@ -338,9 +299,10 @@ same_of {D = D} {A = A} disk d d' result answer is counted =
 module _ {D O : Type 0} (disk : DiskOf D) (placed : Placed) (shelf shelf' : Shelf) (d d' : D) (o : O)
     (result : Result ℕ ShelfError) (appends : Appends disk placed shelf shelf' d d' result) where
   -- the file had room
-  pub appended : (answer : ℕ) → result ≡ Ok answer → (o' : O) → Grows (placed ∷ []) shelf shelf' d d' o o'
+  pub appended : (answer : ℕ) → result ≡ Ok answer → (o' : O)
+      → Grows (placed ∷ []) shelf shelf' (outlets d o) (outlets d' o')
   appended answer is o' =
-      grows_one placed shelf shelf' d d' o o' (at_ok appends.adds.kept)
+      grows_one placed shelf shelf' (outlets d o) (outlets d' o') (at_ok appends.adds.kept)
       (⊎_elim (λ over. absurd (refused over)) (λ fits. omega (arith, fits))
       (cases_lt (kept_by shelf).way.capacity (new_end (item_for placed) (kept_by shelf))))
     where
@@ -354,7 +316,7 @@ module _ {D O : Type 0} (disk : DiskOf D) (placed : Placed) (shelf shelf' : Shel
 
   -- it had none, or the append stopped for another cause
   pub not_appended : (e : ShelfError) → IsAppendRefusal (item_for placed) (kept_by shelf) e
-      → GrowsNoMore (cause_of e) (placed ∷ []) shelf d d' o o
+      → GrowsNoMore (cause_of e) (placed ∷ []) shelf (outlets d o) (outlets d' o)
   not_appended (Capacity' needed most) refusal = record {
     full = λ needed' most' is.
         let same_needed : needed ≡ needed' = cc (is) in
@@ -373,23 +335,26 @@ module _ {D O : Type 0} (disk : DiskOf D) (placed : Placed) (shelf shelf' : Shel
         };
     none = λ is. cc (is);
   }
-  not_appended Disk' refusal = stops_at_one (Failed Disk) placed shelf d d' o o (λ needed most is. cc (is))
-  not_appended NoMemory' refusal = stops_at_one NoMemory placed shelf d d' o o (λ needed most is. cc (is))
-  not_appended Failed' refusal = stops_at_one (Failed Disk) placed shelf d d' o o (λ needed most is. cc (is))
+  not_appended Disk' refusal =
+      stops_at_one (Failed Disk) placed shelf (outlets d o) (outlets d' o) (λ needed most is. cc (is))
+  not_appended NoMemory' refusal =
+      stops_at_one NoMemory placed shelf (outlets d o) (outlets d' o) (λ needed most is. cc (is))
+  not_appended Failed' refusal =
+      stops_at_one (Failed Disk) placed shelf (outlets d o) (outlets d' o) (λ needed most is. cc (is))
   not_appended _ refusal = absurd refusal
 
 -- ---- one file
 
 -- there was no memory for its line
-pub no_line : {D O : Type 0} (disk : DiskOf D) (out : SinkOf O) (files : List Placed) (shelf : Shelf) (d : D) (o : O)
-    → StopsShelving disk out NoMemory files shelf d d o o
-no_line disk out files shelf d o = record {
+pub no_line : {D O : Type 0} (world : OutletsOf D O) (files : List Placed) (shelf : Shelf) (w : Outlets D O)
+    → StopsShelving world NoMemory files shelf w w
+no_line world files shelf w = record {
   kind = tt;
   told_by_disk = λ t. t;
   told_by_out = λ t. t;
   first = λ works. (refl, refl);
-  stops = λ ground done d0 o0 so_far. out_of_memory disk out ground done shelf d0 d o0 o so_far files;
-  grown = stops_for_memory files shelf d o;
+  stops = λ ground done before so_far. out_of_memory world ground done shelf before w so_far files;
+  grown = stops_for_memory files shelf w;
 }
 
 module _ {D O : Type 0} (disk : DiskOf D)
@@ -400,7 +365,7 @@ module _ {D O : Type 0} (disk : DiskOf D)
   -- it wasn't appended
   pub one_refused : (e : ShelfError) → IsFile placed.file
       → Appends disk placed shelf shelf' d d' (Err e)
-      → StopsShelving disk out (cause_of e) (placed ∷ []) shelf d d' o o
+      → StopsShelving (outlets_of disk out) (cause_of e) (placed ∷ []) shelf (outlets d o) (outlets d' o)
   one_refused e is appends =
       let adds = appends.adds in
       record {
@@ -409,10 +374,11 @@ module _ {D O : Type 0} (disk : DiskOf D)
         told_by_out = λ t. t;
         first = λ works. first_refused {A = ℕ} e (Err e) 0 0 (disk.faults d) (disk.faults d') (out.faults o) refl
             (append_works (item_for placed) (kept_by shelf) e appends.refused works) adds.calls.counted;
-        stops = λ ground done d0 o0 so_far.
+        stops = λ ground done before so_far.
             let settled = so_far.settled in
-            append_stopped disk out ground done shelf d0 d o0 o so_far placed d'
-            (moments_on disk leaves_contents counts_now done placed shelf shelf' d d' (Err e) adds ground settled) e is
+            append_stopped (outlets_of disk out) ground done shelf before (outlets d o) so_far placed d'
+            (moments_on disk leaves_contents counts_now done placed shelf shelf' d d' (Err e) adds ground settled)
+            e is
             (now_on disk leaves_contents counts_now done placed shelf shelf' d d' (Err e) adds ground settled)
             (left_on disk leaves_contents counts_now done placed shelf shelf' d d' (Err e) adds ground settled)
             (rose_of {A = ℕ} disk d d' (Err e) e refl adds.calls.counted)
@@ -424,8 +390,8 @@ module _ {D O : Type 0} (disk : DiskOf D)
   -- it was
   module _ (number : ℕ) (appends : Appends disk placed shelf shelf' d d' (Ok number)) (n : ℕ) (text : List ℕ)
       (place : n ≡ length (kept_by shelf).way.entries) (is : text ≡ shelved_line n placed.file) (o' : O) where
-    module _ (ground : Ground) (done : List Placed) (d0 : D) (o0 : O)
-        (so_far : ShelvesSoFar disk out ground done shelf d0 d o0 o) where
+    module _ (ground : Ground) (done : List Placed) (before : Outlets D O)
+        (so_far : ShelvesSoFar (outlets_of disk out) ground done shelf before (outlets d o)) where
       settled_now : IsSettledOn ground (done ++ placed ∷ []) disk shelf' d'
       settled_now =
           settled_on disk leaves_contents counts_now done placed shelf shelf' d d' number appends.adds ground
@@ -437,28 +403,32 @@ module _ {D O : Type 0} (disk : DiskOf D)
           so_far.settled
 
     -- and its line was put
-    pub one_shelved : Puts out text o o' → HasShelved disk out (placed ∷ []) shelf shelf' d d' o o'
+    pub one_shelved : Puts out text o o'
+        → HasShelved (outlets_of disk out) (placed ∷ []) shelf shelf' (outlets d o) (outlets d' o')
     one_shelved put = record {
       told_by_disk = appends.adds.calls.told;
       told_by_out = put.told;
       working = λ works. ap (λ (k : Kept). k.failed) appends.adds.kept ∙ works;
       disk_count = appends.adds.calls.counted;
       out_count = put.kept;
-      shelved = λ ground done d0 o0 so_far.
-          line_put disk out ground done shelf d0 d o0 o so_far placed d' (run ground done d0 o0 so_far) shelf'
-          (settled_now ground done d0 o0 so_far) n text place is o' appends.adds.calls.counted put;
+      shelved = λ ground done before so_far.
+          line_put (outlets_of disk out) ground done shelf before (outlets d o) so_far placed
+          d' (run ground done before so_far) shelf'
+          (settled_now ground done before so_far) n text place is o' appends.adds.calls.counted put;
       grown = appended disk placed shelf shelf' d d' o (Ok number) appends number refl o';
     }
 
     -- and a part of its line
-    pub one_cut : PutFails out text o o' → StopsShelving disk out (Failed Output) (placed ∷ []) shelf d d' o o'
+    pub one_cut : PutFails out text o o'
+        → StopsShelving (outlets_of disk out) (Failed Output) (placed ∷ []) shelf (outlets d o) (outlets d' o')
     one_cut fails = record {
       kind = tt;
       told_by_disk = appends.adds.calls.told;
       told_by_out = fails.told;
       first = λ works. (fails.rose, appends.adds.calls.counted);
-      stops = λ ground done d0 o0 so_far.
-          line_stopped disk out ground done shelf d0 d o0 o so_far placed d' (run ground done d0 o0 so_far) shelf'
-          (settled_now ground done d0 o0 so_far) n text place is o' fails;
-      grown = stops_at_one (Failed Output) placed shelf d d' o o' (λ needed most is. cc (is));
+      stops = λ ground done before so_far.
+          line_stopped (outlets_of disk out) ground done shelf before (outlets d o) so_far
+          placed d' (run ground done before so_far) shelf'
+          (settled_now ground done before so_far) n text place is o' fails;
+      grown = stops_at_one (Failed Output) placed shelf (outlets d o) (outlets d' o') (λ needed most is. cc (is));
     }

@@ -49,11 +49,12 @@ use Rattle.lr_receiving.specs.declared.sums.Sums.{Sums}
 use Rattle.lr_receiving.specs.Inputs.{files_of_bytes}
 use Rattle.lr_receiving.specs.Reception.{ReadsAll, ReadsSome}
 use Rattle.lr_receiving.specs.Shelved.{HasShelved, StopsShelving, Gains, GainsNoMore}
-use Rattle.lr_receiving.specs.ShelverTaken.{IsOnSame, ShelverTook, ShelverStopped}
+use Rattle.lr_receiving.specs.ShelverTaken.{IsOnSame, ShelverTook, ShelverStopped, lent_to}
 use Rattle.lr_reading.proofs.Outcomes.{both_kinds}
 use Rattle.lr_receiving.proofs.Pieces.{shelved_none, shelved_on, stopped_after, stopped_before}
 use Rattle.lr_receiving.proofs.Shelving.{no_line}
 use Rattle.lr_receiving.proofs.WholeFrames.{with_outcome}
+use Rattle.lr_causes.specs.Outside.{outlets_of, outside, world_of}
 
 -- no outcomes have no files
 pub no_files : placed_of_outcomes [] ≡ []
@@ -63,7 +64,8 @@ no_files = refl
 -- no bytes have none
 pub no_bytes : (input : Input) → files_of_bytes input [] ≡ []
 unfolding files_of_bytes
-no_bytes input = ap placed_of_outcomes (outcomes_are input [] ∙ ap outcomes_of_arrivals (no_arrivals input)) ∙ no_files
+no_bytes input = ap placed_of_outcomes (outcomes_are input [] ∙ ap outcomes_of_arrivals (no_arrivals input))
+    ∙ no_files
 
 -- one outcome more
 outcomes-push : (arrivals : List Arrival) (arrival : Arrival) → outcomes_of_arrivals (arrivals ++ arrival ∷ [])
@@ -89,7 +91,8 @@ no_frames : AreFrames (frames_of_outcomes [])
 unfolding frames_of_outcomes
 no_frames = All-nil (λ (f : Fields). length f.zone ≡ 884)
 
-files_first : (input : Input) (bytes : List ℕ) (passed rest : List Arrival) → arrivals_of input bytes ≡ passed ++ rest
+files_first : (input : Input) (bytes : List ℕ) (passed rest : List Arrival)
+    → arrivals_of input bytes ≡ passed ++ rest
     → (more : List Placed)
     × (files_of_bytes input bytes ≡ placed_of_outcomes (outcomes_of_arrivals passed) ++ more)
 unfolding files_of_bytes
@@ -119,9 +122,9 @@ module _ {D O : Type 0} (disk : DiskOf D) (out : SinkOf O) where
     on_same = record { same_layers = refl; same_shelf = refl; same_disk = refl; same_out = refl };
     stands = stands;
     counted = counted;
-    shelved = subst (λ (l : List Placed). HasShelved disk out l shelver.shelf.now shelver.shelf.now shelver.disk.now
-        shelver.disk.now shelver.out.now shelver.out.now) (sym no_files)
-        (shelved_none disk out shelver.shelf.now shelver.disk.now shelver.out.now);
+    shelved = subst (λ (l : List Placed). HasShelved (outlets_of disk out) l shelver.shelf.now
+        shelver.shelf.now (lent_to shelver) (lent_to shelver)) (sym no_files)
+        (shelved_none (outlets_of disk out) shelver.shelf.now (lent_to shelver));
   }
 
   pub shelver_ready : (shelver : Shelver D O) → StandsFor shelver.layers.now []
@@ -129,7 +132,8 @@ module _ {D O : Type 0} (disk : DiskOf D) (out : SinkOf O) where
       → (first : Shelver D O) × ShelverTook disk out first [] shelver
   shelver_ready shelver stands counted = (shelver, shelver_begun shelver stands counted)
 
-  module _ {before now : Shelver D O} {arrivals : List Arrival} (took : ShelverTook disk out before arrivals now) where
+  module _ {before now : Shelver D O} {arrivals : List Arrival}
+      (took : ShelverTook disk out before arrivals now) where
     -- the layers may take one more
     pub few : 892 * (length arrivals + 1) ≤ 2 ^ 48
         → now.layers.now.numbers.restored + now.layers.now.numbers.lost < 2 ^ 48
@@ -148,9 +152,10 @@ module _ {D O : Type 0} (disk : DiskOf D) (out : SinkOf O) where
         let files = placed_of_outcomes (outcomes_of_arrivals arrivals) in
         record {
           on_same = took.on_same;
-          stopped = subst (λ (l : List Placed). StopsShelving disk out NoMemory l before.shelf.now before.disk.now
-              now.disk.now before.out.now now.out.now) (append-nil files)
-              (stopped_after disk out took.shelved (no_line disk out [] now.shelf.now now.disk.now now.out.now));
+          stopped = subst (λ (l : List Placed). StopsShelving (outlets_of disk out) NoMemory
+              l before.shelf.now (lent_to before) (lent_to now)) (append-nil files)
+              (stopped_after (outlets_of disk out) took.shelved
+              (no_line (outlets_of disk out) [] now.shelf.now (lent_to now)));
         }
 
     module _ (arrival : Arrival) (now' : Shelver D O) (same : IsOnSame now now') where
@@ -169,29 +174,29 @@ module _ {D O : Type 0} (disk : DiskOf D) (out : SinkOf O) where
       -- its files were shelved
       pub shelver_more : StandsFor now'.layers.now (outcomes_of_arrivals arrivals ++ arrival.outcome ∷ [])
           → numbers now'.counts ≡ now'.layers.now.numbers
-          → Gains disk out (outcomes_of_arrivals arrivals) arrival.outcome now.shelf.now now'.shelf.now now.disk.now
-          now'.disk.now now.out.now now'.out.now
+          → Gains (outlets_of disk out) (outcomes_of_arrivals arrivals) arrival.outcome
+          now.shelf.now now'.shelf.now (lent_to now) (lent_to now')
           → ShelverTook disk out before (arrivals ++ arrival ∷ []) now'
       shelver_more stands counted gains = record {
         on_same = both;
         stands = subst (λ (l : List Outcome). StandsFor now'.layers.now l) (sym (outcomes-push arrivals arrival))
             stands;
         counted = counted;
-        shelved = subst (λ (l : List Placed). HasShelved disk out l before.shelf.now now'.shelf.now before.disk.now
-            now'.disk.now before.out.now now'.out.now) (sym gains.files ∙ is)
-            (shelved_on disk out took.shelved gains.shelved);
+        shelved = subst (λ (l : List Placed). HasShelved (outlets_of disk out) l before.shelf.now
+            now'.shelf.now (lent_to before) (lent_to now')) (sym gains.files ∙ is)
+            (shelved_on (outlets_of disk out) took.shelved gains.shelved);
       }
 
       -- they were not
       pub shelver_stopped : (cause : Cause)
-          → GainsNoMore disk out cause (outcomes_of_arrivals arrivals) arrival.outcome now.shelf.now now.disk.now
-          now'.disk.now now.out.now now'.out.now
+          → GainsNoMore (outlets_of disk out) cause (outcomes_of_arrivals arrivals)
+          arrival.outcome now.shelf.now (lent_to now) (lent_to now')
           → ShelverStopped disk out before (arrivals ++ arrival ∷ []) cause now'
       shelver_stopped cause gains = record {
         on_same = both;
-        stopped = subst (λ (l : List Placed). StopsShelving disk out cause l before.shelf.now before.disk.now
-            now'.disk.now before.out.now now'.out.now) (sym gains.files ∙ is)
-            (stopped_after disk out took.shelved gains.stopped);
+        stopped = subst (λ (l : List Placed). StopsShelving (outlets_of disk out) cause l
+            before.shelf.now (lent_to before) (lent_to now')) (sym gains.files ∙ is)
+            (stopped_after (outlets_of disk out) took.shelved gains.stopped);
       }
 
 -- ---- the whole input
@@ -202,8 +207,8 @@ module _ {S D O : Type 0} (source : SourceOf S) (disk : DiskOf D) (out : SinkOf 
   pub received_all : (sums : Sums)
       → TakesAll source (ShelverTook disk out) input limit sums.totals s s' before now
       → sums.counts ≡ now.counts
-      → ReadsAll source disk out input limit sums before.shelf.now now.shelf.now s s' before.disk.now now.disk.now
-      before.out.now now.out.now
+      → ReadsAll (world_of source disk out) input limit sums before.shelf.now now.shelf.now
+      (outside s before.disk.now before.out.now) (outside s' now.disk.now now.out.now)
   received_all sums all same =
       let took = all.taken before begun in
       record {
@@ -211,23 +216,23 @@ module _ {S D O : Type 0} (source : SourceOf S) (disk : DiskOf D) (out : SinkOf 
         ends = all.ends;
         counts = ap numbers same ∙ took.counted ∙ took.stands.numbers
             ∙ ap (λ (l : List Outcome). numbers_of l) (sym (outcomes_are input all.bytes));
-        shelved = subst (λ (l : List Placed). HasShelved disk out l before.shelf.now now.shelf.now before.disk.now
-            now.disk.now before.out.now now.out.now) (sym (files_all input all.bytes)) took.shelved;
+        shelved = subst (λ (l : List Placed). HasShelved (outlets_of disk out) l before.shelf.now
+            now.shelf.now (lent_to before) (lent_to now)) (sym (files_all input all.bytes)) took.shelved;
       }
 
   -- they were not
   pub received_some : (cause : Cause)
       → TakesSome source (ShelverTook disk out) input limit (ShelverStopped disk out) cause s s' before now
-      → ReadsSome source disk out input limit cause before.shelf.now s s' before.disk.now now.disk.now
-      before.out.now now.out.now
+      → ReadsSome (world_of source disk out) input limit cause before.shelf.now
+      (outside s before.disk.now before.out.now) (outside s' now.disk.now now.out.now)
   received_some cause some =
       let stopped = (some.stops before begun).stopped in
       let first = files_first input some.bytes some.passed some.rest some.split in
       record {
         bytes = some.bytes;
         read = some.read;
-        stopped = subst (λ (l : List Placed). StopsShelving disk out cause l before.shelf.now before.disk.now
-            now.disk.now before.out.now now.out.now) (sym first.1) (stopped_before disk out first.0 stopped);
+        stopped = subst (λ (l : List Placed). StopsShelving (outlets_of disk out) cause l before.shelf.now
+            (lent_to before) (lent_to now)) (sym first.1) (stopped_before (outlets_of disk out) first.0 stopped);
         files = placed_of_outcomes (outcomes_of_arrivals some.passed);
         early = stopped;
         first = λ line symbols told few calm.

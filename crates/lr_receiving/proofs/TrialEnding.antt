@@ -55,6 +55,7 @@ use Rattle.lr_receiving.specs.Trial.{
 }
 use Rattle.lr_receiving.proofs.Causing.{first_later, first_refused}
 use Rattle.lr_receiving.proofs.Shelving.{same_of}
+use Rattle.lr_causes.specs.Outside.{outlets, outlets_of}
 
 -- files whose items are not none
 at_least_one : (files : List Placed) → (with_files [] files ≡ [] → ⊥) → 1 ≤ length files
@@ -81,7 +82,7 @@ module _ {D O : Type 0} (disk : DiskOf D) (out : SinkOf O) (symbols : List ℕ) 
     refused_ends (NotEmpty' size) r = r
     refused_ends _ r = absurd r
 
-    refused_out : (e : ShelfError) → IsInitRefusal disk d e → OutEnds disk out symbols (cause_of e) o o
+    refused_out : (e : ShelfError) → IsInitRefusal disk d e → OutEnds out symbols (cause_of e) o o
     refused_out Disk' r = refl
     refused_out (NotEmpty' size) r = refl
     refused_out _ r = absurd r
@@ -104,7 +105,7 @@ module _ {D O : Type 0} (disk : DiskOf D) (out : SinkOf O) (symbols : List ℕ) 
           (weaker disk.moment disk.left_since d d1 _ _ (λ c blank. inl blank) (inits.any_moment told free only));
     }
 
-    pub init_stops : TrialRun disk out symbols (cause_of e) d d1 o o
+    pub init_stops : TrialRun (outlets_of disk out) symbols (cause_of e) (outlets d o) (outlets d1 o)
     init_stops = record {
       on_disk = init_refused;
       on_out = refused_out e refusal;
@@ -139,7 +140,8 @@ module _ {D O : Type 0} (disk : DiskOf D) (out : SinkOf O) (symbols : List ℕ) 
           (moments told));
     }
 
-    module _ (d2 : D) (o2 : O) (cause2 : Cause) (fills : Fills disk out symbols cause2 d1 d2 o o2) where
+    module _ (d2 : D) (o2 : O) (cause2 : Cause)
+        (fills : Fills (outlets_of disk out) symbols cause2 (outlets d1 o) (outlets d2 o2)) where
       filled_moments : disk.tells d → Leaves d1 d2
       filled_moments told = weaker disk.moment disk.left_since d1 d2 _ _ (λ c part. inr part)
           (fills.on_disk.any_moment (inits.calls.told told))
@@ -161,7 +163,8 @@ module _ {D O : Type 0} (disk : DiskOf D) (out : SinkOf O) (symbols : List ℕ) 
           first_later cause2 0 0 (disk.faults d) (disk.faults d1) (disk.faults d2) (out.faults o) (out.faults o)
           (out.faults o2) same_count refl fills.first
 
-      pub filled : (cause2 ≡ NoMemory → ⊥) → TrialRun disk out symbols cause2 d d2 o o2
+      pub filled : (cause2 ≡ NoMemory → ⊥)
+          → TrialRun (outlets_of disk out) symbols cause2 (outlets d o) (outlets d2 o2)
       filled other = record {
         on_disk = after cause2 d2 (whole_ends cause2 other fills.on_disk.ends) filled_moments;
         on_out = fills.on_out;
@@ -171,7 +174,8 @@ module _ {D O : Type 0} (disk : DiskOf D) (out : SinkOf O) (symbols : List ℕ) 
       }
 
     -- ---- memory was refused
-    module _ (d2 : D) (o2 : O) (fills : Fills disk out symbols NoMemory d1 d2 o o2) where
+    module _ (d2 : D) (o2 : O)
+        (fills : Fills (outlets_of disk out) symbols NoMemory (outlets d1 o) (outlets d2 o2)) where
       told_there : disk.tells d → disk.tells d2
       told_there told = fills.on_disk.told (inits.calls.told told)
 
@@ -230,7 +234,7 @@ module _ {D O : Type 0} (disk : DiskOf D) (out : SinkOf O) (symbols : List ℕ) 
       ends_so NoMemory d' early withdraws = λ told. inr (left told d' (withdraws told refl))
       ends_so _ d' early withdraws = absurd early
 
-      out_so : (cause : Cause) → IsEarlier cause → OutEnds disk out symbols cause o o2
+      out_so : (cause : Cause) → IsEarlier cause → OutEnds out symbols cause o o2
       out_so (Failed Disk) early = fills.on_out
       out_so NoMemory early = fills.on_out
       out_so _ early = absurd early
@@ -241,7 +245,7 @@ module _ {D O : Type 0} (disk : DiskOf D) (out : SinkOf O) (symbols : List ℕ) 
           → IsWithdrawn disk items d')
           → (disk.tells d2 → (items : List Item) → IsDurable disk trial_capacity items d2
           → LeavesBlankOrItems disk items d2 d')
-          → TrialRun disk out symbols cause d d' o o2
+          → TrialRun (outlets_of disk out) symbols cause (outlets d o) (outlets d' o2)
       withdrawn cause d' early told' first ends moments = record {
         on_disk = after cause d'
             (ends_so cause d' early (λ told. ends (told_there told) (items told) (durable told)))
@@ -252,6 +256,7 @@ module _ {D O : Type 0} (disk : DiskOf D) (out : SinkOf O) (symbols : List ℕ) 
         on_out = out_so cause early;
         told_by_disk = λ t. told' (told_there t);
         told_by_out = fills.told_by_out;
-        first = first_after cause (disk.faults d) (disk.faults d2) (disk.faults d') (out.faults o) (out.faults o2) early
+        first = first_after cause (disk.faults d) (disk.faults d2) (disk.faults d') (out.faults o)
+            (out.faults o2) early
             (fills.first.0 ∙ same_count) fills.first.1 first;
       }

@@ -63,8 +63,8 @@ use Rattle.lr_receiving.specs.Inputs.{files_of_bytes}
 use Rattle.lr_reading.specs.Reading.{IsRead, EndsFor}
 use Rattle.lr_receiving.specs.Receive.{receive_last}
 use Rattle.lr_receiving.specs.Reception.{sums_line, PutsLast, LastStops, ReadsAll, ReadsSome}
-use Rattle.lr_shelf.specs.Grounds.{OfItems, HoldsStill, with_files}
-use Rattle.lr_receiving.specs.Shelving.{StandsForFront, LeavesFronts, StopsBy}
+use Rattle.lr_shelf.specs.Grounds.{OfItems, HoldsStill, with_files, StandsForFront, LeavesFronts}
+use Rattle.lr_receiving.specs.Shelving.{StopsBy}
 use Rattle.lr_receiving.specs.Shelved.{MayStop, StopsTrial, ShelvesSoFar}
 use Rattle.lr_receiving.specs.Trial.{trial_capacity, StandsForPart, HoldsTrialPart, OutEnds}
 use Rattle.lr_receiving.specs.Filling.{FillEnds, FillsDisk, Fills, StopsFilling}
@@ -75,6 +75,7 @@ use Rattle.lr_receiving.proofs.Taking.{no_bytes}
 use Rattle.lr_receiving.proofs.ReceiveEnding.{last_line_is, loaded}
 use Rattle.lr_shelf.proofs.Grounds.{of_items, with_files-append}
 use Rattle.lr_receiving.proofs.Shelving.{same_of}
+use Rattle.lr_causes.specs.Outside.{outlets, outlets_of, outside, world_of}
 
 -- a sink that counts no fault doesn't stop it
 pub stops_trial : (cause : Cause) (s s' d d' : ℕ) → MayStop cause → IsFirst cause (counts s d 0) (counts s' d' 0)
@@ -153,12 +154,13 @@ module _ {D : Type 0} (disk : DiskOf D) (symbols : List ℕ) (d1 : D)
       same_count : disk.faults d2 ≡ disk.faults d1
       same_count = same_of disk d1 d2 result2 shelf is2 loads.calls.counted
 
-      begun : disk.tells d1 → ShelvesSoFar disk out (OfItems trial_capacity []) [] shelf d1 d2 o o
+      begun : disk.tells d1
+          → ShelvesSoFar (outlets_of disk out) (OfItems trial_capacity []) [] shelf (outlets d1 o) (outlets d2 o)
       begun told =
           let settled = subst (λ (r : Result Shelf ShelfError). IfOk r
           (λ x. IsSettled disk trial_capacity [] x d2)) is2
           (loads.settled trial_capacity [] told (empty told).stands) in
-          loaded disk out (OfItems trial_capacity []) d1 d2 o shelf
+          loaded (outlets_of disk out) (OfItems trial_capacity []) (outlets d1 o) d2 shelf
           (of_items disk [] shelf d2 trial_capacity [] settled) (empty_moments told) same_count
 
       -- what was read is the first of the symbols
@@ -183,8 +185,10 @@ module _ {D : Type 0} (disk : DiskOf D) (symbols : List ℕ) (d1 : D)
 
       -- shelving stopped
       module _ (calm : Rose (source.faults s) (source.faults s') → ⊥)
-          (fit : end_of (with_files [] (files_of_bytes (Symbols STANDARD) symbols)) ≤ trial_capacity) (cause : Cause)
-          (some : ReadsSome source disk out (Symbols STANDARD) limit cause shelf s s' d2 d' o o') where
+          (fit : end_of (with_files [] (files_of_bytes (Symbols STANDARD) symbols)) ≤ trial_capacity)
+          (cause : Cause)
+          (some : ReadsSome (world_of source disk out) (Symbols STANDARD) limit cause shelf
+          (outside s d2 o) (outside s' d' o')) where
         split : symbols ≡ some.bytes ++ source.left s'
         split = split_of some.bytes some.read
 
@@ -208,8 +212,10 @@ module _ {D : Type 0} (disk : DiskOf D) (symbols : List ℕ) (d1 : D)
             (end_of-append (with_files [] (done ++ next ∷ [])) (map item_for (rest ++ first.0))) in
             omega (arith, le, over, fit)
 
-        stopped_ends : (c : Cause) → (disk.tells d1 → StopsBy disk out (OfItems trial_capacity []) c files d1 d' o o')
-            → (disk.tells d1 → StopsBy disk out (OfItems trial_capacity []) c some.files d1 d' o o') → StopsTrial c
+        stopped_ends : (c : Cause) → (disk.tells d1
+            → StopsBy (outlets_of disk out) (OfItems trial_capacity []) c files (outlets d1 o) (outlets d' o'))
+            → (disk.tells d1 → StopsBy (outlets_of disk out) (OfItems trial_capacity []) c
+            some.files (outlets d1 o) (outlets d' o')) → StopsTrial c
             → FillEnds disk symbols c d1 d'
         stopped_ends (Failed Disk) why early kind = tt
         stopped_ends NoMemory why early kind = λ told.
@@ -224,7 +230,8 @@ module _ {D : Type 0} (disk : DiskOf D) (symbols : List ℕ) (d1 : D)
           first : IsFirst cause (counts 0 (disk.faults d1) 0) (counts 0 (disk.faults d') 0)
           first =
               first_later cause 0 0 (disk.faults d1) (disk.faults d2) (disk.faults d') 0 0 0 same_count refl
-              (subst (λ (k : ℕ). IsFirst cause (counts 0 (disk.faults d2) 0) (counts 0 (disk.faults d') k)) (sure o')
+              (subst (λ (k : ℕ). IsFirst cause (counts 0 (disk.faults d2) 0) (counts 0 (disk.faults d') k))
+              (sure o')
               (subst (λ (k : ℕ). IsFirst cause (counts 0 (disk.faults d2) k)
               (counts 0 (disk.faults d') (out.faults o'))) (sure o) (some.stopped.first works)))
 
@@ -237,18 +244,19 @@ module _ {D : Type 0} (disk : DiskOf D) (symbols : List ℕ) (d1 : D)
             fills = record {
               told = λ t. some.stopped.told_by_disk (loads.calls.told t);
               ends = stopped_ends cause
-                  (λ told. (some.stopped.stops (OfItems trial_capacity []) [] d1 o (begun told)).why)
-                  (λ told. (some.early.stops (OfItems trial_capacity []) [] d1 o (begun told)).why) kind;
+                  (λ told. (some.stopped.stops (OfItems trial_capacity []) [] (outlets d1 o) (begun told)).why)
+                  (λ told. (some.early.stops (OfItems trial_capacity []) [] (outlets d1 o) (begun told)).why) kind;
               any_moment = λ told.
                   fronts some.bytes split
-                  (some.stopped.stops (OfItems trial_capacity []) [] d1 o (begun told)).any_moment;
+                  (some.stopped.stops (OfItems trial_capacity []) [] (outlets d1 o) (begun told)).any_moment;
             };
             first = first;
           }
 
       -- all of them are shelved
       module _ (sums : Sums) (shelf' : Shelf)
-          (all : ReadsAll source disk out (Symbols STANDARD) limit sums shelf shelf' s s' d2 d' o o')
+          (all : ReadsAll (world_of source disk out) (Symbols STANDARD) limit sums shelf
+          shelf' (outside s d2 o) (outside s' d' o'))
           (calm : Rose (source.faults s) (source.faults s') → ⊥) where
         split_all : symbols ≡ all.bytes ++ source.left s'
         split_all = split_of all.bytes all.ends.read
@@ -270,9 +278,9 @@ module _ {D : Type 0} (disk : DiskOf D) (symbols : List ℕ) (d1 : D)
             ∙ ap (λ bytes. receive_last (Symbols STANDARD) bytes End) ended_so.1
 
         so_far : disk.tells d1
-            → ShelvesSoFar disk out (OfItems trial_capacity []) (files_of_bytes (Symbols STANDARD) all.bytes) shelf' d1
-            d' o o'
-        so_far told = all.shelved.shelved (OfItems trial_capacity []) [] d1 o (begun told)
+            → ShelvesSoFar (outlets_of disk out) (OfItems trial_capacity [])
+            (files_of_bytes (Symbols STANDARD) all.bytes) shelf' (outlets d1 o) (outlets d' o')
+        so_far told = all.shelved.shelved (OfItems trial_capacity []) [] (outlets d1 o) (begun told)
 
         durable : disk.tells d1
             → IsDurable disk trial_capacity (with_files [] (files_of_bytes (Symbols STANDARD) all.bytes)) d'
@@ -293,11 +301,13 @@ module _ {D : Type 0} (disk : DiskOf D) (symbols : List ℕ) (d1 : D)
       -- ---- for either answer
       abbrev AnswersAll : Shelf → Result Sums Cause → Type 0
       AnswersAll shelf' answer = IfOk answer
-          (λ sums. ReadsAll source disk out (Symbols STANDARD) limit sums shelf shelf' s s' d2 d' o o')
+          (λ sums. ReadsAll (world_of source disk out) (Symbols STANDARD) limit sums shelf
+          shelf' (outside s d2 o) (outside s' d' o'))
 
       abbrev AnswersSome : Result Sums Cause → Type 0
       AnswersSome answer = IfErr answer
-          (λ cause. ReadsSome source disk out (Symbols STANDARD) limit cause shelf s s' d2 d' o o')
+          (λ cause. ReadsSome (world_of source disk out) (Symbols STANDARD) limit cause shelf
+          (outside s d2 o) (outside s' d' o'))
 
       pub lines : (shelf' : Shelf) (answer : Result Sums Cause) → AnswersAll shelf' answer
           → (Rose (source.faults s) (source.faults s') → ⊥)
@@ -342,7 +352,8 @@ module _ {D O : Type 0} (disk : DiskOf D) (out : SinkOf O) (symbols : List ℕ) 
   left_by cause ends = record { told = done.told; ends = ends; any_moment = done.any_moment }
 
   module _ (sums : Sums) (line : sums_line sums ≡ receive_last (Symbols STANDARD) symbols End) where
-    pub last_stops : (cause : Cause) → LastStops out sums cause o o' → Fills disk out symbols cause d d' o o'
+    pub last_stops : (cause : Cause) → LastStops out sums cause o o'
+        → Fills (outlets_of disk out) symbols cause (outlets d o) (outlets d' o')
     last_stops (Failed Output) stops = record {
       on_disk = left_by (Failed Output) done.ends.0;
       on_out = λ told. subst (λ (l : List ℕ). PutsPart l (out.contents o) (out.contents o')) line (stops.part told);
@@ -358,7 +369,7 @@ module _ {D O : Type 0} (disk : DiskOf D) (out : SinkOf O) (symbols : List ℕ) 
     last_stops _ stops = absurd stops
 
     -- it was
-    pub last_put : PutsLast out sums o o' → Fills disk out symbols Done d d' o o'
+    pub last_put : PutsLast out sums o o' → Fills (outlets_of disk out) symbols Done (outlets d o) (outlets d' o')
     last_put puts = record {
       on_disk = done;
       on_out = (
@@ -371,7 +382,7 @@ module _ {D O : Type 0} (disk : DiskOf D) (out : SinkOf O) (symbols : List ℕ) 
 
 -- it wasn't composed, since the trial stopped before
 module _ {D O : Type 0} (disk : DiskOf D) (out : SinkOf O) (symbols : List ℕ) (d d' : D) (o : O) where
-  silent : (cause : Cause) → StopsTrial cause → OutEnds disk out symbols cause o o
+  silent : (cause : Cause) → StopsTrial cause → OutEnds out symbols cause o o
   silent Done stops = absurd stops
   silent (Failed Source) stops = absurd stops
   silent (Failed Output) stops = absurd stops
@@ -387,7 +398,8 @@ module _ {D O : Type 0} (disk : DiskOf D) (out : SinkOf O) (symbols : List ℕ) 
   beside_out (Failed Disk) stops first = (first.0, refl)
   beside_out _ stops first = (first.0, refl)
 
-  pub stream_stops : (cause : Cause) → StopsFilling disk symbols cause d d' → Fills disk out symbols cause d d' o o
+  pub stream_stops : (cause : Cause) → StopsFilling disk symbols cause d d'
+      → Fills (outlets_of disk out) symbols cause (outlets d o) (outlets d' o)
   stream_stops cause stops = record {
     on_disk = stops.fills;
     on_out = silent cause stops.kind;

@@ -1,6 +1,5 @@
 -- How `trial` fills the shelf that it made, and takes it away again. No clause of a public call cites this.
 use Rattle.std.specs.Prelude.{◌≡◌, ◌≢◌, ◌⊎◌, ℕ, List, []}
-use Rattle.lr_io.specs.declared.sink.Sink.{Ghosts as SinkOf}
 use Rattle.lr_disk.specs.declared.disk.Disk.{Ghosts as DiskOf}
 use Rattle.lr_disk.specs.Disk.{LeavesOnly}
 use Rattle.lr_shelf_format.specs.Items.{Item}
@@ -11,6 +10,7 @@ use Rattle.lr_causes.specs.declared.cause.Cause.{Cause}
 use Rattle.lr_causes.specs.declared.cause.Cause.TheVariants.{NoMemory, Refused}
 use Rattle.lr_causes.specs.declared.cause.Refusal.TheVariants.{NotEmpty}
 use Rattle.lr_causes.specs.Causes.{counts}
+use Rattle.lr_causes.specs.Outside.{Outlets, OutletsOf, outlet_counts}
 use Rattle.lr_receiving.specs.First.{IsFirst}
 use Rattle.lr_receiving.specs.Shelved.{StopsTrial}
 use Rattle.lr_receiving.specs.Trial.{trial_capacity, StandsForPart, IsBare, HoldsTrialPart, DiskEnds, OutEnds}
@@ -27,7 +27,8 @@ module _ {D : Type 0} (disk : DiskOf D) (symbols : List ℕ) where
     pub told : disk.tells d → disk.tells d'
     pub ends : FillEnds cause d d'
     -- a crash at any moment leaves a shelf with some of the files
-    pub any_moment : disk.tells d → LeavesOnly disk.moment disk.left_since d d' (StandsForPart symbols 0)
+    pub any_moment : disk.tells d
+        → LeavesOnly disk.moment disk.left_since d d' (StandsForPart symbols 0)
 
   -- it stopped before the last line
   pub record StopsFilling (cause : Cause) (d d' : D) : Type 0 where
@@ -35,20 +36,22 @@ module _ {D : Type 0} (disk : DiskOf D) (symbols : List ℕ) where
     pub fills : FillsDisk cause d d'
     pub first : IsFirst cause (counts 0 (disk.faults d) 0) (counts 0 (disk.faults d') 0)
 
-module _ {D O : Type 0} (disk : DiskOf D) (out : SinkOf O) (symbols : List ℕ) where
+module _ {D O : Type 0} (world : OutletsOf D O) (symbols : List ℕ) where
   -- what filling the shelf does, from the first read of the disk to the last line
-  pub record Fills (cause : Cause) (d d' : D) (o o' : O) : Type 0 where
-    pub on_disk : FillsDisk disk symbols cause d d'
-    pub on_out : OutEnds disk out symbols cause o o'
-    pub told_by_out : out.tells o → out.tells o'
-    pub first : IsFirst cause (counts 0 (disk.faults d) (out.faults o)) (counts 0 (disk.faults d') (out.faults o'))
+  pub record Fills (cause : Cause) (w w' : Outlets D O) : Type 0 where
+    pub on_disk : FillsDisk world.disk symbols cause w.disk w'.disk
+    pub on_out : OutEnds world.out symbols cause w.out w'.out
+    pub told_by_out : world.out.tells w.out → world.out.tells w'.out
+    pub first : IsFirst cause (outlet_counts world w) (outlet_counts world w')
 
 module _ {D : Type 0} (disk : DiskOf D) (items : List Item) where
   -- a shelf of no items was taken away, and one of some items stayed
   abbrev pub IsWithdrawn : D → Type 0
-  IsWithdrawn d = ((items ≡ []) × IsBare disk d) ⊎ ((items ≢ []) × IsDurable disk trial_capacity items d)
+  IsWithdrawn d = ((items ≡ []) × IsBare disk d)
+      ⊎ ((items ≢ []) × IsDurable disk trial_capacity items d)
 
-  -- each image since the moment of d has at most 20 bytes, with no header or an empty shelf, or stands for these items
+  -- each image since the moment of d has at most 20 bytes, with no header or an empty shelf, or stands for these
+  -- items
   abbrev pub LeavesBlankOrItems : D → D → Type 0
   LeavesBlankOrItems d d' =
       LeavesOnly disk.moment disk.left_since d d'

@@ -1,7 +1,6 @@
 -- What `init` does to the outside.
 use Rattle.std.specs.Prelude.{◌≡◌, ◌⊎◌, ◌++◌, ℕ, List, [], ◌∷◌, length, codes, decimal}
 use Rattle.std.specs.List.{concat}
-use Rattle.lr_io.specs.declared.sink.Sink.{Ghosts as SinkOf}
 use Rattle.lr_io.specs.Pieces.{PutsPart}
 use Rattle.lr_disk.specs.declared.disk.Disk.{Ghosts as DiskOf}
 use Rattle.lr_disk.specs.Disk.{Only, LeavesOnly}
@@ -13,44 +12,52 @@ use Rattle.lr_causes.specs.declared.cause.Cause.{Cause}
 use Rattle.lr_causes.specs.declared.cause.Cause.TheVariants.{Done, Failed, NoMemory, Refused}
 use Rattle.lr_causes.specs.declared.cause.Party.TheVariants.{Disk, Output}
 use Rattle.lr_causes.specs.declared.cause.Refusal.TheVariants.{NotEmpty}
-use Rattle.lr_causes.specs.Causes.{IsEarlier, counts}
+use Rattle.lr_causes.specs.Causes.{IsEarlier}
+use Rattle.lr_causes.specs.Outside.{Outlets, OutletsOf, outlet_counts}
 use Rattle.lr_receiving.specs.First.{IsFirst}
 
 -- the line of a shelf that was made
 unfoldable pub capacity_line : ℕ → List ℕ
 capacity_line capacity = concat (codes "shelf capacity " ∷ decimal capacity ∷ codes "\n" ∷ [])
 
--- an empty shelf of this capacity: the contents, and the one crash image, are the 19 bytes of a header of version 2 and
--- a closed gate, and nothing else
+-- an empty shelf of this capacity: the contents, and the one crash image, are the 19 bytes of a header of version 2
+-- and a closed gate, and nothing else
 pub record IsNewShelf {D : Type 0} (disk : DiskOf D) (capacity : ℕ) (d : D) : Type 0 where
   pub durable : IsDurable disk capacity [] d
   pub bytes : disk.contents d ≡ header_bytes 2 capacity ++ 0 ∷ []
 
-module _ {D O : Type 0} (disk : DiskOf D) (out : SinkOf O) (capacity : ℕ) where
+module _ {D O : Type 0} (world : OutletsOf D O) (capacity : ℕ) where
   -- how the call ends, for each cause that it may have: with an empty shelf of this capacity, on which nothing is
   -- pending, or with the disk as it was, or failed
-  abbrev pub InitEnds : Cause → D → D → O → O → Type 0
-  InitEnds Done d d' o o' =
-      (disk.tells d → IsNewShelf disk capacity d')
-      × (out.tells o → out.contents o' ≡ out.contents o ++ capacity_line capacity)
-      × (disk.faults d' ≡ disk.faults d) × (out.faults o' ≡ out.faults o)
-  InitEnds (Failed Disk) d d' o o' = o' ≡ o
-  InitEnds (Failed Output) d d' o o' =
-      (disk.tells d → IsNewShelf disk capacity d')
-      × (out.tells o → PutsPart (capacity_line capacity) (out.contents o) (out.contents o'))
-  InitEnds NoMemory d d' o o' = (d' ≡ d) × (o' ≡ o)
-  InitEnds (Refused (NotEmpty size)) d d' o o' =
-      (o' ≡ o) × (disk.tells d → (size ≡ length (disk.contents d)) × IsTaken (disk.contents d))
-  InitEnds _ d d' o o' = ⊥
+  abbrev pub InitEnds : Cause → Outlets D O → Outlets D O → Type 0
+  InitEnds Done w w' =
+      (world.disk.tells w.disk → IsNewShelf world.disk capacity w'.disk)
+      × (world.out.tells w.out
+      → world.out.contents w'.out ≡ world.out.contents w.out ++ capacity_line capacity)
+      × (world.disk.faults w'.disk ≡ world.disk.faults w.disk)
+      × (world.out.faults w'.out ≡ world.out.faults w.out)
+  InitEnds (Failed Disk) w w' = w'.out ≡ w.out
+  InitEnds (Failed Output) w w' =
+      (world.disk.tells w.disk → IsNewShelf world.disk capacity w'.disk)
+      × (world.out.tells w.out
+      → PutsPart (capacity_line capacity) (world.out.contents w.out) (world.out.contents w'.out))
+  InitEnds NoMemory w w' = (w'.disk ≡ w.disk) × (w'.out ≡ w.out)
+  InitEnds (Refused (NotEmpty size)) w w' =
+      (w'.out ≡ w.out)
+      × (world.disk.tells w.disk
+      → (size ≡ length (world.disk.contents w.disk)) × IsTaken (world.disk.contents w.disk))
+  InitEnds _ w w' = ⊥
 
-  pub record InitRun (cause : Cause) (d d' : D) (o o' : O) : Type 0 where
-    pub ends : InitEnds cause d d' o o'
+  pub record InitRun (cause : Cause) (w w' : Outlets D O) : Type 0 where
+    pub ends : InitEnds cause w w'
     -- the first event decides
-    pub first : IsFirst cause (counts 0 (disk.faults d) (out.faults o)) (counts 0 (disk.faults d') (out.faults o'))
+    pub first : IsFirst cause (outlet_counts world w) (outlet_counts world w')
     -- a disk that is taken is refused, exactly then, and nothing is written
-    pub taken : disk.tells d → IsTaken (disk.contents d)
-        → ((cause ≡ Refused (NotEmpty (length (disk.contents d)))) ⊎ IsEarlier cause)
-        × ((d' ≡ d) ⊎ IsUnwritten disk d d')
+    pub taken : world.disk.tells w.disk → IsTaken (world.disk.contents w.disk)
+        → ((cause ≡ Refused (NotEmpty (length (world.disk.contents w.disk)))) ⊎ IsEarlier cause)
+        × ((w'.disk ≡ w.disk) ⊎ IsUnwritten world.disk w.disk w'.disk)
     -- otherwise a crash at any moment of the call leaves at most 20 bytes, with no header or an empty shelf
-    pub any_moment : disk.tells d → (IsTaken (disk.contents d) → ⊥) → Only (disk.contents d) (disk.may_leave d)
-        → (d' ≡ d) ⊎ LeavesOnly disk.moment disk.left_since d d' (IsBlank capacity)
+    pub any_moment : world.disk.tells w.disk → (IsTaken (world.disk.contents w.disk) → ⊥)
+        → Only (world.disk.contents w.disk) (world.disk.may_leave w.disk)
+        → (w'.disk ≡ w.disk)
+        ⊎ LeavesOnly world.disk.moment world.disk.left_since w.disk w'.disk (IsBlank capacity)

@@ -1,11 +1,8 @@
 -- What `receive` does to the outside.
-use Rattle.std.specs.Prelude.{◌≡◌, ◌⊎◌, ◌<◌, ◌≤◌, ℕ, List, [], ◌++◌, length}
+use Rattle.std.specs.Prelude.{◌≡◌, ◌⊎◌, ℕ, List, [], ◌++◌, length}
 use Rattle.lr_bits.specs.declared.outcome.Outcome.{Outcome}
 use Rattle.lr_bits.specs.declared.placed.Placed.{Placed}
 use Rattle.lr_bits.specs.Faults.{Rose}
-use Rattle.lr_io.specs.declared.source.Source.{Ghosts as SourceOf}
-use Rattle.lr_io.specs.declared.sink.Sink.{Ghosts as SinkOf}
-use Rattle.lr_disk.specs.declared.disk.Disk.{Ghosts as DiskOf}
 use Rattle.lr_disk.specs.Disk.{Only}
 use Rattle.lr_disk.specs.Reads.{IsUnwritten}
 use Rattle.lr_layers.specs.Layers.{Numbers, numbers_of}
@@ -22,7 +19,7 @@ use Rattle.lr_causes.specs.declared.cause.Party.TheVariants.{Source, Disk, Outpu
 use Rattle.lr_causes.specs.declared.cause.Refusal.TheVariants.{NotAShelf, Capacity}
 use Rattle.lr_forms.specs.declared.forms.Input.{Input}
 use Rattle.lr_causes.specs.Causes.{IsEarlier, MayEndBefore}
-use Rattle.lr_causes.specs.Outside.{NoFault, Outside, World, counts_in}
+use Rattle.lr_causes.specs.Outside.{NoFault, Outside, World, counts_in, outlets_in, world_outlets}
 use Rattle.lr_receiving.specs.First.{IsFirst}
 use Rattle.lr_reading.specs.Inputs.{outcomes_of_bytes, bytes_left_over}
 use Rattle.lr_receiving.specs.Inputs.{files_of_bytes}
@@ -33,14 +30,14 @@ use Rattle.lr_shelf.specs.Grounds.{
   OfItems,
   OfWay,
   AllHaveRoom,
+  HoldsFront,
   HoldsStill,
+  LeavesFronts,
   SomeLackRoom,
   next_number,
 }
 use Rattle.lr_receiving.specs.Shelving.{
   shelved_lines,
-  LeavesFronts,
-  HoldsFront,
   GotText,
   GotPart,
   DiskStops,
@@ -53,11 +50,13 @@ use Rattle.lr_receiving.specs.Shelving.{
 -- bytes are left
 abbrev pub counts_line : ℕ → ℕ → Numbers → ℕ → Stop → List ℕ
 counts_line symbols frames numbers left stop =
-    summary_line (Receive symbols frames numbers.restored numbers.lost numbers.packets numbers.files left) stop
+    summary_line (Receive symbols frames numbers.restored numbers.lost
+    numbers.packets numbers.files left) stop
 
 -- the last line of outcomes
 unfoldable pub receive_count : List Outcome → ℕ → ℕ → Stop → List ℕ
-receive_count outcomes symbols left stop = counts_line symbols (length outcomes) (numbers_of outcomes) left stop
+receive_count outcomes symbols left stop =
+    counts_line symbols (length outcomes) (numbers_of outcomes) left stop
 
 -- the last line of the bytes read
 unfoldable pub receive_last : Input → List ℕ → Stop → List ℕ
@@ -79,41 +78,52 @@ IsWorkDone Done = Unit {0}
 IsWorkDone (Failed Source) = Unit {0}
 IsWorkDone _ = ⊥
 
-module _ {S D O : Type 0} (source : SourceOf S) (disk : DiskOf D) (out : SinkOf O) where
+module _ {S D O : Type 0} (world : World S D O) where
   -- What stood there before is the ground, and the files are those of the bytes read.
   module _ (input : Input) (ground : Ground) (limit : ℕ) (bytes : List ℕ) where
     -- all files are shelved, and the last line is put
-    pub record Finishes (stop : Stop) (s s' : S) (d d' : D) (o o' : O) : Type 0 where
-      pub reason : EndsFor source stop limit bytes s s'
-      pub durable : HoldsStill ground (files_of_bytes input bytes) disk d'
-      pub got : GotText out
-          (shelved_lines (next_number ground) (files_of_bytes input bytes) ++ receive_last input bytes stop) o o'
-      pub disk_count : disk.faults d' ≡ disk.faults d
-      pub out_count : out.faults o' ≡ out.faults o
+    pub record Finishes (stop : Stop) (w w' : Outside S D O) : Type 0 where
+      pub reason : EndsFor world.source stop limit bytes w.source w'.source
+      pub durable : HoldsStill ground (files_of_bytes input bytes) world.disk w'.disk
+      pub got : GotText world.out
+          (shelved_lines (next_number ground) (files_of_bytes input bytes)
+          ++ receive_last input bytes stop)
+          w.out w'.out
+      pub disk_count : world.disk.faults w'.disk ≡ world.disk.faults w.disk
+      pub out_count : world.out.faults w'.out ≡ world.out.faults w.out
 
     -- `out` failed in the last line
-    pub record SummaryStops (s s' : S) (d d' : D) (o o' : O) : Type 0 where
+    pub record SummaryStops (w w' : Outside S D O) : Type 0 where
       pub stop : Stop
-      pub reason : EndsFor source stop limit bytes s s'
-      pub durable : HoldsStill ground (files_of_bytes input bytes) disk d'
-      pub part : GotPart out (shelved_lines (next_number ground) (files_of_bytes input bytes))
-          (receive_last input bytes stop) o o'
-      pub rose : Rose (out.faults o) (out.faults o')
+      pub reason : EndsFor world.source stop limit bytes w.source w'.source
+      pub durable : HoldsStill ground (files_of_bytes input bytes) world.disk w'.disk
+      pub part : GotPart world.out (shelved_lines (next_number ground) (files_of_bytes input bytes))
+          (receive_last input bytes stop) w.out w'.out
+      pub rose : Rose (world.out.faults w.out) (world.out.faults w'.out)
 
     -- how a run ends, for each cause that it may have
-    abbrev pub Ends : Cause → S → S → D → D → O → O → Type 0
-    Ends Done s s' d d' o o' = Finishes End s s' d d' o o' ⊎ Finishes Limit s s' d d' o o'
-    Ends (Failed Source) s s' d d' o o' = Finishes Fault s s' d d' o o'
-    Ends (Failed Disk) s s' d d' o o' = DiskStops disk out ground (files_of_bytes input bytes) d d' o o'
-    Ends (Failed Output) s s' d d' o o' =
-        LineStops disk out ground (files_of_bytes input bytes) d d' o o' ⊎ SummaryStops s s' d d' o o'
-    Ends NoMemory s s' d d' o o' = MemoryStops disk out ground (files_of_bytes input bytes) d d' o o'
-    Ends (Refused (Capacity needed most)) s s' d d' o o' =
-        FullStops disk out ground needed most (files_of_bytes input bytes) d d' o o'
-    Ends _ s s' d d' o o' = ⊥
+    abbrev pub Ends : Cause → Outside S D O → Outside S D O → Type 0
+    Ends Done w w' = Finishes End w w' ⊎ Finishes Limit w w'
+    Ends (Failed Source) w w' = Finishes Fault w w'
+    Ends (Failed Disk) w w' =
+        DiskStops (world_outlets world) ground (files_of_bytes input bytes)
+        (outlets_in w) (outlets_in w')
+    Ends (Failed Output) w w' =
+        LineStops (world_outlets world) ground (files_of_bytes input bytes)
+        (outlets_in w) (outlets_in w')
+        ⊎ SummaryStops w w'
+    Ends NoMemory w w' =
+        MemoryStops (world_outlets world) ground (files_of_bytes input bytes)
+        (outlets_in w) (outlets_in w')
+    Ends (Refused (Capacity needed most)) w w' =
+        FullStops (world_outlets world) ground needed most (files_of_bytes input bytes)
+        (outlets_in w)
+        (outlets_in w')
+    Ends _ w w' = ⊥
 
 -- a run that took these bytes; what stood there before is the ground
-pub record Receives {S D O : Type 0} (world : World S D O) (input : Input) (ground : Ground) (limit : ℕ)
+pub record Receives {S D O : Type 0} (world : World S D O) (input : Input)
+    (ground : Ground) (limit : ℕ)
     (bytes : List ℕ) (cause : Cause) (w w' : Outside S D O) : Type 0 where
   -- the contents and each crash image hold each file whose line was put whole
   pub held : (whole rest : List Placed) (text : List ℕ) → world.out.tells w.out
@@ -125,8 +135,7 @@ pub record Receives {S D O : Type 0} (world : World S D O) (input : Input) (grou
   -- so does every moment of the call
   pub any_moment : LeavesFronts world.disk ground (files_of_bytes input bytes) w.disk w'.disk
   -- what a finished run leaves, and one that stopped early
-  pub ends : Ends world.source world.disk world.out input ground limit bytes cause w.source w'.source w.disk w'.disk
-      w.out w'.out
+  pub ends : Ends world input ground limit bytes cause w w'
   -- where no count rises and all files fit, the work is done or memory was refused
   pub complete : NoFault world w w' → AllHaveRoom ground (files_of_bytes input bytes)
       → (cause ≡ Done) ⊎ (cause ≡ NoMemory)
@@ -141,8 +150,8 @@ pub record IsUntouched {S D O : Type 0} (world : World S D O) (w w' : Outside S 
   pub out_stays : w'.out ≡ w.out
 
 -- the whole call, over every disk
-pub record ReceiveRun {S D O : Type 0} (world : World S D O) (input : Input) (limit : ℕ) (cause : Cause)
-    (w w' : Outside S D O) : Type 0 where
+pub record ReceiveRun {S D O : Type 0} (world : World S D O) (input : Input)
+    (limit : ℕ) (cause : Cause) (w w' : Outside S D O) : Type 0 where
   pub causes : IsReceiveCause cause
   -- the first event decides
   pub first : IsFirst cause (counts_in world w) (counts_in world w')
@@ -161,7 +170,8 @@ pub record ReceiveRun {S D O : Type 0} (world : World S D O) (input : Input) (li
       → Receives world input (OfWay way (world.disk.contents w.disk)) limit bytes cause w w'
   -- a disk on which no shelf stands is refused, exactly then
   pub refused : (at : ℕ) → cause ≡ Refused (NotAShelf at)
-      → (world.disk.tells w.disk → IsNoShelfAt (world.disk.contents w.disk) at) × IsUntouched world w w'
+      → (world.disk.tells w.disk → IsNoShelfAt (world.disk.contents w.disk) at)
+      × IsUntouched world w w'
   pub broken : (at : ℕ) → world.disk.tells w.disk → IsNoShelfAt (world.disk.contents w.disk) at
       → MayEndBefore at cause × IsUntouched world w w'
   -- over every disk that tells its contents the capacity is refused only where the next file's end passes it, which

@@ -2,9 +2,7 @@
 use Rattle.std.specs.Prelude.{◌≡◌, ◌⊎◌, ◌<◌, ℕ, false, List, [], ◌++◌, length}
 use Rattle.lr_bits.specs.Faults.{Rose}
 use Rattle.lr_bits.specs.declared.placed.Placed.{Placed}
-use Rattle.lr_io.specs.declared.source.Source.{Ghosts as SourceOf}
 use Rattle.lr_io.specs.declared.sink.Sink.{Ghosts as SinkOf}
-use Rattle.lr_disk.specs.declared.disk.Disk.{Ghosts as DiskOf}
 use Rattle.lr_conv.specs.declared.line.LineCode.{LineCode}
 use Rattle.lr_layers.specs.Layers.{numbers_of}
 use Rattle.lr_layers.specs.Standing.{numbers}
@@ -20,20 +18,21 @@ use Rattle.lr_forms.specs.declared.forms.Input.TheVariants.{Symbols}
 use Rattle.lr_reading.specs.Inputs.{outcomes_of_bytes}
 use Rattle.lr_reading.specs.Runs.{ReadsInput}
 use Rattle.lr_receiving.specs.Inputs.{files_of_bytes}
-use Rattle.lr_causes.specs.Causes.{IsEarlier, counts}
+use Rattle.lr_causes.specs.Causes.{IsEarlier}
+use Rattle.lr_causes.specs.Outside.{Outlets, Outside, World, counts_in, outlets_in, outside, world_outlets}
 use Rattle.lr_receiving.specs.First.{IsFirst}
-use Rattle.lr_shelf.specs.Grounds.{Ground}
+use Rattle.lr_shelf.specs.Grounds.{Ground, LeavesFronts}
 use Rattle.lr_shelf.specs.Fronts.{HasRoom}
 use Rattle.lr_receiving.specs.Onto.{IsFullWith}
 use Rattle.lr_reading.specs.Reading.{IsRead}
 use Rattle.lr_causes.specs.Puts.{Puts, PutStops}
 use Rattle.lr_receiving.specs.Receive.{counts_line, IsWorkDone, Ends}
-use Rattle.lr_receiving.specs.Shelving.{LeavesFronts}
 use Rattle.lr_receiving.specs.Shelved.{HasShelved, MayStop, ShelvesSoFar, StopsShelving}
 
 -- the last line of what was read and counted
 abbrev pub sums_line : Sums → List ℕ
-sums_line sums = counts_line sums.totals.symbols sums.totals.frames (numbers sums.counts) sums.totals.left
+sums_line sums =
+    counts_line sums.totals.symbols sums.totals.frames (numbers sums.counts) sums.totals.left
     sums.totals.stop
 
 module _ {O : Type 0} (out : SinkOf O) (sums : Sums) where
@@ -44,47 +43,51 @@ module _ {O : Type 0} (out : SinkOf O) (sums : Sums) where
   LastStops cause o o' = PutStops out (sums_line sums) cause o o'
 
 -- over every disk: how a run ends onto the shelf that was loaded
-pub record EndsOver {D O : Type 0} (cause : Cause) (files : List Placed) (shelf : Shelf) (d d' : D) (o o' : O)
-    : Type 0 where
+pub record EndsOver {D O : Type 0} (cause : Cause) (files : List Placed)
+    (shelf : Shelf) (w w' : Outlets D O) : Type 0 where
   pub full : (needed most : ℕ) → cause ≡ Refused (Capacity needed most)
       → IsFullWith (kept_by shelf).way needed most files
   pub room : IsWorkDone cause → HasRoom (kept_by shelf).way files
-  pub same_disk : files ≡ [] → d' ≡ d
-  pub silent : files ≡ [] → IsEarlier cause → o' ≡ o
+  pub same_disk : files ≡ [] → w'.disk ≡ w.disk
+  pub silent : files ≡ [] → IsEarlier cause → w'.out ≡ w.out
   pub kind : files ≡ [] → cause ≡ Failed Disk → ⊥
 
-module _ {S D O : Type 0} (source : SourceOf S) (disk : DiskOf D) (out : SinkOf O) (input : Input) (limit : ℕ) where
+module _ {S D O : Type 0} (world : World S D O) (input : Input) (limit : ℕ) where
   -- the input ended, and all its files are shelved, whatever shelf they came onto
-  pub record ReadsAll (sums : Sums) (shelf shelf' : Shelf) (s s' : S) (d d' : D) (o o' : O) : Type 0 where
+  pub record ReadsAll (sums : Sums) (shelf shelf' : Shelf) (w w' : Outside S D O) : Type 0 where
     pub bytes : List ℕ
-    pub ends : ReadsInput source input limit sums.totals bytes s s'
+    pub ends : ReadsInput world.source input limit sums.totals bytes w.source w'.source
     pub counts : numbers sums.counts ≡ numbers_of (outcomes_of_bytes input bytes)
-    pub shelved : HasShelved disk out (files_of_bytes input bytes) shelf shelf' d d' o o'
+    pub shelved : HasShelved (world_outlets world) (files_of_bytes input bytes)
+        shelf shelf' (outlets_in w) (outlets_in w')
 
   -- shelving stopped among the files of these bytes
-  pub record ReadsSome (cause : Cause) (shelf : Shelf) (s s' : S) (d d' : D) (o o' : O) : Type 0 where
+  pub record ReadsSome (cause : Cause) (shelf : Shelf) (w w' : Outside S D O) : Type 0 where
     pub bytes : List ℕ
-    pub read : IsRead source limit bytes s s'
-    pub stopped : StopsShelving disk out cause (files_of_bytes input bytes) shelf d d' o o'
+    pub read : IsRead world.source limit bytes w.source w'.source
+    pub stopped : StopsShelving (world_outlets world) cause (files_of_bytes input bytes)
+        shelf (outlets_in w) (outlets_in w')
     -- more sharply: among these files, up to those of the last outcome
     pub files : List Placed
-    pub early : StopsShelving disk out cause files shelf d d' o o'
+    pub early : StopsShelving (world_outlets world) cause files shelf (outlets_in w) (outlets_in w')
     -- of symbols they are the first ones of all that the source gives, where it had not failed nor reached the limit
-    pub first : (line : LineCode) → input ≡ Symbols line → source.tells s → length bytes < limit
-        → (Rose (source.faults s) (source.faults s') → ⊥)
-        → (rest : List Placed) × (files_of_bytes input (bytes ++ source.left s') ≡ files ++ rest)
+    pub first : (line : LineCode) → input ≡ Symbols line → world.source.tells w.source
+        → length bytes < limit
+        → (Rose (world.source.faults w.source) (world.source.faults w'.source) → ⊥)
+        → (rest : List Placed)
+        × (files_of_bytes input (bytes ++ world.source.left w'.source) ≡ files ++ rest)
 
   -- how a run ends that took some bytes, whatever shelf it was onto, and what a crash may leave of it
-  pub record EndsRun (cause : Cause) (shelf : Shelf) (s s' : S) (d d' : D) (o o' : O) : Type 0 where
+  pub record EndsRun (cause : Cause) (shelf : Shelf) (w w' : Outside S D O) : Type 0 where
     pub bytes : List ℕ
-    pub read : IsRead source limit bytes s s'
+    pub read : IsRead world.source limit bytes w.source w'.source
     pub kind : MayStop cause ⊎ IsWorkDone cause
-    pub told_by_disk : disk.tells d → disk.tells d'
-    pub told_by_out : out.tells o → out.tells o'
+    pub told_by_disk : world.disk.tells w.disk → world.disk.tells w'.disk
+    pub told_by_out : world.out.tells w.out → world.out.tells w'.out
     pub first : (kept_by shelf).failed ≡ false
-        → IsFirst cause (counts (source.faults s) (disk.faults d) (out.faults o))
-        (counts (source.faults s') (disk.faults d') (out.faults o'))
-    pub ends : (ground : Ground) (d0 : D) (o0 : O) → ShelvesSoFar disk out ground [] shelf d0 d o0 o
-        → LeavesFronts disk ground (files_of_bytes input bytes) d0 d'
-        × Ends source disk out input ground limit bytes cause s s' d0 d' o0 o'
-    pub over : EndsOver cause (files_of_bytes input bytes) shelf d d' o o'
+        → IsFirst cause (counts_in world w) (counts_in world w')
+    pub ends : (ground : Ground) (before : Outlets D O)
+        → ShelvesSoFar (world_outlets world) ground [] shelf before (outlets_in w)
+        → LeavesFronts world.disk ground (files_of_bytes input bytes) before.disk w'.disk
+        × Ends world input ground limit bytes cause (outside w.source before.disk before.out) w'
+    pub over : EndsOver cause (files_of_bytes input bytes) shelf (outlets_in w) (outlets_in w')

@@ -2,8 +2,6 @@
 use Rattle.std.specs.Prelude.{◌≡◌, ℕ, false, List, [], ◌∷◌, ◌++◌}
 use Rattle.lr_bits.specs.declared.outcome.Outcome.{Outcome}
 use Rattle.lr_bits.specs.declared.placed.Placed.{Placed}
-use Rattle.lr_io.specs.declared.sink.Sink.{Ghosts as SinkOf}
-use Rattle.lr_disk.specs.declared.disk.Disk.{Ghosts as DiskOf}
 use Rattle.lr_layers.specs.Origins.{placed_of_outcomes}
 use Rattle.lr_shelf.specs.Kept.{kept_by}
 use Rattle.lr_shelf.specs.declared.shelf.Shelf.{Shelf}
@@ -11,13 +9,13 @@ use Rattle.lr_causes.specs.declared.cause.Cause.{Cause}
 use Rattle.lr_causes.specs.declared.cause.Cause.TheVariants.{Failed, NoMemory, Refused}
 use Rattle.lr_causes.specs.declared.cause.Party.TheVariants.{Disk, Output}
 use Rattle.lr_causes.specs.declared.cause.Refusal.TheVariants.{NotAShelf, Capacity}
-use Rattle.lr_causes.specs.Causes.{counts}
+use Rattle.lr_causes.specs.Outside.{Outlets, OutletsOf, outlet_counts}
 use Rattle.lr_causes.specs.Puts.{Puts}
 use Rattle.lr_receiving.specs.First.{IsFirst}
-use Rattle.lr_shelf.specs.Grounds.{Ground, IsSettledOn, next_number}
+use Rattle.lr_shelf.specs.Grounds.{Ground, IsSettledOn, LeavesFronts, next_number}
 use Rattle.lr_shelf.specs.Fronts.{HasRoom, end_with}
 use Rattle.lr_receiving.specs.Onto.{IsFullWith}
-use Rattle.lr_receiving.specs.Shelving.{shelved_lines, LeavesFronts, Stops}
+use Rattle.lr_receiving.specs.Shelving.{shelved_lines, Stops}
 
 -- the causes for which shelving may stop, over any disk
 abbrev pub MayStop : Cause → Type 0
@@ -36,63 +34,69 @@ StopsTrial (Refused (Capacity needed capacity)) = Unit {0}
 StopsTrial _ = ⊥
 
 -- over every disk: these files were shelved, and the shelf in memory ends after them
-pub record Grows {D O : Type 0} (done : List Placed) (shelf shelf' : Shelf) (d d' : D) (o o' : O) : Type 0 where
+pub record Grows {D O : Type 0} (done : List Placed) (shelf shelf' : Shelf)
+    (w w' : Outlets D O) : Type 0 where
   pub ends : (kept_by shelf').way.end ≡ end_with (kept_by shelf).way.end done
   pub same : (kept_by shelf').way.capacity ≡ (kept_by shelf).way.capacity
   pub room : HasRoom (kept_by shelf).way done
-  pub none : done ≡ [] → (d' ≡ d) × (o' ≡ o)
+  pub none : done ≡ [] → (w'.disk ≡ w.disk) × (w'.out ≡ w.out)
 
 -- over every disk: shelving these files stopped
-pub record GrowsNoMore {D O : Type 0} (cause : Cause) (files : List Placed) (shelf : Shelf) (d d' : D) (o o' : O)
-    : Type 0 where
+pub record GrowsNoMore {D O : Type 0} (cause : Cause) (files : List Placed)
+    (shelf : Shelf) (w w' : Outlets D O) : Type 0 where
   pub full : (needed most : ℕ) → cause ≡ Refused (Capacity needed most)
       → IsFullWith (kept_by shelf).way needed most files
-  pub none : files ≡ [] → (cause ≡ NoMemory) × (d' ≡ d) × (o' ≡ o)
+  pub none : files ≡ [] → (cause ≡ NoMemory) × (w'.disk ≡ w.disk) × (w'.out ≡ w.out)
 
-module _ {D O : Type 0} (disk : DiskOf D) (out : SinkOf O) where
+module _ {D O : Type 0} (world : OutletsOf D O) where
   -- these files are shelved on this ground and their lines put; nothing failed
-  pub record ShelvesSoFar (ground : Ground) (done : List Placed) (shelf : Shelf) (d d' : D) (o o' : O) : Type 0 where
-    pub settled : IsSettledOn ground done disk shelf d'
-    pub any_moment : LeavesFronts disk ground done d d'
-    pub put : Puts out (shelved_lines (next_number ground) done) o o'
-    pub disk_count : disk.faults d' ≡ disk.faults d
+  pub record ShelvesSoFar (ground : Ground) (done : List Placed) (shelf : Shelf)
+      (w w' : Outlets D O) : Type 0 where
+    pub settled : IsSettledOn ground done world.disk shelf w'.disk
+    pub any_moment : LeavesFronts world.disk ground done w.disk w'.disk
+    pub put : Puts world.out (shelved_lines (next_number ground) done) w.out w'.out
+    pub disk_count : world.disk.faults w'.disk ≡ world.disk.faults w.disk
 
   -- these files were shelved, and their lines put; nothing failed
-  pub record HasShelved (files : List Placed) (shelf shelf' : Shelf) (d d' : D) (o o' : O) : Type 0 where
-    pub told_by_disk : disk.tells d → disk.tells d'
-    pub told_by_out : out.tells o → out.tells o'
+  pub record HasShelved (files : List Placed) (shelf shelf' : Shelf)
+      (w w' : Outlets D O) : Type 0 where
+    pub told_by_disk : world.disk.tells w.disk → world.disk.tells w'.disk
+    pub told_by_out : world.out.tells w.out → world.out.tells w'.out
     pub working : (kept_by shelf).failed ≡ false → (kept_by shelf').failed ≡ false
-    pub disk_count : disk.faults d' ≡ disk.faults d
-    pub out_count : out.faults o' ≡ out.faults o
+    pub disk_count : world.disk.faults w'.disk ≡ world.disk.faults w.disk
+    pub out_count : world.out.faults w'.out ≡ world.out.faults w.out
     -- after others, on any ground
-    pub shelved : (ground : Ground) (done : List Placed) (d0 : D) (o0 : O)
-        → ShelvesSoFar ground done shelf d0 d o0 o → ShelvesSoFar ground (done ++ files) shelf' d0 d' o0 o'
+    pub shelved : (ground : Ground) (done : List Placed) (before : Outlets D O)
+        → ShelvesSoFar ground done shelf before w
+        → ShelvesSoFar ground (done ++ files) shelf' before w'
     -- over every disk
-    pub grown : Grows files shelf shelf' d d' o o'
+    pub grown : Grows files shelf shelf' w w'
 
   -- they were not all
-  pub record StopsShelving (cause : Cause) (files : List Placed) (shelf : Shelf) (d d' : D) (o o' : O) : Type 0 where
+  pub record StopsShelving (cause : Cause) (files : List Placed) (shelf : Shelf)
+      (w w' : Outlets D O) : Type 0 where
     pub kind : MayStop cause
-    pub told_by_disk : disk.tells d → disk.tells d'
-    pub told_by_out : out.tells o → out.tells o'
+    pub told_by_disk : world.disk.tells w.disk → world.disk.tells w'.disk
+    pub told_by_out : world.out.tells w.out → world.out.tells w'.out
     pub first : (kept_by shelf).failed ≡ false
-        → IsFirst cause (counts 0 (disk.faults d) (out.faults o)) (counts 0 (disk.faults d') (out.faults o'))
+        → IsFirst cause (outlet_counts world w) (outlet_counts world w')
     -- after others, on any ground
-    pub stops : (ground : Ground) (done : List Placed) (d0 : D) (o0 : O)
-        → ShelvesSoFar ground done shelf d0 d o0 o → Stops disk out ground cause (done ++ files) d0 d' o0 o'
+    pub stops : (ground : Ground) (done : List Placed) (before : Outlets D O)
+        → ShelvesSoFar ground done shelf before w
+        → Stops world ground cause (done ++ files) before w'
     -- over every disk
-    pub grown : GrowsNoMore cause files shelf d d' o o'
+    pub grown : GrowsNoMore cause files shelf w w'
 
   -- the files that one outcome more adds were shelved
-  pub record Gains (outcomes : List Outcome) (outcome : Outcome) (shelf shelf' : Shelf) (d d' : D) (o o' : O)
-      : Type 0 where
+  pub record Gains (outcomes : List Outcome) (outcome : Outcome)
+      (shelf shelf' : Shelf) (w w' : Outlets D O) : Type 0 where
     pub more : List Placed
     pub files : placed_of_outcomes (outcomes ++ outcome ∷ []) ≡ placed_of_outcomes outcomes ++ more
-    pub shelved : HasShelved more shelf shelf' d d' o o'
+    pub shelved : HasShelved more shelf shelf' w w'
 
   -- they were not all
-  pub record GainsNoMore (cause : Cause) (outcomes : List Outcome) (outcome : Outcome) (shelf : Shelf) (d d' : D)
-      (o o' : O) : Type 0 where
+  pub record GainsNoMore (cause : Cause) (outcomes : List Outcome)
+      (outcome : Outcome) (shelf : Shelf) (w w' : Outlets D O) : Type 0 where
     pub more : List Placed
     pub files : placed_of_outcomes (outcomes ++ outcome ∷ []) ≡ placed_of_outcomes outcomes ++ more
-    pub stopped : StopsShelving cause more shelf d d' o o'
+    pub stopped : StopsShelving cause more shelf w w'

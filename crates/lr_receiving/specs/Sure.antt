@@ -9,7 +9,12 @@ use Rattle.lr_io.specs.declared.source.SureSource.{SureSource}
 
 -- it tells the bytes that are left
 abbrev pub sure_source : SourceOf SureSource
-sure_source = record { faults = λ _. 0; tells = λ _. Unit {0}; left = left_of; asked = λ _ _. Unit {0} }
+sure_source = record {
+  faults = λ _. 0;
+  tells = λ _. Unit {0};
+  left = left_of;
+  asked = λ _ _. Unit {0};
+}
 
 -- it tells nothing
 abbrev pub sure_sink : SinkOf SureSink

@@ -14,24 +14,26 @@ use Rattle.lr_causes.specs.declared.cause.Cause.TheVariants.{Done, Failed, NoMem
 use Rattle.lr_causes.specs.declared.cause.Party.TheVariants.{Disk, Output}
 use Rattle.lr_causes.specs.declared.cause.Refusal.TheVariants.{NotAShelf, Capacity, NotEmpty}
 use Rattle.lr_forms.specs.declared.forms.Input.TheVariants.{Symbols}
-use Rattle.lr_causes.specs.Causes.{IsEarlier, counts}
+use Rattle.lr_causes.specs.Causes.{IsEarlier}
+use Rattle.lr_causes.specs.Outside.{Outlets, OutletsOf, outlet_counts}
 use Rattle.lr_receiving.specs.First.{IsFirst}
 use Rattle.lr_receiving.specs.Inputs.{files_of_bytes}
 use Rattle.lr_receiving.specs.Receive.{receive_last}
-use Rattle.lr_shelf.specs.Grounds.{OfItems, with_files}
-use Rattle.lr_receiving.specs.Shelving.{StandsForFront, GotText}
+use Rattle.lr_shelf.specs.Grounds.{OfItems, StandsForFront, with_files}
+use Rattle.lr_receiving.specs.Shelving.{GotText}
 
 -- how many bytes the shelf may have
 abbrev pub trial_capacity : ℕ
 trial_capacity = 1048576
 
--- these bytes stand for a shelf of that capacity with a front of the files of these symbols, or of the first of
--- them; it has n of the files at least
+-- these bytes stand for a shelf of that capacity with a front of the files of these symbols, or of the first of them;
+-- it has n of the files at least
 pub record StandsForPart (symbols : List ℕ) (n : ℕ) (bytes : List ℕ) : Type 0 where
   pub part : List ℕ
   pub later : List ℕ
   pub split : symbols ≡ part ++ later
-  pub stands : StandsForFront (OfItems trial_capacity []) (files_of_bytes (Symbols STANDARD) part) n bytes
+  pub stands : StandsForFront (OfItems trial_capacity [])
+      (files_of_bytes (Symbols STANDARD) part) n bytes
 
 module _ {D : Type 0} (disk : DiskOf D) where
   -- the disk has no bytes, now and after a crash
@@ -49,11 +51,13 @@ module _ {D : Type 0} (disk : DiskOf D) (symbols : List ℕ) where
   -- bytes, or a file stands on it. Where the disk tells its contents, there is never no shelf, and all files fit.
   abbrev pub DiskEnds : Cause → D → D → Type 0
   DiskEnds Done d d' =
-      (disk.tells d → IsDurable disk trial_capacity (with_files [] (files_of_bytes (Symbols STANDARD) symbols)) d')
+      (disk.tells d → IsDurable disk trial_capacity
+      (with_files [] (files_of_bytes (Symbols STANDARD) symbols)) d')
       × (disk.faults d' ≡ disk.faults d)
   DiskEnds (Failed Disk) d d' = Unit {0}
   DiskEnds (Failed Output) d d' =
-      disk.tells d → IsDurable disk trial_capacity (with_files [] (files_of_bytes (Symbols STANDARD) symbols)) d'
+      disk.tells d → IsDurable disk trial_capacity
+      (with_files [] (files_of_bytes (Symbols STANDARD) symbols)) d'
   DiskEnds NoMemory d d' = disk.tells d → (d' ≡ d) ⊎ IsBare disk d' ⊎ HoldsTrialPart 1 d'
   DiskEnds (Refused (NotAShelf at)) d d' = disk.tells d → ⊥
   DiskEnds (Refused (Capacity needed most)) d d' = disk.tells d → ⊥
@@ -67,24 +71,29 @@ module _ {D : Type 0} (disk : DiskOf D) (symbols : List ℕ) where
     pub taken : disk.tells d → IsTaken (disk.contents d)
         → ((cause ≡ Refused (NotEmpty (length (disk.contents d)))) ⊎ IsEarlier cause)
         × ((d' ≡ d) ⊎ IsUnwritten disk d d')
-    -- otherwise a crash at any moment of the call leaves at most 20 bytes, with no header or an empty shelf, or a shelf
-    -- with some of the files
-    pub any_moment : disk.tells d → (IsTaken (disk.contents d) → ⊥) → Only (disk.contents d) (disk.may_leave d)
+    -- otherwise a crash at any moment of the call leaves at most 20 bytes, with no header or an empty shelf, or a
+    -- shelf with some of the files
+    pub any_moment : disk.tells d → (IsTaken (disk.contents d) → ⊥)
+        → Only (disk.contents d) (disk.may_leave d)
         → (d' ≡ d)
-        ⊎ LeavesOnly disk.moment disk.left_since d d' (λ c. IsBlank trial_capacity c ⊎ StandsForPart symbols 0 c)
+        ⊎ LeavesOnly disk.moment disk.left_since d d' (λ c. IsBlank trial_capacity c
+        ⊎ StandsForPart symbols 0 c)
 
-module _ {D O : Type 0} (disk : DiskOf D) (out : SinkOf O) (symbols : List ℕ) where
+module _ {O : Type 0} (out : SinkOf O) (symbols : List ℕ) where
   -- what `out` got: the last line of `receive` alone, where the work is done
   abbrev pub OutEnds : Cause → O → O → Type 0
-  OutEnds Done o o' = GotText out (receive_last (Symbols STANDARD) symbols End) o o' × (out.faults o' ≡ out.faults o)
+  OutEnds Done o o' = GotText out (receive_last (Symbols STANDARD) symbols End) o o'
+      × (out.faults o' ≡ out.faults o)
   OutEnds (Failed Output) o o' =
-      out.tells o → PutsPart (receive_last (Symbols STANDARD) symbols End) (out.contents o) (out.contents o')
+      out.tells o → PutsPart (receive_last (Symbols STANDARD) symbols End)
+      (out.contents o) (out.contents o')
   OutEnds _ o o' = o' ≡ o
 
-  pub record TrialRun (cause : Cause) (d d' : D) (o o' : O) : Type 0 where
-    pub on_disk : LeavesDisk disk symbols cause d d'
-    pub on_out : OutEnds cause o o'
-    pub told_by_disk : disk.tells d → disk.tells d'
-    pub told_by_out : out.tells o → out.tells o'
+module _ {D O : Type 0} (world : OutletsOf D O) (symbols : List ℕ) where
+  pub record TrialRun (cause : Cause) (w w' : Outlets D O) : Type 0 where
+    pub on_disk : LeavesDisk world.disk symbols cause w.disk w'.disk
+    pub on_out : OutEnds world.out symbols cause w.out w'.out
+    pub told_by_disk : world.disk.tells w.disk → world.disk.tells w'.disk
+    pub told_by_out : world.out.tells w.out → world.out.tells w'.out
     -- the first event decides, but a disk that fails as the shelf is taken away is told instead of want of memory
-    pub first : IsFirst cause (counts 0 (disk.faults d) (out.faults o)) (counts 0 (disk.faults d') (out.faults o'))
+    pub first : IsFirst cause (outlet_counts world w) (outlet_counts world w')

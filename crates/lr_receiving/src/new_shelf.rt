@@ -3,6 +3,7 @@ ghost use Rattle.std.specs.Prelude.{◌≡◌, IfOk, string_bytes};
 ghost use Rattle.lr_shelf_format.specs.Header.{IsCapacity};
 ghost use Rattle.lr_causes.specs.Causes.{IsCaused, counts};
 ghost use Rattle.lr_receiving.specs.Init.{capacity_line, InitRun};
+ghost use Rattle.lr_causes.specs.Outside.{outlets, outlets_of};
 
 use lr_causes::{Cause, put_text};
 use lr_disk::Disk;
@@ -25,7 +26,8 @@ pub fn init<D: Disk, O: Sink>(alloc: Global, capacity: u64, disk: &mut D, out: &
         (counts 0 (D.faults disk.new) (O.faults out.new)) }
     ensures told_by_disk { D.tells disk.old → D.tells disk.new }
     ensures told_by_out { O.tells out.old → O.tells out.new }
-    ensures run { InitRun D.Disk O.Sink capacity result disk.old disk.new out.old out.new }
+    ensures run { InitRun (outlets_of D.Disk O.Sink) capacity result
+        (outlets disk.old out.old) (outlets disk.new out.new) }
 {
     let line = match capacity_line(alloc, capacity) {
         Ok(line) => line,

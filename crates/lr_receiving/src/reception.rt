@@ -43,10 +43,12 @@ pub(crate) fn receive_all<
     requires ready { MayLead (F.pre read) (ShelverTook D.Disk O.Sink) }
     requires leads { Leads (F.post read) S.Source (ShelverTook D.Disk O.Sink)
         (ShelverStopped D.Disk O.Sink) input most }
-    ensures all { IfOk result (λ sums. ReadsAll S.Source D.Disk O.Sink input most sums
-        shelf.old shelf.new source.old source.new disk.old disk.new out.old out.new) }
-    ensures some { IfErr result (λ cause. ReadsSome S.Source D.Disk O.Sink input most cause
-        shelf.old source.old source.new disk.old disk.new out.old out.new) }
+    ensures all { IfOk result
+        (λ sums. ReadsAll (world_of S.Source D.Disk O.Sink) input most sums shelf.old shelf.new
+        (outside source.old disk.old out.old) (outside source.new disk.new out.new)) }
+    ensures some { IfErr result
+        (λ cause. ReadsSome (world_of S.Source D.Disk O.Sink) input most cause shelf.old
+        (outside source.old disk.old out.old) (outside source.new disk.new out.new)) }
 {
     let mut layers = Layers::new(alloc);
     let mut files = Vec::new(alloc);
@@ -105,8 +107,8 @@ fn receive_onto<
     requires ready { MayLead (F.pre read) (ShelverTook D.Disk O.Sink) }
     requires leads { Leads (F.post read) S.Source (ShelverTook D.Disk O.Sink)
         (ShelverStopped D.Disk O.Sink) input most }
-    ensures { EndsRun S.Source D.Disk O.Sink input most result shelf.old source.old source.new
-        disk.old disk.new out.old out.new }
+    ensures { EndsRun (world_of S.Source D.Disk O.Sink) input most result
+        shelf.old (outside source.old disk.old out.old) (outside source.new disk.new out.new) }
 {
     let sums = match receive_all(alloc, input, most, shelf, source, disk, out, read) {
         Ok(sums) => sums,
@@ -146,9 +148,9 @@ fn receive_with<
     }
 }
 
-/// Takes at most `most` bytes, and puts their mission files onto the shelf that the disk holds. What reading takes of
-/// memory is taken first, then the shelf is loaded, and then the source is read.
-pub fn receive<S: Source, D: Disk, O: Sink>(
+/// Takes at most `most` bytes, and puts their mission files onto the shelf that the disk holds, all on the caller's
+/// thread. What reading takes of memory is taken first, then the shelf is loaded, and then the source is read.
+pub fn receive_alone<S: Source, D: Disk, O: Sink>(
     alloc: Global,
     input: Input,
     most: u64,
@@ -175,14 +177,15 @@ pub fn receive<S: Source, D: Disk, O: Sink>(
             requires { ((reader.workers ≡ 1) × (reader.most ≤ 2 ^ 48))
                 × ((first : _) × ShelverTook D.Disk O.Sink first [] shelver.old) }
             ensures { IsLed S.Source (ShelverTook D.Disk O.Sink) reader.input reader.most
-                (ShelverStopped D.Disk O.Sink) result source.old source.new shelver.old shelver.new }
+                (ShelverStopped D.Disk O.Sink) result source.old source.new
+                shelver.old shelver.new }
         { reader.read_alone(source, shelver) },
     )
 }
 
-/// What `receive` does, where this many work on windows of symbols, the caller among them. The memory for their ring
-/// and their hands is taken with that for reading.
-pub fn receive_by_team<R: Threads + Wait + Sync, H: Hand, S: Source, D: Disk, O: Sink>(
+/// What `receive_alone` does, where this many work on windows of symbols, the caller among them. The memory for their
+/// ring and their hands is taken with that for reading.
+pub fn receive<R: Threads + Wait + Sync, H: Hand, S: Source, D: Disk, O: Sink>(
     rt: &R,
     alloc: Global,
     tools: &H::Tools,
@@ -213,7 +216,8 @@ pub fn receive_by_team<R: Threads + Wait + Sync, H: Hand, S: Source, D: Disk, O:
             requires { (reader.most ≤ 2 ^ 48) × ((first : _)
                 × ShelverTook D.Disk O.Sink first [] shelver.old) }
             ensures { IsLed S.Source (ShelverTook D.Disk O.Sink) reader.input reader.most
-                (ShelverStopped D.Disk O.Sink) result source.old source.new shelver.old shelver.new }
+                (ShelverStopped D.Disk O.Sink) result source.old source.new
+                shelver.old shelver.new }
         { reader.read(rt, source, shelver) },
     )
 }

@@ -4,6 +4,7 @@ ghost use Rattle.lr_bits.specs.declared.outcome.Outcome.{Outcome as Outcome'};
 ghost use Rattle.lr_layers.specs.Standing.{StandsFor};
 ghost use Rattle.lr_reading.specs.Arrivals.{HasWholeFrame};
 ghost use Rattle.lr_receiving.specs.Shelved.{HasShelved, StopsShelving, Gains, GainsNoMore};
+ghost use Rattle.lr_causes.specs.Outside.{outlets, outlets_of};
 
 use lr_bits::{Bytes, Outcome, Placed};
 use lr_catalog::shelved_line;
@@ -23,10 +24,10 @@ fn shelve<D: Disk, O: Sink>(
     disk: &mut D,
     out: &mut O,
 ) -> Result<(), Cause>
-    ensures shelved { OnOk result (HasShelved D.Disk O.Sink (placed.now ∷ []) shelf.old shelf.new
-        disk.old disk.new out.old out.new) }
-    ensures stopped { IfErr result (λ cause. StopsShelving D.Disk O.Sink cause (placed.now ∷ [])
-        shelf.old disk.old disk.new out.old out.new) }
+    ensures shelved { OnOk result (HasShelved (outlets_of D.Disk O.Sink) (placed.now ∷ [])
+        shelf.old shelf.new (outlets disk.old out.old) (outlets disk.new out.new)) }
+    ensures stopped { IfErr result (λ cause. StopsShelving (outlets_of D.Disk O.Sink)
+        cause (placed.now ∷ []) shelf.old (outlets disk.old out.old) (outlets disk.new out.new)) }
 {
     // What `bytes` says of a file bounds the end that the shelf would need.
     let _ = placed.file.bytes();
@@ -46,10 +47,10 @@ fn shelve_all<D: Disk, O: Sink>(
     disk: &mut D,
     out: &mut O,
 ) -> Result<(), Cause>
-    ensures shelved { OnOk result (HasShelved D.Disk O.Sink files.now shelf.old shelf.new
-        disk.old disk.new out.old out.new) }
-    ensures stopped { IfErr result (λ cause. StopsShelving D.Disk O.Sink cause files.now shelf.old
-        disk.old disk.new out.old out.new) }
+    ensures shelved { OnOk result (HasShelved (outlets_of D.Disk O.Sink)
+        files.now shelf.old shelf.new (outlets disk.old out.old) (outlets disk.new out.new)) }
+    ensures stopped { IfErr result (λ cause. StopsShelving (outlets_of D.Disk O.Sink)
+        cause files.now shelf.old (outlets disk.old out.old) (outlets disk.new out.new)) }
 {
     for placed in files {
         shelve(alloc, placed, shelf, disk, out)?;
@@ -71,12 +72,12 @@ pub(crate) fn shelve_outcome<D: Disk, O: Sink>(
     ensures stands { (outcomes : List Outcome') → StandsFor layers.old outcomes
         → OnOk result (StandsFor layers.new (outcomes ++ outcome.now ∷ [])) }
     ensures gained { (outcomes : List Outcome') → StandsFor layers.old outcomes
-        → OnOk result (Gains D.Disk O.Sink outcomes outcome.now shelf.old shelf.new
-        disk.old disk.new out.old out.new) }
+        → OnOk result (Gains (outlets_of D.Disk O.Sink) outcomes outcome.now
+        shelf.old shelf.new (outlets disk.old out.old) (outlets disk.new out.new)) }
     ensures stopped { (outcomes : List Outcome') → StandsFor layers.old outcomes
         → HasWholeFrame outcome.now
-        → IfErr result (λ cause. GainsNoMore D.Disk O.Sink cause outcomes outcome.now shelf.old
-        disk.old disk.new out.old out.new) }
+        → IfErr result (λ cause. GainsNoMore (outlets_of D.Disk O.Sink) cause outcomes
+        outcome.now shelf.old (outlets disk.old out.old) (outlets disk.new out.new)) }
 {
     files.clear();
     layers.push_outcome(outcome, files)?;

@@ -20,6 +20,7 @@ ghost use Rattle.lr_receiving.specs.Sure.{sure_source, sure_sink};
 ghost use Rattle.lr_receiving.specs.Trial.{trial_capacity, TrialRun};
 ghost use Rattle.lr_forms.specs.declared.forms.Input.TheVariants.{Symbols};
 ghost use Rattle.lr_forms.specs.declared.forms.TheConstants.{MOST_BYTES as most_bytes};
+ghost use Rattle.lr_causes.specs.Outside.{outlets, outlets_of};
 
 use crate::reception::{put_last, receive_all};
 use crate::shelver::Shelver;
@@ -116,7 +117,8 @@ fn fill<
     requires fit { end_of (with_files [] (files_of_bytes (Symbols standard) symbols.items))
         ≤ trial_capacity }
     requires empty { D.tells disk.old → IsDurable D.Disk trial_capacity [] disk.old }
-    ensures { Fills D.Disk O.Sink symbols.items result disk.old disk.new out.old out.new }
+    ensures { Fills (outlets_of D.Disk O.Sink) symbols.items result
+        (outlets disk.old out.old) (outlets disk.new out.new) }
 {
     let sums = match shelve_stream(alloc, symbols, disk, read) {
         Ok(sums) => sums,
@@ -140,8 +142,8 @@ fn trial_with<
     requires ready { MayLead (F.pre read) (ShelverTook D.Disk sure_sink) }
     requires leads { Leads (F.post read) sure_source (ShelverTook D.Disk sure_sink)
         (ShelverStopped D.Disk sure_sink) (Symbols standard) most_bytes }
-    ensures { TrialRun D.Disk O.Sink (made_bytes Output.Symbols start wrong frames) result
-        disk.old disk.new out.old out.new }
+    ensures { TrialRun (outlets_of D.Disk O.Sink) (made_bytes Output.Symbols start wrong frames)
+        result (outlets disk.old out.old) (outlets disk.new out.new) }
 {
     let symbols = match stream(alloc, start, frames, wrong) {
         Ok(symbols) => symbols,
@@ -157,9 +159,10 @@ fn trial_with<
 }
 
 /// Makes the symbols of this many frames of the test stream, an empty shelf on the disk, and puts the mission files
-/// of the symbols onto it. The last line alone is printed. The memory for the symbols, and for reading them, is taken
-/// first. Where memory is refused later, and no file stands on the shelf yet, the shelf is taken away again.
-pub fn trial<D: Disk, O: Sink>(
+/// of the symbols onto it, all on the caller's thread. The last line alone is printed. The memory for the symbols, and
+/// for reading them, is taken first. Where memory is refused later, and no file stands on the shelf yet, the shelf is
+/// taken away again.
+pub fn trial_alone<D: Disk, O: Sink>(
     alloc: Global,
     start: u64,
     frames: u64,
@@ -169,8 +172,8 @@ pub fn trial<D: Disk, O: Sink>(
 ) -> Cause
     requires few { frames ≤ 1024 }
     requires wrong { wrong ≤ 16 }
-    ensures { TrialRun D.Disk O.Sink (made_bytes Output.Symbols start wrong frames) result
-        disk.old disk.new out.old out.new }
+    ensures { TrialRun (outlets_of D.Disk O.Sink) (made_bytes Output.Symbols start wrong frames)
+        result (outlets disk.old out.old) (outlets disk.new out.new) }
 {
     let input = Input::Symbols(STANDARD);
     let reader = match Reader::<FrameWork>::new(alloc, input, 1, MOST_BYTES, &()) {
@@ -194,8 +197,8 @@ pub fn trial<D: Disk, O: Sink>(
     )
 }
 
-/// What `trial` does, where this many work on windows, the caller among them.
-pub fn trial_by_team<R: Threads + Wait + Sync, H: Hand, D: Disk, O: Sink>(
+/// What `trial_alone` does, where this many work on windows, the caller among them.
+pub fn trial<R: Threads + Wait + Sync, H: Hand, D: Disk, O: Sink>(
     rt: &R,
     alloc: Global,
     tools: &H::Tools,
@@ -209,8 +212,8 @@ pub fn trial_by_team<R: Threads + Wait + Sync, H: Hand, D: Disk, O: Sink>(
     requires few { frames ≤ 1024 }
     requires wrong { wrong ≤ 16 }
     requires workers { (1 ≤ workers) × (workers ≤ 64) }
-    ensures { TrialRun D.Disk O.Sink (made_bytes Output.Symbols start wrong frames) result
-        disk.old disk.new out.old out.new }
+    ensures { TrialRun (outlets_of D.Disk O.Sink) (made_bytes Output.Symbols start wrong frames)
+        result (outlets disk.old out.old) (outlets disk.new out.new) }
 {
     let input = Input::Symbols(STANDARD);
     let reader = match Reader::<H>::new(alloc, input, workers, MOST_BYTES, tools) {

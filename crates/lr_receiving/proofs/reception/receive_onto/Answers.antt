@@ -1,21 +1,25 @@
 use Rattle.lr_receiving.proofs.ReceiveEnding.{ended_some, last_stopped, all_put}
+use Rattle.lr_causes.specs.Outside.{outside, world_of}
 use Rattle.lr_receiving.proofs.reception.receive_onto.Goals as goal
 
 pub returns-in-Err : goal.returns-in-Err
 returns-in-Err g c =
-    ended_some g.S.Source g.D.Disk g.O.Sink c.args.input c.args.most c.args.shelf.now c.args.source.now
-    c.receive_all.new.source c.args.disk.now c.receive_all.new.disk c.args.out.now c.receive_all.new.out _
+    ended_some (world_of g.S.Source g.D.Disk g.O.Sink) c.args.input c.args.most c.args.shelf.now
+    (outside c.args.source.now c.args.disk.now c.args.out.now)
+    (outside c.receive_all.new.source c.receive_all.new.disk c.receive_all.new.out) _
     c.in-Err.ensures.some
 
 pub returns-in-Ok-put_last : goal.returns-in-Ok-put_last
 returns-in-Ok-put_last g c =
     rw c.cause_at.ensures
-    (all_put g.S.Source g.D.Disk g.O.Sink c.args.input c.args.most c.args.shelf.now c.args.source.now
-    c.receive_all.new.source c.args.disk.now c.receive_all.new.disk c.args.out.now c.receive_all.new.out c.in-Ok.sums
+    (all_put (world_of g.S.Source g.D.Disk g.O.Sink) c.args.input c.args.most c.args.shelf.now
+    (outside c.args.source.now c.args.disk.now c.args.out.now)
+    (outside c.receive_all.new.source c.receive_all.new.disk c.receive_all.new.out) c.in-Ok.sums
     c.receive_all.new.shelf c.in-Ok.ensures.all c.put_last.new.out c.in-Ok-put_last.ensures.put)
 
 pub returns-in-Err-put_last : goal.returns-in-Err-put_last
 returns-in-Err-put_last g c =
-    last_stopped g.S.Source g.D.Disk g.O.Sink c.args.input c.args.most c.args.shelf.now c.args.source.now
-    c.receive_all.new.source c.args.disk.now c.receive_all.new.disk c.args.out.now c.receive_all.new.out c.in-Ok.sums
+    last_stopped (world_of g.S.Source g.D.Disk g.O.Sink) c.args.input c.args.most c.args.shelf.now
+    (outside c.args.source.now c.args.disk.now c.args.out.now)
+    (outside c.receive_all.new.source c.receive_all.new.disk c.receive_all.new.out) c.in-Ok.sums
     c.receive_all.new.shelf c.in-Ok.ensures.all c.put_last.new.out _ c.in-Err-put_last.ensures.stopped

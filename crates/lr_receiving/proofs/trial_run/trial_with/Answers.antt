@@ -1,4 +1,4 @@
-use Rattle.std.proofs.Common.{◌≤◌, rules, ap, sym, subst, arith, List, [], ℕ, length}
+use Rattle.std.proofs.Common.{◌≤◌, ap, sym, subst, arith, List, [], ℕ, length}
 use Rattle.lr_shelf_format.specs.ShelfBytes.{end_of}
 use Rattle.lr_conv.specs.declared.line.TheConstants.{STANDARD}
 use Rattle.lr_forms.specs.declared.forms.Input.TheVariants.{Symbols}

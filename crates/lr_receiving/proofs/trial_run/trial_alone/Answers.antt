@@ -1,6 +1,6 @@
 use Rattle.std.proofs.Common.{rules, ap, sym}
 use Rattle.lr_reading.specs.Readers.{ReaderView}
-use Rattle.lr_receiving.proofs.trial_run.trial_by_team.Goals as goal
+use Rattle.lr_receiving.proofs.trial_run.trial_alone.Goals as goal
 
 pub trial_with-requires-clause-leads : goal.trial_with-requires-clause-leads
 trial_with-requires-clause-leads g c =
