@@ -20,23 +20,21 @@ use Rattle.lr_words.specs.declared.command.Command.{Command}
 use Rattle.lr_words.specs.declared.command.Command.TheVariants.{
   Init,
   Frames,
-  Packets,
-  Decode,
-  Receive,
+  Intake,
   Downlinks,
-  Extract,
-  List as ListAll,
-  Show,
-  Verify,
-  Export,
+  OnShelf,
+  OnFile,
   Render,
   Assemble,
   Transmit,
-  Discard,
   Repack,
   Make,
   Trial,
 }
+use Rattle.lr_words.specs.declared.command.FileAction.TheVariants.{Extract, Show, Export, Discard}
+use Rattle.lr_words.specs.declared.command.FrameLines.TheVariants.{Frames as EachFrame, Packets as EachPacket}
+use Rattle.lr_words.specs.declared.command.IntakeAction.TheVariants.{Decode, Receive}
+use Rattle.lr_words.specs.declared.command.ShelfAction.TheVariants.{List as ListAll, Verify}
 
 pub data Deed : Type 0 where
   -- an empty shelf of this many bytes is made
@@ -63,20 +61,20 @@ pub data Deed : Type 0 where
 -- How many work on windows changes nothing of what is said.
 abbrev pub deed_of : Command → Deed
 deed_of (Init capacity) = MakesShelf capacity
-deed_of (Frames most) = PutsLines frames_text frames_last most
-deed_of (Packets most) = PutsLines packets_text packets_last most
-deed_of (Decode input workers most) = PutsLines (decode_text input) (decode_last input) most
-deed_of (Receive input workers most) = Shelves input most
+deed_of (Frames EachFrame most) = PutsLines frames_text frames_last most
+deed_of (Frames EachPacket most) = PutsLines packets_text packets_last most
+deed_of (Intake Decode input workers most) = PutsLines (decode_text input) (decode_last input) most
+deed_of (Intake Receive input workers most) = Shelves input most
 deed_of (Downlinks line) = Merges line
-deed_of (Extract number) = Asks (extract_asked number)
-deed_of ListAll = Asks list_asked
-deed_of (Show number) = Asks (show_asked number)
-deed_of Verify = Asks verify_asked
-deed_of (Export number) = Asks (export_asked number)
+deed_of (OnFile Extract number) = Asks (extract_asked number)
+deed_of (OnShelf ListAll) = Asks list_asked
+deed_of (OnFile Show number) = Asks (show_asked number)
+deed_of (OnShelf Verify) = Asks verify_asked
+deed_of (OnFile Export number) = Asks (export_asked number)
 deed_of (Render workers) = Asks render_asked
 deed_of (Assemble from to apid image) = Asks (assemble_asked from to apid image)
 deed_of (Transmit from to wrong line) = Sends from to wrong line
-deed_of (Discard number) = Closes number
+deed_of (OnFile Discard number) = Closes number
 deed_of (Repack number block) = Repacks number block
 deed_of (Make start frames wrong form) = PutsBytes (made_bytes form start wrong frames)
 deed_of (Trial start frames wrong workers) = Tries (made_bytes Symbols start wrong frames)

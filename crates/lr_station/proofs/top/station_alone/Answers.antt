@@ -5,9 +5,9 @@ use Rattle.lr_station.proofs.top.station_alone.Goals as goal
 
 pub returns-clause-stations : goal.returns-clause-stations
 returns-clause-stations g c =
-    let ran = c.run_words-cause.ensures in
+    let ran = c.run_words_alone-cause.ensures in
     record {
-      cause = c.run_words-cause.result;
+      cause = c.run_words_alone-cause.result;
       runs = ran.runs;
       caused = ran.caused;
       told = c.tell.ensures.line;
@@ -17,8 +17,9 @@ returns-clause-stations g c =
       output_failed = search (rules, arith);
       says = says (world_of g.S.Source g.D.Disk g.O.Sink)
           (outside c.args.source.now c.args.disk.now c.args.out.now)
-          (outside c.run_words-cause.new.source c.run_words-cause.new.disk c.run_words-cause.new.out) _
-          c.run_words-cause.result c.status.result c.status.ensures ran.runs ran.caused;
+          (outside c.run_words_alone-cause.new.source c.run_words_alone-cause.new.disk
+          c.run_words_alone-cause.new.out) _
+          c.run_words_alone-cause.result c.status.result c.status.ensures ran.runs ran.caused;
       tell = record {
         by_source = ran.told_by_source;
         by_disk = ran.told_by_disk;
