@@ -90,7 +90,9 @@ def is_sound(words, before, status, out, whole_out, whole_shelf):
         return files() == out.count(b"receipt ") and whole_out.startswith(out)
     if name == "receive":
         return files() == out.count(b"shelved ") and whole_out.startswith(out)
-    return now in (before, whole_shelf)
+    if name in ("discard", "repack"):
+        return now in (before, whole_shelf)
+    return now == before
 
 failed = runs = 0
 for words, stdin, before in JOBS:

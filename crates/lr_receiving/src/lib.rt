@@ -1,8 +1,8 @@
 //! The commands that put mission files onto a shelf, that make one, or that make the test stream.
 //!
 //! `receive` puts the mission files of its input onto the shelf, each acknowledged by its line; its contract is
-//! `ReceiveRun`. It is a `Consumer` of what comes of the input (`lr_reading`). A command reads with several threads, and
-//! its `.._alone` on the caller's; both are its `.._with`, and only the call that reads differs.
+//! `ReceiveRun`. It is a `Consumer` of what comes of the input (`lr_reading`). A command reads with several threads,
+//! and its `.._alone` on the caller's; both are its `.._with`, and only the call that reads differs.
 //!
 //! `init` makes an empty shelf (`InitRun`), `make` writes the test stream (`MakeEnds`), and `trial` receives that
 //! stream onto a shelf that it makes (`TrialRun`). Each says for every cause what became of source, disk and `out`.

@@ -173,7 +173,8 @@ pub fn render_alone<D: Disk, O: Sink>(alloc: Global, disk: &mut D, out: &mut O) 
     )
 }
 
-/// Does what `render_alone` does, where this many work, the caller among them. A thread is started for each other worker.
+/// Does what `render_alone` does, where this many work, the caller among them. A thread is started for each other
+/// worker.
 pub fn render<R: Threads + Wait + Sync, D: Disk, O: Sink>(
     rt: &R,
     alloc: Global,
