@@ -3,8 +3,8 @@
 
 Written from what a lock is. A symbol above 0 leans to 1, one below 0 to 0. The hits of a sign at a place are the symbols 12
 to 63 from there on that lean, times the sign, to the symbols of the marker 1A CF FC 1D, coded by CCSDS 131.0-B, section 3.3.
-A search goes to the first place with 45 hits of one sign and 16,384 symbols; behind a frame 37 hits of one sign keep the lock,
-and after three markers in succession with fewer a search begins one symbol behind the fourth. The window of a frame is the
+A search goes to the first place with 45 hits of one sign and 16,384 symbols; after a frame 37 hits of one sign keep the lock,
+and after three markers in succession with fewer a search begins one symbol after the fourth. The window of a frame is the
 16,332 symbols from its 64th on, times the sign; -128 is read as -127, and 0 stands where there are no more. It shares no code
 with the crates.
 

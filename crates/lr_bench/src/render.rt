@@ -1,6 +1,7 @@
 //! All images of a shelf in memory, written as PGM many times over: by `render`, or by `export` of each in turn.
 
 ghost use Rattle.std.specs.Prelude.{◌≤◌};
+ghost use Rattle.lr_gatecore.specs.declared.sizes.TheConstants.{MOST_SEATS};
 
 use crate::export::{ROOM, coded_file, image_file, shelf_with};
 use crate::lines::{Shape, number_at, shape_of};
@@ -26,7 +27,7 @@ struct Task {
     rounds: u32,
     images: u32,
     workers: u32,
-    ghost workers_fit: { workers ≤ 64 },
+    ghost workers_fit: { workers ≤ MOST_SEATS },
 }
 
 /// The task that the first three words tell.

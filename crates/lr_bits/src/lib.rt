@@ -9,6 +9,7 @@
 #![tactic(auto)]
 
 mod bits;
+mod borrows;
 mod bytes;
 mod crc;
 mod lengths;
@@ -23,6 +24,7 @@ mod remainders;
 mod sizes;
 
 pub use bits::field;
+pub use borrows::take_back;
 pub use bytes::Bytes;
 pub use crc::{CRC_OF_NO_BYTES, crc_after, crc_is_the_remainder, crc16};
 pub use lengths::Lengths;
@@ -34,6 +36,7 @@ pub use placed::{Origin, Placed};
 pub use reader::{BitReader, Ended};
 pub use refusals::{Failed, NoMemory};
 pub use sizes::{
-    BLOCK_BYTES, FILL_CHANNEL, FRAME_BYTES, FRAME_SYMBOLS, IDLE_APPLICATION, MOST_FILE_BODIES,
-    MOST_FILE_BYTES, PACKET_HEADER_BYTES, TRANSPORT_HEADER_BYTES, WINDOW_SYMBOLS, ZONE_BYTES,
+    BLOCK_BYTES, CHANNELS, FILL_CHANNEL, FRAME_BYTES, FRAME_COUNTS, FRAME_SYMBOLS,
+    IDLE_APPLICATION, MOST_BODY_BYTES, MOST_FILE_BODIES, MOST_FILE_BYTES, NO_PACKET_START,
+    PACKET_HEADER_BYTES, SEQUENCE_COUNTS, TRANSPORT_HEADER_BYTES, WINDOW_SYMBOLS, ZONE_BYTES,
 };

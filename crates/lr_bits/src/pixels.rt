@@ -1,3 +1,5 @@
+//! A list of pixels of 16 bits that grows. It is seen as the list.
+
 ghost use Rattle.std.specs.Prelude.{◌≡◌, ◌+◌, ◌<◌, ◌^◌, ◌++◌, ◌∷◌, [], IfOk, OnOk, OnErr, length, replicate, take};
 ghost use Rattle.std.specs.Borrow.{sem};
 ghost use Rattle.lr_bits.specs.Pixels.{LendsPixels};

@@ -1,3 +1,5 @@
+//! A mission file and where it comes from: its first and its last frame, and how many bytes were corrected in these.
+
 use crate::MissionFile;
 
 /// Where a file came from. Places count the outcomes of the input from 0.

@@ -1,3 +1,5 @@
+//! Reading bits in their order, some 57 at a time.
+
 ghost use Rattle.std.specs.Prelude.{
   ◌≡◌,
   ℕ,
@@ -22,9 +24,11 @@ ghost use Rattle.std.specs.Prelude.{
 ghost use Rattle.lr_bits.specs.Bits.{bits_of, first_bits, number_bits, zeros_and_one};
 
 use std::marker::Model;
+use thiserror::Error;
 
 /// Too few bits are left.
-#[derive(Clone, Copy, Debug)]
+#[derive(Clone, Copy, Debug, Error)]
+#[error("too few bits are left")]
 pub struct Ended;
 
 /// Reads bits in their order. It is seen as the list of the bits that are left.
@@ -138,7 +142,8 @@ impl<'a> BitReader<'a> {
         self.at += count;
     }
 
-    /// The same bits again. A loop that keeps its reader in a local of its own is faster than one through a `&mut`.
+    /// A reader of the bits that are left. A loop that keeps its reader in a local of its own is faster than one
+    /// through a `&mut`.
     #[inline(always)]
     pub fn duplicate(&self) -> BitReader<'a>
         ensures same { result ≡ self.now }
@@ -184,7 +189,7 @@ fn word_at(bytes: &[u8], place: usize) -> u64
     ])
 }
 
-/// The same of the last bytes.
+/// The bits of the last bytes, fewer than eight, as a number of 64 bits with zeros after them.
 #[inline(never)]
 fn last_word(rest: &[u8]) -> u64
     requires { length rest.now < 8 }

@@ -1,3 +1,5 @@
+//! The remainders of the checksum for chunks of eight bytes, as a table.
+
 /// How many bytes `crc_after` takes at once.
 pub(crate) const CHUNK_BYTES: usize = 8;
 

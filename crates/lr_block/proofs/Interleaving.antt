@@ -14,7 +14,11 @@ use Rattle.std.proofs.Common.{
   List,
   [],
   ◌∷◌,
+  ◌++◌,
   length,
+  map,
+  refl,
+  zero-add,
   get_or,
   take,
   sym,
@@ -31,9 +35,12 @@ use Rattle.std.proofs.lemmas.List.FromFn.{
   fill_by_all,
   get_or-map-range_with_len,
   length-map-range_with_len,
+  map-range_with_len_more,
   take-map-range_with_len,
 }
+use Rattle.std.specs.List.{range_with_len}
 use Rattle.lr_rs.specs.Words.{IsWord, IsCodeword, IsRestored, distance}
+use Rattle.lr_rs.proofs.Exactness.{distance-self}
 use Rattle.lr_block.specs.Blocks.{
   every_fourth,
   word_of,
@@ -43,6 +50,8 @@ use Rattle.lr_block.specs.Blocks.{
   IsFirstLost,
   changes_of,
 }
+use Rattle.lr_bits.specs.declared.sizes.TheConstants.{BLOCK_BYTES, FRAME_BYTES}
+use Rattle.lr_rs.specs.declared.sizes.TheConstants.{INFORMATION_BYTES, WORD_BYTES}
 
 pub below_four : (P : ℕ → Type 0) → P 0 → P 1 → P 2 → P 3 → (k : ℕ) → k < 4 → P k
 below_four P a b c d zero h = a
@@ -66,6 +75,17 @@ pub every_fourth_by_all : (count : ℕ) (bytes word : List ℕ) (k : ℕ) → le
 unfolding every_fourth
 every_fourth_by_all count bytes word k long all = fill_by_all (λ i. get_or bytes (4 * i + k) 0) word count 0 long all
 
+pub every_fourth-none : (bytes : List ℕ) (k : ℕ) → every_fourth 0 bytes k ≡ []
+unfolding every_fourth
+every_fourth-none bytes k = refl
+
+pub every_fourth-more : (count : ℕ) (bytes : List ℕ) (k place : ℕ) → place ≡ 4 * count + k
+    → every_fourth (count + 1) bytes k ≡ every_fourth count bytes k ++ get_or bytes place 0 ∷ []
+unfolding every_fourth
+every_fourth-more count bytes k place e =
+    map-range_with_len_more (λ i. get_or bytes (4 * i + k) 0) 0 count count (zero-add count)
+    ∙ ap (λ n. map (λ i. get_or bytes (4 * i + k) 0) (range_with_len 0 count) ++ get_or bytes n 0 ∷ []) (sym e)
+
 -- the first bytes of a word
 pub take-every_fourth : (count more : ℕ) (bytes : List ℕ) (k : ℕ) → count ≤ more
     → take count (every_fourth more bytes k) ≡ every_fourth count bytes k
@@ -73,44 +93,47 @@ unfolding every_fourth
 take-every_fourth count more bytes k h = take-map-range_with_len (λ i. get_or bytes (4 * i + k) 0) 0 more count h
 
 -- the information of a word is the first 223 bytes of it
-pub information_of-take : (block : List ℕ) (k : ℕ) → k < 4 → 892 ≤ length block
-    → information_of (take 892 block) k ≡ take 223 (word_of block k)
+pub information_of-take : (block : List ℕ) (k : ℕ) → k < 4 → FRAME_BYTES ≤ length block
+    → information_of (take FRAME_BYTES block) k ≡ take INFORMATION_BYTES (word_of block k)
 information_of-take block k small long =
-    sym (take-every_fourth 223 255 block k (omega arith)
-    ∙ every_fourth_by_all 223 (take 892 block) (every_fourth 223 block k) k (length-every_fourth 223 block k)
-    (λ i h. get_or-every_fourth 223 block k i h ∙ sym (get_or-take 892 block (4 * i + k) 0 (omega arith))))
+    sym (take-every_fourth INFORMATION_BYTES WORD_BYTES block k (omega arith)
+    ∙ every_fourth_by_all INFORMATION_BYTES (take FRAME_BYTES block) (every_fourth INFORMATION_BYTES block k) k
+    (length-every_fourth INFORMATION_BYTES block k)
+    (λ i h. get_or-every_fourth INFORMATION_BYTES block k i h ∙
+    sym (get_or-take FRAME_BYTES block (4 * i + k) 0 (omega arith))))
 
 -- two blocks with the same words are the same
-pub same_blocks : (a b : List ℕ) → length a ≡ 1020 → length b ≡ 1020
+pub same_blocks : (a b : List ℕ) → length a ≡ BLOCK_BYTES → length b ≡ BLOCK_BYTES
     → ((k : ℕ) → k < 4 → word_of a k ≡ word_of b k) → a ≡ b
 same_blocks a b p q same =
     same_number_lists a b (p ∙ sym q) (λ i h.
     let e : 4 * (i / 4) + i % 4 ≡ i = omega arith in
-    ap (λ place. get_or a place 0) (sym e) ∙ sym (get_or-every_fourth 255 a (i % 4) (i / 4) (omega arith))
+    ap (λ place. get_or a place 0) (sym e) ∙ sym (get_or-every_fourth WORD_BYTES a (i % 4) (i / 4) (omega arith))
     ∙ ap (λ word. get_or word (i / 4) 0) (same (i % 4) (omega arith))
-    ∙ get_or-every_fourth 255 b (i % 4) (i / 4) (omega arith) ∙ ap (λ place. get_or b place 0) e)
+    ∙ get_or-every_fourth WORD_BYTES b (i % 4) (i / 4) (omega arith) ∙ ap (λ place. get_or b place 0) e)
 
 -- the frame is the first 892 bytes of a block whose words have its information
-pub begins_by_words : (frame block : List ℕ) → length frame ≡ 892 → length block ≡ 1020
-    → ((k : ℕ) → k < 4 → take 223 (word_of block k) ≡ information_of frame k) → take 892 block ≡ frame
+pub begins_by_words : (frame block : List ℕ) → length frame ≡ FRAME_BYTES → length block ≡ BLOCK_BYTES
+    → ((k : ℕ) → k < 4 → take INFORMATION_BYTES (word_of block k) ≡ information_of frame k) →
+    take FRAME_BYTES block ≡ frame
 begins_by_words frame block p q same =
-    same_number_lists (take 892 block) frame (length-take-le 892 block (omega arith) ∙ sym p) (λ i h.
-    let short : i < 892 = omega (arith, length-take-le 892 block (omega (arith, q))) in
+    same_number_lists (take FRAME_BYTES block) frame (length-take-le FRAME_BYTES block (omega arith) ∙ sym p) (λ i h.
+    let short : i < FRAME_BYTES = omega (arith, length-take-le FRAME_BYTES block (omega (arith, q))) in
     let e : 4 * (i / 4) + i % 4 ≡ i = omega arith in
-    get_or-take 892 block i 0 short ∙ ap (λ place. get_or block place 0) (sym e)
-    ∙ sym (get_or-every_fourth 255 block (i % 4) (i / 4) (omega arith))
-    ∙ sym (get_or-take 223 (word_of block (i % 4)) (i / 4) 0 (omega arith))
+    get_or-take FRAME_BYTES block i 0 short ∙ ap (λ place. get_or block place 0) (sym e)
+    ∙ sym (get_or-every_fourth WORD_BYTES block (i % 4) (i / 4) (omega arith))
+    ∙ sym (get_or-take INFORMATION_BYTES (word_of block (i % 4)) (i / 4) 0 (omega arith))
     ∙ ap (λ word. get_or word (i / 4) 0) (same (i % 4) (omega arith))
-    ∙ get_or-every_fourth 223 frame (i % 4) (i / 4) (omega arith) ∙ ap (λ place. get_or frame place 0) e)
+    ∙ get_or-every_fourth INFORMATION_BYTES frame (i % 4) (i / 4) (omega arith) ∙ ap (λ place. get_or frame place 0) e)
 
 -- the codeword that begins with the information, and no other
 pub record IsTheCodeword (information word : List ℕ) : Type 0 where
   pub is_word : IsWord word
   pub is_codeword : IsCodeword word
-  pub begins : take 223 word ≡ information
-  pub only : (c : List ℕ) → IsWord c → IsCodeword c → take 223 c ≡ information → c ≡ word
+  pub begins : take INFORMATION_BYTES word ≡ information
+  pub only : (c : List ℕ) → IsWord c → IsCodeword c → take INFORMATION_BYTES c ≡ information → c ≡ word
 
-pub is_encoded : (frame block : List ℕ) → length frame ≡ 892 → length block ≡ 1020
+pub is_encoded : (frame block : List ℕ) → length frame ≡ FRAME_BYTES → length block ≡ BLOCK_BYTES
     → ((k : ℕ) → k < 4 → IsTheCodeword (information_of frame k) (word_of block k)) → IsEncoded frame block
 is_encoded frame block p q each = record {
   long = q;
@@ -119,7 +142,7 @@ is_encoded frame block p q each = record {
   begins = begins_by_words frame block p q (λ k h. (each k h).begins);
 }
 
-pub is_only_encoded : (frame block other : List ℕ) → length block ≡ 1020
+pub is_only_encoded : (frame block other : List ℕ) → length block ≡ BLOCK_BYTES
     → ((k : ℕ) → k < 4 → IsTheCodeword (information_of frame k) (word_of block k)) → IsEncoded frame other
     → other ≡ block
 is_only_encoded frame block other q each o =
@@ -152,7 +175,7 @@ four_words b0 b1 b2 b3 first second third fourth p0 p1 k1 p2 k2 p3 k3 = (
   p3,
 )
 
-pub restored_by_words : (block restored first second third fourth : List ℕ) → length restored ≡ 1020
+pub restored_by_words : (block restored first second third fourth : List ℕ) → length restored ≡ BLOCK_BYTES
     → (word_of restored 0 ≡ first) × (word_of restored 1 ≡ second) × (word_of restored 2 ≡ third)
     × (word_of restored 3 ≡ fourth)
     → IsRestored (word_of block 0) first → IsRestored (word_of block 1) second
@@ -175,18 +198,18 @@ first_lost block named k e small before none =
 pub changes_by_words : (block restored first second third fourth : List ℕ) (in_first in_second in_third in_fourth : ℕ)
     → (word_of restored 0 ≡ first) × (word_of restored 1 ≡ second) × (word_of restored 2 ≡ third)
     × (word_of restored 3 ≡ fourth)
-    → in_first ≡ distance 255 (word_of block 0) first → in_second ≡ distance 255 (word_of block 1) second
-    → in_third ≡ distance 255 (word_of block 2) third → in_fourth ≡ distance 255 (word_of block 3) fourth
+    → in_first ≡ distance WORD_BYTES (word_of block 0) first → in_second ≡ distance WORD_BYTES (word_of block 1) second
+    → in_third ≡ distance WORD_BYTES (word_of block 2) third → in_fourth ≡ distance WORD_BYTES (word_of block 3) fourth
     → in_first ∷ in_second ∷ in_third ∷ in_fourth ∷ [] ≡ changes_of block restored
 changes_by_words block restored first second third fourth in_first in_second in_third in_fourth same p0 p1 p2 p3 =
-    let e0 : in_first ≡ distance 255 (word_of block 0) (word_of restored 0) = p0
-    ∙ ap (distance 255 (word_of block 0)) (sym same.0) in
-    let e1 : in_second ≡ distance 255 (word_of block 1) (word_of restored 1) = p1
-    ∙ ap (distance 255 (word_of block 1)) (sym same.1) in
-    let e2 : in_third ≡ distance 255 (word_of block 2) (word_of restored 2) = p2
-    ∙ ap (distance 255 (word_of block 2)) (sym same.2) in
-    let e3 : in_fourth ≡ distance 255 (word_of block 3) (word_of restored 3) = p3
-    ∙ ap (distance 255 (word_of block 3)) (sym same.3) in
+    let e0 : in_first ≡ distance WORD_BYTES (word_of block 0) (word_of restored 0) = p0
+    ∙ ap (distance WORD_BYTES (word_of block 0)) (sym same.0) in
+    let e1 : in_second ≡ distance WORD_BYTES (word_of block 1) (word_of restored 1) = p1
+    ∙ ap (distance WORD_BYTES (word_of block 1)) (sym same.1) in
+    let e2 : in_third ≡ distance WORD_BYTES (word_of block 2) (word_of restored 2) = p2
+    ∙ ap (distance WORD_BYTES (word_of block 2)) (sym same.2) in
+    let e3 : in_fourth ≡ distance WORD_BYTES (word_of block 3) (word_of restored 3) = p3
+    ∙ ap (distance WORD_BYTES (word_of block 3)) (sym same.3) in
     cc
 
 -- some word is restored to
@@ -216,3 +239,26 @@ lost_fourth block named e r0 r1 r2 none =
     (below_more (HasRestored block) 2
     (below_more (HasRestored block) 1 (below_more (HasRestored block) 0 (λ j h. absurd (omega arith)) r0)
     r1) r2) none
+
+-- a block of four codewords is its own restored block
+pub restored_itself : (block : List ℕ) → length block ≡ BLOCK_BYTES → ((i : ℕ) → get_or block i 0 < 256)
+    → ((k : ℕ) → k < 4 → IsCodeword (word_of block k)) → IsRestoredBlock block block
+restored_itself block long bytes codewords = record {
+  long = long;
+  words = λ k h. record {
+    is_word = record {
+      long = length-every_fourth WORD_BYTES block k;
+      bytes = λ i l. subst (λ (n : ℕ). n < 256) (sym (get_or-every_fourth WORD_BYTES block k i l)) (bytes (4 * i + k));
+    };
+    is_codeword = codewords k h;
+    near = omega (arith, distance-self WORD_BYTES (word_of block k));
+  };
+}
+
+pub changes_of_itself : (block : List ℕ) → changes_of block block ≡ 0 ∷ 0 ∷ 0 ∷ 0 ∷ []
+changes_of_itself block =
+    let e0 = distance-self WORD_BYTES (word_of block 0) in
+    let e1 = distance-self WORD_BYTES (word_of block 1) in
+    let e2 = distance-self WORD_BYTES (word_of block 2) in
+    let e3 = distance-self WORD_BYTES (word_of block 3) in
+    cc

@@ -78,6 +78,8 @@ use Rattle.lr_block.proofs.Searching.{
   member-all_lists,
   from-all_lists,
 }
+use Rattle.lr_rs.specs.declared.sizes.TheConstants.{CHECK_BYTES, WORD_BYTES}
+use Rattle.lr_bits.specs.declared.sizes.TheConstants.{BLOCK_BYTES, FRAME_BYTES}
 
 -- the test of a codeword at a power
 abbrev zero_at : List ℕ → ℕ → Bool
@@ -86,41 +88,42 @@ zero_at codeword j = eqb (word_value codeword (power 2 (11 * j))) 0
 passes : (word codeword : List ℕ) → IsRestored word codeword → is_restored_word word codeword ≡ true
 unfolding is_restored_word
 passes word codeword r =
-    and_from (leb (distance 255 word codeword) 16) (list_all (zero_at codeword) (range_with_len 112 32))
-    (le-leb (distance 255 word codeword) 16 r.near)
-    (list_all-from (zero_at codeword) (range_with_len 112 32) (λ j m.
-    let range = from-range 112 32 j m in
+    and_from (leb (distance WORD_BYTES word codeword) 16) (list_all (zero_at codeword) (range_with_len 112 CHECK_BYTES))
+    (le-leb (distance WORD_BYTES word codeword) 16 r.near)
+    (list_all-from (zero_at codeword) (range_with_len 112 CHECK_BYTES) (λ j m.
+    let range = from-range 112 CHECK_BYTES j m in
     eq-eqb (word_value codeword (power 2 (11 * j))) 0 (r.is_codeword.zero_at j range.0 range.1)))
 
 passed : (word codeword : List ℕ) → IsWord codeword → is_restored_word word codeword ≡ true → IsRestored word codeword
 unfolding is_restored_word
 passed word codeword w t =
-    let parts = and_parts (leb (distance 255 word codeword) 16)
-    (list_all (zero_at codeword) (range_with_len 112 32)) t in
+    let parts = and_parts (leb (distance WORD_BYTES word codeword) 16)
+    (list_all (zero_at codeword) (range_with_len 112 CHECK_BYTES)) t in
     record {
       is_word = w;
       is_codeword = record {
         zero_at = λ j l h.
             eqb-true (word_value codeword (power 2 (11 * j))) 0
-            (list_all-member (zero_at codeword) (range_with_len 112 32) j parts.1 (member-range 112 32 j l h));
+            (list_all-member (zero_at codeword) (range_with_len 112 CHECK_BYTES) j parts.1 (member-range 112 32 j l h));
       };
-      near = leb-true (distance 255 word codeword) 16 parts.0;
+      near = leb-true (distance WORD_BYTES word codeword) 16 parts.0;
     }
 
-member_is_word : (codeword : List ℕ) → IsAmong (all_lists 256 255) codeword → IsWord codeword
-member_is_word codeword m = let parts = from-all_lists 256 255 codeword m in record { long = parts.0; bytes = parts.1 }
+member_is_word : (codeword : List ℕ) → IsAmong (all_lists 256 WORD_BYTES) codeword → IsWord codeword
+member_is_word codeword m = let parts =
+    from-all_lists 256 WORD_BYTES codeword m in record { long = parts.0; bytes = parts.1 }
 
 -- whether there is a restored word, and which
 cases_restored : (word : List ℕ) → ((restored_of word ≡ None) × ((c : List ℕ) → IsRestored word c → ⊥))
     ⊎ ((c : List ℕ) × (restored_of word ≡ Some c) × IsRestored word c)
 unfolding restored_of
 cases_restored word =
-    elim (cases_find (is_restored_word word) (all_lists 256 255)) [
+    elim (cases_find (is_restored_word word) (all_lists 256 WORD_BYTES)) [
       | inl none ↦
           inl (
             none.0,
             λ c r.
-                false≢true (sym (none.1 c (member-all_lists 256 255 c r.is_word.long r.is_word.bytes))
+                false≢true (sym (none.1 c (member-all_lists 256 WORD_BYTES c r.is_word.long r.is_word.bytes))
                 ∙ passes word c r),
           )
       | inr some ↦ inr (some.0, some.1, passed word some.0 (member_is_word some.0 some.2) some.3)
@@ -148,8 +151,9 @@ restored_of-is word w c = (to, from)
 
 pub word_is_word : (block : List ℕ) (k : ℕ) → IsBlock block → k < 4 → IsWord (word_of block k)
 word_is_word block k b small = record {
-  long = length-every_fourth 255 block k;
-  bytes = λ i h. let e = get_or-every_fourth 255 block k i h in omega (arith, e, b.bytes (4 * i + k) (omega arith));
+  long = length-every_fourth WORD_BYTES block k;
+  bytes = λ i h. let e = get_or-every_fourth WORD_BYTES block k i h in omega
+      (arith, e, b.bytes (4 * i + k) (omega arith));
 }
 
 pub randomised_is_block : (block : List ℕ) → IsBlock block → IsBlock (randomised_block block)
@@ -188,22 +192,22 @@ some_restored block k e =
           (sym (ap (λ (o : Option (List ℕ)). unwrap_or o []) some.1)) some.2
     ]
 
-get_or-restored_block : (block : List ℕ) (place : ℕ) → place < 1020 → get_or (restored_block block) place 0
+get_or-restored_block : (block : List ℕ) (place : ℕ) → place < BLOCK_BYTES → get_or (restored_block block) place 0
     ≡ get_or (restored_word block (place % 4)) (place / 4) 0
 unfolding restored_block
 get_or-restored_block block place h =
-    get_or-map-range_with_len (λ place. get_or (restored_word block (place % 4)) (place / 4) 0) 0 1020 place
+    get_or-map-range_with_len (λ place. get_or (restored_word block (place % 4)) (place / 4) 0) 0 BLOCK_BYTES place
     place 0 h (omega arith)
 
-length-restored_block : (block : List ℕ) → length (restored_block block) ≡ 1020
+length-restored_block : (block : List ℕ) → length (restored_block block) ≡ BLOCK_BYTES
 unfolding restored_block
 length-restored_block block =
-    length-map-range_with_len (λ place. get_or (restored_word block (place % 4)) (place / 4) 0) 0 1020
+    length-map-range_with_len (λ place. get_or (restored_word block (place % 4)) (place / 4) 0) 0 BLOCK_BYTES
 
-word_of-restored_block : (block : List ℕ) (k : ℕ) → k < 4 → length (restored_word block k) ≡ 255
+word_of-restored_block : (block : List ℕ) (k : ℕ) → k < 4 → length (restored_word block k) ≡ WORD_BYTES
     → word_of (restored_block block) k ≡ restored_word block k
 word_of-restored_block block k small long =
-    sym (every_fourth_by_all 255 (restored_block block) (restored_word block k) k long (λ i h.
+    sym (every_fourth_by_all WORD_BYTES (restored_block block) (restored_word block k) k long (λ i h.
     let same_word : (4 * i + k) % 4 ≡ k = omega arith in
     let same_place : (4 * i + k) / 4 ≡ i = omega arith in
     sym (get_or-restored_block block (4 * i + k) (omega arith)
@@ -282,11 +286,11 @@ outcome_is_only block b (Restored corrected frame) h =
     rw none (restored_same (randomised_block block) corrected.0 frame h.0 same h.2 h.3)
   where
     restored_same : (plain numbers frame restored : List ℕ) → restored ≡ restored_block plain
-        → numbers ≡ changes_of plain restored → frame ≡ take 892 restored
+        → numbers ≡ changes_of plain restored → frame ≡ take FRAME_BYTES restored
         → Restored (record { 0 = numbers }) frame ≡ outcome_at plain None
     restored_same plain numbers frame restored e p q =
         let p' : numbers ≡ changes_of plain (restored_block plain) = p ∙ ap (changes_of plain) e in
-        let q' : frame ≡ take 892 (restored_block plain) = q ∙ ap (take 892) e in
+        let q' : frame ≡ take FRAME_BYTES (restored_block plain) = q ∙ ap (take FRAME_BYTES) e in
         rw (p', q') refl
 outcome_is_only block b (Lost k) h = let some = first_lost-lost (randomised_block block) k h in rw some refl
 
@@ -298,7 +302,7 @@ outcome_is_the_one block b outcome =
 
 pub outcome_from_restored : (block plain restored numbers frame : List ℕ) → plain ≡ randomised_block block
     → IsRestoredBlock plain restored
-    → numbers ≡ changes_of plain restored → frame ≡ take 892 restored
+    → numbers ≡ changes_of plain restored → frame ≡ take FRAME_BYTES restored
     → IsOutcome block (Restored (record { 0 = numbers }) frame)
 outcome_from_restored block plain restored numbers frame e r p q = (
   restored,

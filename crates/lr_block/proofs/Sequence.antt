@@ -32,6 +32,7 @@ use Rattle.std.proofs.lemmas.Bool.{eqb-true, ltb-true, and_parts}
 use Rattle.std.proofs.lemmas.List.FromFn.{fill_by_all, get_or-map-range_with_len, length-map-range_with_len}
 use Rattle.lr_block.specs.Randomiser.{sequence_bit, sequence_byte, randomised_block, TwiceIsTheSame}
 use Rattle.lr_block.specs.declared.randomiser.TheConstants.{SEQUENCE}
+use Rattle.lr_bits.specs.declared.sizes.TheConstants.{BLOCK_BYTES}
 
 -- a test of eight neighbouring bits
 abbrev Test : Type 0
@@ -187,22 +188,23 @@ table-is i =
 
 -- ---- randomised blocks
 
-pub get_or-randomised_block : (block : List ℕ) (i : ℕ) → i < 1020 → get_or (randomised_block block) i 0
+pub get_or-randomised_block : (block : List ℕ) (i : ℕ) → i < BLOCK_BYTES → get_or (randomised_block block) i 0
     ≡ bit_xor (get_or block i 0) (sequence_byte i)
 unfolding randomised_block
 get_or-randomised_block block i h =
-    get_or-map-range_with_len (λ i. bit_xor (get_or block i 0) (sequence_byte i)) 0 1020 i i 0 h (omega arith)
+    get_or-map-range_with_len (λ i. bit_xor (get_or block i 0) (sequence_byte i)) 0 BLOCK_BYTES i i 0 h (omega arith)
 
-pub length-randomised_block : (block : List ℕ) → length (randomised_block block) ≡ 1020
+pub length-randomised_block : (block : List ℕ) → length (randomised_block block) ≡ BLOCK_BYTES
 unfolding randomised_block
-length-randomised_block block = length-map-range_with_len (λ i. bit_xor (get_or block i 0) (sequence_byte i)) 0 1020
+length-randomised_block block = length-map-range_with_len
+    (λ i. bit_xor (get_or block i 0) (sequence_byte i)) 0 BLOCK_BYTES
 
-pub randomised_by_all : (block new : List ℕ) → length new ≡ 1020
-    → ((i : ℕ) → i < 1020 → get_or new i 0 ≡ bit_xor (get_or block i 0) (sequence_byte i))
+pub randomised_by_all : (block new : List ℕ) → length new ≡ BLOCK_BYTES
+    → ((i : ℕ) → i < BLOCK_BYTES → get_or new i 0 ≡ bit_xor (get_or block i 0) (sequence_byte i))
     → new ≡ randomised_block block
 unfolding randomised_block
 randomised_by_all block new long all =
-    fill_by_all (λ i. bit_xor (get_or block i 0) (sequence_byte i)) new 1020 0 long all
+    fill_by_all (λ i. bit_xor (get_or block i 0) (sequence_byte i)) new BLOCK_BYTES 0 long all
 
 pub randomised_block-randomised_block : TwiceIsTheSame
 randomised_block-randomised_block block long =

@@ -31,11 +31,13 @@ use Rattle.std.specs.Prelude.{
 }
 use Rattle.std.specs.List.{range_with_len, flat_map, find, list_all}
 use Rattle.lr_gf.specs.Field.{power}
-use Rattle.lr_rs.specs.Words.{IsWord, IsRestored, word_value, distance}
+use Rattle.lr_rs.specs.Words.{IsWord, IsRestored, word_value, distance, most_errors}
 use Rattle.lr_bits.specs.declared.outcome.Outcome.{Outcome}
 use Rattle.lr_bits.specs.declared.outcome.Outcome.TheVariants.{Restored, Lost}
 use Rattle.lr_block.specs.Randomiser.{randomised_block}
 use Rattle.lr_block.specs.Blocks.{word_of, changes_of, IsEncoded, IsRestoredBlock, IsFirstLost}
+use Rattle.lr_rs.specs.declared.sizes.TheConstants.{CHECK_BYTES, WORD_BYTES}
+use Rattle.lr_bits.specs.declared.sizes.TheConstants.{BLOCK_BYTES, FRAME_BYTES}
 
 -- The outcome of a block, by what it is. The randomiser's sequence is taken away. Where all four words are restored,
 -- the outcome is the numbers of changed bytes and the first 892 bytes of the restored block; else the first word that
@@ -45,7 +47,7 @@ IsOutcome block (Restored corrected frame) =
     (restored : List ℕ)
     × IsRestoredBlock (randomised_block block) restored
     × (corrected.0 ≡ changes_of (randomised_block block) restored)
-    × (frame ≡ take 892 restored)
+    × (frame ≡ take FRAME_BYTES restored)
 IsOutcome block (Lost k) = IsFirstLost (randomised_block block) k
 
 -- all lists of this many numbers below a limit
@@ -56,12 +58,12 @@ all_lists limit (suc n) = flat_map (λ rest. map (λ number. number ∷ rest) (r
 -- whether a word of 255 bytes is a codeword that differs from the other in at most sixteen places
 unfoldable pub is_restored_word : List ℕ → List ℕ → Bool
 is_restored_word word codeword =
-    nat_le (distance 255 word codeword) 16
-    && list_all (λ j. word_value codeword (power 2 (11 * j)) == 0) (range_with_len 112 32)
+    nat_le (distance WORD_BYTES word codeword) most_errors
+    && list_all (λ j. word_value codeword (power 2 (11 * j)) == 0) (range_with_len 112 CHECK_BYTES)
 
 -- the restored word of a word, if there is one
 unfoldable pub restored_of : List ℕ → Option (List ℕ)
-restored_of word = find (is_restored_word word) (all_lists 256 255)
+restored_of word = find (is_restored_word word) (all_lists 256 WORD_BYTES)
 
 -- the law: it is the restored word
 abbrev pub RestoredIsFound : Type 0
@@ -78,12 +80,13 @@ first_lost block = find (λ k. is_none (restored_of (word_of block k))) (range_w
 
 -- the restored words, interleaved
 unfoldable pub restored_block : List ℕ → List ℕ
-restored_block block = map (λ place. slice_index (restored_word block (place % 4)) (place / 4)) (range_with_len 0 1020)
+restored_block block = map (λ place. slice_index (restored_word block (place % 4)) (place / 4))
+    (range_with_len 0 BLOCK_BYTES)
 
 -- the outcome of a block without the randomiser's sequence, where this is its first lost word
 abbrev pub outcome_at : List ℕ → Option ℕ → Outcome
 outcome_at block None = Restored (record { 0 = changes_of block (restored_block block) })
-    (take 892 (restored_block block))
+    (take FRAME_BYTES (restored_block block))
 outcome_at block (Some k) = Lost k
 
 -- the outcome of a block
@@ -92,8 +95,8 @@ outcome_of_block block = outcome_at (randomised_block block) (first_lost (random
 
 -- 1,020 bytes
 pub record IsBlock (block : List ℕ) : Type 0 where
-  pub long : length block ≡ 1020
-  pub bytes : (i : ℕ) → i < 1020 → slice_index block i < 256
+  pub long : length block ≡ BLOCK_BYTES
+  pub bytes : (i : ℕ) → i < BLOCK_BYTES → slice_index block i < 256
 
 -- the law: each block has one outcome, and this is it
 abbrev pub OutcomeIsTheOne : Type 0
@@ -104,5 +107,5 @@ OutcomeIsTheOne = (block : List ℕ) → IsBlock block → (outcome : Outcome)
 abbrev pub SentIsReceived : Type 0
 SentIsReceived =
     (frame sent received : List ℕ) → IsEncoded frame sent → IsBlock received
-    → ((k : ℕ) → k < 4 → distance 255 (word_of received k) (word_of sent k) ≤ 16)
+    → ((k : ℕ) → k < 4 → distance WORD_BYTES (word_of received k) (word_of sent k) ≤ most_errors)
     → outcome_of_block (randomised_block received) ≡ Restored (record { 0 = changes_of received sent }) frame

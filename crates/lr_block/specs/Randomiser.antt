@@ -2,6 +2,7 @@
 use Rattle.std.specs.Prelude.{◌≡◌, ℕ, suc, ◌+◌, ◌*◌, ◌%◌, bit_xor, List, length, map, slice_index}
 use Rattle.std.specs.Int.Digits.{number_from_digits}
 use Rattle.std.specs.List.{range_with_len}
+use Rattle.lr_bits.specs.declared.sizes.TheConstants.{BLOCK_BYTES}
 
 -- a(n + 8) = a(n + 7) + a(n + 5) + a(n + 3) + a(n) modulo 2, and a(0) to a(7) are 1
 unfoldable pub sequence_bit : ℕ → ℕ
@@ -19,8 +20,8 @@ sequence_byte i = number_from_digits 2 (map sequence_bit (range_with_len (8 * i)
 
 -- the sequence's first 1,020 bytes are added to a block, bit by bit
 unfoldable pub randomised_block : List ℕ → List ℕ
-randomised_block block = map (λ i. bit_xor (slice_index block i) (sequence_byte i)) (range_with_len 0 1020)
+randomised_block block = map (λ i. bit_xor (slice_index block i) (sequence_byte i)) (range_with_len 0 BLOCK_BYTES)
 
 -- the law: what is randomised twice is as it was
 abbrev pub TwiceIsTheSame : Type 0
-TwiceIsTheSame = (block : List ℕ) → length block ≡ 1020 → randomised_block (randomised_block block) ≡ block
+TwiceIsTheSame = (block : List ℕ) → length block ≡ BLOCK_BYTES → randomised_block (randomised_block block) ≡ block

@@ -1,5 +1,6 @@
 //! Blocks as they are sent: the randomiser, four interleaved Reed-Solomon words, and what becomes of a received block
-//! (CCSDS 131.0-B, the pseudo-randomiser, and section 4 with interleaving at depth 4).
+//! (CCSDS 131.0-B, the pseudo-randomiser, and section 4 with interleaving at depth 4). The standard calls a block a
+//! codeblock, and a block with its marker a CADU, a channel access data unit.
 //!
 //! A frame is 892 bytes and a block 1,020, both as they are sent, the first byte first and of each byte the most
 //! significant bit. Byte k of a block is byte k / 4 of word k % 4. Each word has 223 bytes of information and then 32

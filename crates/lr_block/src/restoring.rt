@@ -1,13 +1,13 @@
 //! Restoring a block.
 #![tactic(auto)]
 
-ghost use Rattle.std.specs.Prelude.{◌≡◌, ◌<◌, ℕ, List, IfOk, IfErr, OnOk, OnErr};
-ghost use Rattle.lr_rs.specs.Words.{IsRestored, distance};
+ghost use Rattle.std.specs.Prelude.{◌≡◌, ◌↔◌, ◌<◌, ℕ, List, IfOk, IfErr, OnOk, OnErr, IsTrue};
+ghost use Rattle.lr_rs.specs.Words.{IsCodeword, IsRestored, distance};
 ghost use Rattle.lr_block.specs.Blocks.{IsFirstLost, IsRestoredBlock, changes_of, word_of};
 
 use crate::words::{put_word, take_word};
 use lr_bits::{BLOCK_BYTES, Corrected};
-use lr_rs::{RsScratch, WORD_BYTES, restore};
+use lr_rs::{Remainder, RsScratch, WORD_BYTES, restore};
 
 /// The first word of a block, 0 to 3, that has no codeword within sixteen bytes.
 #[derive(Drop)]
@@ -22,7 +22,7 @@ fn restore_word(
 ) -> Result<u8, BlockLost>
     requires { k < 4 }
     ensures restored { OnOk result (IsRestored (word_of block.now k) word.new) }
-    ensures changed { IfOk result (λ n. n ≡ distance 255 (word_of block.now k) word.new) }
+    ensures changed { IfOk result (λ n. n ≡ distance WORD_BYTES (word_of block.now k) word.new) }
     ensures named { IfErr result (λ lost. lost.0 ≡ k) }
     ensures lost { OnErr result ((c : List ℕ) → IsRestored (word_of block.now k) c → ⊥) }
 {
@@ -33,10 +33,29 @@ fn restore_word(
     }
 }
 
-/// Restores a block: each of its four words becomes the codeword that differs from it in at most sixteen bytes
-/// (CCSDS 131.0-B, section 4). Answers how many bytes of each word were changed; or names the first word that has no
-/// such codeword, and leaves the block.
-pub fn restore_block(
+/// Whether all four words of a block are codewords: their remainders are found in one walk over the block.
+fn are_codewords(block: &[u8; BLOCK_BYTES]) -> bool
+    ensures { IsTrue result ↔ ((k : ℕ) → k < 4 → IsCodeword (word_of block.now k)) }
+{
+    let mut first = Remainder::new();
+    let mut second = Remainder::new();
+    let mut third = Remainder::new();
+    let mut fourth = Remainder::new();
+    for i in 0..WORD_BYTES {
+        first = first.with_byte(block[4 * i]);
+        second = second.with_byte(block[4 * i + 1]);
+        third = third.with_byte(block[4 * i + 2]);
+        fourth = fourth.with_byte(block[4 * i + 3]);
+    }
+    let in_first = first.is_of_codeword();
+    let in_second = second.is_of_codeword();
+    let in_third = third.is_of_codeword();
+    let in_fourth = fourth.is_of_codeword();
+    in_first & in_second & in_third & in_fourth
+}
+
+/// Restores the words of a block one by one, as `restore_block` says.
+fn restore_words(
     block: &mut [u8; BLOCK_BYTES],
     scratch: &mut RsScratch,
 ) -> Result<Corrected, BlockLost>
@@ -58,4 +77,22 @@ pub fn restore_block(
     put_word(block, 2, &third);
     put_word(block, 3, &fourth);
     Ok(Corrected([in_first, in_second, in_third, in_fourth]))
+}
+
+/// Restores a block: each of its four words becomes the codeword that differs from it in at most sixteen bytes
+/// (CCSDS 131.0-B, section 4). Answers how many bytes of each word were changed; or names the first word that has no
+/// such codeword, and leaves the block.
+pub fn restore_block(
+    block: &mut [u8; BLOCK_BYTES],
+    scratch: &mut RsScratch,
+) -> Result<Corrected, BlockLost>
+    ensures restored { OnOk result (IsRestoredBlock block.old block.new) }
+    ensures changed { IfOk result (λ corrected. corrected.0 ≡ changes_of block.old block.new) }
+    ensures lost { IfErr result (λ lost. IsFirstLost block.old lost.0) }
+    ensures same { OnErr result (block.new ≡ block.old) }
+{
+    if are_codewords(block) {
+        return Ok(Corrected([0; 4]));
+    }
+    restore_words(block, scratch)
 }

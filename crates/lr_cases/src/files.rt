@@ -1,5 +1,6 @@
 // Drawn lists of good packets, given to `Files`.
 ghost use Rattle.std.specs.Prelude.{◌<◌};
+ghost use Rattle.lr_bits.specs.declared.sizes.TheConstants.{SEQUENCE_COUNTS};
 
 use crate::draw::Draw;
 use lr_bits::{Bytes, MissionFile, NoMemory, crc16};
@@ -38,7 +39,7 @@ struct Sender {
     begun: bool,
     ghost vc_fits: { vc < 64 },
     ghost apid_fits: { apid < 2047 },
-    ghost count_fits: { count < 16384 },
+    ghost count_fits: { count < SEQUENCE_COUNTS },
 }
 
 impl Sender {

@@ -1,16 +1,12 @@
 ghost use Rattle.std.specs.Prelude.{◌<◌, ◌≤◌, ◌^◌};
+ghost use Rattle.lr_bits.specs.declared.sizes.TheConstants.{ZONE_BYTES};
 
 use crate::draw::Draw;
-use lr_bits::ZONE_BYTES;
+use lr_bits::{FRAME_COUNTS, NO_PACKET_START, ZONE_BYTES};
 use lr_vc::TransferFrame;
-
-const COUNTERS: u32 = 1 << 24;
 
 /// The bytes of the shortest packet.
 const SHORTEST: u32 = 7;
-
-/// The pointer of a zone in which no packet starts.
-const NO_START: u16 = 2047;
 
 /// The packets of one channel, byte by byte: how long the packet is that is being sent, how many of its bytes are
 /// sent, and the counter of the channel's next frame.
@@ -27,13 +23,13 @@ impl Sender {
         Sender {
             length: 0,
             sent: 0,
-            counter: COUNTERS - 1 - draw.below(3),
+            counter: FRAME_COUNTS - 1 - draw.below(3),
         }
     }
 
     /// The next byte, after the start of a packet if the one before is all sent.
     fn next_byte(&mut self, draw: &mut Draw, left: u32) -> u8
-        requires { left ≤ 884 }
+        requires { left ≤ ZONE_BYTES }
     {
         if self.sent == self.length {
             self.sent = 0;
@@ -55,18 +51,18 @@ impl Sender {
     {
         let drawn = match draw.byte() % 32 {
             0 => u64::from(self.counter) + 1,
-            1 => u64::from(self.counter) + u64::from(COUNTERS) - 1,
+            1 => u64::from(self.counter) + u64::from(FRAME_COUNTS) - 1,
             _ => u64::from(self.counter),
         };
-        let counter = (drawn % u64::from(COUNTERS)) as u32;
-        self.counter = (counter + 1) % COUNTERS;
+        let counter = (drawn % u64::from(FRAME_COUNTS)) as u32;
+        self.counter = (counter + 1) % FRAME_COUNTS;
         counter
     }
 }
 
 /// The length of a packet at whose start this many bytes are left in the zone. Many packets end with a zone.
 fn draw_length(draw: &mut Draw, left: u32) -> u32
-    requires { left ≤ 884 }
+    requires { left ≤ ZONE_BYTES }
 {
     let length = match draw.byte() % 16 {
         0..=3 => left,
@@ -86,7 +82,7 @@ fn draw_pointer(draw: &mut Draw, pointer: u16) -> u16
 {
     match draw.byte() % 32 {
         0 => 2046,
-        1 => NO_START,
+        1 => NO_PACKET_START,
         2 => draw.below(884) as u16,
         3 => (884 + draw.below(1162)) as u16,
         _ => pointer,
@@ -103,9 +99,9 @@ pub fn draw_frame(draw: &mut Draw, senders: &mut [Sender; 4]) -> TransferFrame {
     };
     let sender = &mut senders[index];
     let mut zone = [0; ZONE_BYTES];
-    let mut pointer = NO_START;
+    let mut pointer = NO_PACKET_START;
     for place in 0..ZONE_BYTES {
-        if sender.sent == sender.length && pointer == NO_START {
+        if sender.sent == sender.length && pointer == NO_PACKET_START {
             pointer = place as u16;
         }
         zone[place] = sender.next_byte(draw, (ZONE_BYTES - place) as u32);

@@ -1,3 +1,5 @@
+//! The lines of files: as they are shelved, as they are listed, and as they are compared with their checksums.
+
 ghost use Rattle.std.specs.Prelude.{◌≡◌, ◌++◌, IfOk, OnOk, OnErr, string_bytes};
 ghost use Rattle.lr_catalog.specs.Files.{shelved_line, ok_line, bad_line, check_line};
 

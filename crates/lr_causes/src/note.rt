@@ -1,3 +1,5 @@
+//! What a command says on `err` though it is done.
+
 /// What is told on `err` of work that is done.
 #[derive(Clone, Copy)]
 pub enum Note {

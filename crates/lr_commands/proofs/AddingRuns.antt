@@ -1,17 +1,20 @@
 -- What a command that adds an item does, by what it read before and what adding the item answered.
 use Rattle.std.proofs.Common.{◌≡◌, ◌⊎◌, ◌<◌, inl, inr, ℕ, false, Result, Ok, Err, IfOk, IfErr, OnOk, List, []}
-use Rattle.std.proofs.Common.{◌∷◌, ◌++◌, min, refl, arith, ap, ◌∙◌, sym, subst}
+use Rattle.std.proofs.Common.{◌∷◌, ◌++◌, ◌+◌, ◌-◌, take, drop, min, refl, arith, ap, ◌∙◌, sym, subst}
+use Rattle.lr_bits.specs.Sizes.{most_u64}
 use Rattle.lr_io.specs.declared.sink.Sink.{Ghosts as SinkOf}
-use Rattle.lr_disk.specs.Disk.{LeavesOnly, Only}
+use Rattle.lr_disk.specs.Disk.{LeavesOnly}
 use Rattle.lr_disk.specs.Reads.{IsUnwritten}
 use Rattle.lr_disk.specs.declared.disk.Disk.{Ghosts as DiskOf}
+use Rattle.lr_disk.specs.Pending.{EachImageSince, NothingPending}
 use Rattle.lr_disk.proofs.Moments.{joined, unwritten_joined, weaker}
-use Rattle.lr_shelf_format.specs.Items.{Item}
+use Rattle.lr_shelf_format.specs.Items.{Item, extent_of, head_of_item, item_bytes}
 use Rattle.lr_shelf_format.specs.ShelfBytes.{StandsForShelf}
 use Rattle.lr_shelf_format.specs.Way.{Way, IsWay}
 use Rattle.lr_shelf_format.specs.declared.stored.Stored.{Stored}
 use Rattle.lr_shelf_format.proofs.WayLemmas.{has_one_way}
-use Rattle.lr_shelf.specs.Adds.{Adds}
+use Rattle.lr_shelf.specs.Adding.{StaysOutside, WithOrWithout}
+use Rattle.lr_shelf.specs.Adds.{Adds, last_gate, new_end}
 use Rattle.lr_shelf.specs.Calls.{IsCounted}
 use Rattle.lr_shelf.specs.Kept.{Kept, kept_by, kept_with}
 use Rattle.lr_shelf.specs.Load.{Loads, IsLoadRefusal}
@@ -42,6 +45,9 @@ use Rattle.lr_causes.specs.Puts.{Puts, PutFails}
 use Rattle.lr_commands.specs.Adding.{
   Addition,
   AddsItem,
+  AreSameOrOneMore,
+  AskedToAdd,
+  EndsWith,
   Fits,
   HasWayOrOneMore,
   IsFullFor,
@@ -49,6 +55,7 @@ use Rattle.lr_commands.specs.Adding.{
   IsAddingRefused,
   MayAdd,
   MayEndAdding,
+  MayEndWith,
   RunsAdding,
   StandsForOneMore,
   way_added,
@@ -56,6 +63,21 @@ use Rattle.lr_commands.specs.Adding.{
 use Rattle.lr_commands.specs.Runs.{Counted}
 use Rattle.lr_commands.proofs.Filing.{shelf_counted}
 use Rattle.lr_commands.proofs.Texts.{same_counts}
+
+-- what a crash may have left has one property and the other
+both : {D : Type 0} (moment : D → ℕ) (left_since : D → ℕ → List ℕ → Type 0) (old new : D) (P Q : List ℕ → Type 0)
+    → LeavesOnly moment left_since old new P → LeavesOnly moment left_since old new Q
+    → LeavesOnly moment left_since old new (λ c. P c × Q c)
+both moment left_since old new P Q one other = record {
+  later = one.later;
+  each = λ c left. (one.each c left, other.each c left);
+  before = λ t c le left. then c (one.before t c le left) (other.before t c le left);
+  keeps = one.keeps;
+} where
+  then : {W : Type 0} (c : List ℕ) → W ⊎ P c → W ⊎ Q c → W ⊎ (P c × Q c)
+  then c (inl was) is = inl was
+  then c (inr now) (inl was) = inl was
+  then c (inr now) (inr also) = inr (now, also)
 
 -- ---- what was read
 
@@ -68,7 +90,7 @@ pub record IsReady {D : Type 0} (disk : DiskOf D) (d d' : D) (shelf : Shelf) : T
   pub keeps : disk.tells d → KeepsWay (disk.contents d') shelf
   pub settled : (capacity : ℕ) (items : List Item) → disk.tells d → IsDurable disk capacity items d
       → IsSettled disk capacity items shelf d'
-  pub synced : disk.tells d → Only (disk.contents d') (disk.may_leave d')
+  pub synced : disk.tells d → NothingPending disk d'
 
 module _ {D : Type 0} (disk : DiskOf D) where
   pub ready_loaded : (d d' : D) (result : Result Shelf ShelfError) (shelf : Shelf) → Loads disk d d' result
@@ -84,7 +106,7 @@ module _ {D : Type 0} (disk : DiskOf D) where
         subst (λ (r : Result Shelf ShelfError). IfOk r (λ s. IsSettled disk capacity items s d')) is
         (loads.settled capacity items t durable.stands);
     synced = λ t.
-        subst (λ (r : Result Shelf ShelfError). OnOk r (Only (disk.contents d') (disk.may_leave d'))) is
+        subst (λ (r : Result Shelf ShelfError). OnOk r (NothingPending disk d')) is
         (loads.synced t);
   }
 
@@ -161,27 +183,26 @@ module _ {D : Type 0} (disk : DiskOf D) where
 refused_is : (one other : Refusal) → Refused one ≡ Refused other → one ≡ other
 refused_is one other same = cc (same)
 
-module _ {D O : Type 0} (disk : DiskOf D) (out : SinkOf O) (makes : Addition → Type 0)
-    (decides : List ℕ → Way → Result Addition Refusal → Type 0)
-    (once : (bytes : List ℕ) (way : Way) (one other : Result Addition Refusal) → decides bytes way one
-    → decides bytes way other → one ≡ other) where
+module _ {D O : Type 0} (disk : DiskOf D) (out : SinkOf O) (asked : AskedToAdd)
+    (once : (bytes : List ℕ) (way : Way) (one other : Result Addition Refusal) → asked.decides bytes way one
+    → asked.decides bytes way other → one ≡ other) where
   one_way : (bytes : List ℕ) (way way' : Way) → IsWay bytes way → IsWay bytes way' → way ≡ way'
   one_way bytes way way' is is' = (has_one_way bytes).way way way' is is'
 
   -- ---- one refusal
 
   module _ (bytes : List ℕ) (way : Way) where
-    full_once : (one other : Addition) (refusal refusal' : Refusal) → decides bytes way (Ok one)
-        → decides bytes way (Ok other) → IsFullFor one.item way refusal → IsFullFor other.item way refusal'
+    full_once : (one other : Addition) (refusal refusal' : Refusal) → asked.decides bytes way (Ok one)
+        → asked.decides bytes way (Ok other) → IsFullFor one.item way refusal → IsFullFor other.item way refusal'
         → refusal ≡ refusal'
     full_once one other refusal refusal' is is' full full' =
         let same = once bytes way (Ok one) (Ok other) is is' in
         let addition : one ≡ other = cc (same) in
-        full.is ∙ ap (λ (a : Addition). Capacity (min (way_added a.item way).end 18446744073709551615) way.capacity)
+        full.is ∙ ap (λ (a : Addition). Capacity (min (way_added a.item way).end most_u64) way.capacity)
         addition ∙ sym full'.is
 
-    pub refused_once : (one other : Refusal) → IsRefusedOnWay decides bytes way one
-        → IsRefusedOnWay decides bytes way other
+    pub refused_once : (one other : Refusal) → IsRefusedOnWay asked bytes way one
+        → IsRefusedOnWay asked bytes way other
         → one ≡ other
     refused_once one other (inl is) (inl is') =
         let same = once bytes way (Err one) (Err other) is is' in
@@ -194,8 +215,8 @@ module _ {D O : Type 0} (disk : DiskOf D) (out : SinkOf O) (makes : Addition →
         cc (same)
     refused_once one other (inr is) (inr is') = full_once is.0 is'.0 one other is.1 is'.1 is.2 is'.2
 
-    pub not_both : (refusal : Refusal) (addition : Addition) → IsRefusedOnWay decides bytes way refusal
-        → decides bytes way (Ok addition) → Fits addition.item way → ⊥
+    pub not_both : (refusal : Refusal) (addition : Addition) → IsRefusedOnWay asked bytes way refusal
+        → asked.decides bytes way (Ok addition) → Fits addition.item way → ⊥
     not_both refusal addition (inl is) is' fits =
         let same = once bytes way (Err refusal) (Ok addition) is is' in
         cc (same)
@@ -206,40 +227,46 @@ module _ {D O : Type 0} (disk : DiskOf D) (out : SinkOf O) (makes : Addition →
         subst (λ (a : Addition). way.capacity < (way_added a.item way).end) one is.2.over in
         omega (arith, over, fits)
 
-  pub over_once : (bytes : List ℕ) (one other : Refusal) → IsAddingRefused decides bytes one
-      → IsAddingRefused decides bytes other → one ≡ other
+  pub over_once : (bytes : List ℕ) (one other : Refusal) → IsAddingRefused asked bytes one
+      → IsAddingRefused asked bytes other → one ≡ other
   over_once bytes one other (inl is) (inl is') =
       sym is.2 ∙ ap NotAShelf ((has_one_way bytes).place is.0 is'.0 is.1 is'.1) ∙ is'.2
   over_once bytes one other (inl is) (inr is') = absurd ((has_one_way bytes).none is'.0 is.0 is'.1 is.1)
   over_once bytes one other (inr is) (inl is') = absurd ((has_one_way bytes).none is.0 is'.0 is.1 is'.1)
   over_once bytes one other (inr is) (inr is') =
       refused_once bytes is.0 one other is.2
-      (subst (λ (w : Way). IsRefusedOnWay decides bytes w other) (one_way bytes is'.0 is.0 is'.1 is.1) is'.2)
+      (subst (λ (w : Way). IsRefusedOnWay asked bytes w other) (one_way bytes is'.0 is.0 is'.1 is.1) is'.2)
 
-  pub over_none : (bytes : List ℕ) (refusal : Refusal) (addition : Addition) → IsAddingRefused decides bytes refusal
-      → MayAdd decides bytes addition → ⊥
+  pub over_none : (bytes : List ℕ) (refusal : Refusal) (addition : Addition) → IsAddingRefused asked bytes refusal
+      → MayAdd asked bytes addition → ⊥
   over_none bytes refusal addition (inl is) may = (has_one_way bytes).none may.way is.0 may.is_way is.1
   over_none bytes refusal addition (inr is) may =
       not_both bytes may.way refusal addition
-      (subst (λ (w : Way). IsRefusedOnWay decides bytes w refusal) (one_way bytes is.0 may.way is.1 may.is_way) is.2)
+      (subst (λ (w : Way). IsRefusedOnWay asked bytes w refusal) (one_way bytes is.0 may.way is.1 may.is_way) is.2)
       may.decided may.fits
 
   -- ---- nothing was written
 
   still : (capacity : ℕ) (items : List Item) (d d' : D) → IsUnwritten disk d d' → IsDurable disk capacity items d
-      → LeavesOnly disk.moment disk.left_since d d' (StandsForOneMore decides (disk.contents d) capacity items)
+      → EachImageSince disk d d' (StandsForOneMore asked (disk.contents d) capacity items)
   still capacity items d d' unwritten is =
       weaker disk.moment disk.left_since d d' (disk.may_leave d)
-      (StandsForOneMore decides (disk.contents d) capacity items)
+      (StandsForOneMore asked (disk.contents d) capacity items)
       (λ c image. inl (subst (λ (l : List ℕ). StandsForShelf l capacity items) (sym (is.durable c image)) is.stands))
       unwritten.any_moment
 
   way_still : (way : Way) (d d' : D) → IsUnwritten disk d d' → IsWay (disk.contents d) way
-      → Only (disk.contents d) (disk.may_leave d)
-      → LeavesOnly disk.moment disk.left_since d d' (HasWayOrOneMore decides (disk.contents d) way)
+      → NothingPending disk d
+      → EachImageSince disk d d' (HasWayOrOneMore asked (disk.contents d) way)
   way_still way d d' unwritten is only =
-      weaker disk.moment disk.left_since d d' (disk.may_leave d) (HasWayOrOneMore decides (disk.contents d) way)
+      weaker disk.moment disk.left_since d d' (disk.may_leave d) (HasWayOrOneMore asked (disk.contents d) way)
       (λ c image. inl (subst (λ (l : List ℕ). IsWay l way) (sym (only c image)) is)) unwritten.any_moment
+
+  bytes_still : (way : Way) (d d' : D) → IsUnwritten disk d d' → NothingPending disk d
+      → EachImageSince disk d d' (AreSameOrOneMore asked (disk.contents d) way)
+  bytes_still way d d' unwritten only =
+      weaker disk.moment disk.left_since d d' (disk.may_leave d) (AreSameOrOneMore asked (disk.contents d) way)
+      (λ c image. inl (only c image)) unwritten.any_moment
 
   module _ (d d' : D) (o : O) (told : disk.tells d → disk.tells d')
       (unwritten : disk.tells d → IsUnwritten disk d d') where
@@ -247,7 +274,7 @@ module _ {D O : Type 0} (disk : DiskOf D) (out : SinkOf O) (makes : Addition →
     pub earlier_run : (cause : Cause) → IsEarlier cause
         → Counted cause (outlet_counts (outlets_of disk out) (outlets d o))
         (outlet_counts (outlets_of disk out) (outlets d' o))
-        → RunsAdding (outlets_of disk out) makes decides cause (outlets d o) (outlets d' o)
+        → RunsAdding (outlets_of disk out) asked cause (outlets d o) (outlets d' o)
     earlier_run Done is counted = absurd is
     earlier_run (DoneWith note) is counted = absurd is
     earlier_run Usage is counted = absurd is
@@ -264,6 +291,7 @@ module _ {D O : Type 0} (disk : DiskOf D) (out : SinkOf O) (makes : Addition →
       refuses = λ refusal t refused. inr tt;
       adds = λ addition t may. inr tt;
       way_any_moment = λ way t is_way only. way_still way d d' (unwritten t) is_way only;
+      bytes_any_moment = λ way t is_way only. bytes_still way d d' (unwritten t) only;
       any_moment = λ capacity items t durable. still capacity items d d' (unwritten t) durable;
     }
     earlier_run NoMemory is counted = record {
@@ -276,13 +304,14 @@ module _ {D O : Type 0} (disk : DiskOf D) (out : SinkOf O) (makes : Addition →
       refuses = λ refusal t refused. inr tt;
       adds = λ addition t may. inr tt;
       way_any_moment = λ way t is_way only. way_still way d d' (unwritten t) is_way only;
+      bytes_any_moment = λ way t is_way only. bytes_still way d d' (unwritten t) only;
       any_moment = λ capacity items t durable. still capacity items d d' (unwritten t) durable;
     }
 
     -- this is refused
-    pub refused_run : (refusal : Refusal) → MayEndAdding (Refused refusal) → disk.faults d' ≡ disk.faults d
-        → (disk.tells d → IsAddingRefused decides (disk.contents d) refusal)
-        → RunsAdding (outlets_of disk out) makes decides (Refused refusal) (outlets d o) (outlets d' o)
+    pub refused_run : (refusal : Refusal) → MayEndAdding asked (Refused refusal) → disk.faults d' ≡ disk.faults d
+        → (disk.tells d → IsAddingRefused asked (disk.contents d) refusal)
+        → RunsAdding (outlets_of disk out) asked (Refused refusal) (outlets d o) (outlets d' o)
     refused_run refusal may count over = record {
       may = may;
       counted = same_counts disk out d d' o o count refl;
@@ -290,17 +319,18 @@ module _ {D O : Type 0} (disk : DiskOf D) (out : SinkOf O) (makes : Addition →
       told_by_out = λ t. t;
       leaves = record { silent = refl; unwritten = unwritten };
       refused = λ r same t.
-          subst (IsAddingRefused decides (disk.contents d)) (refused_is refusal r same) (over t);
+          subst (IsAddingRefused asked (disk.contents d)) (refused_is refusal r same) (over t);
       refuses = λ r t is. inl (ap Refused (over_once (disk.contents d) refusal r (over t) is));
       adds = λ addition t is. absurd (over_none (disk.contents d) refusal addition (over t) is);
       way_any_moment = λ way t is_way only. way_still way d d' (unwritten t) is_way only;
+      bytes_any_moment = λ way t is_way only. bytes_still way d d' (unwritten t) only;
       any_moment = λ capacity items t durable. still capacity items d d' (unwritten t) durable;
     }
 
   -- no shelf was loaded
   pub not_loaded : (d d' : D) (o : O) (result : Result Shelf ShelfError) (error : ShelfError) → Loads disk d d' result
       → result ≡ Err error
-      → RunsAdding (outlets_of disk out) makes decides (cause_of error) (outlets d o) (outlets d' o)
+      → RunsAdding (outlets_of disk out) asked (cause_of error) (outlets d o) (outlets d' o)
   not_loaded d d' o result error loads is = by_error error is
       (subst (λ (r : Result Shelf ShelfError). IfErr r (IsLoadRefusal disk d)) is loads.refused) where
         counted : (e : ShelfError) → result ≡ Err e → IsCounted {A = Shelf} (disk.faults d) (disk.faults d') (Err e)
@@ -309,7 +339,7 @@ module _ {D O : Type 0} (disk : DiskOf D) (out : SinkOf O) (makes : Addition →
             loads.calls.counted
 
         by_error : (e : ShelfError) → result ≡ Err e → IsLoadRefusal disk d e
-            → RunsAdding (outlets_of disk out) makes decides (cause_of e) (outlets d o) (outlets d' o)
+            → RunsAdding (outlets_of disk out) asked (cause_of e) (outlets d o) (outlets d' o)
         by_error Disk' same refusal =
             earlier_run d d' o loads.calls.told loads.unwritten (Failed Disk) tt ((counted Disk' same).1, refl, refl)
         by_error (NotAShelf' at) same refusal =
@@ -327,10 +357,10 @@ module _ {D O : Type 0} (disk : DiskOf D) (out : SinkOf O) (makes : Addition →
 
   -- ---- the call that adds the item
 
-  module _ {A : Type 0} (d d1 d2 : D) (o : O) (shelf shelf2 : Shelf) (addition : Addition) (made : makes addition)
+  module _ {A : Type 0} (d d1 d2 : D) (o : O) (shelf shelf2 : Shelf) (addition : Addition) (made : asked.makes addition)
       (ready : IsReady disk d d1 shelf) (answer : Result A ShelfError)
       (adding : Adds disk addition.item shelf shelf2 d1 d2 answer)
-      (decided : disk.tells d → decides (disk.contents d) (kept_by shelf).way (Ok addition)) where
+      (decided : disk.tells d → asked.decides (disk.contents d) (kept_by shelf).way (Ok addition)) where
     abbrev there : Way
     there = (kept_by shelf).way
 
@@ -348,45 +378,92 @@ module _ {D O : Type 0} (disk : DiskOf D) (out : SinkOf O) (makes : Addition →
         → disk.faults d2 ≡ disk.faults d
     refusal_counted = count_still disk d d1 d2 shelf shelf2 addition.item ready answer adding
 
-    may_add : Fits addition.item there → disk.tells d → MayAdd decides (disk.contents d) addition
+    may_add : Fits addition.item there → disk.tells d → MayAdd asked (disk.contents d) addition
     may_add fits t = record { way = there; is_way = way_is t; decided = decided t; fits = fits }
 
     both_moments : Fits addition.item there → (capacity : ℕ) (items : List Item) → disk.tells d
         → IsDurable disk capacity items d
-        → LeavesOnly disk.moment disk.left_since d d2 (StandsForOneMore decides (disk.contents d) capacity items)
+        → EachImageSince disk d d2 (StandsForOneMore asked (disk.contents d) capacity items)
     both_moments fits capacity items t durable =
-        joined disk.moment disk.left_since d d1 d2 (StandsForOneMore decides (disk.contents d) capacity items)
+        joined disk.moment disk.left_since d d1 d2 (StandsForOneMore asked (disk.contents d) capacity items)
         (still capacity items d d1 (ready.unwritten t) durable)
         (weaker disk.moment disk.left_since d1 d2 (StandsForEither capacity items addition.item)
-        (StandsForOneMore decides (disk.contents d) capacity items) to
+        (StandsForOneMore asked (disk.contents d) capacity items) to
         (adding.any_moment capacity items (ready.settled capacity items t durable))) where
           to : (c : List ℕ) → StandsForEither capacity items addition.item c
-              → StandsForOneMore decides (disk.contents d) capacity items c
+              → StandsForOneMore asked (disk.contents d) capacity items c
           to c (inl stands) = inl stands
           to c (inr stands) = inr (addition, may_add fits t, stands)
 
     both_ways : Fits addition.item there → (way : Way) → disk.tells d → IsWay (disk.contents d) way
-        → Only (disk.contents d) (disk.may_leave d)
-        → LeavesOnly disk.moment disk.left_since d d2 (HasWayOrOneMore decides (disk.contents d) way)
+        → NothingPending disk d
+        → EachImageSince disk d d2 (HasWayOrOneMore asked (disk.contents d) way)
     both_ways fits way t is_way only =
-        joined disk.moment disk.left_since d d1 d2 (HasWayOrOneMore decides (disk.contents d) way)
+        joined disk.moment disk.left_since d d1 d2 (HasWayOrOneMore asked (disk.contents d) way)
         (way_still way d d1 (ready.unwritten t) is_way only)
         (weaker disk.moment disk.left_since d1 d2 (HasEitherWay there addition.item)
-        (HasWayOrOneMore decides (disk.contents d) way) to
+        (HasWayOrOneMore asked (disk.contents d) way) to
         (adding.way_any_moment (ready.told t) (ready.keeps t) (ready.synced t))) where
           same : there ≡ way
           same = one_way (disk.contents d) there way (way_is t) is_way
 
-          to : (c : List ℕ) → HasEitherWay there addition.item c → HasWayOrOneMore decides (disk.contents d) way c
+          to : (c : List ℕ) → HasEitherWay there addition.item c → HasWayOrOneMore asked (disk.contents d) way c
           to c (inl is) = inl (subst (IsWay c) same is)
           to c (inr is) =
               inr (addition, may_add fits t, subst (λ (w : Way). IsWay c (way_added addition.item w)) same is)
 
+    -- the bytes before the last gate and after the new end, whatever the item
+    outside_here : (c : List ℕ) → disk.tells d
+        → StaysOutside (last_gate (kept_by shelf)) (new_end addition.item (kept_by shelf)) (disk.contents d1) c
+        → StaysOutside (there.end - 1) (way_added addition.item there).end (disk.contents d) c
+    outside_here c t is =
+        subst (λ (l : List ℕ). StaysOutside (there.end - 1) (way_added addition.item there).end l c)
+        (ready.unwritten t).contents is
+
+    both_bytes : Fits addition.item there → (way : Way) → disk.tells d → IsWay (disk.contents d) way
+        → NothingPending disk d
+        → EachImageSince disk d d2 (AreSameOrOneMore asked (disk.contents d) way)
+    both_bytes fits way t is_way only =
+        joined disk.moment disk.left_since d d1 d2 (AreSameOrOneMore asked (disk.contents d) way)
+        (bytes_still way d d1 (ready.unwritten t) only)
+        (weaker disk.moment disk.left_since d1 d2 AreBoth (AreSameOrOneMore asked (disk.contents d) way) to
+        (both disk.moment disk.left_since d1 d2 Outside Within
+        (adding.outside_any_moment (ready.told t) (ready.synced t))
+        (adding.bytes_any_moment (ready.told t) (ready.keeps t) (ready.synced t)))) where
+          same : there ≡ way
+          same = one_way (disk.contents d) there way (way_is t) is_way
+
+          Outside : List ℕ → Type 0
+          Outside =
+              StaysOutside (last_gate (kept_by shelf)) (new_end addition.item (kept_by shelf)) (disk.contents d1)
+
+          Within : List ℕ → Type 0
+          Within = WithOrWithout (take (last_gate (kept_by shelf)) (disk.contents d1)) (item_bytes addition.item)
+
+          AreBoth : List ℕ → Type 0
+          AreBoth c = Outside c × Within c
+
+          within_here : (c : List ℕ) → Within c
+              → WithOrWithout (take (there.end - 1) (disk.contents d)) (item_bytes addition.item) c
+          within_here c is =
+              subst (λ (l : List ℕ). WithOrWithout (take (there.end - 1) l) (item_bytes addition.item) c)
+              (ready.unwritten t).contents is
+
+          OneMore : List ℕ → Way → Type 0
+          OneMore c w =
+              StaysOutside (w.end - 1) (way_added addition.item w).end (disk.contents d) c
+              × WithOrWithout (take (w.end - 1) (disk.contents d)) (item_bytes addition.item) c
+
+          to : (c : List ℕ) → AreBoth c → AreSameOrOneMore asked (disk.contents d) way c
+          to c is =
+              let one = subst (OneMore c) same (outside_here c t is.0, within_here c is.1) in
+              inr (addition, may_add fits t, one.0, one.1)
+
     -- the shelf is full
     pub full_run : (needed : ℕ) → answer ≡ Err (Capacity' needed there.capacity)
         → there.capacity < (way_added addition.item there).end
-        → needed ≡ min (way_added addition.item there).end 18446744073709551615
-        → RunsAdding (outlets_of disk out) makes decides (Refused (Capacity needed there.capacity)) (outlets d o)
+        → needed ≡ min (way_added addition.item there).end most_u64
+        → RunsAdding (outlets_of disk out) asked (Refused (Capacity needed there.capacity)) (outlets d o)
         (outlets d2 o)
     full_run needed is over needs =
         refused_run d d2 o told_both (refusal_unwritten (Capacity' needed there.capacity) is (λ same. cc (same)))
@@ -404,14 +481,14 @@ module _ {D O : Type 0} (disk : DiskOf D) (out : SinkOf O) (makes : Addition →
 
     -- memory was refused
     pub no_memory_run : answer ≡ Err NoMemory'
-        → RunsAdding (outlets_of disk out) makes decides NoMemory (outlets d o) (outlets d2 o)
+        → RunsAdding (outlets_of disk out) asked NoMemory (outlets d o) (outlets d2 o)
     no_memory_run is =
         earlier_run d d2 o told_both (refusal_unwritten NoMemory' is (λ same. cc (same))) NoMemory tt
         (same_counts disk out d d2 o o (refusal_counted NoMemory' is (λ same. cc (same))) refl)
 
     -- the disk failed: with the item or without it
     pub failed_run : answer ≡ Err Disk' → Fits addition.item there
-        → RunsAdding (outlets_of disk out) makes decides (Failed Disk) (outlets d o) (outlets d2 o)
+        → RunsAdding (outlets_of disk out) asked (Failed Disk) (outlets d o) (outlets d2 o)
     failed_run is fits = record {
       may = tt;
       counted =
@@ -429,9 +506,12 @@ module _ {D O : Type 0} (disk : DiskOf D) (out : SinkOf O) (makes : Addition →
           made = made;
           decided = may_add fits;
           way = λ way t is_way.
-              subst (λ (w : Way). HasEitherWay w addition.item (disk.contents d2))
+              subst (λ (w : Way). MayEndWith (outlets_of disk out) asked addition.item w d d2)
               (one_way (disk.contents d) there way (way_is t) is_way)
-              (adding.either_way (ready.told t) (ready.keeps t));
+              (record {
+                has = adding.either_way (ready.told t) (ready.keeps t);
+                outside = outside_here (disk.contents d2) t (adding.outside (ready.told t));
+              });
           stands = λ capacity items t durable. adding.either capacity items (ready.settled capacity items t durable);
         },
       );
@@ -439,6 +519,7 @@ module _ {D O : Type 0} (disk : DiskOf D) (out : SinkOf O) (makes : Addition →
       refuses = λ r t is_r. inr tt;
       adds = λ other t may. inr tt;
       way_any_moment = both_ways fits;
+      bytes_any_moment = both_bytes fits;
       any_moment = both_moments fits;
     }
 
@@ -459,18 +540,27 @@ module _ {D O : Type 0} (disk : DiskOf D) (out : SinkOf O) (makes : Addition →
           (on_ok (kept_by shelf2 ≡ kept_with addition.item (kept_by shelf)) adding.kept)
           (on_ok (KeepsWay (disk.contents d2) shelf2) (adding.way (ready.told t) (ready.keeps t)))
 
+      abbrev ItemStands : List ℕ → Type 0
+      ItemStands c =
+          take (2 + extent_of (head_of_item addition.item)) (drop (there.end - 1) c)
+          ≡ 1 ∷ (item_bytes addition.item ++ 0 ∷ [])
+
       adds_item : (IsPut : List ℕ → O → O → Type 0) (o2 : O) → IsPut addition.text o o2
-          → AddsItem (outlets_of disk out) makes decides IsPut (outlets d o) (outlets d2 o2)
+          → AddsItem (outlets_of disk out) asked IsPut (outlets d o) (outlets d2 o2)
       adds_item IsPut o2 put = record {
         addition = addition;
         made = made;
         decided = may_add fits;
         put = put;
-        way = λ way t is_way. (
-          subst (λ (w : Way). IsWay (disk.contents d2) (way_added addition.item w))
-              (one_way (disk.contents d) there way (way_is t) is_way) (way_after t),
-          on_ok (Only (disk.contents d2) (disk.may_leave d2)) (adding.durable (ready.told t)),
-        );
+        way = λ way t is_way.
+            subst (λ (w : Way). EndsWith (outlets_of disk out) asked addition.item w d d2)
+            (one_way (disk.contents d) there way (way_is t) is_way)
+            (record {
+              has = way_after t;
+              outside = outside_here (disk.contents d2) t (adding.outside (ready.told t));
+              stands = on_ok (ItemStands (disk.contents d2)) (adding.stands (ready.told t));
+              durable = on_ok (NothingPending disk d2) (adding.durable (ready.told t));
+            });
         stands = λ capacity items t durable.
             (on_ok (IsSettled disk capacity (items ++ addition.item ∷ []) shelf2 d2)
             (adding.acknowledged capacity items (ready.settled capacity items t durable))).on_disk;
@@ -478,7 +568,7 @@ module _ {D O : Type 0} (disk : DiskOf D) (out : SinkOf O) (makes : Addition →
 
       -- and the text was put
       pub done_run : (o2 : O) → Puts out addition.text o o2
-          → RunsAdding (outlets_of disk out) makes decides Done (outlets d o) (outlets d2 o2)
+          → RunsAdding (outlets_of disk out) asked Done (outlets d o) (outlets d2 o2)
       done_run o2 puts = record {
         may = tt;
         counted = same_counts disk out d d2 o o2 count_both puts.kept;
@@ -489,12 +579,13 @@ module _ {D O : Type 0} (disk : DiskOf D) (out : SinkOf O) (makes : Addition →
         refuses = λ r t is. absurd (over_none (disk.contents d) r addition is (may_add fits t));
         adds = λ other t may. inl tt;
         way_any_moment = both_ways fits;
+        bytes_any_moment = both_bytes fits;
         any_moment = both_moments fits;
       }
 
       -- or it wasn't
       pub cut_run : (o2 : O) → PutFails out addition.text o o2
-          → RunsAdding (outlets_of disk out) makes decides (Failed Output) (outlets d o) (outlets d2 o2)
+          → RunsAdding (outlets_of disk out) asked (Failed Output) (outlets d o) (outlets d2 o2)
       cut_run o2 fails = record {
         may = tt;
         counted = (fails.rose, refl, count_both);
@@ -505,5 +596,6 @@ module _ {D O : Type 0} (disk : DiskOf D) (out : SinkOf O) (makes : Addition →
         refuses = λ r t is. absurd (over_none (disk.contents d) r addition is (may_add fits t));
         adds = λ other t may. inl tt;
         way_any_moment = both_ways fits;
+        bytes_any_moment = both_bytes fits;
         any_moment = both_moments fits;
       }

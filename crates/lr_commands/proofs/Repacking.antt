@@ -39,6 +39,7 @@ use Rattle.lr_shelf.specs.declared.error.ShelfError.TheVariants.{
 }
 use Rattle.lr_refusals.specs.Errors.{image_fault}
 use Rattle.lr_causes.specs.Puts.{Puts, PutFails}
+use Rattle.lr_causes.specs.declared.fault.CodingFault.{CodingFault}
 use Rattle.lr_causes.specs.declared.fault.CodingFault.TheVariants.{Depth, Line, Header, File as LongFile}
 use Rattle.lr_causes.specs.declared.fault.ExportFault.{ExportFault}
 use Rattle.lr_causes.specs.declared.cause.Party.TheVariants.{Disk, Output}
@@ -61,6 +62,7 @@ use Rattle.lr_commands.specs.Repack.{
   MakesRepacked,
   refusal_cause,
   repack_addition,
+  repack_asked,
   repack_refusal,
 }
 use Rattle.lr_commands.specs.declared.repack.Repacked.{Repacked}
@@ -103,33 +105,33 @@ module _ (number block : ℕ) where
       found_decides_once way is'.1.0 one other
       (subst (λ (f : Option Found). DecidesFound number block way f one) same is.1.2) is'.1.2
 
--- no file is refused as a disk that isn't empty
-may_refuse : (fault : RepackFault) (refusal : Refusal) → repack_refusal fault ≡ Some refusal
-    → MayEndAdding (Refused refusal)
-may_refuse (fault.Image cause) refusal names = by (image_fault cause) names where
-  by : (named : Option ExportFault) → option_map CannotExport named ≡ Some refusal → MayEndAdding (Refused refusal)
-  by None same = cc (same)
-  by (Some word) same =
-      let is : CannotExport word ≡ refusal = cc (same) in
-      subst (λ (r : Refusal). MayEndAdding (Refused r)) is tt
-may_refuse (fault.Depth bits) refusal names =
-    let is : CannotRepack Depth ≡ refusal = cc (names) in
-    subst (λ (r : Refusal). MayEndAdding (Refused r)) is tt
-may_refuse (fault.Line line) refusal names =
-    let is : CannotRepack Line ≡ refusal = cc (names) in
-    subst (λ (r : Refusal). MayEndAdding (Refused r)) is tt
-may_refuse (fault.Header size) refusal names =
-    let is : CannotRepack Header ≡ refusal = cc (names) in
-    subst (λ (r : Refusal). MayEndAdding (Refused r)) is tt
-may_refuse (fault.File size) refusal names =
-    let is : CannotRepack LongFile ≡ refusal = cc (names) in
-    subst (λ (r : Refusal). MayEndAdding (Refused r)) is tt
-may_refuse fault.NoMemory refusal names = cc (names)
+-- the refusals of a file that isn't coded anew are among those of the command
+module _ (number block : ℕ) where
+  coding : (word : CodingFault) (refusal : Refusal) → Some (CannotRepack word) ≡ Some refusal
+      → MayEndAdding (repack_asked number block) (Refused refusal)
+  coding word refusal names =
+      let is : CannotRepack word ≡ refusal = cc (names) in
+      subst (λ (r : Refusal). MayEndAdding (repack_asked number block) (Refused r)) is tt
+
+  may_refuse : (fault : RepackFault) (refusal : Refusal) → repack_refusal fault ≡ Some refusal
+      → MayEndAdding (repack_asked number block) (Refused refusal)
+  may_refuse (fault.Image cause) refusal names = by (image_fault cause) refl names where
+    by : (named : Option ExportFault) → image_fault cause ≡ named → option_map CannotExport named ≡ Some refusal
+        → MayEndAdding (repack_asked number block) (Refused refusal)
+    by None is same = cc (same)
+    by (Some word) is same =
+        let refuses : CannotExport word ≡ refusal = cc (same) in
+        subst (λ (r : Refusal). MayEndAdding (repack_asked number block) (Refused r)) refuses (cause, is)
+  may_refuse (fault.Depth bits) refusal names = coding Depth refusal names
+  may_refuse (fault.Line line) refusal names = coding Line refusal names
+  may_refuse (fault.Header size) refusal names = coding Header refusal names
+  may_refuse (fault.File size) refusal names = coding LongFile refusal names
+  may_refuse fault.NoMemory refusal names = cc (names)
 
 module _ {D O : Type 0} (disk : DiskOf D) (out : SinkOf O) (number block : ℕ) where
   abbrev pub RunsRepack : Cause → D → D → O → O → Type 0
   RunsRepack cause d d' o o' =
-      RunsAdding (outlets_of disk out) (MakesRepacked number block) (DecidesRepack number block) cause (outlets d o)
+      RunsAdding (outlets_of disk out) (repack_asked number block) cause (outlets d o)
       (outlets d' o')
 
   module _ (d d1 d2 : D) (o : O) (old new : Shelf) (result : Result Stored ShelfError) (ready : IsReady disk d d1 old)
@@ -159,20 +161,21 @@ module _ {D O : Type 0} (disk : DiskOf D) (out : SinkOf O) (number block : ℕ) 
         subst (λ (r : Result Stored ShelfError). IsCounted (disk.faults d1) (disk.faults d2) r) is
         gets.reads.calls.counted
 
-    decided_run : (refusal : Refusal) → MayEndAdding (Refused refusal) → disk.faults d2 ≡ disk.faults d1
+    decided_run : (refusal : Refusal) → MayEndAdding (repack_asked number block) (Refused refusal)
+        → disk.faults d2 ≡ disk.faults d1
         → (disk.tells d → DecidesRepack number block (disk.contents d) there (Err refusal))
         → RunsRepack (Refused refusal) d d2 o o
     decided_run refusal may count decided =
-        refused_run disk out (MakesRepacked number block) (DecidesRepack number block) (repack_once number block) d d2 o
-        told_to unwritten_to refusal may (count ∙ ready.count)
+        refused_run disk out (repack_asked number block) (repack_once number block) d d2 o told_to
+        unwritten_to refusal may (count ∙ ready.count)
         (λ t. inr (there, way_here t, inl (decided t)))
 
     -- the entry wasn't read
     pub not_read : (error : ShelfError) → result ≡ Err error → IsGetRefusal disk (kept_by old) number d1 error
         → RunsRepack (cause_of error) d d2 o o
     not_read Disk' is refusal =
-        earlier_run disk out (MakesRepacked number block) (DecidesRepack number block) (repack_once number block) d d2 o
-        told_to unwritten_to (Failed Disk) tt
+        earlier_run disk out (repack_asked number block) (repack_once number block) d d2 o told_to
+        unwritten_to (Failed Disk) tt
         (subst (λ (c : Counts). Counted (Failed Disk) c (outlet_counts (outlets_of disk out) (outlets d2 o)))
         (same_counts disk out d d1 o o ready.count refl)
         (shelf_counted disk out Stored d1 d2 o Disk' (λ same. cc (same)) (counted_at Disk' is)))
@@ -189,7 +192,7 @@ module _ {D O : Type 0} (disk : DiskOf D) (out : SinkOf O) (number block : ℕ) 
     not_read (NotEmpty' size) is refusal = absurd refusal.1
     not_read (Capacity' needed most) is refusal = absurd refusal.1
     not_read (NoSuchFile' count) is refusal =
-        decided_run (NoSuchFile count) tt (counted_at (NoSuchFile' count) is)
+        decided_run (NoSuchFile count) (omega (arith, refusal.1, refusal.2)) (counted_at (NoSuchFile' count) is)
         (λ t. inl (omega (arith, refusal.1, refusal.2), ap (λ (n : ℕ). Err (NoSuchFile n)) refusal.1))
     not_read (Crc' stored computed) is refusal =
         decided_run BadChecksum tt (counted_at (Crc' stored computed) is)
@@ -202,8 +205,8 @@ module _ {D O : Type 0} (disk : DiskOf D) (out : SinkOf O) (number block : ℕ) 
           ),
         ))
     not_read NoMemory' is refusal =
-        earlier_run disk out (MakesRepacked number block) (DecidesRepack number block) (repack_once number block) d d2 o
-        told_to unwritten_to NoMemory tt
+        earlier_run disk out (repack_asked number block) (repack_once number block) d d2 o told_to
+        unwritten_to NoMemory tt
         (same_counts disk out d d2 o o (counted_at NoMemory' is ∙ ready.count) refl)
     not_read Failed' is refusal =
         let works = ready.works in
@@ -236,10 +239,10 @@ module _ {D O : Type 0} (disk : DiskOf D) (out : SinkOf O) (number block : ℕ) 
 
       refuses_with : (fault : RepackFault) → HasRepackFault stored.file block fault → (named : Option Refusal)
           → repack_refusal fault ≡ named
-          → ((refusal : Refusal) → named ≡ Some refusal → MayEndAdding (Refused refusal))
+          → ((refusal : Refusal) → named ≡ Some refusal → MayEndAdding (repack_asked number block) (Refused refusal))
           → RunsRepack (refusal_cause named) d d2 o o
       refuses_with fault has None names may =
-          earlier_run disk out (MakesRepacked number block) (DecidesRepack number block) (repack_once number block) d
+          earlier_run disk out (repack_asked number block) (repack_once number block) d
           d2 o told_to unwritten_to NoMemory tt (same_counts disk out d d2 o o (count_read ∙ ready.count) refl)
       refuses_with fault has (Some refusal) names may =
           decided_run refusal (may refusal refl) count_read
@@ -248,11 +251,11 @@ module _ {D O : Type 0} (disk : DiskOf D) (out : SinkOf O) (number block : ℕ) 
       pub not_coded : (cause : Cause) → IsNotRepacked block stored cause → RunsRepack cause d d2 o o
       not_coded cause (inl none) =
           subst (λ (c : Cause). RunsRepack c d d2 o o) (sym none)
-          (earlier_run disk out (MakesRepacked number block) (DecidesRepack number block) (repack_once number block) d
+          (earlier_run disk out (repack_asked number block) (repack_once number block) d
           d2 o told_to unwritten_to NoMemory tt (same_counts disk out d d2 o o (count_read ∙ ready.count) refl))
       not_coded cause (inr refused) =
           subst (λ (c : Cause). RunsRepack c d d2 o o) (sym refused.2)
-          (refuses_with refused.0 refused.1 (repack_refusal refused.0) refl (may_refuse refused.0))
+          (refuses_with refused.0 refused.1 (repack_refusal refused.0) refl (may_refuse number block refused.0))
 
   -- the new file wasn't added
   module _ (d d1 d2 : D) (o : O) (shelf shelf2 : Shelf) (placed : Placed) (stored : Stored) (text : List ℕ)
@@ -267,7 +270,7 @@ module _ {D O : Type 0} (disk : DiskOf D) (out : SinkOf O) (number block : ℕ) 
       pub not_added : (error : ShelfError) → answer ≡ Err error
           → IsAppendRefusal (item_for placed) (kept_by shelf) error → RunsRepack (cause_of error) d d2 o o
       not_added Disk' is refusal =
-          failed_run disk out (MakesRepacked number block) (DecidesRepack number block) (repack_once number block) d d1
+          failed_run disk out (repack_asked number block) (repack_once number block) d d1
           d2 o shelf shelf2 addition made ready answer appends.adds decided is refusal.1
       not_added (NotAShelf' at) is refusal = absurd refusal
       not_added (NotEmpty' size) is refusal = absurd refusal
@@ -275,13 +278,13 @@ module _ {D O : Type 0} (disk : DiskOf D) (out : SinkOf O) (number block : ℕ) 
           let same : Capacity' needed most ≡ Capacity' needed (kept_by shelf).way.capacity =
           ap (Capacity' needed) refusal.3 in
           subst (λ (n : ℕ). RunsRepack (Refused (Capacity needed n)) d d2 o o) (sym refusal.3)
-          (full_run disk out (MakesRepacked number block) (DecidesRepack number block) (repack_once number block) d d1
+          (full_run disk out (repack_asked number block) (repack_once number block) d d1
           d2 o shelf shelf2 addition made ready answer appends.adds decided needed
           (is ∙ ap (λ (e : ShelfError). Err e) same) refusal.1 refusal.2)
       not_added (NoSuchFile' count) is refusal = absurd refusal
       not_added (Crc' stored computed) is refusal = absurd refusal
       not_added NoMemory' is refusal =
-          no_memory_run disk out (MakesRepacked number block) (DecidesRepack number block) (repack_once number block) d
+          no_memory_run disk out (repack_asked number block) (repack_once number block) d
           d1 d2 o shelf shelf2 addition made ready answer appends.adds decided is
       not_added Failed' is refusal =
           let works = ready.works in
@@ -300,12 +303,12 @@ module _ {D O : Type 0} (disk : DiskOf D) (out : SinkOf O) (number block : ℕ) 
 
         pub told_line : (o2 : O) → Puts out text o o2 → RunsRepack Done d d2 o o2
         told_line =
-            done_run disk out (MakesRepacked number block) (DecidesRepack number block) (repack_once number block) d d1
+            done_run disk out (repack_asked number block) (repack_once number block) d d1
             d2 o shelf shelf2 addition made ready answer appends.adds decided place added fits
 
         pub cut_line : (o2 : O) → PutFails out text o o2 → RunsRepack (Failed Output) d d2 o o2
         cut_line =
-            cut_run disk out (MakesRepacked number block) (DecidesRepack number block) (repack_once number block) d d1
+            cut_run disk out (repack_asked number block) (repack_once number block) d d1
             d2 o shelf shelf2 addition made ready answer appends.adds decided place added fits
 
 pub ok_is : {A E : Type 0} (r : Result A E) → ((e : E) → r ≡ Err e → ⊥) → (v : A) × (r ≡ Ok v)

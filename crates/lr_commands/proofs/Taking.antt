@@ -60,7 +60,7 @@ use Rattle.lr_commands.specs.Asked.{
 }
 use Rattle.lr_causes.specs.Causes.{Counts, done_with}
 use Rattle.lr_causes.specs.Outside.{outlet_counts, outlets, outlets_of}
-use Rattle.lr_commands.specs.Runs.{Counted, PutsAll, PutsFirst, PutsRefused, PutsCut, Got, RunsOn, by_count}
+use Rattle.lr_commands.specs.Runs.{Counted, Got, IsDoneWith, PutsAll, PutsFirst, PutsRefused, PutsCut, RunsOn, by_count}
 use Rattle.lr_commands.specs.Steps.{PutsText, CutsText, TextStops, TakesEntry, EntryStops}
 use Rattle.lr_commands.specs.Read.{HasGathered, IsDone}
 use Rattle.lr_commands.proofs.Reading.{none_seen, one_more_seen, concat-push}
@@ -363,10 +363,14 @@ module _ {D O : Type 0} (disk : DiskOf D) (out : SinkOf O) (asked : Asked) (way 
           (BegunBy asked (disk.contents d) way) n o o2) (sym is)
           (last_put disk out asked way range d o gathers number o1 o2 so inside all allowed t puts)
 
+      done_with_so : (told_note : Option Note) → told_note ≡ asked.tells so.read → IsDoneWith asked told_note
+      done_with_so told_note is =
+          record { way = way; read = so.read; text = puts.text; last = puts.is; tells = sym is }
+
       pub last_taken : (note : Option Note) → note ≡ asked.tells so.read
           → RunsOn (outlets_of disk out) asked way (done_with note) (outlets d o) (outlets d1 o2)
       last_taken None is = record {
-        may = tt;
+        may = done_with_so None is;
         counted = counts_stay;
         told = told;
         told_by_out = λ t. puts.puts.told (so.puts.told t);
@@ -375,7 +379,7 @@ module _ {D O : Type 0} (disk : DiskOf D) (out : SinkOf O) (asked : Asked) (way 
         untouched = λ one cuts. absurd cuts;
       }
       last_taken (Some note) is = record {
-        may = (so.read, sym is);
+        may = done_with_so (Some note) is;
         counted = counts_stay;
         told = told;
         told_by_out = λ t. puts.puts.told (so.puts.told t);

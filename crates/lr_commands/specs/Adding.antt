@@ -1,11 +1,14 @@
 -- Commands that add an item to a shelf: what they decide of its bytes, what is put once the item stands, and what
 -- becomes of the disk.
-use Rattle.std.specs.Prelude.{◌≡◌, ◌⊎◌, ◌<◌, ◌≤◌, ℕ, min, Result, Ok, Err, List, [], ◌∷◌, ◌++◌}
-use Rattle.lr_disk.specs.Disk.{LeavesOnly, Only}
+use Rattle.std.specs.Prelude.{◌≡◌, ◌⊎◌, ◌+◌, ◌-◌, ◌<◌, ◌≤◌, ℕ, min, Result, Ok, Err, List, [], ◌∷◌, ◌++◌}
+use Rattle.std.specs.Prelude.{take, drop}
+use Rattle.lr_bits.specs.Sizes.{most_u64}
 use Rattle.lr_disk.specs.Reads.{IsUnwritten}
-use Rattle.lr_shelf_format.specs.Items.{Item, head_of_item}
+use Rattle.lr_disk.specs.Pending.{EachImageSince, NothingPending}
+use Rattle.lr_shelf_format.specs.Items.{Item, extent_of, head_of_item, item_bytes}
 use Rattle.lr_shelf_format.specs.ShelfBytes.{StandsForShelf}
 use Rattle.lr_shelf_format.specs.Way.{Way, IsWay, IsNoShelfAt, way_with}
+use Rattle.lr_shelf.specs.Adding.{StaysOutside, WithOrWithout}
 use Rattle.lr_shelf.specs.Shelf.{HasEitherWay, IsDurable, StandsForEither}
 use Rattle.lr_causes.specs.declared.cause.Party.TheVariants.{Disk, Output}
 use Rattle.lr_causes.specs.declared.cause.Refusal.{Refusal}
@@ -33,24 +36,34 @@ Fits item way = (way_added item way).end ≤ way.capacity
 -- there is none, and the refusal says so
 pub record IsFullFor (item : Item) (way : Way) (refusal : Refusal) : Type 0 where
   pub over : way.capacity < (way_added item way).end
-  pub is : refusal ≡ Capacity (min (way_added item way).end 18446744073709551615) way.capacity
+  pub is : refusal ≡ Capacity (min (way_added item way).end most_u64) way.capacity
+
+-- ---- what is asked
+
+-- What a command asks that adds an item, the same over all disks.
+pub record AskedToAdd : Type 1 where
+  -- what it may add, over any disk
+  pub makes : Addition → Type 0
+  -- what it decides of bytes that have a way: an addition, or a refusal
+  pub decides : List ℕ → Way → Result Addition Refusal → Type 0
+  -- the refusals that it may have beside those of every such command: that no shelf stands there, that there is no room
+  pub refuses : Refusal → Type 0
 
 -- ---- what is decided
 
--- What a command decides of bytes that have a way: an addition, or a refusal. It is the same over all disks.
-module _ (decides : List ℕ → Way → Result Addition Refusal → Type 0) where
+module _ (asked : AskedToAdd) where
   -- the bytes are of a shelf to which this is added
   pub record MayAdd (bytes : List ℕ) (addition : Addition) : Type 0 where
     pub way : Way
     pub is_way : IsWay bytes way
-    pub decided : decides bytes way (Ok addition)
+    pub decided : asked.decides bytes way (Ok addition)
     pub fits : Fits addition.item way
 
   -- a refusal over bytes of this way: it is decided, or there is no room for what is
   abbrev pub IsRefusedOnWay : List ℕ → Way → Refusal → Type 0
   IsRefusedOnWay bytes way refusal =
-      decides bytes way (Err refusal)
-      ⊎ ((addition : Addition) × decides bytes way (Ok addition) × IsFullFor addition.item way refusal)
+      asked.decides bytes way (Err refusal)
+      ⊎ ((addition : Addition) × asked.decides bytes way (Ok addition) × IsFullFor addition.item way refusal)
 
   -- a refusal over bytes: no shelf stands there, or it is one of their way
   abbrev pub IsAddingRefused : List ℕ → Refusal → Type 0
@@ -69,17 +82,27 @@ module _ (decides : List ℕ → Way → Result Addition Refusal → Type 0) whe
   HasWayOrOneMore bytes way c =
       IsWay c way ⊎ ((addition : Addition) × MayAdd bytes addition × IsWay c (way_added addition.item way))
 
+  -- They are those of this way, or nothing of them changes before the last gate and after the end with the item that is
+  -- added; between the two stands the closed gate, or an open one, the item and a closed gate.
+  abbrev pub AreSameOrOneMore : List ℕ → Way → List ℕ → Type 0
+  AreSameOrOneMore bytes way c =
+      (c ≡ bytes)
+      ⊎ ((addition : Addition) × MayAdd bytes addition
+      × StaysOutside (way.end - 1) (way_added addition.item way).end bytes c
+      × WithOrWithout (take (way.end - 1) bytes) (item_bytes addition.item) c)
+
 -- ---- causes
 
 -- the causes that it may have, over any disk
-abbrev pub MayEndAdding : Cause → Type 0
-MayEndAdding Done = Unit {0}
-MayEndAdding (Failed Disk) = Unit {0}
-MayEndAdding (Failed Output) = Unit {0}
-MayEndAdding NoMemory = Unit {0}
-MayEndAdding (Refused (NotEmpty size)) = ⊥
-MayEndAdding (Refused refusal) = Unit {0}
-MayEndAdding _ = ⊥
+abbrev pub MayEndAdding : AskedToAdd → Cause → Type 0
+MayEndAdding asked Done = Unit {0}
+MayEndAdding asked (Failed Disk) = Unit {0}
+MayEndAdding asked (Failed Output) = Unit {0}
+MayEndAdding asked NoMemory = Unit {0}
+MayEndAdding asked (Refused (NotAShelf at)) = Unit {0}
+MayEndAdding asked (Refused (Capacity needed capacity)) = Unit {0}
+MayEndAdding asked (Refused refusal) = asked.refuses refusal
+MayEndAdding asked _ = ⊥
 
 -- a cause that comes only where the item was added
 abbrev pub IsAdded : Cause → Type 0
@@ -89,18 +112,30 @@ IsAdded _ = ⊥
 
 -- ---- a run
 
-module _ {D O : Type 0} (world : OutletsOf D O) (makes : Addition → Type 0)
-    (decides : List ℕ → Way → Result Addition Refusal → Type 0) where
+module _ {D O : Type 0} (world : OutletsOf D O) (asked : AskedToAdd) where
+  -- Over a disk that has this way, whatever its items hold: it has the item at its end, with nothing pending. The bytes
+  -- before the last gate and after the new end stay, and between them stand an open gate, the item and a closed gate.
+  pub record EndsWith (item : Item) (way : Way) (d d' : D) : Type 0 where
+    pub has : IsWay (world.disk.contents d') (way_added item way)
+    pub outside : StaysOutside (way.end - 1) (way_added item way).end (world.disk.contents d) (world.disk.contents d')
+    pub stands : take (2 + extent_of (head_of_item item)) (drop (way.end - 1) (world.disk.contents d'))
+        ≡ 1 ∷ (item_bytes item ++ 0 ∷ [])
+    pub durable : NothingPending world.disk d'
+
+  -- or it may have it: the bytes before the last gate and after the new end stay
+  pub record MayEndWith (item : Item) (way : Way) (d d' : D) : Type 0 where
+    pub has : HasEitherWay way item (world.disk.contents d')
+    pub outside : StaysOutside (way.end - 1) (way_added item way).end (world.disk.contents d) (world.disk.contents d')
+
   -- the item was added, and its text was put in this manner
   pub record AddsItem (IsPut : List ℕ → O → O → Type 0) (w w' : Outlets D O) : Type 0 where
     pub addition : Addition
-    pub made : makes addition
-    pub decided : world.disk.tells w.disk → MayAdd decides (world.disk.contents w.disk) addition
+    pub made : asked.makes addition
+    pub decided : world.disk.tells w.disk → MayAdd asked (world.disk.contents w.disk) addition
     pub put : IsPut addition.text w.out w'.out
-    -- over every disk that has a way, whatever its items hold, and over a shelf of these items
+    -- over every disk that has a way, and over a shelf of these items
     pub way : (way : Way) → world.disk.tells w.disk → IsWay (world.disk.contents w.disk) way
-        → IsWay (world.disk.contents w'.disk) (way_added addition.item way)
-        × Only (world.disk.contents w'.disk) (world.disk.may_leave w'.disk)
+        → EndsWith addition.item way w.disk w'.disk
     pub stands : (capacity : ℕ) (items : List Item) → world.disk.tells w.disk
         → IsDurable world.disk capacity items w.disk
         → IsDurable world.disk capacity (items ++ addition.item ∷ []) w'.disk
@@ -108,10 +143,10 @@ module _ {D O : Type 0} (world : OutletsOf D O) (makes : Addition → Type 0)
   -- the disk failed while the item was added: it is there, or it isn't
   pub record MayHaveAdded (w w' : Outlets D O) : Type 0 where
     pub addition : Addition
-    pub made : makes addition
-    pub decided : world.disk.tells w.disk → MayAdd decides (world.disk.contents w.disk) addition
+    pub made : asked.makes addition
+    pub decided : world.disk.tells w.disk → MayAdd asked (world.disk.contents w.disk) addition
     pub way : (way : Way) → world.disk.tells w.disk → IsWay (world.disk.contents w.disk) way
-        → HasEitherWay way addition.item (world.disk.contents w'.disk)
+        → MayEndWith addition.item way w.disk w'.disk
     pub stands : (capacity : ℕ) (items : List Item) → world.disk.tells w.disk
         → IsDurable world.disk capacity items w.disk
         → StandsForEither capacity items addition.item (world.disk.contents w'.disk)
@@ -132,7 +167,7 @@ module _ {D O : Type 0} (world : OutletsOf D O) (makes : Addition → Type 0)
   LeavesAdding _ w w' = ⊥
 
   pub record RunsAdding (cause : Cause) (w w' : Outlets D O) : Type 0 where
-    pub may : MayEndAdding cause
+    pub may : MayEndAdding asked cause
     pub counted : Counted cause (outlet_counts world w) (outlet_counts world w')
     pub told : world.disk.tells w.disk → world.disk.tells w'.disk
     pub told_by_out : world.out.tells w.out → world.out.tells w'.out
@@ -140,18 +175,21 @@ module _ {D O : Type 0} (world : OutletsOf D O) (makes : Addition → Type 0)
     -- a refusal comes exactly where it stands, unless the disk failed or memory was refused; the item is added exactly
     -- where none stands
     pub refused : (refusal : Refusal) → cause ≡ Refused refusal → world.disk.tells w.disk
-        → IsAddingRefused decides (world.disk.contents w.disk) refusal
+        → IsAddingRefused asked (world.disk.contents w.disk) refusal
     pub refuses : (refusal : Refusal) → world.disk.tells w.disk
-        → IsAddingRefused decides (world.disk.contents w.disk) refusal
+        → IsAddingRefused asked (world.disk.contents w.disk) refusal
         → (cause ≡ Refused refusal) ⊎ IsEarlier cause
     pub adds : (addition : Addition) → world.disk.tells w.disk
-        → MayAdd decides (world.disk.contents w.disk) addition → IsAdded cause ⊎ IsEarlier cause
-    -- with nothing pending, what a stop at any moment leaves
+        → MayAdd asked (world.disk.contents w.disk) addition → IsAdded cause ⊎ IsEarlier cause
+    -- with nothing pending, what a stop at any moment leaves: over every disk that has a way, as ways and as bytes, and
+    -- over a shelf of these items
     pub way_any_moment : (way : Way) → world.disk.tells w.disk → IsWay (world.disk.contents w.disk) way
-        → Only (world.disk.contents w.disk) (world.disk.may_leave w.disk)
-        → LeavesOnly world.disk.moment world.disk.left_since w.disk w'.disk
-        (HasWayOrOneMore decides (world.disk.contents w.disk) way)
+        → NothingPending world.disk w.disk
+        → EachImageSince world.disk w.disk w'.disk (HasWayOrOneMore asked (world.disk.contents w.disk) way)
+    pub bytes_any_moment : (way : Way) → world.disk.tells w.disk → IsWay (world.disk.contents w.disk) way
+        → NothingPending world.disk w.disk
+        → EachImageSince world.disk w.disk w'.disk (AreSameOrOneMore asked (world.disk.contents w.disk) way)
     pub any_moment : (capacity : ℕ) (items : List Item) → world.disk.tells w.disk
         → IsDurable world.disk capacity items w.disk
-        → LeavesOnly world.disk.moment world.disk.left_since w.disk w'.disk
-        (StandsForOneMore decides (world.disk.contents w.disk) capacity items)
+        → EachImageSince world.disk w.disk w'.disk
+        (StandsForOneMore asked (world.disk.contents w.disk) capacity items)

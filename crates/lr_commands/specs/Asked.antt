@@ -135,7 +135,7 @@ IsRefusedFor asked bytes refusal = (answer : Answer) × IsAnswer asked bytes ans
 
 -- ---- what is put before an answer is whole
 
--- the same entries, and nothing after them
+-- what is asked of the entries alone, and nothing after them
 abbrev pub without_last : Asked → Asked
 without_last asked = record asked { last = λ way read. Ok []; tells = λ read. None }
 

@@ -32,7 +32,7 @@ pub record HasGathered {G : Type 0} (asked : Asked) (gathers : G → List Seen �
   pub last_is : asked.last way read ≡ Ok last
   pub is : put ≡ concat texts ++ last
 
--- the same of the shelf that these bytes hold
+-- what was gathered of the entries of the shelf that these bytes hold
 pub record GathersOver {G : Type 0} (asked : Asked) (gathers : G → List Seen → Type 0)
     (bytes put : List ℕ) : Type 0 where
   pub way : Way

@@ -10,6 +10,7 @@ use Rattle.lr_rice_coder.specs.Refusals.{HasRepackOutcome, HasRepackFault}
 use Rattle.lr_rice_coder.specs.declared.fault.RepackFault.{RepackFault}
 use Rattle.lr_rice_coder.specs.declared.fault.RepackFault.TheVariants as fault
 use Rattle.lr_catalog.specs.Repacks.{repack_line}
+use Rattle.lr_image.specs.declared.fault.ImageFault.{ImageFault}
 use Rattle.lr_refusals.specs.Errors.{image_fault}
 use Rattle.lr_causes.specs.declared.cause.Cause.{Cause}
 use Rattle.lr_causes.specs.declared.cause.Cause.TheVariants.{NoMemory, Refused}
@@ -17,7 +18,7 @@ use Rattle.lr_causes.specs.declared.cause.Refusal.{Refusal}
 use Rattle.lr_causes.specs.declared.cause.Refusal.TheVariants.{NotAShelf, NoSuchFile, BadChecksum, Discarded}
 use Rattle.lr_causes.specs.declared.cause.Refusal.TheVariants.{CannotExport, CannotRepack}
 use Rattle.lr_causes.specs.declared.fault.CodingFault.TheVariants.{Depth, Line, Header, File as LongFile}
-use Rattle.lr_commands.specs.Adding.{Addition}
+use Rattle.lr_commands.specs.Adding.{Addition, AskedToAdd}
 use Rattle.lr_commands.specs.declared.repack.Repacked.{Repacked}
 use Rattle.lr_commands.specs.Asked.{entry_at}
 
@@ -76,6 +77,18 @@ module _ (number block : ℕ) where
     pub new : File
     pub repacked : IsRepacked stored.file block new
     pub is : addition ≡ repack_addition number way stored new
+
+  -- its refusals, over any disk
+  abbrev pub RefusesRepack : Refusal → Type 0
+  RefusesRepack (NoSuchFile count) = count ≤ number
+  RefusesRepack Discarded = Unit {0}
+  RefusesRepack BadChecksum = Unit {0}
+  RefusesRepack (CannotExport fault) = (cause : ImageFault) × (image_fault cause ≡ Some fault)
+  RefusesRepack (CannotRepack fault) = Unit {0}
+  RefusesRepack _ = ⊥
+
+  abbrev pub repack_asked : AskedToAdd
+  repack_asked = record { makes = MakesRepacked; decides = DecidesRepack; refuses = RefusesRepack }
 
 -- ---- a file that was read
 

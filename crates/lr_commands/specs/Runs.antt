@@ -1,5 +1,5 @@
 -- What a command that reads entries does to `out` and to the disk, for each cause.
-use Rattle.std.specs.Prelude.{◌≡◌, ◌⊎◌, ◌<◌, ◌+◌, ℕ, Option, Some, None, Err, List, ◌++◌, length}
+use Rattle.std.specs.Prelude.{◌≡◌, ◌⊎◌, ◌<◌, ◌+◌, ℕ, Option, Some, None, Ok, Err, List, ◌++◌, length}
 use Rattle.lr_bits.specs.Faults.{Rose}
 use Rattle.lr_io.specs.declared.sink.Sink.{Ghosts as SinkOf}
 use Rattle.lr_io.specs.Pieces.{PutsPart}
@@ -35,10 +35,18 @@ pub data MayRefuse (asked : Asked) (refusal : Refusal) : Type 0 where
       → MayRefuse asked refusal
   at_end : (way : Way) (read : List Seen) → asked.last way read ≡ Err refusal → MayRefuse asked refusal
 
+-- entries were seen for which a last text stands, and this is told of them
+pub record IsDoneWith (asked : Asked) (told : Option Note) : Type 0 where
+  pub way : Way
+  pub read : List Seen
+  pub text : List ℕ
+  pub last : asked.last way read ≡ Ok text
+  pub tells : asked.tells read ≡ told
+
 -- the causes that it may have, over any disk
 abbrev pub MayCause : Asked → Cause → Type 0
-MayCause asked Done = Unit {0}
-MayCause asked (DoneWith note) = (read : List Seen) × (asked.tells read ≡ Some note)
+MayCause asked Done = IsDoneWith asked None
+MayCause asked (DoneWith note) = IsDoneWith asked (Some note)
 MayCause asked (Failed Disk) = Unit {0}
 MayCause asked (Failed Output) = Unit {0}
 MayCause asked NoMemory = Unit {0}

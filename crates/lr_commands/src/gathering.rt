@@ -1,3 +1,5 @@
+//! What a command over entries has put and noted so far.
+
 use lr_segment::Assembly;
 
 /// What `assemble` keeps of the segments so far: their assembly, if there is one, how many were added, and how many

@@ -5,8 +5,8 @@
 //! follows from that by one definition, `RunsOver` of `specs/Runs`, and one loop, `run_entries`, does it. A command
 //! that reads whole files implements `ReadsFiles` and is run by `Files`, which reads the images; one that looks at the
 //! entries in another way implements `ReadsEntries`. A command that adds an item says what it decides of the bytes, an
-//! `Addition` or a refusal. What it does to `out` and to the disk follows from that by `RunsAdding` of `specs/Adding`.
-//! So it is for `repack`; what `discard` says of itself, `RunsDiscard`, is drawn from it.
+//! `Addition` or a refusal, and which refusals it may have: `AskedToAdd`. What it does to `out` and to the disk follows
+//! from that by `RunsAdding` of `specs/Adding`, for `repack` and for `discard` alike.
 #![tactic(auto)]
 
 pub mod assemble;

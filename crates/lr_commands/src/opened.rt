@@ -1,3 +1,5 @@
+//! A shelf that was loaded, and what stands at one of its entries.
+
 use lr_image::{Image, ImageFault};
 use lr_shelf::Stored;
 

@@ -3,8 +3,8 @@ ghost use Rattle.std.specs.Prelude.{◌≡◌, IfErr, IfOk};
 ghost use Rattle.lr_rice_coder.specs.Coded.{IsBlock};
 ghost use Rattle.lr_causes.specs.Outside.{outlets, outlets_of};
 ghost use Rattle.lr_commands.specs.Adding.{RunsAdding};
-ghost use Rattle.lr_commands.specs.Repack.{DecidesRepack, IsNotRepacked, IsRepackOf, MakesRepacked, origin_kept};
-ghost use Rattle.lr_commands.specs.Repack.{refusal_cause, repack_refusal};
+ghost use Rattle.lr_commands.specs.Repack.{IsNotRepacked, IsRepackOf, origin_kept};
+ghost use Rattle.lr_commands.specs.Repack.{refusal_cause, repack_asked, repack_refusal};
 
 use lr_bits::{Bytes, Origin, Placed};
 use lr_catalog::repack_line;
@@ -87,8 +87,8 @@ pub fn repack<D: Disk, O: Sink>(
     out: &mut O,
 ) -> Cause
     requires { IsBlock block }
-    ensures { RunsAdding (outlets_of D.Disk O.Sink) (MakesRepacked number block)
-        (DecidesRepack number block) result (outlets disk.old out.old) (outlets disk.new out.new) }
+    ensures { RunsAdding (outlets_of D.Disk O.Sink) (repack_asked number block) result
+        (outlets disk.old out.old) (outlets disk.new out.new) }
 {
     let mut shelf = match Shelf::load(alloc, disk) {
         Ok(shelf) => shelf,

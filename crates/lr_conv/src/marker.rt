@@ -20,7 +20,7 @@ pub const MARKER_TAIL: [bool; TAIL_SYMBOLS] = [
     true, false, false, true, true, true, true, true, false,
 ];
 
-/// The same symbols where the second of each pair isn't complemented.
+/// The tail where the second symbol of each pair isn't complemented.
 const PLAIN_TAIL: [bool; TAIL_SYMBOLS] = [
     true, true, false, true, false, true, false, false, true, false, false, true, true, true,
     false, false, false, false, true, false, false, true, false, false, true, true, true, true,
@@ -28,7 +28,7 @@ const PLAIN_TAIL: [bool; TAIL_SYMBOLS] = [
     false, false, false, true, true, false, true, false, true, true,
 ];
 
-/// The same symbols where a 1 is a change of level, after a level 0.
+/// The tail where a 1 is a change of level, after a level 0.
 const MARKS_TAIL: [bool; TAIL_SYMBOLS] = [
     false, true, false, false, false, true, false, true, true, true, true, false, false, true,
     false, true, false, true, true, true, true, false, true, false, false, true, true, false,
@@ -36,7 +36,7 @@ const MARKS_TAIL: [bool; TAIL_SYMBOLS] = [
     false, true, false, false, true, false, false, false, true, true,
 ];
 
-/// The same, where the second symbol isn't complemented either.
+/// The tail where a 1 is a change of level, and the second symbol of each pair isn't complemented.
 const PLAIN_MARKS_TAIL: [bool; TAIL_SYMBOLS] = [
     false, false, false, true, false, false, false, false, true, false, true, true, false, false,
     false, false, false, false, true, false, true, true, true, true, false, false, true, true,

@@ -3,6 +3,7 @@ use Rattle.std.proofs.Common.{◌≡◌, inl, inr, ⊎_elim, ℕ, List, refl, �
 use Rattle.lr_disk.specs.Disk.{Elapses, LeavesOnly, SameImages}
 use Rattle.lr_disk.specs.Reads.{IsUnwritten}
 use Rattle.lr_disk.specs.declared.disk.Disk.{Ghosts as DiskOf}
+use Rattle.lr_disk.specs.Pending.{EachImageSince}
 
 module _ {D : Type 0} (moment : D → ℕ) (left_since : D → ℕ → List ℕ → Type 0) where
   -- what is left has a weaker property too
@@ -31,7 +32,7 @@ module _ {D : Type 0} (disk : DiskOf D)
     (only_now : (d : D) (c : List ℕ) → disk.tells d → disk.left_since d (disk.moment d) c → disk.may_leave d c) where
   -- no call: what a crash may leave now
   pub stays : (d : D) (P : List ℕ → Type 0) → disk.tells d → ((c : List ℕ) → disk.may_leave d c → P c)
-      → LeavesOnly disk.moment disk.left_since d d P
+      → EachImageSince disk d d P
   stays d P told is = record {
     later = omega arith;
     each = λ c left. is c (only_now d c told left);
@@ -43,7 +44,7 @@ module _ {D : Type 0} (disk : DiskOf D)
   pub one_call : (old new : D) (P : List ℕ → Type 0) → disk.tells old → ((c : List ℕ) → disk.may_leave old c → P c)
       → ((c : List ℕ) → disk.may_leave new c → P c)
       → Elapses (disk.moment old) (disk.moment new) (disk.left_since old) (disk.left_since new) (disk.may_leave new)
-      → LeavesOnly disk.moment disk.left_since old new P
+      → EachImageSince disk old new P
   one_call old new P told first then time = record {
     later = time.later;
     each = λ c left.

@@ -2,15 +2,16 @@
 use Rattle.std.specs.Prelude.{◌≡◌, Result}
 use Rattle.lr_bits.specs.Faults.{HasCause}
 use Rattle.lr_bits.specs.declared.refusals.Failed.{Failed}
-use Rattle.lr_disk.specs.Disk.{KeepsImages, LeavesOnly, NoOther}
+use Rattle.lr_disk.specs.Disk.{KeepsImages, NoOther}
 use Rattle.lr_disk.specs.declared.disk.Disk.{Ghosts as DiskOf}
+use Rattle.lr_disk.specs.Pending.{EachImageSince}
 
 module _ {D : Type 0} (disk : DiskOf D) where
   -- Nothing was written: no byte changed, and a crash leaves nothing that it might not have left before.
   pub record IsUnwritten (d d' : D) : Type 0 where
     pub contents : disk.contents d' ≡ disk.contents d
     pub images : NoOther (disk.may_leave d) (disk.may_leave d')
-    pub any_moment : LeavesOnly disk.moment disk.left_since d d' (disk.may_leave d)
+    pub any_moment : EachImageSince disk d d' (disk.may_leave d)
 
   -- what every call keeps, whatever it answers
   pub record IsCall {T : Type 0} (d d' : D) (result : Result T Failed) : Type 0 where

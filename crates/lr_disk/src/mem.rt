@@ -1,6 +1,7 @@
 //! A disk in memory, for tests: with a room, a number of calls, calls that fail, and what a stop inside a call leaves.
-ghost use Rattle.std.specs.Prelude.{◌≡◌, ◌≤◌, max, length, vec_len, vec_capacity, IfOk};
+ghost use Rattle.std.specs.Prelude.{◌≡◌, ◌≤◌, max, length, vec_len, vec_capacity, IfOk, ◌^◌};
 ghost use Rattle.lr_bits.specs.Faults.{Rose, OneMore};
+ghost use Rattle.lr_bits.specs.Sizes.{most_u64};
 ghost use Rattle.lr_disk.specs.Mem.{span};
 ghost use Rattle.lr_disk.specs.Ranges.{ImagesKeepTheRest, KeepersAreImages};
 
@@ -113,7 +114,7 @@ impl MemDisk {
 
     /// States that the call of this number, counted from 0 from now on, fails once, in the place of one stated before.
     pub fn fail_at(&mut self, call: u64)
-        ensures { States (Some (min (calls_made self.old + call) 18446744073709551615)) self.old self.new }
+        ensures { States (Some (min (calls_made self.old + call) most_u64)) self.old self.new }
     {
         let made = self.past.calls.len() as u64;
         self.failing = Some(made.saturating_add(call));
@@ -276,7 +277,7 @@ impl Disk for MemDisk {
     /// bytes written so far, past the room. Where it fails nothing was written. A gap is filled with zeros.
     fn write_at(&mut self, at: u64, bytes: &[u8]) -> Result<(), Failed>
         requires some { 0 < length bytes.now }
-        requires low { at + length bytes.now ≤ 4611686018427387904 }
+        requires low { at + length bytes.now ≤ 2 ^ 62 }
         ensures cause { HasCause (faults_of self.old) (faults_of self.new) result }
         ensures errors { FailsAtOnce (faults_of self.old) (faults_of self.new) result }
         ensures written { OnOk result (Written at bytes.now (held_by self.old) (held_by self.new)) }

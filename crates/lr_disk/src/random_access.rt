@@ -1,6 +1,7 @@
 //! Files that are read and written at places, as the system's open files are: what a disk needs of one.
-ghost use Rattle.std.specs.Prelude.{◌≡◌, ◌⊎◌, ◌<◌, ◌≤◌, ◌+◌, List, ℕ, min, length, take, IfOk, OnOk, OnErr};
+ghost use Rattle.std.specs.Prelude.{◌≡◌, ◌⊎◌, ◌<◌, ◌≤◌, ◌+◌, List, ℕ, min, length, take, IfOk, OnOk, OnErr, ◌^◌};
 ghost use Rattle.lr_bits.specs.Faults.{FailsAtOnce, WritesAtOnce};
+ghost use Rattle.lr_bits.specs.Sizes.{most_u64};
 ghost use Rattle.lr_disk.specs.Disk.{
   Written,
   Torn,
@@ -61,7 +62,7 @@ pub trait RandomAccessFile {
         ensures errors { tells self.old → FailsAtOnce (errors self.old) (errors self.new) result }
         ensures bytes { tells self.old → IfOk result (λ n. take n into.new ≡ bytes_at at n (contents self.old)) }
         ensures ended { tells self.old → IfOk result (λ n. n ≡ 0 → length (contents self.old) ≤ at) }
-        ensures low { tells self.old → IfOk result (λ n. at + n ≤ 18446744073709551615) }
+        ensures low { tells self.old → IfOk result (λ n. at + n ≤ most_u64) }
         ensures contents { tells self.old → contents self.new ≡ contents self.old }
         ensures crash { tells self.old → SameImages (may_leave self.old) (may_leave self.new) }
         ensures time { tells self.old → Elapses (moment self.old) (moment self.new)
@@ -71,7 +72,7 @@ pub trait RandomAccessFile {
     /// hold any bytes after a crash, and what a crash might have left before it may leave still.
     fn write_at(&mut self, at: u64, bytes: &[u8]) -> io::Result<usize>
         requires some { 0 < length bytes.now }
-        requires low { at + length bytes.now ≤ 4611686018427387904 }
+        requires low { at + length bytes.now ≤ 2 ^ 62 }
         ensures within { IfOk result (λ n. n ≤ length bytes.now) }
         ensures told { tells self.old → tells self.new }
         ensures untold { tells self.new → tells self.old }

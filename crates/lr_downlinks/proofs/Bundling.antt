@@ -1,5 +1,5 @@
 -- The bytes of a bundle have one reading.
-use Rattle.std.proofs.Common.{◌≡◌, ◌⊎◌, inl, inr, ◌<◌, ◌≤◌, ◌+◌, ◌-◌, ℕ, zero, suc, Some, None, Result, Ok, Err}
+use Rattle.std.proofs.Common.{◌≡◌, ◌⊎◌, inl, inr, ◌<◌, ◌≤◌, ◌+◌, ◌-◌, ℕ, zero, suc, Some, None, Result, Ok, Err, ◌^◌}
 use Rattle.std.proofs.Common.{List, [], ◌∷◌, ◌++◌, length, take, drop, replicate, All, refl, sym, ap, ◌∙◌, subst}
 use Rattle.std.proofs.Common.{arith, append_assoc, length-append, length-drop}
 use Rattle.std.specs.Prelude.{slice_get, slice_range, slice_index, slice_index_or, slice_set}
@@ -35,9 +35,10 @@ use Rattle.lr_downlinks.specs.Readings.{AreEnds, AreFound, BreaksOff, IsEnd, IsC
 use Rattle.lr_downlinks.specs.Readings.{streams_between}
 use Rattle.lr_downlinks.specs.declared.fault.BundleFault.{BundleFault}
 use Rattle.lr_downlinks.specs.declared.fault.BundleFault.TheVariants.{Ended, Count, Rest}
+use Rattle.lr_downlinks.specs.declared.sizes.TheConstants.{MOST_BUNDLE_BYTES}
 
 abbrev IsShort : List ℕ → Type 0
-IsShort stream = length stream < 18446744073709551616
+IsShort stream = length stream < 2 ^ 64
 
 -- ---- one reading
 
@@ -239,7 +240,7 @@ parts_there bytes from (end ∷ ends) fit found =
     ∙ sym (take-add (end - from) (last - end) x)
     ∙ ap (λ (k : ℕ). take k x) (omega (arith, found.0.after, found_last bytes end ends found.1))
 
-shorts : (bytes : List ℕ) (from : ℕ) (ends : List ℕ) → AreFound bytes from ends → length bytes ≤ 268435456
+shorts : (bytes : List ℕ) (from : ℕ) (ends : List ℕ) → AreFound bytes from ends → length bytes ≤ MOST_BUNDLE_BYTES
     → All IsShort (streams_between bytes from ends)
 shorts bytes from [] found few = All-nil IsShort
 shorts bytes from (end ∷ ends) found few =
@@ -264,7 +265,7 @@ front_is count rest ends fit found =
 
 -- a bundle stands there
 pub bundle_there : (count : ℕ) (rest : List ℕ) (ends : List ℕ) → AreBytes (count ∷ rest)
-    → length (count ∷ rest) ≤ 268435456 → 1 ≤ count → count ≤ 16 → length ends ≡ count
+    → length (count ∷ rest) ≤ MOST_BUNDLE_BYTES → 1 ≤ count → count ≤ 16 → length ends ≡ count
     → AreFound (count ∷ rest) 1 ends
     → IsBundle (take (last_end 1 ends) (count ∷ rest)) (streams_between (count ∷ rest) 1 ends)
 bundle_there count rest ends fit few some most size found =
@@ -356,7 +357,7 @@ goes_on x fit less = by_length (cases_lt (length x) 8) where
   by_length (inr long) = goes_long x fit long less
 
 -- a bundle begins there that isn't all there
-pub begins : (count : ℕ) (tail : List ℕ) → AreBytes (count ∷ tail) → length (count ∷ tail) ≤ 268435456
+pub begins : (count : ℕ) (tail : List ℕ) → AreBytes (count ∷ tail) → length (count ∷ tail) ≤ MOST_BUNDLE_BYTES
     → count ≤ 16 → BreaksOff (count ∷ tail) count → BeginsBundle (count ∷ tail)
 begins count tail fit few most off =
     let bytes = count ∷ tail in
@@ -450,19 +451,19 @@ module _ (bytes : List ℕ) (count : ℕ) (first : slice_get bytes 0 ≡ Some co
   pub bad_count : ((1 ≤ count) × (count ≤ 16) → ⊥) → HasBadCount bytes count
   bad_count bad = record { rest = drop 1 bytes; first = front_of bytes count first; bad = bad }
 
-  module _ (fit : AreBytes bytes) (few : length bytes ≤ 268435456) (some : 1 ≤ count) (most : count ≤ 16)
+  module _ (fit : AreBytes bytes) (few : length bytes ≤ MOST_BUNDLE_BYTES) (some : 1 ≤ count) (most : count ≤ 16)
       (ends : List ℕ) (size : length ends ≡ count) where
     -- bytes that end early
     pub ended_early : BreaksOff bytes (length ends) → BeginsBundle bytes
     ended_early off =
-        subst (λ (l : List ℕ). AreBytes l → length l ≤ 268435456 → BreaksOff l count → BeginsBundle l)
+        subst (λ (l : List ℕ). AreBytes l → length l ≤ MOST_BUNDLE_BYTES → BreaksOff l count → BeginsBundle l)
         (sym (front_of bytes count first))
         (λ fit few off. begins count (drop 1 bytes) fit few most off) fit few
         (subst (λ (n : ℕ). BreaksOff bytes n) size off)
 
     front_bundle : AreFound bytes 1 ends → IsBundle (take (last_end 1 ends) bytes) (streams_between bytes 1 ends)
     front_bundle found =
-        subst (λ (l : List ℕ). AreBytes l → length l ≤ 268435456 → AreFound l 1 ends
+        subst (λ (l : List ℕ). AreBytes l → length l ≤ MOST_BUNDLE_BYTES → AreFound l 1 ends
         → IsBundle (take (last_end 1 ends) l) (streams_between l 1 ends)) (sym (front_of bytes count first))
         (λ fit few found. bundle_there count (drop 1 bytes) ends fit few some most size found) fit few found
 

@@ -1,5 +1,5 @@
 -- A stream is led to its files, window by window.
-use Rattle.std.proofs.Common.{◌≡◌, ◌⊎◌, inl, inr, Some, None, ◌<◌, ◌≤◌, ◌+◌, ◌-◌, ℕ, ℤ, Bool, true, false, not}
+use Rattle.std.proofs.Common.{◌≡◌, ◌⊎◌, inl, inr, Some, None, ◌<◌, ◌≤◌, ◌+◌, ◌-◌, ℕ, ℤ, Bool, true, false, not, ◌^◌}
 use Rattle.std.proofs.Common.{List, [], ◌∷◌, ◌++◌, length, map, take, drop, refl, sym, ap, ◌∙◌, subst, arith}
 use Rattle.std.proofs.Common.{length-append, length-drop}
 use Rattle.std.specs.Prelude.{count_by, cond}
@@ -14,6 +14,7 @@ use Rattle.lr_conv.specs.declared.line.LineCode.{LineCode}
 use Rattle.lr_frame.proofs.Given.{all_outcomes, outcomes_stay}
 use Rattle.lr_frame.specs.Outcomes.{outcome_in, outcome_of_window, outcomes_of_symbols}
 use Rattle.lr_bits.specs.Outcomes.{is_restored}
+use Rattle.lr_bits.specs.declared.sizes.TheConstants.{FRAME_SYMBOLS}
 use Rattle.lr_layers.specs.Layers.{numbers_of, Numbers}
 use Rattle.lr_layers.specs.Origins.{placed_of_outcomes, placed_packets}
 use Rattle.lr_layers.specs.Standing.{AddsFiles, Kept, StandsFor as LayersStandFor}
@@ -34,6 +35,7 @@ use Rattle.lr_downlinks.specs.Decoding.{
   steps_left,
 }
 use Rattle.lr_downlinks.specs.Streams.{files_of_stream}
+use Rattle.lr_downlinks.specs.declared.sizes.TheConstants.{MOST_STREAM_SYMBOLS}
 
 -- ---- counts
 
@@ -82,7 +84,7 @@ module _ (line : LineCode) (stream : List ℕ) where
     }
 
     pub window_shown : (seen : WindowView) → GivesWindow lock later seen (symbols_of (take now stream)) given
-        → length later.kept + 16384 ≤ length lock.kept
+        → length later.kept + FRAME_SYMBOLS ≤ length lock.kept
         → Shows line stream fed given later seen (Some now)
     window_shown seen gives shorter = (
       gives.frame,
@@ -242,8 +244,8 @@ module _ (line : LineCode) (stream : List ℕ) where
 
   -- how many outcomes the layers have
   pub outcomes_few : (fed : ℕ) (lock : LockState) (layers : Kept) (files : List Placed)
-      → IsDecoded line stream fed lock layers files → length stream ≤ 1099511627776
-      → layers.numbers.restored + layers.numbers.lost < 281474976710656
+      → IsDecoded line stream fed lock layers files → length stream ≤ MOST_STREAM_SYMBOLS
+      → layers.numbers.restored + layers.numbers.lost < 2 ^ 48
   unfolding outcomes_given
   outcomes_few fed lock layers files is few =
       let outcomes = map (outcome_in line (symbols_of (take fed stream))) is.given in

@@ -4,8 +4,8 @@ use Rattle.std.proofs.Common.{length, take, drop, refl, sym, ap, ◌∙◌, subs
 use Rattle.std.proofs.lemmas.List.{drop-drop, take-take}
 use Rattle.lr_bits.specs.Faults.{Rose}
 use Rattle.lr_bits.specs.declared.placed.Placed.{Placed}
-use Rattle.lr_disk.specs.Disk.{LeavesOnly, Only}
 use Rattle.lr_disk.specs.declared.disk.Disk.{Ghosts as DiskOf}
+use Rattle.lr_disk.specs.Pending.{EachImageSince, NothingPending}
 use Rattle.lr_disk.proofs.Moments.{joined, stays, weaker}
 use Rattle.lr_shelf_format.specs.Items.{head_of_item}
 use Rattle.lr_shelf_format.specs.Way.{IsWay, Way, way_with}
@@ -120,8 +120,8 @@ module _ {D : Type 0} (disk : DiskOf D) (shelf : Shelf) (d : D) (files : List Pl
   keeps_way t keeps = subst (IsWay (disk.contents mid)) (sym way_is) (so_far.way t keeps)
 
   module _ {A : Type 0} (result : Result A ShelfError) (adds : Adds disk (item_for placed) old new mid d' result) where
-    outside_moments : disk.tells d → Only (disk.contents d) (disk.may_leave d)
-        → LeavesOnly disk.moment disk.left_since d d'
+    outside_moments : disk.tells d → NothingPending disk d
+        → EachImageSince disk d d'
         (StaysOutside (last_gate (kept_by shelf)) (way_with_files (files ++ placed ∷ []) (kept_by shelf).way).end
         (disk.contents d))
     outside_moments t only =

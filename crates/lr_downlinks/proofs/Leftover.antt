@@ -29,6 +29,7 @@ use Rattle.std.specs.Prelude.{slice_get, OnOk, OnErr, IfErr}
 use Rattle.std.proofs.lemmas.Bool.{cases_eq}
 use Rattle.std.proofs.lemmas.Option.{slice_get_cases}
 use Rattle.lr_bits.specs.declared.placed.Placed.{Placed}
+use Rattle.lr_bits.specs.Sizes.{most_u64}
 use Rattle.lr_disk.specs.declared.disk.Disk.{Ghosts as DiskOf}
 use Rattle.lr_shelf_format.specs.Way.{Way}
 use Rattle.lr_shelf.specs.Adds.{new_end}
@@ -157,7 +158,7 @@ module _ {D : Type 0} (disk : DiskOf D) (start : Start) (downlink : ℕ) (old ne
               next = ap (λ (o : List ℕ). slice_get (files_in start downlink) (times_in_order downlink o)) same.order
                   ∙ some;
               over = omega (arith, refusal.1, most, end);
-              needs = refusal.2 ∙ ap (λ (n : ℕ). min n 18446744073709551615) end;
+              needs = refusal.2 ∙ ap (λ (n : ℕ). min n most_u64) end;
               of = refusal.3 ∙ most;
             }
 

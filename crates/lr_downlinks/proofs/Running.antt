@@ -1,5 +1,5 @@
 -- What a run leaves, from what the type of its book keeps.
-use Rattle.std.proofs.Common.{◌≡◌, ◌⊎◌, inl, inr, ◌<◌, ◌+◌, ℕ, zero, suc, Bool, true, false, Some, List, [], ◌∷◌}
+use Rattle.std.proofs.Common.{◌≡◌, ◌⊎◌, inl, inr, ◌<◌, ◌+◌, ℕ, zero, suc, Bool, true, false, Some, List, [], ◌∷◌, ◌^◌}
 use Rattle.std.proofs.Common.{◌++◌, length, take, map, refl, sym, ap, ◌∙◌, subst, arith}
 use Rattle.std.specs.Prelude.{slice_get, option_map}
 use Rattle.std.specs.Borrow.{GName}
@@ -195,7 +195,7 @@ module _ {D : Type 0} (disk : DiskOf D) (handed : Shelf → D → Type 0) (strea
           (sym (entry_count_is capacity items shelf s.on_disk.stands.proper s.kept)) (entry_by_end result ends)
 
     merges : (result : RunEnd) → EndsWith begun_as book result
-        → (fits : length (kept_by shelf).way.entries + length book.order < 18446744073709551616)
+        → (fits : length (kept_by shelf).way.entries + length book.order < 2 ^ 64)
         → MergesOver disk count files shelf d book.disk (record {
           base = length (kept_by shelf).way.entries;
           order = book.order;
@@ -223,7 +223,7 @@ module _ {D : Type 0} (disk : DiskOf D) (handed : Shelf → D → Type 0) (strea
       → BeginsRun disk start handed shelf name d → (name' : GName) (book : BookView D)
       → Keeps disk start handed name' book → (result : RunEnd) → EndsWith start book result
       → (base : ℕ) → base ≡ length (kept_by shelf).way.entries → (order : List ℕ) → order ≡ book.order
-      → (fits : base + length order < 18446744073709551616)
+      → (fits : base + length order < 2 ^ 64)
       → MergesOver disk (length streams) (files_of_downlink line streams) shelf d book.disk (record {
         base = base;
         order = order;
@@ -248,7 +248,7 @@ module _ {D : Type 0} (disk : DiskOf D) (handed : Shelf → D → Type 0) (strea
       ends' = subst (λ (s : Start). EndsWith s book result) start_is ends
 
       based : (n : ℕ) → length (kept_by shelf).way.entries ≡ n → (order : List ℕ) → book.order ≡ order
-          → (fits : n + length order < 18446744073709551616)
+          → (fits : n + length order < 2 ^ 64)
           → MergesOver disk (length streams) (files_of_downlink line streams) shelf d book.disk (record {
             base = n;
             order = order;
@@ -256,14 +256,14 @@ module _ {D : Type 0} (disk : DiskOf D) (handed : Shelf → D → Type 0) (strea
             numbered = fits;
           })
       based n is order order_is =
-          subst (λ (m : ℕ). (fits : m + length order < 18446744073709551616)
+          subst (λ (m : ℕ). (fits : m + length order < 2 ^ 64)
           → MergesOver disk (length streams) (files_of_downlink line streams) shelf d book.disk (record {
             base = m;
             order = order;
             result = result;
             numbered = fits;
           })) is
-          (subst (λ (o : List ℕ). (fits : length (kept_by shelf).way.entries + length o < 18446744073709551616)
+          (subst (λ (o : List ℕ). (fits : length (kept_by shelf).way.entries + length o < 2 ^ 64)
           → MergesOver disk (length streams) (files_of_downlink line streams) shelf d book.disk (record {
             base = length (kept_by shelf).way.entries;
             order = o;
@@ -274,7 +274,7 @@ module _ {D : Type 0} (disk : DiskOf D) (handed : Shelf → D → Type 0) (strea
 
 -- there are no more entries than a number counts
 pub order_fits : {D : Type 0} (start : Start) (book : BookView D) → IsBookOf start book → (base : ℕ)
-    → base ≡ length start.way.entries → base + length book.order < 18446744073709551616
+    → base ≡ length start.way.entries → base + length book.order < 2 ^ 64
 order_fits start book is base base_is =
     omega (
       arith,

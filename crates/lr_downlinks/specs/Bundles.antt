@@ -1,6 +1,6 @@
 -- Bundles of streams: how many there are in one byte, 1 to 16, and then for each stream its length in eight bytes and
 -- that many symbols, a byte each.
-use Rattle.std.specs.Prelude.{◌≡◌, ◌<◌, ◌≤◌, ℕ, List, [], ◌∷◌, ◌++◌, length, take, All}
+use Rattle.std.specs.Prelude.{◌≡◌, ◌<◌, ◌≤◌, ℕ, List, [], ◌∷◌, ◌++◌, length, take, All, ◌^◌}
 use Rattle.std.specs.Prelude.{Result, Ok, Err}
 use Rattle.byteorder.specs.Endian.{big_bytes}
 use Rattle.lr_downlinks.specs.declared.sizes.TheConstants.{MOST_DOWNLINKS}
@@ -19,7 +19,7 @@ parts_of (stream ∷ streams) = part_of stream ++ parts_of streams
 pub record IsBundle (bytes : List ℕ) (streams : List (List ℕ)) : Type 0 where
   pub some : 1 ≤ length streams
   pub few : length streams ≤ MOST_DOWNLINKS
-  pub short : All (λ stream. length stream < 18446744073709551616) streams
+  pub short : All (λ stream. length stream < 2 ^ 64) streams
   pub bytes_are : bytes ≡ length streams ∷ parts_of streams
 
 -- these bytes begin a bundle that goes on after them

@@ -3,6 +3,7 @@ use Rattle.std.specs.Prelude.{◌≡◌, ◌<◌, ◌≤◌, ◌+◌, ◌-◌, �
 use Rattle.std.specs.Prelude.{length, map, take, cond}
 use Rattle.lr_bits.specs.declared.outcome.Outcome.{Outcome}
 use Rattle.lr_bits.specs.declared.placed.Placed.{Placed}
+use Rattle.lr_bits.specs.declared.sizes.TheConstants.{FRAME_SYMBOLS}
 use Rattle.lr_conv.specs.Marker.{tail_of}
 use Rattle.lr_conv.specs.declared.line.LineCode.{LineCode}
 use Rattle.lr_frame.specs.Outcomes.{outcome_in}
@@ -29,7 +30,7 @@ pub record IsFed (line : LineCode) (stream : List ℕ) (fed : ℕ) (lock : LockS
   pub inside : fed ≤ length stream
   pub line_is : lock.line ≡ line
   pub stands : StandsFor lock (symbols_of (take fed stream)) given
-  pub passed : 16384 * length given + length lock.kept ≤ fed
+  pub passed : FRAME_SYMBOLS * length given + length lock.kept ≤ fed
   pub ended : lock.finished ≡ true → fed ≡ length stream
 
 -- what becomes of these frames, where this many symbols were fed

@@ -1,6 +1,7 @@
 -- How the rest is appended once the threads have ended. No clause of a public call cites this.
 use Rattle.std.specs.Prelude.{◌≡◌, ◌≤◌, ◌<◌, ℕ, min, true, false, [], ◌∷◌, ◌++◌, length, slice_get, Some}
 use Rattle.lr_bits.specs.declared.placed.Placed.{Placed}
+use Rattle.lr_bits.specs.Sizes.{most_u64}
 use Rattle.lr_shelf.specs.declared.error.ShelfError.{ShelfError}
 use Rattle.lr_shelf.specs.declared.error.ShelfError.TheVariants.{
   Disk as Disk',
@@ -24,7 +25,7 @@ pub record DoesNotFitAt {D : Type 0} (start : Start) (downlink needed capacity :
   pub placed : Placed
   pub next : slice_get (files_in start downlink) (times_in_order downlink book.order) ≡ Some placed
   pub over : start.way.capacity < (way_with_files (merged start book.order ++ placed ∷ []) start.way).end
-  pub needs : needed ≡ min (way_with_files (merged start book.order ++ placed ∷ []) start.way).end 18446744073709551615
+  pub needs : needed ≡ min (way_with_files (merged start book.order ++ placed ∷ []) start.way).end most_u64
   pub of : capacity ≡ start.way.capacity
 
 -- why the next file of this downlink was refused

@@ -2,6 +2,7 @@
 use Rattle.std.specs.Prelude.{◌≡◌, ◌⊎◌, ◌+◌, ◌<◌, ℕ, min, List, [], ◌∷◌, ◌++◌, length, slice_get, Some}
 use Rattle.lr_bits.specs.Faults.{Rose}
 use Rattle.lr_bits.specs.declared.placed.Placed.{Placed}
+use Rattle.lr_bits.specs.Sizes.{most_u64}
 use Rattle.lr_disk.specs.declared.disk.Disk.{Ghosts as DiskOf}
 use Rattle.lr_shelf_format.specs.Items.{Item}
 use Rattle.lr_shelf_format.specs.Way.{Way}
@@ -22,7 +23,7 @@ module _ (count : ℕ) (files : ℕ → List Placed) (order : List ℕ) where
   pub record NextDoesNotFitBy (way : Way) (needed capacity : ℕ) : Type 0 where
     pub placed : Placed
     pub full : NextDoesNotFit count files order way placed
-    pub needs : needed ≡ min (way_with_files (merge files order ++ placed ∷ []) way).end 18446744073709551615
+    pub needs : needed ≡ min (way_with_files (merge files order ++ placed ∷ []) way).end most_u64
     pub of : capacity ≡ way.capacity
 
   -- some downlink has this next file, and the disk failed in it

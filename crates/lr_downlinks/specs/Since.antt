@@ -2,8 +2,8 @@
 use Rattle.std.specs.Prelude.{◌≡◌, ◌≤◌, List, [], ◌∷◌, ◌++◌}
 use Rattle.lr_bits.specs.Faults.{Rose}
 use Rattle.lr_bits.specs.declared.placed.Placed.{Placed}
-use Rattle.lr_disk.specs.Disk.{LeavesOnly, Only}
 use Rattle.lr_disk.specs.declared.disk.Disk.{Ghosts as DiskOf}
+use Rattle.lr_disk.specs.Pending.{EachImageSince, NothingPending}
 use Rattle.lr_shelf_format.specs.Way.{IsWay}
 use Rattle.lr_shelf.specs.Adding.{StaysOutside}
 use Rattle.lr_shelf.specs.Adds.{last_gate}
@@ -28,10 +28,10 @@ module _ {D : Type 0} (disk : DiskOf D) where
       pub outside : disk.tells d
           → StaysOutside (last_gate (kept_by shelf)) (way_with_files files (kept_by shelf).way).end (disk.contents d)
           (disk.contents d')
-      pub durable : disk.tells d → Only (disk.contents d) (disk.may_leave d)
-          → Only (disk.contents d') (disk.may_leave d')
-      pub outside_any_moment : disk.tells d → Only (disk.contents d) (disk.may_leave d)
-          → LeavesOnly disk.moment disk.left_since d d'
+      pub durable : disk.tells d → NothingPending disk d
+          → NothingPending disk d'
+      pub outside_any_moment : disk.tells d → NothingPending disk d
+          → EachImageSince disk d d'
           (StaysOutside (last_gate (kept_by shelf)) (way_with_files files (kept_by shelf).way).end (disk.contents d))
       -- over one whose way the shelf kept, whatever its records hold and wherever it ends: what is there now
       pub way : disk.tells d → KeepsWay (disk.contents d) shelf
@@ -50,8 +50,8 @@ module _ {D : Type 0} (disk : DiskOf D) where
       pub outside : disk.tells d
           → StaysOutside (last_gate (kept_by shelf)) (way_with_files (files ++ placed ∷ []) (kept_by shelf).way).end
           (disk.contents d) (disk.contents d')
-      pub outside_any_moment : disk.tells d → Only (disk.contents d) (disk.may_leave d)
-          → LeavesOnly disk.moment disk.left_since d d'
+      pub outside_any_moment : disk.tells d → NothingPending disk d
+          → EachImageSince disk d d'
           (StaysOutside (last_gate (kept_by shelf)) (way_with_files (files ++ placed ∷ []) (kept_by shelf).way).end
           (disk.contents d))
       -- over one whose way the shelf kept

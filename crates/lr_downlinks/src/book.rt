@@ -1,5 +1,5 @@
 //! The shelf, its disk, and what came onto it.
-ghost use Rattle.std.specs.Prelude.{◌≡◌, ◌<◌, ◌⊎◌};
+ghost use Rattle.std.specs.Prelude.{◌≡◌, ◌<◌, ◌⊎◌, ◌^◌};
 ghost use Rattle.lr_downlinks.specs.Appending.{AppendsFile, WantsMemory, failed_after, view_of};
 ghost use Rattle.lr_downlinks.specs.Merge.{times_in_order};
 
@@ -21,7 +21,7 @@ fn append_file<D: Disk>(
     placed: &Placed,
 ) -> Result<bool, ShelfError>
     requires known { downlink < MOST_DOWNLINKS }
-    requires few { times_in_order downlink order.old < 9223372036854775808 }
+    requires few { times_in_order downlink order.old < 2 ^ 63 }
     ensures { AppendsFile D.Disk downlink placed.now (view_of shelf.old disk.old order.old)
         (view_of shelf.new disk.new order.new) result
         ⊎ WantsMemory (view_of shelf.old disk.old order.old) (view_of shelf.new disk.new order.new) result }

@@ -15,7 +15,7 @@ use crate::order::Order;
 use crate::rest::end_run;
 use crate::run::{Run, RunEnd};
 use crate::sizes::MOST_DOWNLINKS;
-use lr_bits::NoMemory;
+use lr_bits::{NoMemory, take_back};
 use lr_conv::LineCode;
 use lr_disk::Disk;
 use lr_shelf::Shelf;
@@ -24,11 +24,6 @@ use std::marker::{Brand, PhantomData};
 use std::sync::{Mutex, Wait};
 use std::thread;
 use std::thread::Threads;
-
-/// Does nothing. This use of a reference that came back ties it to the one that was lent.
-fn take_back<T>(it: &mut T)
-    ensures { it.new ≡ it.old }
-{}
 
 /// The disk, as it is lent to a run.
 #[derive(Drop)]

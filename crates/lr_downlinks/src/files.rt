@@ -2,6 +2,7 @@
 ghost use Rattle.std.specs.Prelude.{◌≡◌, ◌<◌, ◌≤◌, ◌+◌, ◌^◌, List, length, false, IfOk, IfSome};
 ghost use Rattle.lr_conv.specs.declared.line.LineCode.{LineCode as LineCode'};
 ghost use Rattle.lr_lock.specs.declared.frame.Frame.{Frame};
+ghost use Rattle.lr_lock.specs.Thresholds.{lock_symbols};
 ghost use Rattle.lr_downlinks.specs.Streams.{files_of_stream};
 ghost use Rattle.lr_downlinks.specs.Decoding.{FeedsMore, IsFed, Shows, steps_left};
 
@@ -17,7 +18,7 @@ use std::alloc::Global;
 /// the lock is finished.
 fn feed_more(lock: &mut Lock, rest: &[u8]) -> usize
     requires unfinished { lock.old.finished ≡ false }
-    requires room { length lock.old.kept < 65536 }
+    requires room { length lock.old.kept < lock_symbols }
     requires in_all { lock.old.place + length lock.old.kept + length rest.now ≤ 2 ^ 62 }
     ensures { FeedsMore lock.old lock.new rest.now result }
 {

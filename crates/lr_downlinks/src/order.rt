@@ -1,5 +1,5 @@
 //! Which downlink each file came from.
-ghost use Rattle.std.specs.Prelude.{◌≡◌, ◌<◌, ◌++◌, ◌∷◌, [], List, ℕ, OnOk, OnErr};
+ghost use Rattle.std.specs.Prelude.{◌≡◌, ◌<◌, ◌++◌, ◌∷◌, [], List, ℕ, OnOk, OnErr, ◌^◌};
 ghost use Rattle.lr_downlinks.specs.Merge.{times_in_order};
 
 use crate::sizes::MOST_DOWNLINKS;
@@ -50,7 +50,7 @@ impl Order {
     /// Appends a downlink. Where memory is refused, nothing is changed.
     pub(crate) fn push(&mut self, downlink: u8) -> Result<(), NoMemory>
         requires known { downlink < MOST_DOWNLINKS }
-        requires few { times_in_order downlink self.old < 9223372036854775808 }
+        requires few { times_in_order downlink self.old < 2 ^ 63 }
         ensures ok { OnOk result (self.new ≡ self.old ++ downlink ∷ []) }
         ensures err { OnErr result (self.new ≡ self.old) }
     {

@@ -1,5 +1,5 @@
 //! The receipts of one downlink, one after another.
-ghost use Rattle.std.specs.Prelude.{◌≡◌};
+ghost use Rattle.std.specs.Prelude.{◌≡◌, ◌^◌};
 ghost use Rattle.lr_downlinks.specs.Counting.{FindsPlace};
 
 use crate::receipt::Receipt;
@@ -19,7 +19,7 @@ pub struct Receipts<'a> {
 }
 
 impl<'a> Model for Receipts<'a> {
-    ghost use Rattle.std.specs.Prelude.{◌<◌, ◌≤◌, ◌+◌, List, length};
+    ghost use Rattle.std.specs.Prelude.{◌<◌, ◌≤◌, ◌+◌, ◌^◌, List, length};
     ghost use Rattle.lr_downlinks.specs.Receipts.{receipts_from};
     ghost use Rattle.lr_downlinks.specs.declared.receipt.Receipt.{Receipt};
 
@@ -27,7 +27,7 @@ impl<'a> Model for Receipts<'a> {
 
     ghost view = { λ r. receipts_from r.downlink r.place r.number r.order.now };
 
-    ghost invariant = { λ r. (r.number + length r.order.now < 18446744073709551616) × (r.place ≤ r.number) };
+    ghost invariant = { λ r. (r.number + length r.order.now < 2 ^ 64) × (r.place ≤ r.number) };
 }
 
 /// The first place at which a downlink stands in an order.

@@ -1,5 +1,5 @@
 //! What a run over a bundle gives.
-ghost use Rattle.std.specs.Prelude.{◌+◌, ◌<◌, length};
+ghost use Rattle.std.specs.Prelude.{◌+◌, ◌<◌, length, ◌^◌};
 
 use lr_bits::Bytes;
 
@@ -25,5 +25,5 @@ pub struct Run {
     pub order: Bytes,
     /// Why no more files were appended.
     pub result: RunEnd,
-    pub ghost numbered: { base + length order < 18446744073709551616 },
+    pub ghost numbered: { base + length order < 2 ^ 64 },
 }

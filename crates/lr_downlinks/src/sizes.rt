@@ -1,3 +1,5 @@
+//! The limits of a bundle.
+
 /// The most streams of a bundle.
 pub const MOST_DOWNLINKS: usize = 16;
 

@@ -6,6 +6,7 @@ use Rattle.std.specs.Str.{bytes_eq}
 use Rattle.std.proofs.lemmas.Bool.Decides.{nat_tests}
 use Rattle.std.proofs.lemmas.List.{append-nil}
 use Rattle.lr_bits.specs.File.{File}
+use Rattle.lr_bits.specs.Sizes.{most_file_bodies, most_file_bytes}
 use Rattle.lr_packet.specs.Verdict.{Good}
 use Rattle.lr_file.specs.Files.{last_stretches, flags_of_file, are_counted_on, size_of, is_file, file_at, files_after}
 use Rattle.lr_file.specs.Files.{files_of_packets}
@@ -72,15 +73,15 @@ not_file_of_several : (q r : Good) (rs : List Good) → eqb q.flags 1 ≡ false 
 unfolding is_file
 not_file_of_several q r rs h =
     let stretch = q ∷ r ∷ rs in
-    ap (λ (b : Bool). (((b && are_counted_on (counts stretch)) && leb (length stretch) 1048576) && leb 10
-    (size_of stretch)) && leb (size_of stretch) 67108864)
+    ap (λ (b : Bool). (((b && are_counted_on (counts stretch)) && leb (length stretch) most_file_bodies) && leb 10
+    (size_of stretch)) && leb (size_of stretch) most_file_bytes)
     (several_flags q r rs ∙ ap (λ (b : Bool). b && end_with_two r rs) h)
 
 not_file_of_one : (q : Good) → (eqb q.flags 2 && true) ≡ true → is_file (q ∷ []) ≡ false
 not_file_of_one q h =
     let two = and_left (eqb q.flags 2) true h in
     let other : eqb q.flags 3 ≡ false = grind (arith, nat_tests, two) in
-    is_file-one q ∙ ap (λ (b : Bool). (b && leb 10 (length q.body)) && leb (length q.body) 67108864) other
+    is_file-one q ∙ ap (λ (b : Bool). (b && leb 10 (length q.body)) && leb (length q.body) most_file_bytes) other
 
 -- behind the first packet of a file no other begins
 none_files : (q : Good) (qs : List Good) → end_with_two q qs ≡ true → filter is_file (last_stretches (q ∷ qs)) ≡ []

@@ -9,6 +9,7 @@ use Rattle.std.proofs.lemmas.Bool.Decides.{nat_tests}
 use Rattle.std.proofs.lemmas.List.Elements.{All-nil, All-cons, All-append, filter-append}
 use Rattle.std.proofs.lemmas.List.Sums.{sum_by-cons, sum_by-append, sum_by_push}
 use Rattle.lr_bits.specs.File.{File, bytes_of}
+use Rattle.lr_bits.specs.declared.sizes.TheConstants.{TRANSPORT_HEADER_BYTES}
 use Rattle.lr_bits.proofs.ByKeys.{sums_by_key}
 use Rattle.lr_packet.specs.Verdict.{Good}
 use Rattle.lr_file.specs.Files.{packets_of_key, last_stretches, bodies_of, size_of, is_file, file_from, file_at}
@@ -25,9 +26,9 @@ use Rattle.lr_file.proofs.KeyLemmas.{same_key}
 
 -- a file has a body, and ten bytes
 abbrev IsFilled : File → Type 0
-IsFilled file = (1 ≤ length file.bodies) × (10 ≤ length (bytes_of file))
+IsFilled file = (1 ≤ length file.bodies) × (TRANSPORT_HEADER_BYTES ≤ length (bytes_of file))
 
-some_bodies : (bodies : List (List ℕ)) → 10 ≤ length (concat bodies) → 1 ≤ length bodies
+some_bodies : (bodies : List (List ℕ)) → TRANSPORT_HEADER_BYTES ≤ length (concat bodies) → 1 ≤ length bodies
 some_bodies [] ten = absurd (omega arith)
 some_bodies (body ∷ bodies) ten = omega arith
 
@@ -139,7 +140,8 @@ module _ (weights : Weights) where
         length-append r.body (concat (bodies_of (s ∷ ss))),
       )
 
-  weigh_file-of : (vc apid : ℕ) (stretch : List Good) → is_file_flags stretch ≡ true → 10 ≤ size_of stretch →
+  weigh_file-of : (vc apid : ℕ) (stretch : List Good) → is_file_flags stretch ≡ true
+      → TRANSPORT_HEADER_BYTES ≤ size_of stretch →
       file_weight weights (file_from vc apid stretch) ≡ sum_by weigh stretch
   weigh_file-of vc apid [] is ten = absurd (omega arith)
   weigh_file-of vc apid (p ∷ []) is ten =

@@ -7,6 +7,7 @@ use Rattle.std.proofs.lemmas.Bool.Decides.{nat_tests}
 use Rattle.std.proofs.lemmas.List.{append-nil}
 use Rattle.std.proofs.lemmas.List.Elements.{filter-append}
 use Rattle.lr_bits.specs.File.{File}
+use Rattle.lr_bits.specs.Sizes.{most_file_bytes}
 use Rattle.lr_packet.specs.Verdict.{Good}
 use Rattle.lr_file.specs.Files.{packets_of_key, last_stretches, bodies_of, size_of, is_file, file_from, file_at}
 use Rattle.lr_file.specs.Standing.{Open, Kept, AreAscending, StandsFor, kept_of_key, is_open, last_count, open_from}
@@ -56,14 +57,14 @@ and_true : (b c : Bool) → c ≡ true → (b && c) ≡ b
 and_true true c h = h
 and_true false c h = refl
 
-fits : (n : ℕ) → n ≤ 67108864 → leb n 67108864 ≡ true
+fits : (n : ℕ) → n ≤ most_file_bytes → leb n most_file_bytes ≡ true
 fits n h = grind (arith, nat_tests)
 
 -- one packet alone is an open file, or a file, by its flags
-open_alone : (p : Good) → length p.body ≤ 67108864 → is_open (p ∷ []) ≡ eqb p.flags 1
+open_alone : (p : Good) → length p.body ≤ most_file_bytes → is_open (p ∷ []) ≡ eqb p.flags 1
 open_alone p short = is_open-one p ∙ and_true (eqb p.flags 1) _ (fits (length p.body) short)
 
-file_alone : (p : Good) → length p.body ≤ 67108864 → is_file (p ∷ []) ≡ (eqb p.flags 3 && leb 10 (length p.body))
+file_alone : (p : Good) → length p.body ≤ most_file_bytes → is_file (p ∷ []) ≡ (eqb p.flags 3 && leb 10 (length p.body))
 file_alone p short = is_file-one p ∙ and_true (eqb p.flags 3 && leb 10 (length p.body)) _ (fits (length p.body) short)
 
 no_flags : (n k m : ℕ) → k < m → eqb n k ≡ true → eqb n m ≡ true → ⊥
@@ -75,7 +76,7 @@ goes_on s p true = ap Some (open_from-end s p)
 goes_on s p false = refl
 
 -- the open file of a stretch with one packet more, where there may be a stretch
-longer_open : (p : Good) → length p.body ≤ 67108864 →
+longer_open : (p : Good) → length p.body ≤ most_file_bytes →
     (first between : Bool) → eqb p.flags 1 ≡ first → eqb p.flags 0 ≡ between → (o : Option (List Good)) →
     option_map open_from (longer (λ s. eqb p.flags 0 && is_next (open_from s) p) p (is_open (p ∷ [])) o) ≡
     next_open (option_map open_from o) p
@@ -88,7 +89,7 @@ longer_open p short false false f b None = rw (open_alone p short, f, b) refl
 longer_open p short false false f b (Some s) = rw (open_alone p short, f, b) refl
 
 -- the open file behind one packet more of its key
-open_file-own : (packets : List Good) (p : Good) → length p.body ≤ 67108864 →
+open_file-own : (packets : List Good) (p : Good) → length p.body ≤ most_file_bytes →
     open_file p.vc p.apid (packets ++ p ∷ []) ≡ next_open (open_file p.vc p.apid packets) p
 unfolding open_file
 open_file-own packets p short =
@@ -147,7 +148,7 @@ built_end s p file true h =
 built_end s p file false h = h
 
 -- the file of a stretch with one packet more, where there may be a stretch
-longer_file : (p : Good) → length p.body ≤ 67108864 →
+longer_file : (p : Good) → length p.body ≤ most_file_bytes →
     (single last : Bool) → eqb p.flags 3 ≡ single → eqb p.flags 2 ≡ last →
     (o : Option (List Good)) (file : Option File) →
     IsFileOf p (completed_file (option_map open_from o) p) file →
@@ -163,7 +164,7 @@ longer_file p short false false s l None file h = rw (file_alone p short, s) (rw
 longer_file p short false false s l (Some t) file h = rw (file_alone p short, s, l) (rw (s, l) at h)
 
 -- what is built of the bodies that a packet ends is the file that ends with it
-pub file_at-built : (packets : List Good) (p : Good) (file : Option File) → length p.body ≤ 67108864 →
+pub file_at-built : (packets : List Good) (p : Good) (file : Option File) → length p.body ≤ most_file_bytes →
     IsFileOf p (completed_file (open_file p.vc p.apid packets) p) file → file ≡ file_at packets p
 unfolding file_at open_file
 file_at-built packets p file short h =
@@ -181,7 +182,7 @@ stands_new kept unspent none once =
     record { unspent = unspent; once = once; files = λ vc apid. ap (λ files. kept_of_key files vc apid) none }
 
 -- what is kept of each key behind one packet more
-kept_next : (old new : Kept) (packets : List Good) (p : Good) → length p.body ≤ 67108864 →
+kept_next : (old new : Kept) (packets : List Good) (p : Good) → length p.body ≤ most_file_bytes →
     SetsKey old.files new.files p (next_open (kept_of_key old.files p.vc p.apid) p) → StandsFor old packets →
     (vc apid : ℕ) (own : Bool) → is_of_key vc apid p ≡ own →
     kept_of_key new.files vc apid ≡ open_file vc apid (packets ++ p ∷ [])
@@ -198,7 +199,8 @@ kept_next old new packets p short sets h vc apid false e =
     ∙ h.files vc apid
     ∙ sym (open_file-other vc apid packets p e)
 
-pub stands_next : (old new : Kept) (packets : List Good) (p : Good) → length p.body ≤ 67108864 → new.spent ≡ false →
+pub stands_next : (old new : Kept) (packets : List Good) (p : Good) → length p.body ≤ most_file_bytes →
+    new.spent ≡ false →
     SetsKey old.files new.files p (next_open (kept_of_key old.files p.vc p.apid) p) → StandsFor old packets →
     StandsFor new (packets ++ p ∷ [])
 stands_next old new packets p short unspent sets h =

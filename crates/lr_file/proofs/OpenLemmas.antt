@@ -8,32 +8,38 @@ use Rattle.std.proofs.lemmas.Bool.Decides.{nat_tests}
 use Rattle.std.proofs.lemmas.List.{length-map}
 use Rattle.std.proofs.lemmas.List.Elements.{All-push}
 use Rattle.lr_bits.specs.File.{File, MakeFile, file_of, pieces_of}
+use Rattle.lr_bits.specs.declared.sizes.TheConstants.{CHANNELS, IDLE_APPLICATION}
+use Rattle.lr_bits.specs.Sizes.{most_body_bytes, most_file_bodies, most_file_bytes}
 use Rattle.lr_bits.proofs.FileLemmas.{pieces_of-concat, sum-map-length}
 use Rattle.lr_packet.specs.Verdict.{Good}
+use Rattle.lr_bits.specs.declared.sizes.TheConstants.{SEQUENCE_COUNTS}
 use Rattle.lr_file.specs.Standing.{Open, IsWithinLimits}
 use Rattle.lr_file.specs.Steps.{is_next, file_with, IsBuilt}
 use Rattle.lr_file.proofs.Stretches.{and_left, and_right, and_false}
 
-pub is_next-few : (file : Open) (p : Good) → IsTrue (is_next file p) → length file.lengths < 1048576
+pub is_next-few : (file : Open) (p : Good) → IsTrue (is_next file p) → length file.lengths < most_file_bodies
 unfolding is_next
 is_next-few file p h = ltb-true _ _ (and_right _ _ (and_left _ _ h))
 
-pub is_next-most : (file : Open) (p : Good) → IsTrue (is_next file p) → length file.bytes + length p.body ≤ 67108864
+pub is_next-most : (file : Open) (p : Good) → IsTrue (is_next file p) →
+    length file.bytes + length p.body ≤ most_file_bytes
 unfolding is_next
 is_next-most file p h = leb-true _ _ (and_right _ _ h)
 
 -- an open file with one length more, before its bytes are there
-pub limits-lengths : (file : Open) (p : Good) → length p.body < 65535 → IsTrue (is_next file p) → IsWithinLimits file →
+pub limits-lengths : (file : Open) (p : Good) → length p.body ≤ most_body_bytes → IsTrue (is_next file p) →
+    IsWithinLimits file →
     IsWithinLimits (record { lengths = file.lengths ++ length p.body ∷ []; bytes = file.bytes; count = file.count })
 limits-lengths file p short next is =
     record {
-      short = All-push (λ one. one < 65535) file.lengths (length p.body) is.short short;
+      short = All-push (λ one. one ≤ most_body_bytes) file.lengths (length p.body) is.short short;
       few = omega (arith, length-append file.lengths (length p.body ∷ []), is_next-few file p next);
       most = is.most;
       counted = is.counted;
     }
 
-pub limits-file_with : (file : Open) (p : Good) → length p.body < 65535 → p.count < 16384 → IsTrue (is_next file p) →
+pub limits-file_with : (file : Open) (p : Good) → length p.body ≤ most_body_bytes → p.count < SEQUENCE_COUNTS →
+    IsTrue (is_next file p) →
     IsWithinLimits file → IsWithinLimits (file_with file p)
 limits-file_with file p short counted next is =
     let longer = limits-lengths file p short next is in
@@ -45,7 +51,8 @@ limits-file_with file p short counted next is =
     }
 
 -- what `build` answers at an open file
-pub built_from : (vc apid : ℕ) (file : Open) (result : Option File) → vc < 64 → apid < 2047 → IsWithinLimits file →
+pub built_from : (vc apid : ℕ) (file : Open) (result : Option File) → vc < CHANNELS → apid < IDLE_APPLICATION →
+    IsWithinLimits file →
     SomeIff result (MakeFile vc apid file.lengths file.bytes) (file_of vc apid file.lengths file.bytes) →
     IsBuilt vc apid file result
 built_from vc apid file None channel application is h bodies some lengths bytes =
@@ -69,22 +76,24 @@ built_from vc apid file (Some x) channel application is h bodies some lengths by
 )
 
 -- which packet follows, test by test
-pub is_next-all : (file : Open) (p : Good) → p.count ≡ (file.count + 1) % 16384 → length file.lengths + 1 ≤ 1048576 →
-    leb (length file.bytes + length p.body) 67108864 ≡ is_next file p
+pub is_next-all : (file : Open) (p : Good) → p.count ≡ (file.count + 1) % SEQUENCE_COUNTS →
+    length file.lengths + 1 ≤ most_file_bodies →
+    leb (length file.bytes + length p.body) most_file_bytes ≡ is_next file p
 unfolding is_next
 is_next-all file p counted few =
-    let same : eqb p.count ((file.count + 1) % 16384) ≡ true = grind (arith, nat_tests) in
-    let room : ltb (length file.lengths) 1048576 ≡ true = grind (arith, nat_tests) in
+    let same : eqb p.count ((file.count + 1) % SEQUENCE_COUNTS) ≡ true = grind (arith, nat_tests) in
+    let room : ltb (length file.lengths) most_file_bodies ≡ true = grind (arith, nat_tests) in
     rw (same, room) refl
 
-pub is_next-miscounted : (file : Open) (p : Good) → (p.count ≡ (file.count + 1) % 16384 → ⊥) → false ≡ is_next file p
+pub is_next-miscounted : (file : Open) (p : Good) → (p.count ≡ (file.count + 1) % SEQUENCE_COUNTS → ⊥)
+    → false ≡ is_next file p
 unfolding is_next
 is_next-miscounted file p other =
-    let apart : eqb p.count ((file.count + 1) % 16384) ≡ false = grind (arith, nat_tests, other) in
+    let apart : eqb p.count ((file.count + 1) % SEQUENCE_COUNTS) ≡ false = grind (arith, nat_tests, other) in
     rw apart refl
 
-pub is_next-full : (file : Open) (p : Good) → 1048576 < length file.lengths + 1 → false ≡ is_next file p
+pub is_next-full : (file : Open) (p : Good) → most_file_bodies < length file.lengths + 1 → false ≡ is_next file p
 unfolding is_next
 is_next-full file p full =
-    let none : ltb (length file.lengths) 1048576 ≡ false = grind (arith, nat_tests) in
-    rw (none, and_false (eqb p.count ((file.count + 1) % 16384))) refl
+    let none : ltb (length file.lengths) most_file_bodies ≡ false = grind (arith, nat_tests) in
+    rw (none, and_false (eqb p.count ((file.count + 1) % SEQUENCE_COUNTS))) refl

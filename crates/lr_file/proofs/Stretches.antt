@@ -6,6 +6,8 @@ use Rattle.std.specs.Prelude.{find, replicate}
 use Rattle.std.specs.List.{concat}
 use Rattle.std.specs.Str.{bytes_eq}
 use Rattle.std.proofs.lemmas.List.{append-nil}
+use Rattle.lr_bits.specs.declared.sizes.TheConstants.{SEQUENCE_COUNTS}
+use Rattle.lr_bits.specs.Sizes.{most_file_bodies, most_file_bytes}
 use Rattle.lr_packet.specs.Verdict.{Good}
 use Rattle.lr_file.specs.Files.{last_stretches, flags_of_file, are_counted_on, bodies_of, size_of, is_file}
 use Rattle.lr_file.specs.Standing.{is_open, flags_of_open, last_count, open_from}
@@ -28,7 +30,7 @@ are_zeros stretch = bytes_eq (flags stretch) (zeros (length stretch))
 
 -- the count of a packet follows the last one of a stretch
 abbrev pub is_counted_on : List Good → Good → Bool
-is_counted_on stretch p = eqb p.count ((last_count stretch + 1) % 16384)
+is_counted_on stretch p = eqb p.count ((last_count stretch + 1) % SEQUENCE_COUNTS)
 
 and_true : (b : Bool) → (b && true) ≡ b
 and_true true = refl
@@ -86,9 +88,9 @@ file_flags-end q qs p =
 
 counted-end : (q : Good) (qs : List Good) (p : Good) →
     are_counted_on (counts (q ∷ qs ++ p ∷ [])) ≡ (are_counted_on (counts (q ∷ qs)) && is_counted_on (q ∷ qs) p)
-counted-end q [] p = and_true (eqb p.count ((q.count + 1) % 16384))
+counted-end q [] p = and_true (eqb p.count ((q.count + 1) % SEQUENCE_COUNTS))
 counted-end q (r ∷ qs) p =
-    let here = eqb r.count ((q.count + 1) % 16384) in
+    let here = eqb r.count ((q.count + 1) % SEQUENCE_COUNTS) in
     ap (λ b. here && b) (counted-end r qs p) ∙ sym (and_assoc here (are_counted_on (counts (r ∷ qs)))
     (is_counted_on (r ∷ qs) p))
 
@@ -143,20 +145,21 @@ file_tests flag counted few most z f few' most' false h g =
     ∙ sym (ap (λ (b : Bool). (((flag && counted) && few) && most) && b) (and_false (z && ((f && few') && most')))
     ∙ and_false (((flag && counted) && few) && most))
 
-few_before : (n : ℕ) → ltb n 1048576 ≡ true → leb n 1048576 ≡ true
+few_before : (n : ℕ) → ltb n most_file_bodies ≡ true → leb n most_file_bodies ≡ true
 few_before n h = grind (arith, nat_tests)
 
-most_before : (n m : ℕ) → leb (n + m) 67108864 ≡ true → leb n 67108864 ≡ true
+most_before : (n m : ℕ) → leb (n + m) most_file_bytes ≡ true → leb n most_file_bytes ≡ true
 most_before n m h = grind (arith, nat_tests)
 
 few-end : (q : Good) (qs : List Good) (p : Good) →
-    leb (length (q ∷ qs ++ p ∷ [])) 1048576 ≡ ltb (length (map length (bodies_of (q ∷ qs)))) 1048576
+    leb (length (q ∷ qs ++ p ∷ [])) most_file_bodies ≡ ltb (length (map length (bodies_of (q ∷ qs)))) most_file_bodies
 few-end q qs p =
-    ap (λ n. leb (suc n) 1048576) (length-end qs p) ∙ ap (λ n. ltb n 1048576) (sym (length-bodies (q ∷ qs)))
+    ap (λ n. leb (suc n) most_file_bodies) (length-end qs p) ∙
+    ap (λ n. ltb n most_file_bodies) (sym (length-bodies (q ∷ qs)))
 
-few_earlier : (q : Good) (qs : List Good) → ltb (length (map length (bodies_of (q ∷ qs)))) 1048576 ≡ true →
-    leb (length (q ∷ qs)) 1048576 ≡ true
-few_earlier q qs h = few_before (length (q ∷ qs)) (ap (λ n. ltb n 1048576) (sym (length-bodies (q ∷ qs))) ∙ h)
+few_earlier : (q : Good) (qs : List Good) → ltb (length (map length (bodies_of (q ∷ qs)))) most_file_bodies ≡ true →
+    leb (length (q ∷ qs)) most_file_bodies ≡ true
+few_earlier q qs h = few_before (length (q ∷ qs)) (ap (λ n. ltb n most_file_bodies) (sym (length-bodies (q ∷ qs))) ∙ h)
 
 -- an open file and one packet more is an open file, where that goes on with it
 pub is_open-end : (q : Good) (qs : List Good) (p : Good) →
@@ -165,13 +168,13 @@ unfolding is_open is_next
 is_open-end q qs p =
     let flag = eqb q.flags 1 && are_zeros qs in
     let counted = are_counted_on (counts (q ∷ qs)) in
-    let few = leb (length (q ∷ qs)) 1048576 in
-    let most = leb (size_of (q ∷ qs)) 67108864 in
-    let few' = ltb (length (map length (bodies_of (q ∷ qs)))) 1048576 in
-    let most' = leb (size_of (q ∷ qs) + length p.body) 67108864 in
+    let few = leb (length (q ∷ qs)) most_file_bodies in
+    let most = leb (size_of (q ∷ qs)) most_file_bytes in
+    let few' = ltb (length (map length (bodies_of (q ∷ qs)))) most_file_bodies in
+    let most' = leb (size_of (q ∷ qs) + length p.body) most_file_bytes in
     let tests : Bool = (eqb p.flags 0 && ((is_counted_on (q ∷ qs) p && few') && most')) in
     (λ i. ((open_flags-end q qs p i && counted-end q qs p i) && few-end q qs p i) && leb
-    (size-end (q ∷ qs) p i) 67108864)
+    (size-end (q ∷ qs) p i) most_file_bytes)
     ∙ open_tests flag counted few most (eqb p.flags 0) (is_counted_on (q ∷ qs) p) few' most' (few_earlier q qs)
     (most_before (size_of (q ∷ qs)) (length p.body))
     ∙ ap (λ (b : Bool). (((b && counted) && few) && most) && tests) (sym (open_flags q qs))
@@ -184,40 +187,40 @@ unfolding is_open is_next is_file
 is_file-end q qs p =
     let flag = eqb q.flags 1 && are_zeros qs in
     let counted = are_counted_on (counts (q ∷ qs)) in
-    let few = leb (length (q ∷ qs)) 1048576 in
-    let most = leb (size_of (q ∷ qs)) 67108864 in
-    let few' = ltb (length (map length (bodies_of (q ∷ qs)))) 1048576 in
-    let most' = leb (size_of (q ∷ qs) + length p.body) 67108864 in
+    let few = leb (length (q ∷ qs)) most_file_bodies in
+    let most = leb (size_of (q ∷ qs)) most_file_bytes in
+    let few' = ltb (length (map length (bodies_of (q ∷ qs)))) most_file_bodies in
+    let most' = leb (size_of (q ∷ qs) + length p.body) most_file_bytes in
     let least = leb 10 (size_of (q ∷ qs ++ p ∷ [])) in
     let tests : Bool = ((eqb p.flags 2 && ((is_counted_on (q ∷ qs) p && few') && most')) && least) in
     (λ i. (((file_flags-end q qs p i && counted-end q qs p i) && few-end q qs p i) && least) && leb
-    (size-end (q ∷ qs) p i) 67108864)
+    (size-end (q ∷ qs) p i) most_file_bytes)
     ∙ file_tests flag counted few most (eqb p.flags 2) (is_counted_on (q ∷ qs) p) few' most' least (few_earlier q qs)
     (most_before (size_of (q ∷ qs)) (length p.body))
     ∙ ap (λ (b : Bool). (((b && counted) && few) && most) && tests) (sym (open_flags q qs))
 
 -- one packet alone
-pub is_open-one : (p : Good) → is_open (p ∷ []) ≡ (eqb p.flags 1 && leb (length p.body) 67108864)
+pub is_open-one : (p : Good) → is_open (p ∷ []) ≡ (eqb p.flags 1 && leb (length p.body) most_file_bytes)
 unfolding is_open
 is_open-one p =
-    ap (λ bs. (((eqb p.flags 1 && true) && true) && true) && leb (length bs) 67108864) (append-nil p.body)
-    ∙ ap (λ (b : Bool). b && leb (length p.body) 67108864) (and_true _ ∙ and_true _ ∙ and_true (eqb p.flags 1))
+    ap (λ bs. (((eqb p.flags 1 && true) && true) && true) && leb (length bs) most_file_bytes) (append-nil p.body)
+    ∙ ap (λ (b : Bool). b && leb (length p.body) most_file_bytes) (and_true _ ∙ and_true _ ∙ and_true (eqb p.flags 1))
 
 pub is_file-one : (p : Good) →
-    is_file (p ∷ []) ≡ ((eqb p.flags 3 && leb 10 (length p.body)) && leb (length p.body) 67108864)
+    is_file (p ∷ []) ≡ ((eqb p.flags 3 && leb 10 (length p.body)) && leb (length p.body) most_file_bytes)
 unfolding is_file
 is_file-one p =
-    ap (λ bs. ((((eqb p.flags 3 && true) && true) && true) && leb 10 (length bs)) && leb (length bs) 67108864)
+    ap (λ bs. ((((eqb p.flags 3 && true) && true) && true) && leb 10 (length bs)) && leb (length bs) most_file_bytes)
     (append-nil p.body)
-    ∙ ap (λ (b : Bool). (b && leb 10 (length p.body)) && leb (length p.body) 67108864)
+    ∙ ap (λ (b : Bool). (b && leb 10 (length p.body)) && leb (length p.body) most_file_bytes)
     (and_true _ ∙ and_true _ ∙ and_true (eqb p.flags 3))
 
 -- a stretch that doesn't begin with flags 1 is no open file
 pub not_open : (q : Good) (qs : List Good) → eqb q.flags 1 ≡ false → is_open (q ∷ qs) ≡ false
 unfolding is_open
 not_open q qs h =
-    ap (λ (b : Bool). ((b && are_counted_on (counts (q ∷ qs))) && leb (length (q ∷ qs)) 1048576) && leb
-    (size_of (q ∷ qs)) 67108864)
+    ap (λ (b : Bool). ((b && are_counted_on (counts (q ∷ qs))) && leb (length (q ∷ qs)) most_file_bodies) && leb
+    (size_of (q ∷ qs)) most_file_bytes)
     (open_flags q qs ∙ ap (λ (b : Bool). b && are_zeros qs) h)
 
 -- behind the first packet of an open file the flags are 0

@@ -6,7 +6,10 @@ use Rattle.std.specs.List.{concat}
 use Rattle.std.specs.Str.{bytes_eq}
 use Rattle.std.specs.Option.{option_map}
 use Rattle.lr_bits.specs.File.{File}
+use Rattle.lr_bits.specs.declared.sizes.TheConstants.{TRANSPORT_HEADER_BYTES}
 use Rattle.lr_packet.specs.Verdict.{Good}
+use Rattle.lr_bits.specs.declared.sizes.TheConstants.{SEQUENCE_COUNTS}
+use Rattle.lr_bits.specs.Sizes.{most_file_bodies, most_file_bytes}
 
 -- the packets of one channel and application
 abbrev pub packets_of_key : ℕ → ℕ → List Good → List Good
@@ -25,7 +28,7 @@ flags_of_file n = if n == 1 then 3 ∷ [] else ((1 ∷ replicate (n - 2) 0) ++ (
 abbrev pub are_counted_on : List ℕ → Bool
 are_counted_on [] = true
 are_counted_on (count ∷ []) = true
-are_counted_on (count ∷ next ∷ counts) = (next == (count + 1) % 16384) && are_counted_on (next ∷ counts)
+are_counted_on (count ∷ next ∷ counts) = (next == (count + 1) % SEQUENCE_COUNTS) && are_counted_on (next ∷ counts)
 
 -- the bodies of a stretch, and how many bytes they have together
 abbrev pub bodies_of : List Good → List (List ℕ)
@@ -39,7 +42,8 @@ unfoldable pub is_file : List Good → Bool
 is_file stretch =
     bytes_eq (map (λ p. p.flags) stretch) (flags_of_file (length stretch)) && are_counted_on
     (map (λ p. p.count) stretch)
-    && nat_le (length stretch) 1048576 && nat_le 10 (size_of stretch) && nat_le (size_of stretch) 67108864
+    && nat_le (length stretch) most_file_bodies && nat_le TRANSPORT_HEADER_BYTES (size_of stretch) &&
+    nat_le (size_of stretch) most_file_bytes
 
 -- the file that such a stretch is
 abbrev pub file_from : ℕ → ℕ → List Good → File

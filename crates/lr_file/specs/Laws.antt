@@ -3,6 +3,7 @@ use Rattle.std.specs.Prelude.{◌≡◌, ◌≤◌, ◌+◌, ◌*◌, ◌==◌, 
 use Rattle.std.specs.Prelude.{option_to_list, All}
 use Rattle.std.specs.List.{sum_by}
 use Rattle.lr_bits.specs.File.{File, bytes_of}
+use Rattle.lr_bits.specs.declared.sizes.TheConstants.{TRANSPORT_HEADER_BYTES}
 use Rattle.lr_packet.specs.Verdict.{Good}
 use Rattle.lr_file.specs.Files.{file_at, files_of_packets, is_file, last_stretches}
 use Rattle.lr_file.specs.Standing.{is_open}
@@ -52,4 +53,5 @@ FilesFitThePackets = (weights : Weights) (packets : List Good) →
 abbrev pub FilesAreSome : Type 0
 FilesAreSome =
     (packets : List Good)
-    → All (λ file. (1 ≤ length file.bodies) × (10 ≤ length (bytes_of file))) (files_of_packets packets)
+    → All (λ file. (1 ≤ length file.bodies) × (TRANSPORT_HEADER_BYTES ≤ length (bytes_of file)))
+    (files_of_packets packets)

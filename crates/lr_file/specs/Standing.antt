@@ -1,6 +1,6 @@
 -- What is kept of the packets so far.
 use Rattle.std.specs.Prelude.{◌≡◌, ℕ, ◌-◌, ◌==◌, ◌&&◌, ◌<◌, ◌≤◌, nat_le, Bool, true, false, Option, List, [], ◌∷◌}
-use Rattle.std.specs.Prelude.{length, map, find, replicate, All}
+use Rattle.std.specs.Prelude.{length, map, find, replicate, All, ◌+◌}
 use Rattle.std.specs.List.{concat}
 use Rattle.std.specs.List.Sorted.{IsStrictlySortedBy}
 use Rattle.std.specs.Map.{lookup, keys_of}
@@ -9,6 +9,8 @@ use Rattle.std.specs.declared.cmp.Ordering.{Ordering}
 use Rattle.std.specs.Str.{bytes_eq}
 use Rattle.std.specs.Option.{option_map}
 use Rattle.lr_packet.specs.Verdict.{Good}
+use Rattle.lr_bits.specs.declared.sizes.TheConstants.{SEQUENCE_COUNTS}
+use Rattle.lr_bits.specs.Sizes.{most_body_bytes, most_file_bodies, most_file_bytes}
 use Rattle.lr_file.specs.Files.{packets_of_key, last_stretches, are_counted_on, bodies_of, size_of}
 
 -- an open file: how many bytes each body has so far, the bodies joined, and the count of the last packet
@@ -41,10 +43,10 @@ kept_of_key entries vc apid = lookup (λ key. (vc == key.0) && (apid == key.1)) 
 -- An open file is within the limits of a file: each body has fewer than 65,535 bytes, there are at most 1,048,576 of
 -- them, and they have at most 67,108,864 bytes together. Its count has 14 bits.
 pub record IsWithinLimits (file : Open) : Type 0 where
-  pub short : All (λ one. one < 65535) file.lengths
-  pub few : length file.lengths ≤ 1048576
-  pub most : length file.bytes ≤ 67108864
-  pub counted : file.count < 16384
+  pub short : All (λ one. one ≤ most_body_bytes) file.lengths
+  pub few : length file.lengths ≤ most_file_bodies
+  pub most : length file.bytes ≤ most_file_bytes
+  pub counted : file.count < SEQUENCE_COUNTS
 
 -- the flags of an open file of n packets: 1, then 0 for each other
 abbrev pub flags_of_open : ℕ → List ℕ
@@ -56,7 +58,7 @@ unfoldable pub is_open : List Good → Bool
 is_open stretch =
     bytes_eq (map (λ p. p.flags) stretch) (flags_of_open (length stretch)) && are_counted_on
     (map (λ p. p.count) stretch)
-    && nat_le (length stretch) 1048576 && nat_le (size_of stretch) 67108864
+    && nat_le (length stretch) most_file_bodies && nat_le (size_of stretch) most_file_bytes
 
 -- the count of the last of these packets
 abbrev pub last_count : List Good → ℕ

@@ -3,7 +3,10 @@ use Rattle.std.specs.Prelude.{◌≡◌, ℕ, ◌+◌, ◌%◌, ◌<◌, ◌≤�
 use Rattle.std.specs.Prelude.{None, SomeIff, List, [], ◌∷◌, ◌++◌, length, map}
 use Rattle.std.specs.List.{concat}
 use Rattle.lr_bits.specs.File.{File}
+use Rattle.lr_bits.specs.declared.sizes.TheConstants.{TRANSPORT_HEADER_BYTES}
 use Rattle.lr_packet.specs.Verdict.{Good}
+use Rattle.lr_bits.specs.declared.sizes.TheConstants.{SEQUENCE_COUNTS}
+use Rattle.lr_bits.specs.Sizes.{most_file_bodies, most_file_bytes}
 use Rattle.lr_file.specs.declared.part.Part.{Part}
 use Rattle.lr_file.specs.declared.part.Part.TheVariants.{First, Between, Last, Single}
 use Rattle.lr_file.specs.Standing.{Open, AreAscending, kept_of_key}
@@ -29,8 +32,8 @@ file_with file packet =
 -- the packet's count is the next one, and its body passes no limit
 unfoldable pub is_next : Open → Good → Bool
 is_next file packet =
-    packet.count == (file.count + 1) % 16384 && nat_lt (length file.lengths) 1048576
-    && nat_le (length file.bytes + length packet.body) 67108864
+    packet.count == (file.count + 1) % SEQUENCE_COUNTS && nat_lt (length file.lengths) most_file_bodies
+    && nat_le (length file.bytes + length packet.body) most_file_bytes
 
 -- the open file with one packet more, if there is one and the packet follows
 abbrev pub continued_file : Option Open → Good → Option Open
@@ -64,7 +67,7 @@ pub record SetsKey {V : Type 0} (old new : List ((ℕ × ℕ) × V)) (packet : G
 abbrev pub IsBuilt : ℕ → ℕ → Open → Option File → Type 0
 IsBuilt vc apid open_file file = (bodies : List (List ℕ)) →
     0 < length bodies → open_file.lengths ≡ map length bodies → open_file.bytes ≡ concat bodies →
-    SomeIff file (10 ≤ length open_file.bytes) (record { vc = vc; apid = apid; bodies = bodies })
+    SomeIff file (TRANSPORT_HEADER_BYTES ≤ length open_file.bytes) (record { vc = vc; apid = apid; bodies = bodies })
 
 -- the file of the bodies that a packet ends, if it ends some
 abbrev pub IsFileOf : Good → Option Open → Option File → Type 0

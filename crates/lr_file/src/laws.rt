@@ -1,3 +1,5 @@
+//! Laws of the files of a list of packets.
+
 ghost use Rattle.lr_file.specs.Laws.{FilesAreSome, FilesFitThePackets, FilesKeepTheirOrder, OneFileEnds, OneFileIsOpen};
 ghost use Rattle.lr_file.specs.Laws.{PacketAddsItsFile};
 

@@ -1,16 +1,17 @@
 //! One open file.
 
 ghost use Rattle.std.specs.Prelude.{◌≡◌, ◌<◌, IsTrue, IfOk, OnOk};
+ghost use Rattle.lr_bits.specs.declared.sizes.TheConstants.{CHANNELS};
 ghost use Rattle.lr_packet.specs.Reading.{good};
 ghost use Rattle.lr_file.specs.Steps.{IsBuilt, file_begun_by, is_next, file_with};
 
-use lr_bits::{Bytes, Lengths, MOST_FILE_BODIES, MOST_FILE_BYTES, MissionFile, NoMemory};
+use lr_bits::{
+    Bytes, IDLE_APPLICATION, Lengths, MOST_FILE_BODIES, MOST_FILE_BYTES, MissionFile, NoMemory,
+    SEQUENCE_COUNTS,
+};
 use lr_packet::GoodPacket;
 use std::alloc::Global;
 use std::marker::Model;
-
-/// The packets of an application are counted in 14 bits.
-const COUNTS: u16 = 16_384;
 
 /// A file that has begun: the bodies so far, which are within the limits of a file, and the count of its last packet.
 #[derive(Drop)]
@@ -50,7 +51,7 @@ impl OpenFile {
     pub fn is_followed_by(&self, packet: &GoodPacket) -> bool
         ensures { result ≡ is_next self.now (good packet.now) }
     {
-        let next = (self.count + 1) % COUNTS;
+        let next = (self.count + 1) % SEQUENCE_COUNTS;
         let bodies = self.lengths.as_slice().len() + 1;
         let bytes = self.bytes.as_slice().len() + packet.body.len();
         packet.count == next && bodies <= MOST_FILE_BODIES && bytes <= MOST_FILE_BYTES
@@ -69,8 +70,8 @@ impl OpenFile {
 
     /// The mission file of this channel and application that has these bodies. `None`: they have fewer than ten bytes.
     pub fn finish(self, vc: u8, apid: u16) -> Option<MissionFile>
-        requires channel { vc < 64 }
-        requires application { apid < 2047 }
+        requires channel { vc < CHANNELS }
+        requires application { apid < IDLE_APPLICATION }
         ensures { IsBuilt vc apid self result }
     {
         let OpenFile { lengths, bytes, .. } = self;

@@ -1,3 +1,5 @@
+//! Which part of its file a packet carries, as its sequence flags say (CCSDS 133.0-B, section 4.1.3.4).
+
 ghost use Rattle.std.specs.Prelude.{◌≡◌};
 ghost use Rattle.lr_file.specs.Steps.{part_by_flags};
 

@@ -1,10 +1,13 @@
+//! The forms of the input, and the limits of an intake.
+
 use lr_conv::LineCode;
+use lr_gatecore::MOST_SEATS;
 
 /// The most bytes that a call takes from the source where no word gives another number.
 pub const MOST_BYTES: u64 = 1_099_511_627_776;
 
 /// The most that work on windows, the caller among them.
-pub const MOST_WORKERS: u64 = 64;
+pub const MOST_WORKERS: u64 = MOST_SEATS;
 
 /// Units of a fixed number of bytes, one after another.
 #[derive(Clone, Copy)]

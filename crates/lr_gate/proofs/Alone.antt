@@ -5,6 +5,7 @@ use mathlib.Core.Option.{some, some-injective, some-ne-none}
 use lib.ListN.{get_elem?}
 use Rattle.lr_gatecore.specs.declared.stage.Stage.{Stage}
 use Rattle.lr_gatecore.specs.declared.stage.Stage.TheVariants.{Ready, Busy, Done}
+use Rattle.lr_gatecore.specs.declared.sizes.TheConstants.{WORD_BASE}
 use Rattle.lr_gate.specs.declared.view.View.{View}
 use Rattle.lr_gate.specs.Words.{cell_word, finish_count}
 use Rattle.lr_gate.specs.Shows.{held_job, count_of, finishes_of, IsHeldBy, Lies, Shows}
@@ -29,17 +30,18 @@ module _ {J : Type 0} where
 
 module _ {J D : Type 0} (f : J → D) (crew : ℕ) where
   abbrev Told : View J → ℕ → ℕ → Type 0
-  Told v p word = (count_of p v.finished ≡ 0 → word ≡ p * 256 + 1) × (count_of p v.finished ≢ 0 → word ≡ p * 256 + 2)
+  Told v p word = (count_of p v.finished ≡ 0 → word ≡ p * WORD_BASE + 1)
+      × (count_of p v.finished ≢ 0 → word ≡ p * WORD_BASE + 2)
 
   by_stage : (n : ℕ) (s : St J D) (r : Shows f n crew s) (p : ℕ) (st : Stage) → length s.views ≡ 1
       → r.me.held ≡ None → r.me.taken ≤ p → p < r.me.taken + n → get_elem? r.stages p ≡ some st
       → Told r.me p (get_or s.words (p % n + 1) 0)
   by_stage n s r p Ready one free a b at = let ok = r.each_cell p a b in
-      let word : get_or s.words (p % n + 1) 0 ≡ p * 256 + 1 = ok.word ∙ ap (cell_word p) at in
+      let word : get_or s.words (p % n + 1) 0 ≡ p * WORD_BASE + 1 = ok.word ∙ ap (cell_word p) at in
       let count : count_of p r.me.finished ≡ 0 = sym (lone_counts p s.views r.me r.first one)
       ∙ (r.finishes p ∙ ap finish_count at) in (λ e. word, λ ne. absurd (ne count))
   by_stage n s r p Done one free a b at = let ok = r.each_cell p a b in
-      let word : get_or s.words (p % n + 1) 0 ≡ p * 256 + 2 = ok.word ∙ ap (cell_word p) at in
+      let word : get_or s.words (p % n + 1) 0 ≡ p * WORD_BASE + 2 = ok.word ∙ ap (cell_word p) at in
       let count : count_of p r.me.finished ≡ 1 = sym (lone_counts p s.views r.me r.first one)
       ∙ (r.finishes p ∙ ap finish_count at) in (λ e. absurd (omega (arith, e, count)), λ ne. word)
   by_stage n s r p (Busy w) one free a b at = let ok = r.each_cell p a b in

@@ -25,6 +25,7 @@ use Rattle.lr_gate.specs.Shows.{held_job, count_of, finishes_of, Lies, Shows}
 use Rattle.lr_gate.specs.Words.{finish_count}
 use Rattle.lr_gate.specs.Steps.{FoundAlone, read, SeatState, after_read, after_claim, after_finish, LookTells}
 use Rattle.lr_gate.specs.Steps.{ClaimTells, FinishTells}
+use Rattle.lr_gatecore.specs.declared.sizes.TheConstants.{MOST_JOBS, WORD_BASE}
 use Rattle.lr_gatecore.proofs.Lists.{at_length}
 use Rattle.lr_gate.proofs.Lists.{tag_of}
 use Rattle.lr_gate.proofs.Keeps.{St, Goes}
@@ -62,7 +63,7 @@ ready_tag : (o : maybe.Option Stage) (p : ℕ) → cell_word p o % 4 ≡ 1 → o
 ready_tag none p e = absurd (omega (arith, e))
 ready_tag (some Ready) p e = refl
 ready_tag (some Done) p e = let t = tag_of p 2 in absurd (omega (arith, e, t))
-ready_tag (some (Busy w)) p e = let t : (p * 256 + (4 * w + 3)) % 4 ≡ 3 = tag_of p (4 * w + 3)
+ready_tag (some (Busy w)) p e = let t : (p * WORD_BASE + (4 * w + 3)) % 4 ≡ 3 = tag_of p (4 * w + 3)
     ∙ mul-add-mod_self_left 4 w 3 in absurd (omega (arith, e, t))
 
 module _ {J : Type 0} where
@@ -78,7 +79,7 @@ module _ {J D : Type 0} (f : J → D) (crew : ℕ) where
   -- a cell whose word is ready
   abbrev IsReady : (n : ℕ) (s : St J D) → Shows f n crew s → ℕ → ℕ → Type 0
   IsReady n s r c found = (p : ℕ) × (r.me.taken ≤ p) × (p < r.me.taken + n) × (p % n ≡ c)
-      × (get_elem? r.stages p ≡ some Ready) × (found ≡ p * 256 + 1) × (p < 2 ^ 56)
+      × (get_elem? r.stages p ≡ some Ready) × (found ≡ p * WORD_BASE + 1) × (p < MOST_JOBS)
 
   ready_at : (n : ℕ) (s : St J D) (r : Shows f n crew s) (c : ℕ) → c < n → get_or s.words (c + 1) 0 % 4 ≡ 1
       → IsReady n s r c (get_or s.words (c + 1) 0)
@@ -131,7 +132,7 @@ module _ {J D : Type 0} (f : J → D) (crew : ℕ) where
 
   -- the expected word was found
   claim_on : (n slots id : ℕ) (m : SeatState J D) (i old new q : ℕ) (s : St J D) (r : Shows f n crew s)
-      → m.0.spent ≡ false → m.0.held ≡ None → 0 < i → i < n + 1 → old ≡ q * 256 + 1
+      → m.0.spent ≡ false → m.0.held ≡ None → 0 < i → i < n + 1 → old ≡ q * WORD_BASE + 1
       → new ≡ old + 4 * m.0.number + 2 → LastRead m.0 i old
       → length s.homes ≡ slots → get_elem? s.views id ≡ some m.0 → get_or s.words i 0 ≡ old
       → Goes f crew n s i id m new (ClaimTells f (step slots i old new none) m (get_or s.words i 0))
@@ -142,7 +143,7 @@ module _ {J D : Type 0} (f : J → D) (crew : ℕ) where
       let tag_old : old % 4 ≡ 1 = ap (λ (z : ℕ). z % 4) old_is ∙ tag_of q 1 in
       let tag : found % 4 ≡ 1 = ap (λ (z : ℕ). z % 4) hit ∙ tag_old in
       let g = ready_at n s r c (omega arith) (subst (λ (z : ℕ). get_or s.words z 0 % 4 ≡ 1) ic tag) in
-      let p : ℕ = g.0 in let found_is : found ≡ p * 256 + 1 = ap (λ (z : ℕ). get_or s.words z 0) ic ∙ g.5 in
+      let p : ℕ = g.0 in let found_is : found ≡ p * WORD_BASE + 1 = ap (λ (z : ℕ). get_or s.words z 0) ic ∙ g.5 in
       let lies : Lies f r.me s.homes s.views p (p % n) (some Ready) = subst (Lies f r.me s.homes s.views p
       (p % n)) g.4 (r.each_cell p g.1 g.2).lies in let j : J = lies.0 in
       let S : ℕ → ℕ → ℕ → Type 0 = λ x y z. Shows f n crew record {
@@ -150,11 +151,11 @@ module _ {J D : Type 0} (f : J → D) (crew : ℕ) where
         homes = set s.homes z none;
         views = set s.views id (after_claim m.0 k (held_job z p j));
       } in
-      let start : S (p % n + 1) (p * 256 + (4 * id + 3))
+      let start : S (p % n + 1) (p * WORD_BASE + (4 * id + 3))
       (p % n) = claim_shows f crew n s r id p m.0 k j at live free g.1 g.2 g.4 lies.1 in
-      let new' : p * 256 + (4 * id + 3) ≡ new = omega (arith, new_is, found_is, hit, is) in
+      let new' : p * WORD_BASE + (4 * id + 3) ≡ new = omega (arith, new_is, found_is, hit, is) in
       let now : S i new c = subst (λ x. S x new c) (sym ic)
-      (subst (λ y. S (c + 1) y c) new' (subst (λ z. S (z + 1) (p * 256 + (4 * id + 3)) z) g.3 start)) in
+      (subst (λ y. S (c + 1) y c) new' (subst (λ z. S (z + 1) (p * WORD_BASE + (4 * id + 3)) z) g.3 start)) in
       let place : p % slots + 1 ≡ i = ap (λ (z : ℕ). p % z + 1) (sym wide ∙ r.sized)
       ∙ (ap (λ (z : ℕ). z + 1) g.3 ∙ sym ic) in
       let fresh : count_of p m.0.finished ≡ 0 = none_there p s.views id m.0 at (r.finishes p ∙ ap finish_count g.4) in
@@ -175,7 +176,7 @@ module _ {J D : Type 0} (f : J → D) (crew : ℕ) where
       )
 
   claim_off : (n slots id : ℕ) (m : SeatState J D) (i old new q : ℕ) (s : St J D) (r : Shows f n crew s)
-      → m.0.spent ≡ false → old ≡ q * 256 + 1 → LastRead m.0 i old → length s.homes ≡ slots
+      → m.0.spent ≡ false → old ≡ q * WORD_BASE + 1 → LastRead m.0 i old → length s.homes ≡ slots
       → get_elem? s.views id ≡ some m.0 → get_or s.words i 0 ≢ old
       → Goes f crew n s i id m (get_or s.words i 0) (ClaimTells f (step slots i old new none) m (get_or s.words i 0))
   claim_off n slots id m i old new q s r live old_is last wide at miss = let found : ℕ = get_or s.words i 0 in
@@ -204,7 +205,7 @@ module _ {J D : Type 0} (f : J → D) (crew : ℕ) where
       )
 
   pub claims_go : (n slots id : ℕ) (m : SeatState J D) (i old new q : ℕ) → m.0.spent ≡ false → m.0.held ≡ None
-      → 0 < i → i < n + 1 → old ≡ q * 256 + 1 → new ≡ old + 4 * m.0.number + 2 → LastRead m.0 i old
+      → 0 < i → i < n + 1 → old ≡ q * WORD_BASE + 1 → new ≡ old + 4 * m.0.number + 2 → LastRead m.0 i old
       → Allows (Shows f n crew) slots id m i (λ z. either (eqb z old) new z)
       (ClaimTells f (step slots i old new none) m)
   claims_go n slots id m i old new q live free pos near old_is new_is last s r wide at _ =
@@ -215,7 +216,7 @@ module _ {J D : Type 0} (f : J → D) (crew : ℕ) where
 
   pub finishes_go : (n slots id : ℕ) (m : SeatState J D) (i new c : ℕ) (h : Held J) (more : List (ℕ × Cargo J D))
       → m.0.spent ≡ false → m.0.held ≡ Some h → h.cell ≡ c → m.1 ≡ (c, Made (f h.what)) ∷ more → i ≡ c + 1
-      → new ≡ h.job * 256 + 2
+      → new ≡ h.job * WORD_BASE + 2
       → Allows (Shows f n crew) slots id m i (λ _. new) (λ _. FinishTells f (step slots i new 0 none) m new)
   finishes_go n slots id m i new c h more live holds cell has word new_is s r wide at _ =
       let S : List (ℕ × Cargo J D) → ℕ → ℕ → Type 0 = λ cs x y. Shows f n crew record {
@@ -224,9 +225,9 @@ module _ {J D : Type 0} (f : J → D) (crew : ℕ) where
         views = set s.views id (after_finish m.0 h.job);
       } in
       let start : S ((h.cell, Made (f h.what)) ∷ more) (h.cell + 1)
-      (h.job * 256 + 2) = finish_shows f crew n s r id m.0 h at live holds in
+      (h.job * WORD_BASE + 2) = finish_shows f crew n s r id m.0 h at live holds in
       let now : S m.1 i new = subst (λ cs. S cs i new) (sym has)
       (subst (λ x. S ((c, Made (f h.what)) ∷ more) x new) (sym word)
       (subst (λ y. S ((c, Made (f h.what)) ∷ more) (c + 1) y) (sym new_is)
-      (subst (λ z. S ((z, Made (f h.what)) ∷ more) (z + 1) (h.job * 256 + 2)) cell start))) in
+      (subst (λ z. S ((z, Made (f h.what)) ∷ more) (z + 1) (h.job * WORD_BASE + 2)) cell start))) in
       (after_finish m.0 h.job, table.gives, tt, now, (h, holds, refl))

@@ -20,6 +20,7 @@ use Rattle.lr_gate.specs.Words.{cell_word, finish_count}
 use Rattle.lr_gate.specs.Shows.{held_job, IsHeldBy, is_being_taken, Lies, IsCellShown, Shows}
 use Rattle.lr_gate.specs.Steps.{SeatState, after_put, put_view, PutTells}
 use Rattle.lr_gate.proofs.Alike.{spents_stay}
+use Rattle.lr_gatecore.specs.declared.sizes.TheConstants.{MOST_JOBS, WORD_BASE}
 use Rattle.lr_gatecore.proofs.Lists.{snoc_else, at_length}
 use Rattle.lr_gate.proofs.Lists.{other_cell, same_finishes}
 
@@ -64,10 +65,10 @@ module _ {J D : Type 0} (f : J → D) (crew : ℕ) where
   put_ends (suc i) (x ∷ xs) = put_ends i xs
 
   -- the next job goes into its cell
-  unfoldable pub put_shows : (n : ℕ) (s : St J D) (r : Shows f n crew s) (j : J) → length r.me.jobs < 2 ^ 56
+  unfoldable pub put_shows : (n : ℕ) (s : St J D) (r : Shows f n crew s) (j : J) → length r.me.jobs < MOST_JOBS
       → length r.me.jobs < r.me.taken + n
       → Shows f n crew record {
-        words = set s.words (length r.me.jobs % n + 1) (length r.me.jobs * 256 + 1);
+        words = set s.words (length r.me.jobs % n + 1) (length r.me.jobs * WORD_BASE + 1);
         homes = set s.homes (length r.me.jobs % n) (some (Given j));
         views = set s.views 0 (after_put r.me j);
       }
@@ -76,7 +77,7 @@ module _ {J D : Type 0} (f : J → D) (crew : ℕ) where
       let many : length r.stages ≡ p = r.as_many in let beh : t ≤ length r.stages = r.behind in
       let near : c < n = mod-lt p r.some_cell in let homes' : Homes J D = set s.homes c (some (Given j)) in
       let views' : List (View J) = set s.views 0 me' in
-      let words' : List ℕ = set s.words (c + 1) (p * 256 + 1) in
+      let words' : List ℕ = set s.words (c + 1) (p * WORD_BASE + 1) in
       let some_view : 0 < length s.views = at_length s.views 0 r.me r.first in
       let long : length st' ≡ length r.stages + 1 = length-append r.stages (Ready ∷ []) in
       let here : get_elem? st' p ≡ some Ready = at_last r.stages Ready p many in
@@ -87,11 +88,11 @@ module _ {J D : Type 0} (f : J → D) (crew : ℕ) where
         awake = r.awake;
         some_cell = r.some_cell;
         sized = length-set s.homes c (some (Given j)) ∙ r.sized;
-        wide = length-set s.words (c + 1) (p * 256 + 1) ∙ r.wide;
+        wide = length-set s.words (c + 1) (p * WORD_BASE + 1) ∙ r.wide;
         as_many = omega (arith, long, length-append r.me.jobs (j ∷ []));
         behind = omega (arith, long);
         within = omega (arith, long);
-        stop_is = get_or-set_other s.words (c + 1) 0 (p * 256 + 1) 0 (λ e. omega arith) ∙ r.stop_is;
+        stop_is = get_or-set_other s.words (c + 1) 0 (p * WORD_BASE + 1) 0 (λ e. omega arith) ∙ r.stop_is;
         taking_is = λ e. at_longer r.stages (Ready ∷ []) t Done (r.taking_is e);
         past = λ q a. at_longer r.stages (Ready ∷ []) q Done (r.past q a);
         few = omega (arith, length-append r.me.jobs (j ∷ []));
@@ -102,7 +103,7 @@ module _ {J D : Type 0} (f : J → D) (crew : ℕ) where
         each_cell = λ q a b. dite (ℕ_discrete q p)
             (λ e. subst (IsCellShown f n me' st' record { words = words'; homes = homes'; views = views' })
             (sym e) record {
-              word = get_or-set_same s.words (c + 1) (p * 256 + 1) 0 (omega arith) ∙ ap (cell_word p) (sym here);
+              word = get_or-set_same s.words (c + 1) (p * WORD_BASE + 1) 0 (omega arith) ∙ ap (cell_word p) (sym here);
               lies = subst (Lies f me' homes' views' p c) (sym here) (
                 j,
                 at_last r.me.jobs j p refl,
@@ -113,7 +114,7 @@ module _ {J D : Type 0} (f : J → D) (crew : ℕ) where
             let apart : q % n ≢ c = other_cell p q n (omega arith) (omega arith) ne in
             let stage : get_elem? st' q ≡ get_elem? r.stages q = snoc_else r.stages Ready q
             (λ e. ne (e ∙ many)) in record {
-              word = get_or-set_other s.words (c + 1) (q % n + 1) (p * 256 + 1) 0 (λ e. apart (omega arith))
+              word = get_or-set_other s.words (c + 1) (q % n + 1) (p * WORD_BASE + 1) 0 (λ e. apart (omega arith))
                   ∙ (ok.word ∙ ap (cell_word q) (sym stage));
               lies = subst (Lies f me' homes' views' q (q % n)) (sym stage)
                   (lies_stay f r.me me' s.homes homes' s.views views' q (q % n) refl refl
@@ -153,8 +154,8 @@ module _ {J D : Type 0} (f : J → D) (crew : ℕ) where
       × Shows f n crew (stepped s i new id m.1 w a) × then (w, carried_after m.1 a)
 
   pub puts_go : (n slots id : ℕ) (m : SeatState J D) (i new c p : ℕ) (j : J) (more : List (ℕ × Cargo J D))
-      → id ≡ 0 → m.1 ≡ (c, Given j) ∷ more → p ≡ length m.0.jobs → c ≡ p % n → i ≡ c + 1 → new ≡ p * 256 + 1
-      → p < 2 ^ 56 → p < m.0.taken + n
+      → id ≡ 0 → m.1 ≡ (c, Given j) ∷ more → p ≡ length m.0.jobs → c ≡ p % n → i ≡ c + 1 → new ≡ p * WORD_BASE + 1
+      → p < MOST_JOBS → p < m.0.taken + n
       → Allows (Shows f n crew) slots id m i (λ _. new) (λ _. PutTells (step slots i new 0 none) m new)
   puts_go n slots id m i new c p j more first has many cell word new_is few room s r wide at _ =
       let is : r.me ≡ m.0 = some-injective r.me m.0 (sym r.first ∙ (ap (get_elem? s.views) (sym first) ∙ at)) in
@@ -163,7 +164,7 @@ module _ {J D : Type 0} (f : J → D) (crew : ℕ) where
       (subst (λ (z : ℕ). z < m.0.taken + n) many room) in
       let c' : c ≡ q % n = cell ∙ ap (λ (z : ℕ). z % n) pq in
       let i' : i ≡ q % n + 1 = word ∙ ap (λ (z : ℕ). z + 1) c' in
-      let n' : new ≡ q * 256 + 1 = new_is ∙ ap (λ (z : ℕ). z * 256 + 1) pq in
+      let n' : new ≡ q * WORD_BASE + 1 = new_is ∙ ap (λ (z : ℕ). z * WORD_BASE + 1) pq in
       let told : SeatState J D → Type 0 = PutTells (step slots i new 0 none) m new in
       let S : List (ℕ × Cargo J D) → ℕ → ℕ → ℕ → View J
       → Type 0 = λ cs x y z v. Shows f n crew record {
@@ -171,12 +172,12 @@ module _ {J D : Type 0} (f : J → D) (crew : ℕ) where
         homes = table.put_back s.homes cs;
         views = set s.views z (after_put v j);
       } in
-      let start : S ((q % n, Given j) ∷ more) (q % n + 1) (q * 256 + 1) 0 r.me = put_shows n s r j
-      (subst (λ (z : ℕ). z < 2 ^ 56) pq few) room' in
+      let start : S ((q % n, Given j) ∷ more) (q % n + 1) (q * WORD_BASE + 1) 0 r.me = put_shows n s r j
+      (subst (λ (z : ℕ). z < MOST_JOBS) pq few) room' in
       let now : S m.1 i new id m.0 = subst (λ cs. S cs i new id m.0) (sym has)
       (subst (λ z. S ((z, Given j) ∷ more) i new id m.0) (sym c')
       (subst (λ x. S ((q % n, Given j) ∷ more) x new id m.0) (sym i')
       (subst (λ y. S ((q % n, Given j) ∷ more) (q % n + 1) y id m.0) (sym n')
-      (subst (λ z. S ((q % n, Given j) ∷ more) (q % n + 1) (q * 256 + 1) z m.0) (sym first)
-      (subst (λ v. S ((q % n, Given j) ∷ more) (q % n + 1) (q * 256 + 1) 0 v) is start))))) in
+      (subst (λ z. S ((q % n, Given j) ∷ more) (q % n + 1) (q * WORD_BASE + 1) z m.0) (sym first)
+      (subst (λ v. S ((q % n, Given j) ∷ more) (q % n + 1) (q * WORD_BASE + 1) 0 v) is start))))) in
       (after_put m.0 j, table.gives, tt, now, ap (λ (cs : List (ℕ × Cargo J D)). (put_view m.0 cs, rest m.1)) (sym has))

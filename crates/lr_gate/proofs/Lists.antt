@@ -7,6 +7,7 @@ use native.Mathlib.Decide.{dec_le}
 use lib.ListN.{get_elem?}
 use Rattle.std.proofs.Math.Nat.{mul-add-mod_self_right, add-mod_right}
 use Rattle.atomic_table.specs.Table.{rest}
+use Rattle.lr_gatecore.specs.declared.sizes.TheConstants.{MOST_SEATS, WORD_BASE}
 use Rattle.lr_gate.specs.declared.cargo.Cargo.{Cargo}
 use Rattle.lr_gate.specs.declared.cargo.Cargo.TheVariants.{Empty, Given, Made}
 use Rattle.lr_gate.specs.Shows.{count_of, finishes_of}
@@ -44,9 +45,9 @@ pub other_cell : (p q n : ℕ) → p < q + n → q < p + n → q ≢ p → q % n
 other_cell p q n a b ne e = two_cells p q n a b ne e (dec_le p q)
 
 -- the tag of a word
-pub tag_of : (p c : ℕ) → (p * 256 + c) % 4 ≡ c % 4
-tag_of p c = ap (λ (z : ℕ). (z + c) % 4) (let e : p * 256 ≡ p * 64 * 4 = omega arith in
-    e) ∙ mul-add-mod_self_right (p * 64) 4 c
+pub tag_of : (p c : ℕ) → (p * WORD_BASE + c) % 4 ≡ c % 4
+tag_of p c = ap (λ (z : ℕ). (z + c) % 4) (let e : p * WORD_BASE ≡ p * MOST_SEATS * 4 = omega arith in
+    e) ∙ mul-add-mod_self_right (p * MOST_SEATS) 4 c
 
 module _ {J D : Type 0} where
   rest_free_at : (k p t m : ℕ) → m ≡ suc (t + k - (p + 1))

@@ -5,6 +5,7 @@ use mathlib.Core.Option.{some}
 use lib.ListN.{get_elem?}
 use Rattle.atomic_table.proofs.Lists.{at_set}
 use Rattle.lr_gatecore.specs.declared.stage.Stage.TheVariants.{Busy}
+use Rattle.lr_gatecore.specs.declared.sizes.TheConstants.{MOST_JOBS}
 use Rattle.lr_gate.specs.declared.view.Read.{Read}
 use Rattle.lr_gate.specs.declared.view.View.{View}
 use Rattle.lr_gate.specs.Shows.{held_job, Shows}
@@ -44,7 +45,7 @@ module _ {J D : Type 0} (f : J → D) (crew : ℕ) where
         stop_is = r.stop_is ∙ ap Rattle.lr_gate.specs.Shows.flag (sym same.stopped);
         taking_is = λ e. ap (get_elem? r.stages) taken ∙ r.taking_is (sym same.taking ∙ e);
         past = λ p l. r.past p (subst (λ z. p < z) taken l);
-        few = subst (λ xs. length xs ≤ 2 ^ 56) (sym same.jobs) r.few;
+        few = subst (λ xs. length xs ≤ MOST_JOBS) (sym same.jobs) r.few;
         finishes = λ i. same_finishes i s.views id v v' at refl ∙ r.finishes i;
         seats = length-set s.views id v' ∙ (r.seats ∙ ap (λ z. z + 1) (sym same.split_off));
         crew = subst (λ z. z ≤ crew) (sym same.split_off) r.crew;

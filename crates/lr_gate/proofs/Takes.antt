@@ -21,6 +21,7 @@ use Rattle.lr_gate.specs.Words.{stage_code, cell_word}
 use Rattle.lr_gate.specs.Shows.{held_job, is_being_taken, IsSeatShown, Lies, IsCellShown, Shows}
 use Rattle.lr_gate.specs.Steps.{FoundAlone, read, SeatState, after_read, after_grab, after_take, after_split}
 use Rattle.lr_gate.specs.Steps.{new_view, GrabTells, TakeTells, StopTells, after_stop}
+use Rattle.lr_gatecore.specs.declared.sizes.TheConstants.{WORD_BASE}
 use Rattle.lr_gatecore.proofs.Lists.{at_above, at_length}
 use Rattle.lr_gate.proofs.Lists.{at_below, other_cell, tag_of, at_end, none_not_some, same_finishes, finishes_end}
 use Rattle.lr_gate.proofs.Alike.{spents_stay}
@@ -300,7 +301,8 @@ module _ {J D : Type 0} (f : J → D) (crew : ℕ) where
   -- take's load
   grab_cases : (n slots id : ℕ) (m : SeatState J D) (i : ℕ) (s : St J D) (r : Shows f n crew s) → slots ≡ n
       → id ≡ 0 → r.me ≡ m.0 → m.0.taking ≡ false → FoundAlone slots i m.0 (get_or s.words i 0)
-      → (st : Stage) → get_elem? r.stages r.me.taken ≡ some st → get_or s.words i 0 ≡ r.me.taken * 256 + stage_code st
+      → (st : Stage) → get_elem? r.stages r.me.taken ≡ some st
+      → get_or s.words i 0 ≡ r.me.taken * WORD_BASE + stage_code st
       → Goes f crew n s i id m (get_or s.words i 0) (GrabTells f (step slots i 0 0 none) m (get_or s.words i 0))
   grab_cases n slots id m i s r sized first is idle lone Ready stage found =
       look_on n slots id m i s r first is lone

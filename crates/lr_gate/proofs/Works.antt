@@ -17,6 +17,7 @@ use Rattle.lr_gatecore.specs.declared.stage.Stage.TheVariants.{Ready, Busy, Done
 use Rattle.lr_gate.specs.Words.{cell_word, finish_count}
 use Rattle.lr_gate.specs.Shows.{flag, held_job, IsHeldBy, is_being_taken, Lies, IsCellShown, Shows}
 use Rattle.lr_gate.specs.Steps.{after_claim, after_finish}
+use Rattle.lr_gatecore.specs.declared.sizes.TheConstants.{MOST_JOBS, WORD_BASE}
 use Rattle.lr_gatecore.proofs.Lists.{at_length}
 use Rattle.lr_gate.proofs.Lists.{other_cell, none_not_some, inside, same_finishes, one_more}
 use Rattle.lr_gate.proofs.Alike.{Alike, first_after, hidden_same, seat_same, spents_stay}
@@ -83,14 +84,14 @@ module _ {J D : Type 0} (f : J → D) (crew : ℕ) where
       (j : J) → get_elem? s.views id ≡ some v → v.spent ≡ false → v.held ≡ None
       → r.me.taken ≤ p → p < r.me.taken + n → get_elem? r.stages p ≡ some Ready → get_elem? r.me.jobs p ≡ some j
       → Shows f n crew record {
-        words = set s.words (p % n + 1) (p * 256 + (4 * id + 3));
+        words = set s.words (p % n + 1) (p * WORD_BASE + (4 * id + 3));
         homes = set s.homes (p % n) none;
         views = set s.views id (after_claim v k (held_job (p % n) p j));
       }
   claim_shows n s r id p v k j at live free a b stage job = let c : ℕ = p % n in
       let v' : View J = after_claim v k (held_job c p j) in let views' : List (View J) = set s.views id v' in
       let homes' : Homes J D = set s.homes c none in
-      let x : ℕ = p * 256 + (4 * id + 3) in let words' : List ℕ = set s.words (c + 1) x in
+      let x : ℕ = p * WORD_BASE + (4 * id + 3) in let words' : List ℕ = set s.words (c + 1) x in
       let st' : List Stage = set r.stages p (Busy id) in let near : c < n = mod-lt p r.some_cell in
       let t : ℕ = r.me.taken in
       let wide : length s.words ≡ n + 1 = r.wide in
@@ -129,7 +130,7 @@ module _ {J D : Type 0} (f : J → D) (crew : ℕ) where
             (ap (get_elem? r.stages) (sym is) ∙ r.taking_is e) in absurd (unlike_done w)) ∙ r.taking_is e);
         past = λ q l'. let l : q < t = subst (λ z. q < z) taken l' in
             set_else r.stages p q (Busy id) (λ is. omega arith) ∙ r.past q l;
-        few = subst (λ xs. length xs ≤ 2 ^ 56) (sym same.jobs) r.few;
+        few = subst (λ xs. length xs ≤ MOST_JOBS) (sym same.jobs) r.few;
         finishes = λ i. same_finishes i s.views id v v' at refl
             ∙ (r.finishes i ∙ sym (ended_set r.stages p i Ready (Busy id) stage refl
             ∙ no_more (finish_count (get_elem? r.stages i)) (i == p)));
@@ -186,13 +187,13 @@ module _ {J D : Type 0} (f : J → D) (crew : ℕ) where
       → get_elem? s.views id ≡ some v → v.spent ≡ false → v.held ≡ Some h
       → r.me.taken ≤ h.job → get_elem? r.stages h.job ≡ some (Busy id) → get_elem? r.me.jobs h.job ≡ some h.what
       → Shows f n crew record {
-        words = set s.words (h.job % n + 1) (h.job * 256 + 2);
+        words = set s.words (h.job % n + 1) (h.job * WORD_BASE + 2);
         homes = set s.homes (h.job % n) (some (Made (f h.what)));
         views = set s.views id (after_finish v h.job);
       }
   finish_at n s r id v h at live holds a stage job = let p : ℕ = h.job in let c : ℕ = p % n in
       let v' : View J = after_finish v p in let views' : List (View J) = set s.views id v' in
-      let homes' : Homes J D = set s.homes c (some (Made (f h.what))) in let x : ℕ = p * 256 + 2 in
+      let homes' : Homes J D = set s.homes c (some (Made (f h.what))) in let x : ℕ = p * WORD_BASE + 2 in
       let words' : List ℕ = set s.words (c + 1) x in let st' : List Stage = set r.stages p Done in
       let near : c < n = mod-lt p r.some_cell in let t : ℕ = r.me.taken in
       let wide : length s.words ≡ n + 1 = r.wide in
@@ -235,7 +236,7 @@ module _ {J D : Type 0} (f : J → D) (crew : ℕ) where
             ap (get_elem? st') taken ∙ (set_else r.stages p t Done (λ is. calm e (sym is)) ∙ r.taking_is e);
         past = λ q l'. let l : q < t = subst (λ z. q < z) taken l' in
             set_else r.stages p q Done (λ is. omega arith) ∙ r.past q l;
-        few = subst (λ xs. length xs ≤ 2 ^ 56) (sym same.jobs) r.few;
+        few = subst (λ xs. length xs ≤ MOST_JOBS) (sym same.jobs) r.few;
         finishes = λ i. one_more i p s.views id v v' at refl
             ∙ (ap (λ (z : ℕ). z + cond (i == p) 1 0) (r.finishes i)
             ∙ sym (ended_set r.stages p i (Busy id) Done stage refl));
@@ -290,13 +291,13 @@ module _ {J D : Type 0} (f : J → D) (crew : ℕ) where
   pub finish_shows : (n : ℕ) (s : St J D) (r : Shows f n crew s) (id : ℕ) (v : View J) (h : Held J)
       → get_elem? s.views id ≡ some v → v.spent ≡ false → v.held ≡ Some h
       → Shows f n crew record {
-        words = set s.words (h.cell + 1) (h.job * 256 + 2);
+        words = set s.words (h.cell + 1) (h.job * WORD_BASE + 2);
         homes = set s.homes h.cell (some (Made (f h.what)));
         views = set s.views id (after_finish v h.job);
       }
   finish_shows n s r id v h at live holds = let ok = r.each_seat id v at live in let g = ok.holds h holds in
       subst (λ (z : ℕ). Shows f n crew record {
-        words = set s.words (z + 1) (h.job * 256 + 2);
+        words = set s.words (z + 1) (h.job * WORD_BASE + 2);
         homes = set s.homes z (some (Made (f h.what)));
         views = set s.views id (after_finish v h.job);
       }) (sym g.1)

@@ -5,6 +5,7 @@ use mathlib.Core.Option.{some}
 use lib.ListN.{get_elem?}
 use Rattle.atomic_table.specs.Seated.{TableId}
 use Rattle.atomic_table.specs.declared.shared.Seat.{Seat}
+use Rattle.lr_gatecore.specs.declared.sizes.TheConstants.{MOST_JOBS, MOST_SEATS}
 use Rattle.lr_gate.specs.declared.cargo.Cargo.{Cargo}
 use Rattle.lr_gate.specs.declared.view.View.{View}
 use Rattle.lr_gate.specs.declared.view.Read.{Read}
@@ -24,7 +25,7 @@ pub record IsConductor {J D : Type 0} (z : TableId) (cells crew : ℕ) (seat : S
   pub taken_is : taken ≡ seat.me.0.taken
   pub behind : taken ≤ put
   pub within : put ≤ taken + cells
-  pub few : put ≤ 2 ^ 56
+  pub few : put ≤ MOST_JOBS
   pub stocked : seat.me.0.stocked ≡ true
   pub resting : seat.me.0.taking ≡ false
   pub crew_is : seat.me.0.split_off ≡ crew
@@ -35,7 +36,7 @@ pub record IsConductor {J D : Type 0} (z : TableId) (cells crew : ℕ) (seat : S
 pub record IsWorker {J D : Type 0} (z : TableId) (seat : Seat (Cargo J D) (View J)) (number : ℕ) : Type 0 where
   pub table : seat.table_id ≡ z
   pub number_is : seat.me.0.number ≡ number
-  pub low : number < 64
+  pub low : number < MOST_SEATS
   pub live : seat.me.0.spent ≡ false
   pub free : seat.me.0.held ≡ None
   pub empty : seat.me.1 ≡ []
@@ -44,7 +45,7 @@ pub record IsWorker {J D : Type 0} (z : TableId) (seat : Seat (Cargo J D) (View 
 pub record MayClaim {J D : Type 0} (z : TableId) (seat : Seat (Cargo J D) (View J)) (number : ℕ) : Type 0 where
   pub table : seat.table_id ≡ z
   pub number_is : seat.me.0.number ≡ number
-  pub low : number < 64
+  pub low : number < MOST_SEATS
   pub live : seat.me.0.spent ≡ false
   pub free : seat.me.0.held ≡ None
 

@@ -6,6 +6,7 @@ use Rattle.atomic_table.specs.Table.{State}
 use Rattle.lr_gatecore.specs.declared.stage.Stage.{Stage}
 use Rattle.lr_gatecore.specs.declared.stage.Stage.TheVariants.{Ready, Busy, Done}
 use Rattle.lr_gatecore.specs.Machine.{Machine, IsState, HasStage, put_count}
+use Rattle.lr_gatecore.specs.declared.sizes.TheConstants.{WORD_BASE}
 use Rattle.lr_gate.specs.declared.cargo.Cargo.{Cargo}
 use Rattle.lr_gate.specs.declared.cargo.Cargo.TheVariants.{Given, Made}
 use Rattle.lr_gate.specs.declared.view.Held.{Held}
@@ -27,7 +28,7 @@ module _ {J D : Type 0} (gives : J → D) where
     pub free : (c : ℕ) → c < n
         → (slice_index_or s.words (c + 1) 0 ≡ 0) ↔ ((i : ℕ) → m.taken ≤ i → i < put_count m → i % n ≢ c)
     pub told : (i : ℕ) (stage : Stage) → HasStage m i stage
-        → slice_index_or s.words (i % n + 1) 0 ≡ i * 256 + stage_code stage
+        → slice_index_or s.words (i % n + 1) 0 ≡ i * WORD_BASE + stage_code stage
     -- the slot of a free cell is out, once the conductor picked all cells up
     pub free_slot : me.stocked ≡ true → (c : ℕ) → c < n → slice_index_or s.words (c + 1) 0 ≡ 0
         → get_elem? s.homes c ≡ some none

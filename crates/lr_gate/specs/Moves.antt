@@ -7,6 +7,7 @@ use Rattle.lr_gatecore.specs.declared.event.Event.{Event}
 use Rattle.lr_gatecore.specs.declared.event.Event.TheVariants.{Put, Claim, Finish, Take, Stop}
 use Rattle.lr_gatecore.specs.declared.stage.Stage.TheVariants.{Ready}
 use Rattle.lr_gatecore.specs.Machine.{Moves, HasStage}
+use Rattle.lr_gatecore.specs.declared.sizes.TheConstants.{MOST_JOBS, WORD_BASE}
 use Rattle.lr_gate.specs.declared.cargo.Cargo.{Cargo}
 use Rattle.lr_gate.specs.declared.cargo.Cargo.TheVariants.{Given, Made}
 use Rattle.lr_gate.specs.declared.view.Held.{Held}
@@ -26,9 +27,9 @@ module _ {J D : Type 0} (gives : J → D) (n workers : ℕ) where
   -- the store of a put
   abbrev pub PutIsMove : (s : State (Cargo J D) (View J)) → Shows gives n workers s → Type 0
   PutIsMove s r =
-      (j : J) → r.me.stopped ≡ false → length r.me.jobs < 2 ^ 56 → length r.me.jobs < r.me.taken + n
+      (j : J) → r.me.stopped ≡ false → length r.me.jobs < MOST_JOBS → length r.me.jobs < r.me.taken + n
       → IsMove s r Put (length r.me.jobs) record {
-        words = slice_set s.words (length r.me.jobs % n + 1) (length r.me.jobs * 256 + 1);
+        words = slice_set s.words (length r.me.jobs % n + 1) (length r.me.jobs * WORD_BASE + 1);
         homes = slice_set s.homes (length r.me.jobs % n) (some (Given j));
         views = slice_set s.views 0 (after_put r.me j);
       }
@@ -39,7 +40,7 @@ module _ {J D : Type 0} (gives : J → D) (n workers : ℕ) where
       (w p : ℕ) (v : View J) (k : Read) (j : J) → get_elem? s.views w ≡ some v → v.spent ≡ false
       → v.held ≡ None → HasStage (machine_of gives n workers s r) p Ready → get_elem? r.me.jobs p ≡ some j
       → IsMove s r (Claim w (p % n)) p record {
-        words = slice_set s.words (p % n + 1) (p * 256 + (4 * w + 3));
+        words = slice_set s.words (p % n + 1) (p * WORD_BASE + (4 * w + 3));
         homes = slice_set s.homes (p % n) none;
         views = slice_set s.views w (after_claim v k (held_job (p % n) p j));
       }
@@ -49,7 +50,7 @@ module _ {J D : Type 0} (gives : J → D) (n workers : ℕ) where
   FinishIsMove s r =
       (w : ℕ) (v : View J) (h : Held J) → get_elem? s.views w ≡ some v → v.spent ≡ false → v.held ≡ Some h
       → IsMove s r (Finish w) h.job record {
-        words = slice_set s.words (h.job % n + 1) (h.job * 256 + 2);
+        words = slice_set s.words (h.job % n + 1) (h.job * WORD_BASE + 2);
         homes = slice_set s.homes (h.job % n) (some (Made (gives h.what)));
         views = slice_set s.views w (after_finish v h.job);
       }

@@ -1,5 +1,6 @@
 -- What the list of reads tells of a call.
 use Rattle.std.specs.Prelude.{◌≡◌, ℕ, ◌+◌, ◌*◌, ◌%◌, ◌≢◌, List, [], ◌∷◌, ◌++◌, Some, None, ◌⊎◌}
+use Rattle.lr_gatecore.specs.declared.sizes.TheConstants.{WORD_BASE}
 use Rattle.lr_gate.specs.declared.view.Read.{Read}
 use Rattle.lr_gate.specs.Steps.{read}
 
@@ -28,5 +29,5 @@ IsPassedOver reads cell =
 abbrev pub ClaimsJob : List Read → ℕ → ℕ → Type 0
 ClaimsJob reads n job =
     (earlier : List Read)
-    × (reads ≡ earlier ++ read (job % n + 1) None (job * 256 + 1)
-    ∷ read (job % n + 1) (Some (job * 256 + 1)) (job * 256 + 1) ∷ [])
+    × (reads ≡ earlier ++ read (job % n + 1) None (job * WORD_BASE + 1)
+    ∷ read (job % n + 1) (Some (job * WORD_BASE + 1)) (job * WORD_BASE + 1) ∷ [])

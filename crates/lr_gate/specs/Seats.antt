@@ -90,7 +90,7 @@ module _ {J : Type 0} where
   Helps n old new false =
       (reads : List Read) × (new ≡ with_reads old reads) × ((c : ℕ) → c < n → IsPassedOver reads c)
 
-  -- the same of a worker's turn, or the stop word was loaded in it, and was set
+  -- a worker's turn did a job, or passed over every cell; or the stop word was loaded in it, and was set
   abbrev pub Turns : ℕ → View J → View J → Turn → Type 0
   Turns n old new Did =
       (p : ℕ) × (reads : List Read) × (new ≡ after_work old reads p) × ClaimsJob reads n p × ¬ HasFinished old p

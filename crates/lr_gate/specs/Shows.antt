@@ -8,6 +8,7 @@ use Rattle.atomic_table.specs.Table.{State}
 use Rattle.lr_gatecore.specs.declared.stage.Stage.{Stage}
 use Rattle.lr_gatecore.specs.declared.stage.Stage.TheVariants.{Ready, Busy, Done}
 use Rattle.lr_gatecore.specs.Machine.{Machine}
+use Rattle.lr_gatecore.specs.declared.sizes.TheConstants.{MOST_JOBS}
 use Rattle.lr_gate.specs.declared.cargo.Cargo.{Cargo}
 use Rattle.lr_gate.specs.declared.cargo.Cargo.TheVariants.{Empty, Given, Made}
 use Rattle.lr_gate.specs.declared.view.Held.{Held}
@@ -83,7 +84,7 @@ module _ {J D : Type 0} (gives : J → D) where
     pub stop_is : slice_index_or s.words 0 0 ≡ flag me.stopped
     pub taking_is : me.taking ≡ true → get_elem? stages me.taken ≡ some Done
     pub past : (p : ℕ) → p < me.taken → get_elem? stages p ≡ some Done
-    pub few : length me.jobs ≤ 2 ^ 56
+    pub few : length me.jobs ≤ MOST_JOBS
     pub finishes : (i : ℕ) → finishes_of i s.views ≡ finish_count (get_elem? stages i)
     pub seats : length s.views ≡ me.split_off + 1
     pub crew : me.split_off ≤ workers

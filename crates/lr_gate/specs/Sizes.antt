@@ -1,6 +1,7 @@
 -- How large a gate's table is.
 use Rattle.std.specs.Prelude.{◌≡◌, ℕ, ◌+◌, ◌<◌, ◌≤◌}
 use Rattle.atomic_table.specs.Seated.{TableId}
+use Rattle.lr_gatecore.specs.declared.sizes.TheConstants.{MOST_CELLS, MOST_HANDS}
 use Rattle.lr_gate.specs.declared.view.Size.{Size}
 
 -- a slot for each cell, and a word for each and one for the stop
@@ -10,5 +11,5 @@ pub record HasSize (table : TableId) (size : Size) (cells workers : ℕ) : Type 
   pub cells_are : size.cells ≡ cells
   pub workers_are : size.workers ≡ workers
   pub some_cell : 0 < cells
-  pub most_cells : cells ≤ 256
-  pub most_workers : workers ≤ 63
+  pub most_cells : cells ≤ MOST_CELLS
+  pub most_workers : workers ≤ MOST_HANDS

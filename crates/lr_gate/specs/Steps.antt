@@ -4,6 +4,7 @@ use Rattle.std.specs.Prelude.{◌++◌, length, Option, Some, None}
 use mathlib.Core.Option.{some}
 use lib.ListN.{get_elem?}
 use Rattle.atomic_table.specs.Table.{Me, Step, rest}
+use Rattle.lr_gatecore.specs.declared.sizes.TheConstants.{MOST_JOBS, WORD_BASE}
 use Rattle.lr_gate.specs.declared.cargo.Cargo.{Cargo}
 use Rattle.lr_gate.specs.declared.cargo.Cargo.TheVariants.{Empty, Given, Made}
 use Rattle.lr_gate.specs.declared.view.Held.{Held}
@@ -70,7 +71,8 @@ module _ {J : Type 0} where
   FoundAlone n word v found =
       v.split_off ≡ 0 → v.number ≡ 0 → v.held ≡ None
       → ((p : ℕ) → v.taken ≤ p → p < length v.jobs → p % n + 1 ≡ word
-      → (count_of p v.finished ≡ 0 → found ≡ p * 256 + 1) × (count_of p v.finished ≢ 0 → found ≡ p * 256 + 2))
+      → (count_of p v.finished ≡ 0 → found ≡ p * WORD_BASE + 1)
+      × (count_of p v.finished ≢ 0 → found ≡ p * WORD_BASE + 2))
       × ((p : ℕ) → p < v.taken → count_of p v.finished ≢ 0)
 
 -- a seat's view, and the slots that it holds
@@ -121,7 +123,7 @@ module _ {J D : Type 0} where
     abbrev pub LookTells : Step (Cargo J D) → SeatState J D → ℕ → SeatState J D → Type 0
     LookTells st m r m' =
         (m' ≡ (after_read m.0 (read st.word None r), m.1))
-        × (r % 4 ≡ 1 → 0 < st.word → (p : ℕ) × (p < 2 ^ 56) × (r ≡ p * 256 + 1))
+        × (r % 4 ≡ 1 → 0 < st.word → (p : ℕ) × (p < MOST_JOBS) × (r ≡ p * WORD_BASE + 1))
         × FoundAlone st.slots st.word m.0 r
 
     -- claim's exchange, of the word c + 1. It expects a ready word, which the seat's last read found in this very
@@ -130,7 +132,7 @@ module _ {J D : Type 0} where
     abbrev pub ClaimTells : Step (Cargo J D) → SeatState J D → ℕ → SeatState J D → Type 0
     ClaimTells st m r m' =
         ((earlier : List Read) × (m.0.reads ≡ earlier ++ read st.word None st.first ∷ []) × (st.first % 4 ≡ 1))
-        × (r ≡ st.first → (p : ℕ) × (j : J) × (st.first ≡ p * 256 + 1) × (p % st.slots + 1 ≡ st.word)
+        × (r ≡ st.first → (p : ℕ) × (j : J) × (st.first ≡ p * WORD_BASE + 1) × (p % st.slots + 1 ≡ st.word)
         × (count_of p m.0.finished ≡ 0)
         × (m.0.number ≡ 0 → (m.0.taken ≤ p) × (get_elem? m.0.jobs p ≡ some j))
         × (m' ≡ (

@@ -11,7 +11,7 @@ use crate::plays::{Joins, Stocks};
 use crate::view::Size;
 use atomic_table::Table;
 use lr_bits::NoMemory;
-use lr_gatecore::Work;
+use lr_gatecore::{MOST_CELLS, MOST_HANDS, Work};
 use std::alloc::{AllocError, Global};
 
 fn empties<J, D>(alloc: Global, count: usize) -> Result<Vec<Cargo<J, D>>, AllocError>
@@ -53,8 +53,8 @@ impl<W: Work> Gate<W> {
         cells: u32,
         workers: u32,
     ) -> Result<(Gate<W>, Conductor<W>, Vec<WorkerSeat<W>>), NoMemory>
-        requires cells { (0 < cells) × (cells ≤ 256) }
-        requires workers { workers ≤ 63 }
+        requires cells { (0 < cells) × (cells ≤ MOST_CELLS) }
+        requires workers { workers ≤ MOST_HANDS }
         ensures sizes { IfOk result (λ r. (cells_of r.0 ≡ cells) × (workers_of r.0 ≡ workers)) }
         ensures conductor { IfOk result (λ r. IsConductorOf r.0 r.1 × (view_of r.1 ≡ opening_view workers)) }
         ensures seats { IfOk result (λ r. All (IsSeatOf r.0) r.2.items × (vec_len r.2 ≡ workers)) }

@@ -12,14 +12,14 @@ use crate::cargo::Cargo;
 use crate::gate::{Conductor, Gate, RingFull, WorkerSeat};
 use crate::plays::{Grabs, Puts, SplitsOff, Stops, TakesOut};
 use crate::round::go_round;
-use lr_gatecore::Work;
+use lr_gatecore::{MOST_JOBS, WORD_BASE, Work};
 
 impl<W: Work> Conductor<W> {
     /// Puts the next job. Where each cell has a job that wasn't taken, it comes back.
     pub fn put(&mut self, gate: &Gate<W>, job: W::Job) -> Result<(), RingFull<W::Job>>
         requires mine { IsConductorOf gate.now self.old }
         requires running { (view_of self.old).stopped ≡ false }
-        requires few { put_count (view_of self.old) < 2 ^ 56 }
+        requires few { put_count (view_of self.old) < MOST_JOBS }
         ensures mine { IsConductorOf gate.now self.new }
         ensures put { OnOk result (view_of self.new ≡ after_put (view_of self.old) job) }
         ensures full { IsErr result ↔ (waiting_count (view_of self.old) ≡ cells_of gate.now) }
@@ -31,7 +31,7 @@ impl<W: Work> Conductor<W> {
         let cell = (self.put % gate.cells) as usize;
         let shared = &gate.table.shared;
         let _empty = shared.exchange(&mut self.seat, cell, Cargo::Given(job));
-        shared.store::<Puts>(&mut self.seat, cell + 1, self.put * 256 + 1);
+        shared.store::<Puts>(&mut self.seat, cell + 1, self.put * WORD_BASE + 1);
         self.put += 1;
         Ok(())
     }

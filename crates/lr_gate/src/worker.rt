@@ -1,3 +1,5 @@
+//! The seat of a worker, and one turn of its work.
+
 ghost use Rattle.lr_gate.specs.Seats.{cells_of, IsSeatOf, seat_view, Turns};
 
 use crate::gate::{Gate, Turn, WorkerSeat};

@@ -11,6 +11,7 @@ use Rattle.lr_gatecore.specs.declared.stage.Stage.{Stage}
 use Rattle.lr_gatecore.specs.declared.stage.Stage.TheVariants.{Ready, Busy, Done}
 use Rattle.lr_gatecore.specs.Machine.{Machine, Entry, HasStage, Moves, IsRefused, Leads}
 use Rattle.lr_gatecore.specs.Core.{MachineSteps, machine_of, IsKept}
+use Rattle.lr_gatecore.specs.declared.sizes.TheConstants.{MOST_JOBS}
 use Rattle.lr_gatecore.proofs.Lists.{at_length}
 use Rattle.lr_gatecore.proofs.Window.{past_at, past_set, past_more}
 use Rattle.lr_gatecore.proofs.Cells.{one_job, place_is}
@@ -29,7 +30,7 @@ has_window t i w b st h = let e : i ≡ t + (i - t) = (let le : t ≤ i = h.0 in
 pub kept_after : (cells workers t t' : ℕ) (b : Bool) (w w' : List Stage) (capacity capacity' : ℕ) (e : Event)
     → IsKept cells workers t b w capacity
     → MachineSteps cells workers (machine_of t w b) e true (machine_of t' w' b)
-    → length w' ≤ cells → cells ≤ capacity' → t' + length w' ≤ 2 ^ 56 → IsKept cells workers t' b w' capacity'
+    → length w' ≤ cells → cells ≤ capacity' → t' + length w' ≤ MOST_JOBS → IsKept cells workers t' b w' capacity'
 kept_after cells workers t t' b w w' capacity capacity' e old steps fits room few = record {
   some_cell = old.some_cell;
   most_cells = old.most_cells;

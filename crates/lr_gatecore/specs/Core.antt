@@ -4,6 +4,7 @@ use Rattle.lr_gatecore.specs.declared.event.Event.{Event}
 use Rattle.lr_gatecore.specs.declared.stage.Stage.{Stage}
 use Rattle.lr_gatecore.specs.declared.stage.Stage.TheVariants.{Done}
 use Rattle.lr_gatecore.specs.Machine.{Machine, Moves, IsRefused, IsState}
+use Rattle.lr_gatecore.specs.declared.sizes.TheConstants.{MOST_CELLS, MOST_JOBS}
 
 -- the numbers of cells and workers, and the machine
 pub record Core : Type 0 where
@@ -33,8 +34,8 @@ machine_of taken window stopped = record { stages = replicate taken Done ++ wind
 -- what a core keeps true of its fields; `capacity` is that of its window
 pub record IsKept (cells workers taken : ℕ) (stopped : Bool) (window : List Stage) (capacity : ℕ) : Type 0 where
   pub some_cell : 0 < cells
-  pub most_cells : cells ≤ 256
+  pub most_cells : cells ≤ MOST_CELLS
   pub fits : length window ≤ cells
   pub room : cells ≤ capacity
-  pub few : taken + length window ≤ 2 ^ 56
+  pub few : taken + length window ≤ MOST_JOBS
   pub state : IsState cells workers (machine_of taken window stopped)

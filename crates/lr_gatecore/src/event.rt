@@ -1,3 +1,5 @@
+//! The events of a ring.
+
 /// What may happen to the ring next.
 #[derive(Clone, Copy)]
 pub enum Event {

@@ -10,6 +10,7 @@ ghost use Rattle.lr_gatecore.specs.Machine.{Entry, empty_machine, put_count, Lea
 ghost use Rattle.lr_gatecore.specs.Core.{IsCore, SameSize, Steps};
 
 use crate::event::Event;
+use crate::sizes::{MOST_CELLS, MOST_JOBS, MOST_SEATS};
 use crate::stage::Stage;
 use lr_bits::NoMemory;
 use std::alloc::Global;
@@ -69,8 +70,8 @@ fn is_at(window: &VecDeque<Stage>, place: usize, stage: Stage) -> bool
 impl GateCore {
     /// The machine before any event.
     pub fn new(alloc: Global, cells: u32, workers: u32) -> Result<GateCore, NoMemory>
-        requires cells { (0 < cells) × (cells ≤ 256) }
-        requires workers { (0 < workers) × (workers ≤ 64) }
+        requires cells { (0 < cells) × (cells ≤ MOST_CELLS) }
+        requires workers { (0 < workers) × (workers ≤ MOST_SEATS) }
         ensures { IfOk result (λ core. core ≡ record { cells = cells; workers = workers; machine = empty_machine }) }
     {
         let window = VecDeque::with_capacity(alloc, cells as usize)?;
@@ -93,7 +94,7 @@ impl GateCore {
 
     /// Makes the move of the event. Where it isn't allowed, the answer is false and nothing changes.
     pub fn step(&mut self, event: Event) -> bool
-        requires { put_count self.old.machine < 2 ^ 56 }
+        requires { put_count self.old.machine < MOST_JOBS }
         ensures sizes { SameSize self.old self.new }
         ensures steps { Steps self.old event result self.new }
     {
@@ -107,7 +108,7 @@ impl GateCore {
     }
 
     fn put(&mut self) -> bool
-        requires { put_count self.old.machine < 2 ^ 56 }
+        requires { put_count self.old.machine < MOST_JOBS }
         ensures sizes { SameSize self.old self.new }
         ensures steps { Steps self.old Put result self.new }
     {
@@ -173,7 +174,7 @@ impl GateCore {
 
     /// Handles the events in their order, and answers how many moved.
     pub fn run(&mut self, events: &[Event]) -> u64
-        requires { put_count self.old.machine + length events.now ≤ 2 ^ 56 }
+        requires { put_count self.old.machine + length events.now ≤ MOST_JOBS }
         ensures sizes { SameSize self.old self.new }
         ensures leads { (log : List Entry)
             × Leads self.old.cells self.old.workers self.old.machine events.now log self.new.machine

@@ -9,11 +9,13 @@
 mod event;
 mod gate_core;
 mod laws;
+mod sizes;
 mod stage;
 mod work;
 
 pub use event::Event;
 pub use gate_core::GateCore;
 pub use laws::{jobs_go_in_order, moves_are_one, moves_lead_to_states};
+pub use sizes::{MOST_CELLS, MOST_HANDS, MOST_JOBS, MOST_SEATS, WORD_BASE};
 pub use stage::Stage;
 pub use work::Work;

@@ -1,3 +1,5 @@
+//! The stages of a job in its cell, and the stage that a word tells.
+
 ghost use Rattle.std.specs.Prelude.{◌≡◌, ◌≢◌};
 ghost use Rattle.std.specs.Bool.{OnTrue, OnFalse};
 

@@ -22,6 +22,19 @@ use Rattle.lr_headers.specs.declared.fields.Navigation.{Navigation}
 use Rattle.lr_headers.specs.declared.fields.Stamp.{Stamp}
 use Rattle.lr_headers.specs.declared.fields.Segment.{Segment}
 use Rattle.lr_headers.specs.declared.fields.Lossless.{Lossless}
+use Rattle.lr_headers.specs.Kinds.{
+  ancillary_kind,
+  annotation_kind,
+  image_function_kind,
+  key_kind,
+  lossless_bytes,
+  lossless_kind,
+  navigation_kind,
+  segment_bytes,
+  segment_kind,
+  stamp_kind,
+  structure_kind,
+}
 use Rattle.lr_headers.specs.Tiling.{Header, number_at}
 
 -- the contents of a record: its bytes after kind and length
@@ -59,7 +72,7 @@ structure_in contents = record {
 }
 
 abbrev pub structure_of : Header → Option Structure
-structure_of header = option_map structure_in (first_contents 1 header)
+structure_of header = option_map structure_in (first_contents structure_kind header)
 
 abbrev pub navigation_in : List ℕ → Navigation
 navigation_in contents = record {
@@ -71,7 +84,7 @@ navigation_in contents = record {
 }
 
 abbrev pub navigation_of : Header → Option Navigation
-navigation_of header = option_map navigation_in (first_contents 2 header)
+navigation_of header = option_map navigation_in (first_contents navigation_kind header)
 
 abbrev pub stamp_in : List ℕ → Stamp
 stamp_in contents = record {
@@ -81,7 +94,7 @@ stamp_in contents = record {
 }
 
 abbrev pub stamp_of : Header → Option Stamp
-stamp_of header = option_map stamp_in (first_contents 5 header)
+stamp_of header = option_map stamp_in (first_contents stamp_kind header)
 
 abbrev pub segment_in : List ℕ → Segment
 segment_in contents = record {
@@ -95,7 +108,7 @@ segment_in contents = record {
 }
 
 abbrev pub segment_of : Header → Option Segment
-segment_of header = option_map segment_in (first_sized 128 17 header)
+segment_of header = option_map segment_in (first_sized segment_kind segment_bytes header)
 
 abbrev pub lossless_in : List ℕ → Lossless
 lossless_in contents = record {
@@ -105,11 +118,11 @@ lossless_in contents = record {
 }
 
 abbrev pub lossless_of : Header → Option Lossless
-lossless_of header = option_map lossless_in (first_sized 131 7 header)
+lossless_of header = option_map lossless_in (first_sized lossless_kind lossless_bytes header)
 
 -- a key record has a content byte that isn't 0
 abbrev pub is_key : List ℕ → Entry → Bool
-is_key bytes e = (e.kind == 7) && list_any (λ byte. not (byte == 0)) (contents_of bytes e)
+is_key bytes e = (e.kind == key_kind) && list_any (λ byte. not (byte == 0)) (contents_of bytes e)
 
 abbrev pub is_encrypted : Header → Bool
 is_encrypted header = list_any (is_key header.bytes) header.entries
@@ -117,13 +130,13 @@ is_encrypted header = list_any (is_key header.bytes) header.entries
 -- what the contents of a record say that isn't the first one
 abbrev pub content_in : Entry → List ℕ → Content
 content_in e contents =
-    if e.kind == 1 then StructureOf (structure_in contents)
-    else (if e.kind == 2 then NavigationOf (navigation_in contents)
-    else (if (e.kind == 3) || (e.kind == 4) || (e.kind == 6) then Text
-    else (if e.kind == 5 then StampOf (stamp_in contents)
-    else (if e.kind == 7 then Key
-    else (if is_sized 128 17 e then SegmentOf (segment_in contents)
-    else (if is_sized 131 7 e then LosslessOf (lossless_in contents)
+    if e.kind == structure_kind then StructureOf (structure_in contents)
+    else (if e.kind == navigation_kind then NavigationOf (navigation_in contents)
+    else (if (e.kind == image_function_kind) || (e.kind == annotation_kind) || (e.kind == ancillary_kind) then Text
+    else (if e.kind == stamp_kind then StampOf (stamp_in contents)
+    else (if e.kind == key_kind then Key
+    else (if is_sized segment_kind segment_bytes e then SegmentOf (segment_in contents)
+    else (if is_sized lossless_kind lossless_bytes e then LosslessOf (lossless_in contents)
     else Other))))))
 
 -- what a record of a header says

@@ -3,6 +3,7 @@ use Rattle.std.specs.Prelude.{◌+◌, ℕ, zero, suc, List, [], ◌∷◌, leng
 use Rattle.std.specs.Prelude.{if◌then◌else◌}
 use Rattle.lr_headers.specs.declared.entry.Entry.{Entry}
 use Rattle.lr_headers.specs.declared.fault.HeaderFault.{HeaderFault}
+use Rattle.lr_headers.specs.Kinds.{primary_bytes}
 use Rattle.lr_headers.specs.Tiling.{Header, fault_at, first_fault, file_header_bytes, kind_at, length_at}
 
 -- a fault, or else what is read
@@ -30,10 +31,10 @@ records_from (suc most) bytes place = if nat_lt place (length bytes)
 -- a header of these bytes, whose records come after the first one
 abbrev pub header_with : List ℕ → Result (List Entry) HeaderFault → Result Header HeaderFault
 header_with bytes (Ok entries) =
-    Ok (record { bytes = bytes; entries = record { kind = 0; at = 0; length = 16 } ∷ entries })
+    Ok (record { bytes = bytes; entries = record { kind = 0; at = 0; length = primary_bytes } ∷ entries })
 header_with bytes (Err fault) = Err fault
 
 -- there are fewer records than bytes
 unfoldable pub header_of : List ℕ → Result Header HeaderFault
 header_of proper = unless_fault (first_fault proper)
-    (header_with (file_header_bytes proper) (records_from (length proper) (file_header_bytes proper) 16))
+    (header_with (file_header_bytes proper) (records_from (length proper) (file_header_bytes proper) primary_bytes))

@@ -6,6 +6,8 @@ use Rattle.lr_headers.specs.declared.fault.HeaderFault.{HeaderFault}
 use Rattle.lr_headers.specs.declared.fault.HeaderFault.TheVariants.{Ended, NotPrimary, ShortRecord, Overrun}
 use Rattle.lr_headers.specs.declared.fault.HeaderFault.TheVariants.{WrongLength, NoMemory}
 use Rattle.lr_headers.specs.declared.entry.Entry.{Entry}
+use Rattle.lr_headers.specs.Kinds.{navigation_bytes, navigation_kind, primary_bytes, stamp_bytes, stamp_kind}
+use Rattle.lr_headers.specs.Kinds.{structure_bytes, structure_kind}
 
 -- a header: its bytes, and the records that tile them
 pub record Header : Type 0 where
@@ -30,18 +32,18 @@ header_length proper = number_at 4 4 proper
 -- the fault of the first record of a file, or of the file's length
 abbrev pub first_fault : List ℕ → Option HeaderFault
 first_fault proper =
-    if nat_lt (length proper) 16 then Some (Ended (length proper))
-    else (if not (kind_at 0 proper == 0) || not (length_at 0 proper == 16) then Some NotPrimary
-    else (if nat_lt (header_length proper) 16 then Some (Overrun 0)
+    if nat_lt (length proper) primary_bytes then Some (Ended (length proper))
+    else (if not (kind_at 0 proper == 0) || not (length_at 0 proper == primary_bytes) then Some NotPrimary
+    else (if nat_lt (header_length proper) primary_bytes then Some (Overrun 0)
     else (if nat_lt (length proper) (header_length proper) then Some (Ended (length proper))
     else None)))
 
 -- the length isn't the one that records of this kind have
 abbrev pub has_wrong_length : ℕ → ℕ → Bool
 has_wrong_length kind size =
-    if kind == 1 then not (size == 9)
-    else (if kind == 2 then not (size == 51)
-    else (if kind == 5 then not (size == 10)
+    if kind == structure_kind then not (size == structure_bytes)
+    else (if kind == navigation_kind then not (size == navigation_bytes)
+    else (if kind == stamp_kind then not (size == stamp_bytes)
     else false))
 
 -- the fault of a record at a place before the header's end
@@ -66,21 +68,21 @@ pub record IsRecord (bytes : List ℕ) (place : ℕ) (e : Entry) : Type 0 where
 pub record IsPrimary (e : Entry) : Type 0 where
   pub kind : e.kind ≡ 0
   pub here : e.at ≡ 0
-  pub size : e.length ≡ 16
+  pub size : e.length ≡ primary_bytes
 
 -- the records stand one after another, from a place up to another one
 abbrev pub IsTiling : List ℕ → ℕ → List Entry → ℕ → Type 0
 IsTiling bytes from [] to = from ≡ to
 IsTiling bytes from (e ∷ es) to = IsRecord bytes from e × IsTiling bytes (from + e.length) es to
 
--- the same from the first record on
+-- the records of a header: the primary one, and those that tile the bytes after it up to `to`
 abbrev pub IsFront : List ℕ → List Entry → ℕ → Type 0
 IsFront bytes [] to = ⊥
-IsFront bytes (e ∷ es) to = IsPrimary e × IsTiling bytes 16 es to
+IsFront bytes (e ∷ es) to = IsPrimary e × IsTiling bytes primary_bytes es to
 
 -- the records tile the bytes, from the first to the last
 pub record IsTiled (header : Header) : Type 0 where
-  pub least : 16 ≤ length header.bytes
+  pub least : primary_bytes ≤ length header.bytes
   pub front : IsFront header.bytes header.entries (length header.bytes)
 
 -- the bytes of the header of a file proper
@@ -106,7 +108,7 @@ abbrev pub HasHeaderFault : List ℕ → HeaderFault → Type 0
 HasHeaderFault proper fault = (first_fault proper ≡ Some fault)
     ⊎ ((first_fault proper ≡ None) × HasFaultyRecord (file_header_bytes proper) fault)
 
--- the same, or want of memory, which may come at any time
+-- the file proper has no header, with this fault; or memory was refused, which may come at any time
 abbrev pub HasFaultOrMemory : List ℕ → HeaderFault → Type 0
 HasFaultOrMemory proper NoMemory = Unit {0}
 HasFaultOrMemory proper fault = HasHeaderFault proper fault

@@ -6,8 +6,8 @@ ghost use Rattle.lr_headers.specs.Fields.{content_in, lossless_in, navigation_in
 ghost use Rattle.lr_headers.specs.Tiling.{has_wrong_length, number_at};
 
 use crate::kinds::{
-    ANCILLARY, ANNOTATION, IMAGE_FUNCTION, KEY, LOSSLESS, LOSSLESS_BYTES, NAVIGATION, SEGMENT,
-    SEGMENT_BYTES, STAMP, STRUCTURE,
+    ANCILLARY_KIND, ANNOTATION_KIND, IMAGE_FUNCTION_KIND, KEY_KIND, LOSSLESS_BYTES, LOSSLESS_KIND,
+    NAVIGATION_KIND, SEGMENT_BYTES, SEGMENT_KIND, STAMP_KIND, STRUCTURE_KIND,
 };
 use crate::numbers::{i32_at, u16_at, u32_at};
 use crate::{Entry, Lossless, Navigation, Segment, Stamp, Structure};
@@ -104,13 +104,13 @@ pub(crate) fn content_in(entry: Entry, contents: &[u8]) -> Content
     ensures { result ≡ content_in entry contents.now }
 {
     match entry.kind {
-        STRUCTURE => Content::Structure(structure_in(contents)),
-        NAVIGATION => Content::Navigation(navigation_in(contents)),
-        IMAGE_FUNCTION | ANNOTATION | ANCILLARY => Content::Text,
-        STAMP => Content::Stamp(stamp_in(contents)),
-        KEY => Content::Key,
-        SEGMENT if entry.length == SEGMENT_BYTES => Content::Segment(segment_in(contents)),
-        LOSSLESS if entry.length == LOSSLESS_BYTES => Content::Lossless(lossless_in(contents)),
+        STRUCTURE_KIND => Content::Structure(structure_in(contents)),
+        NAVIGATION_KIND => Content::Navigation(navigation_in(contents)),
+        IMAGE_FUNCTION_KIND | ANNOTATION_KIND | ANCILLARY_KIND => Content::Text,
+        STAMP_KIND => Content::Stamp(stamp_in(contents)),
+        KEY_KIND => Content::Key,
+        SEGMENT_KIND if entry.length == SEGMENT_BYTES => Content::Segment(segment_in(contents)),
+        LOSSLESS_KIND if entry.length == LOSSLESS_BYTES => Content::Lossless(lossless_in(contents)),
         _ => Content::Other,
     }
 }

@@ -1,3 +1,5 @@
+//! What the records of a header say (CGMS 03, the header records).
+
 /// The image structure record: how many bits a pixel has, how many columns and lines there are, and how the data field
 /// is compressed: 0 not at all, 1 without loss, 2 with loss.
 #[derive(Clone, Copy)]

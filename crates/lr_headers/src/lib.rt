@@ -21,6 +21,11 @@ pub use contents::Content;
 pub use entry::Entry;
 pub use fault::HeaderFault;
 pub use fields::{Lossless, Navigation, Segment, Stamp, Structure};
+pub use kinds::{
+    ANCILLARY_KIND, ANNOTATION_KIND, IMAGE_FUNCTION_KIND, KEY_KIND, LOSSLESS_BYTES, LOSSLESS_KIND,
+    NAVIGATION_BYTES, NAVIGATION_KIND, PRIMARY_BYTES, SEGMENT_BYTES, SEGMENT_KIND, STAMP_BYTES,
+    STAMP_KIND, STRUCTURE_BYTES, STRUCTURE_KIND,
+};
 pub use laws::{
     header_faults_are_one, headers_are_one, headers_are_read, headers_have_no_fault,
     stamp_texts_are_one,

@@ -6,22 +6,20 @@ ghost use Rattle.std.specs.Option.{option_copied, option_map};
 ghost use Rattle.lr_headers.specs.Fields.{content_of, contents_of, data_bits, file_type, first_contents, first_sized};
 ghost use Rattle.lr_headers.specs.Fields.{is_encrypted, is_key, is_sized, lossless_of, navigation_of, segment_of};
 ghost use Rattle.lr_headers.specs.Fields.{stamp_of, structure_of};
+ghost use Rattle.lr_headers.specs.Kinds.{primary_bytes};
 ghost use Rattle.lr_headers.specs.Tiling.{HasFaultOrMemory, IsHeaderOf, IsRecord, IsTiled, fault_at, first_fault};
 ghost use Rattle.lr_headers.specs.Tiling.{has_wrong_length, header_length};
 ghost use Rattle.lr_headers.specs.declared.fault.HeaderFault.{HeaderFault as Fault};
 
 use crate::contents::{content_in, lossless_in, navigation_in, segment_in, stamp_in, structure_in};
 use crate::kinds::{
-    KEY, LOSSLESS, LOSSLESS_BYTES, NAVIGATION, NAVIGATION_BYTES, SEGMENT, SEGMENT_BYTES, STAMP,
-    STAMP_BYTES, STRUCTURE, STRUCTURE_BYTES,
+    KEY_KIND, LOSSLESS_BYTES, LOSSLESS_KIND, NAVIGATION_BYTES, NAVIGATION_KIND, PRIMARY_BYTES,
+    SEGMENT_BYTES, SEGMENT_KIND, STAMP_BYTES, STAMP_KIND, STRUCTURE_BYTES, STRUCTURE_KIND,
 };
 use crate::numbers::{u16_at, u32_at, u64_at};
 use crate::{Content, Entry, HeaderFault, Lossless, Navigation, Segment, Stamp, Structure};
 use std::alloc::Global;
 use std::marker::Model;
-
-/// The bytes of the primary record.
-const PRIMARY_BYTES: u16 = 16;
 
 /// The first record of each header.
 const PRIMARY: Entry = Entry {
@@ -140,7 +138,7 @@ impl<'a> Records<'a> {
     pub fn structure(&self) -> Option<Structure>
         ensures { result ≡ structure_of self.now }
     {
-        let contents = self.contents_of_kind(STRUCTURE, STRUCTURE_BYTES)?;
+        let contents = self.contents_of_kind(STRUCTURE_KIND, STRUCTURE_BYTES)?;
         Some(structure_in(contents))
     }
 
@@ -148,7 +146,7 @@ impl<'a> Records<'a> {
     pub fn navigation(&self) -> Option<Navigation>
         ensures { result ≡ navigation_of self.now }
     {
-        let contents = self.contents_of_kind(NAVIGATION, NAVIGATION_BYTES)?;
+        let contents = self.contents_of_kind(NAVIGATION_KIND, NAVIGATION_BYTES)?;
         Some(navigation_in(contents))
     }
 
@@ -156,7 +154,7 @@ impl<'a> Records<'a> {
     pub fn stamp(&self) -> Option<Stamp>
         ensures { result ≡ stamp_of self.now }
     {
-        let contents = self.contents_of_kind(STAMP, STAMP_BYTES)?;
+        let contents = self.contents_of_kind(STAMP_KIND, STAMP_BYTES)?;
         Some(stamp_in(contents))
     }
 
@@ -164,7 +162,7 @@ impl<'a> Records<'a> {
     pub fn segment(&self) -> Option<Segment>
         ensures { result ≡ segment_of self.now }
     {
-        let contents = self.contents(SEGMENT, SEGMENT_BYTES)?;
+        let contents = self.contents(SEGMENT_KIND, SEGMENT_BYTES)?;
         Some(segment_in(contents))
     }
 
@@ -172,7 +170,7 @@ impl<'a> Records<'a> {
     pub fn lossless(&self) -> Option<Lossless>
         ensures { result ≡ lossless_of self.now }
     {
-        let contents = self.contents(LOSSLESS, LOSSLESS_BYTES)?;
+        let contents = self.contents(LOSSLESS_KIND, LOSSLESS_BYTES)?;
         Some(lossless_in(contents))
     }
 
@@ -232,7 +230,7 @@ fn has_key(bytes: &[u8], entries: &[Entry]) -> bool
     ensures { result ≡ list_any (is_key bytes.now) entries.now }
 {
     for entry in entries {
-        if entry.kind == KEY && has_nonzero(contents_of(bytes, *entry)) {
+        if entry.kind == KEY_KIND && has_nonzero(contents_of(bytes, *entry)) {
             return true;
         }
     }
@@ -250,7 +248,7 @@ fn has_nonzero(bytes: &[u8]) -> bool
 fn header_end(proper: &[u8]) -> Result<usize, HeaderFault>
     ensures sound { IfOk result (λ end. first_fault proper.now ≡ None) }
     ensures value { IfOk result (λ end. end ≡ header_length proper.now) }
-    ensures least { IfOk result (λ end. 16 ≤ end) }
+    ensures least { IfOk result (λ end. primary_bytes ≤ end) }
     ensures inside { IfOk result (λ end. end ≤ length proper.now) }
     ensures err { IfErr result (λ fault. first_fault proper.now ≡ Some fault) }
 {
@@ -279,9 +277,9 @@ fn has_wrong_length(kind: u8, length: u16) -> bool
     ensures { result ≡ has_wrong_length kind length }
 {
     match kind {
-        STRUCTURE => length != STRUCTURE_BYTES,
-        NAVIGATION => length != NAVIGATION_BYTES,
-        STAMP => length != STAMP_BYTES,
+        STRUCTURE_KIND => length != STRUCTURE_BYTES,
+        NAVIGATION_KIND => length != NAVIGATION_BYTES,
+        STAMP_KIND => length != STAMP_BYTES,
         _ => false,
     }
 }

@@ -10,7 +10,7 @@ use Rattle.lr_image.specs.declared.fault.ImageFault.{ImageFault}
 use Rattle.lr_image.specs.declared.fault.ImageFault.TheVariants.{NotImage, Encrypted, Compression}
 use Rattle.lr_image.specs.declared.shape.Shape.{Shape}
 use Rattle.lr_image.specs.Shapes.{IsCoding, IsShape, IsSize, coded_shape, lossless_fault, lossless_shape, plain_shape}
-use Rattle.lr_image.specs.Shapes.{shape_of, size_fault, structured_shape, unless}
+use Rattle.lr_image.specs.Shapes.{most_pixels, shape_of, size_fault, structured_shape, unless}
 
 no_fault : (b : Bool) (f : ImageFault) (rest : Option ImageFault) → cond b (Some f) rest ≡ None
     → (b ≡ false) × (rest ≡ None)
@@ -42,7 +42,7 @@ unfolding size_fault
 size_sound least s e =
     let a = no_fault (ltb s.bits least || ltb 16 s.bits) _ _ e in
     let b = no_fault (eqb s.columns 0 || eqb s.lines 0) _ _ a.1 in
-    let c = no_fault (ltb 268435456 (s.columns * s.lines)) _ _ b.1 in
+    let c = no_fault (ltb most_pixels (s.columns * s.lines)) _ _ b.1 in
     let depth = none_of (ltb s.bits least) (ltb 16 s.bits) a.0 in
     let empty = none_of (eqb s.columns 0) (eqb s.lines 0) b.0 in
     record {
@@ -50,7 +50,7 @@ size_sound least s e =
       most_bits = ltb-false 16 s.bits depth.1;
       columns = not_zero s.columns empty.0;
       lines = not_zero s.lines empty.1;
-      few = ltb-false 268435456 (s.columns * s.lines) c.0;
+      few = ltb-false most_pixels (s.columns * s.lines) c.0;
     }
 
 coding_sound : (l : Lossless) → lossless_fault l ≡ None → IsCoding l

@@ -2,6 +2,7 @@
 use Rattle.std.specs.Prelude.{◌≡◌, ◌⊎◌, ◌+◌, ◌*◌, ℕ, List, length, drop, Option, Some, None, Result, Ok, Err}
 use Rattle.lr_bits.specs.Bits.{bits_of}
 use Rattle.lr_bits.specs.File.{File, proper_of}
+use Rattle.lr_bits.specs.declared.sizes.TheConstants.{TRANSPORT_HEADER_BYTES}
 use Rattle.lr_headers.specs.declared.fault.HeaderFault.{HeaderFault}
 use Rattle.lr_headers.specs.declared.fields.Structure.{Structure}
 use Rattle.lr_headers.specs.declared.fields.Lossless.{Lossless}
@@ -27,7 +28,7 @@ data_field file size = drop size (proper_of file)
 
 -- the pieces of the data field, which comes after the ten bytes of the transport header and the header
 abbrev pub data_pieces : File → ℕ → List (List ℕ)
-data_pieces file size = pieces_after (10 + size) file.bodies
+data_pieces file size = pieces_after (TRANSPORT_HEADER_BYTES + size) file.bodies
 
 abbrev pub HasPixels : File → ℕ → Structure → Option Lossless → List ℕ → Type 0
 HasPixels file size s None pixels =

@@ -59,6 +59,6 @@ PiecesFail form each number done wanted (piece ∷ pieces) fault =
     ⊎ FailsLater form (min each wanted) piece
     (PiecesFail form each (number + 1) (done + min each wanted) (wanted - each) pieces fault)
 
--- the same from the first piece on
+-- the pieces, from the first one on, lack lines
 abbrev pub LackLines : Form → ℕ → ℕ → List (List ℕ) → ImageFault → Type 0
 LackLines form each wanted pieces fault = PiecesFail form each 0 0 wanted pieces fault

@@ -10,12 +10,16 @@ use Rattle.lr_image.specs.declared.fault.ImageFault.TheVariants.{NotImage, NoStr
 use Rattle.lr_image.specs.declared.fault.ImageFault.TheVariants.{Empty, TooLarge, Flags, BlockSize, LinesPerPacket}
 use Rattle.lr_image.specs.declared.shape.Shape.{Shape}
 
+-- the most pixels of an image
+abbrev pub most_pixels : ℕ
+most_pixels = 268435456
+
 -- the fault of depth and size, where a pixel has at least this many bits
 unfoldable pub size_fault : ℕ → Structure → Option ImageFault
 size_fault least s =
     if nat_lt s.bits least || nat_lt 16 s.bits then Some (Depth s.bits)
     else (if (s.columns == 0) || (s.lines == 0) then Some Empty
-    else (if nat_lt 268435456 (s.columns * s.lines) then Some (TooLarge (s.columns * s.lines))
+    else (if nat_lt most_pixels (s.columns * s.lines) then Some (TooLarge (s.columns * s.lines))
     else None))
 
 -- the fault of a lossless record
@@ -61,7 +65,7 @@ pub record IsSize (least : ℕ) (s : Structure) : Type 0 where
   pub most_bits : s.bits ≤ 16
   pub columns : 1 ≤ s.columns
   pub lines : 1 ≤ s.lines
-  pub few : s.columns * s.lines ≤ 268435456
+  pub few : s.columns * s.lines ≤ most_pixels
 
 pub record IsCoding (l : Lossless) : Type 0 where
   pub least_block : 2 ≤ l.block

@@ -1,3 +1,5 @@
+//! Why a file has no image.
+
 use lr_headers::HeaderFault;
 use lr_rice::RiceFault;
 

@@ -1,3 +1,5 @@
+//! The law that a file has one outcome: its image, or its first fault.
+
 ghost use Rattle.lr_image.specs.Laws.{OutcomesAreOne};
 
 /// A file has one image, or one first fault, and not both. So `image_of` answers an image exactly where there is one,

@@ -1,6 +1,7 @@
 //! Where bytes come from: in memory, and from a reader.
-ghost use Rattle.std.specs.Prelude.{◌≡◌, ◌↔◌, ◌≤◌, ◌<◌, ◌++◌, List, [], ℕ, length, take, IfOk, OnErr};
+ghost use Rattle.std.specs.Prelude.{◌≡◌, ◌↔◌, ◌≤◌, ◌<◌, ◌++◌, List, [], ℕ, Result, length, take, IfOk, OnErr};
 ghost use Rattle.lr_bits.specs.Faults.{HasCause};
+ghost use Rattle.lr_bits.specs.declared.refusals.Failed.{Failed};
 
 use crate::Reader;
 use crate::places::{reach, strike};
@@ -17,9 +18,10 @@ pub trait Source {
     /// The bytes that are left, where it tells them.
     ghost left: { Self → List ℕ };
 
-    /// Whether one call may make the second of the first. A kind of source may say more by it than that there was a
-    /// call, and then a reader of a contract knows which call was the last one.
-    ghost asked: { Self → Self → Type 0 } = { λ _ _. Unit {0} };
+    /// Whether one call may give this answer and make the second of the first. A kind of source may say more by it than
+    /// that there was a call, as that its calls are counted, and then a reader of a contract knows which calls there
+    /// were, and what they answered.
+    ghost asked: { Self → Result ℕ Failed → Self → Type 0 } = { λ _ _ _. Unit {0} };
 
     /// Moves the next bytes to the front of `into`, and answers how many. A source that tells its bytes moves none only
     /// at its end. Where it fails nothing was taken.
@@ -32,7 +34,7 @@ pub trait Source {
         ensures moved { tells self.old → IfOk result (λ n. left self.old ≡ take n into.new ++ left self.new) }
         ensures ended { tells self.old → IfOk result (λ n. (n ≡ 0) ↔ (left self.old ≡ [])) }
         ensures failed { tells self.old → OnErr result (left self.new ≡ left self.old) }
-        ensures asked { asked self.old self.new };
+        ensures asked { asked self.old result self.new };
 }
 
 /// A reader as a source. It tells what is left where each reader of its type does, and counts each `Err`. No error of

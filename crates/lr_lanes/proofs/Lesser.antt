@@ -86,17 +86,17 @@ module _ (w : Width) (xs ys : List ℕ) (l : length xs ≡ 32) (r : length ys �
       ∙ ap (λ t. cond t (get_or xs k 0) (get_or ys k 0)) (first_at k h)
       ∙ cond_min (get_or xs k 0) (get_or ys k 0) (leb (get_or xs k 0) (get_or ys k 0)) refl
 
-  mask_is : mask_l turned_tops % 18446744073709551616 ≡ mask_l seconds
+  mask_is : mask_l turned_tops % 2 ^ 64 ≡ mask_l seconds
   mask_is =
-      ap (λ t. mask_l t % 18446744073709551616) turned_are ∙ mask_l-mod seconds 64 (let n = also_long in omega arith)
+      ap (λ t. mask_l t % 2 ^ 64) turned_are ∙ mask_l-mod seconds 64 (let n = also_long in omega arith)
 
   pub second_is : (k : ℕ) → k < 32 →
-      nat_eq (bit_at (mask_l turned_tops % 18446744073709551616) k) 1 ≡ ltb (get_or ys k 0) (get_or xs k 0)
+      nat_eq (bit_at (mask_l turned_tops % 2 ^ 64) k) 1 ≡ ltb (get_or ys k 0) (get_or xs k 0)
   second_is k h =
       ap (λ m. nat_eq (bit_at m k) 1) mask_is ∙ ap (λ x. nat_eq x 1)
       (bit_mask_l seconds k ∙ ap (λ t. cond t 1 0) (second_at k h)) ∙ one_test _
 
-  pub bound_is : mask_l turned_tops % 18446744073709551616 < 4294967296
+  pub bound_is : mask_l turned_tops % 2 ^ 64 < 2 ^ 32
   bound_is =
-      let n : mask_l seconds < 4294967296 = subst (λ k. mask_l seconds < 2 ^ k) also_long (mask_l-lt seconds) in
+      let n : mask_l seconds < 2 ^ 32 = subst (λ k. mask_l seconds < 2 ^ k) also_long (mask_l-lt seconds) in
       omega (arith, mask_is)

@@ -5,6 +5,7 @@ use Rattle.std.proofs.str.Laws.{order}
 use Rattle.std.specs.Int.{bit_at}
 use Rattle.std.proofs.Math.ListN.{get_or-append}
 use Rattle.std.proofs.Math.Seq.{get_or-append_right}
+use Rattle.lr_lanes.specs.declared.lanes.TheConstants.{STEP_COST}
 use Rattle.lr_trellis.specs.Words.{branch_by}
 use Rattle.lr_trellis.proofs.Butterflies.{Merged}
 use Rattle.lr_trellis.proofs.Words.{next_is, upper_is, both_is}
@@ -18,13 +19,13 @@ module _ (low high : List ℕ) (size : length low ≡ 32) where
       let same : k + 32 - length low ≡ k = omega arith in get_or-append_right low high (k + 32) 0 (omega arith)
       ∙ ap (λ p. get_or high p 0) same
 
-  pub low_small : (limit : ℕ) → ((s : ℕ) → s < 64 → get_or (low ++ high) s 0 + 508 < limit) → (k : ℕ) → k < 32 →
-      get_or low k 0 + 508 < limit
-  low_small limit old k l = subst (λ x. x + 508 < limit) (low_at k l) (old k (omega arith))
+  pub low_small : (limit : ℕ) → ((s : ℕ) → s < 64 → get_or (low ++ high) s 0 + STEP_COST < limit) → (k : ℕ) → k < 32 →
+      get_or low k 0 + STEP_COST < limit
+  low_small limit old k l = subst (λ x. x + STEP_COST < limit) (low_at k l) (old k (omega arith))
 
-  pub high_small : (limit : ℕ) → ((s : ℕ) → s < 64 → get_or (low ++ high) s 0 + 508 < limit) → (k : ℕ) → k < 32 →
-      get_or high k 0 + 508 < limit
-  high_small limit old k l = subst (λ x. x + 508 < limit) (high_at k) (old (k + 32) (omega arith))
+  pub high_small : (limit : ℕ) → ((s : ℕ) → s < 64 → get_or (low ++ high) s 0 + STEP_COST < limit) → (k : ℕ) → k < 32 →
+      get_or high k 0 + STEP_COST < limit
+  high_small limit old k l = subst (λ x. x + STEP_COST < limit) (high_at k) (old (k + 32) (omega arith))
 
 -- the costs of a butterfly
 module _ (costs : List ℕ) (k : ℕ) (l : k < 32) where

@@ -9,6 +9,7 @@ use Rattle.lr_conv.specs.declared.line.LineCode.{LineCode}
 use Rattle.lr_trellis.specs.Trellis.{branch_of, start_of, start_state}
 use Rattle.lr_trellis.specs.Words.{branch_by, decision_of, IsDecided}
 use Rattle.lr_trellis.proofs.Forward.{Forward, more}
+use Rattle.lr_lanes.specs.declared.lanes.TheConstants.{STEP_COST}
 use Rattle.lr_lanes.proofs.Spread.{spread_after, six_steps}
 
 -- the costs, from what was taken off all lanes
@@ -53,7 +54,7 @@ module _
     (before : Forward line w i (costs_from base lanes) words)
     (same : (s : ℕ) → s < 64 → slice_index lanes s ≡ off + slice_index lowered s)
     (branches : (m : ℕ) → branch_by costs m ≡ branch_of line w i m)
-    (below : (m : ℕ) → branch_by costs m ≤ 508)
+    (below : (m : ℕ) → branch_by costs m ≤ STEP_COST)
     (least : (s : ℕ) → s < 64 → slice_index stepped s ≡ min (slice_index lowered (s / 2) + branch_by costs s)
     (slice_index lowered (s / 2 + 32) + branch_by costs (s + 64)))
     (chosen : (s : ℕ) → s < 64 → decision_of word s ≡ nat_lt
@@ -105,7 +106,7 @@ same_costs line w i old new words f same = record {
 
 -- what was taken off and what is left are what a path costs: 4,148,329 for another start at most, and 508 a step
 pub base_bound : (line : LineCode) (w : List ℤ) (i base : ℕ) (lanes words : List ℕ) → length lanes ≡ 64 →
-    Forward line w i (costs_from base lanes) words → base + slice_index lanes 0 ≤ 4148329 + 508 * i
+    Forward line w i (costs_from base lanes) words → base + slice_index lanes 0 ≤ 4148329 + STEP_COST * i
 base_bound line w i base lanes words size f =
     omega (arith, f.bound 0 (omega arith), slice_index-costs_from base lanes 0 (omega arith))
 

@@ -1,11 +1,13 @@
 -- How far the least costs of two states are from one another: at most six steps of 508, which is 3,048.
 use Rattle.std.proofs.Common.{arith, subst, ◌≡◌, ◌+◌, ◌-◌, ◌*◌, ◌/◌, ◌%◌, ◌<◌, ◌≤◌, ℕ, suc, ⊎_elim}
 use Rattle.std.proofs.str.Laws.{order}
+use Rattle.lr_lanes.specs.declared.lanes.TheConstants.{STEP_COST}
 use Rattle.lr_trellis.specs.Trellis.{least_cost}
 
 -- sums of six
-at_most_six : (a b d e f g h : ℕ) → b ≤ a + 508 → d ≤ b + 508 → e ≤ d + 508 → f ≤ e + 508 → g ≤ f + 508 →
-    h ≤ g + 508 → h ≤ a + 3048
+at_most_six : (a b d e f g h : ℕ) → b ≤ a + STEP_COST → d ≤ b + STEP_COST → e ≤ d + STEP_COST → f ≤ e + STEP_COST →
+    g ≤ f + STEP_COST →
+    h ≤ g + STEP_COST → h ≤ a + 3048
 at_most_six a b d e f g h l m n o p q = omega arith
 
 less_of : (a b : ℕ) → a ≤ b + 3048 → a - 3048 ≤ b
@@ -15,23 +17,24 @@ more_of : (a b : ℕ) → a - 3048 ≤ b → a ≤ b + 3048
 more_of a b l = omega arith
 
 module _ (start : ℕ → ℕ) (branch : ℕ → ℕ → ℕ) where
-  low_way : (i s : ℕ) → branch i s ≤ 508 →
-      least_cost start branch (suc i) s ≤ least_cost start branch i (s / 2) + 508
+  low_way : (i s : ℕ) → branch i s ≤ STEP_COST →
+      least_cost start branch (suc i) s ≤ least_cost start branch i (s / 2) + STEP_COST
   low_way i s l = omega arith
 
-  high_way : (i s : ℕ) → branch i (s + 64) ≤ 508 →
-      least_cost start branch (suc i) s ≤ least_cost start branch i (s / 2 + 32) + 508
+  high_way : (i s : ℕ) → branch i (s + 64) ≤ STEP_COST →
+      least_cost start branch (suc i) s ≤ least_cost start branch i (s / 2 + 32) + STEP_COST
   high_way i s l = omega arith
 
   -- a step from the state t to the state s
-  from_state : (i t s : ℕ) → ((m : ℕ) → branch i m ≤ 508) → t < 64 → t % 32 ≡ s / 2 →
-      least_cost start branch (suc i) s ≤ least_cost start branch i t + 508
+  from_state : (i t s : ℕ) → ((m : ℕ) → branch i m ≤ STEP_COST) → t < 64 → t % 32 ≡ s / 2 →
+      least_cost start branch (suc i) s ≤ least_cost start branch i t + STEP_COST
   from_state i t s most l e =
       ⊎_elim
       (λ (low : t < 32). let same : s / 2 ≡ t = omega arith in
-      subst (λ z. least_cost start branch (suc i) s ≤ least_cost start branch i z + 508) same (low_way i s (most s)))
+      subst (λ z. least_cost start branch (suc i) s ≤ least_cost start branch i z + STEP_COST) same
+      (low_way i s (most s)))
       (λ (high : 32 ≤ t). let same : s / 2 + 32 ≡ t = omega arith in
-      subst (λ z. least_cost start branch (suc i) s ≤ least_cost start branch i z + 508) same
+      subst (λ z. least_cost start branch (suc i) s ≤ least_cost start branch i z + STEP_COST) same
       (high_way i s (most (s + 64))))
       (order t 32)
 
@@ -40,7 +43,7 @@ module _ (start : ℕ → ℕ) (branch : ℕ → ℕ → ℕ) where
       b ≤ least_cost start branch (suc i) s
   floor_kept i b f s l = omega (arith, f (s / 2) (omega arith), f (s / 2 + 32) (omega arith))
 
-  module _ (i : ℕ) (most : (k m : ℕ) → k < i + 6 → branch k m ≤ 508) where
+  module _ (i : ℕ) (most : (k m : ℕ) → k < i + 6 → branch k m ≤ STEP_COST) where
     -- six steps from the state t to the state s, a level of s in each
     pub six_steps : (t s : ℕ) → t < 64 → s < 64 →
         least_cost start branch (suc (suc (suc (suc (suc (suc i)))))) s ≤ least_cost start branch i t + 3048
@@ -81,7 +84,7 @@ module _ (start : ℕ → ℕ) (branch : ℕ → ℕ → ℕ) where
 
 -- the same after n steps
 pub spread_after : (start : ℕ → ℕ) (branch : ℕ → ℕ → ℕ) (n : ℕ) → 6 ≤ n →
-    ((k m : ℕ) → k < n → branch k m ≤ 508) → (s t : ℕ) → s < 64 → t < 64 →
+    ((k m : ℕ) → k < n → branch k m ≤ STEP_COST) → (s t : ℕ) → s < 64 → t < 64 →
     least_cost start branch n s ≤ least_cost start branch n t + 3048
 spread_after start branch n l most =
     let whole : suc (suc (suc (suc (suc (suc (n - 6)))))) ≡ n = omega arith in

@@ -1,3 +1,5 @@
+//! The nearest path of a window by either kernel.
+
 ghost use Rattle.std.specs.Prelude.{◌≡◌, length};
 ghost use Rattle.lr_trellis.specs.Path.{bytes_of_bits, nearest_path};
 

@@ -8,7 +8,7 @@ ghost use Rattle.lr_trellis.specs.Words.{branch_by};
 use std::simd::prelude::*;
 
 /// The most that a step costs: 254 for each of its two symbols.
-pub(crate) const STEP_COST: u16 = 508;
+pub(crate) const STEP_COST: u16 = lr_trellis::STEP_COST as u16;
 
 /// The pairs of symbols of the steps with the level 0 from the states 0 to 31.
 pub(crate) const LEVEL_0_PAIRS: [usize; 32] = [

@@ -1,4 +1,5 @@
-//! The nearest path of a frame's window, as `lr_trellis` defines and finds it, found by 32 lanes at once.
+//! The nearest path of a frame's window, as `lr_trellis` defines and finds it, found by 32 lanes at once: a Viterbi
+//! decoder in vectors.
 //!
 //! A window goes in as 16,332 symbols with a line code, and 1,020 bytes come out: those of its nearest path, the first
 //! bit of each the most significant one. The forward pass keeps the least costs of the 64 states in two vectors, the
@@ -17,6 +18,7 @@
 //! The two have one contract. The first is the plainer text, and what it answers is compared with the second's.
 #![tactic(auto)]
 
+mod cost_rows;
 mod decode;
 mod forward;
 mod lanes;

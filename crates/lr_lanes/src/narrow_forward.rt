@@ -4,11 +4,12 @@ ghost use Rattle.std.specs.Prelude.{◌≡◌, ◌+◌, ◌*◌, ◌<◌, ◌≤
 ghost use Rattle.lr_trellis.specs.Trellis.{branch_of};
 ghost use Rattle.lr_trellis.specs.Words.{IsDecided, branch_by};
 
+use crate::cost_rows::{first_costs, second_costs};
 use crate::forward::{all_costs, forward, lanes_of};
 use crate::lanes::STEP_COST;
 use crate::narrow_step::narrow_step;
 use lr_conv::LineCode;
-use lr_trellis::{MOST_STEPS, pair_costs};
+use lr_trellis::MOST_STEPS;
 use std::simd::prelude::*;
 
 /// The steps after which each state can be reached from each: one for each level of a state.
@@ -40,16 +41,6 @@ fn state_costs(base: u32, lanes: u16x32) -> u32x32
     lanes.cast::<u32>().strict_add(u32x32::splat(base))
 }
 
-/// The costs of a step in sixteen bits, those of the four pairs of symbols.
-#[inline(always)]
-fn narrow_costs(costs: &[u32; 4]) -> u16x4
-    requires { (m : ℕ) → branch_by costs.now m ≤ STEP_COST }
-    ensures size { length result ≡ 4 }
-    ensures value { (m : ℕ) → branch_by result m ≡ branch_by costs.now m }
-{
-    u32x4::from_array(*costs).cast::<u16>()
-}
-
 /// What the four pairs of symbols cost in a step.
 #[inline(always)]
 fn costs_at(line: LineCode, window: &[i8], step: usize) -> u16x4
@@ -58,7 +49,7 @@ fn costs_at(line: LineCode, window: &[i8], step: usize) -> u16x4
     ensures value { (m : ℕ) → branch_by result m ≡ branch_of line window.now step m }
     ensures most { (m : ℕ) → branch_by result m ≤ STEP_COST }
 {
-    narrow_costs(&pair_costs(line, window[2 * step], window[2 * step + 1]))
+    first_costs(window[2 * step]).strict_add(second_costs(line, window[2 * step + 1]))
 }
 
 /// Lanes with room for a step, and the number by which each of them was lowered.

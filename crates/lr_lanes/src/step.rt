@@ -1,3 +1,5 @@
+//! One step of all paths, in lanes of 32 bits.
+
 ghost use Rattle.std.specs.Prelude.{◌≡◌, ◌+◌, ◌/◌, ◌^◌, ◌<◌, ◌≤◌, ◌++◌, ℕ, min, nat_lt, length, slice_index};
 ghost use Rattle.lr_trellis.specs.Words.{branch_by, decision_of};
 

@@ -19,6 +19,7 @@ use Rattle.std.proofs.lemmas.List.Elements.{filter_map-append, All-take}
 use Rattle.std.proofs.Math.Seq.{take-append_seam}
 use Rattle.lr_bits.specs.declared.outcome.Outcome.{Outcome}
 use Rattle.lr_bits.specs.declared.placed.Placed.{Placed}
+use Rattle.lr_bits.specs.declared.sizes.TheConstants.{ZONE_BYTES}
 use Rattle.lr_vc.specs.Frame.{Fields}
 use Rattle.lr_vc.specs.Runs.{AreFrames}
 use Rattle.lr_vc.specs.Packets.{packets_of}
@@ -35,12 +36,12 @@ frames_of_outcomes-append : (outcomes later : List Outcome) →
 unfolding frames_of_outcomes
 frames_of_outcomes-append outcomes later = filter_map-append frame_in outcomes later
 
-first_frames : (outcomes later : List Outcome) → AreFrames (frames_of_outcomes (outcomes ++ later)) →
+pub first_frames : (outcomes later : List Outcome) → AreFrames (frames_of_outcomes (outcomes ++ later)) →
     AreFrames (frames_of_outcomes outcomes)
 first_frames outcomes later frames =
     let front = frames_of_outcomes outcomes in
     subst (λ (l : List Fields). AreFrames l) (take-append_seam front (frames_of_outcomes later))
-    (All-take (λ f. length f.zone ≡ 884) (length front) (front ++ frames_of_outcomes later)
+    (All-take (λ f. length f.zone ≡ ZONE_BYTES) (length front) (front ++ frames_of_outcomes later)
     (subst (λ (l : List Fields). AreFrames l) (frames_of_outcomes-append outcomes later) frames))
 
 more_packets : (outcomes later : List Outcome) → AreFrames (frames_of_outcomes (outcomes ++ later)) →

@@ -29,6 +29,7 @@ use Rattle.lr_layers.specs.declared.starts.Now.{Now}
 use Rattle.lr_layers.specs.Layers.{Numbers, numbers_of, frame_in, frames_of_outcomes, good_of_outcomes}
 use Rattle.lr_layers.specs.Layers.{files_of_outcomes}
 use Rattle.lr_bits.specs.Outcomes.{is_restored}
+use Rattle.lr_bits.specs.declared.sizes.TheConstants.{FILL_CHANNEL}
 use Rattle.lr_layers.specs.Layers.{is_bad_version, is_fill}
 use Rattle.lr_layers.specs.Origins.{PlacedPacket, packet_of, at_place, placed_packets, placed_file}
 use Rattle.lr_layers.specs.Origins.{placed_files_after, placed_of_outcomes, corrected_in}
@@ -367,16 +368,16 @@ starts_before outcomes outcome kept stood =
     starts_stay outcomes outcome kept.starts (placed_packets outcomes) (all_below outcomes) stood.starts
 
 by_version : (frame : List ℕ) (f : Fields) (first : Bool) → eqb (version_of frame) 1 ≡ first →
-    Some f ≡ result_ok (frame_of frame) → (eqb (version_of frame) 1 && eqb (fields_of frame).vc 63) ≡ true →
-    f.vc ≡ 63
+    Some f ≡ result_ok (frame_of frame) → (eqb (version_of frame) 1 && eqb (fields_of frame).vc FILL_CHANNEL) ≡ true →
+    f.vc ≡ FILL_CHANNEL
 by_version frame f true one is fill =
     let fields : Some f ≡ Some (fields_of frame) = rw one at is in
-    let vc : eqb (fields_of frame).vc 63 ≡ true = rw one at fill in
+    let vc : eqb (fields_of frame).vc FILL_CHANNEL ≡ true = rw one at fill in
     let same : f ≡ fields_of frame = cc in
     ap (λ (g : Fields). g.vc) same ∙ eqb-true _ _ vc
 by_version frame f false other is fill = absurd (cc (rw other at fill))
 
 -- a frame that was read and is of fill has channel 63
 pub fill_channel : (corrected : Corrected) (frame : List ℕ) (f : Fields) → Some f ≡ result_ok (frame_of frame) →
-    is_fill (Restored corrected frame) ≡ true → f.vc ≡ 63
+    is_fill (Restored corrected frame) ≡ true → f.vc ≡ FILL_CHANNEL
 fill_channel corrected frame f is fill = by_version frame f (eqb (version_of frame) 1) refl is fill

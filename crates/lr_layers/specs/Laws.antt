@@ -5,6 +5,7 @@ use Rattle.lr_bits.specs.declared.outcome.Outcome.{Outcome}
 use Rattle.lr_bits.specs.declared.placed.Placed.{Placed}
 use Rattle.lr_bits.specs.File.{bytes_of}
 use Rattle.lr_bits.specs.Packet.{Packet}
+use Rattle.lr_bits.specs.declared.sizes.TheConstants.{TRANSPORT_HEADER_BYTES}
 use Rattle.lr_vc.specs.Runs.{AreFrames}
 use Rattle.lr_vc.specs.Packets.{packets_of}
 use Rattle.lr_packet.specs.Verdict.{Good}
@@ -40,5 +41,6 @@ FilesFitThePackets = (weights : Weights) (outcomes : List Outcome) →
 -- each file of outcomes has a body, and ten bytes
 abbrev pub FilesAreSome : Type 0
 FilesAreSome =
-    (outcomes : List Outcome) → All (λ file. (1 ≤ length file.bodies) × (10 ≤ length (bytes_of file)))
+    (outcomes : List Outcome)
+    → All (λ file. (1 ≤ length file.bodies) × (TRANSPORT_HEADER_BYTES ≤ length (bytes_of file)))
     (files_of_outcomes outcomes)

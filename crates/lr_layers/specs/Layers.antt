@@ -6,6 +6,7 @@ use Rattle.lr_bits.specs.Outcomes.{is_restored}
 use Rattle.lr_bits.specs.declared.outcome.Outcome.{Outcome}
 use Rattle.lr_bits.specs.declared.outcome.Outcome.TheVariants.{Restored, Lost}
 use Rattle.lr_bits.specs.File.{File}
+use Rattle.lr_bits.specs.declared.sizes.TheConstants.{FILL_CHANNEL}
 use Rattle.lr_vc.specs.Frame.{Fields, frame_of, fields_of, version_of}
 use Rattle.lr_vc.specs.Packets.{packets_of}
 use Rattle.lr_packet.specs.Verdict.{Good, good_packets}
@@ -35,7 +36,7 @@ is_bad_version (Lost word) = false
 
 -- a block was restored to a frame of channel 63
 abbrev pub is_fill : Outcome → Bool
-is_fill (Restored corrected frame) = (version_of frame == 1) && ((fields_of frame).vc == 63)
+is_fill (Restored corrected frame) = (version_of frame == 1) && ((fields_of frame).vc == FILL_CHANNEL)
 is_fill (Lost word) = false
 
 -- how many outcomes of each kind there are, and how many good packets and files

@@ -1,3 +1,5 @@
+//! The numbers of what the layers have met so far.
+
 /// How many outcomes of each kind there were so far, and how many good packets and files.
 #[derive(Clone, Copy)]
 pub struct Counts {

@@ -57,7 +57,7 @@ pub(crate) fn push_frame(
         → StartsStandFor outcomes starts.old before → IsNow outcomes now
         → IfOk result (λ gained. Takes outcomes before now.start.place frames (frames ++ fields frame.now ∷ [])
         channels.new files.new starts.new out.old.items out.new.items gained) }
-    ensures fill { channels.old.spent ≡ false → frame.now.vc ≡ 63 → IsOk result }
+    ensures fill { channels.old.spent ≡ false → frame.now.vc ≡ FILL_CHANNEL → IsOk result }
     ensures few { IfOk result (λ gained. gained.packets ≤ MOST_ENDING_PACKETS) }
     ensures few_new { IfOk result (λ _. length out.new.items ≤ length out.old.items + MOST_ENDING_PACKETS) }
     ensures few_files { IfOk result (λ gained. gained.files ≤ gained.packets) }

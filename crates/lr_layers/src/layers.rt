@@ -9,7 +9,7 @@ ghost use Rattle.lr_layers.specs.Standing.{StandsFor, IsSpent, AddsFiles, AreFew
 use crate::counts::Counts;
 use crate::frames::{push_frame, read_frame};
 use crate::starts::{Now, Start, Starts};
-use lr_bits::{Corrected, NoMemory, Outcome, Placed, RawPacket};
+use lr_bits::{BLOCK_BYTES, Corrected, NoMemory, Outcome, Placed, RawPacket};
 use lr_file::Files;
 use lr_vc::{Channels, MOST_ENDING_PACKETS};
 use std::alloc::Global;
@@ -35,6 +35,7 @@ pub struct Layers {
 impl Model for Layers {
     ghost use Rattle.std.specs.Prelude.{◌≤◌, ◌*◌};
     ghost use Rattle.lr_layers.specs.Standing.{Kept, AreFew, numbers};
+    ghost use Rattle.lr_bits.specs.declared.sizes.TheConstants.{BLOCK_BYTES};
 
     ghost Value = { Kept };
 
@@ -47,13 +48,13 @@ impl Model for Layers {
       numbers = numbers l.counts;
     } };
 
-    ghost invariant = { λ l. AreFew (numbers l.counts) × (l.corrected ≤ 1020 * (numbers l.counts).restored) };
+    ghost invariant = { λ l. AreFew (numbers l.counts) × (l.corrected ≤ BLOCK_BYTES * (numbers l.counts).restored) };
 }
 
 /// How many bytes were changed in the four words of a block.
 fn changed_bytes(corrected: &Corrected) -> u64
     ensures value { result ≡ sum corrected.now.0 }
-    ensures few { result ≤ 1020 }
+    ensures few { result ≤ BLOCK_BYTES }
 {
     let [first, second, third, fourth] = corrected.0;
     u64::from(first) + u64::from(second) + u64::from(third) + u64::from(fourth)
@@ -85,7 +86,7 @@ impl Layers {
     /// The next outcome, in which this many bytes were changed.
     fn now(&self, changed: u64) -> Now
         requires few { self.now.numbers.restored + self.now.numbers.lost < 2 ^ 48 }
-        requires changed { changed ≤ 1020 }
+        requires changed { changed ≤ BLOCK_BYTES }
         ensures place { result.start.place ≡ self.now.numbers.restored + self.now.numbers.lost }
         ensures before { result.start.corrected ≡ self.now.corrected }
         ensures after { result.corrected ≡ self.now.corrected + changed }

@@ -1,7 +1,7 @@
 -- Symbols and tails as bits of a number.
 use Rattle.std.proofs.Common.{◌≡◌, ℕ, ◌+◌, ◌*◌, ◌/◌, ◌%◌, ◌<◌, ◌≤◌, ◌^◌, ◌&&◌, ◌||◌, Bool, true, false, cond, ℤ, List}
 use Rattle.std.proofs.Common.{[], ◌∷◌, ◌++◌, length, map, refl, sym, ◌∙◌, ap, subst, arith, length-drop, pow-suc, drop}
-use Rattle.std.proofs.Common.{Fits, w64}
+use Rattle.std.proofs.Common.{Fits, w64, ◌-◌}
 use Rattle.std.specs.Prelude.{bit_and, bit_or, count_ones, not}
 use Rattle.std.specs.Int.Bits.{and_zero_r, or_shifted_r}
 use Rattle.std.proofs.Math.Nat.{pow-le-pow_right}
@@ -9,6 +9,7 @@ use Rattle.std.proofs.lemmas.Nat.{and_block, or_block}
 use Rattle.std.proofs.lemmas.List.{length-map}
 use lib.Count.{ones_step}
 use mir.Val.{bool_byte}
+use Rattle.lr_conv.specs.declared.marker.TheConstants.{TAIL_SYMBOLS}
 use Rattle.lr_lock.specs.Hits.{agreeing, leans_at_polarity, leans}
 use Rattle.lr_lock.specs.Planes.{number_of}
 
@@ -157,24 +158,25 @@ number_behind (b ∷ bits) false = omega (arith, number_behind bits false)
 number_behind (b ∷ bits) true = omega (arith, number_behind bits true, pow-suc 2 (length bits))
 
 -- a number of so few bits fits
-pub number_fits : (bits : List Bool) → length bits ≤ 52 → number_of bits < 2 ^ 52
+pub number_fits : (bits : List Bool) → length bits ≤ TAIL_SYMBOLS → number_of bits < 2 ^ TAIL_SYMBOLS
 number_fits bits few =
-    omega (arith, number_below bits, pow-le-pow_right {n = 2} (omega arith) {i = length bits} {j = 52} few)
+    omega (arith, number_below bits, pow-le-pow_right {n = 2} (omega arith) {i = length bits} {j = TAIL_SYMBOLS} few)
 
-pub moved_is : (above r : ℕ) (first one : Bool) (rest : List Bool) → length rest ≡ 51 →
+pub moved_is : (above r : ℕ) (first one : Bool) (rest : List Bool) → length rest ≡ (TAIL_SYMBOLS - 1) →
     above ≡ number_of (first ∷ rest) → r ≡ cond one 1 0 →
-    bit_or (above / 2) (r * 2251799813685248 % 18446744073709551616) ≡ number_of (rest ++ one ∷ [])
+    bit_or (above / 2) (r * 2 ^ 51 % 2 ^ 64) ≡ number_of (rest ++ one ∷ [])
 moved_is above r first one rest size e f =
     let half : above / 2 ≡ number_of rest = ap (λ n. n / 2) e ∙ bits_rest first (number_of rest) in
-    let small : number_of rest < 2 ^ 51 = subst (λ n. number_of rest < 2 ^ n) size (number_below rest) in
+    let small : number_of rest < 2 ^ (TAIL_SYMBOLS - 1) =
+    subst (λ n. number_of rest < 2 ^ n) size (number_below rest) in
     let l = low one in
-    let fits : r * 2251799813685248 % 18446744073709551616 ≡ cond one 1 0 * 2 ^ 51 = omega arith in
-    ap (λ n. bit_or n (r * 2251799813685248 % 18446744073709551616)) half ∙ ap (bit_or (number_of rest)) fits
-    ∙ or_shifted_r (cond one 1 0) 51 (number_of rest) small
+    let fits : r * 2 ^ 51 % 2 ^ 64 ≡ cond one 1 0 * 2 ^ (TAIL_SYMBOLS - 1) = omega arith in
+    ap (λ n. bit_or n (r * 2 ^ 51 % 2 ^ 64)) half ∙ ap (bit_or (number_of rest)) fits
+    ∙ or_shifted_r (cond one 1 0) (TAIL_SYMBOLS - 1) (number_of rest) small
     ∙ ap (λ n. cond one 1 0 * 2 ^ n + number_of rest) (sym size) ∙ sym (number_behind rest one)
 
-pub rest_fits : {X : Type 0} (f : X → Bool) (xs : List X) (i : ℕ) → length xs ≤ 52 →
-    number_of (map f (drop i xs)) < 2 ^ 52
+pub rest_fits : {X : Type 0} (f : X → Bool) (xs : List X) (i : ℕ) → length xs ≤ TAIL_SYMBOLS →
+    number_of (map f (drop i xs)) < 2 ^ TAIL_SYMBOLS
 rest_fits f xs i few = number_fits (map f (drop i xs)) (omega (arith, length-map (drop i xs) f, length-drop i xs))
 
 pub byte_low : (one : Bool) → bool_byte one ≤ 1
@@ -185,8 +187,8 @@ pub byte_is : (one : Bool) → bool_byte one ≡ cond one 1 0
 byte_is false = refl
 byte_is true = refl
 
-pub doubled_fits : (n : ℕ) → n < 2 ^ 52 → Fits w64 (2 * n)
+pub doubled_fits : (n : ℕ) → n < 2 ^ TAIL_SYMBOLS → Fits w64 (2 * n)
 doubled_fits n l = record { fits = omega arith }
 
-pub more_fits : (n r : ℕ) (one : Bool) → n < 2 ^ 52 → r ≡ bool_byte one → Fits w64 (2 * n + r)
+pub more_fits : (n r : ℕ) (one : Bool) → n < 2 ^ TAIL_SYMBOLS → r ≡ bool_byte one → Fits w64 (2 * n + r)
 more_fits n r one l e = record { fits = omega (arith, byte_low one) }

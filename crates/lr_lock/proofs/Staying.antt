@@ -4,9 +4,12 @@ use Rattle.std.proofs.Common.{◌∙◌, ap, arith}
 use Rattle.std.proofs.lemmas.List.{get_or_append_left}
 use Rattle.std.proofs.lemmas.List.Elements.{All-head, All-tail}
 use Rattle.std.specs.List.{range_with_len, All}
+use Rattle.lr_bits.specs.declared.sizes.TheConstants.{WINDOW_SYMBOLS}
 use Rattle.lr_conv.specs.declared.line.LineCode.{LineCode}
+use Rattle.lr_conv.specs.declared.marker.TheConstants.{MARKER_SYMBOLS}
 use Rattle.lr_lock.specs.Windows.{WindowView, window_view, window_of, window_value, turned_value}
 use Rattle.lr_lock.specs.declared.frame.Frame.{Frame}
+use Rattle.lr_lock.specs.declared.sizes.TheConstants.{WINDOW_END}
 
 map_within : (f g : ℕ → ℤ) (first n : ℕ) → ((k : ℕ) → first ≤ k → k < first + n → f k ≡ g k) →
     map f (range_with_len first n) ≡ map g (range_with_len first n)
@@ -15,18 +18,19 @@ map_within f g first (suc n) same =
     ap (λ y. y ∷ map f (range_with_len (first + 1) n)) (same first (omega arith) (omega arith)) ∙
     ap (λ ys. g first ∷ ys) (map_within f g (first + 1) n (λ k a b. same k (omega arith) (omega arith)))
 
-pub window_stays : (symbols more : List ℤ) (place : ℕ) (positive : Bool) → place + 16396 ≤ length symbols →
+pub window_stays : (symbols more : List ℤ) (place : ℕ) (positive : Bool) → place + WINDOW_END ≤ length symbols →
     window_of (symbols ++ more) place positive ≡ window_of symbols place positive
 unfolding window_of
 window_stays symbols more place positive h =
-    map_within (window_value (symbols ++ more) place positive) (window_value symbols place positive) 0 16332
-    (λ k a b. ap (turned_value positive) (get_or_append_left symbols more (pos 0) (place + 64 + k) (omega arith)))
+    map_within (window_value (symbols ++ more) place positive) (window_value symbols place positive) 0 WINDOW_SYMBOLS
+    (λ k a b. ap (turned_value positive) (get_or_append_left symbols more (pos 0) (place + MARKER_SYMBOLS + k)
+    (omega arith)))
 
 -- the symbols of the frame's window are there
 abbrev Covers : List ℤ → Frame → Type 0
-Covers symbols frame = frame.place + 16396 ≤ length symbols
+Covers symbols frame = frame.place + WINDOW_END ≤ length symbols
 
-shown_stays : (line : LineCode) (symbols more : List ℤ) (frame : Frame) → frame.place + 16396 ≤ length symbols →
+shown_stays : (line : LineCode) (symbols more : List ℤ) (frame : Frame) → frame.place + WINDOW_END ≤ length symbols →
     window_view line (symbols ++ more) frame ≡ window_view line symbols frame
 shown_stays line symbols more frame h =
     let made : List ℤ → WindowView =
@@ -34,7 +38,7 @@ shown_stays line symbols more frame h =
     ap made (window_stays symbols more frame.place frame.positive h)
 
 pub all_shown_stay : (line : LineCode) (symbols more : List ℤ) (frames : List Frame) →
-    All (λ frame. frame.place + 16396 ≤ length symbols) frames →
+    All (λ frame. frame.place + WINDOW_END ≤ length symbols) frames →
     map (window_view line (symbols ++ more)) frames ≡ map (window_view line symbols) frames
 all_shown_stay line symbols more [] h = refl
 all_shown_stay line symbols more (frame ∷ frames) h =

@@ -5,8 +5,10 @@ use Rattle.std.proofs.Common.{length-drop}
 use Rattle.std.proofs.lemmas.List.{drop-drop, drop-append-le, get_or-drop}
 use Rattle.std.proofs.lemmas.List.Elements.{All-push, All-weaker}
 use Rattle.std.specs.List.{range_with_len}
+use Rattle.lr_bits.specs.declared.sizes.TheConstants.{FRAME_SYMBOLS, WINDOW_SYMBOLS}
 use Rattle.lr_conv.specs.Marker.{tail_of}
 use Rattle.lr_conv.specs.declared.line.LineCode.{LineCode}
+use Rattle.lr_conv.specs.declared.marker.TheConstants.{MARKER_SYMBOLS, TAIL_SYMBOLS}
 use Rattle.lr_conv.proofs.Tails.{tail_size}
 use Rattle.lr_lock.specs.Frames.{place_after_frame, HasFewer, IsFoundFrom, IsNext, AreNext, last_of}
 use Rattle.lr_lock.specs.Windows.{WindowView, window_view, window_of, window_value, turned_value}
@@ -15,21 +17,24 @@ use Rattle.lr_lock.specs.Search.{IsFrameFound, IsWaiting}
 use Rattle.lr_lock.specs.Standing.{LockState, StandsFor}
 use Rattle.lr_lock.specs.Steps.{GivesWindow, WantsMore, HasEnded}
 use Rattle.lr_lock.specs.declared.frame.Frame.{Frame}
+use Rattle.lr_lock.specs.declared.sizes.TheConstants.{WINDOW_END}
+use Rattle.lr_lock.specs.Thresholds.{acquiring_hits, holding_hits}
 use Rattle.lr_lock.proofs.Following.{fewer-append, searches-append, next-append, not_fewer}
 
 -- the symbols of the frame's window are there
 abbrev Covers : List ℤ → Frame → Type 0
-Covers symbols frame = frame.place + 16396 ≤ length symbols
+Covers symbols frame = frame.place + WINDOW_END ≤ length symbols
 
 -- more symbols
 
 pub next_all-append : (tail : List Bool) (symbols more : List ℤ) (last : Option Frame) (frames : List Frame) →
-    length tail ≡ 52 → AreNext tail symbols last frames → AreNext tail (symbols ++ more) last frames
+    length tail ≡ TAIL_SYMBOLS → AreNext tail symbols last frames → AreNext tail (symbols ++ more) last frames
 next_all-append tail symbols more last [] t h = tt
 next_all-append tail symbols more last (frame ∷ frames) t h =
     (next-append tail symbols more last frame t h.0, next_all-append tail symbols more (Some frame) frames t h.1)
 
-at-append : (tail : List Bool) (symbols more : List ℤ) (last held : Option Frame) (place : ℕ) → length tail ≡ 52 →
+at-append : (tail : List Bool) (symbols more : List ℤ) (last held : Option Frame) (place : ℕ) →
+    length tail ≡ TAIL_SYMBOLS →
     IsAt tail symbols last held place → IsAt tail (symbols ++ more) last held place
 at-append tail symbols more last (Some held) place t at = at
 at-append tail symbols more last None place t at = record {
@@ -37,7 +42,7 @@ at-append tail symbols more last None place t at = record {
   begins = searches-append tail symbols more last at.start t at.begins;
   from = at.from;
   whole = λ p a b. omega (arith, length-append symbols more, at.whole p a b);
-  passed = λ p a b. fewer-append tail symbols more p 45 t (omega (arith, at.whole p a b)) (at.passed p a b);
+  passed = λ p a b. fewer-append tail symbols more p acquiring_hits t (omega (arith, at.whole p a b)) (at.passed p a b);
 }
 
 pub stands_after_feed : (lock : LockState) (piece fed : List ℤ) (given : List Frame) → StandsFor lock fed given →
@@ -84,15 +89,17 @@ pub window_of-drop : (fed : List ℤ) (place : ℕ) (positive : Bool) →
     window_of (drop place fed) 0 positive ≡ window_of fed place positive
 unfolding window_of
 window_of-drop fed place positive =
-    map_same (window_value (drop place fed) 0 positive) (window_value fed place positive) (range_with_len 0 16332)
-    (λ k. ap (turned_value positive) (get_or-drop place fed (0 + 64 + k) (pos 0)
+    map_same (window_value (drop place fed) 0 positive) (window_value fed place positive)
+    (range_with_len 0 WINDOW_SYMBOLS)
+    (λ k. ap (turned_value positive) (get_or-drop place fed (0 + MARKER_SYMBOLS + k) (pos 0)
     ∙ ap (λ n. get_or fed n (pos 0)) (omega arith)))
 
 pub given_window : (before later : LockState) (fed : List ℤ) (given : List Frame) (frame : Frame) (passed needed : ℕ)
     (seen : WindowView) → StandsFor before fed given → IsFrameFound (tail_of before.line) fed (last_of None given)
-    (before.place + passed) needed frame → 16384 ≤ needed → (before.finished ≡ false → needed ≡ 16396) →
-    later.line ≡ before.line → later.place ≡ before.place + passed + 16384 →
-    later.kept ≡ drop (passed + 16384) before.kept → later.held ≡ Some frame → later.finished ≡ before.finished →
+    (before.place + passed) needed frame → FRAME_SYMBOLS ≤ needed → (before.finished ≡ false → needed ≡ WINDOW_END) →
+    later.line ≡ before.line → later.place ≡ before.place + passed + FRAME_SYMBOLS →
+    later.kept ≡ drop (passed + FRAME_SYMBOLS) before.kept → later.held ≡ Some frame →
+    later.finished ≡ before.finished →
     seen ≡ record {
       position = frame.place;
       positive = frame.positive;
@@ -119,7 +126,7 @@ given_window before later fed given frame passed needed seen h sees big sure lin
       window = shows;
       stands = record {
         within = omega (arith, place, sees.within, big);
-        rest = kept ∙ ap (drop (passed + 16384)) h.rest ∙ drop-drop (passed + 16384) before.place fed
+        rest = kept ∙ ap (drop (passed + FRAME_SYMBOLS)) h.rest ∙ drop-drop (passed + FRAME_SYMBOLS) before.place fed
             ∙ ap (λ n. drop n fed) (omega (arith, place));
         frames = subst (λ (k : LineCode). AreNext (tail_of k) fed None (given ++ frame ∷ [])) (sym line) frames;
         stands = subst (λ (o : Option Frame). IsAt (tail_of later.line) fed
@@ -142,7 +149,8 @@ next_whole tail fed (Some last) frame (inr h) = h.2.whole
 
 -- what a search looks for lies ahead of it
 found_ahead : (tail : List Bool) (fed : List ℤ) (start begin place : ℕ) (frame : Frame) → start ≡ begin →
-    IsFoundFrom tail fed start frame → ((p : ℕ) → begin ≤ p → p < place → HasFewer tail fed p 45) → place ≤ frame.place
+    IsFoundFrom tail fed start frame → ((p : ℕ) → begin ≤ p → p < place → HasFewer tail fed p acquiring_hits) →
+    place ≤ frame.place
 found_ahead tail fed start begin place frame e found passed =
     let below : frame.place < place → ⊥ =
     λ (h : frame.place < place). absurd (omega (
@@ -163,7 +171,8 @@ next_ahead tail fed None None place frame at (inl h) = absurd h
 next_ahead tail fed None None place frame at (inr h) =
     found_ahead tail fed h.0 at.start place frame (h.1 ∙ sym at.begins) h.2 at.passed
 next_ahead tail fed (Some last) None place frame at (inl (inl h)) =
-    absurd (not_fewer tail fed frame.place (place_after_frame last) frame.positive 37 h.place h.seen at.begins.0.unseen)
+    absurd (not_fewer tail fed frame.place
+    (place_after_frame last) frame.positive holding_hits h.place h.seen at.begins.0.unseen)
 next_ahead tail fed (Some last) None place frame at (inl (inr h)) = absurd (omega (arith, h.few, at.begins.0.many))
 next_ahead tail fed (Some last) None place frame at (inr h) =
     found_ahead tail fed h.0 at.start place frame (h.1.1 ∙ sym at.begins.1) h.2 at.passed
@@ -192,7 +201,7 @@ stands_on before later fed given passed needed h waits line place kept same =
 
 pub wanted_more : (before later : LockState) (fed : List ℤ) (given : List Frame) (passed needed : ℕ) →
     StandsFor before fed given → IsWaiting (tail_of before.line) fed (last_of None given) later.held
-    (before.place + passed) needed → before.finished ≡ false → needed ≡ 16396 → later.line ≡ before.line →
+    (before.place + passed) needed → before.finished ≡ false → needed ≡ WINDOW_END → later.line ≡ before.line →
     later.place ≡ before.place + passed → later.kept ≡ drop passed before.kept → later.finished ≡ before.finished →
     WantsMore before later fed given
 wanted_more before later fed given passed needed h waits unfinished e line place kept same =
@@ -211,7 +220,7 @@ wanted_more before later fed given passed needed h waits unfinished e line place
 
 pub had_ended : (before later : LockState) (fed : List ℤ) (given : List Frame) (passed needed : ℕ) →
     StandsFor before fed given → IsWaiting (tail_of before.line) fed (last_of None given) later.held
-    (before.place + passed) needed → before.finished ≡ true → needed ≡ 16384 → later.line ≡ before.line →
+    (before.place + passed) needed → before.finished ≡ true → needed ≡ FRAME_SYMBOLS → later.line ≡ before.line →
     later.place ≡ before.place + passed → later.kept ≡ drop passed before.kept → later.finished ≡ before.finished →
     HasEnded before later fed given
 had_ended before later fed given passed needed h waits closed e line place kept same = record {

@@ -7,4 +7,5 @@ pub mod Search
 pub mod Standing
 pub mod Steps
 pub mod Symbols
+pub mod Thresholds
 pub mod Windows

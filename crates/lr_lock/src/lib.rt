@@ -6,10 +6,10 @@
 //! symbols 12 to 63, its tail, are the same after whatever bits were sent before it, or each symbol's complement, so a
 //! marker is known by these 52: the hits of a polarity at a place are those of them that lean to the tail's bit.
 //!
-//! `Frames` in specs/ defines the frames of a list of symbols. A search goes to the first place with 45 hits of one
-//! polarity; right after a frame 37 hits keep the lock, and three markers in succession may be missed before a new
-//! search begins. Each symbol of a frame must be there. There is one such list, named by `frames_of`
-//! (`frames_are_one`), and more symbols only add to its end (`front_stays`).
+//! `Frames` in specs/ defines the frames of a list of symbols. A search goes to the first place with `ACQUIRING_HITS`
+//! hits of one polarity; right after a frame `HOLDING_HITS` hits keep the lock, and `FLYWHEEL_MISSES` markers in
+//! succession may be missed before a new search begins. Each symbol of a frame must be there. There is one such list,
+//! named by `frames_of` (`frames_are_one`), and more symbols only add to its end (`front_stays`).
 //!
 //! `Windows` defines the window of a frame: the 16,332 symbols after its marker, the last twelve of them the next
 //! marker's first ones, each times the sign of the polarity.
@@ -31,6 +31,8 @@ mod window;
 pub use frame::Frame;
 pub use laws::{frames_are_one, front_stays, given_are_front, given_windows_stay, window_stays};
 pub use lock::Lock;
-pub use sizes::{LOCK_SYMBOLS, WINDOW_END};
+pub use sizes::{
+    ACQUIRING_HITS, FLYWHEEL_MISSES, HOLDING_HITS, LOCK_SYMBOLS, TAIL_START, WINDOW_END,
+};
 pub use step::Step;
 pub use window::Window;

@@ -6,6 +6,7 @@ ghost use Rattle.lr_lock.specs.Steps.{Answers};
 ghost use Rattle.lr_lock.specs.Standing.{StandsFor};
 ghost use Rattle.lr_lock.specs.Symbols.{symbol_of, symbols_of};
 ghost use Rattle.lr_lock.specs.declared.frame.Frame.{Frame};
+ghost use Rattle.lr_lock.specs.Thresholds.{lock_symbols};
 
 use crate::frame::Frame;
 use crate::search::find_next;
@@ -34,7 +35,7 @@ pub struct Lock {
 impl Model for Lock {
     ghost use Rattle.std.specs.Prelude.{◌+◌, ◌-◌, ◌^◌, ◌≤◌, length, drop, vec_capacity};
     ghost use Rattle.lr_lock.specs.Standing.{LockState};
-    ghost use Rattle.lr_lock.specs.declared.sizes.TheConstants.{LOCK_SYMBOLS};
+    ghost use Rattle.lr_lock.specs.Thresholds.{lock_symbols};
 
     ghost Value = { LockState };
 
@@ -46,8 +47,8 @@ impl Model for Lock {
       finished = l.finished;
     } };
 
-    ghost invariant = { λ l. (l.passed ≤ length l.symbols.items) × (length l.symbols.items ≤ LOCK_SYMBOLS) ×
-        (LOCK_SYMBOLS ≤ vec_capacity l.symbols) × (l.place + (length l.symbols.items - l.passed) ≤ 2 ^ 62) };
+    ghost invariant = { λ l. (l.passed ≤ length l.symbols.items) × (length l.symbols.items ≤ lock_symbols) ×
+        (lock_symbols ≤ vec_capacity l.symbols) × (l.place + (length l.symbols.items - l.passed) ≤ 2 ^ 62) };
 }
 
 /// Lets go of the first symbols.
@@ -80,10 +81,10 @@ fn write_bytes(symbols: &mut [i8], piece: &[u8])
 
 /// Puts the bytes, read as signed ones, after the symbols. There is room for them.
 fn put_bytes(symbols: &mut Vec<i8>, piece: &[u8])
-    requires room { length symbols.old.items + length piece.now ≤ LOCK_SYMBOLS }
-    requires capacity { LOCK_SYMBOLS ≤ vec_capacity symbols.old }
+    requires room { length symbols.old.items + length piece.now ≤ lock_symbols }
+    requires capacity { lock_symbols ≤ vec_capacity symbols.old }
     ensures items { symbols.new.items ≡ symbols.old.items ++ symbols_of piece.now }
-    ensures capacity { LOCK_SYMBOLS ≤ vec_capacity symbols.new }
+    ensures capacity { lock_symbols ≤ vec_capacity symbols.new }
 {
     let before = symbols.len();
     if symbols.resize(before + piece.len(), 0).is_err() {
@@ -112,7 +113,7 @@ impl Lock {
 
     /// How many symbols may be fed.
     pub fn room(&self) -> usize
-        ensures { result + length self.now.kept ≡ LOCK_SYMBOLS }
+        ensures { result + length self.now.kept ≡ lock_symbols }
     {
         LOCK_SYMBOLS - (self.symbols.len() - self.passed)
     }
@@ -126,7 +127,7 @@ impl Lock {
 
     /// Keeps the piece after the symbols that are kept.
     fn append(&mut self, piece: &[i8])
-        requires room { length self.old.kept + length piece.now ≤ LOCK_SYMBOLS }
+        requires room { length self.old.kept + length piece.now ≤ lock_symbols }
         requires in_all { self.old.place + length self.old.kept + length piece.now ≤ 2 ^ 62 }
         ensures { self.new ≡ record self.old { kept = self.old.kept ++ piece.now } }
     {
@@ -141,7 +142,7 @@ impl Lock {
 
     /// Keeps the bytes, read as signed ones, after the symbols that are kept.
     fn append_bytes(&mut self, piece: &[u8])
-        requires room { length self.old.kept + length piece.now ≤ LOCK_SYMBOLS }
+        requires room { length self.old.kept + length piece.now ≤ lock_symbols }
         requires in_all { self.old.place + length self.old.kept + length piece.now ≤ 2 ^ 62 }
         ensures { self.new ≡ record self.old { kept = self.old.kept ++ symbols_of piece.now } }
     {
@@ -155,7 +156,7 @@ impl Lock {
     /// Feeds the next symbols of the stream: at most `room`, and at most 2^62 in all.
     pub fn feed(&mut self, piece: &[i8])
         requires unfinished { self.old.finished ≡ false }
-        requires room { length self.old.kept + length piece.now ≤ LOCK_SYMBOLS }
+        requires room { length self.old.kept + length piece.now ≤ lock_symbols }
         requires in_all { self.old.place + length self.old.kept + length piece.now ≤ 2 ^ 62 }
         ensures value { self.new ≡ record self.old { kept = self.old.kept ++ piece.now } }
         ensures stands { (fed : List ℤ) (given : List Frame) → StandsFor self.old fed given →
@@ -167,7 +168,7 @@ impl Lock {
     /// Feeds the next symbols of the stream, each in a byte that is read as a signed one.
     pub fn feed_bytes(&mut self, piece: &[u8])
         requires unfinished { self.old.finished ≡ false }
-        requires room { length self.old.kept + length piece.now ≤ LOCK_SYMBOLS }
+        requires room { length self.old.kept + length piece.now ≤ lock_symbols }
         requires in_all { self.old.place + length self.old.kept + length piece.now ≤ 2 ^ 62 }
         ensures value { self.new ≡ record self.old { kept = self.old.kept ++ symbols_of piece.now } }
         ensures stands { (fed : List ℤ) (given : List Frame) → StandsFor self.old fed given →

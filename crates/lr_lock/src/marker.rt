@@ -5,10 +5,8 @@ ghost use Rattle.lr_lock.specs.Hits.{hits};
 ghost use Rattle.lr_lock.specs.Frames.{HasFewer};
 
 use crate::planes::{masks_of, planes_of, polarity_in};
+use crate::sizes::TAIL_START;
 use lr_conv::{MARKER_SYMBOLS, TAIL_SYMBOLS};
-
-/// The symbols of a marker in front of its tail.
-pub(crate) const BEFORE: usize = MARKER_SYMBOLS - TAIL_SYMBOLS;
 
 /// The polarity that has `least` hits at the place, if one has.
 pub(crate) fn polarity_at(
@@ -21,6 +19,6 @@ pub(crate) fn polarity_at(
     ensures { MatchOption result (HasFewer tail.now symbols.now place least)
         (λ positive. least ≤ hits tail.now symbols.now place positive) }
 {
-    let planes = planes_of(&symbols[place + BEFORE..place + MARKER_SYMBOLS]);
+    let planes = planes_of(&symbols[place + TAIL_START..place + MARKER_SYMBOLS]);
     polarity_in(planes, masks_of(tail), least)
 }

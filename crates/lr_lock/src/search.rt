@@ -6,22 +6,14 @@ ghost use Rattle.lr_lock.specs.Hits.{hits};
 ghost use Rattle.lr_lock.specs.Frames.{HasFewer};
 ghost use Rattle.lr_lock.specs.Machine.{IsAt, IsSearching};
 ghost use Rattle.lr_lock.specs.Search.{Finds};
+ghost use Rattle.lr_lock.specs.Thresholds.{acquiring_hits, lock_symbols};
 
 use crate::frame::Frame;
-use crate::marker::{BEFORE, polarity_at};
+use crate::marker::polarity_at;
 use crate::planes::{masks_of, next_planes, planes_of, polarity_in};
-use crate::sizes::{LOCK_SYMBOLS, WINDOW_END};
+use crate::sizes::{ACQUIRING_HITS, FLYWHEEL_MISSES, HOLDING_HITS, TAIL_START, WINDOW_END};
 use lr_bits::FRAME_SYMBOLS;
 use lr_conv::{MARKER_SYMBOLS, TAIL_SYMBOLS};
-
-/// The hits at which a search locks.
-const LOCKING: u32 = 45;
-
-/// The hits at which a marker is seen right after a frame.
-const SEEN: u32 = 37;
-
-/// The misses in succession that still give a frame.
-const FORGIVEN: u8 = 3;
 
 /// What a search tells: how many symbols are passed, and the frame that begins after these. With no frame, the one that
 /// is still held.
@@ -40,20 +32,20 @@ struct Hit {
     positive: Option<bool>,
 }
 
-/// The first place from `start` on that has `needed` symbols from it on, and 45 hits of one polarity.
+/// The first place from `start` on that has `needed` symbols from it on, and `ACQUIRING_HITS` hits of one polarity.
 fn first_hit(tail: &[bool; TAIL_SYMBOLS], symbols: &[i8], start: usize, needed: usize) -> Hit
     requires start { start ≤ length symbols.now }
-    requires size { length symbols.now ≤ LOCK_SYMBOLS }
+    requires size { length symbols.now ≤ lock_symbols }
     requires needed { FRAME_SYMBOLS ≤ needed }
     requires small { needed ≤ WINDOW_END }
     ensures from { start ≤ result.place }
     ensures within { result.place ≤ length symbols.now }
     ensures whole { (p : ℕ) → start ≤ p → p < result.place → p + needed ≤ length symbols.now }
-    ensures passed { (p : ℕ) → start ≤ p → p < result.place → HasFewer tail.now symbols.now p 45 }
+    ensures passed { (p : ℕ) → start ≤ p → p < result.place → HasFewer tail.now symbols.now p acquiring_hits }
     ensures ended { MatchOption result.positive (length symbols.now < result.place + needed)
         (λ positive. result.place + needed ≤ length symbols.now) }
     ensures locked { MatchOption result.positive (Unit {0})
-        (λ positive. 45 ≤ hits tail.now symbols.now result.place positive) }
+        (λ positive. acquiring_hits ≤ hits tail.now symbols.now result.place positive) }
 {
     if symbols.len() - start < needed {
         return Hit {
@@ -62,10 +54,10 @@ fn first_hit(tail: &[bool; TAIL_SYMBOLS], symbols: &[i8], start: usize, needed: 
         };
     }
     let masks = masks_of(tail);
-    let mut planes = planes_of(&symbols[start + BEFORE..start + MARKER_SYMBOLS]);
+    let mut planes = planes_of(&symbols[start + TAIL_START..start + MARKER_SYMBOLS]);
     let mut place = start;
     while place + needed <= symbols.len() {
-        if let Some(positive) = polarity_in(planes, masks, LOCKING) {
+        if let Some(positive) = polarity_in(planes, masks, ACQUIRING_HITS) {
             return Hit {
                 place,
                 positive: Some(positive),
@@ -109,7 +101,7 @@ fn search_from(
     needed: usize,
 ) -> Found
     requires start { start ≤ length symbols.now }
-    requires size { length symbols.now ≤ LOCK_SYMBOLS }
+    requires size { length symbols.now ≤ lock_symbols }
     requires place { place + length symbols.now ≤ 2 ^ 62 }
     requires needed { FRAME_SYMBOLS ≤ needed }
     requires small { needed ≤ WINDOW_END }
@@ -137,7 +129,7 @@ pub(crate) fn find_next(
     held: Option<Frame>,
     needed: usize,
 ) -> Found
-    requires size { length symbols.now ≤ LOCK_SYMBOLS }
+    requires size { length symbols.now ≤ lock_symbols }
     requires place { place + length symbols.now ≤ 2 ^ 62 }
     requires needed { FRAME_SYMBOLS ≤ needed }
     requires small { needed ≤ WINDOW_END }
@@ -156,9 +148,14 @@ pub(crate) fn find_next(
             held: Some(last),
         };
     }
-    match polarity_at(tail, symbols, 0, SEEN) {
+    match polarity_at(tail, symbols, 0, HOLDING_HITS) {
         Some(positive) => found_frame(0, place, positive, 0),
-        None if last.misses < FORGIVEN => found_frame(0, place, last.positive, last.misses + 1),
+        None if last.misses < FLYWHEEL_MISSES => found_frame(
+            0,
+            place,
+            last.positive,
+            last.misses + 1,
+        ),
         None => search_from(tail, symbols, place, 1, needed),
     }
 }

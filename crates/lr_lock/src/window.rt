@@ -3,6 +3,7 @@
 ghost use Rattle.std.specs.Prelude.{◌≡◌, ◌≢◌, ◌≤◌, pos, negsuc, true, length, IfOk};
 ghost use Rattle.std.specs.List.{All};
 ghost use Rattle.lr_lock.specs.Windows.{turned_value, window_of};
+ghost use Rattle.lr_lock.specs.Thresholds.{lock_symbols};
 
 use crate::frame::Frame;
 use crate::sizes::LOCK_SYMBOLS;
@@ -53,7 +54,7 @@ fn turned_value(symbol: i8, positive: bool) -> i8
 /// from there on.
 fn fill(out: &mut [i8], symbols: &[i8], positive: bool)
     requires room { length out.old ≡ WINDOW_SYMBOLS }
-    requires size { length symbols.now ≤ LOCK_SYMBOLS }
+    requires size { length symbols.now ≤ lock_symbols }
     ensures values { out.new ≡ window_of symbols.now 0 positive }
     ensures soft { All (λ v. v ≢ negsuc 127) out.new }
 {
@@ -115,7 +116,7 @@ impl Window {
 
     /// Shows the frame, whose symbols stand first among these.
     pub(crate) fn show(&mut self, frame: Frame, symbols: &[i8])
-        requires { length symbols.now ≤ LOCK_SYMBOLS }
+        requires { length symbols.now ≤ lock_symbols }
         ensures { self.new ≡ record {
           position = frame.place;
           positive = frame.positive;

@@ -9,6 +9,7 @@ use Rattle.std.specs.List.{range_with_len}
 use Rattle.std.proofs.lemmas.List.{drop-append-le, map-append, take_more_set, same_lists, get_or-drop}
 use Rattle.std.proofs.lemmas.List.FromFn.{map-range_with_len_more, length-map-range_with_len, get_or-map-range_with_len}
 use Rattle.lr_bits.specs.Bits.{bit_of}
+use Rattle.lr_bits.specs.declared.sizes.TheConstants.{BLOCK_BYTES, FRAME_SYMBOLS}
 use Rattle.lr_conv.specs.Convolution.{first_symbol}
 use Rattle.lr_conv.specs.declared.line.LineCode.{LineCode}
 use Rattle.lr_conv.specs.declared.line.TheConstants.{STANDARD}
@@ -81,7 +82,7 @@ bit_is bytes n byte e = and_mask (byte / 2 ^ (7 - n % 8)) 1 ∙ ap (λ z. z / 2 
 
 -- one bit more, and its two symbols
 pub symbols_more : (past bits : List Bool) (bytes : List ℕ) (n : ℕ) (first second : Bool) (old : List ℤ) →
-    length old ≡ 16384 → n < 8192
+    length old ≡ FRAME_SYMBOLS → n < 8192
     → take (2 * n) old ≡ map level (drop (2 * length bits) (code STANDARD past (bits ++ first_bits bytes n)))
     → code STANDARD past ((bits ++ first_bits bytes n) ++ nat_eq (bit_of bytes n) 1 ∷ []) ≡
     code STANDARD past (bits ++ first_bits bytes n) ++ first ∷ second ∷ []
@@ -149,7 +150,7 @@ last_bits bytes =
     (omega arith) (omega arith)))
 
 -- an encoder with these six bits has taken any earlier bits and these bytes
-pub last_six : (past bits : List Bool) (block : List ℕ) → length block ≡ 1020 → length past ≡ 6
+pub last_six : (past bits : List Bool) (block : List ℕ) → length block ≡ BLOCK_BYTES → length past ≡ 6
     → past_of (get_or block 1019 0 % 64) ≡ drop (length (bits ++ bits_of_bytes (marked_block block)))
     (past ++ (bits ++ bits_of_bytes (marked_block block)))
 last_six past bits block long six =

@@ -2,6 +2,7 @@
 use Rattle.std.proofs.Common.{◌≡◌, ℕ, zero, suc, ◌+◌, ◌*◌, Bool, false, ℤ, List, ◌++◌, length, map, drop, replicate}
 use Rattle.std.proofs.Common.{refl, sym, ap, subst, ◌∙◌, arith, add-one, length-append}
 use Rattle.std.proofs.lemmas.List.{drop-map, drop_at, length-map, map-append}
+use Rattle.lr_bits.specs.declared.sizes.TheConstants.{BLOCK_BYTES, FRAME_SYMBOLS}
 use Rattle.lr_conv.specs.Convolution.{code}
 use Rattle.lr_conv.specs.Encoder as encoders
 use Rattle.lr_conv.specs.declared.encoder.Encoder.{Encoder}
@@ -22,11 +23,11 @@ block_at-is start wrong n made_wrong frame block f w b =
     b ∙ ap (λ z. randomised_block (damaged_block z (encoded_block frame))) w
     ∙ ap (λ z. randomised_block (damaged_block wrong (encoded_block z))) f
 
-pub length-block_at : (start wrong n : ℕ) → length (block_at start wrong n) ≡ 1020
+pub length-block_at : (start wrong n : ℕ) → length (block_at start wrong n) ≡ BLOCK_BYTES
 unfolding block_at
 length-block_at start wrong n = length-randomised_block (damaged_block wrong (encoded_block (frame_at start n)))
 
-length-bits : (block : List ℕ) → length block ≡ 1020 → length (bits_of_bytes (marked_block block)) ≡ 8192
+length-bits : (block : List ℕ) → length block ≡ BLOCK_BYTES → length (bits_of_bytes (marked_block block)) ≡ 8192
 length-bits block e =
     sym (ap length (bits_of_bytes-all (marked_block block) 8192 (omega arith)))
     ∙ length-first_bits (marked_block block) 8192
@@ -62,16 +63,17 @@ pub symbols_at-is : (start wrong n : ℕ) (block : List ℕ) (symbols : List ℤ
 unfolding symbols_at
 symbols_at-is start wrong n block symbols b s =
     let bits : List Bool = sent_bits start wrong n ++ bits_of_bytes (marked_block block) in
-    let places : 2 * length (sent_bits start wrong n) ≡ 16384 * n = omega (arith, length-sent_bits start wrong n) in
+    let places : 2 * length (sent_bits start wrong n) ≡ FRAME_SYMBOLS * n =
+    omega (arith, length-sent_bits start wrong n) in
     let all : bits ≡ sent_bits start wrong (n + 1) =
     ap (λ z. sent_bits start wrong n ++ bits_of_bytes (marked_block z)) b ∙ sym (sent_bits-more start wrong n) in
     s ∙ ap (λ k. map level (drop k (code STANDARD (replicate 6 false) bits))) places
-    ∙ ap (λ z. map level (drop (16384 * n) (code STANDARD (replicate 6 false) z))) all
-    ∙ sym (drop-map level (16384 * n) (code STANDARD (replicate 6 false) (sent_bits start wrong (n + 1))))
+    ∙ ap (λ z. map level (drop (FRAME_SYMBOLS * n) (code STANDARD (replicate 6 false) z))) all
+    ∙ sym (drop-map level (FRAME_SYMBOLS * n) (code STANDARD (replicate 6 false) (sent_bits start wrong (n + 1))))
 
 -- ---- the law
 
-pub length-all_symbols : (start wrong n : ℕ) → length (all_symbols start wrong n) ≡ 16384 * n
+pub length-all_symbols : (start wrong n : ℕ) → length (all_symbols start wrong n) ≡ FRAME_SYMBOLS * n
 length-all_symbols start wrong n =
     omega (
       arith,
@@ -80,7 +82,8 @@ length-all_symbols start wrong n =
       length-sent_bits start wrong n,
     )
 
-symbols_at-drop : (start wrong n : ℕ) → symbols_at start wrong n ≡ drop (16384 * n) (all_symbols start wrong (n + 1))
+symbols_at-drop : (start wrong n : ℕ)
+    → symbols_at start wrong n ≡ drop (FRAME_SYMBOLS * n) (all_symbols start wrong (n + 1))
 unfolding symbols_at
 symbols_at-drop start wrong n = refl
 
@@ -95,9 +98,9 @@ symbols_are_one_code start wrong (suc n) =
     ap (map level) front.1 ∙ map-append level (code STANDARD zeros (sent_bits start wrong n)) front.0 in
     let next : n + 1 ≡ suc n = add-one n in
     let last : symbols_at start wrong n ≡ map level front.0 =
-    symbols_at-drop start wrong n ∙ ap (λ k. drop (16384 * n) (all_symbols start wrong k)) next
-    ∙ ap (drop (16384 * n)) whole
-    ∙ drop_at (all_symbols start wrong n) (map level front.0) (16384 * n) (length-all_symbols start wrong n) in
+    symbols_at-drop start wrong n ∙ ap (λ k. drop (FRAME_SYMBOLS * n) (all_symbols start wrong k)) next
+    ∙ ap (drop (FRAME_SYMBOLS * n)) whole
+    ∙ drop_at (all_symbols start wrong n) (map level front.0) (FRAME_SYMBOLS * n) (length-all_symbols start wrong n) in
     ap (λ z. z ++ symbols_at start wrong n) (symbols_are_one_code start wrong n)
     ∙ ap (λ z. all_symbols start wrong n ++ z) last ∙ sym whole
 

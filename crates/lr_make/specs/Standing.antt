@@ -2,7 +2,7 @@
 -- inside the crate speak of the rest.
 use Rattle.std.specs.Prelude.{◌≡◌, ℕ, ◌+◌, ◌-◌, ◌*◌, ◌/◌, ◌%◌, ◌^◌, ◌<◌, ◌≤◌, ◌++◌, ◌==◌, ◌&&◌, if◌then◌else◌, Bool}
 use Rattle.std.specs.Prelude.{false, ℤ, min, List, length, map, drop, replicate, slice_index}
-use Rattle.lr_bits.specs.declared.sizes.TheConstants.{ZONE_BYTES}
+use Rattle.lr_bits.specs.declared.sizes.TheConstants.{FRAME_COUNTS, NO_PACKET_START, SEQUENCE_COUNTS, ZONE_BYTES}
 use Rattle.lr_conv.specs.Convolution.{code}
 use Rattle.lr_conv.specs.Encoder as encoders
 use Rattle.lr_conv.specs.declared.line.TheConstants.{STANDARD}
@@ -24,27 +24,27 @@ use Rattle.lr_make.specs.Symbols.{level, sent_bits}
 pub record ImagesStandFor (images : Images) (start n : ℕ) : Type 0 where
   pub counter : images.counter ≡ n / 65 % 65536
   pub place : images.place ≡ n % 65
-  pub count : images.count ≡ n % 16384
+  pub count : images.count ≡ n % SEQUENCE_COUNTS
   pub draws : images.draws ≡ state_after start (4096 * (n / 65) + 64 * (n % 65 - 1))
 
--- the same, and the bytes of the next one are drawn
+-- n packets of images were sent, and the bytes of the next one are drawn
 pub record ImagesDrawn (images : Images) (start n : ℕ) : Type 0 where
   pub counter : images.counter ≡ n / 65 % 65536
   pub place : images.place ≡ n % 65
-  pub count : images.count ≡ n % 16384
+  pub count : images.count ≡ n % SEQUENCE_COUNTS
   pub draws : images.draws ≡ state_after start (4096 * (n / 65) + 64 * (n % 65))
 
 -- packet n of application 100 without its checksum
 abbrev pub image_front : ℕ → ℕ → List ℕ
 image_front start n =
-    head_for_body 100 (image_flags (n % 65)) (n % 16384) (length (image_body start (n / 65) (n % 65)))
+    head_for_body 100 (image_flags (n % 65)) (n % SEQUENCE_COUNTS) (length (image_body start (n / 65) (n % 65)))
     ++ image_body start (n / 65) (n % 65)
 
 -- n packets of application 200 were made
 pub record TextsStandFor (texts : Texts) (start n : ℕ) : Type 0 where
   pub counter : texts.counter ≡ n % 65536
   pub number : texts.number ≡ n % 10000
-  pub count : texts.count ≡ n % 16384
+  pub count : texts.count ≡ n % SEQUENCE_COUNTS
   pub draws : texts.draws ≡ state_after start (200 * n)
 
 -- n of these packets were made
@@ -70,7 +70,8 @@ byte_at packets place = slice_index (joined_packets packets (place + 1)) place
 -- The pointer with one place more of the zone, at this place of the packets, joined: where no packet started yet, and
 -- one does there, it is that place.
 abbrev pub pointer_more : (ℕ → List ℕ) → ℕ → ℕ → ℕ → ℕ
-pointer_more packets place pointer in_zone = if (pointer == 2047) && is_start packets place then in_zone else pointer
+pointer_more packets place pointer in_zone =
+    if (pointer == NO_PACKET_START) && is_start packets place then in_zone else pointer
 
 -- how many of the first n frames are of channel 0, and of channel 5
 abbrev pub image_frames : ℕ → ℕ
@@ -83,14 +84,14 @@ text_frames n = n / 4 + (n % 4 - 2)
 pub record FramesStandFor (frames : Frames) (start n : ℕ) : Type 0 where
   pub images : ChannelStandsFor frames.images (image_packet start) (ZONE_BYTES * image_frames n)
   pub texts : ChannelStandsFor frames.texts (text_packet (text_start start)) (ZONE_BYTES * text_frames n)
-  pub round : frames.round ≡ n / 4 % 2 ^ 24
+  pub round : frames.round ≡ n / 4 % FRAME_COUNTS
   pub turn : frames.turn ≡ n % 4
 
--- the same, and the channel of the next frame has sent its zone
+-- n frames were sent, and the channel of the next frame has sent its zone
 pub record FramesSent (frames : Frames) (start n : ℕ) : Type 0 where
   pub images : ChannelStandsFor frames.images (image_packet start) (ZONE_BYTES * image_frames (n + 1))
   pub texts : ChannelStandsFor frames.texts (text_packet (text_start start)) (ZONE_BYTES * text_frames (n + 1))
-  pub round : frames.round ≡ n / 4 % 2 ^ 24
+  pub round : frames.round ≡ n / 4 % FRAME_COUNTS
   pub turn : frames.turn ≡ n % 4
 
 -- these are the symbols that further bits add to the code of some bits

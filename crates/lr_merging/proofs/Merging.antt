@@ -7,9 +7,9 @@ use Rattle.lr_bits.specs.Faults.{Rose}
 use Rattle.lr_conv.specs.declared.line.LineCode.{LineCode}
 use Rattle.lr_io.specs.declared.source.Source.{Ghosts as SourceOf}
 use Rattle.lr_io.specs.declared.sink.Sink.{Ghosts as SinkOf}
-use Rattle.lr_disk.specs.Disk.{LeavesOnly, Only}
 use Rattle.lr_disk.specs.Reads.{IsUnwritten}
 use Rattle.lr_disk.specs.declared.disk.Disk.{Ghosts as DiskOf}
+use Rattle.lr_disk.specs.Pending.{EachImageSince, NothingPending}
 use Rattle.lr_disk.proofs.Moments.{joined, weaker}
 use Rattle.lr_shelf_format.specs.Items.{Item}
 use Rattle.lr_shelf_format.specs.Way.{IsNoShelfAt, IsWay, Way}
@@ -71,7 +71,7 @@ module _ {D : Type 0} (disk : DiskOf D) (shelf : Shelf) (d d1 : D) (ready : IsRe
     alone : LeavesFronts disk ground [] d d1
 
   alone_on : (ground : Ground) → disk.tells d → StandsWith ground [] (disk.contents d)
-      → Only (disk.contents d) (disk.may_leave d) → LeavesFronts disk ground [] d d1
+      → NothingPending disk d → LeavesFronts disk ground [] d d1
   alone_on ground t stands only =
       weaker disk.moment disk.left_since d d1 _ _ (front_none ground)
       (still_left disk ground d d1 (ready.unwritten t) stands only)
@@ -84,7 +84,7 @@ module _ {D : Type 0} (disk : DiskOf D) (shelf : Shelf) (d d1 : D) (ready : IsRe
         durable.durable;
   }
 
-  on_way : (way : Way) → disk.tells d → IsWay (disk.contents d) way → Only (disk.contents d) (disk.may_leave d)
+  on_way : (way : Way) → disk.tells d → IsWay (disk.contents d) way → NothingPending disk d
       → BeginsOn (OfWay way (disk.contents d))
   on_way way t is only =
       let begun = begun_way way (disk.contents d) is in
@@ -115,8 +115,8 @@ module _ {D : Type 0} (disk : DiskOf D) (shelf : Shelf) (d d1 : D) (ready : IsRe
 module _ {D : Type 0} (disk : DiskOf D) (shelf : Shelf) (d d1 d' : D) (ready : IsReady disk d d1 shelf)
     (files : List Placed) where
   -- as the shelf was loaded, no byte changed
-  same_yet : (from to : ℕ) → disk.tells d → Only (disk.contents d) (disk.may_leave d)
-      → LeavesOnly disk.moment disk.left_since d d1 (StaysOutside from to (disk.contents d))
+  same_yet : (from to : ℕ) → disk.tells d → NothingPending disk d
+      → EachImageSince disk d d1 (StaysOutside from to (disk.contents d))
   same_yet from to t only =
       weaker disk.moment disk.left_since d d1 (disk.may_leave d) (StaysOutside from to (disk.contents d))
       (λ c image. subst (λ (l : List ℕ). StaysOutside from to (disk.contents d) l) (sym (only c image))
@@ -136,19 +136,19 @@ module _ {D : Type 0} (disk : DiskOf D) (shelf : Shelf) (d d1 d' : D) (ready : I
         StaysOutside (last_gate (kept_by shelf)) (way_with_files files (kept_by shelf).way).end
         l (disk.contents d')) (ready.unwritten told).contents stays)
 
-    as_found_since : Only (disk.contents d) (disk.may_leave d)
-        → LeavesOnly disk.moment disk.left_since d1 d'
+    as_found_since : NothingPending disk d
+        → EachImageSince disk d1 d'
         (StaysOutside (last_gate (kept_by shelf)) (way_with_files files (kept_by shelf).way).end (disk.contents d1))
-        → LeavesOnly disk.moment disk.left_since d d'
+        → EachImageSince disk d d'
         (StaysOutside (way.end - 1) (way_with_files files way).end (disk.contents d))
     as_found_since only stays =
         joined disk.moment disk.left_since d d1 d'
         (StaysOutside (way.end - 1) (way_with_files files way).end (disk.contents d))
         (same_yet (way.end - 1) (way_with_files files way).end told only)
-        (subst (λ (w : Way). LeavesOnly disk.moment disk.left_since d1 d'
+        (subst (λ (w : Way). EachImageSince disk d1 d'
         (StaysOutside (w.end - 1) (way_with_files files w).end (disk.contents d)))
         (kept_way disk shelf d d1 ready way told is)
-        (subst (λ (l : List ℕ). LeavesOnly disk.moment disk.left_since d1 d'
+        (subst (λ (l : List ℕ). EachImageSince disk d1 d'
         (StaysOutside (last_gate (kept_by shelf)) (way_with_files files (kept_by shelf).way).end l))
         (ready.unwritten told).contents stays))
 

@@ -1,6 +1,7 @@
 -- Bytes that are taken piece by piece.
 use Rattle.std.proofs.Common.{◌≡◌, ◌≤◌, ℕ, List, [], ◌++◌, length, refl, sym, ap, ◌∙◌, inl, inr, Result, Ok, Err, IfErr}
 use Rattle.std.proofs.Common.{append_assoc}
+use Rattle.lr_bits.specs.declared.refusals.Failed.{Failed}
 use Rattle.lr_io.specs.declared.source.Source.{Ghosts as SourceOf}
 use Rattle.lr_merging.specs.Taking.{most_taken, WantsMemory}
 use Rattle.lr_reading.specs.Reading.{IsRead, StopsAtFault}
@@ -21,7 +22,7 @@ module _ {S : Type 0} (source : SourceOf S) where
   is_read bytes s s' so few = record { told = so.told; moved = so.moved; few = few; asked = so.asked }
 
   module _ (bytes piece : List ℕ) (s s1 s2 : S) (so : HasTaken bytes s s1) (told : source.tells s1 → source.tells s2)
-      (asked : source.asked s1 s2) where
+      (answer : Result ℕ Failed) (asked : source.asked s1 answer s2) where
     -- a piece more
     pub took_more : (source.tells s1 → source.left s1 ≡ piece ++ source.left s2)
         → source.faults s2 ≡ source.faults s1 → HasTaken (bytes ++ piece) s s2
@@ -30,7 +31,7 @@ module _ {S : Type 0} (source : SourceOf S) where
       moved = λ t. so.moved t ∙ ap (λ (l : List ℕ). bytes ++ l) (moved (so.told t))
           ∙ sym (append_assoc bytes piece (source.left s2));
       count = same ∙ so.count;
-      asked = inr (s1, so.count, asked);
+      asked = inr (s1, answer, so.count, asked);
     }
 
     -- the source ended, or failed: nothing was taken
@@ -40,7 +41,7 @@ module _ {S : Type 0} (source : SourceOf S) where
       told = λ t. told (so.told t);
       moved = λ t. so.moved t ∙ ap (λ (l : List ℕ). bytes ++ l) (sym (same (so.told t)));
       few = few;
-      asked = inr (s1, so.count, asked);
+      asked = inr (s1, answer, so.count, asked);
     }
 
     -- memory was refused for it

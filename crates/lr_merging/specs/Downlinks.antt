@@ -3,9 +3,9 @@ use Rattle.std.specs.Prelude.{◌≡◌, ◌⊎◌, ◌<◌, ◌+◌, ◌-◌, �
 use Rattle.lr_bits.specs.declared.placed.Placed.{Placed}
 use Rattle.lr_bits.specs.Faults.{Rose}
 use Rattle.lr_io.specs.declared.sink.Sink.{Ghosts as SinkOf}
-use Rattle.lr_disk.specs.Disk.{LeavesOnly, Only}
 use Rattle.lr_disk.specs.Reads.{IsUnwritten}
 use Rattle.lr_disk.specs.declared.disk.Disk.{Ghosts as DiskOf}
+use Rattle.lr_disk.specs.Pending.{EachImageSince, NothingPending}
 use Rattle.lr_conv.specs.declared.line.LineCode.{LineCode}
 use Rattle.lr_shelf_format.specs.Items.{Item}
 use Rattle.lr_shelf_format.specs.Way.{IsNoShelfAt, IsWay, Way}
@@ -62,7 +62,7 @@ module _ {D : Type 0} (disk : DiskOf D) (files : List Placed) (d d' : D) where
     pub now : HoldsStill ground files disk d'
     pub any_moment : LeavesFronts disk ground files d d'
 
-  -- the same, and the disk failed in the next file: that is there, or it isn't
+  -- these files were added, and the disk failed in the next one: that is there, or it isn't
   pub record BreaksOn (placed : Placed) (ground : Ground) : Type 0 where
     pub now : HoldsEitherOn disk ground files placed d'
     pub any_moment : LeavesFronts disk ground (files ++ placed ∷ []) d d'
@@ -74,14 +74,14 @@ module _ {D : Type 0} (disk : DiskOf D) (count : ℕ) (files : ℕ → List Plac
     -- over every disk that has a way, whatever its items hold
     pub way : (way : Way) → disk.tells d → IsWay (disk.contents d) way
         → IsWay (disk.contents d') (way_with_files (merge files order) way)
-        × Only (disk.contents d') (disk.may_leave d')
+        × NothingPending disk d'
     -- the bytes before its last gate and after the new end stay, at every moment
     pub outside : (way : Way) → disk.tells d → IsWay (disk.contents d) way
         → StaysOutside (way.end - 1) (way_with_files (merge files order) way).end
         (disk.contents d) (disk.contents d')
     pub outside_any_moment : (way : Way) → disk.tells d → IsWay (disk.contents d) way
-        → Only (disk.contents d) (disk.may_leave d)
-        → LeavesOnly disk.moment disk.left_since d d'
+        → NothingPending disk d
+        → EachImageSince disk d d'
         (StaysOutside (way.end - 1) (way_with_files (merge files order) way).end (disk.contents d))
     -- over a shelf of these items, and over every disk that has a way, whatever its records hold, with nothing
     -- pending
@@ -89,7 +89,7 @@ module _ {D : Type 0} (disk : DiskOf D) (count : ℕ) (files : ℕ → List Plac
         → IsDurable disk capacity items d
         → AddsAllOn disk (merge files order) d d' (OfItems capacity items)
     pub onto_way : (way : Way) → disk.tells d → IsWay (disk.contents d) way
-        → Only (disk.contents d) (disk.may_leave d)
+        → NothingPending disk d
         → AddsAllOn disk (merge files order) d d' (OfWay way (disk.contents d))
 
   -- so they were, and the disk failed in the next file of some downlink: that is there, or it isn't
@@ -104,15 +104,15 @@ module _ {D : Type 0} (disk : DiskOf D) (count : ℕ) (files : ℕ → List Plac
         (disk.contents d)
         (disk.contents d')
     pub outside_any_moment : (way : Way) → disk.tells d → IsWay (disk.contents d) way
-        → Only (disk.contents d) (disk.may_leave d)
-        → LeavesOnly disk.moment disk.left_since d d'
+        → NothingPending disk d
+        → EachImageSince disk d d'
         (StaysOutside (way.end - 1) (way_with_files (merge files order ++ placed ∷ []) way).end
         (disk.contents d))
     pub onto_shelf : (capacity : ℕ) (items : List Item) → disk.tells d
         → IsDurable disk capacity items d
         → BreaksOn disk (merge files order) d d' placed (OfItems capacity items)
     pub onto_way : (way : Way) → disk.tells d → IsWay (disk.contents d) way
-        → Only (disk.contents d) (disk.may_leave d)
+        → NothingPending disk d
         → BreaksOn disk (merge files order) d d' placed (OfWay way (disk.contents d))
 
   -- what becomes of the disk, for each cause

@@ -1,5 +1,5 @@
 -- What the bytes of a source are read as: the bundle of these streams, or the flaw for which they are none.
-use Rattle.std.specs.Prelude.{◌≡◌, ◌⊎◌, ◌<◌, ◌≤◌, ℕ, List, length, Err}
+use Rattle.std.specs.Prelude.{◌≡◌, ◌⊎◌, ◌<◌, ◌≤◌, ℕ, List, length, Err, ◌+◌}
 use Rattle.lr_causes.specs.declared.cause.Cause.{Cause}
 use Rattle.lr_causes.specs.declared.cause.Cause.TheVariants.{Failed, NoMemory, Refused}
 use Rattle.lr_causes.specs.declared.cause.Party.TheVariants.{Source}
@@ -21,7 +21,7 @@ use Rattle.lr_reading.specs.Reading.{IsRead, EndsFor}
 
 -- the most bytes that are taken: one more than a bundle can have
 abbrev pub most_taken : ℕ
-most_taken = 268435457
+most_taken = (MOST_BUNDLE_BYTES + 1)
 
 abbrev pub flaw_of : BundleFault → BundleFlaw
 flaw_of (EndedAt at) = Ended at

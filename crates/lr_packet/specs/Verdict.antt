@@ -7,6 +7,7 @@ use Rattle.std.specs.Result.{result_ok}
 use Rattle.byteorder.specs.Endian.{big_number}
 use Rattle.lr_bits.specs.Crc.{crc_of}
 use Rattle.lr_bits.specs.Packet.{Packet}
+use Rattle.lr_bits.specs.declared.sizes.TheConstants.{IDLE_APPLICATION}
 use Rattle.lr_packet.specs.declared.packet.PacketFault.{PacketFault}
 use Rattle.lr_packet.specs.declared.packet.PacketFault.TheVariants.{Version, Idle, TooShort, Crc}
 use Rattle.lr_packet.specs.Head.{head_fields_of}
@@ -41,7 +42,7 @@ good_of packet = record {
 abbrev pub verdict_of : Packet → Result Good PacketFault
 verdict_of packet =
     if not ((head_fields_of packet.bytes).version == 0) then Err (Version (head_fields_of packet.bytes).version)
-    else if (head_fields_of packet.bytes).apid == 2047 then Err Idle
+    else if (head_fields_of packet.bytes).apid == IDLE_APPLICATION then Err Idle
     else if nat_lt (length (data_of packet.bytes)) 2 then Err TooShort
     else if not (stored_of packet.bytes == crc_of (packet_body packet.bytes)) then Err
     (Crc (stored_of packet.bytes) (crc_of (packet_body packet.bytes)))

@@ -1,4 +1,10 @@
+//! The fields of a packet, a packet that was checked, and the rule that a packet breaks.
+
 ghost use Rattle.std.specs.Prelude.{◌<◌, ◌≤◌, ◌^◌, length};
+ghost use Rattle.lr_bits.specs.declared.sizes.TheConstants.{CHANNELS, IDLE_APPLICATION, SEQUENCE_COUNTS};
+ghost use Rattle.lr_bits.specs.Sizes.{most_body_bytes};
+
+use thiserror::Error;
 
 /// The fields of a packet's header (CCSDS 133.0-B, section 4.1.3). Its type keeps that each number fits its field.
 #[derive(Drop)]
@@ -20,7 +26,7 @@ pub struct PacketHead {
     ghost version_fits: { version < 2 ^ 3 },
     ghost apid_fits: { apid < 2 ^ 11 },
     ghost flags_fit: { flags < 2 ^ 2 },
-    ghost count_fits: { count < 2 ^ 14 },
+    ghost count_fits: { count < SEQUENCE_COUNTS },
     ghost length_fits: { length ≤ 2 ^ 16 },
 }
 
@@ -37,22 +43,26 @@ pub struct GoodPacket<'a> {
     pub count: u16,
     /// The data field without the checksum.
     pub body: &'a [u8],
-    ghost vc_fits: { vc < 64 },
-    ghost apid_fits: { apid < 2047 },
+    ghost vc_fits: { vc < CHANNELS },
+    ghost apid_fits: { apid < IDLE_APPLICATION },
     ghost flags_fit: { flags < 4 },
-    ghost count_fits: { count < 16384 },
-    ghost body_fits: { length body.now ≤ 65534 },
+    ghost count_fits: { count < SEQUENCE_COUNTS },
+    ghost body_fits: { length body.now ≤ most_body_bytes },
 }
 
 /// Why a packet isn't good: the first of these rules that it breaks.
-#[derive(Drop)]
+#[derive(Debug, Drop, Error)]
 pub enum PacketFault {
     /// Its version isn't 0.
+    #[error("the packet has version {0}")]
     Version(u8),
     /// It is an idle one.
+    #[error("the packet is an idle one")]
     Idle,
     /// Its data field has no room for a checksum.
+    #[error("the packet has no room for a checksum")]
     TooShort,
     /// The checksum after its body isn't that of the body.
+    #[error("the stored checksum is {stored:04X}, the computed one {computed:04X}")]
     Crc { stored: u16, computed: u16 },
 }

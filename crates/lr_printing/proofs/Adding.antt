@@ -3,6 +3,7 @@ use Rattle.std.proofs.Common.{◌≡◌, ℕ, List, [], ◌∷◌, ◌++◌, len
 use Rattle.std.proofs.Math.Seq.{drop-append_seam}
 use Rattle.std.proofs.lemmas.List.Elements.{All-push}
 use Rattle.lr_bits.specs.Packet.{Packet}
+use Rattle.lr_bits.specs.declared.sizes.TheConstants.{FRAME_BYTES, ZONE_BYTES}
 use Rattle.lr_vc.specs.Frame.{Fields, frame_of}
 use Rattle.lr_vc.specs.Runs.{AreFrames}
 use Rattle.lr_vc.specs.Packets.{packets_at, packets_of}
@@ -19,14 +20,15 @@ added_is frames frame more is = ap (drop (length (packets_read frames))) is
     ∙ drop-append_seam (packets_read frames) more
 
 pub packets_read-push : (frames : List (List ℕ)) (frame : List ℕ) → AreFrames (frames_read frames)
-    → length frame ≡ 892 → packets_read (frames ++ frame ∷ []) ≡ packets_read frames ++ packets_added frames frame
+    → length frame ≡ FRAME_BYTES
+    → packets_read (frames ++ frame ∷ []) ≡ packets_read frames ++ packets_added frames frame
 packets_read-push frames frame all whole = cases (frame_of frame) refl where
   cases : (r : Result Fields ℕ) → frame_of frame ≡ r → packets_read (frames ++ frame ∷ []) ≡ packets_read frames
       ++ packets_added frames frame
   cases (Ok fields) is =
       let more = packets_at (frames_read frames ++ fields ∷ []) (length (frames_read frames)) in
       let grown = packets_read-good frames frame fields is
-      (All-push (λ (f : Fields). length f.zone ≡ 884) (frames_read frames) fields all
+      (All-push (λ (f : Fields). length f.zone ≡ ZONE_BYTES) (frames_read frames) fields all
       (zone_is frame fields whole is)) in
       grown ∙ ap (λ l. packets_read frames ++ l) (sym (added_is frames frame more grown))
   cases (Err version) is =
@@ -38,7 +40,8 @@ unfolding lines_of_packets packets_read frames_read packets_of
 lines_of_packets-none = lines_from-none 0
 
 pub lines_of_packets-push : (frames : List (List ℕ)) (frame : List ℕ) → AreFrames (frames_read frames)
-    → length frame ≡ 892 → lines_of_packets (frames ++ frame ∷ []) ≡ lines_of_packets frames ++ lines_added frames frame
+    → length frame ≡ FRAME_BYTES
+    → lines_of_packets (frames ++ frame ∷ []) ≡ lines_of_packets frames ++ lines_added frames frame
 unfolding lines_of_packets lines_added
 lines_of_packets-push frames frame all whole =
     ap (lines_from 0) (packets_read-push frames frame all whole)

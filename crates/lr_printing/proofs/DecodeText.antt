@@ -194,8 +194,8 @@ module _ {O : Type 0} (out : SinkOf O) where
         )
 
     -- they were not
-    pub outcomes_stopped : (cause : Cause)
-        → TakesSome source (OutcomesTook out) input limit (OutcomesStopped out) cause s s' before now
+    pub outcomes_stopped : {waiting : ℕ} (cause : Cause)
+        → TakesSome source (OutcomesTook out) input limit waiting (OutcomesStopped out) cause s s' before now
         → (now.out.ghost_name ≡ before.out.ghost_name)
         × Prints (pipe_of source out) (decode_text input) (decode_last input) limit cause (pipe s before.out.now)
         (pipe s' now.out.now)

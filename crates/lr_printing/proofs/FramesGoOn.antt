@@ -3,6 +3,7 @@ use Rattle.std.proofs.Common.{◌≡◌, ℕ, ◌/◌, ◌%◌, List, [], ◌∷
 use Rattle.std.specs.List.{range_with_len}
 use Rattle.std.proofs.lemmas.List.{length-map}
 use Rattle.std.proofs.lemmas.List.FromFn.{length-range_with_len}
+use Rattle.lr_bits.specs.declared.sizes.TheConstants.{FRAME_BYTES}
 use Rattle.lr_io.specs.declared.sink.Sink.{Ghosts as SinkOf}
 use Rattle.lr_io.specs.declared.source.Source.{Ghosts as SourceOf}
 use Rattle.lr_catalog.specs.declared.summary.Summary.TheVariants.{Frames as FramesLine}
@@ -49,7 +50,7 @@ text_more arrivals arrival place is =
 text_of_all : (bytes : List ℕ) → text_of_frames (arrivals_of (Units Frames) bytes) ≡ frames_text bytes
 unfolding arrivals_of arrivals_of_units lines_of_frames
 text_of_all bytes = numbered_lines-map line_of (λ (unit : List ℕ). arrival_of (outcome_of_unit Frames unit)) 0
-    (units_of 892 bytes)
+    (units_of FRAME_BYTES bytes)
 
 -- the lines of the first ones come first
 text_first : (passed rest : List Arrival)
@@ -58,19 +59,19 @@ text_first passed rest =
     (numbered_lines line_of (0 + length passed) rest, numbered_lines-append line_of 0 passed rest)
 
 -- there is one for each unit
-pub frames_counted : (bytes : List ℕ) → length (arrivals_of (Units Frames) bytes) ≡ length bytes / 892
+pub frames_counted : (bytes : List ℕ) → length (arrivals_of (Units Frames) bytes) ≡ length bytes / FRAME_BYTES
 unfolding arrivals_of units_of
 frames_counted bytes =
-    arrivals_of_units-counted Frames (units_of 892 bytes)
-    ∙ length-map (range_with_len 0 (length bytes / 892)) (unit_of 892 bytes)
-    ∙ length-range_with_len 0 (length bytes / 892)
+    arrivals_of_units-counted Frames (units_of FRAME_BYTES bytes)
+    ∙ length-map (range_with_len 0 (length bytes / FRAME_BYTES)) (unit_of FRAME_BYTES bytes)
+    ∙ length-range_with_len 0 (length bytes / FRAME_BYTES)
 
 -- the last line says how many there are, and how long the rest is
 pub frames_last_is : {S : Type 0} (source : SourceOf S) (limit : ℕ) (totals : Totals) (bytes : List ℕ) (s s' : S)
     → ReadsInput source (Units Frames) limit totals bytes s s'
     → frames_last bytes totals.stop ≡ summary_line (FramesLine totals.frames totals.left) totals.stop
 frames_last_is source limit totals bytes s s' ends =
-    ap (λ k. summary_line (FramesLine k (length bytes % 892)) totals.stop)
+    ap (λ k. summary_line (FramesLine k (length bytes % FRAME_BYTES)) totals.stop)
     (sym (ends.frames ∙ frames_counted bytes))
     ∙ ap (λ k. summary_line (FramesLine totals.frames k) totals.stop) (sym ends.left)
 
@@ -119,8 +120,8 @@ module _ {O : Type 0} (out : SinkOf O) where
         )
 
     -- they were not
-    pub frames_stopped : (cause : Cause)
-        → TakesSome source (FramesTook out) (Units Frames) limit (FramesStopped out) cause s s' before now
+    pub frames_stopped : {waiting : ℕ} (cause : Cause)
+        → TakesSome source (FramesTook out) (Units Frames) limit waiting (FramesStopped out) cause s s' before now
         → (now.out.ghost_name ≡ before.out.ghost_name)
         × Prints (pipe_of source out) frames_text frames_last limit cause (pipe s before.out.now) (pipe s' now.out.now)
     frames_stopped cause some =

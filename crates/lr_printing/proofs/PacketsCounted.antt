@@ -1,6 +1,7 @@
 -- `packets` goes on by one frame.
 use Rattle.std.proofs.Common.{◌≡◌, ℕ, ◌+◌, ◌%◌, List, [], ◌∷◌, ◌++◌, length, ap, ◌∙◌, sym, arith, length-append}
 use Rattle.lr_bits.specs.Packet.{Packet}
+use Rattle.lr_bits.specs.declared.sizes.TheConstants.{FRAME_BYTES}
 use Rattle.lr_vc.specs.Standing.{Kept, StandsFor}
 use Rattle.lr_packet.specs.Verdict.{good_packets}
 use Rattle.lr_packet.proofs.VerdictLemmas.{good_packets-append}
@@ -37,7 +38,7 @@ lines_are channels counted frames frame after cleared items listed none read sam
 
 -- the packets that were counted are those that are added
 pub counted_on : (channels now : Kept) (counted then : PacketCount) (frames : List (List ℕ)) (frame : List ℕ)
-    → IsAfter channels counted frames → length frame ≡ 892
+    → IsAfter channels counted frames → length frame ≡ FRAME_BYTES
     → StandsFor now (frames_read (frames ++ frame ∷ []))
     → (cleared items listed : List Packet) → cleared ≡ [] → items ≡ cleared ++ packets_added frames frame
     → listed ≡ items
@@ -84,8 +85,8 @@ counted_line counted frames count rest stop all =
 -- it says how many frames and packets there are, and how long the rest is
 pub packets_last_is : {S : Type 0} (source : SourceOf S) (limit : ℕ) (totals : Totals) (bytes : List ℕ) (s s' : S)
     → ReadsInput source (Units Frames) limit totals bytes s s'
-    → packets_last bytes totals.stop ≡ packets_count (units_of 892 bytes) totals.frames totals.left totals.stop
+    → packets_last bytes totals.stop ≡ packets_count (units_of FRAME_BYTES bytes) totals.frames totals.left totals.stop
 packets_last_is source limit totals bytes s s' ends =
-    ap (λ k. packets_count (units_of 892 bytes) k (length bytes % 892) totals.stop)
+    ap (λ k. packets_count (units_of FRAME_BYTES bytes) k (length bytes % FRAME_BYTES) totals.stop)
     (sym (ends.frames ∙ frames_counted bytes))
-    ∙ ap (λ k. packets_count (units_of 892 bytes) totals.frames k totals.stop) (sym ends.left)
+    ∙ ap (λ k. packets_count (units_of FRAME_BYTES bytes) totals.frames k totals.stop) (sym ends.left)

@@ -22,6 +22,7 @@ use Rattle.std.proofs.Common.{
   Result,
   Ok,
   Err,
+  ◌^◌,
 }
 use Rattle.std.specs.Prelude.{All}
 use Rattle.std.specs.Result.{result_ok}
@@ -32,6 +33,9 @@ use Rattle.lr_bits.specs.declared.outcome.Corrected.{Corrected}
 use Rattle.lr_io.specs.declared.source.Source.{Ghosts as SourceOf}
 use Rattle.lr_io.specs.declared.sink.Sink.{Ghosts as SinkOf}
 use Rattle.lr_bits.specs.Packet.{Packet}
+use Rattle.lr_bits.specs.declared.sizes.TheConstants.{FRAME_BYTES, ZONE_BYTES}
+use Rattle.lr_bits.specs.Sizes.{most_u64}
+use Rattle.lr_vc.specs.declared.channels.TheConstants.{MOST_ENDING_PACKETS}
 use Rattle.lr_vc.proofs.History.{packets_of-append}
 use Rattle.lr_vc.specs.Frame.{Fields, frame_of}
 use Rattle.lr_vc.specs.Runs.{AreFrames}
@@ -100,30 +104,31 @@ unfolding frames_in arrivals_of_units
 frames_in-units [] = refl
 frames_in-units (unit ∷ units) = ap (λ (l : List (List ℕ)). unit ∷ l) (frames_in-units units)
 
-frames_in-all : (bytes : List ℕ) → frames_in (arrivals_of (Units Frames) bytes) ≡ units_of 892 bytes
+frames_in-all : (bytes : List ℕ) → frames_in (arrivals_of (Units Frames) bytes) ≡ units_of FRAME_BYTES bytes
 unfolding arrivals_of
-frames_in-all bytes = frames_in-units (units_of 892 bytes)
+frames_in-all bytes = frames_in-units (units_of FRAME_BYTES bytes)
 
 -- ---- the lines of the first frames come first
 
-read_at : (frame : List ℕ) (frames : List (List ℕ)) (r : Result Fields ℕ) → frame_of frame ≡ r → length frame ≡ 892
+read_at : (frame : List ℕ) (frames : List (List ℕ)) (r : Result Fields ℕ) → frame_of frame ≡ r
+    → length frame ≡ FRAME_BYTES
     → AreFrames (filter_map (λ f. result_ok (frame_of f)) frames)
     → AreFrames (filter_map (λ f. result_ok (frame_of f)) (frame ∷ frames))
 read_at frame frames (Ok fields) is long rest =
     rw is
-    (All-cons (λ (f : Fields). length f.zone ≡ 884) fields (filter_map (λ f. result_ok (frame_of f)) frames)
+    (All-cons (λ (f : Fields). length f.zone ≡ ZONE_BYTES) fields (filter_map (λ f. result_ok (frame_of f)) frames)
     (zone_is frame fields long is) rest)
 read_at frame frames (Err version) is long rest = rw is rest
 
-all_read : (frames : List (List ℕ)) → All (λ (frame : List ℕ). length frame ≡ 892) frames
+all_read : (frames : List (List ℕ)) → All (λ (frame : List ℕ). length frame ≡ FRAME_BYTES) frames
     → AreFrames (frames_read frames)
 unfolding frames_read
-all_read [] all = All-nil (λ (f : Fields). length f.zone ≡ 884)
+all_read [] all = All-nil (λ (f : Fields). length f.zone ≡ ZONE_BYTES)
 all_read (frame ∷ frames) all =
-    read_at frame frames (frame_of frame) refl (All-head (λ (u : List ℕ). length u ≡ 892) frame frames all)
-    (all_read frames (All-tail (λ (u : List ℕ). length u ≡ 892) frame frames all))
+    read_at frame frames (frame_of frame) refl (All-head (λ (u : List ℕ). length u ≡ FRAME_BYTES) frame frames all)
+    (all_read frames (All-tail (λ (u : List ℕ). length u ≡ FRAME_BYTES) frame frames all))
 
-lines_first : (frames more : List (List ℕ)) → All (λ (frame : List ℕ). length frame ≡ 892) (frames ++ more)
+lines_first : (frames more : List (List ℕ)) → All (λ (frame : List ℕ). length frame ≡ FRAME_BYTES) (frames ++ more)
     → (later : List ℕ) × (lines_of_packets (frames ++ more) ≡ lines_of_packets frames ++ later)
 unfolding lines_of_packets packets_read frames_read
 lines_first frames more all =
@@ -174,7 +179,7 @@ module _ {O : Type 0} (out : SinkOf O) where
   module _ {before now : PacketLines O} {arrivals : List Arrival} (took : PacketsTook out before arrivals now)
       (arrival : Arrival) where
     -- there is room for the packets of one frame more
-    pub room : 892 * (length arrivals + 1) ≤ 18446744073709551615 → now.counted.packets + 885 < 18446744073709551616
+    pub room : FRAME_BYTES * (length arrivals + 1) ≤ most_u64 → now.counted.packets + MOST_ENDING_PACKETS < 2 ^ 64
     room few = omega (arith, few, took.few)
 
     -- a block was lost
@@ -190,7 +195,7 @@ module _ {O : Type 0} (out : SinkOf O) where
         }
 
     module _ (corrected : Corrected) (frame : List ℕ) (is : arrival.outcome ≡ Restored corrected frame)
-        (whole : length frame ≡ 892) where
+        (whole : length frame ≡ FRAME_BYTES) where
       more : lines_of_packets (frames_in (arrivals ++ arrival ∷ []))
           ≡ lines_of_packets (frames_in arrivals) ++ lines_added (frames_in arrivals) frame
       more = ap lines_of_packets (frames_in-restored arrivals arrival corrected frame is)
@@ -199,7 +204,7 @@ module _ {O : Type 0} (out : SinkOf O) where
       -- the lines of its packets were put
       pub packets_put : (now' : PacketLines O) → now'.out.ghost_name ≡ now.out.ghost_name
           → IsAfter now'.channels.now now'.counted (frames_in arrivals ++ frame ∷ [])
-          → now'.counted.packets ≤ now.counted.packets + 885
+          → now'.counted.packets ≤ now.counted.packets + MOST_ENDING_PACKETS
           → Puts out (lines_added (frames_in arrivals) frame) now.out.now now'.out.now
           → PacketsTook out before (arrivals ++ arrival ∷ []) now'
       packets_put now' same after few put = record {
@@ -228,7 +233,7 @@ module _ {O : Type 0} (out : SinkOf O) where
     pub all_packets : {totals : Totals}
         → TakesAll source (PacketsTook out) (Units Frames) limit totals s s' before now
         → (now.out.ghost_name ≡ before.out.ghost_name) × ((bytes : List ℕ)
-        × ReadsInput source (Units Frames) limit totals bytes s s' × IsCounted now.counted (units_of 892 bytes)
+        × ReadsInput source (Units Frames) limit totals bytes s s' × IsCounted now.counted (units_of FRAME_BYTES bytes)
         × Puts out (packets_text bytes) before.out.now now.out.now)
     all_packets all =
         let took = all.taken before begun in
@@ -243,17 +248,17 @@ module _ {O : Type 0} (out : SinkOf O) where
         )
 
     -- they were not
-    pub some_packets : (cause : Cause)
-        → TakesSome source (PacketsTook out) (Units Frames) limit (PacketsStopped out) cause s s' before now
+    pub some_packets : {waiting : ℕ} (cause : Cause)
+        → TakesSome source (PacketsTook out) (Units Frames) limit waiting (PacketsStopped out) cause s s' before now
         → (now.out.ghost_name ≡ before.out.ghost_name)
         × Prints (pipe_of source out) packets_text packets_last limit cause (pipe s before.out.now)
         (pipe s' now.out.now)
     some_packets cause some =
         let stopped = some.stops before begun in
-        let units : units_of 892 some.bytes ≡ frames_in some.passed ++ frames_in some.rest =
+        let units : units_of FRAME_BYTES some.bytes ≡ frames_in some.passed ++ frames_in some.rest =
         sym (frames_in-all some.bytes) ∙ ap frames_in some.split ∙ frames_in-append some.passed some.rest in
         let first = lines_first (frames_in some.passed) (frames_in some.rest)
-        (subst (λ (l : List (List ℕ)). All (λ (frame : List ℕ). length frame ≡ 892) l) units
+        (subst (λ (l : List (List ℕ)). All (λ (frame : List ℕ). length frame ≡ FRAME_BYTES) l) units
         (units_long Frames some.bytes)) in (
           stopped.same_out,
           lines_stopped source out packets_text packets_last limit some.bytes

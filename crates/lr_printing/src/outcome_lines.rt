@@ -4,6 +4,7 @@ ghost use Rattle.lr_bits.specs.Outcomes.{is_restored};
 ghost use Rattle.lr_catalog.specs.Summaries.{summary_line};
 ghost use Rattle.lr_reading.specs.Inputs.{outcomes_of_bytes};
 ghost use Rattle.lr_reading.specs.Leading.{MayLead, Leads};
+ghost use Rattle.lr_reading.specs.Readers.{most_waiting};
 ghost use Rattle.lr_reading.specs.Runs.{ReadsInput, IsLed};
 ghost use Rattle.lr_printing.specs.Decode.{decode_text, decode_last};
 ghost use Rattle.lr_printing.specs.DecodeTaken.{OutcomesTook, OutcomesStopped};
@@ -15,7 +16,7 @@ ghost use Rattle.lr_causes.specs.Puts.{Puts, PutStops};
 use lr_bits::{Bytes, NoMemory, Outcome};
 use lr_catalog::{Summary, block_line, summary_line, window_line};
 use lr_causes::{Cause, cause_at, put_text};
-use lr_forms::Input;
+use lr_forms::{Input, MOST_WORKERS};
 use lr_frame::{FrameWork, Hand};
 use lr_io::{Sink, Source};
 use lr_reading::{Arrival, Consumer, Reader, Totals};
@@ -58,7 +59,7 @@ impl<'a, O: Sink> Consumer for OutcomeLines<'a, O> {
 
 /// How many outcomes are restored, with one more.
 fn count_restored(restored: u64, outcome: &Outcome) -> u64
-    requires { restored + 1 < 18446744073709551616 }
+    requires { restored + 1 < 2 ^ 64 }
     ensures { result ≡ restored + cond (is_restored outcome.now) 1 0 }
 {
     match outcome {
@@ -116,8 +117,8 @@ fn put_each_outcome<
     read: F,
 ) -> Result<(Totals, u64), Cause>
     requires ready { MayLead (F.pre read) (OutcomesTook O.Sink) }
-    requires leads { Leads (F.post read) S.Source (OutcomesTook O.Sink) (OutcomesStopped O.Sink)
-        input most }
+    requires leads { (waiting : ℕ) × Leads (F.post read) S.Source (OutcomesTook O.Sink)
+        (OutcomesStopped O.Sink) input most waiting }
     ensures all { IfOk result (λ sums. (bytes : List ℕ)
         × ReadsInput S.Source input most sums.0 bytes source.old source.new
         × (sums.1 ≡ count_by is_restored (outcomes_of_bytes input bytes))
@@ -170,8 +171,8 @@ fn decode_with<
     F: FnOnce(&mut S, &mut OutcomeLines<'_, O>) -> Result<Totals, Cause>,
 >(alloc: Global, input: Input, most: u64, source: &mut S, out: &mut O, read: F) -> Cause
     requires ready { MayLead (F.pre read) (OutcomesTook O.Sink) }
-    requires leads { Leads (F.post read) S.Source (OutcomesTook O.Sink) (OutcomesStopped O.Sink)
-        input most }
+    requires leads { (waiting : ℕ) × Leads (F.post read) S.Source (OutcomesTook O.Sink)
+        (OutcomesStopped O.Sink) input most waiting }
     ensures { Prints (pipe_of S.Source O.Sink) (decode_text input) (decode_last input) most result
         (pipe source.old out.old) (pipe source.new out.new) }
 {
@@ -212,6 +213,7 @@ pub fn decode_alone<S: Source, O: Sink>(
             requires { ((reader.workers ≡ 1) × (reader.most ≤ 2 ^ 48))
                 × ((first : _) × OutcomesTook O.Sink first [] lines.old) }
             ensures { IsLed S.Source (OutcomesTook O.Sink) reader.input reader.most
+                (most_waiting reader.input reader.workers)
                 (OutcomesStopped O.Sink) result source.old source.new lines.old lines.new }
         { reader.read_alone(source, lines) },
     )
@@ -229,7 +231,7 @@ pub fn decode<R: Threads + Wait + Sync, H: Hand, S: Source, O: Sink>(
     out: &mut O,
 ) -> Cause
     requires few { most ≤ 2 ^ 48 }
-    requires workers { (1 ≤ workers) × (workers ≤ 64) }
+    requires workers { (1 ≤ workers) × (workers ≤ MOST_WORKERS) }
     ensures { Prints (pipe_of S.Source O.Sink) (decode_text input) (decode_last input) most result
         (pipe source.old out.old) (pipe source.new out.new) }
 {
@@ -247,6 +249,7 @@ pub fn decode<R: Threads + Wait + Sync, H: Hand, S: Source, O: Sink>(
             requires { (reader.most ≤ 2 ^ 48) × ((first : _)
                 × OutcomesTook O.Sink first [] lines.old) }
             ensures { IsLed S.Source (OutcomesTook O.Sink) reader.input reader.most
+                (most_waiting reader.input reader.workers)
                 (OutcomesStopped O.Sink) result source.old source.new lines.old lines.new }
         { reader.read(rt, source, lines) },
     )

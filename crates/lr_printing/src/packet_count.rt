@@ -1,3 +1,5 @@
+//! The packets counted so far.
+
 ghost use Rattle.std.specs.Prelude.{◌≤◌};
 
 /// How many packets there were, and how many good ones among them.

@@ -203,7 +203,7 @@ fn put_each_packet<S: Source, O: Sink>(
     requires few { reader.most < 2 ^ 64 }
     ensures all { IfOk result (λ sums. (bytes : List ℕ)
         × ReadsInput S.Source (Units Frames) reader.most sums.0 bytes source.old source.new
-        × IsCounted sums.1 (units_of 892 bytes) × Puts O.Sink (packets_text bytes)
+        × IsCounted sums.1 (units_of FRAME_BYTES bytes) × Puts O.Sink (packets_text bytes)
         out.old out.new) }
     ensures stopped { IfErr result (λ cause.
         Prints (pipe_of S.Source O.Sink) packets_text packets_last reader.most cause

@@ -69,6 +69,14 @@ fn open_shelf(rt: &HostRuntime, path: &str) -> io::Result<File> {
     }
 }
 
+/// The file of the shelf for a command. One that doesn't write a shelf reads it where it may only be read.
+fn open_for(rt: &HostRuntime, path: &str, writes: bool) -> io::Result<File> {
+    match open_shelf(rt, path) {
+        Err(_) if !writes => fs::open(rt, path),
+        other => other,
+    }
+}
+
 /// Puts the line of a cause that comes before the station is called, and answers its status.
 fn refuse(rt: &HostRuntime, cause: Cause) -> u8 {
     tell(cause, &mut WriteSink::of(StdWriter::of(rt.stderr())));
@@ -111,10 +119,11 @@ fn run_on_file<T: Threads + Wait + Sync>(
     words: &[String],
 ) -> u8 {
     let _streams = fill_streams(rt);
-    let Ok(file) = open_shelf(rt, path) else {
+    let writes = writes_shelf(words);
+    let Ok(file) = open_for(rt, path, writes) else {
         return UNOPENED;
     };
-    if writes_shelf(words) && file.try_lock().is_err() {
+    if writes && file.try_lock().is_err() {
         return UNOPENED;
     }
     run_on(rt, threads, words, &mut FileDisk::of(file))

@@ -45,6 +45,7 @@ may_begin source took most lead fresh few ready =
       small = fresh.few;
       ready = ready;
       has_windows = record { some = fresh.some; all = omega (arith, fresh.all) };
+      same_room = refl;
       behind = omega arith;
       bytes = [];
       given = [];
@@ -58,6 +59,11 @@ may_begin source took most lead fresh few ready =
           count = fresh.none;
         };
         over = λ stop e. absurd (let clash : None ≡ Some stop = sym fresh.going ∙ e in cc);
+        short = λ e. omega (
+          arith,
+          ap length fresh.fresh.stands.rest,
+          ap length (drop-nil {A = ℤ} intake.feed.lock.place),
+        );
       };
       taken = λ c none. none;
     }

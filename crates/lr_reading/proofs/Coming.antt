@@ -4,6 +4,7 @@ use Rattle.std.proofs.Common.{
   ℕ,
   ℤ,
   ◌+◌,
+  ◌*◌,
   ◌≤◌,
   List,
   [],
@@ -16,6 +17,8 @@ use Rattle.std.proofs.Common.{
   refl,
   None,
   append_assoc,
+  subst,
+  arith,
   All,
 }
 use Rattle.std.proofs.lemmas.List.{length-map, map-append}
@@ -25,8 +28,10 @@ use Rattle.lr_conv.specs.Marker.{tail_of}
 use Rattle.lr_conv.specs.declared.line.LineCode.{LineCode}
 use Rattle.lr_lock.specs.Frames.{AreNext, AreFrames}
 use Rattle.lr_lock.specs.FramesOf.{frames_of}
+use Rattle.lr_lock.specs.Standing.{LockState, StandsFor}
 use Rattle.lr_lock.specs.Symbols.{symbols_of}
 use Rattle.lr_lock.specs.declared.frame.Frame.{Frame}
+use Rattle.lr_bits.specs.declared.sizes.TheConstants.{FRAME_SYMBOLS}
 use Rattle.lr_lock.specs.declared.sizes.TheConstants.{WINDOW_END}
 use Rattle.lr_lock.proofs.Bytes.{symbols_of-append}
 use Rattle.lr_lock.proofs.Existing.{frames_of-are, frames_once, given_are_front, front_stays}
@@ -48,6 +53,7 @@ use Rattle.lr_forms.specs.declared.forms.Input.TheVariants.{Symbols, Units}
 use Rattle.lr_forms.specs.declared.forms.UnitForm.{UnitForm}
 use Rattle.lr_forms.specs.declared.forms.UnitForm.TheVariants.{Blocks, Frames}
 use Rattle.lr_reading.proofs.Feeding.{same_arrivals}
+use Rattle.lr_reading.proofs.Waiting.{few_in_lock}
 
 -- ---- their outcomes
 
@@ -122,6 +128,23 @@ arrivals_first line bytes given next =
     given_are_front (tail_of line) symbols given (tail_size line) next in (
       map (arrival_in line symbols) front.0,
       ap (map (arrival_in line symbols)) front.1 ∙ map-append (arrival_in line symbols) given front.0,
+    )
+
+-- and no more come after it than stand whole in the lock
+pub arrivals_few : (line : LineCode) (bytes : List ℕ) (given : List Frame) (lock : LockState)
+    → StandsFor lock (symbols_of bytes) given → lock.line ≡ line
+    → (rest : List Arrival) × (arrivals_of (Symbols line) bytes ≡ arrivals_given line bytes given ++ rest)
+    × (FRAME_SYMBOLS * length rest ≤ length lock.kept)
+unfolding arrivals_of arrivals_given
+arrivals_few line bytes given lock stands line_is =
+    let symbols : List ℤ = symbols_of bytes in
+    let few : (rest : List Frame) × (frames_of (tail_of line) symbols ≡ given ++ rest)
+    × (FRAME_SYMBOLS * length rest ≤ length lock.kept) =
+    subst (λ (l : LineCode). (rest : List Frame) × (frames_of (tail_of l) symbols ≡ given ++ rest)
+    × (FRAME_SYMBOLS * length rest ≤ length lock.kept)) line_is (few_in_lock lock symbols given stands) in (
+      map (arrival_in line symbols) few.0,
+      ap (map (arrival_in line symbols)) few.1 ∙ map-append (arrival_in line symbols) given few.0,
+      omega (arith, few.2, length-map few.0 (arrival_in line symbols)),
     )
 
 -- it is the first of what comes of more bytes too, where the windows are there

@@ -26,6 +26,7 @@ use Rattle.std.proofs.Common.{
 }
 use Rattle.lr_bits.specs.Faults.{Rose}
 use Rattle.lr_bits.specs.declared.outcome.Outcome.{Outcome}
+use Rattle.lr_bits.specs.declared.sizes.TheConstants.{FRAME_SYMBOLS}
 use Rattle.lr_io.specs.declared.source.Source.{Ghosts as SourceOf}
 use Rattle.lr_lock.specs.declared.frame.Frame.{Frame}
 use Rattle.lr_lock.specs.Frames.{AreFrames}
@@ -172,7 +173,7 @@ module _ {S : Type 0} (source : SourceOf S) (line : LineCode) where
   pub stepped : {bytes : List ℕ} {given given' : List Frame} {now : FeedState} {s t : S} (later : LockState)
       → FedSoFar source line bytes given now s t
       → StandsFor later (symbols_of bytes) given' → later.line ≡ now.lock.line → later.finished ≡ now.lock.finished
-      → 16384 * length given' + length later.kept ≤ 16384 * length given + length now.lock.kept
+      → FRAME_SYMBOLS * length given' + length later.kept ≤ FRAME_SYMBOLS * length given + length now.lock.kept
       → FedSoFar source line bytes given' (record now { lock = later }) s t
   stepped later so stands line_stays finished passed = record {
     stands = stands;
@@ -190,7 +191,7 @@ module _ {S : Type 0} (source : SourceOf S) (line : LineCode) where
   module _ {bytes : List ℕ} {given : List Frame} {now : FeedState} {s t : S}
       (on : FeedsOn source line bytes given now s t) (later : LockState) (seen : WindowView)
       (line_stays : later.line ≡ now.lock.line) (finished : later.finished ≡ now.lock.finished) where
-    pub window_given : GivesWindow now.lock later seen (symbols_of on.all) given → length later.kept + 16384
+    pub window_given : GivesWindow now.lock later seen (symbols_of on.all) given → length later.kept + FRAME_SYMBOLS
         ≤ length now.lock.kept
         → GivesFrame source line bytes given (record now { lock = later }) seen s t
     window_given gives shorter = record {

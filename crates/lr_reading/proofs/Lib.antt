@@ -12,4 +12,5 @@ pub mod Refusing
 pub mod UnitLoop
 pub mod UnitsOf
 pub mod UnitsRead
+pub mod Waiting
 pub mod Whole

@@ -26,6 +26,7 @@ use Rattle.std.proofs.lemmas.List.Sums.{sum_by-cons}
 use Rattle.lr_bits.specs.declared.outcome.Outcome.{Outcome}
 use Rattle.lr_vc.specs.Frame.{Fields, frame_of, fields_of, version_of}
 use Rattle.lr_bits.specs.Outcomes.{is_restored}
+use Rattle.lr_bits.specs.declared.sizes.TheConstants.{FRAME_BYTES, ZONE_BYTES}
 
 -- an outcome is restored or lost
 pub both_kinds : (outcomes : List Outcome) → count_by is_restored outcomes
@@ -48,10 +49,10 @@ abbrev read_at : List ℕ → Bool → Result Fields ℕ
 read_at frame b = if b then Ok (fields_of frame) else Err (version_of frame)
 
 -- the zone of a frame of 892 bytes has 884
-pub zone_is : (frame : List ℕ) (fields : Fields) → length frame ≡ 892 → frame_of frame ≡ Ok fields
-    → length fields.zone ≡ 884
+pub zone_is : (frame : List ℕ) (fields : Fields) → length frame ≡ FRAME_BYTES → frame_of frame ≡ Ok fields
+    → length fields.zone ≡ ZONE_BYTES
 zone_is frame fields whole is = cases (version_of frame == 1) is where
-  cases : (b : Bool) → read_at frame b ≡ Ok fields → length fields.zone ≡ 884
+  cases : (b : Bool) → read_at frame b ≡ Ok fields → length fields.zone ≡ ZONE_BYTES
   cases true e =
       let same : fields_of frame ≡ fields = cc in
       ap (λ (f : Fields). length f.zone) (sym same) ∙ length-drop 8 frame ∙ omega (arith, whole)

@@ -23,6 +23,7 @@ use Rattle.std.proofs.Common.{
 }
 use Rattle.std.specs.List.{concat}
 use Rattle.std.proofs.lemmas.List.Elements.{All-push}
+use Rattle.lr_bits.specs.declared.sizes.TheConstants.{FRAME_BYTES}
 use Rattle.lr_io.specs.declared.source.Source.{Ghosts as SourceOf}
 use Rattle.lr_forms.specs.declared.forms.Stop.{Stop}
 use Rattle.lr_reading.specs.Arrivals.{arrival_of, arrivals_of_units, arrivals_of}
@@ -50,7 +51,8 @@ positive Blocks n is = omega (arith, is)
 positive Frames n is = omega (arith, is)
 
 -- a unit has 892 bytes at least
-least : (form : UnitForm) (n count most : ℕ) → n ≡ unit_bytes form → n * count + n ≤ most → 892 * (count + 1) ≤ most
+least : (form : UnitForm) (n count most : ℕ) → n ≡ unit_bytes form → n * count + n ≤ most
+    → FRAME_BYTES * (count + 1) ≤ most
 least Blocks n count most is fits = omega (arith, is, ap (λ k. k * count) is, fits)
 least Frames n count most is fits = omega (arith, is, ap (λ k. k * count) is, fits)
 
@@ -100,12 +102,12 @@ module _ {S C : Type 0} (source : SourceOf S) (took : C → List Arrival → C �
     )
 
     -- the numbers fit
-    pub frames_fit : 892 * (frames + 1) ≤ limit
+    pub frames_fit : FRAME_BYTES * (frames + 1) ≤ limit
     frames_fit = omega (arith, least form n (length so.units) limit size fits, so.count)
 
     -- one arrival more may be taken
     pub may_take : (most : ℕ) → limit ≤ most → (c : C) → took c [] before → (c' : C) × (arrivals : List Arrival)
-        × took c' arrivals after × (892 * (length arrivals + 1) ≤ most)
+        × took c' arrivals after × (FRAME_BYTES * (length arrivals + 1) ≤ most)
     may_take most few c none = (
       c,
       arrivals_of_units form so.units,
@@ -129,7 +131,7 @@ module _ {S C : Type 0} (source : SourceOf S) (took : C → List Arrival → C �
       pub units_stopped : {Cause : Type 0} (stopped : C → List Arrival → Cause → C → Type 0) (cause : Cause) (now' : C)
           → ((c : C) (arrivals : List Arrival) → took c arrivals after
           → stopped c (arrivals ++ arrival ∷ []) cause now')
-          → TakesSome source took (Units form) limit stopped cause s s' before now'
+          → TakesSome source took (Units form) limit 1 stopped cause s s' before now'
       units_stopped {Cause} stopped cause now' stops = record {
         bytes = concat so.units ++ next.held;
         read = record {
@@ -142,6 +144,7 @@ module _ {S C : Type 0} (source : SourceOf S) (took : C → List Arrival → C �
         rest = [];
         split = units_come form (concat so.units ++ next.held) (so.units ++ next.held ∷ []) units_there
             ∙ one_more ∙ sym (append-nil (arrivals_of_units form so.units ++ arrival ∷ []));
+        near = omega arith;
         stops = λ c none. stops c (arrivals_of_units form so.units) (so.taken c none);
         first = λ line symbols told few calm. cc (symbols);
       }

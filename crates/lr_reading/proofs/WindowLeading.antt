@@ -1,5 +1,6 @@
 -- A consumer is led through what becomes of windows.
 use Rattle.std.proofs.Common.{
+  ◌-◌,
   ◌≡◌,
   ◌<◌,
   ◌≤◌,
@@ -20,6 +21,7 @@ use Rattle.std.proofs.Common.{
   ◌++◌,
   length,
   length-append,
+  length-drop,
   append-nil,
   append_assoc,
   take,
@@ -41,8 +43,10 @@ use Rattle.std.proofs.Common.{
 use Rattle.std.proofs.Math.Seq.{take-length}
 use Rattle.std.proofs.lemmas.List.{map-append, take-append-le, take-append-drop, length-take}
 use Rattle.std.proofs.lemmas.List.Elements.{All-push}
+use Rattle.lr_lock.specs.Thresholds.{lock_symbols}
 use Rattle.lr_bits.specs.Faults.{Rose}
 use Rattle.lr_bits.specs.declared.outcome.Outcome.{Outcome}
+use Rattle.lr_bits.specs.declared.sizes.TheConstants.{FRAME_SYMBOLS}
 use Rattle.lr_conv.specs.Marker.{tail_of}
 use Rattle.lr_conv.specs.declared.line.LineCode.{LineCode}
 use Rattle.lr_io.specs.declared.source.Source.{Ghosts as SourceOf}
@@ -73,6 +77,7 @@ use Rattle.lr_reading.specs.WindowLeads.{
   first_arrivals,
   windows_left,
   left_to_feed,
+  most_in,
   IsGiven,
   GivesMore,
   Offers,
@@ -90,6 +95,7 @@ use Rattle.lr_reading.specs.declared.window_lead.WindowLead.{WindowLead}
 use Rattle.lr_reading.proofs.Coming.{
   arrivals_given-push,
   arrivals_given-counted,
+  arrivals_few,
   arrivals_first,
   arrivals_go_on,
   arrivals_all,
@@ -120,15 +126,15 @@ module _ {S : Type 0} (source : SourceOf S) (line : LineCode) (limit : ℕ) {byt
   given_is = sym (as_many so.jobs) ∙ arrivals_given-counted line bytes given
 
   -- so there are few
-  pub few_given : 16384 * length windows ≤ limit
+  pub few_given : FRAME_SYMBOLS * length windows ≤ limit
   few_given = omega (arith, given_is, so.feeds.passed, so.feeds.few, so.limit_is)
 
   pub gives_window : (intake' : Intake) (window : WindowView) (s' : S)
       → GivesFrame source line bytes given intake'.feed window s s'
       → intake'.feed.most ≡ intake.feed.most → intake'.ended ≡ None → intake'.frames ≡ intake.frames
-      → AreOfLine line intake'.spare.items
+      → AreOfLine line intake'.spare.items → length intake'.feed.lock.kept ≤ lock_symbols - FRAME_SYMBOLS
       → GivesMore source line limit bytes given (windows ++ window ∷ []) kept intake' s s'
-  gives_window intake' window s' gives most still frames lines = record {
+  gives_window intake' window s' gives most still frames lines short = record {
     all = gives.all;
     every = given ++ gives.frame ∷ [];
     is_given = record {
@@ -143,6 +149,7 @@ module _ {S : Type 0} (source : SourceOf S) (line : LineCode) (limit : ℕ) {byt
         count = frames ∙ so.jobs.count;
       };
       over = λ stop e. absurd (let clash : None ≡ Some stop = sym still ∙ e in cc);
+      short = λ e. short;
     };
     rest = arrival_of_window window ∷ [];
     grown = grows;
@@ -176,6 +183,7 @@ module _ {S : Type 0} (source : SourceOf S) (line : LineCode) (limit : ℕ) {byt
         stop_is = ends.stop_is ∙ (let is : stop ≡ other = cc in is);
         every = ends.every;
       };
+      short = λ e. absurd (let clash : None ≡ Some stop = sym e ∙ ended in cc);
     };
     rest = [];
     grown = ends.same ∙ sym (append-nil (arrivals_given line bytes given));
@@ -210,7 +218,7 @@ module _ {S C : Type 0} (source : SourceOf S) (took : C → List Arrival → C �
   abbrev limit : ℕ
   limit = start.intake.now.feed.most
 
-  few_windows : 16384 * length windows ≤ limit
+  few_windows : FRAME_SYMBOLS * length windows ≤ limit
   few_windows = few_given source line limit at.is_given
 
   abbrev first : List Arrival
@@ -258,13 +266,31 @@ module _ {S C : Type 0} (source : SourceOf S) (took : C → List Arrival → C �
             ∙ append_assoc (take n arrivals) (drop n arrivals) first.0,
       )
 
+  -- after what comes of the frames given at most three more come of the bytes taken
+  few_more : (ended : Option Stop) → before.intake.now.ended ≡ ended → (rest : List Arrival)
+      × (arrivals_of (Symbols line) at.bytes ≡ arrivals_given line at.bytes at.given ++ rest) × (length rest ≤ 3)
+  few_more None going =
+      let more = arrivals_few line at.bytes at.given before.intake.now.feed.lock at.is_given.feeds.stands
+      at.is_given.feeds.line_is in
+      (more.0, more.1, omega (arith, more.2, at.is_given.short going))
+  few_more (Some stop) ended = (
+    [],
+    arrivals_all line at.bytes at.given (at.is_given.over stop ended).every
+        ∙ sym (append-nil (arrivals_given line at.bytes at.given)),
+    omega arith,
+  )
+
   -- the consumer stopped at the last one of so many arrivals
-  led_some : (n : ℕ) {Cause : Type 0} (stopped : C → List Arrival → Cause → C → Type 0) (cause : Cause) (now : C)
+  led_some : (n : ℕ) → kept < n → {Cause : Type 0} (stopped : C → List Arrival → Cause → C → Type 0) (cause : Cause)
+      (now : C)
       → ((c : C) → took c [] start.consumer.now → stopped c (first_arrivals line at.bytes at.given n) cause now)
-      → TakesSome source took (Symbols line) limit stopped cause start.source.now before.source.now
-      start.consumer.now now
-  led_some n {Cause} stopped cause now stops =
-      let split = cut n (arrivals_of (Symbols line) at.bytes) (arrivals_first line at.bytes at.given given_next) in
+      → TakesSome source took (Symbols line) limit (most_in start.intake.now) stopped cause start.source.now
+      before.source.now start.consumer.now now
+  unfolding cut
+  led_some n past {Cause} stopped cause now stops =
+      let arrivals = arrivals_given line at.bytes at.given in
+      let more = few_more before.intake.now.ended refl in
+      let split = cut n (arrivals_of (Symbols line) at.bytes) (more.0, more.1) in
       record {
         bytes = at.bytes;
         read = record {
@@ -274,8 +300,19 @@ module _ {S C : Type 0} (source : SourceOf S) (took : C → List Arrival → C �
           asked = at.is_given.feeds.asked;
         };
         passed = first_arrivals line at.bytes at.given n;
-        rest = split.0;
+        rest = drop n arrivals ++ more.0;
         split = split.1;
+        near = omega (
+          arith,
+          length-append (drop n arrivals) more.0,
+          length-drop n arrivals,
+          as_many at.is_given.jobs,
+          more.2,
+          past,
+          at.has_windows.all,
+          at.has_windows.some,
+          at.same_room,
+        );
         stops = stops;
         first = λ other symbols told few calm.
             cut n (arrivals_of (Symbols line) (at.bytes ++ source.left before.source.now))
@@ -324,10 +361,10 @@ module _ {S C : Type 0} (source : SourceOf S) (took : C → List Arrival → C �
       (consumer_is : now.consumer.now ≡ before.consumer.now) where
     -- the lead stands, where it gave more windows
     stands_more : (windows' : List WindowView) → HasWindows (length windows') kept now.intake.now
-        → kept ≤ length windows'
+        → vec_capacity now.intake.now.spare ≡ vec_capacity before.intake.now.spare → kept ≤ length windows'
         → GivesMore source line limit at.bytes at.given windows' kept now.intake.now start.source.now now.source.now
         → StandsAt source took most start now windows' kept
-    stands_more windows' has behind more = record {
+    stands_more windows' has room behind more = record {
       same_intake = same_intake ∙ at.same_intake;
       same_source = same_source ∙ at.same_source;
       same_consumer = same_consumer ∙ at.same_consumer;
@@ -335,6 +372,7 @@ module _ {S C : Type 0} (source : SourceOf S) (took : C → List Arrival → C �
       small = at.small;
       ready = at.ready;
       has_windows = has;
+      same_room = room ∙ at.same_room;
       behind = behind;
       bytes = more.all;
       given = more.every;
@@ -358,14 +396,15 @@ module _ {S C : Type 0} (source : SourceOf S) (took : C → List Arrival → C �
       one_more = stands_more (windows ++ window ∷ []) (record {
         some = omega (arith, less.1, at.has_windows.some);
         all = omega (arith, less.0, less.1, at.has_windows.all, length-append windows (window ∷ []));
-      }) (omega (arith, at.behind, length-append windows (window ∷ []))) more;
+      }) less.1 (omega (arith, at.behind, length-append windows (window ∷ []))) more;
       few = omega (arith, few_windows, at.small);
       fewer = less.2;
     }
     gives Later none less = (
       record {
         same = stands_more windows
-            (subst (HasWindows (length windows) kept) (sym none.0) at.has_windows) at.behind
+            (subst (HasWindows (length windows) kept) (sym none.0) at.has_windows)
+            (ap (λ (i : Intake). vec_capacity i.spare) none.0) at.behind
             (subst (λ (i : Intake). GivesMore source line limit at.bytes at.given windows kept i start.source.now
             now.source.now) (sym none.0)
             (subst (λ (s : S). GivesMore source line limit at.bytes at.given windows kept before.intake.now
@@ -379,7 +418,7 @@ module _ {S C : Type 0} (source : SourceOf S) (took : C → List Arrival → C �
         same = stands_more windows (record {
           some = omega (arith, less.1, at.has_windows.some);
           all = omega (arith, less.0, less.1, at.has_windows.all);
-        }) at.behind ends.0;
+        }) less.1 at.behind ends.0;
         no_more = less.2;
       },
       ends.1,
@@ -448,6 +487,7 @@ module _ {S C : Type 0} (source : SourceOf S) (took : C → List Arrival → C �
               length-append before.intake.now.spare.items (done.window ∷ []),
             );
           };
+          same_room = room ∙ at.same_room;
           behind = omega (arith, below);
           bytes = at.bytes;
           given = at.given;
@@ -467,6 +507,11 @@ module _ {S C : Type 0} (source : SourceOf S) (took : C → List Arrival → C �
             };
             over = λ stop e. subst (λ (f : FeedState). IsOver line at.bytes at.given f stop) (sym feed)
                 (at.is_given.over stop (sym ended ∙ e));
+            short = λ e. omega (
+              arith,
+              ap (λ (f : FeedState). length f.lock.kept) feed,
+              at.is_given.short (sym ended ∙ e),
+            );
           };
           taken = λ c none. subst (λ (l : List Arrival). took c l now.consumer.now) (sym handed)
               (takes c first (at.taken c none));
@@ -487,8 +532,9 @@ module _ {S C : Type 0} (source : SourceOf S) (took : C → List Arrival → C �
         same_intake = same_intake ∙ at.same_intake;
         same_source = same_source ∙ at.same_source;
         same_consumer = same_consumer ∙ at.same_consumer;
-        some = subst (λ (s : S). TakesSome source took (Symbols line) limit stopped cause start.source.now s
-            start.consumer.now now.consumer.now) (sym source_is) (led_some (kept + 1) stopped cause now.consumer.now
+        some = subst (λ (s : S). TakesSome source took (Symbols line) limit (most_in start.intake.now) stopped cause
+            start.source.now s start.consumer.now now.consumer.now) (sym source_is)
+            (led_some (kept + 1) (omega arith) stopped cause now.consumer.now
             (λ c none. subst (λ (l : List Arrival). stopped c l cause now.consumer.now) (sym handed)
             (at_last c first (at.taken c none))));
       }
@@ -555,6 +601,6 @@ module _ {S C : Type 0} (source : SourceOf S) (took : C → List Arrival → C �
       subst (λ (first : WindowLead S C). ComesTo source took stopped (Err cause) first now) same (record {
         same_source = refl;
         same_consumer = refl;
-        led = stops_at_once source took (Symbols now.intake.now.feed.lock.line) now.intake.now.feed.most stopped cause
-            now.source.now now.consumer.now stops;
+        led = stops_at_once source took (Symbols now.intake.now.feed.lock.line) now.intake.now.feed.most
+            (most_in now.intake.now) (omega arith) stopped cause now.source.now now.consumer.now stops;
       })

@@ -22,6 +22,7 @@ use Rattle.std.specs.Prelude.{
   cond,
 }
 use Rattle.lr_bits.specs.Faults.{Rose}
+use Rattle.lr_bits.specs.declared.sizes.TheConstants.{FRAME_SYMBOLS}
 use Rattle.lr_conv.specs.declared.line.LineCode.{LineCode}
 use Rattle.lr_conv.specs.Marker.{tail_of}
 use Rattle.lr_io.specs.declared.source.Source.{Ghosts as SourceOf}
@@ -111,7 +112,7 @@ module _ {S : Type 0} (source : SourceOf S) (line : LineCode) where
     pub line_is : now.lock.line ≡ line
     pub long : now.taken ≡ length bytes
     pub few : now.taken ≤ now.most
-    pub passed : 16384 * length given + length now.lock.kept ≤ now.taken
+    pub passed : FRAME_SYMBOLS * length given + length now.lock.kept ≤ now.taken
     pub told : source.tells s → source.tells s'
     pub moved : source.tells s → source.left s ≡ bytes ++ source.left s'
     pub asked : StopsAtFault source s s'

@@ -16,7 +16,7 @@ module _ {S C : Type 0} where
   -- what it comes to is how far the consumer was led
   abbrev pub Leads : {Cause : Type 0}
       → (MutBor S → MutBor C → Result Totals Cause → MutBor S → MutBor C → Type 0) → SourceOf S
-      → (C → List Arrival → C → Type 0) → (C → List Arrival → Cause → C → Type 0) → Input → ℕ → Type 0
-  Leads {Cause} post source took stopped input limit =
+      → (C → List Arrival → C → Type 0) → (C → List Arrival → Cause → C → Type 0) → Input → ℕ → ℕ → Type 0
+  Leads {Cause} post source took stopped input limit waiting =
       (s : MutBor S) (c : MutBor C) (came : Result Totals Cause) (s' : MutBor S) (c' : MutBor C)
-      → post s c came s' c' → IsLed source took input limit stopped came s.now s'.now c.now c'.now
+      → post s c came s' c' → IsLed source took input limit waiting stopped came s.now s'.now c.now c'.now

@@ -22,6 +22,13 @@ shared_by (Symbols line) workers =
     record { seats = workers - 1; cells = 2 * workers + 2; windows = windows_for workers }
 shared_by (Units form) workers = record { seats = 0; cells = 0; windows = 0 }
 
+-- How many frames of the bytes taken may wait for the consumer at most, the one that it is handed among them, where
+-- this many work: of symbols those in the windows, and three that stand whole in the lock. No block or frame waits
+-- after another.
+abbrev pub most_waiting : Input → ℕ → ℕ
+most_waiting (Symbols line) workers = windows_for workers + 3
+most_waiting (Units form) workers = 1
+
 pub record ReaderView : Type 0 where
   pub input : Input
   pub workers : ℕ

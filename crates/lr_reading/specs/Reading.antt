@@ -1,7 +1,8 @@
 -- The bytes that a call read, and why it read no more of them.
-use Rattle.std.specs.Prelude.{◌≡◌, ◌⊎◌, ◌<◌, ◌≤◌, ◌*◌, ◌/◌, ℕ, List, [], ◌++◌, length, take, drop, map}
+use Rattle.std.specs.Prelude.{◌≡◌, ◌⊎◌, ◌<◌, ◌≤◌, ◌*◌, ◌/◌, ℕ, List, [], ◌++◌, length, take, drop, map, Result}
 use Rattle.std.specs.List.{range_with_len}
 use Rattle.lr_bits.specs.Faults.{Rose}
+use Rattle.lr_bits.specs.declared.refusals.Failed.{Failed}
 use Rattle.lr_io.specs.declared.source.Source.{Ghosts as SourceOf}
 use Rattle.lr_forms.specs.declared.forms.Stop.{Stop}
 use Rattle.lr_forms.specs.declared.forms.Stop.TheVariants.{End, Limit, Fault}
@@ -9,7 +10,8 @@ use Rattle.lr_forms.specs.declared.forms.Stop.TheVariants.{End, Limit, Fault}
 module _ {S : Type 0} (source : SourceOf S) where
   -- the source wasn't asked, or its count had not risen as the last call on it began: none follows one that failed
   abbrev pub StopsAtFault : S → S → Type 0
-  StopsAtFault s s' = (s' ≡ s) ⊎ ((last : S) × (source.faults last ≡ source.faults s) × source.asked last s')
+  StopsAtFault s s' = (s' ≡ s)
+      ⊎ ((last : S) × (answer : Result ℕ Failed) × (source.faults last ≡ source.faults s) × source.asked last answer s')
 
   -- these bytes were taken, at most this many, up to the first fault
   pub record IsRead (limit : ℕ) (bytes : List ℕ) (s s' : S) : Type 0 where

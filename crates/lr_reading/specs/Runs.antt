@@ -28,14 +28,16 @@ module _ {S C : Type 0} (source : SourceOf S) (took : C → List Arrival → C �
     pub ends : ReadsInput source input limit totals bytes s s'
     pub taken : (c : C) → took c [] before → took c (arrivals_of input bytes) now
 
-  -- the consumer stopped at the last one of these arrivals, which are the first ones of the bytes read
-  pub record TakesSome {Cause : Type 0} (stopped : C → List Arrival → Cause → C → Type 0) (cause : Cause) (s s' : S)
-      (before now : C) : Type 0 where
+  -- The consumer stopped at the last one of these arrivals, which are the first ones of the bytes read. The source was
+  -- read no further ahead than that this one, and those after it, are `waiting` at most
+  pub record TakesSome {Cause : Type 0} (waiting : ℕ) (stopped : C → List Arrival → Cause → C → Type 0)
+      (cause : Cause) (s s' : S) (before now : C) : Type 0 where
     pub bytes : List ℕ
     pub read : IsRead source limit bytes s s'
     pub passed : List Arrival
     pub rest : List Arrival
     pub split : arrivals_of input bytes ≡ passed ++ rest
+    pub near : length rest < waiting
     pub stops : (c : C) → took c [] before → stopped c passed cause now
     -- of symbols they are the first ones of all that the source gives, where it had not failed nor reached the limit
     pub first : (line : LineCode) → input ≡ Symbols line → source.tells s → length bytes < limit
@@ -43,7 +45,7 @@ module _ {S C : Type 0} (source : SourceOf S) (took : C → List Arrival → C �
         → (later : List Arrival) × (arrivals_of input (bytes ++ source.left s') ≡ passed ++ later)
 
   -- how far it was led, whoever led it
-  abbrev pub IsLed : {Cause : Type 0} → (C → List Arrival → Cause → C → Type 0) → Result Totals Cause → S → S → C → C
-      → Type 0
-  IsLed stopped (Ok totals) s s' before now = TakesAll totals s s' before now
-  IsLed stopped (Err cause) s s' before now = TakesSome stopped cause s s' before now
+  abbrev pub IsLed : {Cause : Type 0} → ℕ → (C → List Arrival → Cause → C → Type 0) → Result Totals Cause → S → S → C
+      → C → Type 0
+  IsLed waiting stopped (Ok totals) s s' before now = TakesAll totals s s' before now
+  IsLed waiting stopped (Err cause) s s' before now = TakesSome waiting stopped cause s s' before now

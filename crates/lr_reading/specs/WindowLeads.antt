@@ -1,5 +1,6 @@
 -- How windows are led from a source to a consumer. No clause of a public call cites this.
 use Rattle.std.specs.Prelude.{
+  ◌-◌,
   ◌≡◌,
   ◌<◌,
   ◌≤◌,
@@ -24,6 +25,8 @@ use Rattle.std.specs.Prelude.{
   Result,
 }
 use Rattle.std.specs.List.{All}
+use Rattle.lr_lock.specs.Thresholds.{lock_symbols}
+use Rattle.lr_bits.specs.declared.sizes.TheConstants.{FRAME_BYTES, FRAME_SYMBOLS}
 use Rattle.lr_conv.specs.Marker.{tail_of}
 use Rattle.lr_conv.specs.declared.line.LineCode.{LineCode}
 use Rattle.lr_io.specs.declared.source.Source.{Ghosts as SourceOf}
@@ -86,6 +89,10 @@ left_to_feed (Some stop) feed = 0
 abbrev pub windows_left : Intake → ℕ
 windows_left intake = left_to_feed intake.ended intake.feed
 
+-- as many frames may wait as there are windows, and three more that stand whole in the lock
+abbrev pub most_in : Intake → ℕ
+most_in intake = vec_capacity intake.spare + 3
+
 -- ---- the input
 
 module _ {S : Type 0} (source : SourceOf S) (line : LineCode) (limit : ℕ) where
@@ -96,6 +103,8 @@ module _ {S : Type 0} (source : SourceOf S) (line : LineCode) (limit : ℕ) wher
     pub limit_is : intake.feed.most ≡ limit
     pub jobs : HasJobs line bytes given windows kept intake
     pub over : (stop : Stop) → intake.ended ≡ Some stop → IsOver line bytes given intake.feed stop
+    -- three whole frames of 16,384 symbols at most stand in the lock
+    pub short : intake.ended ≡ None → length intake.feed.lock.kept ≤ lock_symbols - FRAME_SYMBOLS
 
   -- more bytes were taken, and these windows are given now; what comes of the earlier ones stays
   pub record GivesMore (bytes : List ℕ) (given : List Frame) (windows : List WindowView) (kept : ℕ) (intake : Intake)
@@ -131,7 +140,7 @@ module _ {C : Type 0} (took : C → List Arrival → C → Type 0) where
     pub first : C
     pub arrivals : List Arrival
     pub taken : took first arrivals now
-    pub few : 892 * (length arrivals + 1) ≤ most
+    pub few : FRAME_BYTES * (length arrivals + 1) ≤ most
 
 -- ---- both
 
@@ -146,6 +155,7 @@ module _ {S C : Type 0} (source : SourceOf S) (took : C → List Arrival → C �
     pub small : start.intake.now.feed.most ≤ 2 ^ 61
     pub ready : (c : C) × took c [] start.consumer.now
     pub has_windows : HasWindows (length windows) kept now.intake.now
+    pub same_room : vec_capacity now.intake.now.spare ≡ vec_capacity start.intake.now.spare
     pub behind : kept ≤ length windows
     pub bytes : List ℕ
     pub given : List Frame
@@ -160,13 +170,13 @@ module _ {S C : Type 0} (source : SourceOf S) (took : C → List Arrival → C �
     pub same_intake : now.intake.ghost_name ≡ start.intake.ghost_name
     pub same_source : now.source.ghost_name ≡ start.source.ghost_name
     pub same_consumer : now.consumer.ghost_name ≡ start.consumer.ghost_name
-    pub some : TakesSome source took (Symbols start.intake.now.feed.lock.line) start.intake.now.feed.most stopped
-        cause start.source.now now.source.now start.consumer.now now.consumer.now
+    pub some : TakesSome source took (Symbols start.intake.now.feed.lock.line) start.intake.now.feed.most
+        (most_in start.intake.now) stopped cause start.source.now now.source.now start.consumer.now now.consumer.now
 
   -- the lead was the first one. It was led to the end of the input, or to where the consumer stopped
   pub record ComesTo {Cause : Type 0} (stopped : C → List Arrival → Cause → C → Type 0)
       (came : Result Totals Cause) (start now : WindowLead S C) : Type 0 where
     pub same_source : now.source.ghost_name ≡ start.source.ghost_name
     pub same_consumer : now.consumer.ghost_name ≡ start.consumer.ghost_name
-    pub led : IsLed source took (Symbols start.intake.now.feed.lock.line) start.intake.now.feed.most stopped came
-        start.source.now now.source.now start.consumer.now now.consumer.now
+    pub led : IsLed source took (Symbols start.intake.now.feed.lock.line) start.intake.now.feed.most
+        (most_in start.intake.now) stopped came start.source.now now.source.now start.consumer.now now.consumer.now

@@ -1,3 +1,5 @@
+//! Who takes what a reader reads, arrival by arrival.
+
 use crate::arrival::Arrival;
 
 /// Takes what comes of the input, one arrival after another, whatever it comes from.

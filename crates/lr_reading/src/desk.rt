@@ -7,6 +7,7 @@ use crate::intake::Intake;
 use lr_bits::NoMemory;
 use lr_conv::LineCode;
 use lr_frame::{Hand, Hired};
+use lr_gatecore::{MOST_HANDS, MOST_SEATS};
 use lr_rounds::Crew;
 use std::alloc::Global;
 
@@ -38,7 +39,7 @@ fn new_crew<H: Hand>(
     tools: &H::Tools,
     workers: u32,
 ) -> Result<Crew<Hired<H>>, NoMemory>
-    requires { workers ≤ 63 }
+    requires { workers ≤ MOST_HANDS }
     ensures { IfOk result (λ crew. crew ≡ crew_with workers) }
 {
     let works = hire_all::<H>(alloc, tools, workers as usize)?;
@@ -48,7 +49,7 @@ fn new_crew<H: Hand>(
 
 /// How many windows go through the ring where this many work, the caller among them. On one thread one is enough.
 fn count_windows(workers: u32) -> u32
-    requires { (1 ≤ workers) × (workers ≤ 64) }
+    requires { (1 ≤ workers) × (workers ≤ MOST_SEATS) }
     ensures { result ≡ windows_for workers }
 {
     if workers == 1 { 1 } else { 2 * workers + 2 }
@@ -70,7 +71,7 @@ impl<H: Hand> Desk<H> {
         tools: &H::Tools,
     ) -> Result<Desk<H>, NoMemory>
         requires most { most ≤ 2 ^ 61 }
-        requires workers { (1 ≤ workers) × (workers ≤ 64) }
+        requires workers { (1 ≤ workers) × (workers ≤ MOST_SEATS) }
         ensures fresh { IfOk result (λ desk. IsFreshIntake most desk.intake) }
         ensures line { IfOk result (λ desk. desk.intake.feed.lock.line ≡ line) }
         ensures crew { IfOk result (λ desk. desk.crew ≡ crew_with (workers - 1)) }

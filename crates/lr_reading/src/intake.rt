@@ -1,3 +1,5 @@
+//! The windows and the feed of a reader of symbols.
+
 ghost use Rattle.std.specs.Prelude.{◌≡◌, IfOk, vec_len, vec_capacity};
 ghost use Rattle.lr_reading.specs.WindowLeads.{AreOfLine};
 

@@ -1,3 +1,5 @@
+//! What comes next of an input.
+
 use lr_forms::Stop;
 
 /// What came of looking for the next window or unit.

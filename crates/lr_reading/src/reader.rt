@@ -8,6 +8,7 @@ use crate::windows::{read_by_all, read_windows};
 use lr_bits::NoMemory;
 use lr_forms::Input;
 use lr_frame::Hand;
+use lr_gatecore::MOST_SEATS;
 use lr_io::Source;
 use std::alloc::Global;
 use std::marker::Model;
@@ -43,7 +44,7 @@ impl<H: Hand> Model for Reader<H> {
 impl<H: Hand> Reader<H> {
     ghost use Rattle.std.specs.Prelude.{◌≡◌, ◌≤◌, [], IfOk};
     ghost use Rattle.lr_reading.specs.Inputs.{MayTake};
-    ghost use Rattle.lr_reading.specs.Readers.{shared_by};
+    ghost use Rattle.lr_reading.specs.Readers.{shared_by, most_waiting};
     ghost use Rattle.lr_reading.specs.Runs.{IsLed};
 
     /// All memory that reading this input takes. At most `most` bytes will be taken. This many work on windows, the
@@ -55,7 +56,7 @@ impl<H: Hand> Reader<H> {
         most: u64,
         tools: &H::Tools,
     ) -> Result<Reader<H>, NoMemory>
-        requires workers { (1 ≤ workers) × (workers ≤ 64) }
+        requires workers { (1 ≤ workers) × (workers ≤ MOST_SEATS) }
         requires most { MayTake input most }
         ensures { IfOk result (λ reader. reader ≡ record {
           input = input;
@@ -82,8 +83,8 @@ impl<H: Hand> Reader<H> {
         requires alone { self.workers ≡ 1 }
         requires few { self.most ≤ C.most }
         requires ready { (c : C) × C.took c [] consumer.old }
-        ensures { IsLed S.Source C.took self.input self.most C.stopped result source.old source.new
-            consumer.old consumer.new }
+        ensures { IsLed S.Source C.took self.input self.most (most_waiting self.input self.workers) C.stopped result
+            source.old source.new consumer.old consumer.new }
     {
         let Reader {
             way,
@@ -106,8 +107,8 @@ impl<H: Hand> Reader<H> {
     ) -> Result<Totals, C::Cause>
         requires few { self.most ≤ C.most }
         requires ready { (c : C) × C.took c [] consumer.old }
-        ensures { IsLed S.Source C.took self.input self.most C.stopped result source.old source.new
-            consumer.old consumer.new }
+        ensures { IsLed S.Source C.took self.input self.most (most_waiting self.input self.workers) C.stopped result
+            source.old source.new consumer.old consumer.new }
     {
         let Reader {
             way,

@@ -1,5 +1,7 @@
 //! The symbols of the input are taken to the windows of its frames, however its reads are cut.
 ghost use Rattle.std.specs.Prelude.{◌≡◌, ◌↔◌, ◌<◌, ◌≤◌, ◌++◌, [], length, take, IfOk, OnErr};
+ghost use Rattle.lr_bits.specs.declared.sizes.TheConstants.{FRAME_SYMBOLS};
+ghost use Rattle.lr_lock.specs.Thresholds.{lock_symbols};
 ghost use Rattle.lr_bits.specs.Faults.{HasCause};
 ghost use Rattle.lr_reading.specs.Reading.{StopsAtFault};
 
@@ -56,15 +58,15 @@ pub(crate) struct SymbolFeed {
 
 impl Model for SymbolFeed {
     ghost use Rattle.std.specs.Prelude.{◌≡◌, ◌≤◌, ◌+◌, ◌^◌, length};
-    ghost use Rattle.lr_lock.specs.declared.sizes.TheConstants.{LOCK_SYMBOLS};
+    ghost use Rattle.lr_lock.specs.Thresholds.{lock_symbols};
     ghost use Rattle.lr_reading.specs.Feeding.{FeedState};
 
     ghost Value = { FeedState };
 
     ghost view = { λ f. record { lock = f.lock; taken = f.taken; most = f.most; stop = f.stop } };
 
-    ghost invariant = { λ f. (length f.buffer.items ≡ LOCK_SYMBOLS) × (f.taken ≤ f.most) × (f.most ≤ 2 ^ 61)
-        × (f.lock.place + length f.lock.kept ≤ f.taken) };
+    ghost invariant = { λ f. (length f.buffer.items ≡ lock_symbols) × (f.taken ≤ f.most) × (f.most ≤ 2 ^ 61)
+        × (f.lock.place + length f.lock.kept ≤ f.taken) × (length f.lock.kept ≤ lock_symbols) };
 }
 
 impl SymbolFeed {
@@ -109,7 +111,7 @@ impl SymbolFeed {
     /// Feeds the lock what the source gives, as much as there is room for. Answers why there is nothing to feed, if so.
     fn take<S: Source>(&mut self, source: &mut S) -> Option<Stop>
         requires unfinished { self.old.lock.finished ≡ false }
-        requires room { length self.old.lock.kept < LOCK_SYMBOLS }
+        requires room { length self.old.lock.kept < lock_symbols }
         ensures takes { Takes S.Source result self.old self.new source.old source.new }
     {
         let left = self.most - self.taken;
@@ -139,7 +141,7 @@ impl SymbolFeed {
     /// Feeds the lock once more, or finishes it.
     fn more<S: Source>(&mut self, source: &mut S)
         requires unfinished { self.old.lock.finished ≡ false }
-        requires room { length self.old.lock.kept < LOCK_SYMBOLS }
+        requires room { length self.old.lock.kept < lock_symbols }
         ensures feeds { (line : LineCode) (bytes : List ℕ) (given : List Frame) (s : _)
             → FedSoFar S.Source line bytes given self.old s source.old
             → FeedsOn S.Source line bytes given self.new s source.new }
@@ -166,6 +168,7 @@ impl SymbolFeed {
         ensures line { self.new.lock.line ≡ self.old.lock.line }
         ensures window_line { window.new.line ≡ window.old.line }
         ensures fewer { result ≡ Whole → symbols_left self.new < symbols_left self.old }
+        ensures short { result ≡ Whole → length self.new.lock.kept ≤ lock_symbols - FRAME_SYMBOLS }
     {
         'steps: loop {
             match self.lock.next_window(window) {

@@ -1,3 +1,5 @@
+//! The numbers of what was read.
+
 use lr_forms::Stop;
 
 /// What was read: how many bytes were taken, how many windows or units came of them, how many bytes are left that are

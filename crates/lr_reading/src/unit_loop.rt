@@ -27,7 +27,7 @@ pub(crate) fn read_units<const N: usize, S: Source, C: Consumer>(
     requires ready { (c : C) × C.took c [] consumer.old }
     ensures all { IfOk result (λ totals. TakesAll S.Source C.took (Units form) most totals
         source.old source.new consumer.old consumer.new) }
-    ensures some { IfErr result (λ cause. TakesSome S.Source C.took (Units form) most C.stopped cause
+    ensures some { IfErr result (λ cause. TakesSome S.Source C.took (Units form) most 1 C.stopped cause
         source.old source.new consumer.old consumer.new) }
 {
     let mut units = UnitFeed::<N>::new(most);
@@ -68,7 +68,7 @@ pub(crate) fn read_form<S: Source, C: Consumer>(
     requires ready { (c : C) × C.took c [] consumer.old }
     ensures all { IfOk result (λ totals. TakesAll S.Source C.took (Units form) most totals
         source.old source.new consumer.old consumer.new) }
-    ensures some { IfErr result (λ cause. TakesSome S.Source C.took (Units form) most C.stopped cause
+    ensures some { IfErr result (λ cause. TakesSome S.Source C.took (Units form) most 1 C.stopped cause
         source.old source.new consumer.old consumer.new) }
 {
     match form {

@@ -2,7 +2,7 @@
 ghost use Rattle.std.specs.Prelude.{◌≡◌, ◌≤◌, [], Some, IsSome};
 ghost use Rattle.lr_reading.specs.Intakes.{IsFreshIntake};
 ghost use Rattle.lr_reading.specs.Runs.{IsLed};
-ghost use Rattle.lr_reading.specs.WindowLeads.{ComesTo};
+ghost use Rattle.lr_reading.specs.WindowLeads.{ComesTo, most_in};
 ghost use Rattle.lr_forms.specs.declared.forms.Input.TheVariants.{Symbols};
 
 use crate::consumer::Consumer;
@@ -78,8 +78,8 @@ pub(crate) fn read_windows<H: Hand, S: Source, C: Consumer>(
     requires alone { desk.crew.seats ≡ 0 }
     requires few { desk.intake.feed.most ≤ C.most }
     requires ready { (c : C) × C.took c [] consumer.old }
-    ensures { IsLed S.Source C.took (Symbols desk.intake.feed.lock.line) desk.intake.feed.most C.stopped result
-        source.old source.new consumer.old consumer.new }
+    ensures { IsLed S.Source C.took (Symbols desk.intake.feed.lock.line) desk.intake.feed.most (most_in desk.intake)
+        C.stopped result source.old source.new consumer.old consumer.new }
 {
     let Desk { mut intake, crew } = desk;
     let mut lead = WindowLead {
@@ -100,8 +100,8 @@ pub(crate) fn read_by_all<R: Threads + Wait + Sync, H: Hand, S: Source, C: Consu
     requires fresh { IsFreshIntake desk.intake.feed.most desk.intake }
     requires few { desk.intake.feed.most ≤ C.most }
     requires ready { (c : C) × C.took c [] consumer.old }
-    ensures { IsLed S.Source C.took (Symbols desk.intake.feed.lock.line) desk.intake.feed.most C.stopped result
-        source.old source.new consumer.old consumer.new }
+    ensures { IsLed S.Source C.took (Symbols desk.intake.feed.lock.line) desk.intake.feed.most (most_in desk.intake)
+        C.stopped result source.old source.new consumer.old consumer.new }
 {
     let Desk { mut intake, crew } = desk;
     let mut lead = WindowLead {

@@ -26,17 +26,19 @@ use Rattle.std.specs.Int.{cast_unsigned, w8}
 use Rattle.std.proofs.lemmas.List.{length-map}
 use Rattle.std.proofs.lemmas.List.Sums.{sum_by-cons}
 use Rattle.lr_bits.specs.declared.placed.Placed.{Placed}
+use Rattle.lr_bits.specs.declared.sizes.TheConstants.{FRAME_SYMBOLS}
 use Rattle.lr_conv.specs.Convolution.{code}
 use Rattle.lr_conv.specs.declared.line.TheConstants.{STANDARD}
 use Rattle.lr_frame.specs.Outcomes.{outcomes_of_symbols}
 use Rattle.lr_layers.specs.Origins.{placed_of_outcomes}
-use Rattle.lr_lock.specs.Symbols.{symbol_of, symbols_of}
+use Rattle.lr_lock.specs.Symbols.{symbols_of}
 use Rattle.lr_make.specs.Blocks.{block_at}
 use Rattle.lr_make.specs.Frames.{frame_at}
 use Rattle.lr_make.specs.Received.{IsReceivedAs}
 use Rattle.lr_make.specs.Stream.{symbol_stream}
-use Rattle.lr_make.specs.Symbols.{level, sent_bits}
+use Rattle.lr_make.specs.Symbols.{sent_bits}
 use Rattle.lr_make.proofs.Sending.{length-all_symbols, symbols_are_one_code}
+use Rattle.lr_sent.proofs.SymbolsBack.{levels_back}
 use Rattle.lr_sent.proofs.MadeBlocks.{stream_is_received}
 use Rattle.lr_sent.specs.Made.{made_outcomes, room_of_files, room_of}
 use Rattle.lr_sent.proofs.MadeFiles.{placed_fit}
@@ -54,16 +56,6 @@ use Rattle.lr_receiving.specs.Trial.{trial_capacity}
 
 -- ---- symbols in bytes
 
-level_back : (b : Bool) → symbol_of (cast_unsigned w8 (level b)) ≡ level b
-level_back true = refl
-level_back false = refl
-
-levels_back : (bits : List Bool) → symbols_of (bytes_of_symbols (map level bits)) ≡ map level bits
-levels_back [] = refl
-levels_back (bit ∷ bits) =
-    ap (λ s. s ∷ symbols_of (bytes_of_symbols (map level bits))) (level_back bit)
-    ∙ ap (λ s. level bit ∷ s) (levels_back bits)
-
 -- the symbols of the made bytes are the stream's
 symbols_made : (start wrong n : ℕ) → symbols_of (made_bytes AsSymbols start wrong n) ≡ symbol_stream start wrong n
 unfolding made_bytes
@@ -72,7 +64,7 @@ symbols_made start wrong n =
     ap (λ s. symbols_of (bytes_of_symbols s)) one
     ∙ levels_back (code STANDARD (replicate 6 false) (sent_bits start wrong n)) ∙ sym one
 
-pub made_length : (start wrong n : ℕ) → length (made_bytes AsSymbols start wrong n) ≡ 16384 * n
+pub made_length : (start wrong n : ℕ) → length (made_bytes AsSymbols start wrong n) ≡ FRAME_SYMBOLS * n
 unfolding made_bytes
 made_length start wrong n =
     length-map (symbol_stream start wrong n) (cast_unsigned w8) ∙ ap length (symbols_are_one_code start wrong n)

@@ -2,6 +2,7 @@
 use Rattle.std.proofs.Common.{◌≡◌, inl, inr, ◌≤◌, ℕ, List, [], ◌∷◌, ◌++◌, min, refl, sym, ap, ◌∙◌}
 use Rattle.std.proofs.Common.{subst, arith, append_assoc, append-nil}
 use Rattle.lr_bits.specs.declared.placed.Placed.{Placed}
+use Rattle.lr_bits.specs.Sizes.{most_u64}
 use Rattle.lr_shelf_format.specs.Way.{Way}
 use Rattle.lr_shelf.specs.Append.{item_for}
 use Rattle.lr_shelf.specs.Kept.{kept_by, kept_with}
@@ -70,7 +71,7 @@ module _ {D O : Type 0} where
               ∙ sym (append_assoc xs full.done (full.next ∷ full.rest));
           room = room_after way (kept_by shelf1).way xs full.done first.ends first.same first.room full.room;
           over = omega (arith, there, first.same, full.over);
-          needs = full.needs ∙ ap (λ (n : ℕ). min n 18446744073709551615) (sym there);
+          needs = full.needs ∙ ap (λ (n : ℕ). min n most_u64) (sym there);
           of = full.of ∙ first.same;
         }
 

@@ -37,6 +37,8 @@ use Rattle.lr_causes.specs.declared.cause.Cause.TheVariants.{Done, Failed, NoMem
 use Rattle.lr_causes.specs.declared.cause.Party.TheVariants.{Source, Disk, Output}
 use Rattle.lr_causes.specs.declared.cause.Refusal.TheVariants.{Capacity}
 use Rattle.lr_forms.specs.declared.forms.Input.{Input}
+use Rattle.lr_reading.specs.Readers.{most_waiting}
+use Rattle.lr_receiving.proofs.Timely.{acknowledged_before}
 use Rattle.lr_receiving.specs.Inputs.{files_of_bytes}
 use Rattle.lr_shelf.specs.Grounds.{
   Ground,
@@ -56,8 +58,9 @@ use Rattle.lr_shelf.specs.Grounds.{
 }
 use Rattle.lr_shelf.specs.Fronts.{end_with}
 use Rattle.lr_receiving.specs.Shelving.{shelved_lines, StandsForOneFileMore}
-use Rattle.lr_causes.specs.Outside.{NoFault, World, Outside}
+use Rattle.lr_causes.specs.Outside.{NoFault, World, Outside, outlets_in, world_outlets}
 use Rattle.lr_receiving.specs.Receive.{IsWorkDone, Ends, Receives}
+use Rattle.lr_receiving.specs.Reception.{FewWait}
 use Rattle.lr_shelf.proofs.Grounds.{with_files-append}
 use Rattle.lr_shelf.proofs.Fronts.{end_with-append}
 use Rattle.lr_receiving.proofs.Growing.{some}
@@ -284,11 +287,16 @@ module _ {S D O : Type 0} (world : World S D O) (input : Input) (ground : Ground
   pub receives : (cause : Cause) → LeavesFronts world.disk ground (files_of_bytes input bytes) w.disk w'.disk
       → Ends world input ground limit bytes cause w w'
       → (IsWorkDone cause → AllHaveRoom ground (files_of_bytes input bytes))
-      → Receives world input ground limit bytes cause w w'
-  receives cause any_moment ends room = record {
+      → (workers : ℕ)
+      → FewWait (world_outlets world) ground input (most_waiting input workers) bytes (outlets_in w) (outlets_in w')
+      → Receives world input workers ground limit bytes cause w w'
+  receives cause any_moment ends room workers few = record {
     held = λ whole rest text told split put. held whole rest text told split put cause ends;
     held_untold = held_untold cause ends;
     any_moment = any_moment;
+    timely = λ worked waiting split many.
+        acknowledged_before (world_outlets world) ground input (most_waiting input workers) bytes (outlets_in w)
+        (outlets_in w') few worked waiting split many;
     ends = ends;
     complete = complete cause ends;
     overfull = λ lacks. (

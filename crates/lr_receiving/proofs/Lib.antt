@@ -1,3 +1,4 @@
+pub mod Acknowledging
 pub mod Causing
 pub mod Fitting
 pub mod Growing
@@ -9,6 +10,7 @@ pub mod ReceiveEnding
 pub mod ShelvedLines
 pub mod Shelving
 pub mod Taking
+pub mod Timely
 pub mod TrialEnding
 pub mod Trying
 pub mod WholeFrames

@@ -4,8 +4,8 @@ use Rattle.std.proofs.Common.{Result, Ok, Err, IfOk, MatchResult}
 use Rattle.lr_bits.specs.declared.placed.Placed.{Placed}
 use Rattle.lr_io.specs.declared.source.Source.{Ghosts as SourceOf}
 use Rattle.lr_disk.specs.declared.disk.Disk.{Ghosts as DiskOf}
-use Rattle.lr_disk.specs.Disk.{LeavesOnly, Only}
 use Rattle.lr_disk.specs.Reads.{IsUnwritten}
+use Rattle.lr_disk.specs.Pending.{EachImageSince, NothingPending}
 use Rattle.lr_disk.proofs.Moments.{weaker, stays, unwritten_yet}
 use Rattle.lr_shelf_format.specs.Items.{Item}
 use Rattle.lr_shelf_format.specs.Way.{IsWay, IsNoShelfAt, Way}
@@ -26,7 +26,8 @@ use Rattle.lr_causes.specs.declared.cause.Party.TheVariants.{Source, Disk, Outpu
 use Rattle.lr_causes.specs.declared.cause.Refusal.TheVariants.{NotAShelf, Capacity}
 use Rattle.lr_causes.specs.Causes.{MayEndBefore}
 use Rattle.lr_refusals.specs.Errors.{cause_of}
-use Rattle.lr_causes.specs.Outside.{outside, outlets_in, world_outlets, World, Outside}
+use Rattle.lr_causes.specs.Outside.{outlets, outside, outlets_in, world_outlets, World, Outside}
+use Rattle.lr_reading.specs.Readers.{most_waiting}
 use Rattle.lr_receiving.proofs.Causing.{first_later, first_refused}
 use Rattle.lr_forms.specs.declared.forms.Input.{Input}
 use Rattle.lr_receiving.specs.Inputs.{files_of_bytes}
@@ -40,6 +41,7 @@ use Rattle.lr_shelf.specs.Grounds.{
   IsSettledOn,
   StandsWith,
   LeavesFronts,
+  next_number,
 }
 use Rattle.lr_shelf.specs.Fronts.{HasRoom}
 use Rattle.lr_receiving.specs.Shelved.{MayStop}
@@ -51,7 +53,9 @@ use Rattle.lr_receiving.specs.Receive.{
   IsUntouched,
   ReceiveRun,
 }
-use Rattle.lr_receiving.specs.Reception.{EndsRun}
+use Rattle.lr_receiving.specs.Reception.{EndsRun, FewWait}
+use Rattle.lr_receiving.specs.Shelving.{shelved_lines}
+use Rattle.lr_receiving.proofs.Acknowledging.{all_worked, lines_alone}
 use Rattle.lr_receiving.proofs.Growing.{some, none_in}
 use Rattle.lr_receiving.proofs.Headline.{receives, room_of_items}
 use Rattle.lr_receiving.proofs.ReceiveEnding.{got_none, loaded}
@@ -130,15 +134,26 @@ full_reads source input limit bytes s s' read tells empty done next rest split =
     let none : bytes ≡ [] = (none_in bytes (source.left s') (sym (read.moved tells) ∙ empty)).0 in
     some done next rest (sym split ∙ ap (files_of_bytes input) none ∙ no_bytes input)
 
+-- and where none were taken nothing waits
+nothing_waits : {S D O : Type 0} (world : World S D O) (ground : Ground) (input : Input) (waiting : ℕ)
+    (w w' : Outside S D O) (d : D) → HoldsStill ground [] world.disk d
+    → FewWait (world_outlets world) ground input waiting [] (outlets_in w) (outlets d w.out)
+nothing_waits world ground input waiting w w' d still =
+    all_worked (world_outlets world) ground input waiting [] (outlets_in w) (outlets d w.out)
+    (subst (λ (l : List Placed). HoldsStill ground l world.disk d) (sym (no_bytes input)) still)
+    (lines_alone (world_outlets world) ground (files_of_bytes input []) (outlets_in w) (outlets d w.out)
+    (λ t. got_none world.out ground w.out t ∙ ap (λ (l : List Placed). world.out.contents w.out
+    ++ shelved_lines (next_number ground) l) (sym (no_bytes input))))
+
 -- ---- memory for reading was refused, before anything was called
 
 module _ {S D O : Type 0} (world : World S D O)
     (only_now : (d : D) (c : List ℕ) → world.disk.tells d → world.disk.left_since d (world.disk.moment d) c
     → world.disk.may_leave d c)
-    (input : Input) (limit : ℕ) (w : Outside S D O) where
+    (input : Input) (workers limit : ℕ) (w : Outside S D O) where
   nothing_made : (ground : Ground) → world.disk.tells w.disk → StandsWith ground [] (world.disk.contents w.disk)
-      → Only (world.disk.contents w.disk) (world.disk.may_leave w.disk)
-      → Receives world input ground limit [] NoMemory w w
+      → NothingPending world.disk w.disk
+      → Receives world input workers ground limit [] NoMemory w w
   nothing_made ground told stands only =
       receives world input ground limit [] w w NoMemory
       (subst (λ (l : List Placed). LeavesFronts world.disk ground l w.disk w.disk) (sym (no_bytes input))
@@ -152,9 +167,11 @@ module _ {S D O : Type 0} (world : World S D O)
         durable = record { stands = stands; durable = only };
         got = got_none world.out ground w.out;
       })
-      (λ done. absurd done)
+      (λ done. absurd done) workers
+      (nothing_waits world ground input (most_waiting input workers) w w w.disk
+      (record { stands = stands; durable = only }))
 
-  pub not_made : ReceiveRun world input limit NoMemory w w
+  pub not_made : ReceiveRun world input workers limit NoMemory w w
   not_made = record {
     causes = tt;
     first = (refl, refl);
@@ -183,7 +200,7 @@ module _ {S D O : Type 0} (world : World S D O)
 
 -- ---- the shelf was to be loaded
 
-module _ {S D O : Type 0} (world : World S D O) (input : Input) (limit : ℕ) (w : Outside S D O) (d1 : D)
+module _ {S D O : Type 0} (world : World S D O) (input : Input) (workers limit : ℕ) (w : Outside S D O) (d1 : D)
     (result : Result Shelf ShelfError) (loads : Loads world.disk w.disk d1 result) where
   -- the disk was only read
   abbrev read_only : Outside S D O
@@ -191,24 +208,25 @@ module _ {S D O : Type 0} (world : World S D O) (input : Input) (limit : ℕ) (w
 
   module _ (ground : Ground) (told : world.disk.tells w.disk)
       (stands : StandsWith ground [] (world.disk.contents w.disk))
-      (only : Only (world.disk.contents w.disk) (world.disk.may_leave w.disk)) where
+      (only : NothingPending world.disk w.disk) where
     still : HoldsStill ground [] world.disk d1
     still = still_holds world.disk ground w.disk d1 (loads.unwritten told) stands only
 
-    loading : LeavesOnly world.disk.moment world.disk.left_since w.disk d1 (StandsWith ground [])
+    loading : EachImageSince world.disk w.disk d1 (StandsWith ground [])
     loading = still_left world.disk ground w.disk d1 (loads.unwritten told) stands only
 
     none : (cause : Cause) → Ends world input ground limit [] cause w read_only → (IsWorkDone cause → ⊥)
-        → Receives world input ground limit [] cause w read_only
+        → Receives world input workers ground limit [] cause w read_only
     none cause ends undone =
         receives world input ground limit [] w read_only cause
         (subst (λ (l : List Placed). LeavesFronts world.disk ground l w.disk d1) (sym (no_bytes input))
         (weaker world.disk.moment world.disk.left_since w.disk d1 _ _ (front_none ground) loading))
-        ends (λ done. absurd (undone done))
+        ends (λ done. absurd (undone done)) workers
+        (nothing_waits world ground input (most_waiting input workers) w w d1 still)
 
     nothing : (e : ShelfError) → result ≡ Err e → IsLoadRefusal world.disk w.disk e
         → ((at : ℕ) → IsNoShelfAt (world.disk.contents w.disk) at → ⊥)
-        → Receives world input ground limit [] (cause_of e) w read_only
+        → Receives world input workers ground limit [] (cause_of e) w read_only
     nothing Disk' is refusal shelf = none (Failed Disk) (record {
       done = [];
       rest = [];
@@ -242,7 +260,7 @@ module _ {S D O : Type 0} (world : World S D O) (input : Input) (limit : ℕ) (w
 
   -- it wasn't
   pub not_loaded : (e : ShelfError) → result ≡ Err e → IsLoadRefusal world.disk w.disk e
-      → ReceiveRun world input limit (cause_of e) w read_only
+      → ReceiveRun world input workers limit (cause_of e) w read_only
   not_loaded e is refusal = record {
     causes = load_cause world.disk w.disk e refusal;
     first = first_refused e result (world.source.faults w.source) (world.source.faults w.source)
@@ -276,7 +294,7 @@ module _ {S D O : Type 0} (world : World S D O) (input : Input) (limit : ℕ) (w
 
   -- it was
   module _ (shelf : Shelf) (is : result ≡ Ok shelf) (w' : Outside S D O) (cause : Cause)
-      (run : EndsRun world input limit cause shelf read_only w') where
+      (run : EndsRun world input limit (most_waiting input workers) cause shelf read_only w') where
     if_ok : (P : Shelf → Type 0) → IfOk result P → P shelf
     if_ok P holds = subst (λ (r : Result Shelf ShelfError). IfOk r P) is holds
 
@@ -293,20 +311,20 @@ module _ {S D O : Type 0} (world : World S D O) (input : Input) (limit : ℕ) (w
 
     -- on a ground that the shelf was loaded from
     onto : (ground : Ground) (told : world.disk.tells w.disk) → StandsWith ground [] (world.disk.contents w.disk)
-        → Only (world.disk.contents w.disk) (world.disk.may_leave w.disk)
+        → NothingPending world.disk w.disk
         → IsSettledOn ground [] world.disk shelf d1
         → (Ends world input ground limit run.bytes cause w w' → IsWorkDone cause
         → AllHaveRoom ground (files_of_bytes input run.bytes))
-        → Receives world input ground limit run.bytes cause w w'
+        → Receives world input workers ground limit run.bytes cause w w'
     onto ground told stands only settled room =
         let begun = loaded (world_outlets world) ground (outlets_in w) d1 shelf settled
         (loading ground told stands only) same_count in
         let all = run.ends ground (outlets_in w) begun in
-        receives world input ground limit run.bytes w w' cause all.0 all.1 (room all.1)
+        receives world input ground limit run.bytes w w' cause all.0 all.1 (room all.1) workers all.2
 
     onto_shelf : (capacity : ℕ) (items : List Item) → world.disk.tells w.disk
         → IsDurable world.disk capacity items w.disk
-        → Receives world input (OfItems capacity items) limit run.bytes cause w w'
+        → Receives world input workers (OfItems capacity items) limit run.bytes cause w w'
     onto_shelf capacity items told durable =
         onto (OfItems capacity items) told (begun_items capacity items (world.disk.contents w.disk) durable.stands)
         durable.durable
@@ -315,8 +333,8 @@ module _ {S D O : Type 0} (world : World S D O) (input : Input) (limit : ℕ) (w
         (room_of_items world input capacity items limit run.bytes w w' cause)
 
     onto_way : (way : Way) → world.disk.tells w.disk → IsWay (world.disk.contents w.disk) way
-        → Only (world.disk.contents w.disk) (world.disk.may_leave w.disk)
-        → Receives world input (OfWay way (world.disk.contents w.disk)) limit run.bytes cause w w'
+        → NothingPending world.disk w.disk
+        → Receives world input workers (OfWay way (world.disk.contents w.disk)) limit run.bytes cause w w'
     onto_way way told way_is only =
         let begins = begun_way way (world.disk.contents w.disk) way_is in
         let same : (kept_by shelf).way ≡ way =
@@ -329,7 +347,7 @@ module _ {S D O : Type 0} (world : World S D O) (input : Input) (limit : ℕ) (w
         })
         (λ ends done. subst (λ (w : Way). HasRoom w (files_of_bytes input run.bytes)) same (run.over.room done))
 
-    pub loaded_run : ReceiveRun world input limit cause w w'
+    pub loaded_run : ReceiveRun world input workers limit cause w w'
     loaded_run = record {
       causes = run_cause cause run.kind;
       first = first_later cause (world.source.faults w.source) (world.source.faults w'.source)

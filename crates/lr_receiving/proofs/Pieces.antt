@@ -10,9 +10,10 @@ use Rattle.lr_layers.specs.Standing.{AddsFiles, StandsFor, Kept}
 use Rattle.lr_layers.proofs.GoingOn.{go_on}
 use Rattle.lr_causes.specs.declared.cause.Cause.{Cause}
 use Rattle.lr_causes.specs.declared.cause.Cause.TheVariants.{NoMemory}
-use Rattle.lr_receiving.specs.Shelving.{Stops}
+use Rattle.lr_receiving.specs.Shelving.{AreAcknowledged, Stops}
 use Rattle.lr_reading.specs.Arrivals.{HasWholeFrame}
 use Rattle.lr_receiving.specs.Shelved.{ShelvesSoFar, HasShelved, StopsShelving, Gains, GainsNoMore}
+use Rattle.lr_receiving.proofs.Acknowledging.{acknowledged_first, acknowledged_more}
 use Rattle.lr_receiving.proofs.Causing.{first_later}
 use Rattle.lr_receiving.proofs.WholeFrames.{with_outcome}
 use Rattle.lr_receiving.proofs.Growing.{grows_none, grows_on, stops_after, stops_before}
@@ -63,6 +64,10 @@ module _ {D O : Type 0} (world : OutletsOf D O) where
       stops = λ ground done before so_far.
           subst (λ (l : List Placed). Stops world ground cause l before w2) (append_assoc done xs ys)
           (stopped.stops ground (done ++ xs) before (first.shelved ground done before so_far));
+      keeps = λ ground done before so_far.
+          subst (λ (l : List Placed). AreAcknowledged world ground done l before w2) (append_assoc done xs ys)
+          (acknowledged_first world ground done xs
+          (stopped.keeps ground (done ++ xs) before (first.shelved ground done before so_far)));
       grown = stops_after first.grown stopped.grown;
     }
 
@@ -77,6 +82,9 @@ module _ {D O : Type 0} (world : OutletsOf D O) where
     stops = λ ground done before so_far.
         subst (λ (l : List Placed). Stops world ground cause l before w') (append_assoc done xs ys)
         (stops_more world ground before w' (done ++ xs) ys cause (stopped.stops ground done before so_far));
+    keeps = λ ground done before so_far.
+        subst (λ (l : List Placed). AreAcknowledged world ground done l before w') (append_assoc done xs ys)
+        (acknowledged_more world ground ys (stopped.keeps ground done before so_far));
     grown = stops_before ys stopped.grown;
   }
 

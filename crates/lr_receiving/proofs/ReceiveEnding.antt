@@ -21,10 +21,10 @@ use Rattle.lr_bits.specs.Faults.{Rose}
 use Rattle.lr_bits.specs.declared.placed.Placed.{Placed}
 use Rattle.lr_io.specs.declared.source.Source.{Ghosts as SourceOf}
 use Rattle.lr_io.specs.declared.sink.Sink.{Ghosts as SinkOf}
-use Rattle.lr_disk.specs.Disk.{LeavesOnly}
 use Rattle.lr_layers.specs.Layers.{Numbers, numbers_of}
 use Rattle.lr_layers.specs.Standing.{numbers}
 use Rattle.lr_shelf.specs.declared.shelf.Shelf.{Shelf}
+use Rattle.lr_disk.specs.Pending.{EachImageSince}
 use Rattle.lr_disk.proofs.Moments.{weaker}
 use Rattle.lr_forms.specs.declared.forms.Stop.{Stop}
 use Rattle.lr_forms.specs.declared.forms.Stop.TheVariants.{End, Limit, Fault}
@@ -53,6 +53,7 @@ use Rattle.lr_receiving.specs.Reception.{
   EndsOver,
   EndsRun,
 }
+use Rattle.lr_receiving.proofs.Acknowledging.{all_worked, lines_alone}
 use Rattle.lr_receiving.proofs.Causing.{first_beside, first_done, first_end}
 use Rattle.lr_receiving.proofs.ShelvedLines.{shelved_lines-none}
 use Rattle.lr_causes.specs.Outside.{outlets, outside, outlets_in, world_outlets, Outlets, OutletsOf, World, Outside}
@@ -84,7 +85,7 @@ got_none out ground o t =
 -- the shelf is loaded
 pub loaded : {D O : Type 0} (world : OutletsOf D O) (ground : Ground) (w : Outlets D O) (d1 : D) (shelf : Shelf)
     → IsSettledOn ground [] world.disk shelf d1
-    → LeavesOnly world.disk.moment world.disk.left_since w.disk d1 (StandsWith ground [])
+    → EachImageSince world.disk w.disk d1 (StandsWith ground [])
     → world.disk.faults d1 ≡ world.disk.faults w.disk → ShelvesSoFar world ground [] shelf w (outlets d1 w.out)
 loaded world ground w d1 shelf settled run count = record {
   settled = settled;
@@ -163,9 +164,9 @@ module _ {S D O : Type 0} (world : World S D O) (input : Input) (limit : ℕ) wh
 
   module _ (shelf : Shelf) (w w1 : Outside S D O) where
     -- shelving stopped
-    pub ended_some : (cause : Cause) → ReadsSome world input limit cause shelf w w1
-        → EndsRun world input limit cause shelf w w1
-    ended_some cause some =
+    pub ended_some : (waiting : ℕ) (cause : Cause) → ReadsSome world input limit waiting cause shelf w w1
+        → EndsRun world input limit waiting cause shelf w w1
+    ended_some waiting cause some =
         let stopped = some.stopped in
         record {
           bytes = some.bytes;
@@ -181,18 +182,19 @@ module _ {S D O : Type 0} (world : World S D O) (input : Input) (limit : ℕ) wh
                 stops.any_moment,
                 ends_of ground some.bytes (outside w.source before.disk before.out)
                     w1 cause stops.why,
+                some.timely ground before so_far,
               );
           over = over_some cause stopped.kind stopped.grown;
         }
 
-    module _ (sums : Sums) (shelf1 : Shelf)
+    module _ (waiting : ℕ) (sums : Sums) (shelf1 : Shelf)
         (all : ReadsAll world input limit sums shelf shelf1 w w1) (o2 : O) where
       line_is : sums_line sums ≡ receive_last input all.bytes sums.totals.stop
       line_is = last_line_is world.source input limit all.bytes w.source w1.source sums all.ends all.counts
 
       -- a part of the last line was put
       summary_cut : PutFails world.out (sums_line sums) w1.out o2
-          → EndsRun world input limit (Failed Output) shelf w (outside w1.source w1.disk o2)
+          → EndsRun world input limit waiting (Failed Output) shelf w (outside w1.source w1.disk o2)
       summary_cut fails = record {
         bytes = all.bytes;
         read = all.ends.read;
@@ -221,6 +223,15 @@ module _ {S D O : Type 0} (world : World S D O) (input : Input) (limit : ℕ) wh
                     };
                 rose = subst (λ (k : ℕ). Rose k (world.out.faults o2)) so_far.put.kept fails.rose;
               }),
+              all_worked (world_outlets world) ground input waiting all.bytes before (outlets w1.disk o2)
+                  so_far.settled.on_disk
+                  (λ t.
+                  let cut = fails.part (so_far.put.told t) in (
+                    cut.part,
+                    cut.put ∙ ap (λ (l : List ℕ). l ++ cut.part) (so_far.put.put t)
+                        ∙ append_assoc (world.out.contents before.out)
+                        (shelved_lines (next_number ground) (files_of_bytes input all.bytes)) cut.part,
+                  )),
             );
         over =
             over_last all.shelved.grown o2 (Failed Output) (λ needed most is. cc (is))
@@ -228,7 +239,7 @@ module _ {S D O : Type 0} (world : World S D O) (input : Input) (limit : ℕ) wh
       }
 
       -- there was no memory for it
-      no_summary : o2 ≡ w1.out → EndsRun world input limit NoMemory shelf w (outside w1.source w1.disk o2)
+      no_summary : o2 ≡ w1.out → EndsRun world input limit waiting NoMemory shelf w (outside w1.source w1.disk o2)
       no_summary same = record {
         bytes = all.bytes;
         read = all.ends.read;
@@ -246,20 +257,24 @@ module _ {S D O : Type 0} (world : World S D O) (input : Input) (limit : ℕ) wh
                 durable = so_far.settled.on_disk;
                 got = λ t. ap world.out.contents same ∙ so_far.put.put t;
               },
+              all_worked (world_outlets world) ground input waiting all.bytes before (outlets w1.disk o2)
+                  so_far.settled.on_disk
+                  (lines_alone (world_outlets world) ground (files_of_bytes input all.bytes) before
+                  (outlets w1.disk o2) (λ t. ap world.out.contents same ∙ so_far.put.put t)),
             );
         over = over_last all.shelved.grown o2 NoMemory (λ needed most is. cc (is)) (λ is. cc (is)) (λ early. same);
       }
 
       -- the last line wasn't put
       pub last_stopped : (cause : Cause) → LastStops world.out sums cause w1.out o2
-          → EndsRun world input limit cause shelf w (outside w1.source w1.disk o2)
+          → EndsRun world input limit waiting cause shelf w (outside w1.source w1.disk o2)
       last_stopped (Failed Output) stops = summary_cut stops
       last_stopped NoMemory stops = no_summary stops
       last_stopped _ stops = absurd stops
 
       -- it was put
       pub all_put : PutsLast world.out sums w1.out o2
-          → EndsRun world input limit (cause_at sums.totals.stop) shelf w (outside w1.source w1.disk o2)
+          → EndsRun world input limit waiting (cause_at sums.totals.stop) shelf w (outside w1.source w1.disk o2)
       all_put put = record {
         bytes = all.bytes;
         read = all.ends.read;
@@ -288,6 +303,14 @@ module _ {S D O : Type 0} (world : World S D O) (input : Input) (limit : ℕ) wh
                     disk_count = so_far.disk_count;
                     out_count = put.kept ∙ so_far.put.kept;
                   }),
+              all_worked (world_outlets world) ground input waiting all.bytes before (outlets w1.disk o2)
+                  so_far.settled.on_disk
+                  (λ t. (
+                    sums_line sums,
+                    put.put (so_far.put.told t) ∙ ap (λ (l : List ℕ). l ++ sums_line sums) (so_far.put.put t)
+                        ∙ append_assoc (world.out.contents before.out) (shelved_lines (next_number ground) files)
+                        (sums_line sums),
+                  )),
             );
         over = over_done all.shelved.grown o2 sums.totals.stop;
       }

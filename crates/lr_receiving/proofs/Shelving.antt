@@ -18,14 +18,28 @@ use Rattle.std.proofs.Common.{
   refl,
   sym,
 }
-use Rattle.std.proofs.Common.{◌∙◌, ap, subst, arith, append_assoc, append-nil, ⊎_elim, Result, Ok, Err, OnOk}
+use Rattle.std.proofs.Common.{
+  ◌∙◌,
+  ap,
+  subst,
+  arith,
+  append_assoc,
+  append-nil,
+  length-append,
+  ⊎_elim,
+  Result,
+  Ok,
+  Err,
+  OnOk,
+}
 use Rattle.std.proofs.lemmas.Bool.{cases_lt}
 use Rattle.lr_bits.specs.Faults.{Rose}
 use Rattle.lr_bits.specs.File.{IsFile}
 use Rattle.lr_bits.specs.declared.placed.Placed.{Placed}
+use Rattle.lr_bits.specs.Sizes.{most_u64}
 use Rattle.lr_io.specs.declared.sink.Sink.{Ghosts as SinkOf}
 use Rattle.lr_disk.specs.declared.disk.Disk.{Ghosts as DiskOf}
-use Rattle.lr_disk.specs.Disk.{LeavesOnly}
+use Rattle.lr_disk.specs.Pending.{EachImageSince}
 use Rattle.lr_shelf_format.specs.Items.{Item}
 use Rattle.lr_shelf.specs.Adds.{new_end}
 use Rattle.lr_shelf.specs.Append.{Appends, IsAppendRefusal, item_for}
@@ -46,10 +60,19 @@ use Rattle.lr_causes.specs.declared.cause.Party.TheVariants.{Disk, Output}
 use Rattle.lr_causes.specs.declared.cause.Refusal.TheVariants.{Capacity}
 use Rattle.lr_refusals.specs.Errors.{cause_of}
 use Rattle.lr_causes.specs.Puts.{Puts, PutFails}
-use Rattle.lr_shelf.specs.Grounds.{Ground, HoldsStill, IsSettledOn, next_number, LeavesFronts, StandsWithEither}
+use Rattle.lr_shelf.specs.Grounds.{
+  Ground,
+  HoldsStill,
+  IsSettledOn,
+  next_number,
+  LeavesFronts,
+  StandsWith,
+  StandsWithEither,
+}
 use Rattle.lr_shelf.specs.Fronts.{end_with}
 use Rattle.lr_receiving.specs.Shelving.{shelved_lines, StandsForOneFileMore, StopsBy, Stops}
 use Rattle.lr_receiving.specs.Shelved.{MayStop, ShelvesSoFar, HasShelved, StopsShelving, Grows, GrowsNoMore}
+use Rattle.lr_receiving.proofs.Acknowledging.{either_acknowledged, lines_alone, still_acknowledged}
 use Rattle.lr_receiving.proofs.Causing.{append_works, first_refused}
 use Rattle.lr_shelf.proofs.Grounds.{capacity_is, ends, left_on, moments_on, needed_is, now_on, number_is, settled_on}
 use Rattle.lr_receiving.proofs.Growing.{grows_one, stops_at_one, stops_for_memory}
@@ -161,7 +184,7 @@ module _ {D O : Type 0} (world : OutletsOf D O) (ground : Ground) (done : List P
     };
   }
 
-  module _ (placed : Placed) (d2 : D) (run : LeavesOnly disk.moment disk.left_since w1.disk d2
+  module _ (placed : Placed) (d2 : D) (run : EachImageSince disk w1.disk d2
       (StandsWithEither ground done placed)) where
     moments : LeavesFronts disk ground (done ++ placed ∷ []) w.disk d2
     moments = fronts_with disk ground w.disk w1.disk d2 done so_far.any_moment placed run
@@ -330,7 +353,7 @@ module _ {D O : Type 0} (disk : DiskOf D) (placed : Placed) (shelf shelf' : Shel
           split = refl;
           room = inl refl;
           over = omega (arith, there, refusal.1);
-          needs = sym same_needed ∙ refusal.2 ∙ ap (λ (n : ℕ). min n 18446744073709551615) (sym there);
+          needs = sym same_needed ∙ refusal.2 ∙ ap (λ (n : ℕ). min n most_u64) (sym there);
           of = sym same_most ∙ refusal.3;
         };
     none = λ is. cc (is);
@@ -354,6 +377,8 @@ no_line world files shelf w = record {
   told_by_out = λ t. t;
   first = λ works. (refl, refl);
   stops = λ ground done before so_far. out_of_memory world ground done shelf before w so_far files;
+  keeps = λ ground done before so_far. still_acknowledged world ground done files before w so_far.settled.on_disk
+      (lines_alone world ground done before w so_far.put.put);
   grown = stops_for_memory files shelf w;
 }
 
@@ -384,6 +409,12 @@ module _ {D O : Type 0} (disk : DiskOf D)
             (rose_of {A = ℕ} disk d d' (Err e) e refl adds.calls.counted)
             (λ other. ⊎_elim (λ is. absurd (other is)) (λ same. same.0) adds.untouched)
             appends.refused;
+        keeps = λ ground done before so_far.
+            let settled = so_far.settled in
+            either_acknowledged (outlets_of disk out) ground done placed before (outlets d' o)
+            (now_on disk leaves_contents counts_now done placed shelf shelf' d d' (Err e) adds ground settled)
+            (left_on disk leaves_contents counts_now done placed shelf shelf' d d' (Err e) adds ground settled)
+            (lines_alone (outlets_of disk out) ground done before (outlets d' o) so_far.put.put);
         grown = not_appended disk placed shelf shelf' d d' o (Err e) appends e appends.refused;
       }
 
@@ -397,7 +428,7 @@ module _ {D O : Type 0} (disk : DiskOf D)
           settled_on disk leaves_contents counts_now done placed shelf shelf' d d' number appends.adds ground
           so_far.settled
 
-      run : LeavesOnly disk.moment disk.left_since d d' (StandsWithEither ground done placed)
+      run : EachImageSince disk d d' (StandsWithEither ground done placed)
       run =
           moments_on disk leaves_contents counts_now done placed shelf shelf' d d' (Ok number) appends.adds ground
           so_far.settled
@@ -430,5 +461,34 @@ module _ {D O : Type 0} (disk : DiskOf D)
           line_stopped (outlets_of disk out) ground done shelf before (outlets d o) so_far
           placed d' (run ground done before so_far) shelf'
           (settled_now ground done before so_far) n text place is o' fails;
+      keeps = λ ground done before so_far.
+          let both = done ++ placed ∷ [] in
+          let lines = shelved_lines (next_number ground) done in
+          let still = (settled_now ground done before so_far).on_disk in record {
+            others = placed ∷ [];
+            split = refl;
+            held = record {
+              contents = record {
+                first = both;
+                rest = [];
+                split = sym (append-nil both);
+                enough = omega (arith, length-append done (placed ∷ []));
+                stands = still.stands;
+              };
+              images = λ c image. record {
+                first = both;
+                rest = [];
+                split = sym (append-nil both);
+                enough = omega (arith, length-append done (placed ∷ []));
+                stands = subst (StandsWith ground both) (sym (still.durable c image)) still.stands;
+              };
+            };
+            told = λ t.
+                let cut = fails.part (so_far.put.told t) in (
+                  cut.part,
+                  cut.put ∙ ap (λ (l : List ℕ). l ++ cut.part) (so_far.put.put t)
+                      ∙ append_assoc (out.contents before.out) lines cut.part,
+                );
+          };
       grown = stops_at_one (Failed Output) placed shelf (outlets d o) (outlets d' o') (λ needed most is. cc (is));
     }

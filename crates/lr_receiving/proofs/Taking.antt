@@ -20,12 +20,14 @@ use Rattle.std.proofs.Common.{
   arith,
   append_assoc,
   append-nil,
+  length-append,
 }
 use Rattle.std.specs.Prelude.{All}
 use Rattle.std.proofs.lemmas.List.{length-map, map-append}
 use Rattle.std.proofs.lemmas.List.Elements.{All-nil, All-head, All-tail}
 use Rattle.lr_bits.specs.declared.outcome.Outcome.{Outcome}
 use Rattle.lr_bits.specs.declared.placed.Placed.{Placed}
+use Rattle.lr_bits.specs.declared.sizes.TheConstants.{FRAME_BYTES, ZONE_BYTES}
 use Rattle.lr_io.specs.declared.source.Source.{Ghosts as SourceOf}
 use Rattle.lr_io.specs.declared.sink.Sink.{Ghosts as SinkOf}
 use Rattle.lr_disk.specs.declared.disk.Disk.{Ghosts as DiskOf}
@@ -51,6 +53,8 @@ use Rattle.lr_receiving.specs.Reception.{ReadsAll, ReadsSome}
 use Rattle.lr_receiving.specs.Shelved.{HasShelved, StopsShelving, Gains, GainsNoMore}
 use Rattle.lr_receiving.specs.ShelverTaken.{IsOnSame, ShelverTook, ShelverStopped, lent_to}
 use Rattle.lr_reading.proofs.Outcomes.{both_kinds}
+use Rattle.lr_receiving.specs.Shelving.{AreAcknowledged}
+use Rattle.lr_receiving.proofs.Acknowledging.{acknowledged_more}
 use Rattle.lr_receiving.proofs.Pieces.{shelved_none, shelved_on, stopped_after, stopped_before}
 use Rattle.lr_receiving.proofs.Shelving.{no_line}
 use Rattle.lr_receiving.proofs.WholeFrames.{with_outcome}
@@ -89,7 +93,7 @@ frames_whole (arrival ∷ arrivals) outcomes all whole =
 
 no_frames : AreFrames (frames_of_outcomes [])
 unfolding frames_of_outcomes
-no_frames = All-nil (λ (f : Fields). length f.zone ≡ 884)
+no_frames = All-nil (λ (f : Fields). length f.zone ≡ ZONE_BYTES)
 
 files_first : (input : Input) (bytes : List ℕ) (passed rest : List Arrival)
     → arrivals_of input bytes ≡ passed ++ rest
@@ -106,6 +110,12 @@ files_first input bytes passed rest split =
     (frames_whole (arrivals_of input bytes) [] no_frames (all_whole input bytes)) in
     let law = go_on (outcomes_of_arrivals passed) (outcomes_of_arrivals rest) whole in
     (law.more_files, ap placed_of_outcomes both ∙ law.files)
+
+-- the frames of all bytes have whole zones
+pub all_frames_whole : (input : Input) (bytes : List ℕ) → AreFrames (frames_of_outcomes (outcomes_of_bytes input bytes))
+all_frames_whole input bytes =
+    subst (λ (l : List Outcome). AreFrames (frames_of_outcomes l)) (sym (outcomes_are input bytes))
+    (frames_whole (arrivals_of input bytes) [] no_frames (all_whole input bytes))
 
 files_all : (input : Input) (bytes : List ℕ)
     → files_of_bytes input bytes ≡ placed_of_outcomes (outcomes_of_arrivals (arrivals_of input bytes))
@@ -135,7 +145,7 @@ module _ {D O : Type 0} (disk : DiskOf D) (out : SinkOf O) where
   module _ {before now : Shelver D O} {arrivals : List Arrival}
       (took : ShelverTook disk out before arrivals now) where
     -- the layers may take one more
-    pub few : 892 * (length arrivals + 1) ≤ 2 ^ 48
+    pub few : FRAME_BYTES * (length arrivals + 1) ≤ 2 ^ 48
         → now.layers.now.numbers.restored + now.layers.now.numbers.lost < 2 ^ 48
     few fits =
         omega (
@@ -156,6 +166,15 @@ module _ {D O : Type 0} (disk : DiskOf D) (out : SinkOf O) where
               l before.shelf.now (lent_to before) (lent_to now)) (append-nil files)
               (stopped_after (outlets_of disk out) took.shelved
               (no_line (outlets_of disk out) [] now.shelf.now (lent_to now)));
+          worked = arrivals;
+          late = [];
+          split = sym (append-nil arrivals);
+          one = omega arith;
+          keeps = λ ground start so_far.
+              subst (λ (l : List Placed). AreAcknowledged (outlets_of disk out) ground files l start (lent_to now))
+              (append-nil files)
+              ((no_line (outlets_of disk out) [] now.shelf.now (lent_to now)).keeps ground files start
+              (took.shelved.shelved ground [] start so_far));
         }
 
     module _ (arrival : Arrival) (now' : Shelver D O) (same : IsOnSame now now') where
@@ -197,6 +216,15 @@ module _ {D O : Type 0} (disk : DiskOf D) (out : SinkOf O) where
         stopped = subst (λ (l : List Placed). StopsShelving (outlets_of disk out) cause l
             before.shelf.now (lent_to before) (lent_to now')) (sym gains.files ∙ is)
             (stopped_after (outlets_of disk out) took.shelved gains.stopped);
+        worked = arrivals;
+        late = arrival ∷ [];
+        split = refl;
+        one = omega arith;
+        keeps = λ ground start so_far.
+            let files = placed_of_outcomes (outcomes_of_arrivals arrivals) in
+            subst (λ (l : List Placed). AreAcknowledged (outlets_of disk out) ground files l start (lent_to now'))
+            (sym gains.files ∙ is)
+            (gains.stopped.keeps ground files start (took.shelved.shelved ground [] start so_far));
       }
 
 -- ---- the whole input
@@ -221,12 +249,13 @@ module _ {S D O : Type 0} (source : SourceOf S) (disk : DiskOf D) (out : SinkOf 
       }
 
   -- they were not
-  pub received_some : (cause : Cause)
-      → TakesSome source (ShelverTook disk out) input limit (ShelverStopped disk out) cause s s' before now
-      → ReadsSome (world_of source disk out) input limit cause before.shelf.now
+  pub received_some : (waiting : ℕ) (cause : Cause)
+      → TakesSome source (ShelverTook disk out) input limit waiting (ShelverStopped disk out) cause s s' before now
+      → ReadsSome (world_of source disk out) input limit waiting cause before.shelf.now
       (outside s before.disk.now before.out.now) (outside s' now.disk.now now.out.now)
-  received_some cause some =
-      let stopped = (some.stops before begun).stopped in
+  received_some waiting cause some =
+      let halted = some.stops before begun in
+      let stopped = halted.stopped in
       let first = files_first input some.bytes some.passed some.rest some.split in
       record {
         bytes = some.bytes;
@@ -238,4 +267,22 @@ module _ {S D O : Type 0} (source : SourceOf S) (disk : DiskOf D) (out : SinkOf 
         first = λ line symbols told few calm.
             let later = some.first line symbols told few calm in
             files_first input (some.bytes ++ source.left s') some.passed later.0 later.1;
+        timely = λ ground start so_far. record {
+          worked = outcomes_of_arrivals halted.worked;
+          late = outcomes_of_arrivals (halted.late ++ some.rest);
+          split = outcomes_are input some.bytes
+              ∙ ap outcomes_of_arrivals (some.split ∙ ap (λ (l : List Arrival). l ++ some.rest) halted.split
+              ∙ append_assoc halted.worked halted.late some.rest)
+              ∙ map-append (λ (a : Arrival). a.outcome) halted.worked (halted.late ++ some.rest);
+          few = omega (
+            arith,
+            length-map (halted.late ++ some.rest) (λ (a : Arrival). a.outcome),
+            length-append halted.late some.rest,
+            halted.one,
+            some.near,
+          );
+          acknowledged = subst (λ (l : List Placed). AreAcknowledged (outlets_of disk out) ground
+              (placed_of_outcomes (outcomes_of_arrivals halted.worked)) l start (lent_to now)) (sym first.1)
+              (acknowledged_more (outlets_of disk out) ground first.0 (halted.keeps ground start so_far));
+        };
       }

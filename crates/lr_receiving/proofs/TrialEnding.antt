@@ -26,7 +26,7 @@ use Rattle.lr_bits.specs.Faults.{Rose}
 use Rattle.lr_bits.specs.declared.placed.Placed.{Placed}
 use Rattle.lr_io.specs.declared.sink.Sink.{Ghosts as SinkOf}
 use Rattle.lr_disk.specs.declared.disk.Disk.{Ghosts as DiskOf}
-use Rattle.lr_disk.specs.Disk.{LeavesOnly}
+use Rattle.lr_disk.specs.Pending.{EachImageSince}
 use Rattle.lr_disk.proofs.Moments.{weaker, joined}
 use Rattle.lr_shelf_format.specs.Items.{Item}
 use Rattle.lr_shelf_format.specs.ShelfBytes.{StandsForShelf}
@@ -126,7 +126,7 @@ module _ {D O : Type 0} (disk : DiskOf D) (out : SinkOf O) (symbols : List ℕ) 
     -- what a crash between two moments may leave
     abbrev Leaves : D → D → Type 0
     Leaves from to =
-        LeavesOnly disk.moment disk.left_since from to (λ c. IsBlank trial_capacity c ⊎ StandsForPart symbols 0 c)
+        EachImageSince disk from to (λ c. IsBlank trial_capacity c ⊎ StandsForPart symbols 0 c)
 
     -- whatever comes after it
     after : (cause : Cause) (d' : D) → DiskEnds disk symbols cause d d' → (disk.tells d → Leaves d1 d')

@@ -33,7 +33,6 @@ use Rattle.lr_io.specs.declared.source.Source.{Ghosts as SourceOf}
 use Rattle.lr_io.specs.declared.sink.Sink.{Ghosts as SinkOf}
 use Rattle.lr_io.specs.Pieces.{PutsPart}
 use Rattle.lr_disk.specs.declared.disk.Disk.{Ghosts as DiskOf}
-use Rattle.lr_disk.specs.Disk.{LeavesOnly}
 use Rattle.lr_shelf_format.specs.Items.{Item}
 use Rattle.lr_shelf_format.specs.ShelfBytes.{StandsForShelf, end_of}
 use Rattle.lr_shelf.specs.Append.{item_for}
@@ -47,6 +46,7 @@ use Rattle.lr_shelf.specs.declared.error.ShelfError.TheVariants.{
   NotAShelf as NotAShelf',
   NoMemory as NoMemory',
 }
+use Rattle.lr_disk.specs.Pending.{EachImageSince}
 use Rattle.lr_disk.proofs.Moments.{weaker}
 use Rattle.lr_forms.specs.declared.forms.Stop.{Stop}
 use Rattle.lr_forms.specs.declared.forms.Stop.TheVariants.{End, Limit, Fault}
@@ -108,7 +108,7 @@ module _ {D : Type 0} (disk : DiskOf D) (symbols : List ℕ) (d1 : D)
   -- ---- the empty shelf was loaded, or not
   module _ (d2 : D) (result2 : Result Shelf ShelfError) (loads : Loads disk d1 d2 result2) where
     empty_moments : disk.tells d1
-        → LeavesOnly disk.moment disk.left_since d1 d2 (λ c. StandsForShelf c trial_capacity [])
+        → EachImageSince disk d1 d2 (λ c. StandsForShelf c trial_capacity [])
     empty_moments told =
         let durable = empty told in
         weaker disk.moment disk.left_since d1 d2 _ _
@@ -169,7 +169,7 @@ module _ {D : Type 0} (disk : DiskOf D) (symbols : List ℕ) (d1 : D)
 
       module _ (part : List ℕ) (split : symbols ≡ part ++ source.left s') where
         fronts : LeavesFronts disk (OfItems trial_capacity []) (files_of_bytes (Symbols STANDARD) part) d1 d'
-            → LeavesOnly disk.moment disk.left_since d1 d' (StandsForPart symbols 0)
+            → EachImageSince disk d1 d' (StandsForPart symbols 0)
         fronts = weaker disk.moment disk.left_since d1 d' _ _ (stands_for_part symbols part (source.left s') split)
 
         front_of : (done rest : List Placed) → files_of_bytes (Symbols STANDARD) part ≡ done ++ rest → (c : List ℕ)
@@ -186,8 +186,8 @@ module _ {D : Type 0} (disk : DiskOf D) (symbols : List ℕ) (d1 : D)
       -- shelving stopped
       module _ (calm : Rose (source.faults s) (source.faults s') → ⊥)
           (fit : end_of (with_files [] (files_of_bytes (Symbols STANDARD) symbols)) ≤ trial_capacity)
-          (cause : Cause)
-          (some : ReadsSome (world_of source disk out) (Symbols STANDARD) limit cause shelf
+          (waiting : ℕ) (cause : Cause)
+          (some : ReadsSome (world_of source disk out) (Symbols STANDARD) limit waiting cause shelf
           (outside s d2 o) (outside s' d' o')) where
         split : symbols ≡ some.bytes ++ source.left s'
         split = split_of some.bytes some.read
@@ -304,9 +304,9 @@ module _ {D : Type 0} (disk : DiskOf D) (symbols : List ℕ) (d1 : D)
           (λ sums. ReadsAll (world_of source disk out) (Symbols STANDARD) limit sums shelf
           shelf' (outside s d2 o) (outside s' d' o'))
 
-      abbrev AnswersSome : Result Sums Cause → Type 0
-      AnswersSome answer = IfErr answer
-          (λ cause. ReadsSome (world_of source disk out) (Symbols STANDARD) limit cause shelf
+      abbrev AnswersSome : ℕ → Result Sums Cause → Type 0
+      AnswersSome waiting answer = IfErr answer
+          (λ cause. ReadsSome (world_of source disk out) (Symbols STANDARD) limit waiting cause shelf
           (outside s d2 o) (outside s' d' o'))
 
       pub lines : (shelf' : Shelf) (answer : Result Sums Cause) → AnswersAll shelf' answer
@@ -320,13 +320,13 @@ module _ {D : Type 0} (disk : DiskOf D) (symbols : List ℕ) (d1 : D)
       all_done shelf' (Ok sums) all calm = finished sums shelf' all calm
       all_done shelf' (Err cause) all calm = tt
 
-      pub some_done : (answer : Result Sums Cause) → AnswersSome answer
+      pub some_done : (waiting : ℕ) (answer : Result Sums Cause) → AnswersSome waiting answer
           → (Rose (source.faults s) (source.faults s') → ⊥)
           → end_of (with_files [] (files_of_bytes (Symbols STANDARD) symbols)) ≤ trial_capacity
           → ((x : O) → out.faults x ≡ 0) → IfErr answer (λ cause. StopsFilling disk symbols cause d1 d')
-      some_done (Ok sums) some calm fit sure = tt
-      some_done (Err cause) some calm fit sure =
-          stopped calm fit cause some sure
+      some_done waiting (Ok sums) some calm fit sure = tt
+      some_done waiting (Err cause) some calm fit sure =
+          stopped calm fit waiting cause some sure
           (subst (λ (r : Result Shelf ShelfError). IfOk r (λ x. (kept_by x).failed ≡ false)) is2 loads.working)
 
 -- the last line wasn't put, after all was shelved

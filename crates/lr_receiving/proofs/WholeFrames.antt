@@ -4,6 +4,7 @@ use Rattle.std.specs.Result.{result_ok}
 use Rattle.std.proofs.lemmas.List.Elements.{All-push}
 use Rattle.lr_bits.specs.declared.outcome.Outcome.{Outcome}
 use Rattle.lr_bits.specs.declared.outcome.Outcome.TheVariants.{Restored, Lost}
+use Rattle.lr_bits.specs.declared.sizes.TheConstants.{ZONE_BYTES}
 use Rattle.lr_vc.specs.Frame.{Fields, frame_of}
 use Rattle.lr_vc.specs.Runs.{AreFrames}
 use Rattle.lr_layers.specs.Layers.{frames_of_outcomes}
@@ -22,7 +23,7 @@ with_outcome outcomes (Restored corrected frame) all whole = cases (frame_of fra
   cases (Ok f) is =
       let more = frames_more outcomes (Restored corrected frame) f (ap (λ (x : Result Fields ℕ). result_ok x) is) in
       subst (λ (l : List Fields). AreFrames l) (sym more)
-      (All-push (λ (f : Fields). length f.zone ≡ 884) (frames_of_outcomes outcomes) f all
+      (All-push (λ (f : Fields). length f.zone ≡ ZONE_BYTES) (frames_of_outcomes outcomes) f all
       (zone_is frame f whole is))
   cases (Err version) is =
       let same = frames_same outcomes (Restored corrected frame) (ap (λ (x : Result Fields ℕ). result_ok x) is) in

@@ -32,8 +32,9 @@ use Rattle.std.proofs.Common.{
 use Rattle.std.proofs.lemmas.Bool.{cases_lt}
 use Rattle.std.proofs.Math.Seq.{take-append-add}
 use Rattle.lr_disk.specs.declared.disk.Disk.{Ghosts as DiskOf}
-use Rattle.lr_disk.specs.Disk.{Cut, LeavesOnly, Only}
+use Rattle.lr_disk.specs.Disk.{Cut}
 use Rattle.lr_disk.specs.Reads.{IsUnwritten}
+use Rattle.lr_disk.specs.Pending.{EachImageSince, NothingPending}
 use Rattle.lr_disk.proofs.Moments.{joined, weaker}
 use Rattle.lr_shelf_format.specs.Gates.{front}
 use Rattle.lr_shelf_format.specs.Header.{header_bytes}
@@ -146,8 +147,8 @@ module _ {D : Type 0} (disk : DiskOf D) (items : List Item) (d mid : D)
         (subst (λ (l : List Item). StandsForShelf (disk.contents mid) trial_capacity l) no_items still.stands) cut)
 
     pub cleared_moments : (d' : D)
-        → (Only (disk.contents mid) (disk.may_leave mid)
-        → LeavesOnly disk.moment disk.left_since mid d' (Cut 0 (disk.contents mid)))
+        → (NothingPending disk mid
+        → EachImageSince disk mid d' (Cut 0 (disk.contents mid)))
         → LeavesBlankOrItems disk items d d'
     cleared_moments d' clears =
         joined disk.moment disk.left_since d mid d' _ read_moments

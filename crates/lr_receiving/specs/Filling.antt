@@ -1,7 +1,7 @@
 -- How `trial` fills the shelf that it made, and takes it away again. No clause of a public call cites this.
 use Rattle.std.specs.Prelude.{◌≡◌, ◌≢◌, ◌⊎◌, ℕ, List, []}
 use Rattle.lr_disk.specs.declared.disk.Disk.{Ghosts as DiskOf}
-use Rattle.lr_disk.specs.Disk.{LeavesOnly}
+use Rattle.lr_disk.specs.Pending.{EachImageSince}
 use Rattle.lr_shelf_format.specs.Items.{Item}
 use Rattle.lr_shelf_format.specs.ShelfBytes.{StandsForShelf}
 use Rattle.lr_shelf.specs.Init.{IsBlank}
@@ -28,7 +28,7 @@ module _ {D : Type 0} (disk : DiskOf D) (symbols : List ℕ) where
     pub ends : FillEnds cause d d'
     -- a crash at any moment leaves a shelf with some of the files
     pub any_moment : disk.tells d
-        → LeavesOnly disk.moment disk.left_since d d' (StandsForPart symbols 0)
+        → EachImageSince disk d d' (StandsForPart symbols 0)
 
   -- it stopped before the last line
   pub record StopsFilling (cause : Cause) (d d' : D) : Type 0 where
@@ -54,5 +54,5 @@ module _ {D : Type 0} (disk : DiskOf D) (items : List Item) where
   -- items
   abbrev pub LeavesBlankOrItems : D → D → Type 0
   LeavesBlankOrItems d d' =
-      LeavesOnly disk.moment disk.left_since d d'
+      EachImageSince disk d d'
       (λ c. IsBlank trial_capacity c ⊎ StandsForShelf c trial_capacity items)

@@ -3,8 +3,8 @@ use Rattle.std.specs.Prelude.{◌≡◌, ◌⊎◌, ◌++◌, ℕ, List, [], ◌
 use Rattle.std.specs.List.{concat}
 use Rattle.lr_io.specs.Pieces.{PutsPart}
 use Rattle.lr_disk.specs.declared.disk.Disk.{Ghosts as DiskOf}
-use Rattle.lr_disk.specs.Disk.{Only, LeavesOnly}
 use Rattle.lr_disk.specs.Reads.{IsUnwritten}
+use Rattle.lr_disk.specs.Pending.{EachImageSince, NothingPending}
 use Rattle.lr_shelf_format.specs.Header.{header_bytes}
 use Rattle.lr_shelf.specs.Init.{IsTaken, IsBlank}
 use Rattle.lr_shelf.specs.Shelf.{IsDurable}
@@ -58,6 +58,6 @@ module _ {D O : Type 0} (world : OutletsOf D O) (capacity : ℕ) where
         × ((w'.disk ≡ w.disk) ⊎ IsUnwritten world.disk w.disk w'.disk)
     -- otherwise a crash at any moment of the call leaves at most 20 bytes, with no header or an empty shelf
     pub any_moment : world.disk.tells w.disk → (IsTaken (world.disk.contents w.disk) → ⊥)
-        → Only (world.disk.contents w.disk) (world.disk.may_leave w.disk)
+        → NothingPending world.disk w.disk
         → (w'.disk ≡ w.disk)
-        ⊎ LeavesOnly world.disk.moment world.disk.left_since w.disk w'.disk (IsBlank capacity)
+        ⊎ EachImageSince world.disk w.disk w'.disk (IsBlank capacity)

@@ -1,6 +1,7 @@
 -- Whether there is room for files that come onto a way, whatever its records hold.
 use Rattle.std.specs.Prelude.{◌≡◌, ◌<◌, ℕ, min, List, [], ◌∷◌, ◌++◌}
 use Rattle.lr_bits.specs.declared.placed.Placed.{Placed}
+use Rattle.lr_bits.specs.Sizes.{most_u64}
 use Rattle.lr_disk.specs.declared.disk.Disk.{Ghosts as DiskOf}
 use Rattle.lr_shelf_format.specs.Way.{Way, IsWay}
 use Rattle.lr_shelf.specs.Fronts.{HasRoom, end_with}
@@ -14,7 +15,7 @@ pub record IsFullWith (way : Way) (needed most : ℕ) (files : List Placed) : Ty
   pub split : files ≡ done ++ next ∷ rest
   pub room : HasRoom way done
   pub over : way.capacity < end_with way.end (done ++ next ∷ [])
-  pub needs : needed ≡ min (end_with way.end (done ++ next ∷ [])) 18446744073709551615
+  pub needs : needed ≡ min (end_with way.end (done ++ next ∷ [])) most_u64
   pub of : most ≡ way.capacity
 
 module _ {D : Type 0} (disk : DiskOf D) where

@@ -1,11 +1,12 @@
 -- What `receive` does to the outside.
-use Rattle.std.specs.Prelude.{◌≡◌, ◌⊎◌, ℕ, List, [], ◌++◌, length}
+use Rattle.std.specs.Prelude.{◌≡◌, ◌⊎◌, ◌≤◌, ℕ, List, [], ◌++◌, length}
 use Rattle.lr_bits.specs.declared.outcome.Outcome.{Outcome}
 use Rattle.lr_bits.specs.declared.placed.Placed.{Placed}
 use Rattle.lr_bits.specs.Faults.{Rose}
-use Rattle.lr_disk.specs.Disk.{Only}
 use Rattle.lr_disk.specs.Reads.{IsUnwritten}
+use Rattle.lr_disk.specs.Pending.{NothingPending}
 use Rattle.lr_layers.specs.Layers.{Numbers, numbers_of}
+use Rattle.lr_layers.specs.Origins.{placed_of_outcomes}
 use Rattle.lr_shelf_format.specs.Items.{Item}
 use Rattle.lr_shelf_format.specs.Way.{IsNoShelfAt, IsWay, Way}
 use Rattle.lr_shelf.specs.Shelf.{IsDurable}
@@ -19,9 +20,17 @@ use Rattle.lr_causes.specs.declared.cause.Party.TheVariants.{Source, Disk, Outpu
 use Rattle.lr_causes.specs.declared.cause.Refusal.TheVariants.{NotAShelf, Capacity}
 use Rattle.lr_forms.specs.declared.forms.Input.{Input}
 use Rattle.lr_causes.specs.Causes.{IsEarlier, MayEndBefore}
-use Rattle.lr_causes.specs.Outside.{NoFault, Outside, World, counts_in, outlets_in, world_outlets}
+use Rattle.lr_causes.specs.Outside.{
+  NoFault,
+  Outside,
+  World,
+  counts_in,
+  outlets_in,
+  world_outlets,
+}
 use Rattle.lr_receiving.specs.First.{IsFirst}
 use Rattle.lr_reading.specs.Inputs.{outcomes_of_bytes, bytes_left_over}
+use Rattle.lr_reading.specs.Readers.{most_waiting}
 use Rattle.lr_receiving.specs.Inputs.{files_of_bytes}
 use Rattle.lr_receiving.specs.Onto.{IsFull, HadRoom}
 use Rattle.lr_reading.specs.Reading.{IsRead, EndsFor}
@@ -38,6 +47,7 @@ use Rattle.lr_shelf.specs.Grounds.{
 }
 use Rattle.lr_receiving.specs.Shelving.{
   shelved_lines,
+  AreAcknowledged,
   GotText,
   GotPart,
   DiskStops,
@@ -121,9 +131,9 @@ module _ {S D O : Type 0} (world : World S D O) where
         (outlets_in w')
     Ends _ w w' = ⊥
 
--- a run that took these bytes; what stood there before is the ground
+-- a run that took these bytes, where this many work on windows; what stood there before is the ground
 pub record Receives {S D O : Type 0} (world : World S D O) (input : Input)
-    (ground : Ground) (limit : ℕ)
+    (workers : ℕ) (ground : Ground) (limit : ℕ)
     (bytes : List ℕ) (cause : Cause) (w w' : Outside S D O) : Type 0 where
   -- the contents and each crash image hold each file whose line was put whole
   pub held : (whole rest : List Placed) (text : List ℕ) → world.out.tells w.out
@@ -134,6 +144,12 @@ pub record Receives {S D O : Type 0} (world : World S D O) (input : Input)
   pub held_untold : HoldsFront world.disk ground (files_of_bytes input bytes) 0 w'.disk
   -- so does every moment of the call
   pub any_moment : LeavesFronts world.disk ground (files_of_bytes input bytes) w.disk w'.disk
+  -- However the run ended: of the outcomes of the bytes taken all but the last few are worked through, and their files
+  -- are acknowledged. Any append may be the one that fails, so this says when a file is shelved.
+  pub timely : (worked waiting : List Outcome) → outcomes_of_bytes input bytes ≡ worked ++ waiting
+      → most_waiting input workers ≤ length waiting
+      → AreAcknowledged (world_outlets world) ground (placed_of_outcomes worked) (files_of_bytes input bytes)
+      (outlets_in w) (outlets_in w')
   -- what a finished run leaves, and one that stopped early
   pub ends : Ends world input ground limit bytes cause w w'
   -- where no count rises and all files fit, the work is done or memory was refused
@@ -149,9 +165,9 @@ pub record IsUntouched {S D O : Type 0} (world : World S D O) (w w' : Outside S 
   pub source_stays : w'.source ≡ w.source
   pub out_stays : w'.out ≡ w.out
 
--- the whole call, over every disk
+-- the whole call, over every disk, where this many work on windows
 pub record ReceiveRun {S D O : Type 0} (world : World S D O) (input : Input)
-    (limit : ℕ) (cause : Cause) (w w' : Outside S D O) : Type 0 where
+    (workers limit : ℕ) (cause : Cause) (w w' : Outside S D O) : Type 0 where
   pub causes : IsReceiveCause cause
   -- the first event decides
   pub first : IsFirst cause (counts_in world w) (counts_in world w')
@@ -163,11 +179,11 @@ pub record ReceiveRun {S D O : Type 0} (world : World S D O) (input : Input)
   -- over a disk that tells its contents, stands for a shelf, and has nothing pending
   pub onto_shelf : (capacity : ℕ) (items : List Item) → world.disk.tells w.disk
       → IsDurable world.disk capacity items w.disk
-      → Receives world input (OfItems capacity items) limit bytes cause w w'
+      → Receives world input workers (OfItems capacity items) limit bytes cause w w'
   -- over one that has a way, whatever its records hold, and has nothing pending
   pub onto_way : (way : Way) → world.disk.tells w.disk → IsWay (world.disk.contents w.disk) way
-      → Only (world.disk.contents w.disk) (world.disk.may_leave w.disk)
-      → Receives world input (OfWay way (world.disk.contents w.disk)) limit bytes cause w w'
+      → NothingPending world.disk w.disk
+      → Receives world input workers (OfWay way (world.disk.contents w.disk)) limit bytes cause w w'
   -- a disk on which no shelf stands is refused, exactly then
   pub refused : (at : ℕ) → cause ≡ Refused (NotAShelf at)
       → (world.disk.tells w.disk → IsNoShelfAt (world.disk.contents w.disk) at)

@@ -15,7 +15,7 @@ use Rattle.lr_receiving.specs.First.{IsFirst}
 use Rattle.lr_shelf.specs.Grounds.{Ground, IsSettledOn, LeavesFronts, next_number}
 use Rattle.lr_shelf.specs.Fronts.{HasRoom, end_with}
 use Rattle.lr_receiving.specs.Onto.{IsFullWith}
-use Rattle.lr_receiving.specs.Shelving.{shelved_lines, Stops}
+use Rattle.lr_receiving.specs.Shelving.{shelved_lines, AreAcknowledged, Stops}
 
 -- the causes for which shelving may stop, over any disk
 abbrev pub MayStop : Cause → Type 0
@@ -84,6 +84,10 @@ module _ {D O : Type 0} (world : OutletsOf D O) where
     pub stops : (ground : Ground) (done : List Placed) (before : Outlets D O)
         → ShelvesSoFar ground done shelf before w
         → Stops world ground cause (done ++ files) before w'
+    -- those stay acknowledged
+    pub keeps : (ground : Ground) (done : List Placed) (before : Outlets D O)
+        → ShelvesSoFar ground done shelf before w
+        → AreAcknowledged world ground done (done ++ files) before w'
     -- over every disk
     pub grown : GrowsNoMore cause files shelf w w'
 

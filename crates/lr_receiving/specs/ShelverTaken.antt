@@ -1,5 +1,5 @@
 -- How far `receive` has come in what comes of its input. No clause of a public call cites this.
-use Rattle.std.specs.Prelude.{◌≡◌, List}
+use Rattle.std.specs.Prelude.{◌≡◌, ◌≤◌, List, [], ◌++◌, length}
 use Rattle.lr_io.specs.declared.sink.Sink.{Ghosts as SinkOf}
 use Rattle.lr_disk.specs.declared.disk.Disk.{Ghosts as DiskOf}
 use Rattle.lr_layers.specs.Origins.{placed_of_outcomes}
@@ -9,7 +9,9 @@ use Rattle.lr_causes.specs.declared.cause.Cause.{Cause}
 use Rattle.lr_reading.specs.Arrivals.{outcomes_of_arrivals}
 use Rattle.lr_reading.specs.declared.arrival.Arrival.{Arrival}
 use Rattle.lr_receiving.specs.declared.shelver.Shelver.{Shelver}
-use Rattle.lr_receiving.specs.Shelved.{HasShelved, StopsShelving}
+use Rattle.lr_receiving.specs.Shelved.{HasShelved, ShelvesSoFar, StopsShelving}
+use Rattle.lr_receiving.specs.Shelving.{AreAcknowledged}
+use Rattle.lr_shelf.specs.Grounds.{Ground}
 
 -- the layers, the shelf, the disk and `out` are those that it had
 pub record IsOnSame {D O : Type 0} (before now : Shelver D O) : Type 0 where
@@ -40,3 +42,12 @@ module _ {D O : Type 0} (disk : DiskOf D) (out : SinkOf O) where
     pub stopped : StopsShelving (outlets_of disk out) cause
         (placed_of_outcomes (outcomes_of_arrivals arrivals)) before.shelf.now
         (lent_to before) (lent_to now)
+    -- but those of all arrivals save perhaps the last one are acknowledged
+    pub worked : List Arrival
+    pub late : List Arrival
+    pub split : arrivals ≡ worked ++ late
+    pub one : length late ≤ 1
+    pub keeps : (ground : Ground) (start : Outlets D O)
+        → ShelvesSoFar (outlets_of disk out) ground [] before.shelf.now start (lent_to before)
+        → AreAcknowledged (outlets_of disk out) ground (placed_of_outcomes (outcomes_of_arrivals worked))
+        (placed_of_outcomes (outcomes_of_arrivals arrivals)) start (lent_to now)

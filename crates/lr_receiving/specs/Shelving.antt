@@ -13,6 +13,7 @@ use Rattle.lr_causes.specs.declared.cause.Refusal.TheVariants.{Capacity}
 use Rattle.lr_causes.specs.Outside.{Outlets, OutletsOf}
 use Rattle.lr_shelf.specs.Grounds.{
   Ground,
+  HoldsFront,
   HoldsStill,
   LeavesFronts,
   StandsWith,
@@ -44,6 +45,16 @@ module _ {O : Type 0} (out : SinkOf O) where
   GotPart text line o o' = out.tells o → PutsPart line (out.contents o ++ text) (out.contents o')
 
 module _ {D O : Type 0} (world : OutletsOf D O) (ground : Ground) where
+  -- The first ones of these files are acknowledged: the contents and each crash image hold them all, and perhaps files
+  -- after them, and `out` got their lines, and perhaps more
+  pub record AreAcknowledged (first files : List Placed) (w w' : Outlets D O) : Type 0 where
+    pub others : List Placed
+    pub split : files ≡ first ++ others
+    pub held : HoldsFront world.disk ground files (length first) w'.disk
+    pub told : world.out.tells w.out → (text : List ℕ)
+        × (world.out.contents w'.out
+        ≡ world.out.contents w.out ++ (shelved_lines (next_number ground) first ++ text))
+
   -- the disk failed: these files are acknowledged, and one more may stand there
   pub record DiskStops (files : List Placed) (w w' : Outlets D O) : Type 0 where
     pub done : List Placed

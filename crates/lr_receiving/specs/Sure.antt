@@ -13,7 +13,7 @@ sure_source = record {
   faults = λ _. 0;
   tells = λ _. Unit {0};
   left = left_of;
-  asked = λ _ _. Unit {0};
+  asked = λ _ _ _. Unit {0};
 }
 
 -- it tells nothing

@@ -4,8 +4,9 @@ use Rattle.lr_io.specs.declared.sink.Sink.{Ghosts as SinkOf}
 use Rattle.lr_io.specs.Pieces.{PutsPart}
 use Rattle.lr_conv.specs.declared.line.TheConstants.{STANDARD}
 use Rattle.lr_disk.specs.declared.disk.Disk.{Ghosts as DiskOf}
-use Rattle.lr_disk.specs.Disk.{Only, LeavesOnly}
+use Rattle.lr_disk.specs.Disk.{Only}
 use Rattle.lr_disk.specs.Reads.{IsUnwritten}
+use Rattle.lr_disk.specs.Pending.{EachImageSince, NothingPending}
 use Rattle.lr_shelf.specs.Init.{IsTaken, IsBlank}
 use Rattle.lr_shelf.specs.Shelf.{IsDurable}
 use Rattle.lr_forms.specs.declared.forms.Stop.TheVariants.{End}
@@ -45,7 +46,7 @@ module _ {D : Type 0} (disk : DiskOf D) (symbols : List ℕ) where
   -- the contents are such a shelf, and so is the one crash image
   pub record HoldsTrialPart (n : ℕ) (d : D) : Type 0 where
     pub contents : StandsForPart symbols n (disk.contents d)
-    pub images : Only (disk.contents d) (disk.may_leave d)
+    pub images : NothingPending disk d
 
   -- How the call leaves the disk, for each cause that it may have. At want of memory it is as it was, or it has no
   -- bytes, or a file stands on it. Where the disk tells its contents, there is never no shelf, and all files fit.
@@ -74,9 +75,9 @@ module _ {D : Type 0} (disk : DiskOf D) (symbols : List ℕ) where
     -- otherwise a crash at any moment of the call leaves at most 20 bytes, with no header or an empty shelf, or a
     -- shelf with some of the files
     pub any_moment : disk.tells d → (IsTaken (disk.contents d) → ⊥)
-        → Only (disk.contents d) (disk.may_leave d)
+        → NothingPending disk d
         → (d' ≡ d)
-        ⊎ LeavesOnly disk.moment disk.left_since d d' (λ c. IsBlank trial_capacity c
+        ⊎ EachImageSince disk d d' (λ c. IsBlank trial_capacity c
         ⊎ StandsForPart symbols 0 c)
 
 module _ {O : Type 0} (out : SinkOf O) (symbols : List ℕ) where

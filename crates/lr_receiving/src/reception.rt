@@ -1,7 +1,8 @@
 //! `receive`: the mission files of the input go onto the shelf.
-ghost use Rattle.std.specs.Prelude.{◌≡◌, ◌≤◌, ◌^◌, [], IfOk, IfErr};
+ghost use Rattle.std.specs.Prelude.{◌≡◌, ◌≤◌, ◌^◌, ℕ, [], IfOk, IfErr};
 ghost use Rattle.lr_causes.specs.Outside.{outside, world_of};
 ghost use Rattle.lr_reading.specs.Leading.{MayLead, Leads};
+ghost use Rattle.lr_reading.specs.Readers.{most_waiting};
 ghost use Rattle.lr_reading.specs.Runs.{IsLed};
 ghost use Rattle.lr_receiving.specs.Receive.{ReceiveRun};
 ghost use Rattle.lr_receiving.specs.Reception.{ReadsAll, ReadsSome, EndsRun, PutsLast, LastStops};
@@ -13,7 +14,7 @@ use lr_bits::{Bytes, NoMemory};
 use lr_catalog::{Summary, summary_line};
 use lr_causes::{Cause, cause_at, put_text};
 use lr_disk::Disk;
-use lr_forms::Input;
+use lr_forms::{Input, MOST_WORKERS};
 use lr_frame::{FrameWork, Hand};
 use lr_io::{Sink, Source};
 use lr_layers::Layers;
@@ -41,13 +42,14 @@ pub(crate) fn receive_all<
     read: F,
 ) -> Result<Sums, Cause>
     requires ready { MayLead (F.pre read) (ShelverTook D.Disk O.Sink) }
-    requires leads { Leads (F.post read) S.Source (ShelverTook D.Disk O.Sink)
-        (ShelverStopped D.Disk O.Sink) input most }
-    ensures all { IfOk result
-        (λ sums. ReadsAll (world_of S.Source D.Disk O.Sink) input most sums shelf.old shelf.new
+    ensures all { (waiting : ℕ) → Leads (F.post read) S.Source (ShelverTook D.Disk O.Sink)
+        (ShelverStopped D.Disk O.Sink) input most waiting
+        → IfOk result (λ sums. ReadsAll (world_of S.Source D.Disk O.Sink) input most sums shelf.old shelf.new
         (outside source.old disk.old out.old) (outside source.new disk.new out.new)) }
-    ensures some { IfErr result
-        (λ cause. ReadsSome (world_of S.Source D.Disk O.Sink) input most cause shelf.old
+    ensures some { (waiting : ℕ) → Leads (F.post read) S.Source (ShelverTook D.Disk O.Sink)
+        (ShelverStopped D.Disk O.Sink) input most waiting
+        → IfErr result
+        (λ cause. ReadsSome (world_of S.Source D.Disk O.Sink) input most waiting cause shelf.old
         (outside source.old disk.old out.old) (outside source.new disk.new out.new)) }
 {
     let mut layers = Layers::new(alloc);
@@ -105,9 +107,9 @@ fn receive_onto<
     read: F,
 ) -> Cause
     requires ready { MayLead (F.pre read) (ShelverTook D.Disk O.Sink) }
-    requires leads { Leads (F.post read) S.Source (ShelverTook D.Disk O.Sink)
-        (ShelverStopped D.Disk O.Sink) input most }
-    ensures { EndsRun (world_of S.Source D.Disk O.Sink) input most result
+    ensures { (waiting : ℕ) → Leads (F.post read) S.Source (ShelverTook D.Disk O.Sink)
+        (ShelverStopped D.Disk O.Sink) input most waiting
+        → EndsRun (world_of S.Source D.Disk O.Sink) input most waiting result
         shelf.old (outside source.old disk.old out.old) (outside source.new disk.new out.new) }
 {
     let sums = match receive_all(alloc, input, most, shelf, source, disk, out, read) {
@@ -137,9 +139,9 @@ fn receive_with<
     read: F,
 ) -> Cause
     requires ready { MayLead (F.pre read) (ShelverTook D.Disk O.Sink) }
-    requires leads { Leads (F.post read) S.Source (ShelverTook D.Disk O.Sink)
-        (ShelverStopped D.Disk O.Sink) input most }
-    ensures { ReceiveRun (world_of S.Source D.Disk O.Sink) input most result
+    ensures { (workers : ℕ) → Leads (F.post read) S.Source (ShelverTook D.Disk O.Sink)
+        (ShelverStopped D.Disk O.Sink) input most (most_waiting input workers)
+        → ReceiveRun (world_of S.Source D.Disk O.Sink) input workers most result
         (outside source.old disk.old out.old) (outside source.new disk.new out.new) }
 {
     match Shelf::load(alloc, disk) {
@@ -159,7 +161,7 @@ pub fn receive_alone<S: Source, D: Disk, O: Sink>(
     out: &mut O,
 ) -> Cause
     requires few { most ≤ 2 ^ 48 }
-    ensures { ReceiveRun (world_of S.Source D.Disk O.Sink) input most result
+    ensures { ReceiveRun (world_of S.Source D.Disk O.Sink) input 1 most result
         (outside source.old disk.old out.old) (outside source.new disk.new out.new) }
 {
     let reader = match Reader::<FrameWork>::new(alloc, input, 1, most, &()) {
@@ -177,7 +179,7 @@ pub fn receive_alone<S: Source, D: Disk, O: Sink>(
             requires { ((reader.workers ≡ 1) × (reader.most ≤ 2 ^ 48))
                 × ((first : _) × ShelverTook D.Disk O.Sink first [] shelver.old) }
             ensures { IsLed S.Source (ShelverTook D.Disk O.Sink) reader.input reader.most
-                (ShelverStopped D.Disk O.Sink) result source.old source.new
+                (most_waiting reader.input reader.workers) (ShelverStopped D.Disk O.Sink) result source.old source.new
                 shelver.old shelver.new }
         { reader.read_alone(source, shelver) },
     )
@@ -197,8 +199,8 @@ pub fn receive<R: Threads + Wait + Sync, H: Hand, S: Source, D: Disk, O: Sink>(
     out: &mut O,
 ) -> Cause
     requires few { most ≤ 2 ^ 48 }
-    requires workers { (1 ≤ workers) × (workers ≤ 64) }
-    ensures { ReceiveRun (world_of S.Source D.Disk O.Sink) input most result
+    requires workers { (1 ≤ workers) × (workers ≤ MOST_WORKERS) }
+    ensures { ReceiveRun (world_of S.Source D.Disk O.Sink) input workers most result
         (outside source.old disk.old out.old) (outside source.new disk.new out.new) }
 {
     let reader = match Reader::<H>::new(alloc, input, workers, most, tools) {
@@ -216,7 +218,7 @@ pub fn receive<R: Threads + Wait + Sync, H: Hand, S: Source, D: Disk, O: Sink>(
             requires { (reader.most ≤ 2 ^ 48) × ((first : _)
                 × ShelverTook D.Disk O.Sink first [] shelver.old) }
             ensures { IsLed S.Source (ShelverTook D.Disk O.Sink) reader.input reader.most
-                (ShelverStopped D.Disk O.Sink) result source.old source.new
+                (most_waiting reader.input reader.workers) (ShelverStopped D.Disk O.Sink) result source.old source.new
                 shelver.old shelver.new }
         { reader.read(rt, source, shelver) },
     )

@@ -14,6 +14,7 @@ ghost use Rattle.lr_receiving.specs.Made.{made_bytes};
 ghost use Rattle.lr_receiving.specs.Receive.{receive_last};
 ghost use Rattle.lr_receiving.specs.Reception.{sums_line};
 ghost use Rattle.lr_reading.specs.Leading.{MayLead, Leads};
+ghost use Rattle.lr_reading.specs.Readers.{most_waiting};
 ghost use Rattle.lr_reading.specs.Runs.{IsLed};
 ghost use Rattle.lr_receiving.specs.ShelverTaken.{ShelverTook, ShelverStopped};
 ghost use Rattle.lr_receiving.specs.Sure.{sure_source, sure_sink};
@@ -30,7 +31,7 @@ use lr_bits::{FRAME_SYMBOLS, NoMemory};
 use lr_causes::Cause;
 use lr_conv::STANDARD;
 use lr_disk::Disk;
-use lr_forms::{Input, MOST_BYTES, Output};
+use lr_forms::{Input, MOST_BYTES, MOST_WORKERS, Output};
 use lr_frame::{FrameWork, Hand};
 use lr_io::{Sink, Source, SureSink, SureSource};
 use lr_make::{Maker, put_bytes};
@@ -73,8 +74,8 @@ fn shelve_stream<
     F: FnOnce(&mut SureSource, &mut Shelver<'_, D, SureSink>) -> Result<Totals, Cause>,
 >(alloc: Global, symbols: Vec<u8>, disk: &mut D, read: F) -> Result<Sums, Cause>
     requires ready { MayLead (F.pre read) (ShelverTook D.Disk sure_sink) }
-    requires leads { Leads (F.post read) sure_source (ShelverTook D.Disk sure_sink)
-        (ShelverStopped D.Disk sure_sink) (Symbols standard) most_bytes }
+    requires leads { (waiting : ℕ) × Leads (F.post read) sure_source (ShelverTook D.Disk sure_sink)
+        (ShelverStopped D.Disk sure_sink) (Symbols standard) most_bytes waiting }
     requires few { length symbols.items < most_bytes }
     requires fit { end_of (with_files [] (files_of_bytes (Symbols standard) symbols.items))
         ≤ trial_capacity }
@@ -111,8 +112,8 @@ fn fill<
     F: FnOnce(&mut SureSource, &mut Shelver<'_, D, SureSink>) -> Result<Totals, Cause>,
 >(alloc: Global, symbols: Vec<u8>, disk: &mut D, out: &mut O, read: F) -> Cause
     requires ready { MayLead (F.pre read) (ShelverTook D.Disk sure_sink) }
-    requires leads { Leads (F.post read) sure_source (ShelverTook D.Disk sure_sink)
-        (ShelverStopped D.Disk sure_sink) (Symbols standard) most_bytes }
+    requires leads { (waiting : ℕ) × Leads (F.post read) sure_source (ShelverTook D.Disk sure_sink)
+        (ShelverStopped D.Disk sure_sink) (Symbols standard) most_bytes waiting }
     requires few { length symbols.items < most_bytes }
     requires fit { end_of (with_files [] (files_of_bytes (Symbols standard) symbols.items))
         ≤ trial_capacity }
@@ -140,8 +141,8 @@ fn trial_with<
     requires few { frames ≤ 1024 }
     requires wrong { wrong ≤ 16 }
     requires ready { MayLead (F.pre read) (ShelverTook D.Disk sure_sink) }
-    requires leads { Leads (F.post read) sure_source (ShelverTook D.Disk sure_sink)
-        (ShelverStopped D.Disk sure_sink) (Symbols standard) most_bytes }
+    requires leads { (waiting : ℕ) × Leads (F.post read) sure_source (ShelverTook D.Disk sure_sink)
+        (ShelverStopped D.Disk sure_sink) (Symbols standard) most_bytes waiting }
     ensures { TrialRun (outlets_of D.Disk O.Sink) (made_bytes Output.Symbols start wrong frames)
         result (outlets disk.old out.old) (outlets disk.new out.new) }
 {
@@ -191,6 +192,7 @@ pub fn trial_alone<D: Disk, O: Sink>(
             requires { ((reader.workers ≡ 1) × (reader.most ≤ 2 ^ 48))
                 × ((first : _) × ShelverTook D.Disk sure_sink first [] shelver.old) }
             ensures { IsLed sure_source (ShelverTook D.Disk sure_sink) reader.input reader.most
+                (most_waiting reader.input reader.workers)
                 (ShelverStopped D.Disk sure_sink) result source.old source.new
                 shelver.old shelver.new }
         { reader.read_alone(source, shelver) },
@@ -211,7 +213,7 @@ pub fn trial<R: Threads + Wait + Sync, H: Hand, D: Disk, O: Sink>(
 ) -> Cause
     requires few { frames ≤ 1024 }
     requires wrong { wrong ≤ 16 }
-    requires workers { (1 ≤ workers) × (workers ≤ 64) }
+    requires workers { (1 ≤ workers) × (workers ≤ MOST_WORKERS) }
     ensures { TrialRun (outlets_of D.Disk O.Sink) (made_bytes Output.Symbols start wrong frames)
         result (outlets disk.old out.old) (outlets disk.new out.new) }
 {
@@ -231,6 +233,7 @@ pub fn trial<R: Threads + Wait + Sync, H: Hand, D: Disk, O: Sink>(
             requires { (reader.most ≤ 2 ^ 48) × ((first : _)
                 × ShelverTook D.Disk sure_sink first [] shelver.old) }
             ensures { IsLed sure_source (ShelverTook D.Disk sure_sink) reader.input reader.most
+                (most_waiting reader.input reader.workers)
                 (ShelverStopped D.Disk sure_sink) result source.old source.new
                 shelver.old shelver.new }
         { reader.read(rt, source, shelver) },

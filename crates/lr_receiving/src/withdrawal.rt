@@ -1,7 +1,9 @@
 //! A shelf on which nothing stands is taken away again.
 ghost use Rattle.std.specs.Prelude.{◌≡◌, ◌<◌, ◌↔◌, List, IsTrue, IfOk, OnOk, length};
-ghost use Rattle.lr_disk.specs.Disk.{Cut, Only, LeavesOnly};
+ghost use Rattle.lr_disk.specs.Disk.{Cut};
 ghost use Rattle.lr_disk.specs.Reads.{IsCall, OnlyReads};
+ghost use Rattle.lr_disk.specs.Pending.{EachImageSince, NothingPending};
+ghost use Rattle.lr_shelf_format.specs.Header.{first_gate};
 ghost use Rattle.lr_shelf_format.specs.Items.{Item};
 ghost use Rattle.lr_shelf_format.specs.Walk.{IsOpen};
 ghost use Rattle.lr_shelf.specs.Shelf.{IsDurable};
@@ -13,31 +15,25 @@ ghost use Rattle.lr_receiving.specs.Trial.{trial_capacity, IsBare};
 use lr_bits::Failed;
 use lr_causes::{Cause, Party};
 use lr_disk::Disk;
-use lr_shelf_format::HEADER_BYTES;
-
-/// The place of the first gate.
-const FIRST_GATE: u64 = HEADER_BYTES as u64 - 1;
-
-/// The byte of an open gate.
-const OPEN: u8 = 1;
+use lr_shelf_format::{FIRST_GATE, OPEN_GATE};
 
 /// Whether the first gate on this disk is open. After an open gate stands an item.
 fn is_first_gate_open<D: Disk>(disk: &mut D) -> Result<bool, Failed>
     ensures reads { OnlyReads D.Disk disk.old disk.new result }
-    ensures gate { D.tells disk.old → 19 < length (D.contents disk.old)
-        → IfOk result (λ found. IsTrue found ↔ IsOpen (D.contents disk.old) 19) }
+    ensures gate { D.tells disk.old → first_gate < length (D.contents disk.old)
+        → IfOk result (λ found. IsTrue found ↔ IsOpen (D.contents disk.old) first_gate) }
 {
     let mut gate = [0];
-    disk.read(FIRST_GATE, &mut gate)?;
-    Ok(gate[0] == OPEN)
+    disk.read(FIRST_GATE as u64, &mut gate)?;
+    Ok(gate[0] == OPEN_GATE)
 }
 
 /// Takes all bytes away.
 fn clear<D: Disk>(disk: &mut D) -> Result<(), Failed>
     ensures call { IsCall D.Disk disk.old disk.new result }
     ensures cleared { D.tells disk.old → OnOk result (IsBare D.Disk disk.new) }
-    ensures any_moment { D.tells disk.old → Only (D.contents disk.old) (D.may_leave disk.old)
-        → LeavesOnly D.moment D.left_since disk.old disk.new (Cut 0 (D.contents disk.old)) }
+    ensures any_moment { D.tells disk.old → NothingPending D.Disk disk.old
+        → EachImageSince D.Disk disk.old disk.new (Cut 0 (D.contents disk.old)) }
 {
     disk.cut(0)?;
     disk.sync()

@@ -90,17 +90,17 @@ coded_are s l (suc wanted) (piece ∷ pieces) size coding wide few short =
     (All-tail (λ (p : List ℕ). length p < 2 ^ 61) piece pieces short))
 
 -- pieces are no longer than their bodies
-with_short : (bound : ℕ) (piece : List ℕ) (pieces : List (List ℕ)) → length piece < bound
-    → All (λ (p : List ℕ). length p < bound) pieces → All (λ (p : List ℕ). length p < bound) (piece_with piece pieces)
-with_short bound [] pieces short all = all
-with_short bound (byte ∷ bytes) pieces short all =
-    All-cons (λ (p : List ℕ). length p < bound) (byte ∷ bytes) pieces short all
+with_short : (most : ℕ) (piece : List ℕ) (pieces : List (List ℕ)) → length piece ≤ most
+    → All (λ (p : List ℕ). length p ≤ most) pieces → All (λ (p : List ℕ). length p ≤ most) (piece_with piece pieces)
+with_short most [] pieces short all = all
+with_short most (byte ∷ bytes) pieces short all =
+    All-cons (λ (p : List ℕ). length p ≤ most) (byte ∷ bytes) pieces short all
 
-pub pieces_short : (bound skipped : ℕ) (bodies : List (List ℕ)) → All (λ (body : List ℕ). length body < bound) bodies
-    → All (λ (piece : List ℕ). length piece < bound) (pieces_after skipped bodies)
-pieces_short bound skipped [] short = All-nil (λ (p : List ℕ). length p < bound)
-pieces_short bound skipped (body ∷ bodies) short =
-    let P : List ℕ → Type 0 = λ (p : List ℕ). length p < bound in
-    with_short bound (drop skipped body) (pieces_after (skipped - length body) bodies)
+pub pieces_short : (most skipped : ℕ) (bodies : List (List ℕ)) → All (λ (body : List ℕ). length body ≤ most) bodies
+    → All (λ (piece : List ℕ). length piece ≤ most) (pieces_after skipped bodies)
+pieces_short most skipped [] short = All-nil (λ (p : List ℕ). length p ≤ most)
+pieces_short most skipped (body ∷ bodies) short =
+    let P : List ℕ → Type 0 = λ (p : List ℕ). length p ≤ most in
+    with_short most (drop skipped body) (pieces_after (skipped - length body) bodies)
     (omega (arith, length-drop skipped body, All-head P body bodies short))
-    (pieces_short bound (skipped - length body) bodies (All-tail P body bodies short))
+    (pieces_short most (skipped - length body) bodies (All-tail P body bodies short))

@@ -4,6 +4,7 @@ use Rattle.std.proofs.Common.{Option, Some, None, Result, Ok, Err, refl, subst, 
 use Rattle.std.proofs.lemmas.List.Elements.{All-nil, All-weaker}
 use Rattle.lr_bits.specs.Bits.{bits_of}
 use Rattle.lr_bits.specs.File.{File, IsFile}
+use Rattle.lr_bits.specs.Sizes.{most_body_bytes}
 use Rattle.lr_headers.specs.declared.fields.Structure.{Structure}
 use Rattle.lr_headers.specs.declared.fields.Lossless.{Lossless}
 use Rattle.lr_image.specs.declared.fault.ImageFault.{ImageFault}
@@ -78,8 +79,8 @@ strips_are file size s None is shape wide high small enough =
     plain_are s (data_field file size) (plain_count s (s.lines - 0)) 0 shape wide high small enough refl
 strips_are file size s (Some l) is shape wide high small enough =
     coded_are s l (s.lines - 0) (data_pieces file size) shape.0 shape.1 wide (omega arith)
-    (All-weaker (λ (p : List ℕ). length p < 65535) (λ (p : List ℕ). length p < 2 ^ 61) (λ p h. omega arith)
-    (data_pieces file size) (pieces_short 65535 (10 + size) file.bodies is.short))
+    (All-weaker (λ (p : List ℕ). length p ≤ most_body_bytes) (λ (p : List ℕ). length p < 2 ^ 61) (λ p h. omega arith)
+    (data_pieces file size) (pieces_short most_body_bytes (10 + size) file.bodies is.short))
 
 pub strips-lines : (s : Structure) (lossless : Option Lossless) (field : List ℕ) (pieces : List (List ℕ))
     → all_lines (strips_after s lossless field 0 pieces) ≤ s.lines

@@ -31,9 +31,16 @@ plain_strip s field from lines = record {
   lines = lines;
 }
 
+-- the most lines of a strip, and its most pixels where it has more than one line
+abbrev pub most_strip_lines : ℕ
+most_strip_lines = 64
+
+abbrev pub most_strip_pixels : ℕ
+most_strip_pixels = 65536
+
 -- how many lines a strip has
 abbrev pub strip_lines : Structure → ℕ
-strip_lines s = max 1 (min 64 (65536 / s.columns))
+strip_lines s = max 1 (min most_strip_lines (most_strip_pixels / s.columns))
 
 -- how many strips this many lines need
 abbrev pub plain_count : Structure → ℕ → ℕ

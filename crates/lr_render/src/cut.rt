@@ -26,15 +26,6 @@ pub(crate) fn next_lines(structure: Structure, left: u32) -> u32
     whole.min(left)
 }
 
-/// A copy of these bytes.
-fn copy_of(alloc: Global, bytes: &[u8]) -> Result<Bytes, NoMemory>
-    ensures { IfOk result (λ copy. copy ≡ bytes.now) }
-{
-    let mut copy = Bytes::new(alloc);
-    copy.extend(bytes)?;
-    Ok(copy)
-}
-
 /// At which bit of the data field a line begins, in an image that isn't compressed.
 fn line_start(structure: Structure, line: u32) -> u64
     ensures { result ≡ line_start structure line }
@@ -61,7 +52,7 @@ pub(crate) fn plain_strip(
     let first_bit = start % 8;
     let first = (start / 8) as usize;
     let count = ((first_bit + bits + 7) / 8) as usize;
-    let bytes = copy_of(alloc, &field[first..first + count])?;
+    let bytes = Bytes::copy_of(alloc, &field[first..first + count])?;
     let source = StripSource {
         bytes,
         coding: Coding::Plain {
@@ -88,7 +79,7 @@ pub(crate) fn coded_strip(
     requires lines { lines ≤ 65535 }
     ensures { IfOk result (λ strip. strip ≡ coded_strip structure lossless piece.now lines) }
 {
-    let bytes = copy_of(alloc, piece)?;
+    let bytes = Bytes::copy_of(alloc, piece)?;
     let source = StripSource {
         bytes,
         coding: Coding::Coded {

@@ -28,7 +28,7 @@ pub(crate) fn decode(source: &StripSource, pixels: &mut [u16]) -> Option<RiceFau
     }
 }
 
-/// The same of a strip that is coded without loss, in blocks of this size.
+/// Decodes a strip that is coded without loss, in blocks of this size.
 fn decode_coded(source: &StripSource, block: u8, pixels: &mut [u16]) -> Option<RiceFault>
     requires strip { IsStrip source.now }
     requires block { source.now.coding ≡ Coded block }

@@ -45,7 +45,7 @@ impl Giving {
         }
     }
 
-    /// The same where the image isn't compressed.
+    /// The next strip of an image that isn't compressed.
     fn next_plain(
         &mut self,
         alloc: Global,
@@ -74,7 +74,7 @@ impl Giving {
         Ok(Some(strip))
     }
 
-    /// The same where it is coded without loss.
+    /// The next strip of an image that is coded without loss.
     fn next_coded(
         &mut self,
         alloc: Global,

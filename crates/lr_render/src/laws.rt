@@ -1,3 +1,5 @@
+//! Laws of strips and images.
+
 ghost use Rattle.lr_render.specs.Laws.{RefusalsAreFaults, StripsHaveOneOutcome, StripsMakeTheImage};
 
 /// A strip has one outcome: its pixels, or the fault of its lines and pixels of 0, follow from what they are read from.

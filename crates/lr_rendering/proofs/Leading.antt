@@ -19,6 +19,7 @@ use Rattle.std.proofs.Common.{Ok, Err, List, [], ◌∷◌, ◌++◌, length, re
 use Rattle.std.proofs.Common.{subst, arith, length-append, append-nil}
 use Rattle.std.proofs.lemmas.List.{drop_all}
 use Rattle.std.specs.VecDeque.{deque_capacity}
+use Rattle.lr_gatecore.specs.declared.sizes.TheConstants.{MOST_JOBS}
 use Rattle.lr_bits.specs.File.{File}
 use Rattle.lr_bits.specs.Faults.{Rose}
 use Rattle.lr_io.specs.declared.sink.Sink.{Ghosts as SinkOf}
@@ -360,7 +361,7 @@ module _ {D O : Type 0} (disk : DiskOf D) (out : SinkOf O) where
             (kept_length jobs kept before.next goes.ahead (images_under_way before) goes.has_jobs done is
             (images_under_way now) keeps waits)
 
-    few_jobs : length jobs < 2 ^ 56
+    few_jobs : length jobs < MOST_JOBS
     few_jobs = omega (arith, goes.has_jobs.few, goes.inside, goes.may.few)
 
     -- ---- an image is put

@@ -12,9 +12,10 @@ ghost use Rattle.lr_rendering.specs.Led.{ComesTo, IsFresh, Leads, MayLead};
 use crate::lead::RenderLead;
 use crate::queue::Queue;
 use crate::tally::Tally;
-use lr_bits::NoMemory;
+use lr_bits::{NoMemory, take_back};
 use lr_causes::{Cause, Note};
 use lr_disk::Disk;
+use lr_gatecore::MOST_SEATS;
 use lr_io::Sink;
 use lr_refusals::shelf_cause;
 use lr_render::RenderWork;
@@ -38,7 +39,7 @@ struct Desk {
 impl Desk {
     /// All memory that is taken at opening. This many work, the caller among them.
     fn new(alloc: Global, workers: u32) -> Result<Desk, NoMemory>
-        requires { (1 ≤ workers) × (workers ≤ 64) }
+        requires { (1 ≤ workers) × (workers ≤ MOST_SEATS) }
         ensures crew { IfOk result (λ desk. desk.crew ≡ crew_with (workers - 1)) }
         ensures fresh { IfOk result (λ desk. IsFresh desk.queue) }
     {
@@ -76,11 +77,6 @@ fn go_by_all<R: Threads + Wait + Sync, D: Disk, O: Sink>(
         Err(Unled::NoMemory) => Err(Cause::NoMemory),
     }
 }
-
-/// Does nothing. This use of a reference that came back ties it to the one that was lent.
-fn take_back<T>(it: &mut T)
-    ensures { it.new ≡ it.old }
-{}
 
 /// Puts the images of a shelf that was loaded, as the call `lead` leads the crew.
 fn render_entries<
@@ -138,7 +134,7 @@ fn render_with<
     O: Sink,
     F: FnOnce(Crew<RenderWork>, &mut RenderLead<'_, '_, D, O>) -> Result<(), Cause>,
 >(alloc: Global, workers: u32, disk: &mut D, out: &mut O, lead: F) -> Cause
-    requires workers { (1 ≤ workers) × (workers ≤ 64) }
+    requires workers { (1 ≤ workers) × (workers ≤ MOST_SEATS) }
     requires ready { MayLead D.Disk O.Sink (F.pre lead) (crew_with (workers - 1)) }
     requires leads { Leads D.Disk O.Sink (F.post lead) }
     ensures { RunsOver (outlets_of D.Disk O.Sink) render_asked result
@@ -182,7 +178,7 @@ pub fn render<R: Threads + Wait + Sync, D: Disk, O: Sink>(
     disk: &mut D,
     out: &mut O,
 ) -> Cause
-    requires { (1 ≤ workers) × (workers ≤ 64) }
+    requires { (1 ≤ workers) × (workers ≤ MOST_SEATS) }
     ensures { RunsOver (outlets_of D.Disk O.Sink) render_asked result
         (outlets disk.old out.old) (outlets disk.new out.new) }
 {

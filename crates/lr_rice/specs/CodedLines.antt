@@ -24,9 +24,13 @@ greatest bits = 2 ^ bits - 1
 abbrev pub block_count : Form → ℕ
 block_count form = (form.columns + form.block - 1) / form.block
 
+-- the blocks of a segment, which a run of zero blocks never passes (CCSDS 121.0-B, section 3.3.2)
+abbrev pub segment_blocks : ℕ
+segment_blocks = 64
+
 -- how many blocks are left in the segment, the one at this place counted
 abbrev pub left_in_segment : Form → ℕ → ℕ
-left_in_segment form at = min (64 - at % 64) (block_count form - at)
+left_in_segment form at = min (segment_blocks - at % segment_blocks) (block_count form - at)
 
 -- ---- identifiers
 

@@ -3,6 +3,8 @@
 ghost use Rattle.std.specs.Prelude.{◌≡◌};
 ghost use Rattle.lr_rice.specs.LineFaults.{fault_in};
 
+use thiserror::Error;
+
 /// Why an item of a line can't be read.
 #[derive(Clone, Copy)]
 pub enum Cause {
@@ -15,15 +17,19 @@ pub enum Cause {
 }
 
 /// Why lines can't be decoded: what the first item is, in the order of the bits, that can't be read, and in which line.
-#[derive(Clone, Copy)]
+#[derive(Clone, Copy, Debug, Error)]
 pub enum RiceFault {
     /// Too few bits are left.
+    #[error("line {line} ends before it is whole")]
     Ended { line: u32 },
     /// A mapped value is greater than the greatest sample.
+    #[error("line {line} has a value above the greatest")]
     OutOfRange { line: u32 },
     /// A zero block has more blocks than are left in its segment.
+    #[error("line {line} has a zero block that passes its segment")]
     RunPastSegment { line: u32 },
     /// No memory was left.
+    #[error("no memory was left")]
     NoMemory,
 }
 

@@ -1,3 +1,5 @@
+//! The engine that decodes one line, part by part.
+
 ghost use Rattle.std.specs.Prelude.{◌≡◌, ◌<◌, ◌≤◌, ◌*◌, ◌-◌, ◌%◌, ◌^◌, ◌++◌, ℕ, List, IfErr, OnOk, length};
 ghost use Rattle.lr_rice.specs.CodedLines.{IsLine, form_of};
 ghost use Rattle.lr_rice.specs.LineFaults.{LineFails};
@@ -7,8 +9,8 @@ use crate::choice::read_identifier;
 use crate::part::{Site, decode_part};
 use lr_bits::BitReader;
 
-/// The blocks of a segment.
-const SEGMENT: usize = 64;
+/// The blocks of a segment, which a run of zero blocks never passes (CCSDS 121.0-B, section 3.3.2).
+pub const SEGMENT_BLOCKS: usize = 64;
 
 /// Decodes a line with as many columns as there are places.
 pub(crate) fn decode_line(
@@ -43,7 +45,7 @@ pub(crate) fn decode_line(
             bits,
             block,
             first: at == 0,
-            left: (SEGMENT - at % SEGMENT).min(blocks - at) as u32,
+            left: (SEGMENT_BLOCKS - at % SEGMENT_BLOCKS).min(blocks - at) as u32,
         };
         let part = decode_part(reader, site, option, last, &mut out[at * size..]);
         let decoded = match part {

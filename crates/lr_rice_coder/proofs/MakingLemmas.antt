@@ -8,6 +8,8 @@ use Rattle.std.proofs.lemmas.List.Folds.{concat-append}
 use Rattle.std.proofs.lemmas.List.Sums.{sum_by-cons}
 use Rattle.std.proofs.lemmas.Nat.{mul-le}
 use Rattle.lr_bits.specs.File.{File, IsFile, MakeFile, bytes_of, counter_of, file_of}
+use Rattle.lr_bits.specs.declared.sizes.TheConstants.{IDLE_APPLICATION}
+use Rattle.lr_bits.specs.Sizes.{most_body_bytes, most_file_bytes}
 use Rattle.lr_bits.proofs.FileLemmas.{MakeFile-parts, file_of-parts}
 use Rattle.lr_headers.specs.declared.fields.Structure.{Structure}
 use Rattle.lr_rice.specs.CodedLines.{Form, form_of}
@@ -126,8 +128,9 @@ lines_more picture block room count size row appended old now new so_far is wide
 
 -- after the last line, with the lengths that were there before it
 pub all_held : (picture : Picture) (block first room : ℕ) (old new : LineBytes)
-    → AppendsLines picture block room old new → (first ≤ 65534 → old.lengths ≡ first ∷ [])
-    → (first ≤ 65534 → first + room ≡ 67108864) → picture.lines < 65536 → HoldsLines picture block first new
+    → AppendsLines picture block room old new → (first ≤ most_body_bytes → old.lengths ≡ first ∷ [])
+    → (first ≤ most_body_bytes → first + room ≡ most_file_bytes) → picture.lines < 65536
+    → HoldsLines picture block first new
 all_held picture block first room old new made before whole low = record {
   lines = made.lines;
   coded = made.coded;
@@ -178,7 +181,7 @@ lines_count picture block lines coded =
     ∙ length-map-range_with_len (line_pixels picture) 0 picture.lines
 
 bodies_short : (form : Form) (rows lines : List (List ℕ)) → AllZip (IsCodedLine form) rows lines
-    → All (λ body. length body < 65535) lines
+    → All (λ body. length body ≤ most_body_bytes) lines
 bodies_short form [] [] coded k d inside = absurd (omega arith)
 bodies_short form [] (line ∷ lines) coded k d inside = absurd coded
 bodies_short form (row ∷ rows) [] coded k d inside = absurd coded
@@ -188,8 +191,8 @@ bodies_short form (row ∷ rows) (line ∷ lines) coded (suc k) d inside =
 
 -- the same file, by its parts
 pub file_is : (vc apid : ℕ) (first : List ℕ) (picture : Picture) (block : ℕ) (lines : List (List ℕ)) → vc < 64
-    → apid < 2047 → AreCodedLines picture block lines → picture.lines < 65536 → 10 ≤ length first
-    → length first ≤ 65534 → length first + length (concat lines) ≤ 67108864
+    → apid < IDLE_APPLICATION → AreCodedLines picture block lines → picture.lines < 65536 → 10 ≤ length first
+    → length first ≤ most_body_bytes → length first + length (concat lines) ≤ most_file_bytes
     → IsFile (record { vc = vc; apid = apid; bodies = first ∷ lines })
 file_is vc apid first picture block lines channel application coded narrow least short most = record {
   channel = channel;
@@ -201,7 +204,7 @@ file_is vc apid first picture block lines channel application coded narrow least
   most = omega (arith, length-append first (concat lines));
 }
   where
-    first_too : All (λ body. length body < 65535) (first ∷ lines)
+    first_too : All (λ body. length body ≤ most_body_bytes) (first ∷ lines)
     first_too zero d inside = omega (arith, short)
     first_too (suc k) d inside = bodies_short (form_with picture block) (rows_of picture) lines coded k d (omega arith)
 
@@ -219,10 +222,10 @@ pub record IsMade (file : File) (s : Structure) (block : ℕ) (others : List ℕ
 
 pub is_made : (file : File) (s : Structure) (pixels others : List ℕ) (block : ℕ) (lines : List (List ℕ))
     (lengths bytes all : List ℕ) (vc apid counter : ℕ) → AreCodedLines (picture_with s pixels) block lines
-    → s.lines < 65536 → vc ≡ file.vc → vc < 64 → apid ≡ file.apid → apid < 2047 → counter ≡ counter_of file
+    → s.lines < 65536 → vc ≡ file.vc → vc < 64 → apid ≡ file.apid → apid < IDLE_APPLICATION → counter ≡ counter_of file
     → all ≡ concat lines → bytes ≡ front_with counter s block others (length all) ++ all
-    → lengths ≡ (42 + length others) ∷ map length lines → 42 + length others ≤ 65534
-    → 42 + length others + length all ≤ 67108864 → IsMade file s block others lines vc apid lengths bytes
+    → lengths ≡ (42 + length others) ∷ map length lines → 42 + length others ≤ most_body_bytes
+    → 42 + length others + length all ≤ most_file_bytes → IsMade file s block others lines vc apid lengths bytes
 is_made file s pixels others block lines lengths bytes all vc apid counter coded narrow vc_is vc_fits apid_is apid_fits
     counter_is all_is bytes_are lengths_are short few =
     let front = front_with (counter_of file) s block others (length (concat lines)) in

@@ -7,6 +7,7 @@ use Rattle.std.proofs.lemmas.Bool.{lt-leb}
 use Rattle.std.proofs.lemmas.List.{take_at}
 use Rattle.byteorder.specs.Endian.{big_bytes, big_number}
 use Rattle.byteorder.specs.Numbers.{big_number-reads_back}
+use Rattle.lr_bits.specs.Written.{primary_record}
 use Rattle.lr_headers.specs.Fields.{data_bits, file_type, is_encrypted, is_key, lossless_of}
 use Rattle.lr_headers.specs.Fields.{structure_of}
 use Rattle.lr_headers.specs.Tiling.{Header, IsFront, IsHeaderOf, IsRecord, IsTiled, IsTiling}
@@ -19,10 +20,11 @@ use Rattle.lr_image.specs.Shapes.{IsSize, coded_shape, lossless_fault, shape_of,
 use Rattle.lr_image.specs.declared.fault.ImageFault.{ImageFault}
 use Rattle.lr_image.specs.declared.fault.ImageFault.TheVariants.{Encrypted}
 use Rattle.lr_image.specs.declared.shape.Shape.{Shape}
+use Rattle.lr_image.specs.Shapes.{most_pixels}
 use Rattle.lr_rice.proofs.LineLemmas.{not_first}
 use Rattle.lr_rice_coder.specs.Coded.{IsBlock}
 use Rattle.lr_rice_coder.specs.Repacked.{lossless_record, new_records, other_records, others_of}
-use Rattle.lr_rice_coder.specs.Repacked.{primary_record, records_size, structure_record}
+use Rattle.lr_rice_coder.specs.Repacked.{records_size, lossless_structure}
 use Rattle.lr_rice_coder.proofs.NewHeaders.{AllStand, moved, moved_keys, moved_tiling, sound_record}
 use Rattle.lr_rice_coder.proofs.NewHeaders.{filter_stands, past, tiling_stands}
 
@@ -31,7 +33,7 @@ use Rattle.lr_rice_coder.proofs.NewHeaders.{filter_stands, past, tiling_stands}
 -- the records that are written anew
 abbrev pub new_front : Header → Picture → ℕ → ℕ → List ℕ
 new_front header picture block data_bits =
-    primary_record (records_size header) data_bits ++ structure_record picture ++ lossless_record block
+    primary_record 0 (records_size header) data_bits ++ lossless_structure picture ++ lossless_record block
 
 abbrev primary : Entry
 primary = record { kind = 0; at = 0; length = 16 }
@@ -197,7 +199,8 @@ size_is_right s deep is =
     (lt-leb 17 s.bits (omega (arith, is.most_bits))))
     (no_more (eqb s.columns 0 || eqb s.lines 0) _ _
     (both_false (eqb s.columns 0) (eqb s.lines 0) (not_first s.columns is.columns) (not_first s.lines is.lines))
-    (no_more (ltb 268435456 (s.columns * s.lines)) _ _ (lt-leb 268435457 (s.columns * s.lines) (omega (arith, is.few)))
+    (no_more (ltb most_pixels (s.columns * s.lines)) _ _
+    (lt-leb 268435457 (s.columns * s.lines) (omega (arith, is.few)))
     refl))
   where
     no_more : (b : Bool) (fault : ImageFault) (rest : Option ImageFault) → b ≡ false → rest ≡ None

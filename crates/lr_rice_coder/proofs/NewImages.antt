@@ -11,7 +11,9 @@ use Rattle.std.proofs.lemmas.Nat.{pow_pos}
 use Rattle.byteorder.specs.Numbers.{big_number-reads_back}
 use Rattle.lr_bits.specs.Bits.{bits_of, number_bits}
 use Rattle.lr_bits.specs.File.{File, IsFile, counter_of, declared_bits_of, proper_of, real_bits_of}
+use Rattle.lr_bits.specs.Sizes.{most_body_bytes, most_file_bytes}
 use Rattle.lr_bits.proofs.ReaderLemmas.{length-number_bits}
+use Rattle.lr_bits.specs.Written.{transport_header}
 use Rattle.lr_headers.specs.Fields.{file_type, is_encrypted, is_key, lossless_of, structure_of}
 use Rattle.lr_headers.specs.Tiling.{Header, IsHeaderOf}
 use Rattle.lr_headers.specs.declared.entry.Entry.{Entry}
@@ -38,7 +40,7 @@ use Rattle.lr_image.proofs.WholePixels.{makes_picture}
 use Rattle.lr_rice_coder.specs.Coded.{IsBlock, IsCodedLine}
 use Rattle.lr_rice_coder.specs.Laws.{IsRow, RepackedKeepsImage, RepackedKeepsName, RepackedTellsLengths}
 use Rattle.lr_rice_coder.specs.Repacked.{first_body, form_with, new_records, others_of, records_size, rows_of}
-use Rattle.lr_rice_coder.specs.Repacked.{repacked_file, transport_header}
+use Rattle.lr_rice_coder.specs.Repacked.{repacked_file}
 use Rattle.lr_rice_coder.specs.Shortest.{line_places, next_part, parts_from, shortest_string}
 use Rattle.lr_rice_coder.specs.Writing.{ArePlaces}
 use Rattle.lr_rice_coder.proofs.CodingLemmas.{string-next}
@@ -361,7 +363,7 @@ repacked_keeps_image file new block is_block re =
       new_size header picture block (8 * total),
     ) in
     let is_file = subst IsFile re.is_new re.is_file in
-    let short : length body < 65535 = is_file.short 0 [] (omega arith) in
+    let short : length body ≤ most_body_bytes = is_file.short 0 [] (omega arith) in
     let stand = others_stand header re.source.is_header.tiled in
     let is_header = new_header_is header picture block (8 * total) (concat lines) stand
     (omega (arith, short, body_size)) in
@@ -431,7 +433,7 @@ repacked_tells_lengths file new block re =
       new_size header picture block (8 * size),
     ) in
     let is_file = subst IsFile re.is_new re.is_file in
-    let few : records_size header + size ≤ 67108864 =
+    let few : records_size header + size ≤ most_file_bytes =
     omega (arith, is_file.most, length-append body (concat re.lines), body_size) in
     let told = big_number-reads_back 8 (8 * (records_size header + size)) (bytes ++ concat re.lines)
     (omega (arith, few)) in

@@ -4,6 +4,8 @@ use Rattle.std.proofs.Common.{refl, sym, ap, ◌∙◌, subst, arith, inl, inr, 
 use Rattle.std.specs.List.{AllZip, concat}
 use Rattle.std.proofs.lemmas.Bool.{cases_lt}
 use Rattle.lr_bits.specs.File.{File, IsFile, counter_of, proper_of}
+use Rattle.lr_bits.specs.Sizes.{most_body_bytes, most_file_bytes}
+use Rattle.lr_bits.specs.Written.{transport_header}
 use Rattle.lr_headers.specs.Tiling.{Header}
 use Rattle.lr_headers.proofs.Tilings.{headers_are_one}
 use Rattle.lr_rice.specs.CodedLines.{Form}
@@ -16,7 +18,7 @@ use Rattle.lr_rice_coder.specs.Laws.{RepacksAreOne}
 use Rattle.lr_rice_coder.specs.Refusals.{AreShort, HasLongLine, HasRepackFault}
 use Rattle.lr_rice_coder.specs.Repacked.{AreCodedLines, IsRepacked, IsSource, file_size, first_body, first_size}
 use Rattle.lr_rice_coder.specs.Repacked.{form_with}
-use Rattle.lr_rice_coder.specs.Repacked.{new_records, records_size, repacked_file, rows_of, transport_header}
+use Rattle.lr_rice_coder.specs.Repacked.{new_records, records_size, repacked_file, rows_of}
 use Rattle.lr_rice_coder.specs.declared.fault.RepackFault.{RepackFault}
 use Rattle.lr_rice_coder.specs.declared.fault.RepackFault.TheVariants as fault
 use Rattle.lr_rice_coder.proofs.LawLemmas.{coded_lines_are_one}
@@ -100,14 +102,14 @@ body_size file header picture block size =
       new_size header picture block (8 * size),
     )
 
-fits_body : (file new : File) (block : ℕ) (re : IsRepacked file block new) → first_size re.header ≤ 65534
+fits_body : (file new : File) (block : ℕ) (re : IsRepacked file block new) → first_size re.header ≤ most_body_bytes
 fits_body file new block re =
     let is_file = subst IsFile re.is_new re.is_file in
     let short = is_file.short 0 [] (omega arith) in
     omega (arith, short, body_size file re.header re.picture block (length (concat re.lines)))
 
 fits_file : (file new : File) (block : ℕ) (re : IsRepacked file block new)
-    → file_size re.header re.picture block ≤ 67108864
+    → file_size re.header re.picture block ≤ most_file_bytes
 fits_file file new block re =
     let is_file = subst IsFile re.is_new re.is_file in
     let body = first_body file re.header re.picture block (length (concat re.lines)) in

@@ -1,6 +1,7 @@
 -- What is appended for a line: the bits of its string, filled with zeros to whole bytes.
 use Rattle.std.specs.Prelude.{◌≡◌, ◌<◌, ◌≤◌, ◌⊎◌, ◌+◌, ◌/◌, ℕ, List, ◌++◌, length, replicate, All}
 use Rattle.lr_bits.specs.Bits.{bits_of}
+use Rattle.lr_bits.specs.Sizes.{most_body_bytes}
 use Rattle.lr_rice.specs.CodedLines.{Form}
 use Rattle.lr_rice_coder.specs.Shortest.{shortest_string}
 use Rattle.lr_rice_coder.specs.declared.fault.CodeFault.{CodeFault}
@@ -28,13 +29,13 @@ byte_count string = (length string + 7) / 8
 
 -- the line's string fills more bytes than the body of a packet has
 abbrev pub IsLong : Form → List ℕ → Type 0
-IsLong form samples = 65534 < byte_count (shortest_string form samples)
+IsLong form samples = most_body_bytes < byte_count (shortest_string form samples)
 
 -- the bytes of a line, no more than the body of a packet has
 pub record IsCodedLine (form : Form) (samples bytes : List ℕ) : Type 0 where
   pub small : All (λ byte. byte < 256) bytes
   pub fills : ArePaddedBits bytes (shortest_string form samples)
-  pub short : length bytes ≤ 65534
+  pub short : length bytes ≤ most_body_bytes
 
 -- the bytes of the line were appended
 pub record AppendsLine (form : Form) (samples old new : List ℕ) : Type 0 where

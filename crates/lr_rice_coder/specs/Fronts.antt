@@ -2,12 +2,15 @@
 use Rattle.std.specs.Prelude.{◌≡◌, ◌<◌, ◌≤◌, ◌+◌, ◌*◌, ◌^◌, ℕ, List, [], ◌∷◌, ◌++◌, length, map}
 use Rattle.std.specs.List.{concat, sum_by}
 use Rattle.lr_bits.specs.File.{File, IsFile, counter_of}
+use Rattle.lr_bits.specs.Sizes.{most_body_bytes, most_file_bytes}
+use Rattle.lr_bits.specs.declared.sizes.TheConstants.{TRANSPORT_HEADER_BYTES}
+use Rattle.lr_bits.specs.Written.{primary_record, transport_header}
 use Rattle.lr_headers.specs.declared.fields.Structure.{Structure}
 use Rattle.lr_rice.specs.CodedLines.{Form}
 use Rattle.lr_image.specs.Picture.{Picture, IsPicture}
 use Rattle.lr_rice_coder.specs.Coded.{IsBlock, IsCodedLine}
-use Rattle.lr_rice_coder.specs.Repacked.{AreCodedLines, lossless_record, primary_record, structure_record}
-use Rattle.lr_rice_coder.specs.Repacked.{line_size, rows_of, transport_header}
+use Rattle.lr_rice_coder.specs.Repacked.{AreCodedLines, lossless_record, new_records_bytes}
+use Rattle.lr_rice_coder.specs.Repacked.{line_size, rows_of, lossless_structure}
 use Rattle.lr_rice_coder.specs.Refusals.{AreShort, HasLongLine}
 use Rattle.lr_rice_coder.specs.declared.files.LineBytes.{LineBytes}
 use Rattle.lr_rice_coder.specs.declared.fault.RepackFault.{RepackFault}
@@ -29,8 +32,9 @@ pub record IsCodedImage (s : Structure) (pixels : List ℕ) (block : ℕ) : Type
 -- the first body, by the records that stay and the number of bytes of the lines
 unfoldable pub front_with : ℕ → Structure → ℕ → List ℕ → ℕ → List ℕ
 front_with counter s block others size =
-    transport_header counter (8 * (32 + length others + size))
-    ++ (primary_record (32 + length others) (8 * size) ++ structure_record (picture_with s []) ++ lossless_record block
+    transport_header counter (8 * (new_records_bytes + length others + size))
+    ++ (primary_record 0 (new_records_bytes + length others) (8 * size) ++ lossless_structure (picture_with s [])
+    ++ lossless_record block
     ++ others)
 
 -- the file with this first body and these lines
@@ -63,8 +67,8 @@ pub record HoldsLines (picture : Picture) (block first : ℕ) (held : LineBytes)
   pub lines : List (List ℕ)
   pub coded : AreCodedLines picture block lines
   pub size_is : held.size ≡ length (concat lines)
-  pub lengths : first ≤ 65534 → first + held.size ≤ 67108864 → held.lengths ≡ first ∷ map length lines
-  pub bytes : first ≤ 65534 → first + held.size ≤ 67108864 → held.bytes ≡ concat lines
+  pub lengths : first ≤ most_body_bytes → first + held.size ≤ most_file_bytes → held.lengths ≡ first ∷ map length lines
+  pub bytes : first ≤ most_body_bytes → first + held.size ≤ most_file_bytes → held.bytes ≡ concat lines
   pub few : held.size < 2 ^ 32
 
 -- the file was made of the image's lines
@@ -85,14 +89,15 @@ CodingFails picture block fault = ⊥
 -- why the file wasn't made: a line, its first body or the file is too long
 pub record FirstIsLong (picture : Picture) (block : ℕ) (others : List ℕ) (size : ℕ) : Type 0 where
   pub short : AreShort picture block picture.lines
-  pub size_is : size ≡ 42 + length others
-  pub long : 65534 < size
+  pub size_is : size ≡ TRANSPORT_HEADER_BYTES + new_records_bytes + length others
+  pub long : most_body_bytes < size
 
 pub record FileIsLong (picture : Picture) (block : ℕ) (others : List ℕ) (size : ℕ) : Type 0 where
   pub short : AreShort picture block picture.lines
-  pub fits : 42 + length others ≤ 65534
-  pub size_is : size ≡ 42 + length others + sum_by (line_size picture block) (rows_of picture)
-  pub long : 67108864 < size
+  pub fits : TRANSPORT_HEADER_BYTES + new_records_bytes + length others ≤ most_body_bytes
+  pub size_is : size
+      ≡ TRANSPORT_HEADER_BYTES + new_records_bytes + length others + sum_by (line_size picture block) (rows_of picture)
+  pub long : most_file_bytes < size
 
 abbrev pub MakingFails : Picture → ℕ → List ℕ → RepackFault → Type 0
 MakingFails picture block others (fault.Image cause) = ⊥

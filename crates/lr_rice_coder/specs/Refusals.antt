@@ -1,6 +1,7 @@
 -- Why a file isn't coded anew. The refusals stand in their order.
 use Rattle.std.specs.Prelude.{◌≡◌, ◌<◌, ◌≤◌, ℕ, Result, Ok, Err}
 use Rattle.lr_bits.specs.File.{File}
+use Rattle.lr_bits.specs.Sizes.{most_body_bytes, most_file_bytes}
 use Rattle.lr_headers.specs.Tiling.{Header}
 use Rattle.lr_image.specs.Pgm.{line_pixels}
 use Rattle.lr_image.specs.Picture.{Picture}
@@ -31,7 +32,7 @@ pub record HasLongLine (picture : Picture) (block line : ℕ) : Type 0 where
   pub long : IsLongAt picture block line
   pub first : AreShort picture block line
 
--- the same of a file's image
+-- this line of the file's image is the first that takes too many bytes
 pub record HasLongLineAt (file : File) (block line : ℕ) : Type 0 where
   pub picture : Picture
   pub header : Header
@@ -45,7 +46,7 @@ pub record HasLongHeader (file : File) (block size : ℕ) : Type 0 where
   pub source : IsSource file picture header
   pub short : AreShort picture block picture.lines
   pub size_is : size ≡ first_size header
-  pub long : 65534 < size
+  pub long : most_body_bytes < size
 
 -- the file has more bytes than files have
 pub record IsLongFile (file : File) (block size : ℕ) : Type 0 where
@@ -53,9 +54,9 @@ pub record IsLongFile (file : File) (block size : ℕ) : Type 0 where
   pub header : Header
   pub source : IsSource file picture header
   pub short : AreShort picture block picture.lines
-  pub fits : first_size header ≤ 65534
+  pub fits : first_size header ≤ most_body_bytes
   pub size_is : size ≡ file_size header picture block
-  pub long : 67108864 < size
+  pub long : most_file_bytes < size
 
 -- the first refusal; want of memory may come at any time
 abbrev pub HasRepackFault : File → ℕ → RepackFault → Type 0

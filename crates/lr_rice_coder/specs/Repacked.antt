@@ -5,7 +5,10 @@ use Rattle.std.specs.Prelude.{take, drop, filter}
 use Rattle.std.specs.List.{AllZip, concat, flat_map, range_with_len, sum_by}
 use Rattle.byteorder.specs.Endian.{big_bytes}
 use Rattle.lr_bits.specs.File.{File, IsFile, counter_of, declared_bits_of, proper_of, real_bits_of}
+use Rattle.lr_bits.specs.Written.{header_record, primary_record, structure_record, transport_header}
+use Rattle.lr_bits.specs.declared.sizes.TheConstants.{TRANSPORT_HEADER_BYTES}
 use Rattle.lr_headers.specs.Fields.{data_bits}
+use Rattle.lr_headers.specs.Kinds.{lossless_bytes, lossless_kind, primary_bytes, structure_bytes, structure_kind}
 use Rattle.lr_headers.specs.Tiling.{Header, IsHeaderOf}
 use Rattle.lr_headers.specs.declared.entry.Entry.{Entry}
 use Rattle.lr_rice.specs.CodedLines.{Form, form_of}
@@ -41,7 +44,7 @@ record_bytes bytes e = take e.length (drop e.at bytes)
 
 -- neither an image structure record nor a lossless one, of whatever length
 abbrev pub is_other : Entry → Bool
-is_other e = not (e.kind == 1) && not (e.kind == 131)
+is_other e = not (e.kind == structure_kind) && not (e.kind == lossless_kind)
 
 -- the records after the first one that stay
 abbrev pub others_of : List Entry → List Entry
@@ -51,35 +54,40 @@ others_of (first ∷ entries) = filter is_other entries
 abbrev pub other_records : Header → List ℕ
 other_records header = flat_map (record_bytes header.bytes) (others_of header.entries)
 
--- The primary record: kind 0 and 16 bytes, the file type 0 of images, how many bytes all records have, and how many
--- bits
--- the data field has.
-abbrev pub primary_record : ℕ → ℕ → List ℕ
-primary_record size data_bits = 0 ∷ big_bytes 2 16 ++ 0 ∷ big_bytes 4 size ++ big_bytes 8 data_bits
+-- the file type of images
+abbrev pub image_type : ℕ
+image_type = 0
 
--- the image structure record: kind 1 and 9 bytes, bits, columns and lines, and the compression 1
-abbrev pub structure_record : Picture → List ℕ
-structure_record picture =
-    1 ∷ big_bytes 2 9 ++ picture.bits ∷ big_bytes 2 picture.columns ++ big_bytes 2 picture.lines ++ 1 ∷ []
+-- the compression without loss, in an image structure record
+abbrev pub lossless_compression : ℕ
+lossless_compression = 1
 
--- the lossless record: kind 131 and 7 bytes, the flags 49, the samples of a block, and one line in each packet
+-- the image structure record of an image that is compressed without loss
+abbrev pub lossless_structure : Picture → List ℕ
+lossless_structure picture = structure_record picture.bits picture.columns picture.lines lossless_compression
+
+-- the flags of a lossless record: the bit of value 32 has to be set, and 16 and 1 go with it
+abbrev pub lossless_flags : ℕ
+lossless_flags = 49
+
+-- the lossless record: its kind and its bytes, its flags, the samples of a block, and one line in each packet
 abbrev pub lossless_record : ℕ → List ℕ
-lossless_record block = 131 ∷ big_bytes 2 7 ++ big_bytes 2 49 ++ block ∷ 1 ∷ []
+lossless_record block = header_record lossless_kind (big_bytes 2 lossless_flags ++ block ∷ 1 ∷ [])
+
+-- how many bytes these three records have
+abbrev pub new_records_bytes : ℕ
+new_records_bytes = primary_bytes + structure_bytes + lossless_bytes
 
 -- how many bytes all records have
 abbrev pub records_size : Header → ℕ
-records_size header = 32 + length (other_records header)
+records_size header = new_records_bytes + length (other_records header)
 
 abbrev pub new_records : Header → Picture → ℕ → ℕ → List ℕ
 new_records header picture block data_bits =
-    primary_record (records_size header) data_bits ++ structure_record picture ++ lossless_record block
+    primary_record image_type (records_size header) data_bits ++ lossless_structure picture ++ lossless_record block
     ++ other_records header
 
 -- ---- the file
-
--- the transport header: the file counter, and how many bits come after it
-abbrev pub transport_header : ℕ → ℕ → List ℕ
-transport_header counter bits = big_bytes 2 counter ++ big_bytes 8 bits
 
 -- the first body: the transport header and the header, where the lines have `size` bytes
 abbrev pub first_body : File → Header → Picture → ℕ → ℕ → List ℕ
@@ -89,7 +97,7 @@ first_body file header picture block size =
 
 -- how many bytes it has
 abbrev pub first_size : Header → ℕ
-first_size header = 10 + records_size header
+first_size header = TRANSPORT_HEADER_BYTES + records_size header
 
 -- the file: its first body, and one for each line
 abbrev pub repacked_file : File → Header → Picture → ℕ → List (List ℕ) → File

@@ -1,13 +1,16 @@
 //! Why lines and files aren't coded.
 
 use lr_image::ImageFault;
+use thiserror::Error;
 
 /// Why a line isn't coded.
-#[derive(Clone, Copy)]
+#[derive(Clone, Copy, Debug, Error)]
 pub enum CodeFault {
     /// Its string has more than 65,534 bytes.
+    #[error("the line takes more bytes than a packet holds")]
     Long,
     /// No memory was left.
+    #[error("no memory was left")]
     NoMemory,
 }
 

@@ -2,6 +2,7 @@
 
 ghost use Rattle.std.specs.Prelude.{◌≡◌, ◌<◌, ◌≤◌, ◌+◌, ◌^◌, ◌++◌, ◌∷◌, [], All, IfErr, IfOk, OnOk, length};
 ghost use Rattle.lr_bits.specs.File.{counter_of};
+ghost use Rattle.lr_bits.specs.Sizes.{most_body_bytes, most_file_bytes};
 ghost use Rattle.lr_rice.specs.CodedLines.{form_of};
 ghost use Rattle.lr_rice_coder.specs.Coded.{IsBlock, IsFault};
 ghost use Rattle.lr_rice_coder.specs.Fronts.{
@@ -17,9 +18,8 @@ ghost use Rattle.lr_rice_coder.specs.Refusals.{HasFaultOrMemory};
 ghost use Rattle.lr_rice_coder.specs.Repacked.{HaveOneImage, IsRepacked, KeepsName};
 
 use crate::header::{NEW_BYTES, first_body, other_records};
-use crate::line::MOST_BODY_BYTES;
 use crate::{CodeFault, RepackFault, code_line};
-use lr_bits::{Bytes, Lengths, MOST_FILE_BYTES, MissionFile, NoMemory};
+use lr_bits::{Bytes, Lengths, MOST_BODY_BYTES, MOST_FILE_BYTES, MissionFile, NoMemory};
 use lr_headers::{Records, Structure};
 use lr_image::{Image, ImageFault, image_of};
 use std::alloc::Global;
@@ -161,7 +161,7 @@ fn coded_lines(
 
 /// The length of the first body, if a body can have it.
 fn lengths_from(alloc: Global, first: usize) -> Result<Lengths, NoMemory>
-    ensures { IfOk result (λ lengths. first ≤ 65534 → lengths ≡ first ∷ []) }
+    ensures { IfOk result (λ lengths. first ≤ most_body_bytes → lengths ≡ first ∷ []) }
 {
     let mut lengths = Lengths::new(alloc);
     if first <= MOST_BODY_BYTES {
@@ -172,7 +172,7 @@ fn lengths_from(alloc: Global, first: usize) -> Result<Lengths, NoMemory>
 
 /// How many bytes all lines may have after a first body of `first` bytes: none where this is too long for a body.
 fn room_after(first: usize) -> usize
-    ensures { first ≤ 65534 → first + result ≡ 67108864 }
+    ensures { first ≤ most_body_bytes → first + result ≡ most_file_bytes }
 {
     if first <= MOST_BODY_BYTES {
         MOST_FILE_BYTES - first

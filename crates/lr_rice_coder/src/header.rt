@@ -1,38 +1,40 @@
 //! The first body of a file that is coded anew: the transport header and the header records (CGMS 03).
 
 ghost use Rattle.std.specs.Prelude.{◌≡◌, ◌<◌, ◌≤◌, ◌+◌, ◌*◌, ◌++◌, ◌^◌, [], IfOk, OnOk, length};
+ghost use Rattle.lr_bits.specs.Written.{primary_record, transport_header};
 ghost use Rattle.lr_headers.specs.Tiling.{IsHeaderOf};
 ghost use Rattle.lr_rice_coder.specs.Fronts.{front_with, picture_with};
-ghost use Rattle.lr_rice_coder.specs.Repacked.{is_other, lossless_record, other_records, primary_record, record_bytes};
-ghost use Rattle.lr_rice_coder.specs.Repacked.{structure_record, transport_header};
+ghost use Rattle.lr_rice_coder.specs.Repacked.{is_other, lossless_record, other_records, record_bytes};
+ghost use Rattle.lr_rice_coder.specs.Repacked.{lossless_structure};
 
 use lr_bits::{Bytes, NoMemory, TRANSPORT_HEADER_BYTES};
-use lr_headers::{Entry, Records, Structure};
+use lr_headers::{
+    Entry, LOSSLESS_BYTES, LOSSLESS_KIND, PRIMARY_BYTES, Records, STRUCTURE_BYTES, STRUCTURE_KIND,
+    Structure,
+};
 use std::alloc::Global;
 
-/// The kind of image structure records.
-const STRUCTURE: u8 = 1;
-
-/// The kind of lossless records.
-const LOSSLESS: u8 = 131;
-
 /// The bytes of the primary, the image structure and the lossless record.
-const NEW_RECORDS_BYTES: usize = 32;
+const NEW_RECORDS_BYTES: usize = (PRIMARY_BYTES + STRUCTURE_BYTES + LOSSLESS_BYTES) as usize;
 
 /// The bytes of a first body before the records that stay.
 pub(crate) const NEW_BYTES: usize = TRANSPORT_HEADER_BYTES + NEW_RECORDS_BYTES;
 
 /// How the primary record begins: its kind, its 16 bytes, and the file type of images.
-const PRIMARY_FRONT: [u8; 4] = [0, 0, 16, 0];
+const PRIMARY_FRONT: [u8; 4] = [0, 0, PRIMARY_BYTES as u8, 0];
 
 /// How the image structure record begins: its kind and its 9 bytes.
-const STRUCTURE_FRONT: [u8; 3] = [STRUCTURE, 0, 9];
+const STRUCTURE_FRONT: [u8; 3] = [STRUCTURE_KIND, 0, STRUCTURE_BYTES as u8];
 
 /// The compression without loss, at the end of the image structure record.
 const COMPRESSION: u8 = 1;
 
 /// How the lossless record begins: its kind, its 7 bytes, and the flags.
-const LOSSLESS_FRONT: [u8; 5] = [LOSSLESS, 0, 7, 0, 49];
+const LOSSLESS_FRONT: [u8; 5] = [LOSSLESS_KIND, 0, LOSSLESS_BYTES as u8, 0, FLAGS];
+
+/// The flags of a lossless record: the bit of value 32 says that the predictor of the sample before is used, 16 and 1
+/// go with it.
+const FLAGS: u8 = 49;
 
 /// How many lines a packet has, at the end of the lossless record.
 const PACKET_LINES: u8 = 1;
@@ -61,7 +63,7 @@ pub(crate) fn other_records(
 fn is_other(entry: Entry) -> bool
     ensures { result ≡ is_other entry }
 {
-    entry.kind != STRUCTURE && entry.kind != LOSSLESS
+    entry.kind != STRUCTURE_KIND && entry.kind != LOSSLESS_KIND
 }
 
 /// All bytes of a record.
@@ -106,7 +108,7 @@ fn put_transport(front: &mut Bytes, counter: u16, bits: u64) -> Result<(), NoMem
 
 /// Appends the primary record: how many bytes all records have, and how many bits the data field has.
 fn put_primary(front: &mut Bytes, size: u32, data_bits: u64) -> Result<(), NoMemory>
-    ensures { OnOk result (front.new ≡ front.old ++ primary_record size data_bits) }
+    ensures { OnOk result (front.new ≡ front.old ++ primary_record 0 size data_bits) }
 {
     front.extend(&PRIMARY_FRONT)?;
     front.extend(&size.to_be_bytes())?;
@@ -115,7 +117,7 @@ fn put_primary(front: &mut Bytes, size: u32, data_bits: u64) -> Result<(), NoMem
 
 /// Appends the image structure record.
 fn put_structure(front: &mut Bytes, structure: Structure) -> Result<(), NoMemory>
-    ensures { OnOk result (front.new ≡ front.old ++ structure_record (picture_with structure [])) }
+    ensures { OnOk result (front.new ≡ front.old ++ lossless_structure (picture_with structure [])) }
 {
     front.extend(&STRUCTURE_FRONT)?;
     front.extend(&[structure.bits])?;

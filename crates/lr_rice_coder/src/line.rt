@@ -2,6 +2,7 @@
 
 ghost use Rattle.std.specs.Prelude.{◌≡◌, ◌<◌, ◌≤◌, ◌*◌, ◌+◌, ◌-◌, ◌%◌, ◌^◌, ◌++◌, All, Err, IfErr, IfOk, OnErr, OnOk};
 ghost use Rattle.std.specs.Prelude.{length};
+ghost use Rattle.lr_bits.specs.Sizes.{most_body_bytes};
 ghost use Rattle.lr_rice.specs.CodedLines.{block_count, form_of, left_in_segment};
 ghost use Rattle.lr_rice_coder.specs.Coded.{AppendsLine, ArePaddedBits, IsBlock, IsFault};
 ghost use Rattle.lr_rice_coder.specs.declared.fault.CodeFault.TheVariants.{Long};
@@ -13,15 +14,9 @@ use crate::block::{write_block, write_head};
 use crate::cost::shortest_option;
 use crate::values::{places_of, run_at};
 use crate::writer::BitWriter;
-use lr_bits::{Bytes, NoMemory};
-use lr_rice::BlockOption;
+use lr_bits::{Bytes, MOST_BODY_BYTES, NoMemory};
+use lr_rice::{BlockOption, SEGMENT_BLOCKS};
 use std::alloc::Global;
-
-/// The blocks of a segment.
-const SEGMENT: usize = 64;
-
-/// The most bytes of a packet's body, and so of a coded line.
-pub(crate) const MOST_BODY_BYTES: usize = 65_534;
 
 /// Appends the shortest coding of a line of these samples, filled with zeros to whole bytes. A block has 8, 16, 32 or
 /// 64 samples. A refusal leaves the bytes as they were.
@@ -50,9 +45,9 @@ pub fn code_line(
 /// Appends the bytes of a line, if they are no more than a body has.
 fn append(bytes: &[u8], out: &mut Bytes) -> Result<(), CodeFault>
     ensures small { All (λ byte. byte < 256) bytes.now }
-    ensures short { OnOk result (length bytes.now ≤ 65534) }
+    ensures short { OnOk result (length bytes.now ≤ most_body_bytes) }
     ensures ok { OnOk result (out.new ≡ out.old ++ bytes.now) }
-    ensures long { result ≡ Err Long → 65534 < length bytes.now }
+    ensures long { result ≡ Err Long → most_body_bytes < length bytes.now }
     ensures err { OnErr result (out.new ≡ out.old) }
 {
     if bytes.len() > MOST_BODY_BYTES {
@@ -157,7 +152,7 @@ fn left_in_segment(line: &Line, at: usize) -> usize
     requires inside { at < block_count (form_in line.now) }
     ensures { result ≡ left_in_segment (form_in line.now) at }
 {
-    (SEGMENT - at % SEGMENT).min(block_count(line) - at)
+    (SEGMENT_BLOCKS - at % SEGMENT_BLOCKS).min(block_count(line) - at)
 }
 
 /// The number of a zero block for this run, where this many blocks are left in the segment.

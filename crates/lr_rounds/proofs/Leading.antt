@@ -28,6 +28,7 @@ use Rattle.std.proofs.Common.{
   ◌-◌,
   refl,
 }
+use Rattle.lr_gatecore.specs.declared.sizes.TheConstants.{MOST_JOBS}
 use Rattle.lr_gatecore.proofs.Lists.{at_length}
 use Rattle.lr_gate.proofs.Fewer.{same_left}
 use Rattle.lr_gate.specs.Calls.{HasFinished}
@@ -152,7 +153,7 @@ module _ {L W J D : Type 0} (stands : L → L → List J → ℕ → Type 0) (is
         → GivesJob stands is_over left (view_of conductor).jobs (view_of conductor).taken start before now job
     given_from start begins = gives start (view_of conductor).jobs (view_of conductor).taken (may.led start begins)
 
-    pub few_put : put_count (view_of conductor) < 2 ^ 56
+    pub few_put : put_count (view_of conductor) < MOST_JOBS
     few_put = (given_from may.ready.0 may.ready.1).few
 
     module _ (conductor' : Conductor W J D) (traffic' : Traffic)

@@ -2,6 +2,7 @@
 use Rattle.std.specs.Prelude.{◌≡◌, ◌<◌, ◌≤◌, ◌+◌, ◌^◌, ℕ, List, [], ◌∷◌, ◌++◌, length}
 use mathlib.Core.Option.{some}
 use lib.ListN.{get_elem?}
+use Rattle.lr_gatecore.specs.declared.sizes.TheConstants.{MOST_JOBS}
 use Rattle.lr_rounds.specs.declared.lead.Offer.{Offer}
 use Rattle.lr_rounds.specs.declared.lead.Offer.TheVariants.{Job, Later, Over}
 use Rattle.lr_rounds.specs.declared.unled.Unled.{Unled}
@@ -35,7 +36,7 @@ module _ {L J : Type 0} (stands : L → L → List J → ℕ → Type 0) where
     -- this job was given, after fewer than 2^56 others, and fewer are to come
     pub record GivesJob (job : J) : Type 0 where
       pub one_more : stands start now (jobs ++ job ∷ []) kept
-      pub few : length jobs < 2 ^ 56
+      pub few : length jobs < MOST_JOBS
       pub fewer : left now < left before
 
     -- no job was given

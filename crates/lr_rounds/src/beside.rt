@@ -8,6 +8,7 @@ use crate::crew::Crew;
 use crate::lead::Lead;
 use crate::round::{Round, Traffic, next_round};
 use crate::unled::Unled;
+use lr_bits::take_back;
 use lr_gate::{Conductor, Gate};
 use lr_gatecore::Work;
 use lr_workers::{Body, Conducted, Pooled, Refused, with_pool};
@@ -83,11 +84,6 @@ where
         (Conducting { lead, make_rounds }, own, answer)
     }
 }
-
-/// Does nothing. This use of a reference that came back ties it to the one that was lent.
-fn take_back<T>(it: &mut T)
-    ensures { it.new ≡ it.old }
-{}
 
 /// Does what `lead_alone` does, with a thread for each seat of the crew.
 pub fn lead_beside<R: Threads + Wait + Sync, W: Work + Send + Drop, L: Lead<W>>(

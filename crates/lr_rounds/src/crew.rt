@@ -2,7 +2,7 @@
 
 use lr_bits::NoMemory;
 use lr_gate::{Conductor, Gate, WorkerSeat};
-use lr_gatecore::Work;
+use lr_gatecore::{MOST_HANDS, Work};
 use std::alloc::Global;
 use std::marker::Model;
 
@@ -36,7 +36,7 @@ impl<W: Work + Drop> Crew<W> {
 
     /// The caller, who works with `own`, a seat for each of the other works, and a ring for them all.
     pub fn new(alloc: Global, works: Vec<W>, own: W) -> Result<Crew<W>, NoMemory>
-        requires { vec_len works ≤ 63 }
+        requires { vec_len works ≤ MOST_HANDS }
         ensures { IfOk result (λ crew. crew ≡ crew_with (vec_len works)) }
     {
         let workers = works.len() as u32;

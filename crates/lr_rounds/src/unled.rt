@@ -1,3 +1,5 @@
+//! Why a run over the ring was not led to its end.
+
 /// Why a lead was not led to its end.
 #[derive(Drop)]
 pub enum Unled<E> {

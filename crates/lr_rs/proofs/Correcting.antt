@@ -27,8 +27,9 @@ use Rattle.lr_rs.specs.Words.{locator}
 use Rattle.lr_rs.specs.Words.{IsWord}
 use Rattle.lr_rs.specs.RootLists.{IsRootList}
 use Rattle.lr_rs.proofs.Unique.{difference, same_words}
+use Rattle.lr_rs.specs.declared.sizes.TheConstants.{WORD_BYTES}
 
-pub correct_more : (old now ps ys : List ℕ) (count l v : ℕ) → length now ≡ 255 → l < count → get_or ps l 0 < 255
+pub correct_more : (old now ps ys : List ℕ) (count l v : ℕ) → length now ≡ WORD_BYTES → l < count → get_or ps l 0 < 255
     → ((i j : ℕ) → i < count → j < count → get_or ps i 0 ≡ get_or ps j 0 → i ≡ j)
     → conventional_of v ≡ bit_xor (conventional_of (get_or now (get_or ps l 0) 0)) (get_or ys l 0)
     → ((j : ℕ) → j < l → conventional_of (get_or now (get_or ps j 0) 0)
@@ -38,7 +39,7 @@ pub correct_more : (old now ps ys : List ℕ) (count l v : ℕ) → length now �
     ≡ bit_xor (conventional_of (get_or old (get_or ps j 0) 0)) (get_or ys j 0))
     × ((p : ℕ) → ((j : ℕ) → j < l + 1 → get_or ps j 0 ≢ p) → get_or (slice_set now (get_or ps l 0) v) p 0
     ≡ get_or old p 0)
-    × (length (slice_set now (get_or ps l 0) v) ≡ 255)
+    × (length (slice_set now (get_or ps l 0) v) ≡ WORD_BYTES)
 correct_more old now ps ys count l v long hl room different hv done rest =
     let apart : (j : ℕ) → j < l → get_or ps j 0 ≢ get_or ps l 0 =
     λ j h e. absurd (omega (arith, different j l (omega arith) hl e)) in (
@@ -59,8 +60,8 @@ correct_more old now ps ys count l v long hl room different hv done rest =
 
 -- where the values are the error values, the corrected word is the codeword
 pub corrected_is : (w fixed c cs ps : List ℕ) (count : ℕ) (y : ℕ → ℕ) → IsWord fixed → IsWord c
-    → IsRootList cs 255 count ps
-    → ((p : ℕ) → p < 255 → value_of cs (locator p) ≢ 0 → difference w c p ≡ 0)
+    → IsRootList cs WORD_BYTES count ps
+    → ((p : ℕ) → p < WORD_BYTES → value_of cs (locator p) ≢ 0 → difference w c p ≡ 0)
     → ((l : ℕ) → l < count → y l ≡ difference w c (get_or ps l 0))
     → ((l : ℕ) → l < count → conventional_of (get_or fixed (get_or ps l 0) 0)
     ≡ bit_xor (conventional_of (get_or w (get_or ps l 0) 0)) (y l))

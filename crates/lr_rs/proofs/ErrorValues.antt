@@ -13,19 +13,21 @@ use Rattle.lr_rs.proofs.Locators.{locators}
 use Rattle.lr_rs.specs.Words.{word_value, IsCodeword}
 use Rattle.lr_rs.specs.RootLists.{HasEquations, IsRootList}
 use Rattle.lr_rs.proofs.Unique.{difference, value_of_difference}
+use Rattle.lr_rs.specs.declared.sizes.TheConstants.{CHECK_BYTES, WORD_BYTES}
 
 -- the values of a word are those of its difference to a codeword
-pub syndromes_of_difference : (w c : List ℕ) → IsCodeword c → (j : ℕ) → j < 32
-    → word_value w (power 2 (11 * (112 + j))) ≡ sum_of 255 (λ p. times (difference w c p) (power (locator p) (112 + j)))
+pub syndromes_of_difference : (w c : List ℕ) → IsCodeword c → (j : ℕ) → j < CHECK_BYTES
+    → word_value w (power 2 (11 * (112 + j))) ≡ sum_of WORD_BYTES
+    (λ p. times (difference w c p) (power (locator p) (112 + j)))
 syndromes_of_difference w c h j k =
     sym (value_of_difference w c (112 + j)
     ∙ ap (bit_xor (word_value w (power 2 (11 * (112 + j))))) (h.zero_at (112 + j) (omega arith) (omega arith))
     ∙ xor_zero_r (word_value w (power 2 (11 * (112 + j)))))
 
 -- sums over the roots are the values
-sums_at_roots : (cs ps : List ℕ) (count j : ℕ) (e s : ℕ → ℕ) → IsRootList cs 255 count ps
-    → ((p : ℕ) → p < 255 → value_of cs (locator p) ≢ 0 → e p ≡ 0)
-    → s j ≡ sum_of 255 (λ p. times (e p) (power (locator p) (112 + j)))
+sums_at_roots : (cs ps : List ℕ) (count j : ℕ) (e s : ℕ → ℕ) → IsRootList cs WORD_BYTES count ps
+    → ((p : ℕ) → p < WORD_BYTES → value_of cs (locator p) ≢ 0 → e p ≡ 0)
+    → s j ≡ sum_of WORD_BYTES (λ p. times (e p) (power (locator p) (112 + j)))
     → sum_of count (λ l. times (e (get_or ps l 0)) (power (locator (get_or ps l 0)) (112 + j))) ≡ s j
 sums_at_roots cs ps count j e s r none is =
     sym (r.sums (λ p. times (e p) (power (locator p) (112 + j)))
@@ -35,9 +37,9 @@ sums_at_roots cs ps count j e s r none is =
 
 -- the error values are a solution
 pub error_values_solve : (cs ps : List ℕ) (count : ℕ) (e s : ℕ → ℕ) (m : ℕ → ℕ → ℕ) → count ≤ 16
-    → IsRootList cs 255 count ps
-    → ((p : ℕ) → p < 255 → value_of cs (locator p) ≢ 0 → e p ≡ 0)
-    → ((j : ℕ) → j < 32 → s j ≡ sum_of 255 (λ p. times (e p) (power (locator p) (112 + j))))
+    → IsRootList cs WORD_BYTES count ps
+    → ((p : ℕ) → p < WORD_BYTES → value_of cs (locator p) ≢ 0 → e p ≡ 0)
+    → ((j : ℕ) → j < CHECK_BYTES → s j ≡ sum_of WORD_BYTES (λ p. times (e p) (power (locator p) (112 + j))))
     → HasEquations count ps s m → IsSolution count m (λ l. e (get_or ps l 0))
 error_values_solve cs ps count e s m few r none is q = record {
   solves = λ j h.
@@ -50,10 +52,10 @@ error_values_solve cs ps count e s m few r none is q = record {
 
 -- and the only one
 pub solution_is_error_values : (cs ps : List ℕ) (count : ℕ) (e s y : ℕ → ℕ) (m : ℕ → ℕ → ℕ) → count ≤ 16
-    → IsRootList cs 255 count ps
-    → ((p : ℕ) → p < 255 → value_of cs (locator p) ≢ 0 → e p ≡ 0)
-    → ((j : ℕ) → j < 32 → s j ≡ sum_of 255 (λ p. times (e p) (power (locator p) (112 + j))))
-    → HasEquations count ps s m → ((p : ℕ) → p < 255 → e p < 256) → ((l : ℕ) → l < count → y l < 256)
+    → IsRootList cs WORD_BYTES count ps
+    → ((p : ℕ) → p < WORD_BYTES → value_of cs (locator p) ≢ 0 → e p ≡ 0)
+    → ((j : ℕ) → j < CHECK_BYTES → s j ≡ sum_of WORD_BYTES (λ p. times (e p) (power (locator p) (112 + j))))
+    → HasEquations count ps s m → ((p : ℕ) → p < WORD_BYTES → e p < 256) → ((l : ℕ) → l < count → y l < 256)
     → IsSolution count m y
     → (l : ℕ) → l < count → y l ≡ e (get_or ps l 0)
 solution_is_error_values cs ps count e s y m few r none is q bytes small sol l h =

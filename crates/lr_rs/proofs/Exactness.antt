@@ -39,6 +39,7 @@ use Rattle.lr_rs.proofs.Unique.{difference, weight-distance}
 use Rattle.lr_rs.proofs.KeyEquation.{error_is_root}
 use Rattle.lr_rs.proofs.ErrorValues.{syndromes_of_difference, error_values_solve, solution_is_error_values}
 use Rattle.lr_rs.proofs.Correcting.{corrected_is}
+use Rattle.lr_rs.specs.declared.sizes.TheConstants.{CHECK_BYTES, WORD_BYTES}
 
 value-lt : (cs : List ℕ) (x : ℕ) → value_of cs x < 256
 unfolding value_of
@@ -52,21 +53,21 @@ difference-lt a b p = xor_lt 8 (conventional_of (slice_index a p)) (conventional
 
 -- what the code knows when it has the roots
 pub record Found (w cs ps : List ℕ) (count : ℕ) (s : ℕ → ℕ) (key : ℕ → ℕ → ℕ) : Type 0 where
-  pub values : (j : ℕ) → j < 32 → s j ≡ word_value w (power 2 (11 * (112 + j)))
+  pub values : (j : ℕ) → j < CHECK_BYTES → s j ≡ word_value w (power 2 (11 * (112 + j)))
   pub filled : (i k : ℕ) → i < 16 → k < 17 → key i k ≡ s (i + (16 - k))
   pub kernel : IsInKernel 16 17 key (slice_index cs)
   pub long : length cs ≡ 17
-  pub list : IsRootList cs 255 count ps
+  pub list : IsRootList cs WORD_BYTES count ps
   pub few : count ≤ 16
 
 off_roots : (w c cs ps : List ℕ) (count : ℕ) (s : ℕ → ℕ) (key : ℕ → ℕ → ℕ) → Found w cs ps count s key → IsRestored w c
-    → (p : ℕ) → p < 255 → value_of cs (locator p) ≢ 0 → difference w c p ≡ 0
+    → (p : ℕ) → p < WORD_BYTES → value_of cs (locator p) ≢ 0 → difference w c p ≡ 0
 off_roots w c cs ps count s key f r p h ne =
     elim (cases_eq (difference w c p) 0) [
       | inl e ↦ e
       | inr differs ↦ absurd (ne (error_is_root cs (difference w c) s f.long (λ q k. value-lt cs (locator q))
           (λ q k. difference-lt w c q)
-          (omega (arith, weight-distance 255 w c, r.near))
+          (omega (arith, weight-distance WORD_BYTES w c, r.near))
           (λ j k. f.values j k ∙ syndromes_of_difference w c r.is_codeword j k)
           (λ i hi.
           sum_of-same 17 (λ k. times (s (i + (16 - k))) (get_or cs k 0)) (λ k. times (key i k) (get_or cs k 0))

@@ -45,6 +45,7 @@ use Rattle.lr_gf.proofs.SumLaws.{sum_of-same, sum_of-linear, sum_of-swap, weight
 use Rattle.lr_gf.proofs.Vanishing.{vanishing}
 use Rattle.lr_rs.specs.Words.{locator}
 use Rattle.lr_rs.proofs.Locators.{locators}
+use Rattle.lr_rs.specs.declared.sizes.TheConstants.{CHECK_BYTES, WORD_BYTES}
 
 -- one term: (e (c x^a)) x^b = c (e x^(b + a))
 term : (e c x a b : ℕ) → x < 256 → times (times e (times c (power x a))) (power x b)
@@ -59,10 +60,10 @@ term e c x a b h =
 
 -- sums of e_p Λ(x_p) x_p^b, by the sums of e_p x_p^j
 pub key_sum : (cs : List ℕ) (e : ℕ → ℕ) (b : ℕ) → length cs ≡ 17
-    → sum_of 255 (λ p. times (times (e p) (value_of cs (locator p))) (power (locator p) b))
-    ≡ sum_of 17 (λ k. times (sum_of 255 (λ p. times (e p) (power (locator p) (b + (16 - k))))) (get_or cs k 0))
+    → sum_of WORD_BYTES (λ p. times (times (e p) (value_of cs (locator p))) (power (locator p) b))
+    ≡ sum_of 17 (λ k. times (sum_of WORD_BYTES (λ p. times (e p) (power (locator p) (b + (16 - k))))) (get_or cs k 0))
 key_sum cs e b h =
-    sum_of-same 255 (λ p. times (times (e p) (value_of cs (locator p))) (power (locator p) b))
+    sum_of-same WORD_BYTES (λ p. times (times (e p) (value_of cs (locator p))) (power (locator p) b))
     (λ p. sum_of 17 (λ k. times (times (e p) (power (locator p) (b + (16 - k)))) (get_or cs k 0)))
     (λ p j.
     ap (λ z. times (times (e p) z) (power (locator p) b)) (value_as_sum cs 17 (locator p) h)
@@ -76,18 +77,20 @@ key_sum cs e b h =
     (power (locator p) b))
     (λ k. times (times (e p) (power (locator p) (b + (16 - k)))) (get_or cs k 0))
     (λ k l. term (e p) (get_or cs k 0) (locator p) (16 - k) b (locators.below p j)))
-    ∙ sum_of-swap 255 17 (λ p k. times (times (e p) (power (locator p) (b + (16 - k)))) (get_or cs k 0))
-    ∙ sum_of-same 17 (λ k. sum_of 255 (λ p. times (times (e p) (power (locator p) (b + (16 - k)))) (get_or cs k 0)))
-    (λ k. times (sum_of 255 (λ p. times (e p) (power (locator p) (b + (16 - k))))) (get_or cs k 0))
-    (λ k l. sum_of-linear 255 (λ z. times z (get_or cs k 0))
+    ∙ sum_of-swap WORD_BYTES 17 (λ p k. times (times (e p) (power (locator p) (b + (16 - k)))) (get_or cs k 0))
+    ∙ sum_of-same 17 (λ k. sum_of WORD_BYTES (λ p. times (times (e p) (power (locator p) (b + (16 - k))))
+    (get_or cs k 0)))
+    (λ k. times (sum_of WORD_BYTES (λ p. times (e p) (power (locator p) (b + (16 - k))))) (get_or cs k 0))
+    (λ k l. sum_of-linear WORD_BYTES (λ z. times z (get_or cs k 0))
     (λ p. times (e p) (power (locator p) (b + (16 - k)))) (linear-times-left (get_or cs k 0)))
 
 -- each place in error is a root
-pub error_is_root : (cs : List ℕ) (e s : ℕ → ℕ) → length cs ≡ 17 → ((p : ℕ) → p < 255 → value_of cs (locator p) < 256)
-    → ((p : ℕ) → p < 255 → e p < 256) → weight 255 e ≤ 16
-    → ((j : ℕ) → j < 32 → s j ≡ sum_of 255 (λ p. times (e p) (power (locator p) (112 + j))))
+pub error_is_root : (cs : List ℕ) (e s : ℕ → ℕ) → length cs ≡ 17 →
+    ((p : ℕ) → p < WORD_BYTES → value_of cs (locator p) < 256)
+    → ((p : ℕ) → p < WORD_BYTES → e p < 256) → weight WORD_BYTES e ≤ 16
+    → ((j : ℕ) → j < CHECK_BYTES → s j ≡ sum_of WORD_BYTES (λ p. times (e p) (power (locator p) (112 + j))))
     → ((i : ℕ) → i < 16 → sum_of 17 (λ k. times (s (i + (16 - k))) (get_or cs k 0)) ≡ 0)
-    → (p : ℕ) → p < 255 → e p ≢ 0 → value_of cs (locator p) ≡ 0
+    → (p : ℕ) → p < WORD_BYTES → e p ≢ 0 → value_of cs (locator p) ≡ 0
 error_is_root cs e s h small bytes few is sent p hp ne =
     times-nonzero (e p) (value_of cs (locator p)) (bytes p hp) (small p hp) ne
     (vanishing 16 255 112 (λ p. times (e p) (value_of cs (locator p))) locator locators
@@ -95,18 +98,19 @@ error_is_root cs e s h small bytes few is sent p hp ne =
     (omega (
       arith,
       few,
-      weight-le 255 e (λ p. times (e p) (value_of cs (locator p)))
+      weight-le WORD_BYTES e (λ p. times (e p) (value_of cs (locator p)))
           (λ i k z. ap (λ y. times y (value_of cs (locator i))) z ∙ times-zero-left (value_of cs (locator i))),
     ))
     (λ i hi.
     key_sum cs e (112 + i) h
-    ∙ sum_of-same 17 (λ k. times (sum_of 255 (λ p. times (e p) (power (locator p) (112 + i + (16 - k)))))
+    ∙ sum_of-same 17 (λ k. times (sum_of WORD_BYTES (λ p. times (e p) (power (locator p) (112 + i + (16 - k)))))
     (get_or cs k 0))
     (λ k. times (s (i + (16 - k))) (get_or cs k 0))
     (λ k l.
     let exponent : 112 + i + (16 - k) ≡ 112 + (i + (16 - k)) = omega arith in
     ap (λ z. times z (get_or cs k 0))
-    (ap (λ m. sum_of 255 (λ p. times (e p) (power (locator p) m))) exponent ∙ sym (is (i + (16 - k)) (omega arith))))
+    (ap (λ m. sum_of WORD_BYTES (λ p. times (e p) (power (locator p) m))) exponent ∙
+    sym (is (i + (16 - k)) (omega arith))))
     ∙ sent i hi)
     p hp)
 
@@ -200,7 +204,8 @@ roots_more cs ps limit count r room e = record {
 }
 
 -- a polynomial of 17 coefficients that aren't all 0 has at most 16 roots
-pub at_most_sixteen : (cs ps : List ℕ) (count : ℕ) → length cs ≡ 17 → All (λ c. c < 256) cs → IsRootList cs 255 count ps
+pub at_most_sixteen : (cs ps : List ℕ) (count : ℕ) → length cs ≡ 17 → All (λ c. c < 256) cs →
+    IsRootList cs WORD_BYTES count ps
     → (k : ℕ) → k < 17 → get_or cs k 0 ≢ 0 → count ≤ 16
 at_most_sixteen cs ps count h small r k hk ne =
     elim (cases_lt 16 count) [
@@ -213,12 +218,12 @@ at_most_sixteen cs ps count h small r k hk ne =
     all_zero_at cs k h all = All-get_or (λ c. c ≡ 0) cs k 0 h all
 
 -- a word's value, by its coefficients
-pub value_of_word : (word : List ℕ) (x : ℕ) → length word ≡ 255 → value_of (map conventional_of word) x
+pub value_of_word : (word : List ℕ) (x : ℕ) → length word ≡ WORD_BYTES → value_of (map conventional_of word) x
     ≡ word_value word x
 unfolding word_value
 value_of_word word x h =
     value_as_sum (map conventional_of word) 255 x (simp length-map h)
-    ∙ sum_of-same 255 (λ k. times (get_or (map conventional_of word) k 0) (power x (255 - 1 - k)))
+    ∙ sum_of-same WORD_BYTES (λ k. times (get_or (map conventional_of word) k 0) (power x (255 - 1 - k)))
     (λ i. times (conventional_of (slice_index word i)) (power x (254 - i)))
     (λ k l. ap (λ z. times z (power x (254 - k))) (get_or-map conventional_of word k 0 0 (omega arith)))
 

@@ -1,9 +1,11 @@
 pub mod Locators
 pub mod Remainders
 pub mod Unique
+pub mod VectorStep
 pub mod KeyEquation
 pub mod ErrorValues
 pub mod Correcting
 pub mod Exactness
 pub mod CheckBytes
 pub mod TermSteps
+pub mod DivisionSteps

@@ -7,6 +7,7 @@ use Rattle.lr_gf.proofs.Tests.{all_below, all_below-at}
 use Rattle.lr_gf.proofs.Powers.{power-lt, power-round, same_exponent}
 use Rattle.lr_gf.proofs.Vanishing.{AreNodes, power-nonzero}
 use Rattle.lr_rs.specs.Words.{locator}
+use Rattle.lr_rs.specs.declared.sizes.TheConstants.{WORD_BYTES}
 
 -- the exponent of a locator, and the place that it belongs to: 116 is the inverse of 11 modulo 255
 exponent : ℕ → ℕ
@@ -19,11 +20,11 @@ place-test : all_below 255 place_back ≡ true
 unfolding all_below place_back exponent
 place-test = refl
 
-place-is : (i : ℕ) → i < 255 → 254 - exponent i * 116 % 255 ≡ i
+place-is : (i : ℕ) → i < WORD_BYTES → 254 - exponent i * 116 % 255 ≡ i
 unfolding place_back
 place-is i h = eqb-true (254 - exponent i * 116 % 255) i (all_below-at 255 place_back place-test i h)
 
-exponent-lt : (i : ℕ) → exponent i < 255
+exponent-lt : (i : ℕ) → exponent i < WORD_BYTES
 unfolding exponent
 exponent-lt i = mod_below (11 * (254 - i)) 255 (omega arith)
 
@@ -31,7 +32,7 @@ locator-is : (i : ℕ) → locator i ≡ power 2 (exponent i)
 unfolding exponent
 locator-is i = power-round (11 * (254 - i))
 
-same_place : (i j : ℕ) → i < 255 → j < 255 → locator i ≡ locator j → i ≡ j
+same_place : (i j : ℕ) → i < WORD_BYTES → j < WORD_BYTES → locator i ≡ locator j → i ≡ j
 same_place i j h k e =
     sym (place-is i h)
     ∙ ap (λ n. 254 - n * 116 % 255)
@@ -39,7 +40,7 @@ same_place i j h k e =
     ∙ locator-is j))
     ∙ place-is j k
 
-pub locators : AreNodes 255 locator
+pub locators : AreNodes WORD_BYTES locator
 locators = record {
   below = λ i h. power-lt 2 (11 * (254 - i)) (omega arith);
   nonzero = λ i h. power-nonzero 2 (11 * (254 - i)) (omega arith) (omega arith);

@@ -54,6 +54,7 @@ use Rattle.lr_rs.specs.declared.generator.TheConstants.{LOW_PRODUCTS, HIGH_PRODU
 use Rattle.lr_rs.specs.Words.{word_value, locator, IsCodeword}
 use Rattle.lr_rs.specs.Division.{generator_coefficient, IsDivisionStep, IsRemainder}
 use Rattle.lr_rs.proofs.Locators.{locators}
+use Rattle.lr_rs.specs.declared.sizes.TheConstants.{CHECK_BYTES}
 
 -- ---- the tables
 low_product : ℕ → ℕ
@@ -70,13 +71,13 @@ high-test : HIGH_PRODUCTS ≡ map high_product (range_with_len 0 512)
 unfolding high_product generator_coefficient times product remainder sum_of
 high-test = refl
 
-row-of : (a k : ℕ) → k < 32 → (32 * a + k) / 32 ≡ a
+row-of : (a k : ℕ) → k < CHECK_BYTES → (32 * a + k) / 32 ≡ a
 row-of a k h = omega arith
 
-column-of : (a k : ℕ) → k < 32 → (32 * a + k) % 32 ≡ k
+column-of : (a k : ℕ) → k < CHECK_BYTES → (32 * a + k) % 32 ≡ k
 column-of a k h = omega arith
 
-low-is : (a k : ℕ) → a < 16 → k < 32 → get_or LOW_PRODUCTS (32 * a + k) 0 ≡ times a (generator_coefficient k)
+low-is : (a k : ℕ) → a < 16 → k < CHECK_BYTES → get_or LOW_PRODUCTS (32 * a + k) 0 ≡ times a (generator_coefficient k)
 unfolding low_product
 low-is a k h j =
     ap (λ t. get_or t (32 * a + k) 0) low-test
@@ -84,7 +85,8 @@ low-is a k h j =
     ∙ ap (λ r. times r (generator_coefficient ((32 * a + k) % 32))) (row-of a k j)
     ∙ ap (λ c. times a (generator_coefficient c)) (column-of a k j)
 
-high-is : (a k : ℕ) → a < 16 → k < 32 → get_or HIGH_PRODUCTS (32 * a + k) 0 ≡ times (16 * a) (generator_coefficient k)
+high-is : (a k : ℕ) → a < 16 → k < CHECK_BYTES → get_or HIGH_PRODUCTS (32 * a + k) 0 ≡ times (16 * a)
+    (generator_coefficient k)
 unfolding high_product
 high-is a k h j =
     ap (λ t. get_or t (32 * a + k) 0) high-test
@@ -100,7 +102,7 @@ halves a =
     let turned : 16 * (a / 16) ≡ a / 16 * 2 ^ 4 = omega arith in
     xor_comm (a % 16) (16 * (a / 16)) ∙ ap (λ z. bit_xor z (a % 16)) turned ∙ shifted ∙ omega arith
 
-pub product-is : (a k : ℕ) → a < 256 → k < 32
+pub product-is : (a k : ℕ) → a < 256 → k < CHECK_BYTES
     → bit_xor (get_or LOW_PRODUCTS (32 * (a % 16) + k) 0) (get_or HIGH_PRODUCTS (32 * (a / 16) + k) 0)
     ≡ times a (generator_coefficient k)
 product-is a k h j =
@@ -145,7 +147,7 @@ fits-test : all_below 33 fits ≡ true
 unfolding all_below fits tail_coefficients
 fits-test = refl
 
-tail-long : length tail_coefficients ≡ 32
+tail-long : length tail_coefficients ≡ CHECK_BYTES
 unfolding tail_coefficients
 tail-long = refl
 
@@ -163,12 +165,12 @@ power-suc : (a n : ℕ) → power a (suc n) ≡ times (power a n) a
 unfolding power
 power-suc a n = refl
 
-root-power : (j : ℕ) → j < 32 → power 2 (11 * (112 + j) % 255) ≡ root_at j
+root-power : (j : ℕ) → j < CHECK_BYTES → power 2 (11 * (112 + j) % 255) ≡ root_at j
 unfolding root_at
 root-power j h = sym (power-round (11 * (112 + j)))
 
 -- so x^32 has the value of the other terms
-generator-value : (j : ℕ) → j < 32 → value_of tail_coefficients (root_at j) ≡ power (root_at j) 32
+generator-value : (j : ℕ) → j < CHECK_BYTES → value_of tail_coefficients (root_at j) ≡ power (root_at j) 32
 unfolding is_zero_at
 generator-value j h =
     let zero_low : low (1 ∷ tail_coefficients) (root_at j) ≡ 0 =
@@ -188,16 +190,16 @@ coefficient-is : (k : ℕ) → generator_coefficient k ≡ get_or tail_coefficie
 unfolding generator_coefficient tail_coefficients
 coefficient-is k = refl
 
-generator-sum : (x : ℕ) → sum_of 32 (λ k. times (generator_coefficient k) (power x (31 - k)))
+generator-sum : (x : ℕ) → sum_of CHECK_BYTES (λ k. times (generator_coefficient k) (power x (31 - k)))
     ≡ value_of tail_coefficients x
 generator-sum x =
-    sum_of-same 32 (λ k. times (generator_coefficient k) (power x (31 - k)))
+    sum_of-same CHECK_BYTES (λ k. times (generator_coefficient k) (power x (31 - k)))
     (λ k. times (get_or tail_coefficients k 0) (power x (31 - k)))
     (λ k h. ap (λ z. times z (power x (31 - k))) (coefficient-is k))
     ∙ sym (value_as_sum tail_coefficients 32 x tail-long)
 
 -- ---- one step of the division
-new-at : (first d k : ℕ) (rest new : List ℕ) → length rest ≡ 31 → k < 32 → IsDivisionStep d (first ∷ rest) new
+new-at : (first d k : ℕ) (rest new : List ℕ) → length rest ≡ 31 → k < CHECK_BYTES → IsDivisionStep d (first ∷ rest) new
     → get_or new k 0 ≡ bit_xor (get_or (rest ++ d ∷ []) k 0) (times first (generator_coefficient k))
 new-at first d k rest new h hk s =
     elim (cases_eq k 31) [
@@ -220,7 +222,7 @@ stepped : (first d x : ℕ) (rest new : List ℕ) → length rest ≡ 31 → d <
     → IsDivisionStep d (first ∷ rest) new → value_of new x ≡ bit_xor (times (value_of (first ∷ rest) x) x) d
 stepped first d x rest new h hd g s =
     value_as_sum new 32 x s.long
-    ∙ sum_of-same 32 (λ k. times (get_or new k 0) (power x (31 - k)))
+    ∙ sum_of-same CHECK_BYTES (λ k. times (get_or new k 0) (power x (31 - k)))
     (λ k. bit_xor (times (get_or (rest ++ d ∷ []) k 0) (power x (31 - k)))
     (times first (times (generator_coefficient k) (power x (31 - k)))))
     (λ k l.
@@ -228,12 +230,13 @@ stepped first d x rest new h hd g s =
     ∙ times-add-left (get_or (rest ++ d ∷ []) k 0) (times first (generator_coefficient k)) (power x (31 - k))
     ∙ ap (bit_xor (times (get_or (rest ++ d ∷ []) k 0) (power x (31 - k))))
     (group first (generator_coefficient k) (power x (31 - k))))
-    ∙ sum_of-add 32 (λ k. times (get_or (rest ++ d ∷ []) k 0) (power x (31 - k)))
+    ∙ sum_of-add CHECK_BYTES (λ k. times (get_or (rest ++ d ∷ []) k 0) (power x (31 - k)))
     (λ k. times first (times (generator_coefficient k) (power x (31 - k))))
-    ∙ ap (λ z. bit_xor z (sum_of 32 (λ k. times first (times (generator_coefficient k) (power x (31 - k))))))
+    ∙ ap (λ z. bit_xor z (sum_of CHECK_BYTES (λ k. times first (times (generator_coefficient k) (power x (31 - k))))))
     (sym (value_as_sum (rest ++ d ∷ []) 32 x (length_push rest d ∙ omega arith)) ∙ value-push rest d x hd)
     ∙ ap (bit_xor (bit_xor (times (value_of rest x) x) d))
-    (sum_of-linear 32 (times first) (λ k. times (generator_coefficient k) (power x (31 - k))) (linear-times-right first)
+    (sum_of-linear CHECK_BYTES (times first) (λ k. times (generator_coefficient k) (power x (31 - k)))
+    (linear-times-right first)
     ∙ ap (times first) (generator-sum x ∙ g))
     ∙ rotate (times first (power x 32)) (times (value_of rest x) x) d
     ∙ ap (λ z. bit_xor z d) (sym (whole first x rest h))
@@ -246,7 +249,8 @@ stepped first d x rest new h hd g s =
         ∙ ap (λ z. bit_xor z (times (value_of rest x) x)) (group first (power x 31) x
         ∙ ap (times first) (sym (power-suc x 31)))
 
-pub value-step : (old new : List ℕ) (d j : ℕ) → length old ≡ 32 → d < 256 → j < 32 → IsDivisionStep d old new
+pub value-step : (old new : List ℕ) (d j : ℕ) → length old ≡ CHECK_BYTES → d < 256 → j < CHECK_BYTES →
+    IsDivisionStep d old new
     → value_of new (root_at j) ≡ bit_xor (times (value_of old (root_at j)) (root_at j)) d
 value-step [] new d j h hd hj s = absurd (omega arith)
 value-step (first ∷ rest) new d j h hd hj s =
@@ -270,7 +274,7 @@ elements-step old new d hd h s k =
     ]
 
 -- ---- the remainder is 0 at the codewords alone
-roots_of_code : AreNodes 32 root_at
+roots_of_code : AreNodes CHECK_BYTES root_at
 unfolding root_at
 roots_of_code = record {
   below = λ j h. root-lt j;
@@ -283,10 +287,11 @@ roots_of_code = record {
       );
 }
   where
-    as_locator : (j : ℕ) → j < 32 → locator (142 - j) ≡ power 2 (11 * (112 + j))
+    as_locator : (j : ℕ) → j < CHECK_BYTES → locator (142 - j) ≡ power 2 (11 * (112 + j))
     as_locator j h = let e : 254 - (142 - j) ≡ 112 + j = omega arith in ap (λ n. power 2 (11 * n)) e
 
-pub codeword_from_values : (word : List ℕ) → ((j : ℕ) → j < 32 → word_value word (root_at j) ≡ 0) → IsCodeword word
+pub codeword_from_values : (word : List ℕ) → ((j : ℕ) → j < CHECK_BYTES → word_value word (root_at j) ≡ 0) →
+    IsCodeword word
 unfolding root_at
 codeword_from_values word h = record {
   zero_at = λ j low high.
@@ -294,13 +299,13 @@ codeword_from_values word h = record {
       ap (λ i. word_value word (power 2 (11 * i))) e ∙ h (j - 112) (omega arith);
 }
 
-pub codeword_of_zeros : (word rest : List ℕ) → IsRemainder word rest → ((k : ℕ) → k < 32 → get_or rest k 0 ≡ 0)
+pub codeword_of_zeros : (word rest : List ℕ) → IsRemainder word rest → ((k : ℕ) → k < CHECK_BYTES → get_or rest k 0 ≡ 0)
     → IsCodeword word
 unfolding root_at
 codeword_of_zeros word rest r z =
     codeword_from_values word (λ j h. sym (r.same j h) ∙ value-zeros rest 32 (root_at j) r.long z)
 
-pub zeros_of_codeword : (word rest : List ℕ) → IsRemainder word rest → IsCodeword word → (k : ℕ) → k < 32
+pub zeros_of_codeword : (word rest : List ℕ) → IsRemainder word rest → IsCodeword word → (k : ℕ) → k < CHECK_BYTES
     → get_or rest k 0 ≡ 0
 unfolding root_at
 zeros_of_codeword word rest r code k h =

@@ -40,6 +40,7 @@ use Rattle.lr_gf.proofs.Values.{value_as_sum}
 use Rattle.lr_rs.specs.declared.terms.TheConstants.{TERM_PRODUCTS}
 use Rattle.lr_rs.specs.Words.{locator}
 use Rattle.lr_rs.specs.RootLists.{term_factor}
+use Rattle.lr_rs.specs.declared.sizes.TheConstants.{WORD_BYTES}
 
 -- ---- the table
 term_product : ℕ → ℕ
@@ -101,13 +102,13 @@ round-once n =
     let e : (n + 255) % 255 ≡ n % 255 = omega arith in
     power-round (n + 255) ∙ ap (power 2) e ∙ sym (power-round n)
 
-before_next : (p : ℕ) → p < 255 → place_before (p + 1) ≡ times (place_before p) (power 2 244)
+before_next : (p : ℕ) → p < WORD_BYTES → place_before (p + 1) ≡ times (place_before p) (power 2 244)
 unfolding place_before
 before_next p h =
     let e : 11 * (255 - (p + 1)) + 255 ≡ 11 * (255 - p) + 244 = omega arith in
     sym (round-once (11 * (255 - (p + 1)))) ∙ ap (power 2) e ∙ power-add 2 (11 * (255 - p)) 244 (omega arith)
 
-pub before_is_locator : (p : ℕ) → p < 255 → place_before (p + 1) ≡ locator p
+pub before_is_locator : (p : ℕ) → p < WORD_BYTES → place_before (p + 1) ≡ locator p
 unfolding place_before
 before_is_locator p h = let e : 255 - (p + 1) ≡ 254 - p = omega arith in ap (λ n. power 2 (11 * n)) e
 
@@ -122,7 +123,7 @@ terms_start cs h = record {
       ∙ ap (times (get_or cs k 0)) (power-one (16 - k)) ∙ times-one (get_or cs k 0) (h k));
 }
 
-pub terms_next : (cs old new : List ℕ) (p : ℕ) → p < 255 → AreTerms cs old p
+pub terms_next : (cs old new : List ℕ) (p : ℕ) → p < WORD_BYTES → AreTerms cs old p
     → ((k : ℕ) → k < 16 → get_or new k 0 ≡ times (get_or old k 0) (term_factor k))
     → get_or new 16 0 ≡ get_or old 16 0 → AreTerms cs new (p + 1)
 terms_next cs old new p h t stepped constant = record {
@@ -143,7 +144,7 @@ terms_next cs old new p h t stepped constant = record {
       ];
 }
 
-pub terms_value : (cs terms : List ℕ) (p : ℕ) → length cs ≡ 17 → p < 255 → AreTerms cs terms (p + 1)
+pub terms_value : (cs terms : List ℕ) (p : ℕ) → length cs ≡ 17 → p < WORD_BYTES → AreTerms cs terms (p + 1)
     → sum_of 17 (slice_index terms) ≡ value_of cs (locator p)
 terms_value cs terms p long h t =
     sum_of-same 17 (slice_index terms) (λ k. times (get_or cs k 0) (power (locator p) (16 - k)))

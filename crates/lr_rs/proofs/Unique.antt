@@ -41,6 +41,7 @@ use Rattle.lr_rs.specs.Words.{locator}
 use Rattle.lr_rs.proofs.Locators.{locators}
 use Rattle.lr_gf.proofs.Elimination.{if_other}
 use Rattle.lr_rs.specs.Words.{word_value, IsCodeword, distance, IsWord, AtMostOneIsRestored}
+use Rattle.lr_rs.specs.declared.sizes.TheConstants.{WORD_BYTES}
 
 -- the difference of two words, out of the dual basis
 abbrev pub difference : List ℕ → List ℕ → ℕ → ℕ
@@ -48,10 +49,10 @@ difference a b i = bit_xor (conventional_of (slice_index a i)) (conventional_of 
 
 -- the value of a word at a root, in the locators of its places
 pub value_by_locators : (a : List ℕ) (j : ℕ) → word_value a (power 2 (11 * j))
-    ≡ sum_of 255 (λ i. times (conventional_of (slice_index a i)) (power (locator i) j))
+    ≡ sum_of WORD_BYTES (λ i. times (conventional_of (slice_index a i)) (power (locator i) j))
 unfolding word_value
 value_by_locators a j =
-    sum_of-same 255 (λ i. times (conventional_of (slice_index a i)) (power (power 2 (11 * j)) (254 - i)))
+    sum_of-same WORD_BYTES (λ i. times (conventional_of (slice_index a i)) (power (power 2 (11 * j)) (254 - i)))
     (λ i. times (conventional_of (slice_index a i)) (power (locator i) j))
     (λ i h. ap (times (conventional_of (slice_index a i)))
     (sym (power-mul 2 (11 * j) (254 - i) (omega arith)) ∙ ap (power 2) (turned j (254 - i))
@@ -62,17 +63,17 @@ value_by_locators a j =
 
 -- the values of the difference of two words
 pub value_of_difference : (a b : List ℕ) (j : ℕ)
-    → sum_of 255 (λ i. times (difference a b i) (power (locator i) j))
+    → sum_of WORD_BYTES (λ i. times (difference a b i) (power (locator i) j))
     ≡ bit_xor (word_value a (power 2 (11 * j))) (word_value b (power 2 (11 * j)))
 value_of_difference a b j =
-    sum_of-same 255 (λ i. times (difference a b i) (power (locator i) j))
+    sum_of-same WORD_BYTES (λ i. times (difference a b i) (power (locator i) j))
     (λ i. bit_xor (times (conventional_of (slice_index a i)) (power (locator i) j))
     (times (conventional_of (slice_index b i)) (power (locator i) j)))
     (λ i h. times-add-left (conventional_of (slice_index a i)) (conventional_of (slice_index b i))
     (power (locator i) j))
-    ∙ sum_of-add 255 (λ i. times (conventional_of (slice_index a i)) (power (locator i) j))
+    ∙ sum_of-add WORD_BYTES (λ i. times (conventional_of (slice_index a i)) (power (locator i) j))
     (λ i. times (conventional_of (slice_index b i)) (power (locator i) j))
-    ∙ ap (λ z. bit_xor z (sum_of 255 (λ i. times (conventional_of (slice_index b i)) (power (locator i) j))))
+    ∙ ap (λ z. bit_xor z (sum_of WORD_BYTES (λ i. times (conventional_of (slice_index b i)) (power (locator i) j))))
     (sym (value_by_locators a j))
     ∙ ap (bit_xor (word_value a (power 2 (11 * j)))) (sym (value_by_locators b j))
 
@@ -97,7 +98,7 @@ weight-distance (suc n) a b =
     ]
 
 -- words with equal conventional bytes are equal
-pub same_words : (a b : List ℕ) → IsWord a → IsWord b → ((i : ℕ) → i < 255 → difference a b i ≡ 0) → a ≡ b
+pub same_words : (a b : List ℕ) → IsWord a → IsWord b → ((i : ℕ) → i < WORD_BYTES → difference a b i ≡ 0) → a ≡ b
 same_words a b p q h =
     same_lists a b (p.long ∙ sym q.long) (λ k d l.
     let short : k < 255 = omega (arith, p.long) in
@@ -108,7 +109,7 @@ same_words a b p q h =
     get_or_default a k d 0 l ∙ e ∙ get_or_default b k 0 d (omega (arith, q.long)))
 
 pub same_codewords : (a b : List ℕ) → IsWord a → IsWord b → IsCodeword a → IsCodeword b
-    → weight 255 (difference a b) ≤ 32 → a ≡ b
+    → weight WORD_BYTES (difference a b) ≤ 32 → a ≡ b
 same_codewords a b p q f g few =
     same_words a b p q
     (vanishing 32 255 112 (difference a b) locator locators
@@ -127,10 +128,10 @@ at_most_one w a b p f g =
       arith,
       f.near,
       g.near,
-      weight-distance 255 w a,
-      weight-distance 255 w b,
+      weight-distance WORD_BYTES w a,
+      weight-distance WORD_BYTES w b,
       weight-add 255 (difference w a) (difference w b),
-      weight-le 255 (λ i. bit_xor (difference w a i) (difference w b i)) (difference a b)
+      weight-le WORD_BYTES (λ i. bit_xor (difference w a i) (difference w b i)) (difference a b)
           (λ i h e. sym (through (conventional_of (slice_index a i)) (conventional_of (slice_index w i))
           (conventional_of (slice_index b i))) ∙ e),
     ))

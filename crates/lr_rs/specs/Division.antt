@@ -1,7 +1,9 @@
--- The division by the generator polynomial; only functions inside the crate speak of it.
-use Rattle.std.specs.Prelude.{ℕ, ◌+◌, ◌*◌, ◌<◌, ◌≡◌, bit_xor, List, [], ◌∷◌, length, slice_index}
+-- The division by the generator polynomial.
+use Rattle.std.specs.Prelude.{ℕ, ◌+◌, ◌*◌, ◌<◌, ◌≡◌, bit_xor, List, [], ◌∷◌, length, map, slice_index}
 use Rattle.lr_gf.specs.Field.{times, power, value_of}
+use Rattle.lr_gf.specs.Dual.{conventional_of}
 use Rattle.lr_rs.specs.Words.{word_value}
+use Rattle.lr_rs.specs.declared.sizes.TheConstants.{CHECK_BYTES}
 
 -- the generator polynomial's coefficient of x^(31 - k); that of x^32 is 1
 unfoldable pub generator_coefficient : ℕ → ℕ
@@ -15,15 +17,23 @@ generator_coefficient k =
 -- the remainder is multiplied by x, the coefficient added, and the generator polynomial taken away
 -- as often as it goes
 pub record IsDivisionStep (coefficient : ℕ) (old new : List ℕ) : Type 0 where
-  pub long : length new ≡ 32
+  pub long : length new ≡ CHECK_BYTES
   pub next : (k : ℕ) → k < 31
       → slice_index new k ≡ bit_xor (slice_index old (k + 1)) (times (slice_index old 0) (generator_coefficient k))
   pub last :
       slice_index new 31 ≡ bit_xor coefficient (times (slice_index old 0) (generator_coefficient 31))
 
--- 32 coefficients, whose polynomial has the values of the word's at the 32 roots
+-- 32 coefficients, whose polynomial has the values at the 32 roots of the polynomial of these bytes, out of the dual
+-- basis, of which the first is the highest coefficient
+pub record IsRemainderOf (bytes remainder : List ℕ) : Type 0 where
+  pub long : length remainder ≡ CHECK_BYTES
+  pub same : (j : ℕ) → j < CHECK_BYTES
+      → value_of remainder (power 2 (11 * (112 + j))) ≡ value_of (map conventional_of bytes) (power 2 (11 * (112 + j)))
+  pub elements : (k : ℕ) → slice_index remainder k < 256
+
+-- the remainder of a whole word
 pub record IsRemainder (word remainder : List ℕ) : Type 0 where
-  pub long : length remainder ≡ 32
-  pub same : (j : ℕ) → j < 32
+  pub long : length remainder ≡ CHECK_BYTES
+  pub same : (j : ℕ) → j < CHECK_BYTES
       → value_of remainder (power 2 (11 * (112 + j))) ≡ word_value word (power 2 (11 * (112 + j)))
   pub elements : (k : ℕ) → slice_index remainder k < 256

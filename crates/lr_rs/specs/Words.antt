@@ -19,17 +19,18 @@ use Rattle.std.specs.Prelude.{
 use Rattle.lr_gf.specs.Sums.{sum_of}
 use Rattle.lr_gf.specs.Field.{times, power}
 use Rattle.lr_gf.specs.Dual.{conventional_of}
+use Rattle.lr_rs.specs.declared.sizes.TheConstants.{WORD_BYTES}
 
 -- 255 bytes
 pub record IsWord (word : List ℕ) : Type 0 where
-  pub long : length word ≡ 255
-  pub bytes : (i : ℕ) → i < 255 → slice_index word i < 256
+  pub long : length word ≡ WORD_BYTES
+  pub bytes : (i : ℕ) → i < WORD_BYTES → slice_index word i < 256
 
 -- the value of a word's polynomial at x: byte i, out of the dual basis, is the coefficient of
 -- x^(254 - i)
 unfoldable pub word_value : List ℕ → ℕ → ℕ
 word_value word x =
-    sum_of 255 (λ i. times (conventional_of (slice_index word i)) (power x (254 - i)))
+    sum_of WORD_BYTES (λ i. times (conventional_of (slice_index word i)) (power x (254 - i)))
 
 -- the polynomial is zero at α^(11 j) for each j in 112..143; α, the class of x, is the element 2
 pub record IsCodeword (word : List ℕ) : Type 0 where
@@ -40,11 +41,15 @@ unfoldable pub distance : ℕ → List ℕ → List ℕ → ℕ
 distance zero a b = 0
 distance (suc n) a b = distance n a b + (if slice_index a n == slice_index b n then 0 else 1)
 
+-- how many bytes of a word may be wrong: half as many as there are check bytes (CCSDS 131.0-B, section 4.3.2)
+abbrev pub most_errors : ℕ
+most_errors = 16
+
 -- a codeword that differs from the word in at most sixteen places
 pub record IsRestored (word codeword : List ℕ) : Type 0 where
   pub is_word : IsWord codeword
   pub is_codeword : IsCodeword codeword
-  pub near : distance 255 word codeword ≤ 16
+  pub near : distance WORD_BYTES word codeword ≤ most_errors
 
 -- the law: a word has at most one restored word
 abbrev pub AtMostOneIsRestored : Type 0

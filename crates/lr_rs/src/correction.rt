@@ -16,7 +16,7 @@ pub(crate) fn correct(
     errors: &[Gf; 16],
 )
     requires count { count ≤ 16 }
-    requires places { (l : ℕ) → l < count → slice_index places.now l < 255 }
+    requires places { (l : ℕ) → l < count → slice_index places.now l < WORD_BYTES }
     requires different { (i j : ℕ) → i < count → j < count
         → slice_index places.now i ≡ slice_index places.now j → i ≡ j }
     ensures changed { (l : ℕ) → l < count
@@ -35,7 +35,7 @@ pub(crate) fn correct(
 
 /// In how many places two words differ.
 pub(crate) fn distance_of(a: &[u8; WORD_BYTES], b: &[u8; WORD_BYTES]) -> usize
-    ensures { result ≡ distance 255 a.now b.now }
+    ensures { result ≡ distance WORD_BYTES a.now b.now }
 {
     let mut count = 0;
     for i in 0..WORD_BYTES {

@@ -11,8 +11,8 @@ use lr_gf::{Gf, to_dual};
 
 /// Writes the information, and zeros after it.
 fn put_information(information: &[u8; INFORMATION_BYTES], word: &mut [u8; WORD_BYTES])
-    ensures begins { (i : ℕ) → i < 223 → slice_index word.new i ≡ slice_index information.now i }
-    ensures zeros { (i : ℕ) → 223 ≤ i → slice_index word.new i ≡ 0 }
+    ensures begins { (i : ℕ) → i < INFORMATION_BYTES → slice_index word.new i ≡ slice_index information.now i }
+    ensures zeros { (i : ℕ) → INFORMATION_BYTES ≤ i → slice_index word.new i ≡ 0 }
 {
     let zeros = [0u8; WORD_BYTES];
     *word = zeros;
@@ -23,10 +23,10 @@ fn put_information(information: &[u8; INFORMATION_BYTES], word: &mut [u8; WORD_B
 
 /// Writes the check bytes after the information.
 fn put_check(word: &mut [u8; WORD_BYTES], check: &[Gf; CHECK_BYTES])
-    ensures kept { (i : ℕ) → i < 223 → slice_index word.new i ≡ slice_index word.old i }
-    ensures bytes { (k : ℕ) → k < 32 → slice_index word.new (223 + k) < 256 }
-    ensures check { (k : ℕ) → k < 32
-        → conventional_of (slice_index word.new (223 + k)) ≡ slice_index check.now k }
+    ensures kept { (i : ℕ) → i < INFORMATION_BYTES → slice_index word.new i ≡ slice_index word.old i }
+    ensures bytes { (k : ℕ) → k < CHECK_BYTES → slice_index word.new (INFORMATION_BYTES + k) < 256 }
+    ensures check { (k : ℕ) → k < CHECK_BYTES
+        → conventional_of (slice_index word.new (INFORMATION_BYTES + k)) ≡ slice_index check.now k }
 {
     for k in 0..CHECK_BYTES {
         let coefficient = check[k];
@@ -36,10 +36,10 @@ fn put_check(word: &mut [u8; WORD_BYTES], check: &[Gf; CHECK_BYTES])
 
 /// Encodes: the codeword that begins with the information.
 pub fn encode(information: &[u8; INFORMATION_BYTES], word: &mut [u8; WORD_BYTES])
-    ensures begins { take 223 word.new ≡ information.now }
+    ensures begins { take INFORMATION_BYTES word.new ≡ information.now }
     ensures word { IsWord word.new }
     ensures codeword { IsCodeword word.new }
-    ensures only { (c : List ℕ) → IsWord c → IsCodeword c → take 223 c ≡ information.now
+    ensures only { (c : List ℕ) → IsWord c → IsCodeword c → take INFORMATION_BYTES c ≡ information.now
         → c ≡ word.new }
 {
     put_information(information, word);

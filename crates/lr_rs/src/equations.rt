@@ -45,7 +45,7 @@ fn fill_equation(
 )
     requires count { count ≤ 16 }
     requires j { j < count }
-    requires places { (l : ℕ) → l < count → slice_index places.now l < 255 }
+    requires places { (l : ℕ) → l < count → slice_index places.now l < WORD_BYTES }
     ensures left { (l : ℕ) → l < count
         → entry system.new j l ≡ power (locator (slice_index places.now l)) (112 + j) }
     ensures right { entry system.new j count ≡ slice_index syndromes.now j }
@@ -66,7 +66,7 @@ pub(crate) fn fill_equations(
     count: usize,
 )
     requires count { count ≤ 16 }
-    requires places { (l : ℕ) → l < count → slice_index places.now l < 255 }
+    requires places { (l : ℕ) → l < count → slice_index places.now l < WORD_BYTES }
     ensures { HasEquations count places.now (slice_index syndromes.now) (entry system.new) }
 {
     for j in 0..count {

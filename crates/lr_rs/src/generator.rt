@@ -1,19 +1,30 @@
 //! The generator polynomial's coefficients, multiplied by an element.
 #![tactic(auto)]
 
-ghost use Rattle.std.specs.Prelude.{◌≡◌, ◌<◌};
+ghost use Rattle.std.specs.Prelude.{◌≡◌, ◌+◌, ◌<◌, ◌≤◌, ℕ, length, slice_index};
 ghost use Rattle.lr_gf.specs.Field.{times};
 ghost use Rattle.lr_rs.specs.Division.{generator_coefficient};
 
-/// The product of an element and the generator polynomial's coefficient of x^(31 - k).
+use std::simd::prelude::*;
+
+/// 32 bytes of a table from a place on.
 #[inline(always)]
-pub(crate) fn generator_product(element: u8, k: usize) -> u8
-    requires { k < 32 }
-    ensures { result ≡ times element (generator_coefficient k) }
+fn row_at(table: &[u8], at: usize) -> u8x32
+    requires { at + 32 ≤ length table.now }
+    ensures size { length result ≡ 32 }
+    ensures value { (k : ℕ) → k < 32 → slice_index result k ≡ slice_index table.now (at + k) }
 {
-    let low = (element % 16) as usize;
-    let high = (element / 16) as usize;
-    LOW_PRODUCTS[32 * low + k] ^ HIGH_PRODUCTS[32 * high + k]
+    u8x32::from_slice(&table[at..])
+}
+
+/// The products of an element and the generator polynomial's coefficients of x^31, .., x^0.
+#[inline(always)]
+pub(crate) fn generator_products(element: u8) -> u8x32
+    ensures size { length result ≡ 32 }
+    ensures value { (k : ℕ) → k < 32 → slice_index result k ≡ times element (generator_coefficient k) }
+{
+    let low = row_at(&LOW_PRODUCTS, 32 * (element % 16) as usize);
+    low ^ row_at(&HIGH_PRODUCTS, 32 * (element / 16) as usize)
 }
 
 /// For each element below 16, its products with the coefficients of x^31, .., x^0.

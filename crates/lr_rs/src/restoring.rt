@@ -61,7 +61,7 @@ fn is_codeword(word: &[u8; WORD_BYTES], remainder: &mut [Gf; CHECK_BYTES]) -> bo
 /// many bytes were changed; or answers `BeyondSixteen` where there is none, and leaves the word.
 pub fn restore(word: &mut [u8; WORD_BYTES], scratch: &mut RsScratch) -> Result<u8, BeyondSixteen>
     ensures restored { OnOk result (IsRestored word.old word.new) }
-    ensures changed { IfOk result (λ n. n ≡ distance 255 word.old word.new) }
+    ensures changed { IfOk result (λ n. n ≡ distance WORD_BYTES word.old word.new) }
     ensures same { OnErr result (word.new ≡ word.old) }
     ensures none { OnErr result ((c : List ℕ) → IsRestored word.old c → ⊥) }
 {

@@ -38,7 +38,7 @@ fn sum_of_terms(terms: &[Gf; 17]) -> Gf
 /// Lists the places whose locators are roots, and says how many they are.
 pub(crate) fn find_roots(polynomial: &[Gf; 17], places: &mut [usize; WORD_BYTES]) -> usize
     requires { (k : ℕ) → slice_index polynomial.now k < 256 }
-    ensures list { IsRootList polynomial.now 255 result places.new }
+    ensures list { IsRootList polynomial.now WORD_BYTES result places.new }
     ensures long { length polynomial.now ≡ 17 }
 {
     let mut terms = *polynomial;

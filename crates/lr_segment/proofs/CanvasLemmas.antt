@@ -10,6 +10,7 @@ use Rattle.std.proofs.lemmas.List.{ext_get_or, get_or_past, get_or-replicate, le
 use Rattle.std.proofs.lemmas.Grind.{get_or_default_zero}
 use Rattle.std.proofs.lemmas.List.FromFn.{get_or-map-range_with_len, length-map-range_with_len}
 use Rattle.lr_image.specs.Picture.{IsPicture}
+use Rattle.lr_image.specs.Shapes.{most_pixels}
 use Rattle.lr_segment.specs.declared.rows.Place.{Place}
 use Rattle.lr_segment.specs.Rows.{IsBeside, IsCovered, IsIn, IsOverwritten}
 use Rattle.lr_segment.specs.Canvas.{
@@ -42,7 +43,7 @@ no_members bits columns lines pixels covered are none = record {
 }
 
 pub new_canvas : (bits columns lines : ℕ) (pixels : List ℕ) (covered : List Bool) → 1 ≤ bits → bits ≤ 16
-    → 1 ≤ columns → columns * lines ≤ 268435456
+    → 1 ≤ columns → columns * lines ≤ most_pixels
     → pixels ≡ replicate (columns * lines) 0 → covered ≡ replicate (columns * lines) false
     → IsCanvas (canvas bits columns lines pixels covered)
 new_canvas bits columns lines pixels covered least most some few are none = record {

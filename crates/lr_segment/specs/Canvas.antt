@@ -6,6 +6,7 @@ use Rattle.std.specs.List.{range_with_len}
 use Rattle.std.specs.Option.{option_or}
 use Rattle.lr_headers.specs.declared.fields.Segment.{Segment}
 use Rattle.lr_image.specs.Picture.{Picture}
+use Rattle.lr_image.specs.Shapes.{most_pixels}
 use Rattle.lr_segment.specs.declared.fault.AssembleFault.{AssembleFault}
 use Rattle.lr_segment.specs.declared.fault.AssembleFault.TheVariants.{Empty, TooLarge, Depths, Outside}
 
@@ -77,7 +78,7 @@ pub record IsCanvas (c : Canvas) : Type 0 where
   pub least : 1 ≤ c.bits
   pub most : c.bits ≤ 16
   pub columns : 1 ≤ c.columns
-  pub few : c.columns * c.lines ≤ 268435456
+  pub few : c.columns * c.lines ≤ most_pixels
   pub whole : length c.pixels ≡ c.columns * c.lines
   pub noted : length c.covered ≡ c.columns * c.lines
   pub small : All (λ pixel. pixel < 2 ^ c.bits) c.pixels
@@ -86,7 +87,7 @@ pub record IsCanvas (c : Canvas) : Type 0 where
 abbrev pub new_fault : Segment → Option AssembleFault
 new_fault s =
     if (s.columns == 0) || (s.lines == 0) then Some Empty
-    else (if nat_lt 268435456 (s.columns * s.lines) then Some (TooLarge (s.columns * s.lines)) else None)
+    else (if nat_lt most_pixels (s.columns * s.lines) then Some (TooLarge (s.columns * s.lines)) else None)
 
 -- why a member isn't added to a whole image of this depth and this size
 abbrev pub place_fault : (bits columns lines : ℕ) → Member → Option AssembleFault

@@ -2,6 +2,7 @@
 
 ghost use Rattle.std.specs.Prelude.{◌≡◌, ◌*◌, ◌≤◌, ◌↔◌, ◌⊎◌, [], List, Some, None, IfNone, IfOk, IfErr, IsOk, OnOk};
 ghost use Rattle.std.specs.Prelude.{OnErr, count_by, not};
+ghost use Rattle.lr_image.specs.Shapes.{most_pixels};
 ghost use Rattle.lr_segment.specs.Canvas.{Adds, HasSizeOf, IsAssembled, Member, StandsFor, add_fault, member};
 ghost use Rattle.lr_segment.specs.Canvas.{new_fault};
 ghost use Rattle.lr_segment.specs.declared.fault.AssembleFault.{AssembleFault as Fault};
@@ -122,7 +123,7 @@ impl Assembly {
 fn new_fault(segment: &Segment) -> Option<AssembleFault>
     ensures value { result ≡ new_fault segment.now }
     ensures some { IfNone result (1 ≤ segment.now.columns) }
-    ensures few { IfNone result (segment.now.columns * segment.now.lines ≤ 268435456) }
+    ensures few { IfNone result (segment.now.columns * segment.now.lines ≤ most_pixels) }
 {
     if segment.columns == 0 || segment.lines == 0 {
         return Some(AssembleFault::Empty);

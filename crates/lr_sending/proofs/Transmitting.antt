@@ -8,9 +8,13 @@ use Rattle.std.proofs.lemmas.Bool.{cases_eq}
 use Rattle.std.proofs.lemmas.List.{length-map, length-take-le, map-append, take_all, take_more}
 use Rattle.std.proofs.lemmas.Option.{slice_get-get_or}
 use Rattle.lr_bits.specs.File.{File}
+use Rattle.lr_bits.specs.declared.sizes.TheConstants.{FILL_CHANNEL}
 use Rattle.lr_conv.specs.declared.line.LineCode.{LineCode}
 use Rattle.lr_io.specs.declared.sink.Sink.{Ghosts as SinkOf}
+use Rattle.lr_frame.specs.Outcomes.{outcomes_of_symbols}
+use Rattle.lr_lock.specs.Symbols.{symbols_of}
 use Rattle.lr_sent.specs.Sent.{AreSentFor, bits_of_blocks, symbols_of_blocks}
+use Rattle.lr_sent.proofs.SymbolsBack.{symbols_back}
 use Rattle.lr_shelf_format.specs.Way.{Way}
 use Rattle.lr_causes.specs.declared.cause.Cause.{Cause}
 use Rattle.lr_causes.specs.declared.cause.Cause.TheVariants.{Failed}
@@ -26,6 +30,7 @@ use Rattle.lr_commands.specs.Steps.{PutsText, TextStops}
 use Rattle.lr_commands.proofs.Filing.{files_of-absent, files_of-whole}
 use Rattle.lr_commands.proofs.Reading.{concat-push}
 use Rattle.lr_uplink.specs.declared.uplink.Uplink.{Uplink}
+use Rattle.lr_uplink.specs.Received.{AreFilesOf}
 use Rattle.lr_uplink.specs.Sent.{file_frames, sent}
 use Rattle.lr_uplink.specs.Standing.{StandsFor, with_file}
 use Rattle.lr_uplink.proofs.Receiving.{sent_files_are_received}
@@ -45,18 +50,19 @@ err_or_ok e a is = cc (is)
 -- ---- one file
 
 module _ (line : LineCode) (wrong : ℕ) (files : List File) (file : File) where
-  pub fate_sent : (file.vc ≡ 63 → ⊥) → becomes_sent line wrong files file ≡ Ok (added_bytes line wrong files file)
+  pub fate_sent : (file.vc ≡ FILL_CHANNEL → ⊥)
+      → becomes_sent line wrong files file ≡ Ok (added_bytes line wrong files file)
   fate_sent other =
-      ap (λ b. cond b (Err CannotSend) (Ok (added_bytes line wrong files file))) (ne_eqb file.vc 63 other)
+      ap (λ b. cond b (Err CannotSend) (Ok (added_bytes line wrong files file))) (ne_eqb file.vc FILL_CHANNEL other)
 
-  pub fate_fill : file.vc ≡ 63 → becomes_sent line wrong files file ≡ Err CannotSend
+  pub fate_fill : file.vc ≡ FILL_CHANNEL → becomes_sent line wrong files file ≡ Err CannotSend
   fate_fill fill =
-      ap (λ b. cond b (Err CannotSend) (Ok (added_bytes line wrong files file))) (eq-eqb file.vc 63 fill)
+      ap (λ b. cond b (Err CannotSend) (Ok (added_bytes line wrong files file))) (eq-eqb file.vc FILL_CHANNEL fill)
 
   -- where it became a text, that is what it adds
   pub added_is : (text : List ℕ) → becomes_sent line wrong files file ≡ Ok text
       → text ≡ added_bytes line wrong files file
-  added_is text is = elim (cases_eq file.vc 63) [
+  added_is text is = elim (cases_eq file.vc FILL_CHANNEL) [
     | inl fill ↦ absurd (err_or_ok CannotSend text (sym (fate_fill fill) ∙ is))
     | inr other ↦ ok_same text (added_bytes line wrong files file) (sym is ∙ fate_sent other)
   ]
@@ -96,7 +102,7 @@ module _ (line : LineCode) (wrong : ℕ) (files : List File) (file : File) where
       whole ∙ ap (λ l. sent_bytes line wrong files ++ l) (sym rest)
 
   module _ {O : Type 0} (out : SinkOf O) (o o' : O) where
-    pub puts_file : (file.vc ≡ 63 → ⊥) → Puts out (rest_bytes line wrong (files ++ file ∷ []) all) o o'
+    pub puts_file : (file.vc ≡ FILL_CHANNEL → ⊥) → Puts out (rest_bytes line wrong (files ++ file ∷ []) all) o o'
         → PutsText out (becomes_sent line wrong files file) o o'
     puts_file other puts = record {
       text = added_bytes line wrong files file;
@@ -104,7 +110,7 @@ module _ (line : LineCode) (wrong : ℕ) (files : List File) (file : File) where
       puts = subst (λ l. Puts out l o o') rest_is puts;
     }
 
-    pub stops_file : (file.vc ≡ 63 → ⊥) → (cause : Cause) → cause ≡ Failed Output
+    pub stops_file : (file.vc ≡ FILL_CHANNEL → ⊥) → (cause : Cause) → cause ≡ Failed Output
         → PutFails out (rest_bytes line wrong (files ++ file ∷ []) all) o o'
         → 0 < length (rest_bytes line wrong (files ++ file ∷ []) all)
         → TextStops out (becomes_sent line wrong files file) cause o o'
@@ -197,6 +203,12 @@ some_range from to count false range is = absurd (no_range is) where
   no_range : ◌≡◌ {A = Option Range} None (Some range) → ⊥
   no_range same = cc (same)
 
+-- a reader of what files are sent as finds the symbols of their blocks
+symbols_read : (line : LineCode) (wrong : ℕ) (files : List File)
+    → symbols_of (sent_bytes line wrong files) ≡ symbols_of_blocks line (blocks_for wrong (sent files))
+unfolding frame_bytes
+symbols_read line wrong files = symbols_back line (blocks_for wrong (sent files))
+
 pub transmitted : (line : LineCode) (from to wrong : ℕ) (bytes put : List ℕ)
     → GathersOver (transmit_asked from to wrong line)
     (λ (uplink : Uplink) read. HasSent line wrong (files_read (files_of read)) uplink) bytes put
@@ -218,6 +230,9 @@ transmitted line from to wrong bytes put over =
     let sent_for : AreSentFor (sent files) (blocks_for wrong (sent files)) =
     subst (λ fs. AreSentFor fs (blocks_for wrong (sent files))) whole
     (subst (λ fs. AreSentFor (take (length blocks) (sent files)) (blocks_for wrong fs)) same has.knows.blocks) in
+    let put_is : put ≡ sent_bytes line wrong files =
+    has.is ∙ ap (λ l. concat has.texts ++ l) none ∙ append-nil (concat has.texts)
+    ∙ all_texts line wrong from to bytes way has.range.from has.read has.texts has.are in
     record {
       way = way;
       is_way = over.is_way;
@@ -231,7 +246,9 @@ transmitted line from to wrong bytes put over =
         sound = none_wrong line wrong from to bytes way has.range.from has.read has.texts has.are;
         are = refl;
       };
-      sent_as = has.is ∙ ap (λ l. concat has.texts ++ l) none ∙ append-nil (concat has.texts)
-          ∙ all_texts line wrong from to bytes way has.range.from has.read has.texts has.are;
-      received = sent_files_are_received line files (blocks_for wrong (sent files)) has.knows.files sent_for;
+      sent_as = put_is;
+      received =
+          subst (λ symbols. AreFilesOf (outcomes_of_symbols line symbols) files)
+          (sym (ap symbols_of put_is ∙ symbols_read line wrong files))
+          (sent_files_are_received line files (blocks_for wrong (sent files)) has.knows.files sent_for);
     }

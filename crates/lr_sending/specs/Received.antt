@@ -3,15 +3,15 @@ use Rattle.std.specs.Prelude.{◌≡◌, ◌<◌, ◌+◌, ◌-◌, ◌++◌, �
 use Rattle.lr_bits.specs.File.{File}
 use Rattle.lr_conv.specs.declared.line.LineCode.{LineCode}
 use Rattle.lr_frame.specs.Outcomes.{outcomes_of_symbols}
+use Rattle.lr_lock.specs.Symbols.{symbols_of}
 use Rattle.lr_shelf_format.specs.Way.{Way, IsWay}
 use Rattle.lr_uplink.specs.Received.{AreFilesOf}
-use Rattle.lr_uplink.specs.Sent.{sent}
 use Rattle.lr_causes.specs.Outside.{Outlets, OutletsOf}
 use Rattle.lr_causes.specs.declared.cause.Cause.{Cause}
 use Rattle.lr_commands.specs.Asked.{IsSeen, Seen, Wrong, entry_at}
 use Rattle.lr_commands.specs.Files.{files_of, no_image}
 use Rattle.lr_commands.specs.Read.{IsDone}
-use Rattle.lr_sending.specs.Transmit.{files_read, sent_bytes, symbols_for}
+use Rattle.lr_sending.specs.Transmit.{files_read, sent_bytes}
 
 -- these are the files of the entries from one number up to another, without those that are gone; each one is sound
 pub record AreFilesBetween (bytes : List ℕ) (way : Way) (from to : ℕ) (files : List File) : Type 0 where
@@ -28,7 +28,7 @@ pub record IsTransmitted (line : LineCode) (from to wrong : ℕ) (bytes put : Li
   pub files : List File
   pub are : AreFilesBetween bytes way from to files
   pub sent_as : put ≡ sent_bytes line wrong files
-  pub received : AreFilesOf (outcomes_of_symbols line (symbols_for line wrong (sent files))) files
+  pub received : AreFilesOf (outcomes_of_symbols line (symbols_of put)) files
 
 -- Where the call is done, this is what it put.
 module _ {D O : Type 0} (world : OutletsOf D O) (line : LineCode) (from to wrong : ℕ) where

@@ -25,7 +25,7 @@ blocks_for wrong frames = map (block_for wrong) frames
 abbrev pub symbols_for : LineCode → ℕ → List (List ℕ) → List ℤ
 symbols_for line wrong frames = symbols_of_blocks line (blocks_for wrong frames)
 
--- the same, each symbol in a byte
+-- the symbols of frames, each in a byte
 unfoldable pub frame_bytes : LineCode → ℕ → List (List ℕ) → List ℕ
 frame_bytes line wrong frames = bytes_of_symbols (symbols_for line wrong frames)
 

@@ -9,6 +9,7 @@ use Rattle.std.proofs.lemmas.Bool.{and_parts, cases_eq, cond_both, false≢true}
 use Rattle.std.proofs.lemmas.List.{drop-append-le, take-append-le, take_at}
 use Rattle.std.proofs.lemmas.List.Elements.{All-from_recursion, All-tail, All-head}
 use Rattle.lr_bits.specs.Packet.{Packet, length_field_at}
+use Rattle.lr_bits.specs.declared.sizes.TheConstants.{FILL_CHANNEL, ZONE_BYTES}
 use Rattle.lr_vc.specs.Frame.{Fields}
 use Rattle.lr_vc.specs.Runs.{Run, next_counter, channel_frames, put_before, runs_of}
 use Rattle.lr_vc.specs.Packets.{zones_of, pointer_of, packet_end, has_header, is_whole, starts_from, starts_in_zone}
@@ -175,16 +176,16 @@ each_run P (f ∷ fs) counted h = subst (Each P) (sym (one_run f fs counted)) (h
 
 module _ (packets : List (List ℕ)) (tell : All TellsItsLength packets) (run : Run) (later : List ℕ)
     (bytes : concat packets ≡ zones_of run ++ later)
-    (pointers : (zone : ℕ) → zone < length run → pointer_of run zone < 884
-    → IsEdge packets (884 * zone + pointer_of run zone))
+    (pointers : (zone : ℕ) → zone < length run → pointer_of run zone < ZONE_BYTES
+    → IsEdge packets (ZONE_BYTES * zone + pointer_of run zone))
   where
     edges_in_zone : (zone : ℕ) → zone < length run → Each (IsEdge packets) (starts_in_zone run zone)
     unfolding starts_in_zone
     edges_in_zone zone inside =
-        cond_both (ltb (pointer_of run zone) 884) _ _ (Each (IsEdge packets))
-        (λ e. edges_from packets tell (zones_of run) later bytes (884 * zone + 884) 884
-        (884 * zone + pointer_of run zone)
-        (pointers zone inside (ltb-true (pointer_of run zone) 884 e)))
+        cond_both (ltb (pointer_of run zone) ZONE_BYTES) _ _ (Each (IsEdge packets))
+        (λ e. edges_from packets tell (zones_of run) later bytes (ZONE_BYTES * zone + ZONE_BYTES) ZONE_BYTES
+        (ZONE_BYTES * zone + pointer_of run zone)
+        (pointers zone inside (ltb-true (pointer_of run zone) ZONE_BYTES e)))
         (λ _. tt)
 
     edges : Each (IsEdge packets) (starts_of run)
@@ -198,7 +199,7 @@ module _ (packets : List (List ℕ)) (tell : All TellsItsLength packets) (run : 
     unfolding ends_in is_delivered
     ends_whole place s e =
         let delivered = and_parts (is_delivered run s)
-        (eqb (place_of run ((packet_end (zones_of run) s - 1) / 884)) place) e in
+        (eqb (place_of run ((packet_end (zones_of run) s - 1) / ZONE_BYTES)) place) e in
         (and_parts (is_whole (zones_of run) s)
         (list_all (agrees run (packet_end (zones_of run) s)) (zones_after run s)) delivered.0).0
 
@@ -231,8 +232,8 @@ module _ (channel : ℕ) (frames : List Fields) (packets : List (List ℕ)) (tel
         carry.bytes ∙ ap (λ (fs : List Fields). concat (map (λ frame. frame.zone) fs) ++ carry.later) (sym run_frames)
         ∙ ap (λ xs. xs ++ carry.later) (zones_of_run run)
 
-    run_pointers : (zone : ℕ) → zone < length run → pointer_of run zone < 884 →
-        IsEdge packets (884 * zone + pointer_of run zone)
+    run_pointers : (zone : ℕ) → zone < length run → pointer_of run zone < ZONE_BYTES →
+        IsEdge packets (ZONE_BYTES * zone + pointer_of run zone)
     unfolding pointer_of
     run_pointers zone inside points =
         let same : map (λ frame. frame.pointer) (frames_of_channel channel frames)
@@ -240,7 +241,8 @@ module _ (channel : ℕ) (frames : List Fields) (packets : List (List ℕ)) (tel
         ap (map (λ (frame : Fields). frame.pointer)) (sym run_frames) ∙ pointers_of_run run in
         let long : length (frames_of_channel channel frames) ≡ length run =
         ap length (sym run_frames) ∙ length_of_run run in
-        subst (λ (ps : List ℕ). get_or ps zone 0 < 884 → IsEdge packets (884 * zone + get_or ps zone 0)) same
+        subst (λ (ps : List ℕ). get_or ps zone 0 < ZONE_BYTES
+        → IsEdge packets (ZONE_BYTES * zone + get_or ps zone 0)) same
         (carry.pointers zone (omega arith)) points
 
     packets_in_sent : (x : ℕ × Fields) →
@@ -268,7 +270,7 @@ module _ (channel : ℕ) (frames : List Fields) (packets : List (List ℕ)) (tel
         (Each_any (λ s. P (packet_at vc (zones_of r) s)) (λ s e. absurd (other e)) (ends r)))
         (runs_of (channel_frames vc frames))))
         (cases_eq vc channel) in
-        cond_both (eqb vc 63) _ _ (Each P) (λ _. tt) (λ _. all)
+        cond_both (eqb vc FILL_CHANNEL) _ _ (Each P) (λ _. tt) (λ _. all)
 
 pub packets_were_sent : PacketsWereSent
 unfolding packets_of
@@ -280,18 +282,19 @@ packets_were_sent channel frames packets tell carry =
     (enumerate_from 0 frames)))
 
 -- what holds of the channel of each frame that isn't fill holds of the channel of each packet
-module _ (P : ℕ → Type 0) (frames : List Fields) (each : Each (λ frame. (frame.vc ≡ 63 → ⊥) → P frame.vc) frames) where
+module _ (P : ℕ → Type 0) (frames : List Fields)
+    (each : Each (λ frame. (frame.vc ≡ FILL_CHANNEL → ⊥) → P frame.vc) frames) where
   abbrev On : Packet → Type 0
   On packet = P packet.vc
 
-  packets_in_by_channel : (x : ℕ × Fields) → ((x.1.vc ≡ 63 → ⊥) → P x.1.vc) → Each On (packets_in frames x)
+  packets_in_by_channel : (x : ℕ × Fields) → ((x.1.vc ≡ FILL_CHANNEL → ⊥) → P x.1.vc) → Each On (packets_in frames x)
   unfolding packets_in packets_ending packet_at
   packets_in_by_channel x holds =
       let vc = x.1.vc in
       let runs = runs_of (channel_frames vc frames) in
       let ends = λ (run : Run). filter (ends_in run x.0) (starts_of run) in
-      cond_both (eqb vc 63) _ _ (Each On) (λ _. tt)
-      (λ e. let here : P vc = holds (λ fill. false≢true (sym e ∙ eq-eqb vc 63 fill)) in
+      cond_both (eqb vc FILL_CHANNEL) _ _ (Each On) (λ _. tt)
+      (λ e. let here : P vc = holds (λ fill. false≢true (sym e ∙ eq-eqb vc FILL_CHANNEL fill)) in
       Each-flat_map On (packets_ending vc x.0) runs (Each_any (λ run. Each On (packets_ending vc x.0 run))
       (λ run. Each-map On (packet_at vc (zones_of run)) (ends run)
       (Each_any (λ s. On (packet_at vc (zones_of run) s)) (λ s. here) (ends run))) runs))
@@ -299,12 +302,12 @@ module _ (P : ℕ → Type 0) (frames : List Fields) (each : Each (λ frame. (fr
   pub packets_by_channels : Each On (packets_of frames)
   unfolding packets_of
   packets_by_channels =
-      let Q : ℕ × Fields → Type 0 = λ x. (x.1.vc ≡ 63 → ⊥) → P x.1.vc in
+      let Q : ℕ × Fields → Type 0 = λ x. (x.1.vc ≡ FILL_CHANNEL → ⊥) → P x.1.vc in
       Each-flat_map On (packets_in frames) (enumerate_from 0 frames)
       (Each_weaker Q (λ x. Each On (packets_in frames x)) packets_in_by_channel (enumerate_from 0 frames)
       (enumerated 0 frames each))
     where
-      enumerated : (n : ℕ) (fs : List Fields) → Each (λ f. (f.vc ≡ 63 → ⊥) → P f.vc) fs →
-          Each (λ x. (x.1.vc ≡ 63 → ⊥) → P x.1.vc) (enumerate_from n fs)
+      enumerated : (n : ℕ) (fs : List Fields) → Each (λ f. (f.vc ≡ FILL_CHANNEL → ⊥) → P f.vc) fs →
+          Each (λ x. (x.1.vc ≡ FILL_CHANNEL → ⊥) → P x.1.vc) (enumerate_from n fs)
       enumerated n [] _ = tt
       enumerated n (f ∷ fs) h = (h.0, enumerated (n + 1) fs h.1)

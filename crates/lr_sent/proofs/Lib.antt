@@ -8,4 +8,5 @@ pub mod MadeZones
 pub mod Nearest
 pub mod Receiving
 pub mod Splitting
+pub mod SymbolsBack
 pub mod Turning

@@ -8,6 +8,7 @@ use Rattle.std.proofs.lemmas.List.FromFn.{map-range_with_len_more}
 use Rattle.std.proofs.lemmas.Nat.{xor_lt}
 use Rattle.lr_bits.specs.declared.outcome.Outcome.{Outcome}
 use Rattle.lr_bits.specs.declared.outcome.Outcome.TheVariants.{Restored}
+use Rattle.lr_bits.specs.declared.sizes.TheConstants.{BLOCK_BYTES}
 use Rattle.lr_block.specs.Outcomes.{IsBlock, all_lists, outcome_of_block}
 use Rattle.lr_block.specs.Randomiser.{sequence_byte}
 use Rattle.lr_block.proofs.Searching.{cases_find, from-all_lists}
@@ -31,19 +32,19 @@ use Rattle.lr_sent.proofs.Splitting.{bits-append}
 
 -- ---- they are blocks
 
-encoded_block_bytes : (frame : List ℕ) (i : ℕ) → i < 1020 → get_or (encoded_block frame) i 0 < 256
+encoded_block_bytes : (frame : List ℕ) (i : ℕ) → i < BLOCK_BYTES → get_or (encoded_block frame) i 0 < 256
 unfolding encoded_block
 encoded_block_bytes frame i h =
-    elim (cases_find (is_encoded frame) (all_lists 256 1020)) [
+    elim (cases_find (is_encoded frame) (all_lists 256 BLOCK_BYTES)) [
       | inl none ↦ omega (arith, ap (λ z. get_or (unwrap_or z []) i 0) none.0)
       | inr some ↦ omega (
         arith,
         ap (λ z. get_or (unwrap_or z []) i 0) some.1,
-        (from-all_lists 256 1020 some.0 some.2).1 i h,
+        (from-all_lists 256 BLOCK_BYTES some.0 some.2).1 i h,
       )
     ]
 
-block_bytes : (start wrong k i : ℕ) → i < 1020 → get_or (block_at start wrong k) i 0 < 256
+block_bytes : (start wrong k i : ℕ) → i < BLOCK_BYTES → get_or (block_at start wrong k) i 0 < 256
 unfolding block_at
 block_bytes start wrong k i h =
     let encoded : List ℕ = encoded_block (frame_at start k) in

@@ -19,6 +19,7 @@ use Rattle.lr_bits.specs.Bits.{field_of}
 use Rattle.lr_bits.specs.Crc.{crc_of}
 use Rattle.lr_bits.specs.File.{File}
 use Rattle.lr_bits.specs.Packet.{Packet}
+use Rattle.lr_bits.specs.declared.sizes.TheConstants.{FILL_CHANNEL, IDLE_APPLICATION, ZONE_BYTES}
 use Rattle.lr_vc.specs.Frame.{Fields, fields_of, version_of}
 use Rattle.lr_vc.specs.Packets.{packets_of}
 use Rattle.lr_vc.specs.Runs.{AreFrames}
@@ -111,7 +112,7 @@ packet_fits : (packet : Packet) → IsLongEnough packet.bytes
     → 3 * weigh_verdict (verdict_of packet) ≤ 4 * length packet.bytes
 packet_fits packet long =
     let bytes = packet.bytes in
-    by_rules (not (nat_eq (head_fields_of bytes).version 0)) (nat_eq (head_fields_of bytes).apid 2047)
+    by_rules (not (nat_eq (head_fields_of bytes).version 0)) (nat_eq (head_fields_of bytes).apid IDLE_APPLICATION)
     (ltb (length (data_of bytes)) 2) (not (nat_eq (stored_of bytes) (crc_of (packet_body bytes))))
     (Version (head_fields_of bytes).version) Idle TooShort (Crc (stored_of bytes) (crc_of (packet_body bytes)))
     (good_of packet)
@@ -181,7 +182,7 @@ module _ (start : ℕ) where
   record IsSent (k vc : ℕ) : Type 0 where
     version : version_of (frame_at start k) ≡ 1
     channel : (made_frame k).vc ≡ vc
-    long : length (made_frame k).zone ≡ 884
+    long : length (made_frame k).zone ≡ ZONE_BYTES
 
   sent_image : (k : ℕ) → k % 4 < 2 → IsSent k 0
   sent_image k turn =
@@ -206,21 +207,22 @@ module _ (start : ℕ) where
             ∙ length-zone texts (length-text_packet (text_start start)) (k / 4);
       }
 
-  sent_fill : (k : ℕ) → k % 4 ≡ 3 → IsSent k 63
+  sent_fill : (k : ℕ) → k % 4 ≡ 3 → IsSent k FILL_CHANNEL
   sent_fill k turn =
       let reads = fill_frame_reads (k / 4) in
       let same = fill_frame_at k turn in
       record {
         version = ap version_of same ∙ reads.version;
         channel = ap (λ z. (fields_of z).vc) same ∙ reads.channel;
-        long = ap (λ z. length (fields_of z).zone) same ∙ ap length reads.zone_is ∙ length-replicate {A = ℕ} 884 0;
+        long = ap (λ z. length (fields_of z).zone) same ∙ ap length reads.zone_is
+            ∙ length-replicate {A = ℕ} ZONE_BYTES 0;
       }
 
   sent_any : (k : ℕ) → (vc : ℕ) × IsSent k vc
   sent_any k =
       elim (turn_of k) [
         | inl image ↦ (0, sent_image k image)
-        | inr other ↦ elim other [ inl text ↦ (5, sent_text k text) | inr fill ↦ (63, sent_fill k fill) ]
+        | inr other ↦ elim other [ inl text ↦ (5, sent_text k text) | inr fill ↦ (FILL_CHANNEL, sent_fill k fill) ]
       ]
 
   -- ---- the frames of a channel
@@ -281,16 +283,17 @@ module _ (start : ℕ) where
       ]
 
   image_carry : (n : ℕ) → CarryPackets (frames_of_channel 0 (made_frames n))
-      (first_packets images (884 * image_frames n))
+      (first_packets images (ZONE_BYTES * image_frames n))
   image_carry n =
-      subst (λ (fs : List Fields). CarryPackets fs (first_packets images (884 * image_frames n)))
+      subst (λ (fs : List Fields). CarryPackets fs (first_packets images (ZONE_BYTES * image_frames n)))
       (sym (channel_list 0 (sent_frame images (length-image_packet start) 0 (omega arith)) image_frames refl
       next_image n))
       (carry images (length-image_packet start) 0 (omega arith) (image_frames n))
 
-  text_carry : (n : ℕ) → CarryPackets (frames_of_channel 5 (made_frames n)) (first_packets texts (884 * text_frames n))
+  text_carry : (n : ℕ) → CarryPackets (frames_of_channel 5 (made_frames n))
+      (first_packets texts (ZONE_BYTES * text_frames n))
   text_carry n =
-      subst (λ (fs : List Fields). CarryPackets fs (first_packets texts (884 * text_frames n)))
+      subst (λ (fs : List Fields). CarryPackets fs (first_packets texts (ZONE_BYTES * text_frames n)))
       (sym (channel_list 5 (sent_frame texts (length-text_packet (text_start start)) 5 (omega arith))
       text_frames refl next_text n))
       (carry texts (length-text_packet (text_start start)) 5 (omega arith) (text_frames n))
@@ -315,26 +318,26 @@ module _ (start : ℕ) where
   packets_long n =
       let packets = packets_of (made_frames n) in
       let OnImages : Packet → Type 0 = λ packet. packet.vc ≡ 0
-      → Contains (first_packets images (884 * image_frames n)) packet.bytes in
+      → Contains (first_packets images (ZONE_BYTES * image_frames n)) packet.bytes in
       let OnTexts : Packet → Type 0 = λ packet. packet.vc ≡ 5
-      → Contains (first_packets texts (884 * text_frames n)) packet.bytes in
+      → Contains (first_packets texts (ZONE_BYTES * text_frames n)) packet.bytes in
       let Either : Packet → Type 0 = λ packet. (packet.vc ≡ 0) ⊎ (packet.vc ≡ 5) in
       let of_images : Each OnImages packets =
       recursion_from_All OnImages packets
-      (packets_were_sent 0 (made_frames n) (first_packets images (884 * image_frames n))
-      (all_first TellsItsLength images (image_tells start) (884 * image_frames n)) (image_carry n)) in
+      (packets_were_sent 0 (made_frames n) (first_packets images (ZONE_BYTES * image_frames n))
+      (all_first TellsItsLength images (image_tells start) (ZONE_BYTES * image_frames n)) (image_carry n)) in
       let of_texts : Each OnTexts packets =
       recursion_from_All OnTexts packets
-      (packets_were_sent 5 (made_frames n) (first_packets texts (884 * text_frames n))
-      (all_first TellsItsLength texts (text_tells (text_start start)) (884 * text_frames n)) (text_carry n)) in
+      (packets_were_sent 5 (made_frames n) (first_packets texts (ZONE_BYTES * text_frames n))
+      (all_first TellsItsLength texts (text_tells (text_start start)) (ZONE_BYTES * text_frames n)) (text_carry n)) in
       let channels : Each Either packets =
       packets_by_channels (λ vc. (vc ≡ 0) ⊎ (vc ≡ 5)) (made_frames n)
-      (Each-map (λ f. (f.vc ≡ 63 → ⊥) → (f.vc ≡ 0) ⊎ (f.vc ≡ 5)) made_frame (range_with_len 0 n)
-      (Each_any (λ k. ((made_frame k).vc ≡ 63 → ⊥) → ((made_frame k).vc ≡ 0) ⊎ ((made_frame k).vc ≡ 5))
+      (Each-map (λ f. (f.vc ≡ FILL_CHANNEL → ⊥) → (f.vc ≡ 0) ⊎ (f.vc ≡ 5)) made_frame (range_with_len 0 n)
+      (Each_any (λ k. ((made_frame k).vc ≡ FILL_CHANNEL → ⊥) → ((made_frame k).vc ≡ 0) ⊎ ((made_frame k).vc ≡ 5))
       one_of_two (range_with_len 0 n))) in
       each_long n packets of_images of_texts channels
     where
-      one_of_two : (k : ℕ) → ((made_frame k).vc ≡ 63 → ⊥) → ((made_frame k).vc ≡ 0) ⊎ ((made_frame k).vc ≡ 5)
+      one_of_two : (k : ℕ) → ((made_frame k).vc ≡ FILL_CHANNEL → ⊥) → ((made_frame k).vc ≡ 0) ⊎ ((made_frame k).vc ≡ 5)
       one_of_two k not_fill =
           elim (turn_of k) [
             | inl image ↦ inl (sent_image k image).channel
@@ -346,19 +349,21 @@ module _ (start : ℕ) where
           ]
 
       each_long : (n : ℕ) (packets : List Packet) →
-          Each (λ packet. packet.vc ≡ 0 → Contains (first_packets images (884 * image_frames n)) packet.bytes) packets →
-          Each (λ packet. packet.vc ≡ 5 → Contains (first_packets texts (884 * text_frames n)) packet.bytes) packets →
+          Each (λ packet. packet.vc ≡ 0 → Contains (first_packets images (ZONE_BYTES * image_frames n)) packet.bytes)
+          packets →
+          Each (λ packet. packet.vc ≡ 5 → Contains (first_packets texts (ZONE_BYTES * text_frames n)) packet.bytes)
+          packets →
           Each (λ packet. (packet.vc ≡ 0) ⊎ (packet.vc ≡ 5)) packets
           → Each (λ packet. IsLongEnough packet.bytes) packets
       each_long n [] _ _ _ = tt
       each_long n (packet ∷ packets) i t c = (
         elim c.0 [
           | inl image ↦
-              All-contains IsLongEnough (first_packets images (884 * image_frames n)) packet.bytes
-              (all_first IsLongEnough images image_is_long (884 * image_frames n)) (i.0 image)
+              All-contains IsLongEnough (first_packets images (ZONE_BYTES * image_frames n)) packet.bytes
+              (all_first IsLongEnough images image_is_long (ZONE_BYTES * image_frames n)) (i.0 image)
           | inr text ↦
-              All-contains IsLongEnough (first_packets texts (884 * text_frames n)) packet.bytes
-              (all_first IsLongEnough texts text_is_long (884 * text_frames n)) (t.0 text)
+              All-contains IsLongEnough (first_packets texts (ZONE_BYTES * text_frames n)) packet.bytes
+              (all_first IsLongEnough texts text_is_long (ZONE_BYTES * text_frames n)) (t.0 text)
         ],
         each_long n packets i.1 t.1 c.1,
       )
@@ -366,7 +371,7 @@ module _ (start : ℕ) where
   -- ---- the frames that aren't fill
 
   abbrev carries : Fields → Bool
-  carries frame = not (nat_eq frame.vc 63)
+  carries frame = not (nat_eq frame.vc FILL_CHANNEL)
 
   carrying_few : (n : ℕ) → count_by carries (made_frames n) ≤ 3 * (n / 4) + min (n % 4) 3
   carrying_few zero = omega arith
@@ -385,16 +390,16 @@ module _ (start : ℕ) where
               | inl text ↦ omega (arith, more, one, rest)
               | inr fill ↦
                   let none : weight (made_frame n) ≡ 0 =
-                  ap (λ (vc : ℕ). cond (not (nat_eq vc 63)) 1 0) (sent_fill n fill).channel in
+                  ap (λ (vc : ℕ). cond (not (nat_eq vc FILL_CHANNEL)) 1 0) (sent_fill n fill).channel in
                   omega (arith, more, none, rest)
             ]
       ]
 
   all_frames : (n : ℕ) → AreFrames (made_frames n)
   all_frames n =
-      All-from_recursion (λ f. length f.zone ≡ 884) (made_frames n)
-      (Each-map (λ f. length f.zone ≡ 884) made_frame (range_with_len 0 n)
-      (Each_any (λ k. length (made_frame k).zone ≡ 884) (λ k. (sent_any k).1.long) (range_with_len 0 n)))
+      All-from_recursion (λ f. length f.zone ≡ ZONE_BYTES) (made_frames n)
+      (Each-map (λ f. length f.zone ≡ ZONE_BYTES) made_frame (range_with_len 0 n)
+      (Each_any (λ k. length (made_frame k).zone ≡ ZONE_BYTES) (λ k. (sent_any k).1.long) (range_with_len 0 n)))
 
   -- ---- the files of the outcomes
 
@@ -451,20 +456,20 @@ made_files_fit start wrong n front later split =
     let files = files_of_outcomes (made_outcomes start wrong m) in
     let sizes : room_of_files files ≤ sum_by (file_weight weights) files =
     sum_by-le-sum_by room_of (file_weight weights) files (λ file. omega arith) in
-    subst (λ (outcomes : List Outcome). room_of_files (files_of_outcomes outcomes) ≤ 884 * (n + 1)) (sym is.1)
+    subst (λ (outcomes : List Outcome). room_of_files (files_of_outcomes outcomes) ≤ ZONE_BYTES * (n + 1)) (sym is.1)
     (omega (arith, sizes, files_fit start wrong m, is.0))
 
 -- the same of the files with their origins
 pub placed_fit : (start wrong n : ℕ) (front later : List Outcome) → made_outcomes start wrong n ≡ front ++ later →
-    room_of_files (map (λ placed. placed.file) (placed_of_outcomes front)) ≤ 884 * (n + 1)
+    room_of_files (map (λ placed. placed.file) (placed_of_outcomes front)) ≤ ZONE_BYTES * (n + 1)
 placed_fit start wrong n front later split =
     let is = front_made start wrong n front later split in
     let frames : frames_of_outcomes front ≡ made_frames start (length front) =
     ap frames_of_outcomes is.1 ∙ frames_made start wrong 0 (length front) in
-    subst (λ (files : List File). room_of_files files ≤ 884 * (n + 1))
+    subst (λ (files : List File). room_of_files files ≤ ZONE_BYTES * (n + 1))
     (sym (have_origins front (subst AreFrames (sym frames) (all_frames start (length front)))))
     (made_files_fit start wrong n front later split)
 
 -- each fourth frame is of the channel of fill
-pub fill_channel : (start k : ℕ) → k % 4 ≡ 3 → field_of (frame_at start k) 10 6 ≡ 63
+pub fill_channel : (start k : ℕ) → k % 4 ≡ 3 → field_of (frame_at start k) 10 6 ≡ FILL_CHANNEL
 fill_channel start k turn = (sent_fill start k turn).channel

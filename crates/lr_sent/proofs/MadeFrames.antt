@@ -2,6 +2,7 @@
 use Rattle.std.proofs.Common.{◌≡◌, ℕ, ◌+◌, ◌-◌, ◌*◌, ◌/◌, ◌%◌, ◌^◌, ◌<◌, ◌≤◌, List, [], ◌∷◌, ◌++◌, length, drop}
 use Rattle.std.proofs.Common.{get_or, inl, inr, sym, ap, ◌∙◌, arith, replicate, unwrap_or, Bool}
 use Rattle.lr_bits.specs.Bits.{field_of}
+use Rattle.lr_bits.specs.declared.sizes.TheConstants.{CHANNELS, FILL_CHANNEL, FRAME_COUNTS, ZONE_BYTES}
 use Rattle.lr_bits.proofs.BitsLemmas.{field_of-none, field_of-more}
 use Rattle.lr_block.proofs.Searching.{cases_first}
 use Rattle.lr_vc.specs.Frame.{fields_of, version_of}
@@ -78,7 +79,7 @@ pub record Reads (frame : List ℕ) (vc counter pointer : ℕ) (zone : List ℕ)
   pub pointer_is : (fields_of frame).pointer ≡ pointer
   pub zone_is : (fields_of frame).zone ≡ zone
 
-pub frame_reads : (vc counter pointer : ℕ) (zone : List ℕ) → vc < 64 → counter < 16777216 → pointer < 2048 →
+pub frame_reads : (vc counter pointer : ℕ) (zone : List ℕ) → vc < CHANNELS → counter < FRAME_COUNTS → pointer < 2048 →
     Reads (frame_for_zone vc counter pointer zone) vc counter pointer zone
 frame_reads vc counter pointer zone v c p =
     let bytes = frame_for_zone vc counter pointer zone in
@@ -98,18 +99,20 @@ frame_reads vc counter pointer zone v c p =
 pointer_small : (packets : ℕ → List ℕ) (t : ℕ) → pointer_at packets t < 2048
 unfolding pointer_at
 pointer_small packets t =
-    let starts : ℕ → Bool = λ place. is_start packets (884 * t + place) in
-    elim (cases_first starts 0 884) [
+    let starts : ℕ → Bool = λ place. is_start packets (ZONE_BYTES * t + place) in
+    elim (cases_first starts 0 ZONE_BYTES) [
       | inl none ↦ omega (arith, ap (λ z. unwrap_or z 2047) none.0)
       | inr some ↦ omega (arith, ap (λ z. unwrap_or z 2047) some.1, some.2)
     ]
 
-pub packet_frame_reads : (vc : ℕ) (packets : ℕ → List ℕ) (t : ℕ) → vc < 64 →
-    Reads (packet_frame vc packets t) vc (t % 16777216) (pointer_at packets t) (zone_at packets t)
+pub packet_frame_reads : (vc : ℕ) (packets : ℕ → List ℕ) (t : ℕ) → vc < CHANNELS →
+    Reads (packet_frame vc packets t) vc (t % FRAME_COUNTS) (pointer_at packets t) (zone_at packets t)
 unfolding packet_frame
 packet_frame_reads vc packets t v =
-    frame_reads vc (t % 16777216) (pointer_at packets t) (zone_at packets t) v (omega arith) (pointer_small packets t)
+    frame_reads vc (t % FRAME_COUNTS) (pointer_at packets t) (zone_at packets t) v (omega arith)
+    (pointer_small packets t)
 
-pub fill_frame_reads : (t : ℕ) → Reads (fill_frame t) 63 (t % 16777216) 2046 (replicate 884 0)
+pub fill_frame_reads : (t : ℕ) → Reads (fill_frame t) FILL_CHANNEL (t % FRAME_COUNTS) 2046 (replicate ZONE_BYTES 0)
 unfolding fill_frame
-fill_frame_reads t = frame_reads 63 (t % 16777216) 2046 (replicate 884 0) (omega arith) (omega arith) (omega arith)
+fill_frame_reads t = frame_reads FILL_CHANNEL (t % FRAME_COUNTS) 2046 (replicate ZONE_BYTES 0) (omega arith)
+    (omega arith) (omega arith)

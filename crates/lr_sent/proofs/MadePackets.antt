@@ -5,6 +5,8 @@ use Rattle.std.proofs.lemmas.Bool.{cond_both}
 use Rattle.std.specs.Int.{bytes_high_first}
 use Rattle.lr_bits.specs.Bits.{field_of}
 use Rattle.lr_bits.specs.Crc.{crc_of}
+use Rattle.lr_bits.specs.declared.sizes.TheConstants.{FRAME_COUNTS, SEQUENCE_COUNTS}
+use Rattle.lr_bits.specs.Sizes.{most_body_bytes}
 use Rattle.lr_bits.proofs.BitsLemmas.{field_of-none, field_of-more}
 use Rattle.lr_vc.proofs.Starts.{length_field}
 use Rattle.lr_make.specs.Packets.{head_for_body, head_with, packet_for_body}
@@ -35,7 +37,7 @@ module _ (apid flags count : ℕ) (body : List ℕ) where
   abbrev number : ℕ
   number = (((0 + apid) * 4 + flags) * 16384 + count) * 65536 + (length body + 1)
 
-  byte_two : get_or (packet_for_body apid flags count body) 2 0 ≡ number / 16777216 % 256
+  byte_two : get_or (packet_for_body apid flags count body) 2 0 ≡ number / FRAME_COUNTS % 256
   unfolding packet_for_body head_with
   byte_two = refl
 
@@ -47,12 +49,12 @@ module _ (apid flags count : ℕ) (body : List ℕ) where
   unfolding packet_for_body head_with
   byte_five = refl
 
-  pub tells : length body < 65535 → TellsItsLength (packet_for_body apid flags count body)
+  pub tells : length body ≤ most_body_bytes → TellsItsLength (packet_for_body apid flags count body)
   tells small =
       let field = length_field (packet_for_body apid flags count body) 0 in
       omega (arith, field, byte_four, byte_five, length-packet)
 
-  pub flags_are : flags < 4 → count < 16384 → length body < 65535
+  pub flags_are : flags < 4 → count < SEQUENCE_COUNTS → length body ≤ most_body_bytes
       → field_of (packet_for_body apid flags count body) 16 2 ≡ flags
   flags_are few low small =
       flags_bits (packet_for_body apid flags count body) (omega (arith, length-packet))
@@ -74,14 +76,19 @@ image_flags_few j = cond_both (eqb j 0) _ _ (λ flags. flags < 3) (λ _. omega a
 pub image_tells : (start p : ℕ) → TellsItsLength (image_packet start p)
 unfolding image_packet
 image_tells start p =
-    tells 100 (image_flags (p % 65)) (p % 16384) (image_body start (p / 65) (p % 65))
+    tells 100 (image_flags (p % 65)) (p % SEQUENCE_COUNTS) (image_body start (p / 65) (p % 65))
     (omega (arith, image_sizes start (p / 65) (p % 65)))
 
 pub image_long : (start p : ℕ) → 43 ≤ length (image_packet start p)
 unfolding image_packet
 image_long start p =
     let body = image_body start (p / 65) (p % 65) in
-    omega (arith, length-packet 100 (image_flags (p % 65)) (p % 16384) body, image_sizes start (p / 65) (p % 65))
+    omega (
+      arith,
+      length-packet 100 (image_flags (p % 65)) (p % SEQUENCE_COUNTS) body,
+      image_sizes start (p / 65)
+          (p % 65),
+    )
 
 -- none of them is a file alone
 pub image_not_alone : (start p : ℕ) → field_of (image_packet start p) 16 2 < 3
@@ -91,7 +98,8 @@ image_not_alone start p =
     omega (
       arith,
       few,
-      flags_are 100 (image_flags (p % 65)) (p % 16384) (image_body start (p / 65) (p % 65)) (omega arith) (omega arith)
+      flags_are 100 (image_flags (p % 65)) (p % SEQUENCE_COUNTS) (image_body start (p / 65) (p % 65)) (omega arith)
+          (omega arith)
           (omega (arith, image_sizes start (p / 65) (p % 65))),
     )
 
@@ -109,13 +117,14 @@ text_size start k =
 pub text_tells : (start k : ℕ) → TellsItsLength (text_packet start k)
 unfolding text_packet
 text_tells start k =
-    tells 200 3 (k % 16384) (text_headers k ++ text_bytes start (200 * k) 200) (omega (arith, text_size start k))
+    tells 200 3 (k % SEQUENCE_COUNTS) (text_headers k ++ text_bytes start (200 * k) 200)
+    (omega (arith, text_size start k))
 
 pub text_long : (start k : ℕ) → length (text_packet start k) ≡ 245
 unfolding text_packet
 text_long start k =
     omega (
       arith,
-      length-packet 200 3 (k % 16384) (text_headers k ++ text_bytes start (200 * k) 200),
+      length-packet 200 3 (k % SEQUENCE_COUNTS) (text_headers k ++ text_bytes start (200 * k) 200),
       text_size start k,
     )

@@ -8,6 +8,7 @@ use Rattle.std.proofs.lemmas.Bool.{cases_Bool}
 use Rattle.std.proofs.lemmas.List.{map-append, take-append-drop, drop-append-le, take-append-le}
 use Rattle.std.proofs.lemmas.List.FromFn.{map-range_with_len_more, get_or-map-range_with_len}
 use Rattle.std.proofs.lemmas.List.FromFn.{length-map-range_with_len}
+use Rattle.lr_bits.specs.declared.sizes.TheConstants.{CHANNELS, ZONE_BYTES}
 use Rattle.lr_block.proofs.Searching.{cases_first}
 use Rattle.lr_vc.specs.Frame.{Fields, fields_of}
 use Rattle.lr_make.specs.Frames.{packet_frame}
@@ -65,26 +66,27 @@ module _ (packets : ℕ → List ℕ) (some : HaveBytes packets) where
       }
 
   -- a zone of the first packets
-  zone_in : (n t : ℕ) → 884 * (t + 1) ≤ n → zone_at packets t ≡ take 884 (drop (884 * t) (joined_packets packets n))
+  zone_in : (n t : ℕ) → ZONE_BYTES * (t + 1) ≤ n
+      → zone_at packets t ≡ take ZONE_BYTES (drop (ZONE_BYTES * t) (joined_packets packets n))
   unfolding zone_at
   zone_in n t inside =
-      let few = joined_packets packets (884 * (t + 1)) in
-      let more = joined-front packets (884 * (t + 1)) n inside in
-      let enough : 884 * (t + 1) ≤ length few = length-joined-least packets some (884 * (t + 1)) in
-      sym (ap (λ z. take 884 (drop (884 * t) z)) more.1
-      ∙ ap (take 884) (drop-append-le (884 * t) few more.0 (omega arith))
-      ∙ take-append-le 884 (drop (884 * t) few) more.0 (omega (arith, length-drop (884 * t) few)))
+      let few = joined_packets packets (ZONE_BYTES * (t + 1)) in
+      let more = joined-front packets (ZONE_BYTES * (t + 1)) n inside in
+      let enough : ZONE_BYTES * (t + 1) ≤ length few = length-joined-least packets some (ZONE_BYTES * (t + 1)) in
+      sym (ap (λ z. take ZONE_BYTES (drop (ZONE_BYTES * t) z)) more.1
+      ∙ ap (take ZONE_BYTES) (drop-append-le (ZONE_BYTES * t) few more.0 (omega arith))
+      ∙ take-append-le ZONE_BYTES (drop (ZONE_BYTES * t) few) more.0 (omega (arith, length-drop (ZONE_BYTES * t) few)))
 
-  pub length-zone : (t : ℕ) → length (zone_at packets t) ≡ 884
+  pub length-zone : (t : ℕ) → length (zone_at packets t) ≡ ZONE_BYTES
   unfolding zone_at
   length-zone t =
-      let few = joined_packets packets (884 * (t + 1)) in
-      let enough : 884 * (t + 1) ≤ length few = length-joined-least packets some (884 * (t + 1)) in
-      length-take-le 884 (drop (884 * t) few) (omega (arith, length-drop (884 * t) few))
+      let few = joined_packets packets (ZONE_BYTES * (t + 1)) in
+      let enough : ZONE_BYTES * (t + 1) ≤ length few = length-joined-least packets some (ZONE_BYTES * (t + 1)) in
+      length-take-le ZONE_BYTES (drop (ZONE_BYTES * t) few) (omega (arith, length-drop (ZONE_BYTES * t) few))
 
   -- the first zones, joined, are the first bytes
-  zones_joined : (n m : ℕ) → 884 * m ≤ n → concat (map (zone_at packets) (range_with_len 0 m))
-      ≡ take (884 * m) (joined_packets packets n)
+  zones_joined : (n m : ℕ) → ZONE_BYTES * m ≤ n → concat (map (zone_at packets) (range_with_len 0 m))
+      ≡ take (ZONE_BYTES * m) (joined_packets packets n)
   zones_joined n zero inside = refl
   zones_joined n (suc m) inside =
       let all = joined_packets packets n in
@@ -92,13 +94,13 @@ module _ (packets : ℕ → List ℕ) (some : HaveBytes packets) where
       ++ zone_at packets m ∷ [] =
       ap (λ k. map (zone_at packets) (range_with_len 0 k)) (sym (add-one m))
       ∙ map-range_with_len_more (zone_at packets) 0 m m (zero-add m) in
-      let long : 884 * suc m ≡ 884 * m + 884 = omega arith in
+      let long : ZONE_BYTES * suc m ≡ ZONE_BYTES * m + ZONE_BYTES = omega arith in
       ap concat more ∙ concat-append (map (zone_at packets) (range_with_len 0 m)) (zone_at packets m ∷ [])
       ∙ ap₂ (λ xs ys. xs ++ ys) (zones_joined n m (omega arith)) (append-nil (zone_at packets m)
       ∙ zone_in n m (omega arith))
-      ∙ sym (take-add (884 * m) 884 all) ∙ ap (λ k. take k all) (sym long)
+      ∙ sym (take-add (ZONE_BYTES * m) ZONE_BYTES all) ∙ ap (λ k. take k all) (sym long)
 
-  module _ (vc : ℕ) (v : vc < 64) where
+  module _ (vc : ℕ) (v : vc < CHANNELS) where
     -- frame t of the channel, as it is read
     abbrev pub sent_frame : ℕ → Fields
     sent_frame t = fields_of (packet_frame vc packets t)
@@ -126,34 +128,34 @@ module _ (packets : ℕ → List ℕ) (some : HaveBytes packets) where
     pointers_are a (suc n) = ap₂ (λ z zs. z ∷ zs) (packet_frame_reads vc packets a v).pointer_is
         (pointers_are (a + 1) n)
 
-    edge_pointed : (m t : ℕ) → t < m → pointer_at packets t < 884
-        → IsEdge (first_packets packets (884 * m)) (884 * t + pointer_at packets t)
+    edge_pointed : (m t : ℕ) → t < m → pointer_at packets t < ZONE_BYTES
+        → IsEdge (first_packets packets (ZONE_BYTES * m)) (ZONE_BYTES * t + pointer_at packets t)
     unfolding pointer_at
     edge_pointed m t inside points =
-        let starts : ℕ → Bool = λ place. is_start packets (884 * t + place) in
-        elim (cases_first starts 0 884) [
+        let starts : ℕ → Bool = λ place. is_start packets (ZONE_BYTES * t + place) in
+        elim (cases_first starts 0 ZONE_BYTES) [
           | inl none ↦ absurd (omega (arith, ap (λ z. unwrap_or z 2047) none.0))
           | inr found ↦
               let here : pointer_at packets t ≡ found.0 = ap (λ z. unwrap_or z 2047) found.1 in
-              subst (λ p. IsEdge (first_packets packets (884 * m)) (884 * t + p)) (sym here)
-              (edge_at (884 * m) (884 * t + found.0) (omega (arith, found.2)) found.3)
+              subst (λ p. IsEdge (first_packets packets (ZONE_BYTES * m)) (ZONE_BYTES * t + p)) (sym here)
+              (edge_at (ZONE_BYTES * m) (ZONE_BYTES * t + found.0) (omega (arith, found.2)) found.3)
         ]
 
-    pub carry : (m : ℕ) → CarryPackets (map sent_frame (range_with_len 0 m)) (first_packets packets (884 * m))
+    pub carry : (m : ℕ) → CarryPackets (map sent_frame (range_with_len 0 m)) (first_packets packets (ZONE_BYTES * m))
     carry m =
-        let all = joined_packets packets (884 * m) in
+        let all = joined_packets packets (ZONE_BYTES * m) in
         record {
           counted = counted 0 m;
-          later = drop (884 * m) all;
-          bytes = joined-is (884 * m) ∙ sym (take-append-drop (884 * m) all)
-              ∙ ap (λ xs. xs ++ drop (884 * m) all)
-              (sym (ap concat (zones_are 0 m) ∙ zones_joined (884 * m) m (omega arith)));
+          later = drop (ZONE_BYTES * m) all;
+          bytes = joined-is (ZONE_BYTES * m) ∙ sym (take-append-drop (ZONE_BYTES * m) all)
+              ∙ ap (λ xs. xs ++ drop (ZONE_BYTES * m) all)
+              (sym (ap concat (zones_are 0 m) ∙ zones_joined (ZONE_BYTES * m) m (omega arith)));
           pointers = λ t inside points.
               let low : t < m = omega (arith, inside, length-map-range_with_len sent_frame 0 m) in
               let here : get_or (map (λ (frame : Fields). frame.pointer) (map sent_frame (range_with_len 0 m)))
               t 0 ≡ pointer_at packets t =
               ap (λ ps. get_or ps t 0) (pointers_are 0 m)
               ∙ get_or-map-range_with_len (pointer_at packets) 0 m t t 0 low (zero-add t) in
-              subst (λ p. IsEdge (first_packets packets (884 * m)) (884 * t + p)) (sym here)
-              (edge_pointed m t low (subst (λ p. p < 884) here points));
+              subst (λ p. IsEdge (first_packets packets (ZONE_BYTES * m)) (ZONE_BYTES * t + p)) (sym here)
+              (edge_pointed m t low (subst (λ p. p < ZONE_BYTES) here points));
         }

@@ -9,6 +9,7 @@ use Rattle.std.proofs.lemmas.List.Elements.{All-cons, All-head, All-nil, All-tai
 use Rattle.std.specs.List.{All}
 use Rattle.lr_bits.specs.declared.outcome.Outcome.{Outcome}
 use Rattle.lr_bits.specs.declared.outcome.Outcome.TheVariants.{Restored}
+use Rattle.lr_bits.specs.declared.sizes.TheConstants.{FRAME_SYMBOLS, WINDOW_SYMBOLS}
 use Rattle.lr_block.specs.Outcomes.{IsBlock, outcome_of_block}
 use Rattle.lr_block.specs.Blocks.{changes_of}
 use Rattle.lr_block.specs.Randomiser.{randomised_block}
@@ -18,12 +19,14 @@ use Rattle.lr_conv.specs.Convolution.{code}
 use Rattle.lr_conv.specs.Levels.{levels, six_zeros}
 use Rattle.lr_conv.specs.Marker.{marker, marker_start, tail_of}
 use Rattle.lr_conv.specs.declared.line.LineCode.{LineCode}
+use Rattle.lr_conv.specs.declared.marker.TheConstants.{MARKER_SYMBOLS, TAIL_SYMBOLS}
 use Rattle.lr_conv.proofs.Tails.{tail_size}
 use Rattle.lr_trellis.specs.Path.{bytes_of_bits, nearest_path}
 use Rattle.lr_lock.specs.Frames.{AreNext, IsHeld, IsNext, last_of}
 use Rattle.lr_lock.specs.Hits.{agreeing, hits}
 use Rattle.lr_lock.specs.Windows.{turned_value, window_of, window_value}
 use Rattle.lr_lock.specs.declared.frame.Frame.{Frame}
+use Rattle.lr_lock.specs.declared.sizes.TheConstants.{TAIL_START}
 use Rattle.lr_lock.proofs.Stepping.{reach}
 use Rattle.lr_frame.specs.Outcomes.{outcome_in, outcomes_of_symbols}
 use Rattle.lr_frame.proofs.Given.{all_outcomes}
@@ -85,21 +88,22 @@ none_next tail symbols (Some last) frame h (inr next) = absurd (omega (arith, ne
 -- ---- a window
 
 -- a window shows these levels, and 0 past their end
-window_is : (symbols : List ℤ) (place : ℕ) (turn : Bool) (bits : List Bool) (values : List ℤ) → length values ≡ 16332
-    → ((i : ℕ) → i < 16332 → get_or (drop (place + 64) symbols) i (pos 0)
+window_is : (symbols : List ℤ) (place : ℕ) (turn : Bool) (bits : List Bool) (values : List ℤ)
+    → length values ≡ WINDOW_SYMBOLS
+    → ((i : ℕ) → i < WINDOW_SYMBOLS → get_or (drop (place + MARKER_SYMBOLS) symbols) i (pos 0)
     ≡ get_or (map level (turned turn bits)) i (pos 0))
     → ((i : ℕ) → get_or values i (pos 0) ≡ get_or (map level bits) i (pos 0))
     → window_of symbols place (not turn) ≡ values
 unfolding window_of
 window_is symbols place turn bits values size behind same =
-    sym (fill_by_all (window_value symbols place (not turn)) values 16332 (pos 0) size
+    sym (fill_by_all (window_value symbols place (not turn)) values WINDOW_SYMBOLS (pos 0) size
     (λ i h. same i ∙ sym (value_back turn bits i) ∙ ap (turned_value (not turn))
-    (sym (behind i h) ∙ get_or-drop (place + 64) symbols i (pos 0))))
+    (sym (behind i h) ∙ get_or-drop (place + MARKER_SYMBOLS) symbols i (pos 0))))
 
 module _ (line : LineCode) (symbols : List ℤ) (place : ℕ) (turn : Bool) (bits : List Bool)
     (size : length bits ≡ 8160) where
   -- that of the last frame
-  window_at_end : drop (place + 64) symbols ≡ map level (turned turn (path_code line bits)) →
+  window_at_end : drop (place + MARKER_SYMBOLS) symbols ≡ map level (turned turn (path_code line bits)) →
       window_of symbols place (not turn) ≡ map level (path_code line bits) ++ replicate 12 (pos 0)
   window_at_end behind =
       let sent : List Bool = path_code line bits in
@@ -115,14 +119,16 @@ module _ (line : LineCode) (symbols : List ℤ) (place : ℕ) (turn : Bool) (bit
 
   -- that of one with a marker after it
   window_within : (more : List Bool) →
-      drop (place + 64) symbols ≡ map level (turned turn (path_code line (bits ++ (marker_start ++ more))))
+      drop (place + MARKER_SYMBOLS) symbols ≡ map level (turned turn (path_code line (bits ++ (marker_start ++ more))))
       → window_of symbols place (not turn) ≡ map level (path_code line (bits ++ marker_start))
   window_within more behind =
       let both : List Bool = bits ++ marker_start in
       let sent : List Bool = path_code line both in
       let front = path_code-front line both more in
-      let long : length sent ≡ 16332 = omega (arith, length-path_code line both, length-append bits marker_start) in
-      let whole : drop (place + 64) symbols ≡ map level (turned turn sent) ++ map level (turned turn front.0) =
+      let long : length sent ≡ WINDOW_SYMBOLS =
+      omega (arith, length-path_code line both, length-append bits marker_start) in
+      let whole : drop (place + MARKER_SYMBOLS) symbols ≡ map level (turned turn sent) ++ map level
+      (turned turn front.0) =
       behind ∙ ap (λ z. map level (turned turn (path_code line z))) (sym (append_assoc bits marker_start more))
       ∙ ap (λ z. map level (turned turn z)) front.1 ∙ ap (map level) (turned-append turn sent front.0)
       ∙ map-append level (turned turn sent) (turned turn front.0) in
@@ -133,7 +139,7 @@ module _ (line : LineCode) (symbols : List ℤ) (place : ℕ) (turn : Bool) (bit
       (λ i. refl)
 
 -- a window of a block, with what follows it, is read as the block
-block_is_read : (line : LineCode) (block : List ℕ) (window : List ℤ) → IsBlock block → length window ≡ 16332
+block_is_read : (line : LineCode) (block : List ℕ) (window : List ℤ) → IsBlock block → length window ≡ WINDOW_SYMBOLS
     → take 16320 window ≡ map level (path_code line (bits_of_bytes block))
     → (drop 16320 window ≡ map level (drop 16320 (path_code line (bits_of_bytes block ++ marker_start)))) ⊎
     (drop 16320 window ≡ replicate 12 (pos 0))
@@ -153,7 +159,7 @@ block_is_read line block window whole size front back =
 -- how many symbols are after these blocks, and the frame of the next one
 abbrev frame_after_blocks : LineCode → List (List ℕ) → Frame
 frame_after_blocks line before =
-    record { place = 16384 * length before; positive = not (turns line (bits_of_blocks before)); misses = 0 }
+    record { place = FRAME_SYMBOLS * length before; positive = not (turns line (bits_of_blocks before)); misses = 0 }
 
 -- the frames of blocks, after other blocks
 abbrev frames_of_blocks : LineCode → List (List ℕ) → List (List ℕ) → List Frame
@@ -167,7 +173,7 @@ module _ (line : LineCode) (before : List (List ℕ)) (block : List ℕ) (later 
   all = symbols_of_blocks line (before ++ block ∷ later)
 
   abbrev place : ℕ
-  place = 16384 * length before
+  place = FRAME_SYMBOLS * length before
 
   abbrev turn : Bool
   turn = turns line (bits_of_blocks before)
@@ -182,27 +188,27 @@ module _ (line : LineCode) (before : List (List ℕ)) (block : List ℕ) (later 
   this = All-head IsBlock block later (All_right IsBlock before (block ∷ later) whole)
 
   -- the marker's tail, and the code of what follows
-  behind : drop (place + 12) all ≡ map level (turned turn (tail_of line))
+  behind : drop (place + TAIL_START) all ≡ map level (turned turn (tail_of line))
       ++ map level (turned turn (path_code line after))
   unfolding symbols_of_blocks
   behind =
       let bits : List Bool = bits_of_blocks before in
-      let places : place + 12 ≡ 2 * length bits + 12 = omega (arith, length-bits before fronts) in
+      let places : place + TAIL_START ≡ 2 * length bits + 12 = omega (arith, length-bits before fronts) in
       let sent : bits_of_blocks (before ++ block ∷ later) ≡ bits ++ (marker ++ after) =
       bits-append before (block ∷ later) ∙ ap (λ z. bits ++ z) (bits-cons block later) in
-      ap (λ z. drop (place + 12) (map level (code line six_zeros (levels line false z)))) sent
-      ∙ drop-map level (place + 12) (code line six_zeros (levels line false (bits ++ (marker ++ after))))
+      ap (λ z. drop (place + TAIL_START) (map level (code line six_zeros (levels line false z)))) sent
+      ∙ drop-map level (place + TAIL_START) (code line six_zeros (levels line false (bits ++ (marker ++ after))))
       ∙ ap (λ p. map level (drop p (code line six_zeros (levels line false (bits ++ (marker ++ after)))))) places
       ∙ ap (map level) (tail_behind line bits after ∙ turned-append turn (tail_of line) (path_code line after))
       ∙ map-append level (turned turn (tail_of line)) (turned turn (path_code line after))
 
-  seen : hits (tail_of line) all place (not turn) ≡ 52
+  seen : hits (tail_of line) all place (not turn) ≡ TAIL_SYMBOLS
   unfolding hits
   seen =
       ap (agreeing (not turn) (tail_of line)) behind
       ∙ agreeing-turned turn (tail_of line) (map level (turned turn (path_code line after))) ∙ tail_size line
 
-  room : place + 16384 ≤ length all
+  room : place + FRAME_SYMBOLS ≤ length all
   room = omega (arith, length-sent line (before ++ block ∷ later) whole, length-append before (block ∷ later))
 
   first_frame : length before ≡ 0 → IsNext (tail_of line) all None (frame_after_blocks line before)
@@ -219,7 +225,7 @@ module _ (line : LineCode) (before : List (List ℕ)) (block : List ℕ) (later 
         },
       )
 
-  held_frame : (last : Frame) → last.place + 16384 ≡ place
+  held_frame : (last : Frame) → last.place + FRAME_SYMBOLS ≡ place
       → IsHeld (tail_of line) all last (frame_after_blocks line before)
   held_frame last next = record {
     place = omega (arith, next);
@@ -230,13 +236,15 @@ module _ (line : LineCode) (before : List (List ℕ)) (block : List ℕ) (later 
   }
 
   -- what is after the marker
-  after_marker : drop (place + 64) all ≡ map level (turned turn (path_code line after))
+  after_marker : drop (place + MARKER_SYMBOLS) all ≡ map level (turned turn (path_code line after))
   after_marker =
       let tail : List ℤ = map level (turned turn (tail_of line)) in
       let code : List ℤ = map level (turned turn (path_code line after)) in
-      let places : place + 64 ≡ place + 12 + 52 = omega arith in
-      ap (λ p. drop p all) places ∙ sym (drop-drop 52 (place + 12) all) ∙ ap (drop 52) behind
-      ∙ drop_at tail code 52 (length-map (turned turn (tail_of line)) level ∙ length-turned turn (tail_of line)
+      let places : place + MARKER_SYMBOLS ≡ place + TAIL_START + TAIL_SYMBOLS = omega arith in
+      ap (λ p. drop p all) places ∙ sym (drop-drop TAIL_SYMBOLS (place + TAIL_START) all)
+      ∙ ap (drop TAIL_SYMBOLS) behind
+      ∙ drop_at tail code TAIL_SYMBOLS (length-map (turned turn (tail_of line)) level
+      ∙ length-turned turn (tail_of line)
       ∙ tail_size line)
 
   read_by : (bits : List Bool) → bits_of_blocks later ≡ bits →
@@ -301,7 +309,7 @@ module _ (line : LineCode) (blocks : List (List ℕ)) (whole : All IsBlock block
   sent = symbols_of_blocks line blocks
 
   next_frame : (before : List (List ℕ)) (block : List ℕ) (later : List (List ℕ)) → before ++ block ∷ later ≡ blocks →
-      (last : Option Frame) → reach last ≡ 16384 * length before →
+      (last : Option Frame) → reach last ≡ FRAME_SYMBOLS * length before →
       IsNext (tail_of line) sent last (frame_after_blocks line before)
   next_frame before block later e None reached =
       subst (λ bs. IsNext (tail_of line) (symbols_of_blocks line bs) None (frame_after_blocks line before)) e
@@ -317,10 +325,10 @@ module _ (line : LineCode) (blocks : List (List ℕ)) (whole : All IsBlock block
       × ((frame : Frame) → IsNext (tail_of line) sent (last_of last frames) frame → ⊥)
 
   all_after : (before later : List (List ℕ)) → before ++ later ≡ blocks → (last : Option Frame) →
-      reach last ≡ 16384 * length before → AreAllAfter last (frames_of_blocks line before later)
+      reach last ≡ FRAME_SYMBOLS * length before → AreAllAfter last (frames_of_blocks line before later)
   all_after before [] e last reached =
-      let long : length sent ≡ 16384 * length before =
-      length-sent line blocks whole ∙ ap (λ bs. 16384 * length bs) (sym e ∙ append-nil before) in
+      let long : length sent ≡ FRAME_SYMBOLS * length before =
+      length-sent line blocks whole ∙ ap (λ bs. FRAME_SYMBOLS * length bs) (sym e ∙ append-nil before) in
       (tt, λ frame. none_next (tail_of line) sent last frame (omega (arith, long, reached)))
   all_after before (block ∷ later) e last reached =
       let rest =

@@ -9,6 +9,7 @@ use Rattle.std.specs.Int.{bit_at}
 use Rattle.std.specs.List.{range_with_len, All}
 use Rattle.std.proofs.lemmas.List.Elements.{All-head, All-tail}
 use Rattle.lr_bits.specs.Bits.{bit_of}
+use Rattle.lr_bits.specs.declared.sizes.TheConstants.{BLOCK_BYTES, FRAME_SYMBOLS}
 use Rattle.lr_block.specs.Outcomes.{IsBlock}
 use Rattle.lr_conv.specs.Convolution.{bit, code, earlier_bit, first_symbol, second_symbol, symbols}
 use Rattle.lr_conv.specs.Levels.{last_level, levels, six_zeros}
@@ -105,7 +106,7 @@ bits-marked block =
     ∙ ap (λ z. z ++ drop 32 bits) (take-map-range_with_len all 0 (32 + n) 32 (omega arith))
     ∙ ap (λ z. marker ++ z) behind
 
-pub length-block_bits : (block : List ℕ) → length block ≡ 1020 → length (bits_of_bytes block) ≡ 8160
+pub length-block_bits : (block : List ℕ) → length block ≡ BLOCK_BYTES → length (bits_of_bytes block) ≡ 8160
 length-block_bits block size =
     sym (ap length (bits_of_bytes-all block 8160 (omega (arith, size)))) ∙ length-first_bits block 8160
 
@@ -142,7 +143,7 @@ length-bits (block ∷ blocks) whole =
     )
 
 pub length-sent : (line : LineCode) (blocks : List (List ℕ)) → All IsBlock blocks →
-    length (symbols_of_blocks line blocks) ≡ 16384 * length blocks
+    length (symbols_of_blocks line blocks) ≡ FRAME_SYMBOLS * length blocks
 unfolding symbols_of_blocks
 length-sent line blocks whole =
     let all : List Bool = levels line false (bits_of_blocks blocks) in

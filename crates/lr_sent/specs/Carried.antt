@@ -4,6 +4,7 @@
 use Rattle.std.specs.Prelude.{◌≡◌, ◌<◌, ◌+◌, ◌*◌, ◌==◌, ℕ, List, [], ◌∷◌, ◌++◌, length, map, filter, slice_index, All}
 use Rattle.std.specs.List.{concat, Contains}
 use Rattle.lr_bits.specs.Packet.{length_field_at}
+use Rattle.lr_bits.specs.declared.sizes.TheConstants.{ZONE_BYTES}
 use Rattle.lr_vc.specs.Frame.{Fields}
 use Rattle.lr_vc.specs.Packets.{packets_of}
 use Rattle.lr_vc.specs.Runs.{next_counter}
@@ -35,8 +36,8 @@ pub record CarryPackets (frames : List Fields) (packets : List (List ℕ)) : Typ
   pub counted : AreCountedOn frames
   pub later : List ℕ
   pub bytes : concat packets ≡ concat (map (λ frame. frame.zone) frames) ++ later
-  pub pointers : (zone : ℕ) → zone < length frames → slice_index (map (λ frame. frame.pointer) frames) zone < 884
-      → IsEdge packets (884 * zone + slice_index (map (λ frame. frame.pointer) frames) zone)
+  pub pointers : (zone : ℕ) → zone < length frames → slice_index (map (λ frame. frame.pointer) frames) zone < ZONE_BYTES
+      → IsEdge packets (ZONE_BYTES * zone + slice_index (map (λ frame. frame.pointer) frames) zone)
 
 -- the law: where the frames of a channel carry packets that tell their lengths, each packet that comes of the channel
 -- is one of these

@@ -5,7 +5,7 @@ use Rattle.lr_bits.specs.declared.outcome.Outcome.{Outcome}
 use Rattle.lr_bits.specs.declared.outcome.Outcome.TheVariants.{Restored}
 use Rattle.lr_bits.specs.File.{File, bytes_of}
 use Rattle.lr_bits.specs.Bits.{field_of}
-use Rattle.lr_bits.specs.declared.sizes.TheConstants.{FILL_CHANNEL}
+use Rattle.lr_bits.specs.declared.sizes.TheConstants.{FILL_CHANNEL, ZONE_BYTES}
 use Rattle.lr_conv.specs.declared.line.TheConstants.{STANDARD}
 use Rattle.lr_frame.specs.Outcomes.{outcomes_of_symbols}
 use Rattle.lr_layers.specs.Layers.{files_of_outcomes}
@@ -40,4 +40,4 @@ room_of_files files = sum_by room_of files
 abbrev pub MadeFilesFit : Type 0
 MadeFilesFit =
     (start wrong n : ℕ) (front later : List Outcome) → made_outcomes start wrong n ≡ front ++ later →
-    room_of_files (files_of_outcomes front) ≤ 884 * (n + 1)
+    room_of_files (files_of_outcomes front) ≤ ZONE_BYTES * (n + 1)

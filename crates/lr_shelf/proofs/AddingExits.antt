@@ -20,8 +20,8 @@ use Rattle.std.proofs.Common.{
 }
 use Rattle.std.proofs.Common.{Result, Ok, Err, refl, sym, ◌∙◌, ap, subst, arith, length-append}
 use Rattle.lr_bits.specs.Faults.{Rose}
-use Rattle.lr_disk.specs.Disk.{Only, LeavesOnly}
 use Rattle.lr_disk.specs.declared.disk.Disk.{Ghosts as DiskOf}
+use Rattle.lr_disk.specs.Pending.{EachImageSince, NothingPending}
 use Rattle.lr_disk.proofs.Moments.{stays, weaker}
 use Rattle.lr_shelf_format.specs.Gates.{IsClosedAfter}
 use Rattle.lr_shelf_format.specs.Items.{IsItem, Item, extent_of, head_of_item, item_bytes}
@@ -129,13 +129,13 @@ module _ {D : Type 0} (disk : DiskOf D) (item : Item) (is : IsItem item) (shelf 
     (outside : disk.tells d
     → StaysOutside (last_gate (kept_by shelf)) (last_gate (kept_by shelf) + 1 + length staged) (disk.contents d)
     (disk.contents d'))
-    (outside_moments : disk.tells d → Only (disk.contents d) (disk.may_leave d)
-    → LeavesOnly disk.moment disk.left_since d d'
+    (outside_moments : disk.tells d → NothingPending disk d
+    → EachImageSince disk d d'
     (StaysOutside (last_gate (kept_by shelf)) (last_gate (kept_by shelf) + 1 + length staged) (disk.contents d)))
     (moments : (before item : List ℕ) → disk.tells d
     → IsReady before item staged (last_gate (kept_by shelf)) (disk.contents d)
-    → Only (disk.contents d) (disk.may_leave d)
-    → LeavesOnly disk.moment disk.left_since d d' (WithOrWithout before item))
+    → NothingPending disk d
+    → EachImageSince disk d d' (WithOrWithout before item))
     (counts_now : (d : D) (t : ℕ) (c : List ℕ) → disk.tells d → t ≤ disk.moment d → disk.may_leave d c
     → disk.left_since d t c) where
   size : 1 + length staged ≡ 2 + extent_of (head_of_item item)
@@ -145,7 +145,7 @@ module _ {D : Type 0} (disk : DiskOf D) (item : Item) (is : IsItem item) (shelf 
   place = omega (arith, size, shelf.some)
 
   at_any_moment : (capacity : ℕ) (items : List Item) → IsSettled disk capacity items shelf d
-      → LeavesOnly disk.moment disk.left_since d d' (StandsForEither capacity items item)
+      → EachImageSince disk d d' (StandsForEither capacity items item)
   at_any_moment capacity items s =
       weaker disk.moment disk.left_since d d' _ _
       (either_one capacity items shelf (disk.contents d) item is may fits s.kept s.on_disk.stands)
@@ -153,14 +153,14 @@ module _ {D : Type 0} (disk : DiskOf D) (item : Item) (is : IsItem item) (shelf 
       (ready_there capacity items shelf (disk.contents d) item is may fits s.kept s.on_disk.stands staged parts)
       s.on_disk.durable)
 
-  bytes_moments : disk.tells d → KeepsWay (disk.contents d) shelf → Only (disk.contents d) (disk.may_leave d)
-      → LeavesOnly disk.moment disk.left_since d d'
+  bytes_moments : disk.tells d → KeepsWay (disk.contents d) shelf → NothingPending disk d
+      → EachImageSince disk d d'
       (WithOrWithout (take (last_gate (kept_by shelf)) (disk.contents d)) (item_bytes item))
   bytes_moments t keeps only =
       moments _ _ t (ready_way (disk.contents d) (kept_by shelf).way keeps item is may staged parts) only
 
-  way_moments : disk.tells d → KeepsWay (disk.contents d) shelf → Only (disk.contents d) (disk.may_leave d)
-      → LeavesOnly disk.moment disk.left_since d d' (HasEitherWay (kept_by shelf).way item)
+  way_moments : disk.tells d → KeepsWay (disk.contents d) shelf → NothingPending disk d
+      → EachImageSince disk d d' (HasEitherWay (kept_by shelf).way item)
   way_moments t keeps only =
       weaker disk.moment disk.left_since d d' _ _
       (way_either (disk.contents d) (kept_by shelf).way keeps item is may) (bytes_moments t keeps only)
@@ -176,7 +176,7 @@ module _ {D : Type 0} (disk : DiskOf D) (item : Item) (is : IsItem item) (shelf 
       → (kept_by shelf).failed ≡ false
       → (disk.tells d
       → take (1 + length staged) (drop (last_gate (kept_by shelf)) (disk.contents d')) ≡ 1 ∷ staged)
-      → (disk.tells d → Only (disk.contents d') (disk.may_leave d'))
+      → (disk.tells d → NothingPending disk d')
       → ((before item : List ℕ) → disk.tells d
       → IsReady before item staged (last_gate (kept_by shelf)) (disk.contents d)
       → IsClosedAfter (before ++ 1 ∷ item) (disk.contents d'))
@@ -192,7 +192,7 @@ module _ {D : Type 0} (disk : DiskOf D) (item : Item) (is : IsItem item) (shelf 
     outside_any_moment = λ t only.
         subst
         (λ n.
-        LeavesOnly disk.moment disk.left_since d d'
+        EachImageSince disk d d'
         (StaysOutside (last_gate (kept_by shelf)) n (disk.contents d)))
         place (outside_moments t only);
     stands = λ t.
@@ -245,7 +245,7 @@ module _ {D : Type 0} (disk : DiskOf D) (item : Item) (is : IsItem item) (shelf 
     outside_any_moment = λ t only.
         subst
         (λ n.
-        LeavesOnly disk.moment disk.left_since d d'
+        EachImageSince disk d d'
         (StaysOutside (last_gate (kept_by shelf)) n (disk.contents d)))
         place (outside_moments t only);
     stands = λ t. tt;

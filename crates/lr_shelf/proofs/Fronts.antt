@@ -6,8 +6,8 @@ use Rattle.std.proofs.lemmas.List.{append-nil, get_or_at, take_at}
 use Rattle.std.proofs.lemmas.List.Sums.{sum_by-append}
 use Rattle.std.specs.List.{flat_map}
 use Rattle.lr_bits.specs.declared.placed.Placed.{Placed}
-use Rattle.lr_disk.specs.Disk.{LeavesOnly, Only}
 use Rattle.lr_disk.specs.declared.disk.Disk.{Ghosts as DiskOf}
+use Rattle.lr_disk.specs.Pending.{EachImageSince, NothingPending}
 use Rattle.lr_shelf_format.specs.Gates.{IsClosedAfter}
 use Rattle.lr_shelf_format.specs.Items.{Item, extent_of, head_of_item, item_bytes}
 use Rattle.lr_shelf_format.specs.Way.{IsWay, Way, way_with}
@@ -158,7 +158,7 @@ module _ {D : Type 0} (disk : DiskOf D)
     → disk.left_since d t c)
     (way : Way) (old : List ℕ) (files : List Placed) (placed : Placed) (shelf shelf' : Shelf) (d d' : D)
     (told : disk.tells d) (way_is : (kept_by shelf).way ≡ way_with_files files way)
-    (has : HasFilesAfter way old files (disk.contents d)) (only : Only (disk.contents d) (disk.may_leave d)) where
+    (has : HasFilesAfter way old files (disk.contents d)) (only : NothingPending disk d) where
   keeps : KeepsWay (disk.contents d) shelf
   keeps = subst (IsWay (disk.contents d)) (sym way_is) has.is_way
 
@@ -173,7 +173,7 @@ module _ {D : Type 0} (disk : DiskOf D)
 
   module _ {A : Type 0} (result : Result A ShelfError)
       (adds : Adds disk (item_for placed) shelf shelf' d d' result) where
-    pub either_moments : LeavesOnly disk.moment disk.left_since d d' (HasEitherAfter way old files placed)
+    pub either_moments : EachImageSince disk d d' (HasEitherAfter way old files placed)
     either_moments =
         let ways = adds.way_any_moment told keeps only in
         let bytes = adds.bytes_any_moment told keeps only in

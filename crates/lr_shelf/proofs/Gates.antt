@@ -27,7 +27,7 @@ use Rattle.std.proofs.lemmas.List.{get_or-take, get_or-drop, drop-take, drop-dro
 use Rattle.lr_shelf_format.specs.Items.{Begins}
 use Rattle.lr_shelf_format.specs.declared.item.ItemHead.{ItemHead}
 use Rattle.lr_shelf_format.proofs.ItemLemmas.{Begins-twelve, extent_least}
-use Rattle.lr_shelf.specs.Ahead.{HoldsPart}
+use Rattle.lr_shelf.specs.Ahead.{IsEnough}
 use Rattle.lr_shelf.specs.Gate.{IsGateIn, IsGateAt}
 use Rattle.lr_shelf.specs.declared.ahead.Ahead.{Ahead}
 use Rattle.lr_shelf.specs.declared.gate.Gate.{Gate}
@@ -100,12 +100,6 @@ all_of bytes at count is =
     ap (λ n. take n (drop at bytes)) (is ∙ ap (min 13) (sym (length-drop at bytes))) ∙ take_min 13 (drop at bytes)
 
 -- all that tells of a gate at that place was read
-pub record IsEnough (contents : List ℕ) (at : ℕ) (ahead : Ahead) : Type 0 where
-  pub held : HoldsPart contents ahead
-  pub later : ahead.start ≤ at
-  pub enough : (at + 13 ≤ ahead.start + ahead.filled)
-      ⊎ ((ahead.start ≡ at) × (ahead.filled ≡ min ahead.size (length contents - at)))
-
 pub gate_ahead : (contents : List ℕ) (at to : ℕ) (ahead : Ahead) (gate : Gate) → IsEnough contents at ahead
     → to ≡ min ahead.filled (at - ahead.start + 13)
     → IsGateIn (take (to - (at - ahead.start)) (drop (at - ahead.start) ahead.buffer.items)) gate

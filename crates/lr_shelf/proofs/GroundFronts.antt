@@ -2,9 +2,9 @@
 use Rattle.std.proofs.Common.{◌≡◌, ◌-◌, inl, inr, false, ℕ, List, [], ◌∷◌, ◌++◌, map, take, refl, sym, ◌∙◌, ap}
 use Rattle.std.proofs.Common.{subst, arith, append_assoc, append-nil}
 use Rattle.lr_bits.specs.declared.placed.Placed.{Placed}
-use Rattle.lr_disk.specs.Disk.{LeavesOnly, Only}
 use Rattle.lr_disk.specs.Reads.{IsUnwritten}
 use Rattle.lr_disk.specs.declared.disk.Disk.{Ghosts as DiskOf}
+use Rattle.lr_disk.specs.Pending.{EachImageSince, NothingPending}
 use Rattle.lr_disk.proofs.Moments.{joined, weaker}
 use Rattle.lr_shelf_format.specs.Items.{Item}
 use Rattle.lr_shelf_format.specs.ShelfBytes.{StandsForShelf}
@@ -68,7 +68,7 @@ module _ {D : Type 0} (disk : DiskOf D) (ground : Ground) (d mid d' : D) (done :
 
   -- and then one more file came, or it didn't
   pub fronts_with : (placed : Placed)
-      → LeavesOnly disk.moment disk.left_since mid d' (StandsWithEither ground done placed)
+      → EachImageSince disk mid d' (StandsWithEither ground done placed)
       → LeavesFronts disk ground (done ++ placed ∷ []) d d'
   fronts_with placed run =
       joined disk.moment disk.left_since d mid d' _ (fronts_of_more (placed ∷ []))
@@ -86,14 +86,14 @@ begun_way way bytes is = record { is_way = is; front = sym (append-nil (take (wa
 
 -- a disk that was only read since
 module _ {D : Type 0} (disk : DiskOf D) (ground : Ground) (d d1 : D) (unwritten : IsUnwritten disk d d1)
-    (stands : StandsWith ground [] (disk.contents d)) (only : Only (disk.contents d) (disk.may_leave d)) where
+    (stands : StandsWith ground [] (disk.contents d)) (only : NothingPending disk d) where
   pub still_holds : HoldsStill ground [] disk d1
   still_holds = record {
     stands = subst (StandsWith ground []) (sym unwritten.contents) stands;
     durable = λ c image. only c (unwritten.images c image) ∙ sym unwritten.contents;
   }
 
-  pub still_left : LeavesOnly disk.moment disk.left_since d d1 (StandsWith ground [])
+  pub still_left : EachImageSince disk d d1 (StandsWith ground [])
   still_left =
       weaker disk.moment disk.left_since d d1 _ _
       (λ c image. subst (StandsWith ground []) (sym (only c image)) stands) unwritten.any_moment

@@ -5,12 +5,14 @@ use Rattle.std.proofs.lemmas.List.{map-append, length-map}
 use Rattle.std.proofs.lemmas.List.Sums.{sum_by-append}
 use Rattle.lr_bits.specs.File.{IsFile}
 use Rattle.lr_bits.specs.declared.placed.Placed.{Placed}
-use Rattle.lr_disk.specs.Disk.{LeavesOnly}
+use Rattle.lr_bits.specs.Sizes.{most_u64}
 use Rattle.lr_disk.specs.declared.disk.Disk.{Ghosts as DiskOf}
+use Rattle.lr_disk.specs.Pending.{EachImageSince}
 use Rattle.lr_disk.proofs.Moments.{weaker}
 use Rattle.lr_shelf_format.specs.Items.{Item, old_item, add_item, discard_item, extent_of, head_of_item}
 use Rattle.lr_shelf_format.specs.ShelfBytes.{StandsForShelf, end_of, entries_of}
 use Rattle.lr_shelf_format.specs.Way.{Way, way_with}
+use Rattle.lr_shelf_format.specs.declared.header.TheConstants.{MOST_CAPACITY}
 use Rattle.lr_shelf.specs.Adds.{Adds, needed_by, new_end}
 use Rattle.lr_shelf.specs.Append.{item_for}
 use Rattle.lr_shelf.specs.Kept.{Kept, kept_by}
@@ -127,14 +129,14 @@ module _ {D : Type 0} (disk : DiskOf D) (done : List Placed) (shelf : Shelf) (d 
   needed_is placed is (OfItems capacity items) s =
       let there : (kept_by shelf).way.end ≡ end_of (with_files items done) = ap (λ (w : Way). w.end) s.kept.way in
       let fits : end_of (with_files items done) ≤ capacity = s.on_disk.stands.fits in
-      let most : capacity ≤ 1099511627776 = s.on_disk.stands.allowed.most in
-      let low : new_end (item_for placed) (kept_by shelf) ≤ 18446744073709551615 =
+      let most : capacity ≤ MOST_CAPACITY = s.on_disk.stands.allowed.most in
+      let low : new_end (item_for placed) (kept_by shelf) ≤ most_u64 =
       omega (arith, fits, most, there, is.few, is.most) in
       let same : needed_by (item_for placed) (kept_by shelf) ≡ new_end (item_for placed) (kept_by shelf) =
       omega (arith, low) in
       same ∙ ends placed (OfItems capacity items) s
   needed_is placed is (OfWay way old) s =
-      ap (λ (n : ℕ). min n 18446744073709551615) (ends placed (OfWay way old) s)
+      ap (λ (n : ℕ). min n most_u64) (ends placed (OfWay way old) s)
 
 -- ---- an append
 
@@ -153,7 +155,7 @@ module _ {D A : Type 0} (disk : DiskOf D)
     (done : List Placed) (placed : Placed) (shelf shelf' : Shelf) (d d' : D) where
   module _ (result : Result A ShelfError) (adds : Adds disk (item_for placed) shelf shelf' d d' result) where
     pub moments_on : (ground : Ground) → IsSettledOn ground done disk shelf d
-        → LeavesOnly disk.moment disk.left_since d d' (StandsWithEither ground done placed)
+        → EachImageSince disk d d' (StandsWithEither ground done placed)
     moments_on (OfItems capacity items) s =
         weaker disk.moment disk.left_since d d' _ _ (λ c either. either_items capacity items done placed c either)
         (adds.any_moment capacity (with_files items done) (to_items disk done shelf d capacity items s))

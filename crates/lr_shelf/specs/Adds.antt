@@ -1,8 +1,9 @@
 -- What `append` and `discard` have in common: an item is added at the end.
 use Rattle.std.specs.Prelude.{◌≡◌, ◌⊎◌, ◌+◌, ◌-◌, ℕ, min, true, false, List, [], ◌∷◌, ◌++◌, take, drop}
 use Rattle.std.specs.Prelude.{Result, Err, OnOk, IfErr}
-use Rattle.lr_disk.specs.Disk.{LeavesOnly, Only}
+use Rattle.lr_bits.specs.Sizes.{most_u64}
 use Rattle.lr_disk.specs.declared.disk.Disk.{Ghosts as DiskOf}
+use Rattle.lr_disk.specs.Pending.{EachImageSince, NothingPending}
 use Rattle.lr_shelf_format.specs.Items.{Item, extent_of, head_of_item, item_bytes}
 use Rattle.lr_shelf.specs.Adding.{StaysOutside, WithOrWithout}
 use Rattle.lr_shelf.specs.Calls.{Calls}
@@ -16,9 +17,9 @@ use Rattle.lr_shelf.specs.declared.shelf.Shelf.{Shelf}
 abbrev pub new_end : Item → Kept → ℕ
 new_end item kept = kept.way.end + 1 + extent_of (head_of_item item)
 
--- the same as a number of 64 bits, or the greatest of them
+-- where the shelf would end with the item, as a number of 64 bits: the greatest of them where it is past that
 abbrev pub needed_by : Item → Kept → ℕ
-needed_by item kept = min (new_end item kept) 18446744073709551615
+needed_by item kept = min (new_end item kept) most_u64
 
 -- the place of the gate at its end
 abbrev pub last_gate : Kept → ℕ
@@ -37,26 +38,26 @@ module _ {D : Type 0} (disk : DiskOf D) where
     -- is pending
     pub outside : disk.tells d
         → StaysOutside (last_gate (kept_by old)) (new_end item (kept_by old)) (disk.contents d) (disk.contents d')
-    pub outside_any_moment : disk.tells d → Only (disk.contents d) (disk.may_leave d)
-        → LeavesOnly disk.moment disk.left_since d d'
+    pub outside_any_moment : disk.tells d → NothingPending disk d
+        → EachImageSince disk d d'
         (StaysOutside (last_gate (kept_by old)) (new_end item (kept_by old)) (disk.contents d))
     pub stands : disk.tells d
         → OnOk result (take (2 + extent_of (head_of_item item)) (drop (last_gate (kept_by old)) (disk.contents d'))
         ≡ 1 ∷ (item_bytes item ++ 0 ∷ []))
-    pub durable : disk.tells d → OnOk result (Only (disk.contents d') (disk.may_leave d'))
+    pub durable : disk.tells d → OnOk result (NothingPending disk d')
     -- over a disk whose way the shelf keeps, whatever its records hold and wherever it ends: what is there at the
     -- return, and what a stop at any moment leaves, as ways and as bytes
     pub way : disk.tells d → KeepsWay (disk.contents d) old → OnOk result (KeepsWay (disk.contents d') new)
     pub either_way : disk.tells d → KeepsWay (disk.contents d) old
         → HasEitherWay (kept_by old).way item (disk.contents d')
-    pub way_any_moment : disk.tells d → KeepsWay (disk.contents d) old → Only (disk.contents d) (disk.may_leave d)
-        → LeavesOnly disk.moment disk.left_since d d' (HasEitherWay (kept_by old).way item)
-    pub bytes_any_moment : disk.tells d → KeepsWay (disk.contents d) old → Only (disk.contents d) (disk.may_leave d)
-        → LeavesOnly disk.moment disk.left_since d d'
+    pub way_any_moment : disk.tells d → KeepsWay (disk.contents d) old → NothingPending disk d
+        → EachImageSince disk d d' (HasEitherWay (kept_by old).way item)
+    pub bytes_any_moment : disk.tells d → KeepsWay (disk.contents d) old → NothingPending disk d
+        → EachImageSince disk d d'
         (WithOrWithout (take (last_gate (kept_by old)) (disk.contents d)) (item_bytes item))
     -- over a shelf of these items: what a stop at any moment leaves, and what is there at the return
     pub any_moment : (capacity : ℕ) (items : List Item) → IsSettled disk capacity items old d
-        → LeavesOnly disk.moment disk.left_since d d' (StandsForEither capacity items item)
+        → EachImageSince disk d d' (StandsForEither capacity items item)
     pub acknowledged : (capacity : ℕ) (items : List Item) → IsSettled disk capacity items old d
         → OnOk result (IsSettled disk capacity (items ++ item ∷ []) new d')
     pub either : (capacity : ℕ) (items : List Item) → IsSettled disk capacity items old d

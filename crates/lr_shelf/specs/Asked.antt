@@ -1,5 +1,6 @@
 -- Entries that a shelf is asked for by their number.
 use Rattle.std.specs.Prelude.{◌≡◌, ◌<◌, ◌≤◌, ◌+◌, ℕ, true, false, length}
+use Rattle.lr_bits.specs.Sizes.{most_u64}
 use Rattle.lr_shelf_format.specs.Way.{entry_in}
 use Rattle.lr_shelf_format.specs.declared.entry.Entry.{Entry}
 use Rattle.lr_shelf.specs.Kept.{Kept}
@@ -29,4 +30,4 @@ IsEntryRefusal kept number error = ⊥
 pub record IsAsked (kept : Kept) (number : ℕ) (entry : Entry) : Type 0 where
   pub askable : IsAskable kept number
   pub is : entry ≡ entry_of kept number
-  pub low : entry.gate + 1 + entry.extent < 18446744073709551615
+  pub low : entry.gate + 1 + entry.extent < most_u64

@@ -1,8 +1,9 @@
 -- What files come onto, and what stands there with them.
 use Rattle.std.specs.Prelude.{◌≡◌, ◌≢◌, ◌⊎◌, ◌<◌, ◌≤◌, ◌++◌, ◌∷◌, ℕ, false, min, List, [], length, map}
 use Rattle.lr_bits.specs.declared.placed.Placed.{Placed}
-use Rattle.lr_disk.specs.Disk.{LeavesOnly, Only}
+use Rattle.lr_bits.specs.Sizes.{most_u64}
 use Rattle.lr_disk.specs.declared.disk.Disk.{Ghosts as DiskOf}
+use Rattle.lr_disk.specs.Pending.{EachImageSince, NothingPending}
 use Rattle.lr_shelf_format.specs.Items.{Item}
 use Rattle.lr_shelf_format.specs.ShelfBytes.{StandsForShelf, end_of, entries_of}
 use Rattle.lr_shelf_format.specs.Way.{Way, way_of}
@@ -55,7 +56,7 @@ end_with_files (OfWay way bytes) files = end_with way.end files
 -- that end as a refusal tells it: of a way at most the greatest number of 64 bits
 abbrev pub told_end : Ground → List Placed → ℕ
 told_end (OfItems capacity items) files = end_of (with_files items files)
-told_end (OfWay way bytes) files = min (end_with way.end files) 18446744073709551615
+told_end (OfWay way bytes) files = min (end_with way.end files) most_u64
 
 -- there is room for all these files
 abbrev pub AllHaveRoom : Ground → List Placed → Type 0
@@ -82,7 +83,7 @@ module _ (ground : Ground) (files : List Placed) where
     -- the contents, and the one crash image, stand for what was there and these files
     pub record HoldsStill (d : D) : Type 0 where
       pub stands : StandsWith ground files (disk.contents d)
-      pub durable : Only (disk.contents d) (disk.may_leave d)
+      pub durable : NothingPending disk d
 
     -- so does the shelf in memory, and the disk tells its contents
     pub record IsSettledOn (shelf : Shelf) (d : D) : Type 0 where
@@ -93,7 +94,7 @@ module _ (ground : Ground) (files : List Placed) where
 module _ {D : Type 0} (disk : DiskOf D) (ground : Ground) where
   -- each image since the moment of d stands for what was there and a front of these files
   abbrev pub LeavesFronts : List Placed → D → D → Type 0
-  LeavesFronts files d d' = LeavesOnly disk.moment disk.left_since d d' (StandsForFront ground files 0)
+  LeavesFronts files d d' = EachImageSince disk d d' (StandsForFront ground files 0)
 
   -- the contents and each crash image stand for what was there and a front of these files, of n of them at least
   pub record HoldsFront (files : List Placed) (n : ℕ) (d : D) : Type 0 where

@@ -1,3 +1,5 @@
+//! Marking a file as discarded, by an item of its own.
+
 use crate::add::add;
 use crate::error::ShelfError;
 use crate::shelf::Shelf;

@@ -1,3 +1,5 @@
+//! Reading bytes of the disk to the front of a buffer.
+
 ghost use Rattle.std.specs.Prelude.{◌≡◌, ◌<◌, ◌≤◌, ◌-◌, length, min, take, All, IfOk};
 ghost use Rattle.lr_disk.specs.Disk.{bytes_at};
 ghost use Rattle.lr_disk.specs.Reads.{OnlyReads};

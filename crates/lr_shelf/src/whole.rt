@@ -7,11 +7,10 @@ ghost use Rattle.lr_shelf.specs.Pieces.{IsExamined, IsReadWhole};
 ghost use Rattle.lr_shelf.specs.Read.{Finds, IsFindRefusal};
 
 use crate::error::ShelfError;
-use crate::gate::OPEN;
 use crate::read::read_front;
 use lr_bits::Failed;
 use lr_disk::Disk;
-use lr_shelf_format::{Entry, Stored, Sums, record_in, stored_in, sums_of};
+use lr_shelf_format::{Entry, OPEN_GATE, Stored, Sums, record_in, stored_in, sums_of};
 use std::alloc::Global;
 
 /// Reads the gate of the entry and its item to the front of the buffer. False where the gate isn't open, or the item
@@ -25,7 +24,7 @@ fn read_whole<D: Disk>(disk: &mut D, buffer: &mut [u8], entry: Entry) -> Result<
 {
     let size = 1 + entry.extent as usize;
     let read = read_front(disk, entry.gate, buffer, size)?;
-    if read < size || buffer[0] != OPEN {
+    if read < size || buffer[0] != OPEN_GATE {
         return Ok(false);
     }
     Ok(true)

@@ -25,6 +25,7 @@ use Rattle.std.proofs.Common.{
   length-append,
   length-drop,
   take-append-drop,
+  ◌^◌,
 }
 use Rattle.std.proofs.lemmas.List.{
   take_at,
@@ -134,13 +135,13 @@ first_of-discard : (number : ℕ) → slice_index (discard_bytes number) 0 ≡ 0
 unfolding discard_bytes
 first_of-discard number = refl
 
-number_in-discard : (number : ℕ) → number < 18446744073709551616 → big_number 8 (drop 1 (discard_bytes number)) ≡ number
+number_in-discard : (number : ℕ) → number < 2 ^ 64 → big_number 8 (drop 1 (discard_bytes number)) ≡ number
 unfolding discard_bytes
 number_in-discard number fits =
     big_number-reads_back 8 number (big_bytes 2 (crc_of (0x81 ∷ big_bytes 8 number))) (omega arith)
 
 -- the number of a Discard
-pub number_begun : (bytes : List ℕ) (number : ℕ) → number < 18446744073709551616
+pub number_begun : (bytes : List ℕ) (number : ℕ) → number < 2 ^ 64
     → take 11 bytes ≡ discard_bytes number → big_number 8 (drop 1 bytes) ≡ number
 number_begun bytes number fits same =
     sym (big_from-take 0 8 10 (drop 1 bytes) (omega arith)) ∙ ap (big_number 8) (sym (drop-take 1 10 bytes))

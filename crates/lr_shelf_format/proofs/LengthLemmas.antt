@@ -30,6 +30,7 @@ use Rattle.std.proofs.lemmas.List.Elements.{All-append}
 use Rattle.std.proofs.lemmas.List.Sums.{sum_by-append}
 use Rattle.byteorder.specs.Endian.{big_number}
 use Rattle.byteorder.specs.Numbers.{big_from-take}
+use Rattle.lr_bits.specs.Sizes.{most_body_bytes}
 use Rattle.lr_shelf_format.specs.Record.{numbers_in}
 
 pub numbers_in-add : (m n : ℕ) (xs : List ℕ) → numbers_in (m + n) xs ≡ numbers_in m xs ++ numbers_in n (drop (2 * m) xs)
@@ -53,7 +54,7 @@ numbers_in-take (suc n) m xs fits =
     ∙ ap (λ l. big_number 2 xs ∷ l) (numbers_in-take n (m - 2) (drop 2 xs) (omega arith))
 
 pub IsShort : ℕ → Type 0
-IsShort n = n < 65535
+IsShort n = n ≤ most_body_bytes
 
 -- one number more, and several more
 pub sum_add : (m n : ℕ) (xs : List ℕ)
@@ -61,46 +62,49 @@ pub sum_add : (m n : ℕ) (xs : List ℕ)
 sum_add m n xs = ap sum (numbers_in-add m n xs)
     ∙ sum_by-append (λ k. k) (numbers_in m xs) (numbers_in n (drop (2 * m) xs))
 
-pub short_add : (m n : ℕ) (xs : List ℕ) → All (λ one. one < 65535) (numbers_in m xs)
-    → All (λ one. one < 65535) (numbers_in n (drop (2 * m) xs)) → All (λ one. one < 65535) (numbers_in (m + n) xs)
+pub short_add : (m n : ℕ) (xs : List ℕ) → All (λ one. one ≤ most_body_bytes) (numbers_in m xs)
+    → All (λ one. one ≤ most_body_bytes) (numbers_in n (drop (2 * m) xs))
+    → All (λ one. one ≤ most_body_bytes) (numbers_in (m + n) xs)
 short_add m n xs front back =
-    subst (All (λ one. one < 65535)) (sym (numbers_in-add m n xs)) (All-append (λ one. one < 65535) _ _ front back)
+    subst (All (λ one. one ≤ most_body_bytes)) (sym (numbers_in-add m n xs))
+    (All-append (λ one. one ≤ most_body_bytes) _ _ front back)
 
 -- the number after the first m
-pub short_there : (m n : ℕ) (xs : List ℕ) → m < n → All (λ one. one < 65535) (numbers_in n xs)
-    → big_number 2 (drop (2 * m) xs) < 65535
+pub short_there : (m n : ℕ) (xs : List ℕ) → m < n → All (λ one. one ≤ most_body_bytes) (numbers_in n xs)
+    → big_number 2 (drop (2 * m) xs) ≤ most_body_bytes
 short_there zero zero xs inside short = absurd (omega arith)
 short_there zero (suc n) xs inside short = short 0 0 (omega arith)
 short_there (suc m) zero xs inside short = absurd (omega arith)
 short_there (suc m) (suc n) xs inside short =
     let place : drop (2 * m) (drop 2 xs) ≡ drop (2 * suc m) xs = drop-drop (2 * m) 2 xs
     ∙ ap (λ k. drop k xs) (omega arith) in
-    subst (λ l. big_number 2 l < 65535) place
+    subst (λ l. big_number 2 l ≤ most_body_bytes) place
     (short_there m n (drop 2 xs) (omega arith) (λ k d within. short (suc k) d (omega arith)))
 
 -- all of them are those in between, too
-pub short_part : (m n k : ℕ) (xs : List ℕ) → m + n ≤ k → All (λ one. one < 65535) (numbers_in k xs)
-    → All (λ one. one < 65535) (numbers_in n (drop (2 * m) xs))
+pub short_part : (m n k : ℕ) (xs : List ℕ) → m + n ≤ k → All (λ one. one ≤ most_body_bytes) (numbers_in k xs)
+    → All (λ one. one ≤ most_body_bytes) (numbers_in n (drop (2 * m) xs))
 short_part m n k xs fits short =
     let size : (m + n) + (k - (m + n)) ≡ k = omega arith in
-    let whole : All (λ one. one < 65535)
+    let whole : All (λ one. one ≤ most_body_bytes)
     (numbers_in m xs ++ numbers_in n (drop (2 * m) xs) ++ numbers_in (k - (m + n)) (drop (2 * (m + n)) xs)) =
-    subst (All (λ one. one < 65535))
+    subst (All (λ one. one ≤ most_body_bytes))
     (ap (λ j. numbers_in j xs) (sym size) ∙ numbers_in-add (m + n) (k - (m + n)) xs
     ∙ ap (λ l. l ++ numbers_in (k - (m + n)) (drop (2 * (m + n)) xs)) (numbers_in-add m n xs)) short in
     middle (numbers_in m xs) (numbers_in n (drop (2 * m) xs)) (numbers_in (k - (m + n)) (drop (2 * (m + n)) xs)) whole
   where
-    front : (xs ys : List ℕ) → All (λ one. one < 65535) (xs ++ ys) → All (λ one. one < 65535) xs
+    front : (xs ys : List ℕ) → All (λ one. one ≤ most_body_bytes) (xs ++ ys) → All (λ one. one ≤ most_body_bytes) xs
     front [] ys short k d inside = absurd (omega arith)
     front (x ∷ xs) ys short zero d inside = short 0 d (omega arith)
     front (x ∷ xs) ys short (suc k) d inside =
         front xs ys (λ j e within. short (suc j) e (omega arith)) k d (omega arith)
 
-    back : (xs ys : List ℕ) → All (λ one. one < 65535) (xs ++ ys) → All (λ one. one < 65535) ys
+    back : (xs ys : List ℕ) → All (λ one. one ≤ most_body_bytes) (xs ++ ys) → All (λ one. one ≤ most_body_bytes) ys
     back [] ys short = short
     back (x ∷ xs) ys short = back xs ys (λ j e within. short (suc j) e (omega arith))
 
-    middle : (xs ys zs : List ℕ) → All (λ one. one < 65535) (xs ++ ys ++ zs) → All (λ one. one < 65535) ys
+    middle : (xs ys zs : List ℕ) → All (λ one. one ≤ most_body_bytes) (xs ++ ys ++ zs)
+        → All (λ one. one ≤ most_body_bytes) ys
     middle xs ys zs short = back xs ys (front (xs ++ ys) zs short)
 
 -- what a piece gives is what stands there

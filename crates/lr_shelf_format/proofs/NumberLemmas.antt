@@ -25,6 +25,7 @@ use Rattle.std.proofs.Common.{
   ◌∙◌,
   arith,
   length-drop,
+  ◌^◌,
 }
 use Rattle.std.specs.List.{flat_map}
 use Rattle.std.proofs.lemmas.List.{drop-drop, get_or-drop}
@@ -32,6 +33,7 @@ use Rattle.std.proofs.Math.Seq.{take-add}
 use Rattle.byteorder.specs.Endian.{big_bytes, big_number}
 use Rattle.byteorder.specs.Numbers.{big_number-reads_back}
 use Rattle.lr_shelf_format.specs.Record.{bytes_of_head, head_of, numbers_in, origin_bytes, origin_of}
+use Rattle.lr_shelf_format.specs.declared.header.TheConstants.{MOST_CAPACITY}
 
 -- ---- lengths of two bytes each
 
@@ -97,14 +99,14 @@ bytes_of_four (a ∷ b ∷ c ∷ d ∷ rest) fit long =
     (fit 3 0 (omega arith))
 
 -- a number of eight bytes is two of four
-eight_high : (h l : ℕ) → h < 4294967296 → l < 4294967296
-    → big_bytes 8 (h * 4294967296 + l) ≡ big_bytes 4 h ++ big_bytes 4 l
+eight_high : (h l : ℕ) → h < 2 ^ 32 → l < 2 ^ 32
+    → big_bytes 8 (h * 2 ^ 32 + l) ≡ big_bytes 4 h ++ big_bytes 4 l
 eight_high h l fh fl =
-    let n = h * 4294967296 + l in
-    let p7 : n / 72057594037927936 % 256 ≡ h / 16777216 % 256 = omega arith in
-    let p6 : n / 281474976710656 % 256 ≡ h / 65536 % 256 = omega arith in
-    let p5 : n / 1099511627776 % 256 ≡ h / 256 % 256 = omega arith in
-    let p4 : n / 4294967296 % 256 ≡ h % 256 = omega arith in
+    let n = h * 2 ^ 32 + l in
+    let p7 : n / 2 ^ 56 % 256 ≡ h / 16777216 % 256 = omega arith in
+    let p6 : n / 2 ^ 48 % 256 ≡ h / 65536 % 256 = omega arith in
+    let p5 : n / MOST_CAPACITY % 256 ≡ h / 256 % 256 = omega arith in
+    let p4 : n / 2 ^ 32 % 256 ≡ h % 256 = omega arith in
     let p3 : n / 16777216 % 256 ≡ l / 16777216 % 256 = omega arith in
     let p2 : n / 65536 % 256 ≡ l / 65536 % 256 = omega arith in
     let p1 : n / 256 % 256 ≡ l / 256 % 256 = omega arith in
@@ -116,7 +118,7 @@ eight_high h l fh fl =
         → ◌≡◌ {A = List ℕ} (a ∷ b ∷ c ∷ d ∷ e ∷ f ∷ g ∷ i ∷ []) (a' ∷ b' ∷ c' ∷ d' ∷ e' ∷ f' ∷ g' ∷ i' ∷ [])
     eight pa pb pc pd pe pf pg pi = rw (pa, pb, pc, pd, pe, pf, pg, pi) refl
 
-eight_split : (xs : List ℕ) → 8 ≤ length xs → big_number 8 xs ≡ big_number 4 xs * 4294967296 + big_number 4 (drop 4 xs)
+eight_split : (xs : List ℕ) → 8 ≤ length xs → big_number 8 xs ≡ big_number 4 xs * 2 ^ 32 + big_number 4 (drop 4 xs)
 eight_split [] long = absurd (omega arith)
 eight_split (a ∷ []) long = absurd (omega arith)
 eight_split (a ∷ b ∷ []) long = absurd (omega arith)
@@ -127,7 +129,7 @@ eight_split (a ∷ b ∷ c ∷ d ∷ e ∷ f ∷ []) long = absurd (omega arith)
 eight_split (a ∷ b ∷ c ∷ d ∷ e ∷ f ∷ g ∷ []) long = absurd (omega arith)
 eight_split (a ∷ b ∷ c ∷ d ∷ e ∷ f ∷ g ∷ h ∷ rest) long = omega arith
 
-four_low : (xs : List ℕ) → AreBytes xs → 4 ≤ length xs → big_number 4 xs < 4294967296
+four_low : (xs : List ℕ) → AreBytes xs → 4 ≤ length xs → big_number 4 xs < 2 ^ 32
 four_low [] fit long = absurd (omega arith)
 four_low (a ∷ []) fit long = absurd (omega arith)
 four_low (a ∷ b ∷ []) fit long = absurd (omega arith)
@@ -147,7 +149,7 @@ bytes_of_eight xs fit long =
     ∙ ap (λ (l : List ℕ). take 4 xs ++ l) (bytes_of_four (drop 4 xs) back more)
     ∙ sym (take-add 4 4 xs)
 
-pub eight_low : (xs : List ℕ) → AreBytes xs → 8 ≤ length xs → big_number 8 xs < 18446744073709551616
+pub eight_low : (xs : List ℕ) → AreBytes xs → 8 ≤ length xs → big_number 8 xs < 2 ^ 64
 eight_low xs fit long =
     omega (
       arith,

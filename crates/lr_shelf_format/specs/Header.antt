@@ -1,5 +1,5 @@
 -- The header of a shelf file, of version 1 or 2.
-use Rattle.std.specs.Prelude.{◌≡◌, ◌⊎◌, ◌≤◌, ℕ, List, ◌∷◌, ◌++◌, length, take, codes}
+use Rattle.std.specs.Prelude.{◌≡◌, ◌⊎◌, ◌≤◌, ◌+◌, ℕ, List, ◌∷◌, ◌++◌, length, take, codes}
 use Rattle.byteorder.specs.Endian.{big_bytes}
 use Rattle.lr_bits.specs.Crc.{crc_of}
 use Rattle.lr_shelf_format.specs.declared.header.TheConstants.{LEAST_CAPACITY, MOST_CAPACITY}
@@ -13,6 +13,10 @@ unfoldable pub header_bytes : ℕ → ℕ → List ℕ
 header_bytes version capacity =
     0x5A ∷ (named_capacity version capacity ++ big_bytes 2 (crc_of (named_capacity version capacity)))
 
+-- the place of the first gate, after the header
+abbrev pub first_gate : ℕ
+first_gate = 19
+
 -- a shelf may have this capacity
 pub record IsCapacity (capacity : ℕ) : Type 0 where
   pub least : LEAST_CAPACITY ≤ capacity
@@ -23,5 +27,5 @@ pub record HasHeader (bytes : List ℕ) (capacity : ℕ) : Type 0 where
   pub version : ℕ
   pub known : (version ≡ 1) ⊎ (version ≡ 2)
   pub allowed : IsCapacity capacity
-  pub whole : 20 ≤ length bytes
-  pub stands : take 19 bytes ≡ header_bytes version capacity
+  pub whole : first_gate + 1 ≤ length bytes
+  pub stands : take first_gate bytes ≡ header_bytes version capacity

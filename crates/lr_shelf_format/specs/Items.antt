@@ -1,5 +1,6 @@
 -- The items of a shelf, and what their first bytes tell of them.
 use Rattle.std.specs.Prelude.{
+  ◌≤◌,
   ◌≡◌,
   ◌<◌,
   ◌+◌,
@@ -23,11 +24,13 @@ use Rattle.std.specs.Prelude.{
   sum,
   slice_index,
   All,
+  ◌^◌,
 }
 use Rattle.byteorder.specs.Endian.{big_bytes, big_number}
 use Rattle.lr_bits.specs.Crc.{crc_of}
 use Rattle.lr_bits.specs.File.{File, IsFile}
 use Rattle.lr_bits.specs.declared.placed.Origin.{Origin}
+use Rattle.lr_bits.specs.Sizes.{most_body_bytes}
 use Rattle.lr_shelf_format.specs.Record.{
   IsHead,
   body_of,
@@ -68,14 +71,14 @@ item_bytes (discard_item number) = discard_bytes number
 
 -- each number has its place in those bytes
 pub record IsOrigin (origin : Origin) : Type 0 where
-  pub first : origin.first < 18446744073709551616
-  pub last : origin.last < 18446744073709551616
-  pub corrected : origin.corrected < 18446744073709551616
+  pub first : origin.first < 2 ^ 64
+  pub last : origin.last < 2 ^ 64
+  pub corrected : origin.corrected < 2 ^ 64
 
 abbrev pub IsItem : Item → Type 0
 IsItem (old_item file) = IsFile file
 IsItem (add_item file origin) = IsFile file × IsOrigin origin
-IsItem (discard_item number) = number < 18446744073709551616
+IsItem (discard_item number) = number < 2 ^ 64
 
 -- ---- heads: what the bytes up to the next gate's place tell
 
@@ -94,7 +97,7 @@ extent_of (Discard number) = 11
 abbrev pub Begins : List ℕ → ItemHead → Type 0
 Begins bytes (Old head) = IsHead head × (head ≡ head_of bytes)
 Begins bytes (Add head) = (slice_index bytes 0 ≡ 0x80) × IsHead head × (head ≡ head_of (drop 1 bytes))
-Begins bytes (Discard number) = (number < 18446744073709551616) × (take 11 bytes ≡ discard_bytes number)
+Begins bytes (Discard number) = (number < 2 ^ 64) × (take 11 bytes ≡ discard_bytes number)
 
 -- ---- proper lists
 
@@ -132,7 +135,7 @@ IsProper heads = AreProper [] heads
 -- more.
 pub record HasBody (head : RecordHead) (place : ℕ) (bytes : List ℕ) : Type 0 where
   pub size : length bytes ≡ place + 2 * head.packets + head.bytes + 2
-  pub short : All (λ one. one < 65535) (numbers_in head.packets (drop place bytes))
+  pub short : All (λ one. one ≤ most_body_bytes) (numbers_in head.packets (drop place bytes))
   pub whole : sum (numbers_in head.packets (drop place bytes)) ≡ head.bytes
 
 -- after the fields of an Old item, or of an Add item, stands such a body

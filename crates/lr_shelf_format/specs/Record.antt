@@ -22,6 +22,9 @@ use Rattle.byteorder.specs.Endian.{big_bytes, big_number}
 use Rattle.lr_bits.specs.Crc.{crc_of}
 use Rattle.lr_bits.specs.File.{File, bytes_of, file_of}
 use Rattle.lr_bits.specs.declared.placed.Origin.{Origin}
+use Rattle.lr_bits.specs.declared.sizes.TheConstants.{CHANNELS, IDLE_APPLICATION}
+use Rattle.lr_bits.specs.declared.sizes.TheConstants.{TRANSPORT_HEADER_BYTES}
+use Rattle.lr_bits.specs.Sizes.{most_file_bodies, most_file_bytes}
 use Rattle.lr_shelf_format.specs.declared.record.RecordHead.{RecordHead}
 
 -- the fields of a file's record
@@ -70,12 +73,12 @@ origin_of bytes = record {
 
 -- each field is in its range
 pub record IsHead (head : RecordHead) : Type 0 where
-  pub channel : head.vc < 64
-  pub application : head.apid < 2047
+  pub channel : head.vc < CHANNELS
+  pub application : head.apid < IDLE_APPLICATION
   pub some : 1 ≤ head.packets
-  pub few : head.packets ≤ 1048576
-  pub least : 10 ≤ head.bytes
-  pub most : head.bytes ≤ 67108864
+  pub few : head.packets ≤ most_file_bodies
+  pub least : TRANSPORT_HEADER_BYTES ≤ head.bytes
+  pub most : head.bytes ≤ most_file_bytes
 
 -- this many numbers of two bytes each, in turn
 abbrev pub numbers_in : ℕ → List ℕ → List ℕ

@@ -1,7 +1,7 @@
 -- What the bytes of a shelf stand for: a capacity and a proper list of items.
 use Rattle.std.specs.Prelude.{◌≡◌, ◌⊎◌, ◌≤◌, ◌+◌, ℕ, List, ◌∷◌, [], map, All}
 use Rattle.std.specs.List.{sum_by}
-use Rattle.lr_shelf_format.specs.Header.{IsCapacity, header_bytes}
+use Rattle.lr_shelf_format.specs.Header.{IsCapacity, first_gate, header_bytes}
 use Rattle.lr_shelf_format.specs.Items.{
   IsItem,
   IsProper,
@@ -18,7 +18,7 @@ use Rattle.lr_shelf_format.specs.Walk.{IsWalk, Step}
 
 -- where a shelf of these items ends, its last gate included
 abbrev pub end_of : List Item → ℕ
-end_of items = 20 + sum_by (λ item. extent_of (head_of_item item) + 1) items
+end_of items = first_gate + 1 + sum_by (λ item. extent_of (head_of_item item) + 1) items
 
 -- The header for the capacity stands at 0, then for each item in turn an open gate and its bytes, and then a closed
 -- gate, no farther than the capacity allows. Anything may follow.
@@ -54,4 +54,4 @@ steps_of gate (item ∷ items) =
 abbrev pub IsOneWalk : Type 0
 IsOneWalk =
     (bytes : List ℕ) (capacity : ℕ) (items : List Item) → StandsForShelf bytes capacity items
-    → IsWalk bytes (steps_of 19 items) (19 + sum_by (λ item. extent_of (head_of_item item) + 1) items)
+    → IsWalk bytes (steps_of first_gate items) (first_gate + sum_by (λ item. extent_of (head_of_item item) + 1) items)

@@ -1,5 +1,6 @@
 -- The way from gate to gate through the bytes of a shelf, whatever its records hold.
 use Rattle.std.specs.Prelude.{◌≡◌, ◌≢◌, ◌<◌, ◌+◌, ℕ, List, [], ◌∷◌, length, drop, map, slice_index}
+use Rattle.lr_shelf_format.specs.Header.{first_gate}
 use Rattle.lr_shelf_format.specs.Items.{Begins, IsProper, MayFollow, extent_of}
 use Rattle.lr_shelf_format.specs.declared.item.ItemHead.{ItemHead}
 
@@ -31,9 +32,9 @@ IsPath bytes from (step ∷ steps) to = (step.gate ≡ from) × LeadsToNextGate 
 abbrev pub heads_of : List Step → List ItemHead
 heads_of steps = map (λ (step : Step). step.head) steps
 
--- the walk: these steps from 19 on, and then a gate that is closed
+-- the walk: these steps from the first gate on, and then a gate that is closed
 pub record IsWalk (bytes : List ℕ) (steps : List Step) (last : ℕ) : Type 0 where
-  pub path : IsPath bytes 19 steps last
+  pub path : IsPath bytes first_gate steps last
   pub proper : IsProper (heads_of steps)
   pub inside : last < length bytes
   pub closed : slice_index bytes last ≢ 1
@@ -42,7 +43,7 @@ pub record IsWalk (bytes : List ℕ) (steps : List Step) (last : ℕ) : Type 0 w
 -- list proper.
 pub record IsBrokenAt (bytes : List ℕ) (at : ℕ) : Type 0 where
   pub steps : List Step
-  pub path : IsPath bytes 19 steps at
+  pub path : IsPath bytes first_gate steps at
   pub proper : IsProper (heads_of steps)
   pub is_open : IsOpen bytes at
   pub broken : (head : ItemHead) → LeadsToNextGate bytes (record { gate = at; head = head })

@@ -2,7 +2,7 @@
 -- hold.
 use Rattle.std.specs.Prelude.{◌≡◌, ◌≢◌, ◌⊎◌, ◌≤◌, ◌<◌, ◌+◌, ◌-◌, ℕ, zero, suc, true, false}
 use Rattle.std.specs.Prelude.{Option, Some, None, List, [], ◌∷◌, ◌++◌, length, take, drop, slice_index_or}
-use Rattle.lr_shelf_format.specs.Header.{HasHeader}
+use Rattle.lr_shelf_format.specs.Header.{HasHeader, first_gate}
 use Rattle.lr_shelf_format.specs.Items.{Holds, IsFileRecord, Item, computed_checksum, extent_of, stored_checksum}
 use Rattle.lr_shelf_format.specs.ShelfBytes.{StandsForShelf, end_of, steps_of}
 use Rattle.lr_shelf_format.specs.Walk.{IsBrokenAt, IsOpen, IsWalk, Step}
@@ -70,7 +70,12 @@ IsNoShelfAt bytes at =
 
 -- the way of a shelf of these items
 abbrev pub way_of : ℕ → List Item → Way
-way_of capacity items = record { capacity = capacity; entries = entries_on (steps_of 19 items); end = end_of items }
+way_of capacity items = record {
+  capacity = capacity;
+  entries = entries_on (steps_of first_gate items);
+  end =
+      end_of items;
+}
 
 -- the way, with an item of this head after the gate at its end
 abbrev pub way_with : ItemHead → Way → Way

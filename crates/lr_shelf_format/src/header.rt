@@ -15,7 +15,10 @@ pub const LEAST_CAPACITY: u64 = 20;
 pub const MOST_CAPACITY: u64 = 1_099_511_627_776;
 
 /// The place of the first gate.
-const FIRST_GATE: usize = HEADER_BYTES - 1;
+pub const FIRST_GATE: usize = HEADER_BYTES - 1;
+
+/// The byte of an open gate. Every other one is closed.
+pub const OPEN_GATE: u8 = 1;
 
 /// The first byte of a complete shelf.
 const COMPLETE: u8 = 0x5A;

@@ -26,7 +26,9 @@ mod record;
 mod stored;
 
 pub use entry::Entry;
-pub use header::{HEADER_BYTES, LEAST_CAPACITY, MOST_CAPACITY, header_of, read_header};
+pub use header::{
+    FIRST_GATE, HEADER_BYTES, LEAST_CAPACITY, MOST_CAPACITY, OPEN_GATE, header_of, read_header,
+};
 pub use item::{ITEM_BYTES, ItemHead, discard_of, read_item};
 pub use old::{old_header_of, old_record_of};
 pub use read::{Sums, record_in, stored_in, sum_of, sums_of};

@@ -14,7 +14,9 @@ ghost use Rattle.std.specs.Prelude.{
   drop,
   length,
   sum,
+  ◌+◌,
 };
+ghost use Rattle.lr_bits.specs.Sizes.{most_body_bytes};
 ghost use Rattle.lr_shelf_format.specs.Items.{
   Begins,
   HasBody,
@@ -90,8 +92,8 @@ fn has_body(bytes: &[u8], head: RecordHead, front: usize) -> bool
 /// The sum of this many lengths of two bytes each, or none where one of them is 65,535.
 pub fn sum_of(pairs: &[u8], count: u32) -> Option<u64>
     requires { 2 * count ≤ length pairs.now }
-    ensures none { IfNone result (All (λ one. one < 65535) (numbers_in count pairs.now) → ⊥) }
-    ensures short { OnSome result (All (λ one. one < 65535) (numbers_in count pairs.now)) }
+    ensures none { IfNone result (All (λ one. one ≤ most_body_bytes) (numbers_in count pairs.now) → ⊥) }
+    ensures short { OnSome result (All (λ one. one ≤ most_body_bytes) (numbers_in count pairs.now)) }
     ensures total { IfSome result (λ total. total ≡ sum (numbers_in count pairs.now)) }
     ensures low { IfSome result (λ total. total ≤ 65535 * count) }
 {

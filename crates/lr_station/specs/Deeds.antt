@@ -41,8 +41,8 @@ pub data Deed : Type 0 where
   MakesShelf : (capacity : ℕ) → Deed
   -- these lines of the bytes read are put, and this last line; at most `most` bytes are taken
   PutsLines : (lines : List ℕ → List ℕ) (last : List ℕ → Stop → List ℕ) (most : ℕ) → Deed
-  -- the mission files of the bytes read come onto the shelf
-  Shelves : (input : Input) (most : ℕ) → Deed
+  -- the mission files of the bytes read come onto the shelf, while this many work on windows
+  Shelves : (input : Input) (workers most : ℕ) → Deed
   -- the mission files of the recordings of a bundle come onto the shelf, symbols of this line code
   Merges : (line : LineCode) → Deed
   -- this is asked of the entries of the shelf
@@ -58,13 +58,13 @@ pub data Deed : Type 0 where
   -- the files of these symbols come onto a shelf that is made for them
   Tries : (symbols : List ℕ) → Deed
 
--- How many work on windows changes nothing of what is said.
+-- How many work on windows changes nothing of what is said, but for how many frames may wait where files are shelved.
 abbrev pub deed_of : Command → Deed
 deed_of (Init capacity) = MakesShelf capacity
 deed_of (Frames EachFrame most) = PutsLines frames_text frames_last most
 deed_of (Frames EachPacket most) = PutsLines packets_text packets_last most
 deed_of (Intake Decode input workers most) = PutsLines (decode_text input) (decode_last input) most
-deed_of (Intake Receive input workers most) = Shelves input most
+deed_of (Intake Receive input workers most) = Shelves input workers most
 deed_of (Downlinks line) = Merges line
 deed_of (OnFile Extract number) = Asks (extract_asked number)
 deed_of (OnShelf ListAll) = Asks list_asked
@@ -79,7 +79,13 @@ deed_of (Repack number block) = Repacks number block
 deed_of (Make start frames wrong form) = PutsBytes (made_bytes form start wrong frames)
 deed_of (Trial start frames wrong workers) = Tries (made_bytes Symbols start wrong frames)
 
--- On the caller's thread alone `downlinks` is no command.
+-- a command that is known on the caller's thread alone
+abbrev pub IsKnownAlone : Option Command → Type 0
+IsKnownAlone (Some (Downlinks line)) = ⊥
+IsKnownAlone command = Unit {0}
+
+-- On the caller's thread alone `downlinks` is no command, and one works on windows, whatever the words say.
 abbrev pub alone : Option Command → Option Command
 alone (Some (Downlinks line)) = None
+alone (Some (Intake action input workers most)) = Some (Intake action input 1 most)
 alone command = command

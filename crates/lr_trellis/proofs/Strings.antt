@@ -15,6 +15,7 @@ use Rattle.lr_conv.proofs.SevenBits.{bit_below, bit_same, test_bit, symbols-more
 use Rattle.lr_trellis.specs.Path.{symbol_cost, cost, path_cost, path_levels, NotAfter, IsNearestPath}
 use Rattle.lr_trellis.specs.Trellis.{least_cost, branch_of, end_before, end_seven, start_of, start_state, kept_path}
 use Rattle.lr_trellis.specs.Trellis.{is_odd, older_bit, read_back, state_before}
+use Rattle.lr_trellis.specs.declared.costs.TheConstants.{STEP_COST}
 use Rattle.lr_trellis.proofs.Best.{number, steps_cost, IsBest, kept_is_best}
 use Rattle.lr_trellis.proofs.Words.{state_before_low}
 
@@ -159,9 +160,9 @@ steps_cost_low : (start : ℕ → ℕ) (branch : ℕ → ℕ → ℕ) (h p : Lis
 steps_cost_low start branch [] p = omega arith
 steps_cost_low start branch (b ∷ h) p = omega (arith, steps_cost_low start branch h p)
 
-steps_cost_high : (start : ℕ → ℕ) (branch : ℕ → ℕ → ℕ) (k : ℕ) (most : (i m : ℕ) → i < k → branch i m ≤ 508)
+steps_cost_high : (start : ℕ → ℕ) (branch : ℕ → ℕ → ℕ) (k : ℕ) (most : (i m : ℕ) → i < k → branch i m ≤ STEP_COST)
     (h p : List Bool) → length h ≤ k →
-    steps_cost start branch (length h) (h ++ p) ≤ start (number p % 64) + 508 * length h
+    steps_cost start branch (length h) (h ++ p) ≤ start (number p % 64) + STEP_COST * length h
 steps_cost_high start branch k most [] p l = omega arith
 steps_cost_high start branch k most (b ∷ h) p l =
     omega (
@@ -396,7 +397,7 @@ module _
     (x tail : List Bool)
     (s1 s0 : ℕ)
     (l : Bool)
-    (most : (i m : ℕ) → i < n + 5 → branch_of line w i m ≤ 508)
+    (most : (i m : ℕ) → i < n + 5 → branch_of line w i m ≤ STEP_COST)
     (few : n ≤ 8160)
     (some : 0 < n)
     (long : length w ≡ 2 * n + 12)
@@ -483,8 +484,8 @@ module _
         let other_state : number other % 64 ≡ end_before line l =
         ap (λ z. number z % 64) other_is ∙ end_state_is line l (own_last.0 ++ back_end line) in
         let high_0 = steps_cost_high start branch (n + 5) most (rt ++ rx) (back_end line) (omega arith) in
-        let high_1 : steps_cost start branch (n + 5) other ≤ start (number (back_end line) % 64) + 508 * (n + 5) =
-        subst (λ k. steps_cost start branch k other ≤ start (number (back_end line) % 64) + 508 * k) len high_0 in
+        let high_1 : steps_cost start branch (n + 5) other ≤ start (number (back_end line) % 64) + STEP_COST * (n + 5) =
+        subst (λ k. steps_cost start branch k other ≤ start (number (back_end line) % 64) + STEP_COST * k) len high_0 in
         let none : start (number (back_end line) % 64) ≡ 0 = start_cost_by _ _ (start_is line) in
         let least = (best_at l).least other other_size other_state in
         omega (arith, owned, low_2, least, high_1, none)
@@ -648,7 +649,7 @@ module _ (d e : ℕ → ℕ → Bool) where
 -- The list that is read back from the end that costs less, by the decisions of the best paths, is the nearest path.
 pub read_is_nearest : (line : LineCode) (w : List ℤ) (d : ℕ → ℕ → Bool) (n : ℕ) (x tail : List Bool) (s1 s0 : ℕ)
     (l : Bool) → ((i s : ℕ) → i < n + 5 → s < 64 → d i s ≡ older_bit (start_of line) (branch_of line w) i s) →
-    ((i m : ℕ) → i < n + 5 → branch_of line w i m ≤ 508) → n ≤ 8160 → length w ≡ 2 * n + 12 → length x ≡ n →
+    ((i m : ℕ) → i < n + 5 → branch_of line w i m ≤ STEP_COST) → n ≤ 8160 → length w ≡ 2 * n + 12 → length x ≡ n →
     length tail ≡ 5 → s1 < 64 → s0 < 64 → l ≡ ltb (end_least line w n true) (end_least line w n false) →
     read_back d (n + 5) (end_before line l) ≡ reverse tail ++ read_back d n s1 →
     read_back d n s1 ≡ reverse (levels line (is_odd s0) x) ++ read_back d 0 s0 → IsNearestPath line w x

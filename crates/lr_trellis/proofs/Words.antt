@@ -14,6 +14,7 @@ use Rattle.lr_conv.proofs.SevenBits.{all_below, all_below_at, bit_below, second_
 use Rattle.lr_trellis.specs.Path.{symbol_cost}
 use Rattle.lr_trellis.specs.Trellis.{is_odd, state_before}
 use Rattle.lr_trellis.specs.Words.{pair_of, branch_by}
+use Rattle.lr_trellis.specs.declared.costs.TheConstants.{STEP_COST}
 
 -- ---- the pairs of a butterfly, checked by computing
 abbrev pairs : List ℕ
@@ -74,7 +75,7 @@ four_costs line z o y p m v w ez eo ey ep =
     ∙ ap (λ b. symbol_cost (first_of_seven m) v + symbol_cost b w) (sym (second_of_line line m))
 
 four_below : (z o y p k : ℕ) → z + o ≡ 254 → y + p ≡ 254 → k < 4 →
-    get_or ((z + y) ∷ (z + p) ∷ (o + y) ∷ (o + p) ∷ []) k 0 ≤ 508
+    get_or ((z + y) ∷ (z + p) ∷ (o + y) ∷ (o + p) ∷ []) k 0 ≤ STEP_COST
 four_below z o y p zero e f l = omega arith
 four_below z o y p (suc zero) e f l = omega arith
 four_below z o y p (suc (suc zero)) e f l = omega arith
@@ -82,22 +83,22 @@ four_below z o y p (suc (suc (suc zero))) e f l = omega arith
 four_below z o y p (suc (suc (suc (suc k)))) e f l = absurd (omega arith)
 
 pub four_costs_below : (z o y p m : ℕ) → z + o ≡ 254 → y + p ≡ 254 →
-    branch_by ((z + y) ∷ (z + p) ∷ (o + y) ∷ (o + p) ∷ []) m ≤ 508
+    branch_by ((z + y) ∷ (z + p) ∷ (o + y) ∷ (o + p) ∷ []) m ≤ STEP_COST
 unfolding branch_by
 four_costs_below z o y p m e f = four_below z o y p (pair_of m) e f (pair_below m)
 
 -- ---- a word of decisions
-shifted_small : (r p : ℕ) → r < 2 → p ≤ 2 ^ 32 → r * p < 18446744073709551616
+shifted_small : (r p : ℕ) → r < 2 → p ≤ 2 ^ 32 → r * p < 2 ^ 64
 shifted_small zero p low top = omega arith
 shifted_small (suc zero) p low top = omega arith
 shifted_small (suc (suc r)) p low top = absurd (omega arith)
 
 -- a bit above those of a word
 pub with_bit_is : (word place r : ℕ) → place < 32 → word < 2 ^ place → r < 2 →
-    bit_or word (r * 2 ^ place % 18446744073709551616) ≡ r * 2 ^ place + word
+    bit_or word (r * 2 ^ place % 2 ^ 64) ≡ r * 2 ^ place + word
 with_bit_is word place r l small low =
     let top : 2 ^ place ≤ 2 ^ 32 = pow-le-pow_right {n = 2} (omega arith) {i = place} {j = 32} (omega arith) in
-    let fits : r * 2 ^ place % 18446744073709551616 ≡ r * 2 ^ place =
+    let fits : r * 2 ^ place % 2 ^ 64 ≡ r * 2 ^ place =
     mod-eq_of_lt (shifted_small r (2 ^ place) low top) in
     ap (bit_or word) fits ∙ or_comm word (r * 2 ^ place) ∙ or_shifted r place word small
 
@@ -114,9 +115,9 @@ with_bit_at word place r small low =
 
 -- two halves of a word
 pub joined_is : (evens odds : ℕ) → evens < 2 ^ 32 → odds < 2 ^ 32 →
-    bit_or evens (odds * 2 ^ 32 % 18446744073709551616) ≡ odds * 2 ^ 32 + evens
+    bit_or evens (odds * 2 ^ 32 % 2 ^ 64) ≡ odds * 2 ^ 32 + evens
 joined_is evens odds small low =
-    let fits : odds * 2 ^ 32 % 18446744073709551616 ≡ odds * 2 ^ 32 = omega arith in
+    let fits : odds * 2 ^ 32 % 2 ^ 64 ≡ odds * 2 ^ 32 = omega arith in
     ap (bit_or evens) fits ∙ or_comm evens (odds * 2 ^ 32) ∙ or_shifted odds 32 evens small
 
 pub joined_high : (evens odds k : ℕ) → evens < 2 ^ 32 → bit_at (odds * 2 ^ 32 + evens) (k + 32) ≡ bit_at odds k

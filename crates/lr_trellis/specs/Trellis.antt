@@ -37,7 +37,7 @@ module _ (start : ℕ → ℕ) (branch : ℕ → ℕ → ℕ) where
   kept_path = read_back older_bit
 
 -- a path begins in the state of the marker's last levels, 011101 or 101001 for marks; another start costs more than
--- any real path of 8,166 steps
+-- any real path of 8,166 steps, of which each costs 508 at most
 abbrev pub start_state : LineCode → ℕ
 start_state line = if line.marks then 41 else 29
 

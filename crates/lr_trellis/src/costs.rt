@@ -7,6 +7,9 @@ ghost use Rattle.lr_trellis.specs.Words.{branch_by, pair_of};
 
 use lr_conv::LineCode;
 
+/// The most that a step costs: a 0 and a 1 together cost 2 * 127 against a symbol, and a step has two symbols.
+pub const STEP_COST: u32 = 4 * 127;
+
 /// What a 0 and what a 1 costs against a symbol.
 #[inline(always)]
 fn symbol_costs(symbol: i8) -> (u32, u32)
@@ -38,7 +41,7 @@ fn second_costs(line: LineCode, symbol: i8) -> (u32, u32)
 pub fn pair_costs(line: LineCode, first: i8, second: i8) -> [u32; 4]
     ensures value { (m : ℕ) → branch_by result m ≡
         symbol_cost (first_of_seven m) first + symbol_cost (second_of_seven line m) second }
-    ensures most { (m : ℕ) → branch_by result m ≤ 508 }
+    ensures most { (m : ℕ) → branch_by result m ≤ STEP_COST }
 {
     let (zero, one) = symbol_costs(first);
     let (then_zero, then_one) = second_costs(line, second);

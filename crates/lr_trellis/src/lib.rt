@@ -1,5 +1,5 @@
 //! The nearest path of a frame's window: maximum likelihood decoding of the convolutional code of CCSDS 131.0-B,
-//! section 3.3, between two markers.
+//! section 3.3, between two markers. The kernel is a Viterbi decoder over a frame as a whole.
 //!
 //! A window is a list of symbols, signed bytes of which a positive one leans to 1 and -128 is read as -127: two symbols
 //! for each bit of the frame, and twelve for the first six bits of the next marker. Out come the frame's bits, in the
@@ -22,7 +22,7 @@ mod scratch;
 mod steps;
 mod way_back;
 
-pub use costs::pair_costs;
+pub use costs::{STEP_COST, pair_costs};
 pub use decode::{nearest, nearest_bits, one_nearest_path, read_bytes};
 pub use scratch::{MOST_STEPS, TrellisScratch};
 pub use steps::{decision_word, start_costs};

@@ -5,12 +5,12 @@ ghost use Rattle.std.specs.Int.{bit_at};
 ghost use Rattle.lr_trellis.specs.Trellis.{start_of, start_state};
 ghost use Rattle.lr_trellis.specs.Words.{branch_by, decision_of, IsDecided};
 
-use crate::costs::{pair, pair_costs};
+use crate::costs::{STEP_COST, pair, pair_costs};
 use crate::scratch::MOST_STEPS;
 use lr_conv::LineCode;
 
-/// More than any path costs: 508 in each of its 8,166 steps, and 1.
-const FAR: u32 = 508 * (MOST_STEPS as u32 + 1) + 1;
+/// More than any path costs: the most in each of its 8,166 steps, and 1.
+const FAR: u32 = STEP_COST * (MOST_STEPS as u32 + 1) + 1;
 
 /// The last six levels of the marker, in which a path begins.
 const START: usize = 0b01_1101;
@@ -53,8 +53,8 @@ pub fn decision_word(evens: u64, odds: u64) -> u64
 /// One step of all paths: the least cost of a path to each state, and the word of the decisions.
 #[inline(always)]
 fn step(costs: &[u32; 4], old: &[u32; 64], new: &mut [u32; 64]) -> u64
-    requires costs { (m : ℕ) → branch_by costs.now m ≤ 508 }
-    requires old { (s : ℕ) → s < 64 → slice_index old.now s + 508 < 2 ^ 32 }
+    requires costs { (m : ℕ) → branch_by costs.now m ≤ STEP_COST }
+    requires old { (s : ℕ) → s < 64 → slice_index old.now s + STEP_COST < 2 ^ 32 }
     ensures least { (s : ℕ) → s < 64 → slice_index new.new s ≡
         min (slice_index old.now (s / 2) + branch_by costs.now s)
         (slice_index old.now (s / 2 + 32) + branch_by costs.now (s + 64)) }

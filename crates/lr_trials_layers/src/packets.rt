@@ -1,5 +1,5 @@
 // `Channels` over a few frames of channel 0.
-use lr_bits::{NoMemory, RawPacket, ZONE_BYTES};
+use lr_bits::{NO_PACKET_START, NoMemory, RawPacket, ZONE_BYTES};
 use lr_vc::{Channels, TransferFrame};
 use std::alloc::Global;
 use std::test::Fail;
@@ -9,8 +9,6 @@ static DIGITS: [u8; 17] = [
     0x00, 0x64, 0xC0, 0x00, 0x00, 0x0A, 0x31, 0x32, 0x33, 0x34, 0x35, 0x36, 0x37, 0x38, 0x39, 0x29,
     0xB1,
 ];
-
-const NO_START: u16 = 2047;
 
 /// The header of an idle packet.
 fn idle_head(length_field: u16) -> [u8; 6] {
@@ -118,7 +116,7 @@ fn longest_packet(
         if i == 0 {
             put(&mut zone, 0, &idle_head(0xFFFF));
         }
-        frames.push(frame(i, if i == 0 { 0 } else { NO_START }, zone))?;
+        frames.push(frame(i, if i == 0 { 0 } else { NO_PACKET_START }, zone))?;
     }
     let mut last = [0; ZONE_BYTES];
     put(&mut last, 126, &idle_head(751));
@@ -147,7 +145,7 @@ fn two_zones_join_where_counter_and_pointer_agree(rt: HostRuntime) -> Result<(),
 fn a_header_lies_across_two_zones(rt: HostRuntime) -> Result<(), Fail> {
     let alloc = rt.alloc();
     assert!(rt; header_of_one_byte(alloc, 879, &[880])?);
-    assert!(rt; header_of_one_byte(alloc, NO_START, &[])?);
+    assert!(rt; header_of_one_byte(alloc, NO_PACKET_START, &[])?);
     Ok(())
 }
 

@@ -2,7 +2,7 @@
 
 ghost use Rattle.std.specs.Prelude.{◌≡◌, length};
 
-use crate::windows::{LINES, drawn_window};
+use crate::windows::{LINES, drawn_window, window_of_three};
 use lr_bits::{BLOCK_BYTES, NoMemory, WINDOW_SYMBOLS};
 use lr_conv::LineCode;
 use lr_lanes::{LaneScratch, nearest_lanes, nearest_narrow_lanes};
@@ -99,6 +99,18 @@ fn kernels_agree_on_drawn_windows(rt: HostRuntime) -> Result<(), Fail> {
     for start in 1..=32u64 {
         let window = drawn_window(rt.alloc(), start)?;
         assert!(rt; agree(&mut kernels, &window));
+    }
+    Ok(())
+}
+
+#[test]
+fn kernels_agree_on_windows_of_three_values(rt: HostRuntime) -> Result<(), Fail> {
+    let mut kernels = Kernels::new(rt.alloc())?;
+    for start in 1..=4u64 {
+        let ties = window_of_three(rt.alloc(), start, &[-1, 0, 1])?;
+        assert!(rt; agree(&mut kernels, &ties));
+        let extremes = window_of_three(rt.alloc(), start, &[-128, -127, 127])?;
+        assert!(rt; agree(&mut kernels, &extremes));
     }
     Ok(())
 }

@@ -54,3 +54,16 @@ pub fn drawn_window(alloc: Global, start: u64) -> Result<Vec<i8>, AllocError>
     }
     Ok(symbols)
 }
+
+/// A frame's window of three values, drawn.
+pub fn window_of_three(alloc: Global, start: u64, values: &[i8; 3]) -> Result<Vec<i8>, AllocError>
+    ensures { IfOk result (λ v. vec_len v ≡ WINDOW_SYMBOLS) }
+{
+    let mut state = start;
+    let mut symbols = Vec::new(alloc);
+    for _ in 0..WINDOW_SYMBOLS {
+        state = next_state(state);
+        symbols.push(values[(state >> 56) as usize % 3])?;
+    }
+    Ok(symbols)
+}

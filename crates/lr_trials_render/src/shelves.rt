@@ -1,5 +1,6 @@
 //! The images of shelves, whoever reads them.
 ghost use Rattle.std.specs.Prelude.{◌≤◌};
+ghost use Rattle.lr_gatecore.specs.declared.sizes.TheConstants.{MOST_SEATS};
 
 use crate::files::{
     CODED, ENCRYPTED, FIRST, LINES_OF_FIVE, SECOND, coded_file, field_of, file_of, plain_file,
@@ -56,7 +57,7 @@ fn ends_by<R: Threads + Wait + Sync>(
     disk: &mut MemDisk,
     end: End<'_>,
 ) -> Result<bool, Fail>
-    requires { (1 ≤ workers) × (workers ≤ 64) }
+    requires { (1 ≤ workers) × (workers ≤ MOST_SEATS) }
 {
     let mut out = sink(alloc, end.room)?;
     let cause = render(rt, alloc, workers, disk, &mut out);

@@ -4,6 +4,7 @@ use Rattle.std.proofs.Common.{take, drop, map, set, refl, sym, ap, ◌∙◌, ar
 use Rattle.std.proofs.Common.{length-append, drop_at}
 use Rattle.std.proofs.lemmas.List.{drop-append-le, map-append, take_more_set}
 use Rattle.lr_bits.specs.Bits.{bit_of}
+use Rattle.lr_bits.specs.declared.sizes.TheConstants.{FRAME_SYMBOLS}
 use Rattle.lr_conv.specs.Convolution.{code}
 use Rattle.lr_conv.specs.Levels.{levels, six_zeros, last_level}
 use Rattle.lr_conv.specs.declared.line.LineCode.{LineCode}
@@ -23,7 +24,7 @@ length-line_code line bits =
 
 -- one bit more, and its two symbols
 pub symbols_more : (line : LineCode) (bits : List Bool) (bytes : List ℕ) (n : ℕ) (first second : Bool)
-    (old : List ℤ) → length old ≡ 16384 → n < 8192
+    (old : List ℤ) → length old ≡ FRAME_SYMBOLS → n < 8192
     → take (2 * n) old ≡ map level (drop (2 * length bits) (line_code line (bits ++ first_bits bytes n)))
     → line_code line ((bits ++ first_bits bytes n) ++ nat_eq (bit_of bytes n) 1 ∷ []) ≡
     line_code line (bits ++ first_bits bytes n) ++ first ∷ second ∷ []

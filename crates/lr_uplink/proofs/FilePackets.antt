@@ -8,6 +8,8 @@ use Rattle.std.specs.List.{AllByRecursion as Each, concat, cons_option, range_wi
 use Rattle.std.proofs.lemmas.Bool.{cases_eq, cases_lt, cond_both}
 use Rattle.std.proofs.lemmas.List.{get_or_append_left, get_or-append-add, map-append}
 use Rattle.lr_bits.specs.File.{File, IsFile, bytes_of}
+use Rattle.lr_bits.specs.declared.sizes.TheConstants.{SEQUENCE_COUNTS, ZONE_BYTES}
+use Rattle.lr_bits.specs.Sizes.{most_body_bytes}
 use Rattle.lr_packet.specs.declared.packet.PacketFault.{PacketFault}
 use Rattle.lr_packet.specs.Verdict.{Good, good_packets, verdict_of}
 use Rattle.lr_packet.proofs.VerdictLemmas.{good_packets-append}
@@ -50,7 +52,7 @@ good_at vc apid count bodies j = record {
   vc = vc;
   apid = apid;
   flags = flags_at (length bodies) j;
-  count = (count + j) % 16384;
+  count = (count + j) % SEQUENCE_COUNTS;
   body = get_or bodies j [];
 }
 
@@ -59,7 +61,7 @@ goods_of count file =
     map (good_at file.vc file.apid count file.bodies) (range_with_len 0 (length file.bodies))
 
 module _ (file : File) (is : IsFile file) where
-  short : (j : ℕ) → j < length file.bodies → length (get_or file.bodies j []) < 65535
+  short : (j : ℕ) → j < length file.bodies → length (get_or file.bodies j []) ≤ most_body_bytes
   short j inside = is.short j [] inside
 
   bodies_tell : (count : ℕ) → Each TellsItsLength (body_packets file.apid count file.bodies)
@@ -67,7 +69,7 @@ module _ (file : File) (is : IsFile file) where
   bodies_tell count =
       Each-map TellsItsLength (body_packet file.apid count file.bodies) (range_with_len 0 (length file.bodies))
       (Each-range (λ j. TellsItsLength (body_packet file.apid count file.bodies j)) 0 (length file.bodies)
-      (λ j low high. tells file.apid (flags_at (length file.bodies) j) ((count + j) % 16384)
+      (λ j low high. tells file.apid (flags_at (length file.bodies) j) ((count + j) % SEQUENCE_COUNTS)
       (get_or file.bodies j []) (short j (omega arith))))
 
   good_from : All (λ byte. byte < 256) (bytes_of file) → (count a n : ℕ) → a + n ≡ length file.bodies →
@@ -78,7 +80,7 @@ module _ (file : File) (is : IsFile file) where
       let inside : a < length file.bodies = omega arith in
       let one : verdict_of (on file.vc (body_packet file.apid count file.bodies a))
       ≡ Ok (good_at file.vc file.apid count file.bodies a) =
-      is_good file.apid (flags_at (length file.bodies) a) ((count + a) % 16384) (get_or file.bodies a [])
+      is_good file.apid (flags_at (length file.bodies) a) ((count + a) % SEQUENCE_COUNTS) (get_or file.bodies a [])
       is.application (flags_few (length file.bodies) a) (omega arith) (short a inside)
       (each_body (λ byte. byte < 256) file.bodies fit a inside) file.vc in
       ap₂ (λ (r : Result Good PacketFault) (gs : List Good). cons_option (result_ok r) gs) one
@@ -86,9 +88,9 @@ module _ (file : File) (is : IsFile file) where
 
 -- ---- the idle packet
 
-module _ (left : ℕ) (small : left < 884) where
+module _ (left : ℕ) (small : left < ZONE_BYTES) where
   abbrev size : ℕ
-  size = cond (ltb left 7) (left + 884) left
+  size = cond (ltb left 7) (left + ZONE_BYTES) left
 
   sizes : (0 < left) → (7 ≤ size) × (size < 65543)
   sizes some =
@@ -114,7 +116,7 @@ module _ (left : ℕ) (small : left < 884) where
   ]
 
   -- how many bytes it has: none, those that are left, or those and a zone
-  idle_length : (length (concat (idle_packets left)) ≡ left) ⊎ (length (concat (idle_packets left)) ≡ left + 884)
+  idle_length : (length (concat (idle_packets left)) ≡ left) ⊎ (length (concat (idle_packets left)) ≡ left + ZONE_BYTES)
   idle_length = elim (cases_eq left 0) [
     | inl none ↦ inl (ap (λ b. length (concat (cond b [] (idle_packet size ∷ [])))) (eq-eqb left 0 none)
         ∙ sym none)
@@ -124,8 +126,8 @@ module _ (left : ℕ) (small : left < 884) where
         ap (λ b. length (concat (cond b [] (idle_packet size ∷ [])))) (ne_eqb left 0 some)
         ∙ ap length (append-nil (idle_packet size)) ∙ length-idle size both.0 both.1 in
         elim (cases_lt left 7) [
-          | inl few ↦ inr (all ∙ ap (λ b. cond b (left + 884) left) (lt-ltb left 7 few))
-          | inr enough ↦ inl (all ∙ ap (λ b. cond b (left + 884) left) (le-ltb left 7 enough))
+          | inl few ↦ inr (all ∙ ap (λ b. cond b (left + ZONE_BYTES) left) (lt-ltb left 7 few))
+          | inr enough ↦ inl (all ∙ ap (λ b. cond b (left + ZONE_BYTES) left) (le-ltb left 7 enough))
         ]
   ]
 
@@ -135,7 +137,7 @@ module _ (packets : List (List ℕ)) where
   abbrev gap : ℕ
   gap = bytes_left (length (concat packets))
 
-  gap_small : gap < 884
+  gap_small : gap < ZONE_BYTES
   gap_small = omega arith
 
   filled_length : length (concat (filled packets)) ≡ length (concat packets) + length (concat (idle_packets gap))
@@ -143,7 +145,7 @@ module _ (packets : List (List ℕ)) where
       ap length (concat-append packets (idle_packets gap))
       ∙ length-append (concat packets) (concat (idle_packets gap))
 
-  pub fills : length (concat (filled packets)) ≡ 884 * (length (concat (filled packets)) / 884)
+  pub fills : length (concat (filled packets)) ≡ ZONE_BYTES * (length (concat (filled packets)) / ZONE_BYTES)
   fills = elim (idle_length gap gap_small) [
     | inl one ↦ omega (arith, filled_length, one)
     | inr more ↦ omega (arith, filled_length, more)
@@ -157,7 +159,7 @@ filled_few packets = elim (idle_length (gap packets) (gap_small packets)) [
 ]
 
 pub file_fills : (count : ℕ) (file : File) →
-    length (concat (file_packets count file)) ≡ 884 * (length (concat (file_packets count file)) / 884)
+    length (concat (file_packets count file)) ≡ ZONE_BYTES * (length (concat (file_packets count file)) / ZONE_BYTES)
 file_fills count file = fills (body_packets file.apid count file.bodies)
 
 pub file_tells : (count : ℕ) (file : File) → IsFile file → Each TellsItsLength (file_packets count file)
@@ -193,8 +195,8 @@ bodies_length apid first second bodies a (suc n) =
       length-append x xs,
       length-append y ys,
       bodies_length apid first second bodies (a + 1) n,
-      length-packet apid (flags_at (length bodies) a) ((first + a) % 16384) (get_or bodies a []),
-      length-packet apid (flags_at (length bodies) a) ((second + a) % 16384) (get_or bodies a []),
+      length-packet apid (flags_at (length bodies) a) ((first + a) % SEQUENCE_COUNTS) (get_or bodies a []),
+      length-packet apid (flags_at (length bodies) a) ((second + a) % SEQUENCE_COUNTS) (get_or bodies a []),
     )
 
 pub file_length : (first second : ℕ) (file : File) →

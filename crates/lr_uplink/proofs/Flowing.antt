@@ -11,6 +11,7 @@ use Rattle.std.proofs.lemmas.List.{map-append, take-append-drop, length-take-le}
 use Rattle.std.proofs.lemmas.List.Elements.{All-push}
 use Rattle.lr_bits.specs.File.{File}
 use Rattle.lr_bits.specs.Packet.{Packet}
+use Rattle.lr_bits.specs.declared.sizes.TheConstants.{CHANNELS, FILL_CHANNEL, FRAME_COUNTS, ZONE_BYTES}
 use Rattle.lr_vc.specs.Frame.{Fields, fields_of}
 use Rattle.lr_vc.specs.Runs.{AreFrames, channel_frames, runs_of}
 use Rattle.lr_vc.specs.Packets.{packets_of}
@@ -39,17 +40,18 @@ use Rattle.lr_uplink.proofs.Zones.{Stage, step, concat-both}
 -- ---- what is read of a frame
 
 small_by : (t place : ℕ) (packets : List (List ℕ)) →
-    unwrap_or (option_map (λ start. start - 884 * t) (find (is_in_zone t) (packet_starts_from place packets)))
+    unwrap_or (option_map (λ start. start - ZONE_BYTES * t) (find (is_in_zone t) (packet_starts_from place packets)))
     2047 < 2048
 small_by t place [] = omega arith
 small_by t place (packet ∷ packets) =
     let rest = find (is_in_zone t) (packet_starts_from (place + length packet) packets) in
     let Small : Bool → Type 0 =
-    λ b. unwrap_or (option_map (λ start. start - 884 * t) (cond b (Some place) rest)) 2047 < 2048 in
+    λ b. unwrap_or (option_map (λ start. start - ZONE_BYTES * t) (cond b (Some place) rest)) 2047 < 2048 in
     elim (cases_Bool (is_in_zone t place)) [
       | inl inside ↦
-          let below : place < 884 * t + 884 =
-          ltb-true place (884 * t + 884) (and_parts (leb (884 * t) place) (ltb place (884 * t + 884)) inside).1 in
+          let below : place < ZONE_BYTES * t + ZONE_BYTES =
+          ltb-true place (ZONE_BYTES * t + ZONE_BYTES)
+          (and_parts (leb (ZONE_BYTES * t) place) (ltb place (ZONE_BYTES * t + ZONE_BYTES)) inside).1 in
           subst Small (sym inside) (omega (arith, below))
       | inr outside ↦ subst Small (sym outside) (small_by t (place + length packet) packets)
     ]
@@ -58,23 +60,25 @@ pub pointer_small : (packets : List (List ℕ)) (t : ℕ) → sent_pointer_at pa
 unfolding sent_pointer_at
 pointer_small packets t = small_by t 0 packets
 
-pub read_frame : (vc counter : ℕ) (packets : List (List ℕ)) (t : ℕ) → vc < 64 →
-    Reads (sent_frame_at vc counter packets t) vc ((counter + t) % 16777216) (sent_pointer_at packets t)
+pub read_frame : (vc counter : ℕ) (packets : List (List ℕ)) (t : ℕ) → vc < CHANNELS →
+    Reads (sent_frame_at vc counter packets t) vc ((counter + t) % FRAME_COUNTS) (sent_pointer_at packets t)
     (sent_zone_at packets t)
 read_frame vc counter packets t v =
-    frame_reads vc ((counter + t) % 16777216) (sent_pointer_at packets t) (sent_zone_at packets t) v (omega arith)
+    frame_reads vc ((counter + t) % FRAME_COUNTS) (sent_pointer_at packets t) (sent_zone_at packets t) v (omega arith)
     (pointer_small packets t)
 
-pub zone_long : (packets : List (List ℕ)) (t : ℕ) → 884 * t + 884 ≤ length (concat packets) →
-    length (sent_zone_at packets t) ≡ 884
+pub zone_long : (packets : List (List ℕ)) (t : ℕ) → ZONE_BYTES * t + ZONE_BYTES ≤ length (concat packets) →
+    length (sent_zone_at packets t) ≡ ZONE_BYTES
 unfolding sent_zone_at
 zone_long packets t h =
-    length-take-le 884 (drop (884 * t) (concat packets)) (omega (arith, length-drop (884 * t) (concat packets)))
+    length-take-le ZONE_BYTES (drop (ZONE_BYTES * t) (concat packets))
+    (omega (arith, length-drop (ZONE_BYTES * t) (concat packets)))
 
 pub zone_stream : (packets : List (List ℕ)) (t : ℕ) →
-    sent_zone_at packets t ++ drop 884 (drop (884 * t) (concat packets)) ≡ drop (884 * t) (concat packets)
+    sent_zone_at packets t ++ drop ZONE_BYTES (drop (ZONE_BYTES * t) (concat packets)) ≡ drop (ZONE_BYTES * t)
+    (concat packets)
 unfolding sent_zone_at
-zone_stream packets t = take-append-drop 884 (drop (884 * t) (concat packets))
+zone_stream packets t = take-append-drop ZONE_BYTES (drop (ZONE_BYTES * t) (concat packets))
 
 -- ---- one frame more
 
@@ -82,11 +86,12 @@ zone_stream packets t = take-append-drop 884 (drop (884 * t) (concat packets))
 abbrev pub open_of : ℕ → List Fields → List (List ℕ)
 open_of channel history = open_packets (last_run (runs_of (channel_frames channel history)))
 
-frames_more : (history : List Fields) (f : Fields) → length f.zone ≡ 884 → AreFrames history →
+frames_more : (history : List Fields) (f : Fields) → length f.zone ≡ ZONE_BYTES → AreFrames history →
     AreFrames (history ++ f ∷ [])
-frames_more history f long h = All-push (λ f. length f.zone ≡ 884) history f h long
+frames_more history f long h = All-push (λ f. length f.zone ≡ ZONE_BYTES) history f h long
 
-packets_more : (history : List Fields) (f : Fields) → AreFrames history → length f.zone ≡ 884 → (f.vc ≡ 63 → ⊥) →
+packets_more : (history : List Fields) (f : Fields) → AreFrames history → length f.zone ≡ ZONE_BYTES
+    → (f.vc ≡ FILL_CHANNEL → ⊥) →
     packets_of (history ++ f ∷ [])
     ≡ packets_of history ++ packets_with f (met (channel_frames f.vc history) f.counter)
 unfolding packets_with
@@ -94,17 +99,17 @@ packets_more history f frames long ne =
     packets_of-more history f (frames_more history f long frames)
     ∙ ap (λ ps. packets_of history ++ ps) (packets_at-next history f frames long ne)
 
-open_more : (history : List Fields) (f : Fields) → AreFrames history → length f.zone ≡ 884 →
+open_more : (history : List Fields) (f : Fields) → AreFrames history → length f.zone ≡ ZONE_BYTES →
     open_of f.vc (history ++ f ∷ []) ≡ open_after f (met (channel_frames f.vc history) f.counter)
 unfolding open_after
 open_more history f frames long = open_packets-own history f frames long
 
 -- what the next frame meets, where it follows
-met_next : (history : List Fields) (f : Fields) (counter : ℕ) → counter ≡ (f.counter + 1) % 16777216 →
+met_next : (history : List Fields) (f : Fields) (counter : ℕ) → counter ≡ (f.counter + 1) % FRAME_COUNTS →
     met (channel_frames f.vc (history ++ f ∷ [])) counter ≡ open_of f.vc (history ++ f ∷ [])
 met_next history f counter e =
     ap (λ o. cond (follows o counter) (open_of f.vc (history ++ f ∷ [])) []) (last_counter-own history f)
-    ∙ ap (λ b. cond b (open_of f.vc (history ++ f ∷ [])) []) (eq-eqb counter ((f.counter + 1) % 16777216) e)
+    ∙ ap (λ b. cond b (open_of f.vc (history ++ f ∷ [])) []) (eq-eqb counter ((f.counter + 1) % FRAME_COUNTS) e)
 
 -- where nothing is open, nothing is met
 met_none : (history : List Fields) (channel counter : ℕ) → open_of channel history ≡ [] →
@@ -124,18 +129,18 @@ record Taken (vc : ℕ) (packets : List (List ℕ)) (history later : List Fields
   closed : open_of vc (history ++ later) ≡ []
   frames : AreFrames (history ++ later)
 
-module _ (vc counter : ℕ) (packets : List (List ℕ)) (channel : vc < 63) (tell : Each TellsItsLength packets)
-    (total : ℕ) (whole : length (concat packets) ≡ 884 * total)
+module _ (vc counter : ℕ) (packets : List (List ℕ)) (channel : vc < FILL_CHANNEL) (tell : Each TellsItsLength packets)
+    (total : ℕ) (whole : length (concat packets) ≡ ZONE_BYTES * total)
   where
     abbrev pub frame : ℕ → Fields
     frame t = fields_of (sent_frame_at vc counter packets t)
 
-    reads : (t : ℕ) → Reads (sent_frame_at vc counter packets t) vc ((counter + t) % 16777216)
+    reads : (t : ℕ) → Reads (sent_frame_at vc counter packets t) vc ((counter + t) % FRAME_COUNTS)
         (sent_pointer_at packets t)
         (sent_zone_at packets t)
     reads t = read_frame vc counter packets t (omega arith)
 
-    long : (t : ℕ) → t < total → length (frame t).zone ≡ 884
+    long : (t : ℕ) → t < total → length (frame t).zone ≡ ZONE_BYTES
     long t inside = ap length (reads t).zone_is ∙ zone_long packets t (omega (arith, whole))
 
     -- after the last zone nothing is left
@@ -147,7 +152,7 @@ module _ (vc counter : ℕ) (packets : List (List ℕ)) (channel : vc < 63) (tel
     right [] ys h = h
     right (x ∷ xs) ys h = right xs ys h.1
 
-    all_done : (done met : List (List ℕ)) → Stage packets done met (884 * total) → (packets ≡ done) × (met ≡ [])
+    all_done : (done met : List (List ℕ)) → Stage packets done met (ZONE_BYTES * total) → (packets ≡ done) × (met ≡ [])
     all_done done met s = elim s [
       | inl b ↦
           let none : length (concat b.back) ≡ 0 =
@@ -167,11 +172,11 @@ module _ (vc counter : ℕ) (packets : List (List ℕ)) (channel : vc < 63) (tel
     ]
 
     take_frames : (n t : ℕ) (history : List Fields) (done open_now : List (List ℕ)) → t + n ≡ total →
-        AreFrames history → Stage packets done open_now (884 * t) → open_of vc history ≡ open_now →
-        met (channel_frames vc history) ((counter + t) % 16777216) ≡ open_now →
+        AreFrames history → Stage packets done open_now (ZONE_BYTES * t) → open_of vc history ≡ open_now →
+        met (channel_frames vc history) ((counter + t) % FRAME_COUNTS) ≡ open_now →
         Taken vc packets history (map frame (range_with_len t n)) done
     take_frames zero t history done open_now e frames stage is meets =
-        let place : 884 * t ≡ 884 * total = omega arith in
+        let place : ZONE_BYTES * t ≡ ZONE_BYTES * total = omega arith in
         let all = all_done done open_now (subst (λ p. Stage packets done open_now p) place stage) in
         let same : history ++ [] ≡ history = append-nil history in
         record {
@@ -186,9 +191,11 @@ module _ (vc counter : ℕ) (packets : List (List ℕ)) (channel : vc < 63) (tel
         let r = reads t in
         let size = long t (omega arith) in
         let more = history ++ f ∷ [] in
-        let stream : f.zone ++ drop 884 (drop (884 * t) (concat packets)) ≡ drop (884 * t) (concat packets) =
-        ap (λ z. z ++ drop 884 (drop (884 * t) (concat packets))) r.zone_is ∙ zone_stream packets t in
-        let s = step packets tell t f (drop 884 (drop (884 * t) (concat packets))) size stream r.pointer_is done
+        let stream : f.zone ++ drop ZONE_BYTES (drop (ZONE_BYTES * t) (concat packets)) ≡ drop (ZONE_BYTES * t)
+        (concat packets) =
+        ap (λ z. z ++ drop ZONE_BYTES (drop (ZONE_BYTES * t) (concat packets))) r.zone_is ∙ zone_stream packets t in
+        let s = step packets tell t f (drop ZONE_BYTES (drop (ZONE_BYTES * t) (concat packets))) size stream
+        r.pointer_is done
         open_now
         stage in
         let meets_own : met (channel_frames f.vc history) f.counter ≡ open_now =
@@ -199,11 +206,11 @@ module _ (vc counter : ℕ) (packets : List (List ℕ)) (channel : vc < 63) (tel
         ∙ ap (λ c. packets_of history ++ map (on c) s.ended) r.channel in
         let open_own : open_of f.vc more ≡ s.open_packets =
         open_more history f frames size ∙ ap (open_after f) meets_own ∙ s.after in
-        let next : (counter + (t + 1)) % 16777216 ≡ (f.counter + 1) % 16777216 = omega (arith, r.counter_is) in
-        let met_own : met (channel_frames vc more) ((counter + (t + 1)) % 16777216) ≡ s.open_packets =
-        ap (λ c. met (channel_frames c more) ((counter + (t + 1)) % 16777216)) (sym r.channel)
-        ∙ met_next history f ((counter + (t + 1)) % 16777216) next ∙ open_own in
-        let place : 884 * t + 884 ≡ 884 * (t + 1) = omega arith in
+        let next : (counter + (t + 1)) % FRAME_COUNTS ≡ (f.counter + 1) % FRAME_COUNTS = omega (arith, r.counter_is) in
+        let met_own : met (channel_frames vc more) ((counter + (t + 1)) % FRAME_COUNTS) ≡ s.open_packets =
+        ap (λ c. met (channel_frames c more) ((counter + (t + 1)) % FRAME_COUNTS)) (sym r.channel)
+        ∙ met_next history f ((counter + (t + 1)) % FRAME_COUNTS) next ∙ open_own in
+        let place : ZONE_BYTES * t + ZONE_BYTES ≡ ZONE_BYTES * (t + 1) = omega arith in
         let rest = take_frames n (t + 1) more (done ++ s.ended) s.open_packets (omega arith)
         (frames_more history f size frames)
         (subst (λ p. Stage packets (done ++ s.ended) s.open_packets p) place s.stage)
@@ -253,15 +260,15 @@ map-map : (f : List ℕ → Fields) (g : ℕ → List ℕ) (ks : List ℕ) → m
 map-map f g [] = refl
 map-map f g (k ∷ ks) = ap (λ (fs : List Fields). f (g k) ∷ fs) (map-map f g ks)
 
-file_received : (vc counter : ℕ) (packets : List (List ℕ)) (history : List Fields) → vc < 63 →
-    Each TellsItsLength packets → length (concat packets) ≡ 884 * (length (concat packets) / 884) →
+file_received : (vc counter : ℕ) (packets : List (List ℕ)) (history : List Fields) → vc < FILL_CHANNEL →
+    Each TellsItsLength packets → length (concat packets) ≡ ZONE_BYTES * (length (concat packets) / ZONE_BYTES) →
     AreFrames history → AreClosed history →
     Received history (map fields_of (sent_frames_of vc counter packets)) (map (on vc) packets)
 unfolding sent_frames_of
 file_received vc counter packets history channel tell whole frames closed =
-    let total = length (concat packets) / 884 in
+    let total = length (concat packets) / ZONE_BYTES in
     let F = frame vc counter packets channel tell total whole in
-    let start : Stage packets [] [] (884 * 0) = inl (record {
+    let start : Stage packets [] [] (ZONE_BYTES * 0) = inl (record {
       back = packets;
       split = refl;
       size = refl;
@@ -269,7 +276,7 @@ file_received vc counter packets history channel tell whole frames closed =
           refl;
     }) in
     let taken = take_frames vc counter packets channel tell total whole total 0 history [] [] (omega arith) frames start
-    (closed vc) (met_none history vc ((counter + 0) % 16777216) (closed vc)) in
+    (closed vc) (met_none history vc ((counter + 0) % FRAME_COUNTS) (closed vc)) in
     let same = map-map fields_of (sent_frame_at vc counter packets) (range_with_len 0 total) in
     subst (λ (fs : List Fields). Received history fs (map (on vc) packets)) (sym same) (record {
       found = taken.found ∙ ap (λ ps. packets_of history ++ map (on vc) ps) (sym taken.split);

@@ -9,6 +9,8 @@ use Rattle.std.proofs.lemmas.Bool.{and_from}
 use Rattle.std.proofs.lemmas.List.FromFn.{fill_by_all, map-range_with_len_more, length-map-range_with_len}
 use Rattle.std.proofs.lemmas.List.FromFn.{take-map-range_with_len}
 use Rattle.lr_bits.specs.File.{File, IsFile}
+use Rattle.lr_bits.specs.declared.sizes.TheConstants.{SEQUENCE_COUNTS, TRANSPORT_HEADER_BYTES}
+use Rattle.lr_bits.specs.Sizes.{most_file_bytes}
 use Rattle.lr_packet.specs.Verdict.{Good}
 use Rattle.lr_file.specs.Files.{packets_of_key, last_stretches, bodies_of, size_of, is_file, file_from, file_at}
 use Rattle.lr_file.specs.Files.{files_after}
@@ -54,7 +56,8 @@ module _ (packets : List Good) (p : Good) where
 
   not_alone : (k : ℕ) → p.flags ≡ k → (k ≡ 3 → ⊥) → is_file (p ∷ []) ≡ false
   not_alone k e ne =
-      is_file-one p ∙ ap (λ b. (b && leb 10 (length p.body)) && leb (length p.body) 67108864) (other_flags k 3 e ne)
+      is_file-one p ∙ ap (λ b. (b && leb 10 (length p.body)) && leb (length p.body) most_file_bytes)
+      (other_flags k 3 e ne)
 
   not_ending : (k : ℕ) → p.flags ≡ k → (k ≡ 2 → ⊥) → (s : List Good) → ends s ≡ false
   not_ending k e ne s =
@@ -77,23 +80,23 @@ module _ (packets : List Good) (p : Good) where
       ∙ ap (λ b. cond b (Some (p ∷ [])) None) (not_alone k e three))
 
   -- it is a file alone
-  file_alone : p.flags ≡ 3 → 10 ≤ length p.body → length p.body ≤ 67108864 →
+  file_alone : p.flags ≡ 3 → TRANSPORT_HEADER_BYTES ≤ length p.body → length p.body ≤ most_file_bytes →
       file_at packets p ≡ Some (file_from p.vc p.apid (p ∷ []))
   file_alone e least most =
       let alone : is_file (p ∷ []) ≡ true =
-      is_file-one p ∙ and_from (eqb p.flags 3 && leb 10 (length p.body)) (leb (length p.body) 67108864)
+      is_file-one p ∙ and_from (eqb p.flags 3 && leb 10 (length p.body)) (leb (length p.body) most_file_bytes)
       (and_from (eqb p.flags 3) (leb 10 (length p.body)) (eq-eqb p.flags 3 e) (le-leb 10 (length p.body) least))
-      (le-leb (length p.body) 67108864 most) in
+      (le-leb (length p.body) most_file_bytes most) in
       file_next ∙ ap (option_map (file_from p.vc p.apid))
       (alone_or ends (not_ending 3 e (λ h. omega arith)) (is_file (p ∷ [])) before
       ∙ ap (λ b. cond b (Some (p ∷ [])) None) alone)
 
   -- it opens a file
-  opens : p.flags ≡ 1 → length p.body ≤ 67108864 → open_stretch p.vc p.apid (packets ++ p ∷ []) ≡ Some (p ∷ [])
+  opens : p.flags ≡ 1 → length p.body ≤ most_file_bytes → open_stretch p.vc p.apid (packets ++ p ∷ []) ≡ Some (p ∷ [])
   opens e most =
       let alone : is_open (p ∷ []) ≡ true =
-      is_open-one p ∙ and_from (eqb p.flags 1) (leb (length p.body) 67108864) (eq-eqb p.flags 1 e)
-      (le-leb (length p.body) 67108864 most) in
+      is_open-one p ∙ and_from (eqb p.flags 1) (leb (length p.body) most_file_bytes) (eq-eqb p.flags 1 e)
+      (le-leb (length p.body) most_file_bytes most) in
       open_next ∙ alone_or goes_on (not_going_on 1 e (λ h. omega arith)) (is_open (p ∷ [])) before
       ∙ ap (λ b. cond b (Some (p ∷ [])) None) alone
 
@@ -107,7 +110,7 @@ module _ (packets : List Good) (p : Good) where
 
   -- it ends the open one
   ends_file : (s : List Good) → before ≡ Some s → p.flags ≡ 2 → is_next (open_from s) p ≡ true →
-      10 ≤ size_of (s ++ p ∷ []) → file_at packets p ≡ Some (file_from p.vc p.apid (s ++ p ∷ []))
+      TRANSPORT_HEADER_BYTES ≤ size_of (s ++ p ∷ []) → file_at packets p ≡ Some (file_from p.vc p.apid (s ++ p ∷ []))
   ends_file s is e next least =
       file_next ∙ ap (λ o. option_map (file_from p.vc p.apid) (longer ends p (is_file (p ∷ [])) o)) is
       ∙ ap (λ b. option_map (file_from p.vc p.apid) (cond b (Some (s ++ p ∷ []))
@@ -170,11 +173,11 @@ module _ (count : ℕ) (file : File) (is : IsFile file) where
   bodies_all : bodies_of (first n) ≡ file.bodies
   bodies_all = bodies-map g (range_with_len 0 n) ∙ sym all_bodies
 
-  size_first : (j : ℕ) → j ≤ n → size_of (first j) ≤ 67108864
+  size_first : (j : ℕ) → j ≤ n → size_of (first j) ≤ most_file_bytes
   size_first j h =
       omega (arith, ap (λ bs. length (concat bs)) (bodies_first j h), front_shorter j file.bodies, is.most)
 
-  size_all : 10 ≤ size_of (first n)
+  size_all : TRANSPORT_HEADER_BYTES ≤ size_of (first n)
   size_all = omega (arith, ap (λ bs. length (concat bs)) bodies_all, is.least)
 
   whole : file_from file.vc file.apid (first n) ≡ file
@@ -184,11 +187,11 @@ module _ (count : ℕ) (file : File) (is : IsFile file) where
   follows : (i : ℕ) → suc i < n → is_next (open_from (first (suc i))) (g (suc i)) ≡ true
   follows i inside =
       let s = first (suc i) in
-      let last : last_count s ≡ (count + i) % 16384 =
+      let last : last_count s ≡ (count + i) % SEQUENCE_COUNTS =
       ap last_count (sym (first_more i)) ∙ last_count-end (first i) (g i) in
       let few : length (map length (bodies_of s)) ≡ suc i =
       length-bodies s ∙ length-map-range_with_len g 0 (suc i) in
-      let room : size_of s + length (g (suc i)).body ≤ 67108864 =
+      let room : size_of s + length (g (suc i)).body ≤ most_file_bytes =
       omega (
         arith,
         size-end s (g (suc i)),
@@ -196,7 +199,7 @@ module _ (count : ℕ) (file : File) (is : IsFile file) where
         size_first (suc (suc i)) (omega arith),
       ) in
       sym (is_next-all (open_from s) (g (suc i)) (omega (arith, last)) (omega (arith, few, is.few)))
-      ∙ le-leb (size_of s + length (g (suc i)).body) 67108864 room
+      ∙ le-leb (size_of s + length (g (suc i)).body) most_file_bytes room
 
   -- flags
   several : (j : ℕ) → (n ≡ 1 → ⊥) → flags_at n j ≡ cond (eqb j 0) 1 (cond (eqb (j + 1) n) 2 0)
@@ -242,15 +245,15 @@ module _ (count : ℕ) (file : File) (is : IsFile file) where
       ap (λ b. cond b 3 (cond (eqb 0 0) 1 (cond (eqb (0 + 1) n) 2 0))) (eq-eqb n 1 e) in
       let all : p ∷ [] ≡ first n = ap first (sym e) in
       let size : size_of (p ∷ []) ≡ length p.body = ap length (append-nil p.body) in
-      let least : 10 ≤ length p.body = omega (arith, size, ap size_of all, size_all) in
-      let most : length p.body ≤ 67108864 = omega (arith, body_shorter 0 file.bodies, is.most) in
+      let least : TRANSPORT_HEADER_BYTES ≤ length p.body = omega (arith, size, ap size_of all, size_all) in
+      let most : length p.body ≤ most_file_bytes = omega (arith, body_shorter 0 file.bodies, is.most) in
       ap (λ o. option_to_list o ++ []) (file_alone earlier p single least most
       ∙ ap (λ s. Some (file_from file.vc file.apid s)) all ∙ ap Some whole)
   joined_by (suc (suc m)) earlier e =
       let p = g 0 in
       let ne : (n ≡ 1 → ⊥) = λ h. omega (arith, h) in
       let begins : p.flags ≡ 1 = several 0 ne in
-      let most : length p.body ≤ 67108864 = omega (arith, body_shorter 0 file.bodies, is.most) in
+      let most : length p.body ≤ most_file_bytes = omega (arith, body_shorter 0 file.bodies, is.most) in
       let none : file_at earlier p ≡ None = no_file earlier p 1 begins (λ h. omega arith) (λ h. omega arith) in
       let open_now : open_stretch file.vc file.apid (earlier ++ p ∷ []) ≡ Some (first 1) = opens earlier p begins
       most in

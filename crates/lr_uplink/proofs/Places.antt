@@ -8,6 +8,7 @@ use Rattle.std.proofs.lemmas.Bool.{cond_both}
 use Rattle.std.proofs.lemmas.List.{take_at, take-append-drop, length-take-le, get_or_append_left, get_or-append-add}
 use Rattle.std.proofs.lemmas.List.FromFn.{length-map-range_with_len, get_or-map-range_with_len}
 use Rattle.lr_bits.specs.File.{File, bytes_of}
+use Rattle.lr_bits.specs.declared.sizes.TheConstants.{SEQUENCE_COUNTS, ZONE_BYTES}
 use Rattle.lr_vc.specs.Frame.{Fields}
 use Rattle.lr_sent.specs.Carried.{TellsItsLength}
 use Rattle.lr_sent.proofs.Carrying.{concat-append}
@@ -104,7 +105,7 @@ bodies_total apid count bodies a (suc n) e =
     omega (
       arith,
       length-append own rest,
-      length-packet apid (flags_at (length bodies) a) ((count + a) % 16384) (get_or bodies a []),
+      length-packet apid (flags_at (length bodies) a) ((count + a) % SEQUENCE_COUNTS) (get_or bodies a []),
       bodies_total apid count bodies (a + 1) n (omega arith),
       next,
       ap (λ ys. length (concat ys)) (drop-cons bodies a [] (omega arith)),
@@ -133,7 +134,7 @@ body_there count file i inside =
 -- there is at most one idle packet
 few_idle : (left : ℕ) → length (idle_packets left) ≤ 1
 few_idle left =
-    cond_both (eqb left 0) [] (idle_packet (cond (ltb left 7) (left + 884) left) ∷ []) (λ ps. length ps ≤ 1)
+    cond_both (eqb left 0) [] (idle_packet (cond (ltb left 7) (left + ZONE_BYTES) left) ∷ []) (λ ps. length ps ≤ 1)
     (λ _. omega arith) (λ _. omega arith)
 
 pub file_packets_few : (count : ℕ) (file : File) → length (file_packets count file) ≤ length file.bodies + 1
@@ -189,17 +190,17 @@ frame_with packets t = record {
 }
 
 module _ (packets : List (List ℕ)) (tell : Each TellsItsLength packets) (t i : ℕ)
-    (room : 884 * t + 884 ≤ length (concat packets)) (inside : i < length packets) where
+    (room : ZONE_BYTES * t + ZONE_BYTES ≤ length (concat packets)) (inside : i < length packets) where
   abbrev own : List ℕ
   own = get_or packets i []
 
   abbrev later : List ℕ
-  later = drop 884 (drop (884 * t) (concat packets))
+  later = drop ZONE_BYTES (drop (ZONE_BYTES * t) (concat packets))
 
   -- where the zone begins, counted from the start of the packet
   start : (sent : ℕ) → sent ≤ length own →
-      drop (884 * t) (concat packets) ≡ drop sent own ++ concat (drop (suc i) packets) →
-      length (concat (take i packets)) + sent ≡ 884 * t
+      drop (ZONE_BYTES * t) (concat packets) ≡ drop sent own ++ concat (drop (suc i) packets) →
+      length (concat (take i packets)) + sent ≡ ZONE_BYTES * t
   start sent few rest =
       omega (
         arith,
@@ -207,10 +208,10 @@ module _ (packets : List (List ℕ)) (tell : Each TellsItsLength packets) (t i :
         ap length rest,
         length-append (drop sent own) (concat (drop (suc i) packets)),
         length-drop sent own,
-        length-drop (884 * t) (concat packets),
+        length-drop (ZONE_BYTES * t) (concat packets),
       )
 
-  pub pointer_first : drop (884 * t) (concat packets) ≡ own ++ concat (drop (suc i) packets) →
+  pub pointer_first : drop (ZONE_BYTES * t) (concat packets) ≡ own ++ concat (drop (suc i) packets) →
       sent_pointer_at packets t ≡ 0
   pointer_first rest =
       first_pointer packets tell t (frame_with packets t) later (zone_long packets t room) (zone_stream packets t) refl
@@ -218,8 +219,8 @@ module _ (packets : List (List ℕ)) (tell : Each TellsItsLength packets) (t i :
       (omega (arith, start 0 (omega arith) rest))
 
   within : (sent : ℕ) → 0 < sent → sent < length own →
-      drop (884 * t) (concat packets) ≡ drop sent own ++ concat (drop (suc i) packets) →
-      Within packets (take i packets) (take sent own ∷ []) (884 * t)
+      drop (ZONE_BYTES * t) (concat packets) ≡ drop sent own ++ concat (drop (suc i) packets) →
+      Within packets (take i packets) (take sent own ∷ []) (ZONE_BYTES * t)
   within sent some part rest =
       let size : length (take sent own) ≡ sent = length-take-le sent own (omega arith) in
       record {
@@ -234,8 +235,8 @@ module _ (packets : List (List ℕ)) (tell : Each TellsItsLength packets) (t i :
         one = refl;
       }
 
-  pub pointer_none : (sent : ℕ) → 0 < sent → sent < length own → sent + 884 ≤ length own →
-      drop (884 * t) (concat packets) ≡ drop sent own ++ concat (drop (suc i) packets) →
+  pub pointer_none : (sent : ℕ) → 0 < sent → sent < length own → sent + ZONE_BYTES ≤ length own →
+      drop (ZONE_BYTES * t) (concat packets) ≡ drop sent own ++ concat (drop (suc i) packets) →
       sent_pointer_at packets t ≡ 2047
   unfolding within
   pointer_none sent some part far rest =
@@ -243,8 +244,8 @@ module _ (packets : List (List ℕ)) (tell : Each TellsItsLength packets) (t i :
       no_start packets tell t (frame_with packets t) later (zone_long packets t room) (zone_stream packets t) refl
       (take i packets) (take sent own ∷ []) (within sent some part rest) (omega (arith, size))
 
-  next_by : (sent : ℕ) → 0 < sent → sent < length own → length own < sent + 884 →
-      drop (884 * t) (concat packets) ≡ drop sent own ++ concat (drop (suc i) packets) →
+  next_by : (sent : ℕ) → 0 < sent → sent < length own → length own < sent + ZONE_BYTES →
+      drop (ZONE_BYTES * t) (concat packets) ≡ drop sent own ++ concat (drop (suc i) packets) →
       (back : List (List ℕ)) → drop (suc i) packets ≡ back → sent_pointer_at packets t ≡ length own - sent
   unfolding within
   next_by sent some part near rest [] is =
@@ -254,7 +255,7 @@ module _ (packets : List (List ℕ)) (tell : Each TellsItsLength packets) (t i :
         length-append (drop sent own) (concat (drop (suc i) packets)),
         ap (λ ys. length (concat ys)) is,
         length-drop sent own,
-        length-drop (884 * t) (concat packets),
+        length-drop (ZONE_BYTES * t) (concat packets),
       ))
   next_by sent some part near rest (next ∷ more) is =
       let size : length (take sent own) ≡ sent = length-take-le sent own (omega arith) in
@@ -262,7 +263,7 @@ module _ (packets : List (List ℕ)) (tell : Each TellsItsLength packets) (t i :
       (take i packets) (take sent own ∷ []) (within sent some part rest) next more is (omega (arith, size))
       ∙ ap (λ n. length own - n) size
 
-  pub pointer_next : (sent : ℕ) → 0 < sent → sent < length own → length own < sent + 884 →
-      drop (884 * t) (concat packets) ≡ drop sent own ++ concat (drop (suc i) packets) →
+  pub pointer_next : (sent : ℕ) → 0 < sent → sent < length own → length own < sent + ZONE_BYTES →
+      drop (ZONE_BYTES * t) (concat packets) ≡ drop sent own ++ concat (drop (suc i) packets) →
       sent_pointer_at packets t ≡ length own - sent
   pointer_next sent some part near rest = next_by sent some part near rest (drop (suc i) packets) refl

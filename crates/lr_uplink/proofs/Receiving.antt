@@ -8,6 +8,7 @@ use Rattle.std.proofs.lemmas.List.Elements.{All-nil, recursion_from_All}
 use Rattle.lr_bits.specs.declared.outcome.Outcome.{Outcome}
 use Rattle.lr_bits.specs.declared.outcome.Outcome.TheVariants.{Restored, Lost}
 use Rattle.lr_bits.specs.File.{File}
+use Rattle.lr_bits.specs.declared.sizes.TheConstants.{CHANNELS, ZONE_BYTES}
 use Rattle.lr_file.specs.Files.{files_after, files_of_packets}
 use Rattle.lr_file.proofs.FileLaws.{files_after-append}
 use Rattle.lr_frame.specs.Outcomes.{outcomes_of_symbols}
@@ -42,7 +43,7 @@ Each-both : (P : List ℕ → Type 0) (xs ys : List (List ℕ)) → Each P xs �
 Each-both P [] ys _ k = k
 Each-both P (x ∷ xs) ys h k = (h.0, Each-both P xs ys h.1 k)
 
-frames_version : (vc counter : ℕ) (packets : List (List ℕ)) → vc < 64 → (a n : ℕ) →
+frames_version : (vc counter : ℕ) (packets : List (List ℕ)) → vc < CHANNELS → (a n : ℕ) →
     Each (λ frame. version_of frame ≡ 1) (map (sent_frame_at vc counter packets) (range_with_len a n))
 frames_version vc counter packets v a zero = tt
 frames_version vc counter packets v a (suc n) =
@@ -54,9 +55,9 @@ unfolding sent_frames_of
 sent_version before [] each = tt
 sent_version before (file ∷ files) each =
     let packets = file_packets (packets_before file.vc file.apid before) file in
-    let channel : file.vc < 64 = omega (arith, each.0.channel) in
+    let channel : file.vc < CHANNELS = omega (arith, each.0.channel) in
     Each-both (λ frame. version_of frame ≡ 1) (file_frames before file) (sent_after (before ++ file ∷ []) files)
-    (frames_version file.vc (frames_before file.vc before) packets channel 0 (length (concat packets) / 884))
+    (frames_version file.vc (frames_before file.vc before) packets channel 0 (length (concat packets) / ZONE_BYTES))
     (sent_version (before ++ file ∷ []) files each.1)
 
 -- the frames of the outcomes
@@ -111,7 +112,7 @@ unfolding sent files_of_packets files_of_outcomes good_of_outcomes
 files_are_received files outcomes all are =
     let each : Each IsSendable files = recursion_from_All IsSendable files all in
     let frames = frames_are (sent_after [] files) outcomes (sent_version [] files each) are in
-    let r = files_received [] files [] each (All-nil (λ f. length f.zone ≡ 884)) no_packets.1 in
+    let r = files_received [] files [] each (All-nil (λ f. length f.zone ≡ ZONE_BYTES)) no_packets.1 in
     let found : packets_of (frames_of_outcomes outcomes) ≡ packets_after [] files =
     ap packets_of frames ∙ r.found ∙ ap (λ ps. ps ++ packets_after [] files) no_packets.0 in
     let same : files_of_outcomes outcomes ≡ files =

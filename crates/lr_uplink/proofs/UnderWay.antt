@@ -11,6 +11,7 @@ use Rattle.std.proofs.lemmas.List.{length_push, take-append-le, drop_all}
 use Rattle.std.proofs.lemmas.List.FromFn.{length-map-range_with_len, get_or-map-range_with_len}
 use Rattle.std.proofs.lemmas.List.Sums.{sum_by_push}
 use Rattle.lr_bits.specs.File.{File}
+use Rattle.lr_bits.specs.declared.sizes.TheConstants.{CHANNELS, FRAME_COUNTS, SEQUENCE_COUNTS, ZONE_BYTES}
 use Rattle.lr_conv.specs.declared.line.LineCode.{LineCode}
 use Rattle.lr_file.specs.Standing.{kept_of_key}
 use Rattle.lr_file.proofs.KeyLemmas.{same_key}
@@ -58,7 +59,7 @@ abbrev pub packets_of_file : List File → File → List (List ℕ)
 packets_of_file before file = file_packets (packets_before file.vc file.apid before) file
 
 abbrev pub total_of : List File → File → ℕ
-total_of before file = length (concat (packets_of_file before file)) / 884
+total_of before file = length (concat (packets_of_file before file)) / ZONE_BYTES
 
 pub length-file_frames : (before : List File) (file : File) → length (file_frames before file) ≡ total_of before file
 unfolding sent_frames_of
@@ -75,7 +76,7 @@ get_or-file_frames before file t inside =
     (total_of before file) t t [] inside (omega arith)
 
 pub frame_count-is : (before : List File) (file : File) → frame_count file ≡ total_of before file
-frame_count-is before file = ap (λ n. n / 884) (file_length 0 (packets_before file.vc file.apid before) file)
+frame_count-is before file = ap (λ n. n / ZONE_BYTES) (file_length 0 (packets_before file.vc file.apid before) file)
 
 -- ---- numbers before
 
@@ -93,15 +94,15 @@ packets-more vc apid files file =
 
 -- counts take part modulo 2^14 alone
 count_part : (apid count : ℕ) (bodies : List (List ℕ)) (ks : List ℕ) →
-    map (body_packet apid (count % 16384) bodies) ks ≡ map (body_packet apid count bodies) ks
+    map (body_packet apid (count % SEQUENCE_COUNTS) bodies) ks ≡ map (body_packet apid count bodies) ks
 count_part apid count bodies [] = refl
 count_part apid count bodies (k ∷ ks) =
-    let same : (count % 16384 + k) % 16384 ≡ (count + k) % 16384 = omega arith in
+    let same : (count % SEQUENCE_COUNTS + k) % SEQUENCE_COUNTS ≡ (count + k) % SEQUENCE_COUNTS = omega arith in
     ap₂ (λ (x : List ℕ) (xs : List (List ℕ)). x ∷ xs)
     (ap (λ n. packet_for_body apid (flags_at (length bodies) k) n (get_or bodies k [])) same)
     (count_part apid count bodies ks)
 
-pub packets_modulo : (count : ℕ) (file : File) → file_packets (count % 16384) file ≡ file_packets count file
+pub packets_modulo : (count : ℕ) (file : File) → file_packets (count % SEQUENCE_COUNTS) file ≡ file_packets count file
 unfolding body_packets
 packets_modulo count file =
     ap filled (count_part file.apid count file.bodies (range_with_len 0 (length file.bodies)))
@@ -115,7 +116,8 @@ some_bytes count file some =
       arith,
       split_length 0 packets there.0,
       ap length there.1,
-      length-packet file.apid (flags_at (length file.bodies) 0) ((count + 0) % 16384) (get_or file.bodies 0 []),
+      length-packet file.apid (flags_at (length file.bodies) 0) ((count + 0) % SEQUENCE_COUNTS)
+          (get_or file.bodies 0 []),
     )
 
 -- ---- counts
@@ -153,11 +155,11 @@ counts_more old new files file count stands sets is = record {
 
 pub loaded : (counters : List ℕ) (files : List File) (given : ℕ) (file : File) (sending : Sending) (count : ℕ) →
     IsAtRest counters files given → count ≡ packets_before file.vc file.apid files % 65536 →
-    IsSending sending file (count % 16384) (concat (file_packets (count % 16384) file)) →
+    IsSending sending file (count % SEQUENCE_COUNTS) (concat (file_packets (count % SEQUENCE_COUNTS) file)) →
     IsUnderWay counters sending (files ++ file ∷ []) given
 loaded counters files given file sending count rest is s =
     let before = packets_before file.vc file.apid files in
-    let same : count % 16384 ≡ before % 16384 = omega (arith, is) in
+    let same : count % SEQUENCE_COUNTS ≡ before % SEQUENCE_COUNTS = omega (arith, is) in
     record {
       before = files;
       file = file;
@@ -165,12 +167,12 @@ loaded counters files given file sending count rest is s =
       loaded = refl;
       count = omega (arith, rest.count);
       some = omega (arith, some_bytes before file s.part.is.some);
-      left = subst (λ n. IsSending sending file (before % 16384) (concat n)) (packets_modulo before file)
+      left = subst (λ n. IsSending sending file (before % SEQUENCE_COUNTS) (concat n)) (packets_modulo before file)
           (subst (λ n. IsSending sending file n (concat (file_packets n file))) same s);
       counted = λ c below.
           let none : cond (eqb file.vc c) 0 0 ≡ 0 =
           elim (eqb file.vc c) as (λ b. ◌≡◌ {A = ℕ} (cond b 0 0) 0) [ true ↦ refl | false ↦ refl ] in
-          rest.counted c below ∙ ap (λ n. n % 4294967296) (omega (arith, none));
+          rest.counted c below ∙ ap (λ n. n % 2 ^ 32) (omega (arith, none));
     }
 
 -- ---- a file that is being sent
@@ -192,7 +194,7 @@ module _ (counters : List ℕ) (sending : Sending) (files : List File) (given : 
   abbrev total : ℕ
   total = total_of before file
 
-  whole : length (concat packets) ≡ 884 * total
+  whole : length (concat packets) ≡ ZONE_BYTES * total
   whole = file_fills first_count file
 
   inside : way.frames < total
@@ -210,29 +212,29 @@ module _ (counters : List ℕ) (sending : Sending) (files : List File) (given : 
   pub is_left : given < length (sent files)
   is_left = omega (arith, sent_long, inside, way.count)
 
-  pub room : 884 * way.frames + 884 ≤ length (concat (file_packets (first_count % 16384) file))
+  pub room : ZONE_BYTES * way.frames + ZONE_BYTES ≤ length (concat (file_packets (first_count % SEQUENCE_COUNTS) file))
   room = omega (arith, whole, inside, ap (λ ps. length (concat ps)) (packets_modulo first_count file))
 
-  pub left_is : IsSending sending file (first_count % 16384)
-      (drop (884 * way.frames) (concat (file_packets (first_count % 16384) file)))
+  pub left_is : IsSending sending file (first_count % SEQUENCE_COUNTS)
+      (drop (ZONE_BYTES * way.frames) (concat (file_packets (first_count % SEQUENCE_COUNTS) file)))
   left_is =
-      subst (λ ps. IsSending sending file (first_count % 16384) (drop (884 * way.frames) (concat ps)))
+      subst (λ ps. IsSending sending file (first_count % SEQUENCE_COUNTS) (drop (ZONE_BYTES * way.frames) (concat ps)))
       (sym (packets_modulo first_count file)) way.left
 
   -- the counter of its channel
-  own_counter : get_or counters file.vc 0 ≡ (frames_before file.vc before + way.frames) % 4294967296
+  own_counter : get_or counters file.vc 0 ≡ (frames_before file.vc before + way.frames) % 2 ^ 32
   own_counter =
       way.counted file.vc way.left.part.is.channel
-      ∙ ap (λ b. (frames_before file.vc before + cond b way.frames 0) % 4294967296) (eq-eqb file.vc file.vc refl)
+      ∙ ap (λ b. (frames_before file.vc before + cond b way.frames 0) % 2 ^ 32) (eq-eqb file.vc file.vc refl)
 
   -- the next frame
   pub frame_is : (frame : List ℕ) (counter : ℕ) → counter ≡ get_or counters file.vc 0 →
-      frame ≡ frame_for_zone file.vc (counter % 16777216)
-      (sent_pointer_at (file_packets (first_count % 16384) file) way.frames)
-      (sent_zone_at (file_packets (first_count % 16384) file) way.frames) →
+      frame ≡ frame_for_zone file.vc (counter % FRAME_COUNTS)
+      (sent_pointer_at (file_packets (first_count % SEQUENCE_COUNTS) file) way.frames)
+      (sent_zone_at (file_packets (first_count % SEQUENCE_COUNTS) file) way.frames) →
       frame ≡ get_or (sent files) given []
   frame_is frame counter is written =
-      let number : counter % 16777216 ≡ (frames_before file.vc before + way.frames) % 16777216 =
+      let number : counter % FRAME_COUNTS ≡ (frames_before file.vc before + way.frames) % FRAME_COUNTS =
       omega (arith, is, own_counter) in
       written ∙ ap₂ (λ n ps. frame_for_zone file.vc n (sent_pointer_at ps way.frames) (sent_zone_at ps way.frames))
       number
@@ -242,13 +244,13 @@ module _ (counters : List ℕ) (sending : Sending) (files : List File) (given : 
       ∙ ap₂ (λ (fs : List (List ℕ)) n. get_or fs n []) (sym sent_is) (sym way.count)
 
   -- the counters after it
-  module _ (wide : length counters ≡ 64) (counter : ℕ) (is : counter ≡ (get_or counters file.vc 0 + 1) %
-      4294967296) where
+  module _ (wide : length counters ≡ CHANNELS) (counter : ℕ) (is : counter ≡ (get_or counters file.vc 0 + 1) %
+      2 ^ 32) where
     abbrev later : List ℕ
     later = set counters file.vc counter
 
-    later_counted : (c : ℕ) → c < 64 → get_or later c 0
-        ≡ (frames_before c before + cond (eqb file.vc c) (way.frames + 1) 0) % 4294967296
+    later_counted : (c : ℕ) → c < CHANNELS → get_or later c 0
+        ≡ (frames_before c before + cond (eqb file.vc c) (way.frames + 1) 0) % 2 ^ 32
     later_counted c below = elim (cases_eq c file.vc) [
       | inl own ↦
           let more : cond (eqb file.vc c) (way.frames + 1) 0 ≡ way.frames + 1 =
@@ -259,19 +261,21 @@ module _ (counters : List ℕ) (sending : Sending) (files : List File) (given : 
       | inr other ↦
           let apart : eqb file.vc c ≡ false = ne_eqb file.vc c (λ e. other (sym e)) in
           get_or-set_other counters file.vc c counter 0 other ∙ way.counted c below
-          ∙ ap (λ b. (frames_before c before + cond b way.frames 0) % 4294967296) apart
-          ∙ ap (λ b. (frames_before c before + cond b (way.frames + 1) 0) % 4294967296) (sym apart)
+          ∙ ap (λ b. (frames_before c before + cond b way.frames 0) % 2 ^ 32) apart
+          ∙ ap (λ b. (frames_before c before + cond b (way.frames + 1) 0) % 2 ^ 32) (sym apart)
     ]
 
     -- the file goes on, or is done
-    module _ (next : Sending) (rest : IsSending next file (first_count % 16384)
-        (drop 884 (drop (884 * way.frames) (concat (file_packets (first_count % 16384) file))))) where
+    module _ (next : Sending) (rest : IsSending next file (first_count % SEQUENCE_COUNTS)
+        (drop ZONE_BYTES (drop (ZONE_BYTES * way.frames)
+        (concat (file_packets (first_count % SEQUENCE_COUNTS) file))))) where
       abbrev behind : List ℕ
-      behind = drop 884 (drop (884 * way.frames) (concat (file_packets (first_count % 16384) file)))
+      behind = drop ZONE_BYTES
+          (drop (ZONE_BYTES * way.frames) (concat (file_packets (first_count % SEQUENCE_COUNTS) file)))
 
-      behind_is : behind ≡ drop (884 * (way.frames + 1)) (concat packets)
+      behind_is : behind ≡ drop (ZONE_BYTES * (way.frames + 1)) (concat packets)
       behind_is =
-          drop-drop 884 (884 * way.frames) (concat (file_packets (first_count % 16384) file))
+          drop-drop ZONE_BYTES (ZONE_BYTES * way.frames) (concat (file_packets (first_count % SEQUENCE_COUNTS) file))
           ∙ ap₂ (λ k ps. drop k (concat ps)) (omega arith) (packets_modulo first_count file)
 
       pub goes_on : (behind ≡ [] → ⊥) → IsUnderWay later next files (given + 1)
@@ -283,14 +287,14 @@ module _ (counters : List ℕ) (sending : Sending) (files : List File) (given : 
             loaded = way.loaded;
             count = omega (arith, way.count);
             some = more some;
-            left = subst (IsSending next file (first_count % 16384)) behind_is rest;
+            left = subst (IsSending next file (first_count % SEQUENCE_COUNTS)) behind_is rest;
             counted = later_counted;
           }
         where
-          more : (behind ≡ [] → ⊥) → 884 * (way.frames + 1) < length (concat packets)
-          more some = elim (cases_lt (884 * (way.frames + 1)) (length (concat packets))) [
+          more : (behind ≡ [] → ⊥) → ZONE_BYTES * (way.frames + 1) < length (concat packets)
+          more some = elim (cases_lt (ZONE_BYTES * (way.frames + 1)) (length (concat packets))) [
             | inl less ↦ less
-            | inr past ↦ absurd (some (behind_is ∙ drop_all (884 * (way.frames + 1)) (concat packets) past))
+            | inr past ↦ absurd (some (behind_is ∙ drop_all (ZONE_BYTES * (way.frames + 1)) (concat packets) past))
           ]
 
       pub is_done : behind ≡ [] → IsAtRest later files (given + 1)
@@ -299,7 +303,7 @@ module _ (counters : List ℕ) (sending : Sending) (files : List File) (given : 
           omega (
             arith,
             ap length (sym behind_is ∙ none),
-            length-drop (884 * (way.frames + 1)) (concat packets),
+            length-drop (ZONE_BYTES * (way.frames + 1)) (concat packets),
             whole,
             inside,
           ) in
@@ -310,7 +314,7 @@ module _ (counters : List ℕ) (sending : Sending) (files : List File) (given : 
                 ap (frames_before c) way.loaded ∙ frames-more c before file
                 ∙ ap (λ n. frames_before c before + cond (eqb file.vc c) n 0)
                 (frame_count-is before file ∙ sym last) in
-                later_counted c below ∙ ap (λ n. n % 4294967296) (sym all);
+                later_counted c below ∙ ap (λ n. n % 2 ^ 32) (sym all);
           }
 
 -- ---- what was given and what is left

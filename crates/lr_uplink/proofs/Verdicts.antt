@@ -1,6 +1,6 @@
 -- What a receiver makes of the packets of a file: each packet of a body is good, and idle packets are none.
 use Rattle.std.proofs.Common.{◌≡◌, ℕ, ◌+◌, ◌-◌, ◌*◌, ◌/◌, ◌%◌, ◌<◌, ◌≤◌, ◌++◌, not, cond, List, length, take, drop}
-use Rattle.std.proofs.Common.{get_or, refl, sym, ap, ◌∙◌, arith, length-append, eq-eqb, ne_eqb, le-ltb, eqb, ltb}
+use Rattle.std.proofs.Common.{get_or, refl, sym, ap, ◌∙◌, arith, length-append, eq-eqb, ne_eqb, le-ltb, eqb, ltb, ◌^◌}
 use Rattle.std.proofs.Common.{true, false}
 use Rattle.std.specs.Prelude.{All, Result, Ok, Err}
 use Rattle.std.specs.Int.{bytes_high_first}
@@ -8,6 +8,9 @@ use Rattle.std.proofs.lemmas.List.{length-replicate, take_at, drop_at}
 use Rattle.byteorder.specs.Endian.{big_number}
 use Rattle.lr_bits.specs.Bits.{field_of}
 use Rattle.lr_bits.specs.Crc.{crc_of}
+use Rattle.lr_bits.specs.declared.sizes.TheConstants.{IDLE_APPLICATION, SEQUENCE_COUNTS}
+use Rattle.lr_bits.specs.declared.sizes.TheConstants.{FRAME_COUNTS}
+use Rattle.lr_bits.specs.Sizes.{most_body_bytes}
 use Rattle.lr_bits.proofs.BitsLemmas.{field_of-none, field_of-more}
 use Rattle.lr_bits.proofs.CrcLemmas.{crc_is_the_remainder}
 use Rattle.lr_packet.specs.declared.packet.PacketFault.{PacketFault}
@@ -79,8 +82,8 @@ crc_small bytes fit = ((crc_is_the_remainder bytes fit (crc_of bytes)).1 refl).s
 two_bytes : (n : ℕ) → n < 65536 → big_number 2 (bytes_high_first 2 n) ≡ n
 two_bytes n h = omega arith
 
-module _ (apid flags count : ℕ) (body : List ℕ) (application : apid < 2047) (some_flags : flags < 4)
-    (small : count < 16384) (short : length body < 65535) (fit : All (λ byte. byte < 256) body)
+module _ (apid flags count : ℕ) (body : List ℕ) (application : apid < IDLE_APPLICATION) (some_flags : flags < 4)
+    (small : count < SEQUENCE_COUNTS) (short : length body ≤ most_body_bytes) (fit : All (λ byte. byte < 256) body)
   where
     abbrev packet : List ℕ
     packet = packet_for_body apid flags count body
@@ -95,11 +98,11 @@ module _ (apid flags count : ℕ) (body : List ℕ) (application : apid < 2047) 
     unfolding packet_for_body head_with
     byte_0 = refl
 
-    byte_1 : get_or packet 1 0 ≡ number / 4294967296 % 256
+    byte_1 : get_or packet 1 0 ≡ number / 2 ^ 32 % 256
     unfolding packet_for_body head_with
     byte_1 = refl
 
-    byte_2 : get_or packet 2 0 ≡ number / 16777216 % 256
+    byte_2 : get_or packet 2 0 ≡ number / FRAME_COUNTS % 256
     unfolding packet_for_body head_with
     byte_2 = refl
 
@@ -188,7 +191,7 @@ module _ (size : ℕ) (least : 7 ≤ size) (most : size < 65543) where
   unfolding idle_packet head_with
   idle_0 = refl
 
-  idle_1 : get_or filler 1 0 ≡ filler_number / 4294967296 % 256
+  idle_1 : get_or filler 1 0 ≡ filler_number / 2 ^ 32 % 256
   unfolding idle_packet head_with
   idle_1 = refl
 

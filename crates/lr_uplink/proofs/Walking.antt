@@ -6,6 +6,7 @@ use Rattle.std.specs.List.{AllByRecursion as Each, concat}
 use Rattle.std.proofs.lemmas.Bool.{cases_lt}
 use Rattle.std.proofs.lemmas.List.{drop-append-le, take-append-le, take_at}
 use Rattle.lr_bits.specs.Packet.{Packet}
+use Rattle.lr_bits.specs.declared.sizes.TheConstants.{ZONE_BYTES}
 use Rattle.lr_vc.specs.Packets.{packet_end, is_whole, packet_at}
 use Rattle.lr_vc.specs.Steps.{packets_inside, starts_unfinished}
 use Rattle.lr_vc.proofs.Inside.{packets_inside-whole, packets_inside-rest, starts_unfinished-whole}
@@ -53,8 +54,8 @@ pub record Goes (zone : List ℕ) (q place : ℕ) (back : List (List ℕ)) : Typ
   pub packet : List ℕ
   pub more : List (List ℕ)
   pub split : back ≡ packet ∷ more
-  pub start : place < 884
-  pub long : 884 < place + length packet
+  pub start : place < ZONE_BYTES
+  pub long : ZONE_BYTES < place + length packet
   pub unfinished : starts_unfinished zone q ≡ place ∷ []
 
 -- the packets inside a zone from a place on, and what goes on after it
@@ -66,10 +67,10 @@ pub record Walk (channel : ℕ) (zone later : List ℕ) (q : ℕ) (packets : Lis
   pub place : ℕ
   pub place_is : place ≡ q + length (concat ended)
   pub rest : drop place zone ++ later ≡ concat back
-  pub cases : ((place ≡ 884) × (starts_unfinished zone q ≡ [])) ⊎ Goes zone q place back
+  pub cases : ((place ≡ ZONE_BYTES) × (starts_unfinished zone q ≡ [])) ⊎ Goes zone q place back
 
-module _ (channel : ℕ) (zone : List ℕ) (long : length zone ≡ 884) (later : List ℕ) where
-  at_end : (q : ℕ) (packets : List (List ℕ)) → q ≡ 884 → drop q zone ++ later ≡ concat packets →
+module _ (channel : ℕ) (zone : List ℕ) (long : length zone ≡ ZONE_BYTES) (later : List ℕ) where
+  at_end : (q : ℕ) (packets : List (List ℕ)) → q ≡ ZONE_BYTES → drop q zone ++ later ≡ concat packets →
       Walk channel zone later q packets
   at_end q packets e rest =
       let none : is_whole zone q ≡ false = is_whole_no_header zone q (omega arith) in
@@ -84,15 +85,15 @@ module _ (channel : ℕ) (zone : List ℕ) (long : length zone ≡ 884) (later :
         cases = inl (
           e,
           starts_unfinished-rest zone long q none ∙ ap (λ b. cond b (q ∷ []) [])
-              (le-ltb q 884 (omega arith)),
+              (le-ltb q ZONE_BYTES (omega arith)),
         );
       }
 
-  goes : (q : ℕ) (packet : List ℕ) (packets : List (List ℕ)) → q < 884 → 884 < q + length packet →
+  goes : (q : ℕ) (packet : List ℕ) (packets : List (List ℕ)) → q < ZONE_BYTES → ZONE_BYTES < q + length packet →
       TellsItsLength packet → drop q zone ++ later ≡ packet ++ concat packets →
       Walk channel zone later q (packet ∷ packets)
   goes q packet packets inside beyond tells rest =
-      let none : is_whole zone q ≡ false = elim (cases_lt 884 (q + 6)) [
+      let none : is_whole zone q ≡ false = elim (cases_lt ZONE_BYTES (q + 6)) [
         | inl short ↦ is_whole_no_header zone q (omega arith)
         | inr there ↦ is_whole_too_long zone q
             (omega (arith, packet_ends zone later packet (concat packets) q (omega arith) rest tells))
@@ -111,12 +112,14 @@ module _ (channel : ℕ) (zone : List ℕ) (long : length zone ≡ 884) (later :
           split = refl;
           start = inside;
           long = beyond;
-          unfinished = starts_unfinished-rest zone long q none ∙ ap (λ b. cond b (q ∷ []) []) (lt-ltb q 884 inside);
+          unfinished = starts_unfinished-rest zone long q none
+              ∙ ap (λ b. cond b (q ∷ []) []) (lt-ltb q ZONE_BYTES inside);
         });
       }
 
   -- one packet more that lies in the zone
-  one_more : (q : ℕ) (packet : List ℕ) (packets : List (List ℕ)) → q + length packet ≤ 884 → TellsItsLength packet →
+  one_more : (q : ℕ) (packet : List ℕ) (packets : List (List ℕ)) → q + length packet ≤ ZONE_BYTES
+      → TellsItsLength packet →
       drop q zone ++ later ≡ packet ++ concat packets → Walk channel zone later (q + length packet) packets →
       Walk channel zone later q (packet ∷ packets)
   one_more q packet packets fits tells rest w =
@@ -149,14 +152,14 @@ module _ (channel : ℕ) (zone : List ℕ) (long : length zone ≡ 884) (later :
         ];
       }
 
-  pub walk : (q : ℕ) (packets : List (List ℕ)) → Each TellsItsLength packets → q ≤ 884 →
+  pub walk : (q : ℕ) (packets : List (List ℕ)) → Each TellsItsLength packets → q ≤ ZONE_BYTES →
       drop q zone ++ later ≡ concat packets → Walk channel zone later q packets
   walk q [] tell inside rest =
       let none : length (drop q zone ++ later) ≡ 0 = ap length rest in
       at_end q [] (omega (arith, none, length-append (drop q zone) later, length-drop q zone)) rest
   walk q (packet ∷ packets) tell inside rest =
-      elim (cases_lt q 884) [
-        | inl low ↦ elim (cases_lt 884 (q + length packet)) [
+      elim (cases_lt q ZONE_BYTES) [
+        | inl low ↦ elim (cases_lt ZONE_BYTES (q + length packet)) [
           | inl beyond ↦ goes q packet packets low beyond tell.0 rest
           | inr fits ↦
               let size : length packet ≤ length (drop q zone) = omega (arith, length-drop q zone) in

@@ -11,6 +11,7 @@ use Rattle.std.specs.List.{AllByRecursion as Each, concat}
 use Rattle.std.proofs.lemmas.Bool.{cases_lt, lt-leb, and_left, and_right, and_from}
 use Rattle.std.proofs.lemmas.List.{drop-append-le, take-append-le, take_at, take-append-drop}
 use Rattle.lr_bits.specs.Packet.{Packet}
+use Rattle.lr_bits.specs.declared.sizes.TheConstants.{NO_PACKET_START, ZONE_BYTES}
 use Rattle.lr_vc.specs.Frame.{Fields}
 use Rattle.lr_vc.specs.Packets.{packet_end, packet_at}
 use Rattle.lr_vc.specs.Steps.{packets_with, open_after, packets_inside, starts_unfinished, completed_packet}
@@ -26,21 +27,23 @@ use Rattle.lr_uplink.proofs.Walking.{on, packet_ends, packet_there, walk}
 
 -- ---- pointers
 
-before_zone : (t place : ℕ) → place < 884 * t → is_in_zone t place ≡ false
-before_zone t place h = and_left (leb (884 * t) place) (ltb place (884 * t + 884)) (lt-leb (884 * t) place h)
+before_zone : (t place : ℕ) → place < ZONE_BYTES * t → is_in_zone t place ≡ false
+before_zone t place h = and_left (leb (ZONE_BYTES * t) place) (ltb place (ZONE_BYTES * t + ZONE_BYTES))
+    (lt-leb (ZONE_BYTES * t) place h)
 
-after_zone : (t place : ℕ) → 884 * t + 884 ≤ place → is_in_zone t place ≡ false
+after_zone : (t place : ℕ) → ZONE_BYTES * t + ZONE_BYTES ≤ place → is_in_zone t place ≡ false
 after_zone t place h =
-    and_right (leb (884 * t) place) (ltb place (884 * t + 884)) (le-ltb place (884 * t + 884) h)
+    and_right (leb (ZONE_BYTES * t) place) (ltb place (ZONE_BYTES * t + ZONE_BYTES))
+    (le-ltb place (ZONE_BYTES * t + ZONE_BYTES) h)
 
-in_zone : (t place : ℕ) → 884 * t ≤ place → place < 884 * t + 884 → is_in_zone t place ≡ true
+in_zone : (t place : ℕ) → ZONE_BYTES * t ≤ place → place < ZONE_BYTES * t + ZONE_BYTES → is_in_zone t place ≡ true
 in_zone t place l h =
-    and_from (leb (884 * t) place) (ltb place (884 * t + 884)) (le-leb (884 * t) place l)
-    (lt-ltb place (884 * t + 884) h)
+    and_from (leb (ZONE_BYTES * t) place) (ltb place (ZONE_BYTES * t + ZONE_BYTES)) (le-leb (ZONE_BYTES * t) place l)
+    (lt-ltb place (ZONE_BYTES * t + ZONE_BYTES) h)
 
 -- what begins before a zone
 early : (t place : ℕ) (done back : List (List ℕ)) → Each TellsItsLength done →
-    place + length (concat done) ≤ 884 * t →
+    place + length (concat done) ≤ ZONE_BYTES * t →
     find (is_in_zone t) (packet_starts_from place (done ++ back))
     ≡ find (is_in_zone t) (packet_starts_from (place + length (concat done)) back)
 early t place [] back tell h = ap (λ n. find (is_in_zone t) (packet_starts_from n back)) (omega arith)
@@ -55,7 +58,7 @@ early t place (packet ∷ done) back tell h =
     ∙ ap (λ n. find (is_in_zone t) (packet_starts_from n back)) next
 
 -- what begins after a zone
-late : (t place : ℕ) (packets : List (List ℕ)) → 884 * t + 884 ≤ place →
+late : (t place : ℕ) (packets : List (List ℕ)) → ZONE_BYTES * t + ZONE_BYTES ≤ place →
     find (is_in_zone t) (packet_starts_from place packets) ≡ None
 late t place [] h = refl
 late t place (packet ∷ packets) h =
@@ -107,9 +110,10 @@ pub concat-both : (xs ys : List (List ℕ)) → length (concat (xs ++ ys)) ≡ l
 concat-both xs ys = ap length (concat-append xs ys) ∙ length-append (concat xs) (concat ys)
 
 module _ (packets : List (List ℕ)) (tell : Each TellsItsLength packets) where
-  begun : (channel t q : ℕ) (done back : List (List ℕ)) (zone later : List ℕ) → length zone ≡ 884 → q ≤ 884 →
-      packets ≡ done ++ back → length (concat done) ≡ 884 * t + q → drop q zone ++ later ≡ concat back →
-      Begun channel packets done zone q (884 * t + 884)
+  begun : (channel t q : ℕ) (done back : List (List ℕ)) (zone later : List ℕ) → length zone ≡ ZONE_BYTES
+      → q ≤ ZONE_BYTES →
+      packets ≡ done ++ back → length (concat done) ≡ ZONE_BYTES * t + q → drop q zone ++ later ≡ concat back →
+      Begun channel packets done zone q (ZONE_BYTES * t + ZONE_BYTES)
   begun channel t q done back zone later long inside split size rest =
       let tells : Each TellsItsLength back =
       Each_right TellsItsLength done back (subst (Each TellsItsLength) split tell) in
@@ -132,7 +136,7 @@ module _ (packets : List (List ℕ)) (tell : Each TellsItsLength packets) where
         }
         | inr g ↦
             let bytes = drop w.place zone in
-            let count : length bytes ≡ 884 - w.place = omega (arith, length-drop w.place zone) in
+            let count : length bytes ≡ ZONE_BYTES - w.place = omega (arith, length-drop w.place zone) in
             let short : length bytes ≤ length g.packet = omega (arith, count, g.long) in
             let same : bytes ++ later ≡ g.packet ++ concat g.more = w.rest ∙ ap concat g.split in
             record {
@@ -155,20 +159,20 @@ module _ (packets : List (List ℕ)) (tell : Each TellsItsLength packets) where
             }
       ]
 
-  module _ (t : ℕ) (frame : Fields) (later : List ℕ) (long : length frame.zone ≡ 884)
-      (stream : frame.zone ++ later ≡ drop (884 * t) (concat packets)) (pointer : frame.pointer ≡ sent_pointer_at
+  module _ (t : ℕ) (frame : Fields) (later : List ℕ) (long : length frame.zone ≡ ZONE_BYTES)
+      (stream : frame.zone ++ later ≡ drop (ZONE_BYTES * t) (concat packets)) (pointer : frame.pointer ≡ sent_pointer_at
       packets t) where
     -- the stream after the packets that are done
-    behind : (done back : List (List ℕ)) → packets ≡ done ++ back → length (concat done) ≡ 884 * t →
+    behind : (done back : List (List ℕ)) → packets ≡ done ++ back → length (concat done) ≡ ZONE_BYTES * t →
         frame.zone ++ later ≡ concat back
     behind done back split size =
-        stream ∙ ap (drop (884 * t)) (ap concat split ∙ concat-append done back)
-        ∙ drop_at (concat done) (concat back) (884 * t) size
+        stream ∙ ap (drop (ZONE_BYTES * t)) (ap concat split ∙ concat-append done back)
+        ∙ drop_at (concat done) (concat back) (ZONE_BYTES * t) size
 
     -- where it begins with a packet
     pub first_pointer : (done : List (List ℕ)) (packet : List ℕ) (back : List (List ℕ)) → packets ≡ done ++ packet
         ∷ back →
-        length (concat done) ≡ 884 * t → frame.pointer ≡ 0
+        length (concat done) ≡ ZONE_BYTES * t → frame.pointer ≡ 0
     unfolding sent_pointer_at
     first_pointer done packet back split size =
         let tells : Each TellsItsLength (done ++ packet ∷ back) = subst (Each TellsItsLength) split tell in
@@ -178,16 +182,17 @@ module _ (packets : List (List ℕ)) (tell : Each TellsItsLength packets) where
         ∙ early t 0 done (packet ∷ back) (Each_left TellsItsLength done (packet ∷ back) tells) (omega arith)
         ∙ ap (λ b. cond b (Some place) (find (is_in_zone t) (packet_starts_from (place + length packet) back)))
         (in_zone t place (omega arith) (omega arith)) in
-        pointer ∙ ap (λ o. unwrap_or (option_map (λ start. start - 884 * t) o) 2047) found ∙ omega arith
+        pointer ∙ ap (λ o. unwrap_or (option_map (λ start. start - ZONE_BYTES * t) o) NO_PACKET_START) found
+        ∙ omega arith
 
     -- a stage between two packets
-    between_step : (done back met : List (List ℕ)) → packets ≡ done ++ back → length (concat done) ≡ 884 * t →
-        met ≡ [] → Step packets done met frame (884 * t + 884)
+    between_step : (done back met : List (List ℕ)) → packets ≡ done ++ back → length (concat done) ≡ ZONE_BYTES * t →
+        met ≡ [] → Step packets done met frame (ZONE_BYTES * t + ZONE_BYTES)
     between_step done [] met split size none =
         absurd (omega (arith, ap length (behind done [] split size), length-append frame.zone later, long))
     between_step done (packet ∷ back) met split size none =
         let first = first_pointer done packet back split size in
-        let small : frame.pointer < 884 = omega arith in
+        let small : frame.pointer < ZONE_BYTES = omega arith in
         let b = begun frame.vc t 0 done (packet ∷ back) frame.zone later long (omega arith) split (omega arith)
         (behind done (packet ∷ back) split size) in
         record {
@@ -203,7 +208,7 @@ module _ (packets : List (List ℕ)) (tell : Each TellsItsLength packets) where
         }
 
     -- a stage within a packet
-    module _ (done met : List (List ℕ)) (w : Within packets done met (884 * t)) where
+    module _ (done met : List (List ℕ)) (w : Within packets done met (ZONE_BYTES * t)) where
       tells : Each TellsItsLength (done ++ w.packet ∷ w.back)
       tells = subst (Each TellsItsLength) w.split tell
 
@@ -213,7 +218,7 @@ module _ (packets : List (List ℕ)) (tell : Each TellsItsLength packets) where
       joined : (w.bytes ++ frame.zone) ++ later ≡ w.packet ++ concat w.back
       joined =
           let n = length w.bytes in
-          let place : length (concat done) + n ≡ 884 * t = w.size in
+          let place : length (concat done) + n ≡ ZONE_BYTES * t = w.size in
           let all : concat packets ≡ concat done ++ (w.packet ++ concat w.back) =
           ap concat w.split ∙ concat-append done (w.packet ∷ w.back) in
           let rest : frame.zone ++ later ≡ drop n w.packet ++ concat w.back =
@@ -226,7 +231,7 @@ module _ (packets : List (List ℕ)) (tell : Each TellsItsLength packets) where
           ∙ sym (append_assoc (take n w.packet) (drop n w.packet) (concat w.back))
           ∙ ap (λ xs. xs ++ concat w.back) (take-append-drop n w.packet)
 
-      both : length (w.bytes ++ frame.zone) ≡ length w.bytes + 884
+      both : length (w.bytes ++ frame.zone) ≡ length w.bytes + ZONE_BYTES
       both = omega (arith, length-append w.bytes frame.zone, long)
 
       end : packet_end (w.bytes ++ frame.zone) 0 ≡ length w.packet
@@ -248,14 +253,14 @@ module _ (packets : List (List ℕ)) (tell : Each TellsItsLength packets) where
           (before_zone t place (omega (arith, w.size, w.some)))
           ∙ ap (λ n. find (is_in_zone t) (packet_starts_from n w.back)) (omega arith)
 
-      pub no_start : length w.bytes + 884 ≤ length w.packet → frame.pointer ≡ 2047
+      pub no_start : length w.bytes + ZONE_BYTES ≤ length w.packet → frame.pointer ≡ NO_PACKET_START
       unfolding sent_pointer_at
       no_start h =
-          pointer ∙ ap (λ o. unwrap_or (option_map (λ start. start - 884 * t) o) 2047)
+          pointer ∙ ap (λ o. unwrap_or (option_map (λ start. start - ZONE_BYTES * t) o) NO_PACKET_START)
           (found ∙ late t (length (concat done) + length w.packet) w.back (omega (arith, w.size)))
 
       pub next_start : (next : List ℕ) (more : List (List ℕ)) → w.back ≡ next ∷ more →
-          length w.packet < length w.bytes + 884 → frame.pointer ≡ length w.packet - length w.bytes
+          length w.packet < length w.bytes + ZONE_BYTES → frame.pointer ≡ length w.packet - length w.bytes
       unfolding sent_pointer_at
       next_start next more is h =
           let place = length (concat done) + length w.packet in
@@ -263,14 +268,16 @@ module _ (packets : List (List ℕ)) (tell : Each TellsItsLength packets) where
           found ∙ ap (λ ps. find (is_in_zone t) (packet_starts_from place ps)) is
           ∙ ap (λ b. cond b (Some place) (find (is_in_zone t) (packet_starts_from (place + length next) more)))
           (in_zone t place (omega (arith, w.size, w.part)) (omega (arith, w.size))) in
-          pointer ∙ ap (λ o. unwrap_or (option_map (λ start. start - 884 * t) o) 2047) some ∙ omega (arith, w.size)
+          pointer ∙ ap (λ o. unwrap_or (option_map (λ start. start - ZONE_BYTES * t) o) NO_PACKET_START) some
+          ∙ omega (arith, w.size)
 
-      goes_on : length w.bytes + 884 < length w.packet → Step packets done met frame (884 * t + 884)
+      goes_on : length w.bytes + ZONE_BYTES < length w.packet
+          → Step packets done met frame (ZONE_BYTES * t + ZONE_BYTES)
       goes_on h =
           let none = no_start (omega arith) in
-          let far : 884 ≤ frame.pointer = omega arith in
+          let far : ZONE_BYTES ≤ frame.pointer = omega arith in
           let n = length (w.bytes ++ frame.zone) in
-          let beyond : length w.bytes + 884 < packet_end (w.bytes ++ frame.zone) 0 = omega (arith, end) in
+          let beyond : length w.bytes + ZONE_BYTES < packet_end (w.bytes ++ frame.zone) 0 = omega (arith, end) in
           record {
             ended = [];
             open_packets = (w.bytes ++ frame.zone) ∷ [];
@@ -297,7 +304,7 @@ module _ (packets : List (List ℕ)) (tell : Each TellsItsLength packets) where
           }
 
       -- the packet, once it is all there
-      is_packet : length w.packet ≤ length w.bytes + 884 →
+      is_packet : length w.packet ≤ length w.bytes + ZONE_BYTES →
           packet_at frame.vc (w.bytes ++ frame.zone) 0 ≡ on frame.vc w.packet
       is_packet h =
           packet_there frame.vc (w.bytes ++ frame.zone) later w.packet (concat w.back) 0 (omega (arith, both)) joined
@@ -309,17 +316,17 @@ module _ (packets : List (List ℕ)) (tell : Each TellsItsLength packets) where
       done_size : length (concat (done ++ w.packet ∷ [])) ≡ length (concat done) + length w.packet
       done_size = omega (arith, concat-both done (w.packet ∷ []), ap length (append-nil w.packet))
 
-      ends : length w.bytes + 884 ≡ length w.packet → Step packets done met frame (884 * t + 884)
+      ends : length w.bytes + ZONE_BYTES ≡ length w.packet → Step packets done met frame (ZONE_BYTES * t + ZONE_BYTES)
       ends h =
           let none = no_start (omega arith) in
-          let far : 884 ≤ frame.pointer = omega arith in
+          let far : ZONE_BYTES ≤ frame.pointer = omega arith in
           let at = packet_end (w.bytes ++ frame.zone) 0 in
-          let passes : true ≡ cond (eqb at (length w.bytes + 884)) (eqb frame.pointer 2047)
-          (ltb frame.pointer 884 && eqb at (length w.bytes + frame.pointer)) =
-          sym (ap (λ b. cond b (eqb frame.pointer 2047)
-          (ltb frame.pointer 884 && eqb at (length w.bytes + frame.pointer)))
-          (eq-eqb at (length w.bytes + 884) (omega (arith, end)))
-          ∙ eq-eqb frame.pointer 2047 none) in
+          let passes : true ≡ cond (eqb at (length w.bytes + ZONE_BYTES)) (eqb frame.pointer NO_PACKET_START)
+          (ltb frame.pointer ZONE_BYTES && eqb at (length w.bytes + frame.pointer)) =
+          sym (ap (λ b. cond b (eqb frame.pointer NO_PACKET_START)
+          (ltb frame.pointer ZONE_BYTES && eqb at (length w.bytes + frame.pointer)))
+          (eq-eqb at (length w.bytes + ZONE_BYTES) (omega (arith, end)))
+          ∙ eq-eqb frame.pointer NO_PACKET_START none) in
           record {
             ended = w.packet ∷ [];
             open_packets = [];
@@ -340,8 +347,8 @@ module _ (packets : List (List ℕ)) (tell : Each TellsItsLength packets) where
             });
           }
 
-      ends_inside : length w.packet < length w.bytes + 884 → (back : List (List ℕ)) → w.back ≡ back →
-          Step packets done met frame (884 * t + 884)
+      ends_inside : length w.packet < length w.bytes + ZONE_BYTES → (back : List (List ℕ)) → w.back ≡ back →
+          Step packets done met frame (ZONE_BYTES * t + ZONE_BYTES)
       ends_inside h [] is =
           absurd (omega (
             arith,
@@ -354,14 +361,15 @@ module _ (packets : List (List ℕ)) (tell : Each TellsItsLength packets) where
       ends_inside h (next ∷ more) is =
           let q = length w.packet - length w.bytes in
           let starts : frame.pointer ≡ q = next_start next more is h in
-          let small : frame.pointer < 884 = omega (arith, w.part) in
+          let small : frame.pointer < ZONE_BYTES = omega (arith, w.part) in
           let at = packet_end (w.bytes ++ frame.zone) 0 in
-          let passes : true ≡ cond (eqb at (length w.bytes + 884)) (eqb frame.pointer 2047)
-          (ltb frame.pointer 884 && eqb at (length w.bytes + frame.pointer)) =
-          sym (ap (λ b. cond b (eqb frame.pointer 2047)
-          (ltb frame.pointer 884 && eqb at (length w.bytes + frame.pointer)))
-          (ne_eqb at (length w.bytes + 884) (λ e. omega (arith, end, e)))
-          ∙ and_from (ltb frame.pointer 884) (eqb at (length w.bytes + frame.pointer)) (lt-ltb frame.pointer 884 small)
+          let passes : true ≡ cond (eqb at (length w.bytes + ZONE_BYTES)) (eqb frame.pointer NO_PACKET_START)
+          (ltb frame.pointer ZONE_BYTES && eqb at (length w.bytes + frame.pointer)) =
+          sym (ap (λ b. cond b (eqb frame.pointer NO_PACKET_START)
+          (ltb frame.pointer ZONE_BYTES && eqb at (length w.bytes + frame.pointer)))
+          (ne_eqb at (length w.bytes + ZONE_BYTES) (λ e. omega (arith, end, e)))
+          ∙ and_from (ltb frame.pointer ZONE_BYTES) (eqb at (length w.bytes + frame.pointer))
+          (lt-ltb frame.pointer ZONE_BYTES small)
           (eq-eqb at (length w.bytes + frame.pointer) (omega (arith, end, w.part)))) in
           let rest : drop q frame.zone ++ later ≡ concat w.back =
           sym (drop-append-le q frame.zone later (omega arith))
@@ -381,7 +389,7 @@ module _ (packets : List (List ℕ)) (tell : Each TellsItsLength packets) where
                 ∙ ap (λ (p : Packet). p ∷ []) (is_packet (omega arith))) b.inside;
             after = open_after-early frame met small
                 ∙ ap (λ k. map (λ s. drop s frame.zone) (starts_unfinished frame.zone k)) starts ∙ b.opened;
-            stage = subst (λ ps. Stage packets ps b.open_packets (884 * t + 884))
+            stage = subst (λ ps. Stage packets ps b.open_packets (ZONE_BYTES * t + ZONE_BYTES))
                 (append_assoc done (w.packet ∷ []) b.ended) b.stage;
           }
         where
@@ -390,18 +398,18 @@ module _ (packets : List (List ℕ)) (tell : Each TellsItsLength packets) where
               ap (λ m. drop m (xs ++ ys)) e ∙ sym (drop-drop k (length xs) (xs ++ ys))
               ∙ ap (drop k) (drop_at xs ys (length xs) refl)
 
-      within_step : Step packets done met frame (884 * t + 884)
-      within_step = elim (cases_lt (length w.bytes + 884) (length w.packet)) [
+      within_step : Step packets done met frame (ZONE_BYTES * t + ZONE_BYTES)
+      within_step = elim (cases_lt (length w.bytes + ZONE_BYTES) (length w.packet)) [
         | inl beyond ↦ goes_on beyond
-        | inr not_beyond ↦ elim (cases_lt (length w.packet) (length w.bytes + 884)) [
+        | inr not_beyond ↦ elim (cases_lt (length w.packet) (length w.bytes + ZONE_BYTES)) [
           | inl inside ↦ ends_inside inside w.back refl
           | inr not_inside ↦ ends (omega arith)
         ]
       ]
 
     -- one frame more
-    pub step : (done met : List (List ℕ)) → Stage packets done met (884 * t) →
-        Step packets done met frame (884 * t + 884)
+    pub step : (done met : List (List ℕ)) → Stage packets done met (ZONE_BYTES * t) →
+        Step packets done met frame (ZONE_BYTES * t + ZONE_BYTES)
     step done met s = elim s [
       | inl b ↦ between_step done b.back met b.split b.size b.none
       | inr w ↦ within_step done met w

@@ -3,7 +3,7 @@
 use Rattle.std.specs.Prelude.{ℕ, ◌+◌, ◌-◌, ◌%◌, ◌++◌, ◌==◌, nat_lt, if◌then◌else◌, List, [], ◌∷◌, length, map}
 use Rattle.std.specs.Prelude.{replicate, slice_index_or}
 use Rattle.std.specs.List.{concat, range_with_len}
-use Rattle.lr_bits.specs.declared.sizes.TheConstants.{IDLE_APPLICATION, ZONE_BYTES}
+use Rattle.lr_bits.specs.declared.sizes.TheConstants.{IDLE_APPLICATION, SEQUENCE_COUNTS, ZONE_BYTES}
 use Rattle.lr_bits.specs.File.{File}
 use Rattle.lr_make.specs.Packets.{head_with, packet_for_body}
 
@@ -15,7 +15,7 @@ flags_at n j = if n == 1 then 3 else (if j == 0 then 1 else (if j + 1 == n then 
 -- packet j of these bodies of an application, where the packet of the first one has this count; counts have 14 bits
 abbrev pub body_packet : ℕ → ℕ → List (List ℕ) → ℕ → List ℕ
 body_packet apid count bodies j =
-    packet_for_body apid (flags_at (length bodies) j) ((count + j) % 16384) (slice_index_or bodies j [])
+    packet_for_body apid (flags_at (length bodies) j) ((count + j) % SEQUENCE_COUNTS) (slice_index_or bodies j [])
 
 -- the packets of bodies, one for each
 unfoldable pub body_packets : ℕ → ℕ → List (List ℕ) → List (List ℕ)

@@ -2,7 +2,7 @@
 use Rattle.std.specs.Prelude.{◌≡◌, ◌<◌, ℕ, ◌+◌, ◌*◌, ◌%◌, ◌^◌, ◌++◌, ◌==◌, if◌then◌else◌, List, [], ◌∷◌, length}
 use Rattle.std.specs.Prelude.{drop, slice_index, unwrap_or, Option, Some, None}
 use Rattle.std.specs.List.{concat}
-use Rattle.lr_bits.specs.declared.sizes.TheConstants.{ZONE_BYTES}
+use Rattle.lr_bits.specs.declared.sizes.TheConstants.{CHANNELS, SEQUENCE_COUNTS, ZONE_BYTES}
 use Rattle.lr_bits.specs.File.{File, IsFile, bytes_of}
 use Rattle.lr_file.specs.Standing.{AreAscending, kept_of_key}
 use Rattle.lr_uplink.specs.declared.sending.Sending.{Sending}
@@ -21,7 +21,7 @@ pub record IsUnsentPart (sending : Sending) (file : File) (count : ℕ) (rest : 
   pub left : rest ≡ drop sending.sent (packet_bytes sending.packet (bytes_of file))
       ++ concat (drop (sending.index + 1) (file_packets count file))
 
--- the same, and where some are left, some are left of the packet that is being sent
+-- these bytes of the file are left to send, and where some are, some are left of the packet that is being sent
 pub record IsSending (sending : Sending) (file : File) (count : ℕ) (rest : List ℕ) : Type 0 where
   pub part : IsUnsentPart sending file count rest
   pub going : 0 < length rest → sending.sent < size_of_packet sending.packet
@@ -41,15 +41,15 @@ pub record IsUnderWay (counters : List ℕ) (sending : Sending) (files : List Fi
   pub loaded : files ≡ before ++ file ∷ []
   pub count : given ≡ length (sent before) + frames
   pub some : ZONE_BYTES * frames < length (concat (file_packets (packets_before file.vc file.apid before) file))
-  pub left : IsSending sending file (packets_before file.vc file.apid before % 16384)
+  pub left : IsSending sending file (packets_before file.vc file.apid before % SEQUENCE_COUNTS)
       (drop (ZONE_BYTES * frames) (concat (file_packets (packets_before file.vc file.apid before) file)))
-  pub counted : (c : ℕ) → c < 64 → slice_index counters c
+  pub counted : (c : ℕ) → c < CHANNELS → slice_index counters c
       ≡ (frames_before c before + (if file.vc == c then frames else 0)) % 2 ^ 32
 
 -- all files are sent
 pub record IsAtRest (counters : List ℕ) (files : List File) (given : ℕ) : Type 0 where
   pub count : given ≡ length (sent files)
-  pub counted : (c : ℕ) → c < 64 → slice_index counters c ≡ frames_before c files % 2 ^ 32
+  pub counted : (c : ℕ) → c < CHANNELS → slice_index counters c ≡ frames_before c files % 2 ^ 32
 
 abbrev pub FramesStandFor : List ℕ → Option Sending → List File → ℕ → Type 0
 FramesStandFor counters None files given = IsAtRest counters files given

@@ -3,7 +3,7 @@ use Rattle.std.specs.Prelude.{ℕ, ◌+◌, ◌-◌, ◌*◌, ◌/◌, ◌%◌, 
 use Rattle.std.specs.Prelude.{List, [], ◌∷◌, length, map, take, drop, sum_by, find, unwrap_or}
 use Rattle.std.specs.List.{concat, range_with_len}
 use Rattle.std.specs.Option.{option_map}
-use Rattle.lr_bits.specs.declared.sizes.TheConstants.{ZONE_BYTES}
+use Rattle.lr_bits.specs.declared.sizes.TheConstants.{FRAME_COUNTS, ZONE_BYTES}
 use Rattle.lr_bits.specs.File.{File}
 use Rattle.lr_make.specs.Frames.{frame_for_zone}
 use Rattle.lr_uplink.specs.Packets.{file_packets}
@@ -31,7 +31,7 @@ sent_pointer_at packets t =
 -- frame t of packets of a channel, where the first frame has this counter; counters have 24 bits
 abbrev pub sent_frame_at : ℕ → ℕ → List (List ℕ) → ℕ → List ℕ
 sent_frame_at vc counter packets t =
-    frame_for_zone vc ((counter + t) % 2 ^ 24) (sent_pointer_at packets t) (sent_zone_at packets t)
+    frame_for_zone vc ((counter + t) % FRAME_COUNTS) (sent_pointer_at packets t) (sent_zone_at packets t)
 
 -- the frames of packets that fill their zones
 unfoldable pub sent_frames_of : ℕ → ℕ → List (List ℕ) → List (List ℕ)

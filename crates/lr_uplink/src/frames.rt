@@ -3,6 +3,7 @@
 ghost use Rattle.std.specs.Prelude.{◌≡◌, ◌<◌, ◌≤◌, ◌+◌, ◌*◌, ◌^◌, ◌++◌, ℕ, List, length, take, drop};
 ghost use Rattle.std.specs.List.{concat};
 ghost use Rattle.lr_bits.specs.File.{File};
+ghost use Rattle.lr_bits.specs.declared.sizes.TheConstants.{FRAME_COUNTS};
 ghost use Rattle.lr_make.specs.Frames.{frame_for_zone};
 ghost use Rattle.lr_uplink.specs.Packets.{file_packets};
 ghost use Rattle.lr_uplink.specs.Sent.{sent_pointer_at, sent_zone_at};
@@ -14,7 +15,7 @@ use lr_make::put_frame;
 
 /// Writes the next frame of a file, with this counter.
 pub(crate) fn put_next(frame: &mut [u8; FRAME_BYTES], sending: &mut Sending, counter: u32)
-    requires { counter < 2 ^ 24 }
+    requires { counter < FRAME_COUNTS }
     ensures frame { (file : File) (count t : ℕ) →
         ZONE_BYTES * t + ZONE_BYTES ≤ length (concat (file_packets count file)) →
         IsSending sending.old file count (drop (ZONE_BYTES * t) (concat (file_packets count file))) →

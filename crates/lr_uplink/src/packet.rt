@@ -1,6 +1,8 @@
 //! The packet that is being sent.
 
 ghost use Rattle.std.specs.Prelude.{◌≡◌, ◌<◌, ◌≤◌, ◌+◌, ◌^◌, ℕ, List, length, take, drop, slice_index};
+ghost use Rattle.lr_bits.specs.Sizes.{most_body_bytes};
+ghost use Rattle.lr_bits.specs.declared.sizes.TheConstants.{SEQUENCE_COUNTS};
 ghost use Rattle.lr_make.specs.Packets.{packet_for_body};
 ghost use Rattle.lr_uplink.specs.Packets.{flags_at, idle_packet};
 
@@ -98,9 +100,9 @@ impl Packet {
     ) -> Packet
         requires apid { apid < 2 ^ 11 }
         requires flags { flags < 2 ^ 2 }
-        requires count { count < 2 ^ 14 }
+        requires count { count < SEQUENCE_COUNTS }
         requires inside { at + size ≤ length bytes.now }
-        requires size { size < 65535 }
+        requires size { size ≤ most_body_bytes }
         ensures { Carries result bytes.now (packet_for_body apid flags count (take size (drop at bytes.now))) }
     {
         let body = &bytes[at..at + usize::from(size)];

@@ -4,12 +4,13 @@ ghost use Rattle.std.specs.Prelude.{◌≡◌, ◌<◌, ◌≤◌, ◌+◌, ◌*
 ghost use Rattle.std.specs.Prelude.{slice_index, slice_index_or, if◌then◌else◌, nat_lt, ◌-◌};
 ghost use Rattle.std.specs.List.{concat};
 ghost use Rattle.lr_bits.specs.File.{File, IsFile, bytes_of};
+ghost use Rattle.lr_bits.specs.Sizes.{most_file_bodies};
+ghost use Rattle.lr_bits.specs.declared.sizes.TheConstants.{SEQUENCE_COUNTS};
 ghost use Rattle.lr_uplink.specs.Packets.{file_packets, idle_packets, bytes_left};
 ghost use Rattle.lr_uplink.specs.Pieces.{IsPacketOf, end_of_packet, size_of_packet};
 
 use crate::packet::{Packet, SHORTEST_BYTES, flags_of};
-use lr_bits::{MissionFile, ZONE_BYTES};
-use lr_make::{COUNTS, NO_START};
+use lr_bits::{CHANNELS, MissionFile, NO_PACKET_START, SEQUENCE_COUNTS, ZONE_BYTES};
 
 /// The bytes of a packet that aren't the body's: the header's and the checksum's.
 const OTHER_BYTES: usize = 8;
@@ -49,8 +50,8 @@ fn byte_count(bytes: &[u8]) -> usize
 /// Packet `index` of a file, if it has one, where its first packet has this count and its first `index` bodies have
 /// `at` bytes.
 fn packet_of_file(file: &MissionFile, count: u16, index: usize, at: usize) -> Option<Packet>
-    requires count { count < 16384 }
-    requires index { index ≤ 1048577 }
+    requires count { count < SEQUENCE_COUNTS }
+    requires index { index ≤ (most_file_bodies + 1) }
     requires at { at ≡ length (concat (take index file.now.bodies)) }
     ensures packet { IsPacketOf (file_packets count file.now) (bytes_of file.now) index result }
     ensures file { IsFile file.now }
@@ -61,7 +62,7 @@ fn packet_of_file(file: &MissionFile, count: u16, index: usize, at: usize) -> Op
     let size = byte_count(bytes);
     let bodies = lengths.len();
     if index < bodies {
-        let own = (usize::from(count) + index) % usize::from(COUNTS);
+        let own = (usize::from(count) + index) % usize::from(SEQUENCE_COUNTS);
         let flags = flags_of(bodies, index);
         return Some(Packet::of_body(file.apid(), flags, own as u16, bytes, at, lengths[index]));
     }
@@ -98,8 +99,8 @@ pub struct Sending {
     packet: Packet,
     /// How many bytes of the packet are sent. Where these are all, so is the file.
     sent: usize,
-    ghost count_fits: { count < 16384 },
-    ghost index_fits: { index ≤ 1048576 },
+    ghost count_fits: { count < SEQUENCE_COUNTS },
+    ghost index_fits: { index ≤ most_file_bodies },
     ghost taken_is: { taken ≡ length (concat (take (index + 1) file.bodies)) },
     ghost within: { end_of_packet packet ≤ length (bytes_of file) },
     ghost sent_fits: { sent ≤ size_of_packet packet },
@@ -111,7 +112,7 @@ impl Sending {
 
     /// A file of which nothing is sent.
     pub(crate) fn new(file: MissionFile, count: u16) -> Sending
-        requires { count < 16384 }
+        requires { count < SEQUENCE_COUNTS }
         ensures sending { IsSending result file count (concat (file_packets count file)) }
         ensures bytes { All (λ byte. byte < 256) (bytes_of file) }
     {
@@ -130,7 +131,7 @@ impl Sending {
     /// The file's virtual channel.
     pub(crate) fn vc(&self) -> u8
         ensures value { result ≡ self.now.file.vc }
-        ensures fits { result < 64 }
+        ensures fits { result < CHANNELS }
     {
         self.file.vc()
     }
@@ -190,7 +191,7 @@ impl Sending {
         if left < ZONE_BYTES {
             left as u16
         } else {
-            NO_START
+            NO_PACKET_START
         }
     }
 

@@ -12,20 +12,22 @@ use crate::counts::Counts;
 use crate::frames::put_next;
 use crate::sending::Sending;
 use crate::symbols::put_symbols;
-use lr_bits::{BLOCK_BYTES, FILL_CHANNEL, FRAME_BYTES, FRAME_SYMBOLS, MissionFile, NoMemory};
+use lr_bits::{
+    BLOCK_BYTES, CHANNELS, FILL_CHANNEL, FRAME_BYTES, FRAME_COUNTS, FRAME_SYMBOLS, MissionFile,
+    NoMemory, SEQUENCE_COUNTS,
+};
 use lr_conv::{LineCode, LineEncoder};
-use lr_make::{COUNTERS, COUNTS};
 use std::alloc::Global;
-
-/// How many channels there are, with that of fill.
-const CHANNELS: usize = 64;
+use thiserror::Error;
 
 /// Why a file isn't loaded. It is dropped, and the uplink is unchanged.
-#[derive(Debug, Drop, PartialEq, Eq)]
+#[derive(Debug, Drop, Error, PartialEq, Eq)]
 pub enum UplinkFault {
     /// It is of channel 63, the channel of fill.
+    #[error("a file of channel 63 is not sent, since that is the channel of fill")]
     Fill,
     /// Memory was wanting.
+    #[error("no memory was left")]
     NoMemory,
 }
 
@@ -64,7 +66,7 @@ impl Uplink {
     pub fn load(&mut self, file: MissionFile) -> Result<(), UplinkFault>
         ensures loaded { (line : LineCode') (history : History) → StandsFor self.old line history →
             IsAllGiven history → OnOk result (StandsFor self.new line (with_file history file)) }
-        ensures fill { (result ≡ Err UplinkFault.Fill) ↔ (file.vc ≡ 63) }
+        ensures fill { (result ≡ Err UplinkFault.Fill) ↔ (file.vc ≡ FILL_CHANNEL) }
         ensures refused { OnErr result (self.new ≡ self.old) }
     {
         let vc = file.vc();
@@ -81,7 +83,7 @@ impl Uplink {
         {
             return Err(UplinkFault::NoMemory);
         }
-        self.sending = Some(Sending::new(file, count % COUNTS));
+        self.sending = Some(Sending::new(file, count % SEQUENCE_COUNTS));
         Ok(())
     }
 
@@ -105,7 +107,7 @@ impl Uplink {
         };
         let place = usize::from(sending.vc());
         let counter = self.counters[place];
-        put_next(frame, &mut sending, counter % COUNTERS);
+        put_next(frame, &mut sending, counter % FRAME_COUNTS);
         self.counters[place] = counter.wrapping_add(1);
         if !sending.is_done() {
             self.sending = Some(sending);

@@ -7,6 +7,7 @@ use Rattle.std.proofs.Common.{drop-drop, drop_at}
 use Rattle.std.proofs.lemmas.List.Elements.{filter-append}
 use Rattle.std.proofs.lemmas.Bool.{and_parts, and_right, cond_both}
 use Rattle.std.specs.List.{AllByRecursion as Each}
+use Rattle.lr_bits.specs.declared.sizes.TheConstants.{ZONE_BYTES}
 use Rattle.lr_vc.specs.Frame.{Fields}
 use Rattle.lr_vc.specs.Runs.{Run}
 use Rattle.lr_vc.specs.Packets.{zones_of, place_of, is_whole, starts_from, starts_of, is_delivered, packet_at, ends_in}
@@ -65,23 +66,24 @@ and_true : (b : Bool) → (b && true) ≡ b
 and_true true = refl
 and_true false = refl
 
-module _ (run : Run) (f : ℕ × Fields) (zones : AreZones run) (long : length f.1.zone ≡ 884) where
+module _ (run : Run) (f : ℕ × Fields) (zones : AreZones run) (long : length f.1.zone ≡ ZONE_BYTES) where
   firsts : List ℕ
-  firsts = cond (ltb f.1.pointer 884) (starts_from f.1.zone 884 884 f.1.pointer) []
+  firsts = cond (ltb f.1.pointer ZONE_BYTES) (starts_from f.1.zone ZONE_BYTES ZONE_BYTES f.1.pointer) []
 
-  firsts_within : Each (λ q. q < 884) firsts
+  firsts_within : Each (λ q. q < ZONE_BYTES) firsts
   unfolding firsts
   firsts_within =
-      let P : ℕ → Type 0 = λ q. q < 884 in
-      cond_both (ltb f.1.pointer 884) _ _ (λ ks. Each P ks)
-      (λ _. Each_weaker (λ k. (0 ≤ k) × (k < 884)) P (λ k h. h.1) _
-      (starts_from_within f.1.zone 0 884 884 f.1.pointer (omega arith))) (λ _. tt)
+      let P : ℕ → Type 0 = λ q. q < ZONE_BYTES in
+      cond_both (ltb f.1.pointer ZONE_BYTES) _ _ (λ ks. Each P ks)
+      (λ _. Each_weaker (λ k. (0 ≤ k) × (k < ZONE_BYTES)) P (λ k h. h.1) _
+      (starts_from_within f.1.zone 0 ZONE_BYTES ZONE_BYTES f.1.pointer (omega arith))) (λ _. tt)
 
-  starts_grown : starts_of (run ++ f ∷ []) ≡ starts_of run ++ map (λ s. 884 * length run + s) firsts
+  starts_grown : starts_of (run ++ f ∷ []) ≡ starts_of run ++ map (λ s. ZONE_BYTES * length run + s) firsts
   unfolding firsts
   starts_grown = starts_of-more run f zones ∙ ap (λ ks. starts_of run ++ ks) (starts_in_zone-last run f zones)
 
-  drop_grown : (s : ℕ) → s < 884 * length run → drop s (zones_of (run ++ f ∷ [])) ≡ drop s (zones_of run) ++ f.1.zone
+  drop_grown : (s : ℕ) → s < ZONE_BYTES * length run →
+      drop s (zones_of (run ++ f ∷ [])) ≡ drop s (zones_of run) ++ f.1.zone
   drop_grown s h =
       let inside : s ≤ length (zones_of run) = omega (arith, length-zones_of run zones) in
       ap (λ zs. drop s zs) (zones_of-more run f) ∙ drop-append-le s (zones_of run) f.1.zone inside
@@ -97,7 +99,7 @@ module _ (run : Run) (f : ℕ × Fields) (zones : AreZones run) (long : length f
       let old : map pk (filter E (starts_of run)) ≡ map (packet_at channel (zones_of run))
       (filter (ends_in run place) (starts_of run)) =
       map_filter_same pk (packet_at channel (zones_of run)) E (ends_in run place) (starts_of run)
-      (Each_weaker (λ s. s < 884 * length run) (λ s. (E s ≡ ends_in run place s) ×
+      (Each_weaker (λ s. s < ZONE_BYTES * length run) (λ s. (E s ≡ ends_in run place s) ×
       (ends_in run place s ≡ true → pk s ≡ packet_at channel (zones_of run) s))
       (λ s h. (
         ends_in_earlier run f zones long place s ne h,
@@ -105,14 +107,14 @@ module _ (run : Run) (f : ℕ × Fields) (zones : AreZones run) (long : length f
             ∙ packet_at-append channel (zones_of run) f.1.zone s (ends_whole run place s d),
       ))
       (starts_of run) (starts_of_within run)) in
-      let new : filter E (map (λ s. 884 * length run + s) firsts) ≡ [] =
-      filter_none E (map (λ s. 884 * length run + s) firsts)
-      (Each-map (λ s. E s ≡ false) (λ s. 884 * length run + s) firsts
-      (Each_weaker (λ q. q < 884) (λ q. E (884 * length run + q) ≡ false)
+      let new : filter E (map (λ s. ZONE_BYTES * length run + s) firsts) ≡ [] =
+      filter_none E (map (λ s. ZONE_BYTES * length run + s) firsts)
+      (Each-map (λ s. E s ≡ false) (λ s. ZONE_BYTES * length run + s) firsts
+      (Each_weaker (λ q. q < ZONE_BYTES) (λ q. E (ZONE_BYTES * length run + q) ≡ false)
       (λ q h. ends_in-last run f zones long place q h ∙ and_right (is_whole f.1.zone q) (eqb f.0 place)
       (ne_eqb f.0 place ne)) firsts firsts_within)) in
       ap (λ ks. map pk (filter E ks)) starts_grown ∙ ap (λ ks. map pk ks)
-      (filter-append E (starts_of run) (map (λ s. 884 * length run + s) firsts)
+      (filter-append E (starts_of run) (map (λ s. ZONE_BYTES * length run + s) firsts)
       ∙ ap (λ ks. filter E (starts_of run) ++ ks) new ∙ append-nil (filter E (starts_of run)))
       ∙ old
 
@@ -120,7 +122,7 @@ module _ (run : Run) (f : ℕ × Fields) (zones : AreZones run) (long : length f
   pub packets_ending-new : (channel : ℕ) → ((u : ℕ) → u < length run → place_of run u ≡ f.0 → ⊥) →
       packets_ending channel f.0 (run ++ f ∷ [])
       ≡ flat_map (completed_packet channel f.1.zone f.1.pointer) (open_packets run)
-      ++ cond (ltb f.1.pointer 884) (packets_inside channel f.1.zone f.1.pointer) []
+      ++ cond (ltb f.1.pointer ZONE_BYTES) (packets_inside channel f.1.zone f.1.pointer) []
   unfolding packets_ending open_packets completed_packet packets_inside starts_after firsts
   packets_ending-new channel apart =
       let grown = run ++ f ∷ [] in
@@ -128,7 +130,7 @@ module _ (run : Run) (f : ℕ × Fields) (zones : AreZones run) (long : length f
       let pk = packet_at channel (zones_of grown) in
       let z = f.1.zone in
       let p = f.1.pointer in
-      let n = 884 * length run in
+      let n = ZONE_BYTES * length run in
       let rest = λ (s : ℕ). drop s (zones_of run) in
       let F = λ (b : List ℕ). cond (ends_with b z p) (packet_at channel (b ++ z) 0 ∷ []) [] in
       let Q = λ (b : List ℕ). ends_with b z p in
@@ -144,7 +146,7 @@ module _ (run : Run) (f : ℕ × Fields) (zones : AreZones run) (long : length f
       (starts_of run) (starts_of_within run)) in
       let new : map pk (filter E (map (λ s. n + s) firsts)) ≡ map (packet_at channel z) (filter (is_whole z) firsts) =
       map_filter_map pk (packet_at channel z) E (is_whole z) n firsts
-      (Each_weaker (λ q. q < 884) (λ q. (E (n + q) ≡ is_whole z q) × (pk (n + q) ≡ packet_at channel z q))
+      (Each_weaker (λ q. q < ZONE_BYTES) (λ q. (E (n + q) ≡ is_whole z q) × (pk (n + q) ≡ packet_at channel z q))
       (λ q h. (
         ends_in-last run f zones long f.0 q h ∙ ap (λ b. is_whole z q && b) (eq-eqb f.0 f.0 refl)
             ∙ and_true (is_whole z q),
@@ -153,10 +155,12 @@ module _ (run : Run) (f : ℕ × Fields) (zones : AreZones run) (long : length f
       ))
       firsts firsts_within) in
       let cases : map (packet_at channel z) (filter (is_whole z) firsts) ≡
-      cond (ltb p 884) (map (packet_at channel z) (filter (is_whole z) (starts_from z 884 884 p))) [] =
-      elim (ltb p 884) as (λ b. map (packet_at channel z) (filter (is_whole z) (cond b (starts_from z 884 884 p) [])) ≡
+      cond (ltb p ZONE_BYTES) (map (packet_at channel z)
+      (filter (is_whole z) (starts_from z ZONE_BYTES ZONE_BYTES p))) [] =
+      elim (ltb p ZONE_BYTES) as (λ b. map (packet_at channel z)
+      (filter (is_whole z) (cond b (starts_from z ZONE_BYTES ZONE_BYTES p) [])) ≡
       cond b (map (packet_at channel z) (filter (is_whole z)
-      (starts_from z 884 884 p))) []) [ true ↦ refl | false ↦ refl ] in
+      (starts_from z ZONE_BYTES ZONE_BYTES p))) []) [ true ↦ refl | false ↦ refl ] in
       ap (λ ks. map pk (filter E ks)) starts_grown
       ∙ ap (λ ks. map pk ks) (filter-append E (starts_of run) (map (λ s. n + s) firsts))
       ∙ map-append pk (filter E (starts_of run)) (filter E (map (λ s. n + s) firsts))
@@ -166,7 +170,7 @@ module _ (run : Run) (f : ℕ × Fields) (zones : AreZones run) (long : length f
   pub open_packets-more :
       open_packets (run ++ f ∷ [])
       ≡ flat_map (continued_packet f.1.zone f.1.pointer) (open_packets run)
-      ++ cond (ltb f.1.pointer 884) (map (λ s. drop s f.1.zone) (starts_unfinished f.1.zone f.1.pointer)) []
+      ++ cond (ltb f.1.pointer ZONE_BYTES) (map (λ s. drop s f.1.zone) (starts_unfinished f.1.zone f.1.pointer)) []
   unfolding open_packets continued_packet starts_unfinished starts_after firsts
   open_packets-more =
       let grown = run ++ f ∷ [] in
@@ -174,7 +178,7 @@ module _ (run : Run) (f : ℕ × Fields) (zones : AreZones run) (long : length f
       let pk = λ (s : ℕ). drop s (zones_of grown) in
       let z = f.1.zone in
       let p = f.1.pointer in
-      let n = 884 * length run in
+      let n = ZONE_BYTES * length run in
       let rest = λ (s : ℕ). drop s (zones_of run) in
       let Q = λ (b : List ℕ). goes_on_after b z p in
       let F = λ (b : List ℕ). cond (goes_on_after b z p) ((b ++ z) ∷ []) [] in
@@ -190,12 +194,14 @@ module _ (run : Run) (f : ℕ × Fields) (zones : AreZones run) (long : length f
       ∙ ap (λ zs. drop q zs) (drop_at (zones_of run) z n (length-zones_of run zones)) in
       let new : map pk (filter O (map (λ s. n + s) firsts)) ≡ map (λ s. drop s z) (filter U firsts) =
       map_filter_map pk (λ s. drop s z) O U n firsts
-      (Each_weaker (λ q. q < 884) (λ q. (O (n + q) ≡ U q) × (pk (n + q) ≡ drop q z))
+      (Each_weaker (λ q. q < ZONE_BYTES) (λ q. (O (n + q) ≡ U q) × (pk (n + q) ≡ drop q z))
       (λ q h. (is_open-last run f zones long q h, behind q)) firsts firsts_within) in
       let cases : map (λ s. drop s z) (filter U firsts) ≡
-      cond (ltb p 884) (map (λ s. drop s z) (filter U (starts_from z 884 884 p))) [] =
-      elim (ltb p 884) as (λ b. map (λ s. drop s z) (filter U (cond b (starts_from z 884 884 p) [])) ≡
-      cond b (map (λ s. drop s z) (filter U (starts_from z 884 884 p))) []) [ true ↦ refl | false ↦ refl ] in
+      cond (ltb p ZONE_BYTES) (map (λ s. drop s z) (filter U (starts_from z ZONE_BYTES ZONE_BYTES p))) [] =
+      elim (ltb p ZONE_BYTES) as (λ b. map (λ s. drop s z)
+      (filter U (cond b (starts_from z ZONE_BYTES ZONE_BYTES p) [])) ≡
+      cond b (map (λ s. drop s z)
+      (filter U (starts_from z ZONE_BYTES ZONE_BYTES p))) []) [ true ↦ refl | false ↦ refl ] in
       ap (λ ks. map pk (filter O ks)) starts_grown
       ∙ ap (λ ks. map pk ks) (filter-append O (starts_of run) (map (λ s. n + s) firsts))
       ∙ map-append pk (filter O (starts_of run)) (filter O (map (λ s. n + s) firsts))

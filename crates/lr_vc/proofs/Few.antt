@@ -5,11 +5,13 @@ use Rattle.std.proofs.lemmas.List.{length-map}
 use Rattle.std.specs.Prelude.{if◌then◌else◌, nat_lt}
 use Rattle.std.specs.Option.{option_to_list}
 use Rattle.std.specs.List.{filter}
+use Rattle.lr_bits.specs.declared.sizes.TheConstants.{ZONE_BYTES}
 use Rattle.lr_vc.specs.Frame.{Fields}
 use Rattle.lr_vc.specs.Packets.{starts_from, packet_at, is_whole, has_header, packet_end}
 use Rattle.lr_vc.specs.Standing.{KeptChannel}
 use Rattle.lr_vc.specs.Steps.{packets_with, met_by, completed_packets, completed_packet, ends_with, packets_inside}
 use Rattle.lr_vc.specs.Steps.{starts_after, follows}
+use Rattle.lr_vc.specs.declared.channels.TheConstants.{MOST_ENDING_PACKETS}
 
 few_of_two : {A : Type 0} (b : Bool) (xs ys : List A) (n : ℕ) → length xs ≤ n → length ys ≤ n →
     length (if b then xs else ys) ≤ n
@@ -56,23 +58,23 @@ few_met channel counter =
       one None = omega arith
       one (Some bytes) = omega arith
 
-few_inside : (channel : ℕ) (zone : List ℕ) (first : ℕ) → length (packets_inside channel zone first) ≤ 884
+few_inside : (channel : ℕ) (zone : List ℕ) (first : ℕ) → length (packets_inside channel zone first) ≤ ZONE_BYTES
 unfolding packets_inside starts_after
 few_inside channel zone first =
     omega (
       arith,
-      length-map (filter (is_whole zone) (starts_from zone 884 884 first)) (packet_at channel zone),
-      few_filtered (is_whole zone) (starts_from zone 884 884 first),
-      few_starts zone 884 884 first,
+      length-map (filter (is_whole zone) (starts_from zone ZONE_BYTES ZONE_BYTES first)) (packet_at channel zone),
+      few_filtered (is_whole zone) (starts_from zone ZONE_BYTES ZONE_BYTES first),
+      few_starts zone ZONE_BYTES ZONE_BYTES first,
     )
 
 -- at most the open one and one for each byte of the zone
 pub few_packets : (frame : Fields) (channel : KeptChannel) (counter : ℕ) →
-    length (packets_with frame (met_by channel counter)) ≤ 885
+    length (packets_with frame (met_by channel counter)) ≤ MOST_ENDING_PACKETS
 unfolding packets_with
 few_packets frame channel counter =
     let inside =
-    few_of_two (nat_lt frame.pointer 884) (packets_inside frame.vc frame.zone frame.pointer) [] 884
+    few_of_two (nat_lt frame.pointer ZONE_BYTES) (packets_inside frame.vc frame.zone frame.pointer) [] ZONE_BYTES
     (few_inside frame.vc frame.zone frame.pointer) (omega arith) in
     omega (
       arith,
@@ -80,5 +82,5 @@ few_packets frame channel counter =
       few_met channel counter,
       few_ended frame (met_by channel counter),
       length-append (completed_packets frame (met_by channel counter))
-          (if nat_lt frame.pointer 884 then packets_inside frame.vc frame.zone frame.pointer else []),
+          (if nat_lt frame.pointer ZONE_BYTES then packets_inside frame.vc frame.zone frame.pointer else []),
     )

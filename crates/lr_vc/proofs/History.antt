@@ -7,6 +7,7 @@ use Rattle.std.proofs.lemmas.List.Elements.{filter-append, recursion_from_All, A
 use Rattle.std.proofs.lemmas.Bool.{cases_eq}
 use Rattle.std.specs.List.{AllByRecursion as Each, enumerate_from}
 use Rattle.lr_bits.specs.Packet.{Packet}
+use Rattle.lr_bits.specs.declared.sizes.TheConstants.{FILL_CHANNEL, ZONE_BYTES}
 use Rattle.lr_vc.specs.Frame.{Fields}
 use Rattle.lr_vc.specs.Runs.{Run, AreFrames, channel_frames, runs_of}
 use Rattle.lr_vc.specs.Packets.{packets_ending, packets_in, packets_at, packets_of, place_of, starts_of}
@@ -21,10 +22,10 @@ use Rattle.lr_vc.proofs.LastRun.{flat_map-runs_last, place_of_below, packets_end
 
 -- every frame's zone has 884 bytes
 abbrev HaveZones : List Fields → Type 0
-HaveZones frames = Each (λ f. length f.zone ≡ 884) frames
+HaveZones frames = Each (λ f. length f.zone ≡ ZONE_BYTES) frames
 
 pub zones_each : (frames : List Fields) → AreFrames frames → HaveZones frames
-zones_each frames h = recursion_from_All (λ f. length f.zone ≡ 884) frames h
+zones_each frames h = recursion_from_All (λ f. length f.zone ≡ ZONE_BYTES) frames h
 
 enumerate_more : (history : List Fields) (f : Fields) →
     enumerate_from 0 (history ++ f ∷ []) ≡ enumerate_from 0 history ++ (length history, f) ∷ []
@@ -69,8 +70,8 @@ channel_frames-other channel history f ne =
 zones_of_channel : (channel : ℕ) (history : List Fields) → HaveZones history → AreZones (channel_frames channel history)
 unfolding channel_frames
 zones_of_channel channel history h =
-    Each-filter (λ f. length f.1.zone ≡ 884) (λ f. eqb f.1.vc channel) (enumerate_from 0 history)
-    (Each-enumerated (λ f. length f.zone ≡ 884) 0 history h)
+    Each-filter (λ f. length f.1.zone ≡ ZONE_BYTES) (λ f. eqb f.1.vc channel) (enumerate_from 0 history)
+    (Each-enumerated (λ f. length f.zone ≡ ZONE_BYTES) 0 history h)
 
 places_of_channel : (channel : ℕ) (history : List Fields) →
     Each (λ f. f.0 < length history) (channel_frames channel history)
@@ -98,17 +99,17 @@ ending_none : (channel place : ℕ) → packets_ending channel place [] ≡ []
 unfolding packets_ending starts_of
 ending_none channel place = refl
 
-module _ (fs : List (ℕ × Fields)) (g : ℕ × Fields) (zones : AreZones fs) (long : length g.1.zone ≡ 884) where
+module _ (fs : List (ℕ × Fields)) (g : ℕ × Fields) (zones : AreZones fs) (long : length g.1.zone ≡ ZONE_BYTES) where
   last_run_zones : AreZones (last_run (runs_of fs))
   last_run_zones = zones_of-last_run fs zones
 
   pub open_packets-next :
       open_packets (last_run (runs_of (fs ++ g ∷ [])))
       ≡ flat_map (continued_packet g.1.zone g.1.pointer) (met fs g.1.counter)
-      ++ cond (ltb g.1.pointer 884) (opened_packets g.1) []
+      ++ cond (ltb g.1.pointer ZONE_BYTES) (opened_packets g.1) []
   open_packets-next =
       let last = last_run (runs_of fs) in
-      let inside = cond (ltb g.1.pointer 884) (opened_packets g.1) [] in
+      let inside = cond (ltb g.1.pointer ZONE_BYTES) (opened_packets g.1) [] in
       let joins = follows (last_counter fs) g.1.counter in
       let G = continued_packet g.1.zone g.1.pointer in
       let Q : Bool → Type 0 =
@@ -122,10 +123,10 @@ module _ (fs : List (ℕ × Fields)) (g : ℕ × Fields) (zones : AreZones fs) (
   pub packets_ending-next : (channel : ℕ) → Each (λ f. f.0 < g.0) fs →
       flat_map (packets_ending channel g.0) (runs_of (fs ++ g ∷ []))
       ≡ flat_map (completed_packet channel g.1.zone g.1.pointer) (met fs g.1.counter)
-      ++ cond (ltb g.1.pointer 884) (packets_inside channel g.1.zone g.1.pointer) []
+      ++ cond (ltb g.1.pointer ZONE_BYTES) (packets_inside channel g.1.zone g.1.pointer) []
   packets_ending-next channel below =
       let last = last_run (runs_of fs) in
-      let inside = cond (ltb g.1.pointer 884) (packets_inside channel g.1.zone g.1.pointer) [] in
+      let inside = cond (ltb g.1.pointer ZONE_BYTES) (packets_inside channel g.1.zone g.1.pointer) [] in
       let joins = follows (last_counter fs) g.1.counter in
       let F = packets_ending channel g.0 in
       let G = completed_packet channel g.1.zone g.1.pointer in
@@ -133,7 +134,7 @@ module _ (fs : List (ℕ × Fields)) (g : ℕ × Fields) (zones : AreZones fs) (
       let each : (fs' : List Run) → Each AreZones fs' → Each (λ run. Each (λ f. f.0 < g.0) run) fs' →
       Each (λ run. F run ≡ []) fs' = none_each channel in
       let none : Each (λ run. F run ≡ []) (runs_of fs) =
-      each (runs_of fs) (Each-runs_of (λ f. length f.1.zone ≡ 884) fs zones)
+      each (runs_of fs) (Each-runs_of (λ f. length f.1.zone ≡ ZONE_BYTES) fs zones)
       (Each-runs_of (λ f. f.0 < g.0) fs below) in
       let places : Each (λ f. f.0 < g.0) last = places_of-last_run g.0 fs below in
       let apart : (u : ℕ) → u < length last → place_of last u ≡ g.0 → ⊥ =
@@ -178,21 +179,22 @@ packets_at-last history f =
     ap (flat_map (packets_in (history ++ f ∷ []))) only ∙ append-nil (packets_in (history ++ f ∷ []) (n, f))
 
 -- channel 63 is fill
-pub packets_at-fill : (history : List Fields) (f : Fields) → f.vc ≡ 63 →
+pub packets_at-fill : (history : List Fields) (f : Fields) → f.vc ≡ FILL_CHANNEL →
     packets_at (history ++ f ∷ []) (length history) ≡ []
 unfolding packets_in
-packets_at-fill history f e = packets_at-last history f ∙ rw (eq-eqb f.vc 63 e) refl
+packets_at-fill history f e = packets_at-last history f ∙ rw (eq-eqb f.vc FILL_CHANNEL e) refl
 
-pub packets_at-next : (history : List Fields) (f : Fields) → AreFrames history → length f.zone ≡ 884 → (f.vc ≡ 63 → ⊥) →
+pub packets_at-next : (history : List Fields) (f : Fields) → AreFrames history → length f.zone ≡ ZONE_BYTES →
+    (f.vc ≡ FILL_CHANNEL → ⊥) →
     packets_at (history ++ f ∷ []) (length history)
     ≡ flat_map (completed_packet f.vc f.zone f.pointer) (met (channel_frames f.vc history) f.counter)
-    ++ cond (ltb f.pointer 884) (packets_inside f.vc f.zone f.pointer) []
+    ++ cond (ltb f.pointer ZONE_BYTES) (packets_inside f.vc f.zone f.pointer) []
 unfolding packets_in
 packets_at-next history f frames long ne =
     let fs = channel_frames f.vc history in
     let g : ℕ × Fields = (length history, f) in
     let zones = zones_of_channel f.vc history (zones_each history frames) in
-    packets_at-last history f ∙ rw (ne_eqb f.vc 63 ne)
+    packets_at-last history f ∙ rw (ne_eqb f.vc FILL_CHANNEL ne)
     (ap (λ cs. flat_map (packets_ending f.vc (length history)) (runs_of cs)) (channel_frames-own history f)
     ∙ packets_ending-next fs g zones long f.vc (places_of_channel f.vc history))
 
@@ -204,10 +206,10 @@ last_counter-own history f =
     ap last_counter (channel_frames-own history f) ∙ last_counter-append (channel_frames f.vc history)
     (length history, f)
 
-pub open_packets-own : (history : List Fields) (f : Fields) → AreFrames history → length f.zone ≡ 884 →
+pub open_packets-own : (history : List Fields) (f : Fields) → AreFrames history → length f.zone ≡ ZONE_BYTES →
     open_packets (last_run (runs_of (channel_frames f.vc (history ++ f ∷ []))))
     ≡ flat_map (continued_packet f.zone f.pointer) (met (channel_frames f.vc history) f.counter)
-    ++ cond (ltb f.pointer 884) (opened_packets f) []
+    ++ cond (ltb f.pointer ZONE_BYTES) (opened_packets f) []
 open_packets-own history f frames long =
     ap (λ cs. open_packets (last_run (runs_of cs))) (channel_frames-own history f)
     ∙ open_packets-next (channel_frames f.vc history) (length history, f)
@@ -215,7 +217,8 @@ open_packets-own history f frames long =
 
 -- ---- laws
 
-packets_in-stay : (history : List Fields) (f : Fields) → HaveZones history → length f.zone ≡ 884 → (x : ℕ × Fields) →
+packets_in-stay : (history : List Fields) (f : Fields) → HaveZones history → length f.zone ≡ ZONE_BYTES →
+    (x : ℕ × Fields) →
     x.0 < length history →
     packets_in (history ++ f ∷ []) x ≡ packets_in history x
 unfolding packets_in
@@ -238,9 +241,9 @@ pub packets_of-more : (history : List Fields) (f : Fields) → AreFrames (histor
 unfolding packets_of
 packets_of-more history f frames =
     let all = zones_each (history ++ f ∷ []) frames in
-    let P : Fields → Type 0 = λ f. length f.zone ≡ 884 in
+    let P : Fields → Type 0 = λ f. length f.zone ≡ ZONE_BYTES in
     let zones : HaveZones history = Each_left P history (f ∷ []) all in
-    let long : length f.zone ≡ 884 = (Each_right P history (f ∷ []) all).0 in
+    let long : length f.zone ≡ ZONE_BYTES = (Each_right P history (f ∷ []) all).0 in
     let I = packets_in (history ++ f ∷ []) in
     let same : flat_map I (enumerate_from 0 history) ≡ flat_map (packets_in history) (enumerate_from 0 history) =
     flat_map_same I (packets_in history) (enumerate_from 0 history)
@@ -256,7 +259,7 @@ packets_of-append history [] _ = ([], ap packets_of (append-nil history) ∙ sym
 packets_of-append history (f ∷ fs) frames =
     let split : history ++ f ∷ fs ≡ (history ++ f ∷ []) ++ fs = sym (append_assoc history (f ∷ []) fs) in
     let all : AreFrames ((history ++ f ∷ []) ++ fs) = subst AreFrames split frames in
-    let P : Fields → Type 0 = λ f. length f.zone ≡ 884 in
+    let P : Fields → Type 0 = λ f. length f.zone ≡ ZONE_BYTES in
     let first : AreFrames (history ++ f ∷ []) =
     All-from_recursion P (history ++ f ∷ []) (Each_left P (history ++ f ∷ []) fs
     (zones_each ((history ++ f ∷ []) ++ fs) all)) in

@@ -5,13 +5,14 @@ use Rattle.std.proofs.Common.{get_or-take, ltb, lt-ltb, le-ltb}
 use Rattle.std.proofs.lemmas.List.{length-take-le}
 use Rattle.std.proofs.lemmas.Bool.{cases_lt}
 use Rattle.lr_bits.specs.Packet.{Packet, IsPacket}
+use Rattle.lr_bits.specs.declared.sizes.TheConstants.{CHANNELS, ZONE_BYTES}
 use Rattle.lr_vc.specs.Packets.{packet_end, is_whole, starts_from, packet_at}
 use Rattle.lr_vc.specs.Steps.{starts_after, packets_inside, starts_unfinished}
 use Rattle.lr_vc.proofs.Starts.{packet_end_is, packet_end-drop, length_field, is_whole_true, is_whole_false}
 use Rattle.lr_vc.proofs.Starts.{has_header_if, has_header_not, starts_from_past, starts_from_steps}
 
 -- what is whole is a packet
-pub is_packet_at : (channel : ℕ) (xs : List ℕ) (s : ℕ) → channel < 64 → is_whole xs s ≡ true →
+pub is_packet_at : (channel : ℕ) (xs : List ℕ) (s : ℕ) → channel < CHANNELS → is_whole xs s ≡ true →
     IsPacket (packet_at channel xs s)
 unfolding packet_at
 is_packet_at channel xs s fits whole =
@@ -47,19 +48,19 @@ step_part xs edge steps s long inside part =
     rw (has_header_if xs s there, starts_from_past xs edge steps (packet_end xs s) (omega arith)) refl)
     (cases_lt (length xs) (s + 6)))
 
-module _ (zone : List ℕ) (long : length zone ≡ 884) where
+module _ (zone : List ℕ) (long : length zone ≡ ZONE_BYTES) where
   pub starts_after-whole : (s : ℕ) → is_whole zone s ≡ true →
       starts_after zone s ≡ s ∷ starts_after zone (packet_end zone s)
   unfolding starts_after
-  starts_after-whole s whole = step_whole zone 884 883 s (omega arith) long whole
+  starts_after-whole s whole = step_whole zone ZONE_BYTES (ZONE_BYTES - 1) s (omega arith) long whole
 
-  starts_after-part : (s : ℕ) → s < 884 → is_whole zone s ≡ false → starts_after zone s ≡ s ∷ []
+  starts_after-part : (s : ℕ) → s < ZONE_BYTES → is_whole zone s ≡ false → starts_after zone s ≡ s ∷ []
   unfolding starts_after
-  starts_after-part s inside part = step_part zone 884 883 s long inside part
+  starts_after-part s inside part = step_part zone ZONE_BYTES (ZONE_BYTES - 1) s long inside part
 
-  starts_after-past : (s : ℕ) → 884 ≤ s → starts_after zone s ≡ []
+  starts_after-past : (s : ℕ) → ZONE_BYTES ≤ s → starts_after zone s ≡ []
   unfolding starts_after
-  starts_after-past s h = starts_from_past zone 884 884 s h
+  starts_after-past s h = starts_from_past zone ZONE_BYTES ZONE_BYTES s h
 
   pub packets_inside-whole : (channel s : ℕ) → is_whole zone s ≡ true →
       packets_inside channel zone s ≡ packet_at channel zone s ∷ packets_inside channel zone (packet_end zone s)
@@ -77,7 +78,7 @@ module _ (zone : List ℕ) (long : length zone ≡ 884) where
       (starts_after-part s inside part)
       ∙ ap (λ b. map (packet_at channel zone) (cond b (s ∷ []) [])) part)
       (λ past. ap (λ ks. map (packet_at channel zone) (filter (is_whole zone) ks)) (starts_after-past s past))
-      (cases_lt s 884)
+      (cases_lt s ZONE_BYTES)
 
   pub starts_unfinished-whole : (s : ℕ) → is_whole zone s ≡ true →
       starts_unfinished zone s ≡ starts_unfinished zone (packet_end zone s)
@@ -89,17 +90,19 @@ module _ (zone : List ℕ) (long : length zone ≡ 884) where
       (λ b. cond (not b) (s ∷ filter test rest) (filter test rest)) whole
 
   pub starts_unfinished-rest : (s : ℕ) → is_whole zone s ≡ false →
-      starts_unfinished zone s ≡ cond (ltb s 884) (s ∷ []) []
+      starts_unfinished zone s ≡ cond (ltb s ZONE_BYTES) (s ∷ []) []
   unfolding starts_unfinished
   starts_unfinished-rest s part =
       let test = λ (k : ℕ). not (is_whole zone k) in
       ⊎_elim (λ inside. ap (filter test) (starts_after-part s inside part) ∙ ap (λ b. cond (not b) (s ∷ []) []) part
-      ∙ ap (λ b. cond b (s ∷ []) []) (sym (lt-ltb s 884 inside)))
-      (λ past. ap (filter test) (starts_after-past s past) ∙ ap (λ b. cond b (s ∷ []) []) (sym (le-ltb s 884 past)))
-      (cases_lt s 884)
+      ∙ ap (λ b. cond b (s ∷ []) []) (sym (lt-ltb s ZONE_BYTES inside)))
+      (λ past. ap (filter test) (starts_after-past s past) ∙
+      ap (λ b. cond b (s ∷ []) []) (sym (le-ltb s ZONE_BYTES past)))
+      (cases_lt s ZONE_BYTES)
 
 -- one packet more, of what lies ahead
-pub push_step : (channel s : ℕ) (zone : List ℕ) (done all : List Packet) → length zone ≡ 884 → is_whole zone s ≡ true →
+pub push_step : (channel s : ℕ) (zone : List ℕ) (done all : List Packet) → length zone ≡ ZONE_BYTES →
+    is_whole zone s ≡ true →
     done ++ packets_inside channel zone s ≡ all → (done ++ packet_at channel zone s ∷ [])
     ++ packets_inside channel zone (packet_end zone s) ≡ all
 push_step channel s zone done all long whole e =

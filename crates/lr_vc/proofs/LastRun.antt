@@ -5,6 +5,7 @@ use Rattle.std.proofs.Common.{eqb, ne_eqb}
 use Rattle.std.proofs.lemmas.List.Concat.{flat_map-append}
 use Rattle.std.proofs.lemmas.Bool.{and_parts, and_right, and_left, cases_Bool}
 use Rattle.std.specs.List.{AllByRecursion as Each}
+use Rattle.lr_bits.specs.declared.sizes.TheConstants.{ZONE_BYTES}
 use Rattle.lr_vc.specs.Frame.{Fields}
 use Rattle.lr_vc.specs.Runs.{Run, begins_at, next_counter, put_before, runs_of}
 use Rattle.lr_vc.specs.Packets.{zones_of, place_of, packet_end, is_whole, starts_of, is_delivered, packet_at, ends_in}
@@ -149,7 +150,7 @@ Each-last_run P none (run ∷ []) h = h.0
 Each-last_run P none (run ∷ next ∷ runs) h = Each-last_run P none (next ∷ runs) h.1
 
 pub zones_of-last_run : (fs : List (ℕ × Fields)) → AreZones fs → AreZones (last_run (runs_of fs))
-zones_of-last_run fs h = Each-last_run AreZones tt (runs_of fs) (Each-runs_of (λ f. length f.1.zone ≡ 884) fs h)
+zones_of-last_run fs h = Each-last_run AreZones tt (runs_of fs) (Each-runs_of (λ f. length f.1.zone ≡ ZONE_BYTES) fs h)
 
 pub places_of-last_run : (n : ℕ) (fs : List (ℕ × Fields)) → Each (λ f. f.0 < n) fs →
     Each (λ f. f.0 < n) (last_run (runs_of fs))
@@ -167,7 +168,7 @@ flat_map-runs_same F (f ∷ fs) g zones same none =
     let joins = follows (last_counter (f ∷ fs)) g.1.counter in
     let last = h.first ∷ h.rest in
     let all : Each AreZones (h.earlier ++ last ∷ []) =
-    subst (λ rs. Each AreZones rs) h.was (Each-runs_of (λ f. length f.1.zone ≡ 884) (f ∷ fs) zones) in
+    subst (λ rs. Each AreZones rs) h.was (Each-runs_of (λ f. length f.1.zone ≡ ZONE_BYTES) (f ∷ fs) zones) in
     let of_last : AreZones last = (Each_right AreZones h.earlier (last ∷ []) all).0 in
     let was : flat_map F (runs_of (f ∷ fs)) ≡ flat_map F h.earlier ++ (F last ++ []) =
     ap (flat_map F) h.was ∙ flat_map-append F h.earlier (last ∷ []) in
@@ -225,7 +226,7 @@ unfolding packets_ending ends_in is_delivered
 packets_ending_none channel n run zones below =
     let none : (s : ℕ) → ends_in run n s ≡ false =
     λ s.
-    let u = (packet_end (zones_of run) s - 1) / 884 in
+    let u = (packet_end (zones_of run) s - 1) / ZONE_BYTES in
     ⊎_elim (λ d.
     let whole = is_whole_true (zones_of run) s (and_parts (is_whole (zones_of run) s) _ d).0 in
     let inside : u < length run = omega (arith, whole.1, length-zones_of run zones, packet_end_is (zones_of run) s) in

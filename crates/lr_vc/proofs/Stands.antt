@@ -4,6 +4,7 @@ use Rattle.std.proofs.Common.{sym, ap, ap₂, ◌∙◌, subst, ⊎_elim, arith,
 use Rattle.std.specs.Option.{option_to_list}
 use Rattle.std.proofs.lemmas.Bool.{cases_eq}
 use Rattle.std.proofs.lemmas.List.Elements.{All-nil, All-push}
+use Rattle.lr_bits.specs.declared.sizes.TheConstants.{FILL_CHANNEL, ZONE_BYTES}
 use Rattle.lr_vc.specs.Frame.{Fields}
 use Rattle.lr_vc.specs.Runs.{AreFrames, channel_frames, runs_of}
 use Rattle.lr_vc.specs.Packets.{packets_at}
@@ -18,24 +19,25 @@ pub at_ok : {T E P : Type 0} (r : Result T E) → is_err r ≡ false → OnOk r 
 at_ok (Ok x) _ h = h
 at_ok (Err x) e _ = absurd (true≢false e)
 
-frames_more : (history : List Fields) (f : Fields) → length f.zone ≡ 884 → AreFrames history →
+frames_more : (history : List Fields) (f : Fields) → length f.zone ≡ ZONE_BYTES → AreFrames history →
     AreFrames (history ++ f ∷ [])
-frames_more history f long h = All-push (λ f. length f.zone ≡ 884) history f h long
+frames_more history f long h = All-push (λ f. length f.zone ≡ ZONE_BYTES) history f h long
 
 pub stands_new : (kept : Kept) → kept.spent ≡ false → kept.channels ≡ [] → StandsFor kept []
 unfolding channel_frames runs_of
 stands_new kept unspent none =
     record {
-      frames = All-nil (λ f. length f.zone ≡ 884);
+      frames = All-nil (λ f. length f.zone ≡ ZONE_BYTES);
       unspent = unspent;
       counters = λ channel _. ap (λ cs. (kept_at cs channel).counter) none;
       packets = λ channel _. ap (λ cs. option_to_list (kept_at cs channel).open_packet) none ∙ sym open_none;
     }
 
-pub stands_fill : (kept : Kept) (history : List Fields) (f : Fields) → f.vc ≡ 63 → length f.zone ≡ 884 →
+pub stands_fill : (kept : Kept) (history : List Fields) (f : Fields) → f.vc ≡ FILL_CHANNEL
+    → length f.zone ≡ ZONE_BYTES →
     StandsFor kept history → StandsFor kept (history ++ f ∷ [])
 stands_fill kept history f fill long h =
-    let same : (channel : ℕ) → channel < 63 → channel_frames channel history ≡
+    let same : (channel : ℕ) → channel < FILL_CHANNEL → channel_frames channel history ≡
     channel_frames channel (history ++ f ∷ []) =
     λ channel below. sym (channel_frames-other channel history f (λ e. omega arith)) in
     record {
@@ -48,32 +50,34 @@ stands_fill kept history f fill long h =
     }
 
 -- the open packets that the next frame meets are those that are kept
-met_is : (kept : Kept) (history : List Fields) (f : Fields) → f.vc < 63 → StandsFor kept history →
+met_is : (kept : Kept) (history : List Fields) (f : Fields) → f.vc < FILL_CHANNEL → StandsFor kept history →
     met_by (kept_at kept.channels f.vc) f.counter ≡ met (channel_frames f.vc history) f.counter
 unfolding met_by
 met_is kept history f below h =
     ap₂ (λ last os. cond (follows last f.counter) os []) (h.counters f.vc below) (h.packets f.vc below)
 
-pub packets_next : (kept : Kept) (history : List Fields) (f : Fields) → f.vc < 63 → length f.zone ≡ 884 →
+pub packets_next : (kept : Kept) (history : List Fields) (f : Fields) → f.vc < FILL_CHANNEL
+    → length f.zone ≡ ZONE_BYTES →
     StandsFor kept history →
     packets_with f (met_by (kept_at kept.channels f.vc) f.counter) ≡ packets_at (history ++ f ∷ []) (length history)
 unfolding packets_with
 packets_next kept history f below long h =
     ap (λ os. flat_map (completed_packet f.vc f.zone f.pointer) os
-    ++ cond (ltb f.pointer 884) (packets_inside f.vc f.zone f.pointer) []) (met_is kept history f below h)
+    ++ cond (ltb f.pointer ZONE_BYTES) (packets_inside f.vc f.zone f.pointer) []) (met_is kept history f below h)
     ∙ sym (packets_at-next history f h.frames long (λ e. omega arith))
 
-open_next : (kept : Kept) (history : List Fields) (f : Fields) → f.vc < 63 → length f.zone ≡ 884 →
+open_next : (kept : Kept) (history : List Fields) (f : Fields) → f.vc < FILL_CHANNEL → length f.zone ≡ ZONE_BYTES →
     StandsFor kept history →
     open_after f (met_by (kept_at kept.channels f.vc) f.counter) ≡
     open_packets (last_run (runs_of (channel_frames f.vc (history ++ f ∷ []))))
 unfolding open_after
 open_next kept history f below long h =
-    ap (λ os. flat_map (continued_packet f.zone f.pointer) os ++ cond (ltb f.pointer 884) (opened_packets f) [])
+    ap (λ os. flat_map (continued_packet f.zone f.pointer) os ++ cond (ltb f.pointer ZONE_BYTES) (opened_packets f) [])
     (met_is kept history f below h)
     ∙ sym (open_packets-own history f h.frames long)
 
-pub stands_next : (old new : Kept) (history : List Fields) (f : Fields) → f.vc < 63 → length f.zone ≡ 884 →
+pub stands_next : (old new : Kept) (history : List Fields) (f : Fields) → f.vc < FILL_CHANNEL
+    → length f.zone ≡ ZONE_BYTES →
     new.spent ≡ false →
     TakesFrame (kept_at old.channels f.vc) (kept_at new.channels f.vc) f →
     ((k : ℕ) → (k ≡ f.vc → ⊥) → kept_at new.channels k ≡ kept_at old.channels k) →

@@ -8,6 +8,7 @@ use Rattle.std.proofs.lemmas.List.{get_or_append_left, drop-append-le, take-appe
 use Rattle.std.proofs.lemmas.Bool.{and_parts, and_from, and_left, and_right, lt-leb, cases_lt, cond_both}
 use Rattle.std.specs.List.{AllByRecursion as Each}
 use Rattle.lr_bits.specs.Packet.{length_field_at}
+use Rattle.lr_bits.specs.declared.sizes.TheConstants.{ZONE_BYTES}
 use Rattle.lr_vc.specs.Packets.{packet_end, has_header, is_whole, starts_from, packet_at, zones_of, pointer_of}
 use Rattle.lr_vc.specs.Packets.{starts_in_zone}
 
@@ -306,19 +307,19 @@ starts_from-closed xs edge (suc steps) s start enough is_start header before =
 
 pub starts_in_zone-closed : (run : Run) (zone start : ℕ) → Contains (starts_in_zone run zone) start →
     start + 6 ≤ length (zones_of run) →
-    packet_end (zones_of run) start < 884 * zone + 884 →
+    packet_end (zones_of run) start < ZONE_BYTES * zone + ZONE_BYTES →
     Contains (starts_in_zone run zone) (packet_end (zones_of run) start)
 unfolding starts_in_zone
 starts_in_zone-closed run zone start is_start header before =
     let all = zones_of run in
-    let first = 884 * zone + pointer_of run zone in
-    let from = starts_from all (884 * zone + 884) 884 first in
+    let first = ZONE_BYTES * zone + pointer_of run zone in
+    let from = starts_from all (ZONE_BYTES * zone + ZONE_BYTES) ZONE_BYTES first in
     let Closed : Bool → Type 0 =
     λ b. Contains (cond b from []) start → Contains (cond b from []) (packet_end all start) in
     let cases : (b : Bool) → Closed b =
     λ b. elim b as Closed [
-      | true ↦ λ h. starts_from-closed all (884 * zone + 884) 884 first start
+      | true ↦ λ h. starts_from-closed all (ZONE_BYTES * zone + ZONE_BYTES) ZONE_BYTES first start
           (omega arith) h header before
       | false ↦ λ h. absurd (contains_none start h)
     ] in
-    cases (ltb (pointer_of run zone) 884) is_start
+    cases (ltb (pointer_of run zone) ZONE_BYTES) is_start

@@ -2,6 +2,7 @@
 use Rattle.std.specs.List.{Contains, sum_by, count_by}
 use Rattle.std.specs.Prelude.{◌≡◌, List, [], ◌∷◌, ◌++◌, length, ℕ, ◌+◌, ◌*◌, ◌<◌, ◌≤◌, ◌==◌, not}
 use Rattle.lr_bits.specs.Packet.{Packet}
+use Rattle.lr_bits.specs.declared.sizes.TheConstants.{FILL_CHANNEL, ZONE_BYTES}
 use Rattle.lr_vc.specs.Frame.{Fields}
 use Rattle.lr_vc.specs.Runs.{AreFrames, Run}
 use Rattle.lr_vc.specs.Packets.{packets_at, packets_of, zones_of, packet_end, starts_in_zone}
@@ -21,10 +22,11 @@ PacketsKeepTheirOrder = (history later : List Fields) → AreFrames (history ++ 
 abbrev pub StartsGoOn : Type 0
 StartsGoOn =
     (run : Run) (zone start : ℕ) → Contains (starts_in_zone run zone) start → start + 6 ≤ length (zones_of run) →
-    packet_end (zones_of run) start < 884 * zone + 884 →
+    packet_end (zones_of run) start < ZONE_BYTES * zone + ZONE_BYTES →
     Contains (starts_in_zone run zone) (packet_end (zones_of run) start)
 
 -- the packets of frames have at most 884 bytes for each frame that isn't fill
 abbrev pub PacketsFitTheZones : Type 0
 PacketsFitTheZones = (frames : List Fields) → AreFrames frames →
-    sum_by (λ packet. length packet.bytes) (packets_of frames) ≤ 884 * count_by (λ frame. not (frame.vc == 63)) frames
+    sum_by (λ packet. length packet.bytes) (packets_of frames) ≤ ZONE_BYTES * count_by
+    (λ frame. not (frame.vc == FILL_CHANNEL)) frames

@@ -5,6 +5,7 @@ use Rattle.std.specs.Prelude.{ℕ, zero, suc, ◌+◌, ◌-◌, ◌*◌, ◌/◌
 use Rattle.std.specs.Prelude.{map, slice_index, if◌then◌else◌, ◌==◌, nat_lt, nat_le}
 use Rattle.std.specs.List.{filter, flat_map, list_all, enumerate_from, range_with_len}
 use Rattle.lr_bits.specs.Packet.{Packet, length_field_at}
+use Rattle.lr_bits.specs.declared.sizes.TheConstants.{FILL_CHANNEL, NO_PACKET_START, ZONE_BYTES}
 use Rattle.lr_vc.specs.Frame.{Fields}
 use Rattle.lr_vc.specs.Runs.{Run, runs_of, channel_frames}
 
@@ -43,8 +44,9 @@ starts_from zones edge (suc steps) start =
 -- The starts in a zone: from its pointer on, where that points into the zone. The pointers 884 to 2047 start nothing.
 unfoldable pub starts_in_zone : Run → ℕ → List ℕ
 starts_in_zone run zone =
-    (if nat_lt (pointer_of run zone) 884
-    then starts_from (zones_of run) (884 * zone + 884) 884 (884 * zone + pointer_of run zone)
+    (if nat_lt (pointer_of run zone) ZONE_BYTES
+    then starts_from (zones_of run) (ZONE_BYTES * zone + ZONE_BYTES) ZONE_BYTES
+    (ZONE_BYTES * zone + pointer_of run zone)
     else [])
 
 -- all starts of a run, in order
@@ -53,16 +55,16 @@ starts_of run = flat_map (starts_in_zone run) (range_with_len 0 (length run))
 
 -- the zones of a run after the one in which this place lies
 unfoldable pub zones_after : Run → ℕ → List ℕ
-zones_after run start = range_with_len (start / 884 + 1) (length run - (start / 884 + 1))
+zones_after run start = range_with_len (start / ZONE_BYTES + 1) (length run - (start / ZONE_BYTES + 1))
 
 -- Whether a zone's pointer agrees with a packet from an earlier zone that ends at this place: no packet starts in the
 -- zone where the packet covers it to its end, and the first one starts at the end of the packet where that is inside
 -- the zone.
 unfoldable pub agrees : Run → ℕ → ℕ → Bool
 agrees run end zone =
-    (if nat_le (884 * zone + 884) end
-    then pointer_of run zone == 2047
-    else (if nat_lt (884 * zone) end then pointer_of run zone == end - 884 * zone else true))
+    (if nat_le (ZONE_BYTES * zone + ZONE_BYTES) end
+    then pointer_of run zone == NO_PACKET_START
+    else (if nat_lt (ZONE_BYTES * zone) end then pointer_of run zone == end - ZONE_BYTES * zone else true))
 
 -- whether the packet at a start is delivered: it is all there, and the pointer of each later zone agrees with it
 unfoldable pub is_delivered : Run → ℕ → Bool
@@ -77,7 +79,7 @@ packet_at channel zones start =
 -- whether the packet at a start is delivered and its last byte lies in the zone of the frame with this place
 unfoldable pub ends_in : Run → ℕ → ℕ → Bool
 ends_in run place start =
-    is_delivered run start && place_of run ((packet_end (zones_of run) start - 1) / 884) == place
+    is_delivered run start && place_of run ((packet_end (zones_of run) start - 1) / ZONE_BYTES) == place
 
 -- the packets of a run that end in the frame with this place, in the order of their starts
 unfoldable pub packets_ending : ℕ → ℕ → Run → List Packet
@@ -86,7 +88,7 @@ packets_ending channel place run = map (packet_at channel (zones_of run)) (filte
 -- the packets that end in a frame, which is given with its place among all frames: channel 63 is fill, and has none
 unfoldable pub packets_in : List Fields → ℕ × Fields → List Packet
 packets_in frames f =
-    (if f.1.vc == 63
+    (if f.1.vc == FILL_CHANNEL
     then []
     else flat_map (packets_ending f.1.vc f.0) (runs_of (channel_frames f.1.vc frames)))
 

@@ -2,6 +2,7 @@
 -- channel frame count). All frames stand in one list, in the order in which they came, and a place counts them from 0.
 use Rattle.std.specs.Prelude.{◌≡◌, ℕ, ◌+◌, ◌%◌, Bool, false, List, [], ◌∷◌, length, if◌then◌else◌, ◌==◌}
 use Rattle.std.specs.List.{All, filter, enumerate_from}
+use Rattle.lr_bits.specs.declared.sizes.TheConstants.{FRAME_COUNTS, ZONE_BYTES}
 use Rattle.lr_vc.specs.Frame.{Fields}
 
 -- neighbours of one channel, each with its place among all frames
@@ -10,11 +11,11 @@ Run = List (ℕ × Fields)
 
 -- the packet zone of a frame has 884 bytes
 abbrev pub AreFrames : List Fields → Type 0
-AreFrames frames = All (λ f. length f.zone ≡ 884) frames
+AreFrames frames = All (λ f. length f.zone ≡ ZONE_BYTES) frames
 
 -- the counter that follows this one: counters have 24 bits
 abbrev pub next_counter : ℕ → ℕ
-next_counter counter = (counter + 1) % 16777216
+next_counter counter = (counter + 1) % FRAME_COUNTS
 
 -- the frames of a channel, each with its place among all frames
 unfoldable pub channel_frames : ℕ → List Fields → List (ℕ × Fields)

@@ -6,6 +6,7 @@ use Rattle.std.specs.List.{All, filter, list_all}
 use Rattle.lr_vc.specs.Frame.{Fields}
 use Rattle.lr_vc.specs.Runs.{Run, AreFrames, channel_frames, runs_of}
 use Rattle.lr_vc.specs.Packets.{zones_of, pointer_of, is_whole, starts_of, zones_after}
+use Rattle.lr_bits.specs.declared.sizes.TheConstants.{FILL_CHANNEL, NO_PACKET_START}
 
 -- What is kept of one channel: the counter of its last frame, and the bytes so far of its open packet
 pub record KeptChannel : Type 0 where
@@ -34,7 +35,7 @@ IsShort open_packet = ForSome open_packet (λ bytes. length bytes ≤ 65541)
 
 -- What is kept is small: of 63 channels at most, each with at most one open packet.
 pub record IsSmall (channels : List KeptChannel) : Type 0 where
-  pub count : length channels ≤ 63
+  pub count : length channels ≤ FILL_CHANNEL
   pub short : All (λ channel. IsShort channel.open_packet) channels
 
 -- the counter of the last of these frames
@@ -52,7 +53,8 @@ last_run (run ∷ next ∷ runs) = last_run (next ∷ runs)
 -- whether the packet at a start isn't all there yet, and no packet starts in a later zone
 unfoldable pub is_open : Run → ℕ → Bool
 is_open run start =
-    not (is_whole (zones_of run) start) && list_all (λ zone. pointer_of run zone == 2047) (zones_after run start)
+    not (is_whole (zones_of run) start) && list_all (λ zone. pointer_of run zone == NO_PACKET_START)
+    (zones_after run start)
 
 -- the open packets of a run, each as its bytes so far
 unfoldable pub open_packets : Run → List (List ℕ)
@@ -63,8 +65,8 @@ open_packets run = map (λ start. drop start (zones_of run)) (filter (is_open ru
 pub record StandsFor (kept : Kept) (history : List Fields) : Type 0 where
   pub frames : AreFrames history
   pub unspent : kept.spent ≡ false
-  pub counters : (channel : ℕ) → channel < 63 →
+  pub counters : (channel : ℕ) → channel < FILL_CHANNEL →
       (kept_at kept.channels channel).counter ≡ last_counter (channel_frames channel history)
-  pub packets : (channel : ℕ) → channel < 63 →
+  pub packets : (channel : ℕ) → channel < FILL_CHANNEL →
       option_to_list (kept_at kept.channels channel).open_packet
       ≡ open_packets (last_run (runs_of (channel_frames channel history)))

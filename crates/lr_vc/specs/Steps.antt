@@ -5,6 +5,7 @@ use Rattle.std.specs.Prelude.{drop, map, if◌then◌else◌, ◌==◌, nat_lt, 
 use Rattle.std.specs.Option.{option_to_list}
 use Rattle.std.specs.List.{filter, flat_map}
 use Rattle.lr_bits.specs.Packet.{Packet}
+use Rattle.lr_bits.specs.declared.sizes.TheConstants.{NO_PACKET_START, ZONE_BYTES}
 use Rattle.lr_vc.specs.Frame.{Fields}
 use Rattle.lr_vc.specs.Runs.{next_counter}
 use Rattle.lr_vc.specs.Packets.{packet_end, is_whole, starts_from, packet_at}
@@ -23,7 +24,8 @@ follows (Some last) counter = counter == next_counter last
 
 -- what a pointer says of the first packet that starts in its zone
 abbrev pub start_of : ℕ → ZoneStart
-start_of pointer = if nat_lt pointer 884 then At pointer else (if pointer == 2047 then Nowhere else Idle)
+start_of pointer = if nat_lt pointer ZONE_BYTES then At pointer else
+    (if pointer == NO_PACKET_START then Nowhere else Idle)
 
 abbrev pub is_nowhere : ZoneStart → Bool
 is_nowhere (At place) = false
@@ -33,21 +35,21 @@ is_nowhere Idle = false
 -- whether a packet of which this many bytes lie before a zone, and that ends at this place, ends as the zone's start
 -- says
 abbrev pub ends_at : ℕ → ℕ → ZoneStart → Bool
-ends_at so_far end (At place) = nat_lt place 884 && end == so_far + place
-ends_at so_far end Nowhere = end == so_far + 884
+ends_at so_far end (At place) = nat_lt place ZONE_BYTES && end == so_far + place
+ends_at so_far end Nowhere = end == so_far + ZONE_BYTES
 ends_at so_far end Idle = false
 
 -- whether an open packet ends with the next zone of its run, and the pointer of that zone agrees
 unfoldable pub ends_with : List ℕ → List ℕ → ℕ → Bool
 ends_with open_bytes zone pointer =
-    (if packet_end (open_bytes ++ zone) 0 == length open_bytes + 884
-    then pointer == 2047
-    else nat_lt pointer 884 && packet_end (open_bytes ++ zone) 0 == length open_bytes + pointer)
+    (if packet_end (open_bytes ++ zone) 0 == length open_bytes + ZONE_BYTES
+    then pointer == NO_PACKET_START
+    else nat_lt pointer ZONE_BYTES && packet_end (open_bytes ++ zone) 0 == length open_bytes + pointer)
 
 -- whether it goes on after that zone
 unfoldable pub goes_on_after : List ℕ → List ℕ → ℕ → Bool
 goes_on_after open_bytes zone pointer =
-    nat_lt (length open_bytes + 884) (packet_end (open_bytes ++ zone) 0) && pointer == 2047
+    nat_lt (length open_bytes + ZONE_BYTES) (packet_end (open_bytes ++ zone) 0) && pointer == NO_PACKET_START
 
 -- the packet that an open one becomes, if any
 unfoldable pub completed_packet : ℕ → List ℕ → ℕ → List ℕ → List Packet
@@ -61,7 +63,7 @@ continued_packet zone pointer open_bytes =
 
 -- the starts in a zone, of which nothing else is known, from a place on
 unfoldable pub starts_after : List ℕ → ℕ → List ℕ
-starts_after zone first = starts_from zone 884 884 first
+starts_after zone first = starts_from zone ZONE_BYTES ZONE_BYTES first
 
 -- the packets that lie in the zone, from a place on
 unfoldable pub packets_inside : ℕ → List ℕ → ℕ → List Packet
@@ -91,10 +93,11 @@ opened_packets frame = map (λ start. drop start frame.zone) (starts_unfinished 
 unfoldable pub packets_with : Fields → List (List ℕ) → List Packet
 packets_with frame met =
     completed_packets frame met
-    ++ (if nat_lt frame.pointer 884 then packets_inside frame.vc frame.zone frame.pointer else [])
+    ++ (if nat_lt frame.pointer ZONE_BYTES then packets_inside frame.vc frame.zone frame.pointer else [])
 
 unfoldable pub open_after : Fields → List (List ℕ) → List (List ℕ)
-open_after frame met = continued_packets frame met ++ (if nat_lt frame.pointer 884 then opened_packets frame else [])
+open_after frame met = continued_packets frame met ++
+    (if nat_lt frame.pointer ZONE_BYTES then opened_packets frame else [])
 
 -- no packet ends in the next frame of a channel, and none is open after it
 pub record KeepsNothing (channel : KeptChannel) (frame : Fields) : Type 0 where

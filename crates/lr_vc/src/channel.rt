@@ -10,23 +10,17 @@ ghost use Rattle.lr_vc.specs.Steps.{packets_inside, met_by, completed_packets, c
 ghost use Rattle.lr_vc.specs.Steps.{packets_with, open_after, start_of, is_nowhere, ends_at};
 
 use crate::TransferFrame;
-use crate::zone::{copy_of, end_across, push_inside, whole};
-use lr_bits::{Bytes, NoMemory, RawPacket, ZONE_BYTES};
+use crate::zone::{end_across, push_inside, whole};
+use lr_bits::{Bytes, FRAME_COUNTS, NO_PACKET_START, NoMemory, RawPacket, ZONE_BYTES};
 use std::alloc::Global;
 use std::marker::Model;
-
-/// The pointer of a zone in which no packet starts (CCSDS 732.0-B, section 4.1.4.2).
-const NO_START: u16 = 2047;
-
-/// Counters have 24 bits.
-const COUNTERS: u64 = 1 << 24;
 
 /// Whether this counter follows the last one, if there is one.
 fn is_next(last: Option<u32>, counter: u32) -> bool
     ensures { result ≡ follows last counter }
 {
     match last {
-        Some(last) => u64::from(counter) == (u64::from(last) + 1) % COUNTERS,
+        Some(last) => u64::from(counter) == (u64::from(last) + 1) % u64::from(FRAME_COUNTS),
         None => false,
     }
 }
@@ -63,7 +57,7 @@ fn zone_start(pointer: u16) -> ZoneStart
     if place < ZONE_BYTES {
         return ZoneStart::At(place);
     }
-    if pointer == NO_START {
+    if pointer == NO_PACKET_START {
         ZoneStart::Nowhere
     } else {
         ZoneStart::Idle
@@ -120,7 +114,7 @@ fn carry(
     Ok(None)
 }
 
-/// The same of the open packet that a frame meets, if any.
+/// Carries the open packet on that a frame meets, if any.
 fn carry_met(
     met: Option<Bytes>,
     frame: &TransferFrame,
@@ -148,7 +142,7 @@ fn open_inside(
     frame: &TransferFrame,
     packets: &mut Vec<RawPacket>,
 ) -> Result<Option<Bytes>, NoMemory>
-    requires { frame.now.pointer < 884 }
+    requires { frame.now.pointer < ZONE_BYTES }
     ensures packets { OnOk result (packets.new.items ≡
         packets.old.items ++ packets_inside frame.now.vc frame.now.zone frame.now.pointer) }
     ensures open_packet { IfOk result (λ o. option_to_list o ≡ opened_packets (fields frame.now)) }
@@ -160,7 +154,7 @@ fn open_inside(
     if start == ZONE_BYTES {
         return Ok(None);
     }
-    let bytes = copy_of(alloc, &frame.zone[start..])?;
+    let bytes = Bytes::copy_of(alloc, &frame.zone[start..])?;
     Ok(Some(bytes))
 }
 

@@ -1,3 +1,5 @@
+//! All channels: each frame goes to its own one (virtual channels, CCSDS 732.0-B).
+
 ghost use Rattle.std.specs.Prelude.{◌≡◌, ◌≢◌, ℕ, ◌<◌, ◌≤◌, ◌+◌, ◌++◌, [], ◌∷◌, List, OnOk, OnErr, IsOk, IsErr, length};
 ghost use Rattle.std.specs.Prelude.{false};
 ghost use Rattle.lr_vc.specs.Frame.{Fields};
@@ -17,7 +19,7 @@ pub const MOST_ENDING_PACKETS: usize = ZONE_BYTES + 1;
 
 /// Makes room for a channel, of which nothing is kept yet.
 fn reach(channels: &mut Vec<Channel>, channel: usize) -> Result<(), NoMemory>
-    requires channel { channel < 63 }
+    requires channel { channel < FILL_CHANNEL }
     requires small { IsSmall channels.old.items }
     ensures succeeds { channel < length channels.old.items → IsOk result }
     ensures reached { OnOk result (channel < length channels.new.items) }
@@ -37,7 +39,7 @@ fn push_to_channel(
     frame: &TransferFrame,
     packets: &mut Vec<RawPacket>,
 ) -> Result<(), NoMemory>
-    requires channel { frame.now.vc < 63 }
+    requires channel { frame.now.vc < FILL_CHANNEL }
     requires small { IsSmall channels.old.items }
     ensures succeeds { frame.now.vc < length channels.old.items
         → KeepsNothing (kept_at channels.old.items frame.now.vc) (fields frame.now) → IsOk result }
@@ -104,11 +106,11 @@ impl Channels {
             packets_at (history ++ fields frame.now ∷ []) (length history)) }
 
         // Fill adds nothing and changes nothing.
-        ensures fill { frame.now.vc ≡ 63 → (self.new ≡ self.old) × (packets.new.items ≡ packets.old.items) }
+        ensures fill { frame.now.vc ≡ FILL_CHANNEL → (self.new ≡ self.old) × (packets.new.items ≡ packets.old.items) }
 
         // Fill takes no memory; nor does a frame of a channel that is kept already, if no packet ends in it and none is
         // open after it.
-        ensures fill_succeeds { self.old.spent ≡ false → frame.now.vc ≡ 63 → IsOk result }
+        ensures fill_succeeds { self.old.spent ≡ false → frame.now.vc ≡ FILL_CHANNEL → IsOk result }
         ensures succeeds { self.old.spent ≡ false → frame.now.vc < length self.old.channels
             → KeepsNothing (kept_at self.old.channels frame.now.vc) (fields frame.now) → IsOk result }
 

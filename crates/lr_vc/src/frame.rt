@@ -1,9 +1,14 @@
+//! A transfer frame (VCDU in the words of CGMS 03; AOS transfer frame, CCSDS 732.0-B): its bytes as fields.
+
 ghost use Rattle.std.specs.Prelude.{◌<◌, ◌^◌};
+ghost use Rattle.lr_bits.specs.declared.sizes.TheConstants.{FRAME_COUNTS};
 
 use lr_bits::{FRAME_BYTES, ZONE_BYTES, field};
+use thiserror::Error;
 
 /// The version of a frame, which isn't 1.
-#[derive(Clone, Copy)]
+#[derive(Clone, Copy, Debug, Error)]
+#[error("the frame has version {0}")]
 pub struct BadVersion(pub u8);
 
 /// A transfer frame of version 1 (CCSDS 732.0-B, section 4.1). Its type keeps that each number fits its field.
@@ -24,7 +29,7 @@ pub struct TransferFrame {
     /// The packet zone: packets one after another, which may begin and end in other frames.
     pub zone: [u8; ZONE_BYTES],
     ghost vc_fits: { vc < 2 ^ 6 },
-    ghost counter_fits: { counter < 2 ^ 24 },
+    ghost counter_fits: { counter < FRAME_COUNTS },
     ghost rest_fits: { rest < 2 ^ 7 },
     ghost pointer_fits: { pointer < 2 ^ 11 },
 }

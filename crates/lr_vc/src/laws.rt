@@ -1,3 +1,5 @@
+//! Laws of the packets of a list of frames.
+
 ghost use Rattle.lr_vc.specs.Laws.{FramesAddTheirPackets, PacketsFitTheZones, PacketsKeepTheirOrder, StartsGoOn};
 
 /// One frame more adds exactly the packets that end in it, after those of the frames before.

@@ -3,6 +3,7 @@
 ghost use Rattle.std.specs.Prelude.{◌≡◌, ◌+◌, ◌*◌, ◌<◌, ◌≤◌, ◌++◌, [], ◌∷◌, IsTrue, OnOk, IfOk, IfSome, SomeIff};
 ghost use Rattle.std.specs.Prelude.{slice_index, if◌then◌else◌, nat_lt};
 ghost use Rattle.lr_bits.specs.Packet.{IsPacket};
+ghost use Rattle.lr_bits.specs.declared.sizes.TheConstants.{CHANNELS};
 ghost use Rattle.lr_vc.specs.Packets.{packet_end, is_whole};
 ghost use Rattle.lr_vc.specs.Steps.{KeepsFront, packets_inside, starts_unfinished};
 
@@ -19,10 +20,10 @@ fn length_of(high: u8, low: u8) -> usize
 
 /// Where the packet that starts at this place of the zone ends. `None` exactly where that is after the zone's end.
 fn end_inside(zone: &[u8; ZONE_BYTES], start: usize) -> Option<usize>
-    requires { start ≤ 884 }
+    requires { start ≤ ZONE_BYTES }
     ensures end { SomeIff result (IsTrue (is_whole zone.now start)) (packet_end zone.now start) }
     ensures ahead { IfSome result (λ end. start < end) }
-    ensures inside { IfSome result (λ end. end ≤ 884) }
+    ensures inside { IfSome result (λ end. end ≤ ZONE_BYTES) }
 {
     if start + PACKET_HEADER_BYTES > ZONE_BYTES {
         return None;
@@ -37,7 +38,7 @@ fn end_inside(zone: &[u8; ZONE_BYTES], start: usize) -> Option<usize>
 
 /// The byte at a place of an open packet with a zone after it.
 fn byte_across(so_far: &[u8], zone: &[u8; ZONE_BYTES], place: usize) -> u8
-    requires { place < 884 }
+    requires { place < ZONE_BYTES }
     ensures { result ≡ slice_index (so_far.now ++ zone.now) place }
 {
     if place < so_far.len() {
@@ -65,15 +66,6 @@ pub fn whole(vc: u8, bytes: Bytes) -> RawPacket
     RawPacket::build(vc, bytes).unwrap()
 }
 
-/// A copy of bytes.
-pub fn copy_of(alloc: Global, piece: &[u8]) -> Result<Bytes, NoMemory>
-    ensures { IfOk result (λ bytes. bytes ≡ piece.now) }
-{
-    let mut bytes = Bytes::new(alloc);
-    bytes.extend(piece)?;
-    Ok(bytes)
-}
-
 /// Appends the packets that lie in the zone, from the start `first` on. The result is the start after them, whose
 /// packet isn't all there, or the zone's end.
 pub fn push_inside(
@@ -83,17 +75,17 @@ pub fn push_inside(
     first: usize,
     packets: &mut Vec<RawPacket>,
 ) -> Result<usize, NoMemory>
-    requires channel { vc < 64 }
-    requires inside { first < 884 }
+    requires channel { vc < CHANNELS }
+    requires inside { first < ZONE_BYTES }
     ensures packets { OnOk result (packets.new.items ≡ packets.old.items ++ packets_inside vc zone.now first) }
     ensures unfinished { IfOk result (λ start.
-        starts_unfinished zone.now first ≡ (if nat_lt start 884 then start ∷ [] else [])) }
-    ensures bound { IfOk result (λ start. start ≤ 884) }
+        starts_unfinished zone.now first ≡ (if nat_lt start ZONE_BYTES then start ∷ [] else [])) }
+    ensures bound { IfOk result (λ start. start ≤ ZONE_BYTES) }
     ensures kept { KeepsFront packets.old.items packets.new.items }
 {
     let mut start = first;
     while let Some(end) = end_inside(zone, start) {
-        let bytes = copy_of(alloc, &zone[start..end])?;
+        let bytes = Bytes::copy_of(alloc, &zone[start..end])?;
         packets.push(whole(vc, bytes))?;
         start = end;
     }

@@ -1,5 +1,6 @@
 -- Which command the words give, if they give one.
 use Rattle.std.specs.Prelude.{
+  ◌-◌,
   ◌≡◌,
   ◌⊎◌,
   ◌≤◌,
@@ -21,6 +22,7 @@ use Rattle.std.specs.Prelude.{
   codes,
 }
 use Rattle.clap.specs.Words.{Text}
+use Rattle.lr_bits.specs.Sizes.{most_u64}
 use Rattle.lr_conv.specs.declared.line.LineCode.{LineCode}
 use Rattle.lr_shelf_format.specs.declared.header.TheConstants.{LEAST_CAPACITY, MOST_CAPACITY}
 use Rattle.lr_shelf_format.specs.Header.{IsCapacity}
@@ -64,8 +66,24 @@ use Rattle.lr_words.specs.declared.command.Command.TheVariants.{
   Trial,
 }
 
-abbrev pub most_u64 : ℕ
-most_u64 = 18446744073709551615
+-- the greatest application identifier that isn't the one of idle packets
+abbrev pub most_apid : ℕ
+most_apid = 2046
+
+-- the greatest image identifier of a segment record, a number of 16 bits
+abbrev pub most_image : ℕ
+most_image = 2 ^ 16 - 1
+
+-- the most wrong bytes that each word of a test stream or of sent symbols has: as many as are corrected
+abbrev pub most_wrong : ℕ
+most_wrong = 16
+
+-- the most frames of a test stream, and of one that `trial` receives
+abbrev pub most_made_frames : ℕ
+most_made_frames = 2 ^ 16
+
+abbrev pub most_tried_frames : ℕ
+most_tried_frames = 1024
 
 -- `decode` reads no frames
 abbrev pub input_of : IntakeAction → LineCode → Option Text → Option Input
@@ -102,14 +120,14 @@ given_by Line value = option_map (λ line. Downlinks line) (line_code_given (val
 given_by Workers value = option_map (λ w. Render w) (workers_given (value (codes "workers")))
 given_by Segments value =
     option_and_then (λ f. option_and_then (λ t. option_and_then (λ a. option_map (λ i. Assemble f t a i)
-    (required_number value (codes "image") 0 65535))
-    (required_number value (codes "apid") 0 2046))
+    (required_number value (codes "image") 0 most_image))
+    (required_number value (codes "apid") 0 most_apid))
     (required_number value (codes "to") 0 most_u64))
     (required_number value (codes "from") 0 most_u64)
 given_by Sent value =
     option_and_then (λ f. option_and_then (λ t. option_and_then (λ w. option_map (λ line. Transmit f t w line)
     (line_code_given (value (codes "line")) (value (codes "g2"))))
-    (required_number value (codes "wrong") 0 16))
+    (required_number value (codes "wrong") 0 most_wrong))
     (required_number value (codes "to") 0 most_u64))
     (required_number value (codes "from") 0 most_u64)
 given_by Block value =
@@ -119,14 +137,14 @@ given_by Block value =
 given_by Made value =
     option_and_then (λ s. option_and_then (λ f. option_and_then (λ w. option_map (λ form. Make s f w form)
     (output_of (value (codes "output"))))
-    (required_number value (codes "wrong") 0 16))
-    (required_number value (codes "frames") 1 65536))
+    (required_number value (codes "wrong") 0 most_wrong))
+    (required_number value (codes "frames") 1 most_made_frames))
     (required_number value (codes "start") 0 most_u64)
 given_by Tried value =
     option_and_then (λ s. option_and_then (λ f. option_and_then (λ w. option_map (λ k. Trial s f w k)
     (workers_given (value (codes "workers"))))
-    (required_number value (codes "wrong") 0 16))
-    (required_number value (codes "frames") 1 1024))
+    (required_number value (codes "wrong") 0 most_wrong))
+    (required_number value (codes "frames") 1 most_tried_frames))
     (required_number value (codes "start") 0 most_u64)
 
 -- words that look like this, of which the first is this name
@@ -164,9 +182,10 @@ IsInRange (Some (Init capacity)) = IsCapacity capacity
 IsInRange (Some (Frames lines most)) = most ≤ 2 ^ 48
 IsInRange (Some (Intake action input workers most)) = (most ≤ 2 ^ 48) × IsCrew workers
 IsInRange (Some (Render workers)) = IsCrew workers
-IsInRange (Some (Assemble from to apid image)) = (apid ≤ 2046) × (image ≤ 65535)
-IsInRange (Some (Transmit from to wrong line)) = wrong ≤ 16
+IsInRange (Some (Assemble from to apid image)) = (apid ≤ most_apid) × (image ≤ most_image)
+IsInRange (Some (Transmit from to wrong line)) = wrong ≤ most_wrong
 IsInRange (Some (Repack number block)) = (block ≡ 8) ⊎ ((block ≡ 16) ⊎ ((block ≡ 32) ⊎ (block ≡ 64)))
-IsInRange (Some (Make start frames wrong form)) = (frames ≤ 65536) × (wrong ≤ 16)
-IsInRange (Some (Trial start frames wrong workers)) = ((frames ≤ 1024) × (wrong ≤ 16)) × IsCrew workers
+IsInRange (Some (Make start frames wrong form)) = (frames ≤ most_made_frames) × (wrong ≤ most_wrong)
+IsInRange (Some (Trial start frames wrong workers)) = ((frames ≤ most_tried_frames) × (wrong ≤ most_wrong))
+    × IsCrew workers
 IsInRange _ = Unit {0}

@@ -15,11 +15,10 @@ use Rattle.std.specs.Prelude.{
 use Rattle.std.specs.Str.{bytes_eq}
 use Rattle.clap.specs.Words.{Text}
 use Rattle.lr_conv.specs.declared.line.LineCode.{LineCode}
-use Rattle.lr_forms.specs.declared.forms.TheConstants.{MOST_WORKERS}
+use Rattle.lr_forms.specs.declared.forms.TheConstants.{MOST_BYTES, MOST_WORKERS}
 use Rattle.lr_forms.specs.declared.forms.Input.{Input}
 use Rattle.lr_forms.specs.declared.forms.Input.TheVariants.{Symbols, Units}
 use Rattle.lr_forms.specs.declared.forms.UnitForm.TheVariants.{Blocks, Frames}
-use Rattle.lr_forms.specs.declared.forms.TheConstants.{MOST_BYTES}
 use Rattle.lr_forms.specs.declared.forms.Output.{Output}
 use Rattle.lr_forms.specs.declared.forms.Output.TheVariants.{Symbols as AsSymbols, Units as AsUnits}
 use Rattle.lr_words.specs.Numbers.{number_or}

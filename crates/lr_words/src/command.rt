@@ -1,3 +1,5 @@
+//! The commands that words give, with their numbers.
+
 use lr_conv::LineCode;
 use lr_forms::{Input, Output};
 

@@ -1,3 +1,5 @@
+//! Reading the words of one command by `clap`.
+
 ghost use Rattle.std.specs.Prelude.{◌≡◌, true, map, IfOk, string_bytes};
 ghost use Rattle.clap.specs.Words.{App, app_of};
 ghost use Rattle.lr_words.specs.Words.{is_covered, IsMatched};
@@ -24,7 +26,8 @@ pub(crate) fn matches_of<'a>(
     }
 }
 
-/// The same. Where memory was refused for the parser, it is refused here.
+/// The matches of the words by a parser, or none where it refuses them. Where memory was refused for the parser, it is
+/// refused here.
 pub(crate) fn matches_by<'a>(
     parser: Result<Parser<'a>, AllocError>,
     words: &'a [String],

@@ -117,7 +117,7 @@ pub(crate) fn line_code(matches: &ArgMatches) -> Option<LineCode>
 /// The most bytes that are taken.
 pub(crate) fn most(matches: &ArgMatches) -> Option<u64>
     ensures gives { result ≡ most_of (first_value (found_of matches.now) (codes "symbols")) }
-    ensures high { IfSome result (λ n. n ≤ 1099511627776) }
+    ensures high { IfSome result (λ n. n ≤ MOST_BYTES) }
 {
     number_or(matches, "symbols", 0, MOST_BYTES, MOST_BYTES)
 }
@@ -126,7 +126,7 @@ pub(crate) fn most(matches: &ArgMatches) -> Option<u64>
 pub(crate) fn workers(matches: &ArgMatches) -> Option<u32>
     ensures gives { result ≡ workers_given (first_value (found_of matches.now) (codes "workers")) }
     ensures some { IfSome result (λ n. 1 ≤ n) }
-    ensures few { IfSome result (λ n. n ≤ 64) }
+    ensures few { IfSome result (λ n. n ≤ MOST_WORKERS) }
 {
     let workers = number_or(matches, "workers", 1, MOST_WORKERS, 1)?;
     Some(workers as u32)

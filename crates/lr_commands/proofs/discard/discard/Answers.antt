@@ -1,8 +1,9 @@
 use Rattle.std.proofs.Common.{rules, ◌≡◌, ℕ, List, subst}
 use Rattle.lr_catalog.specs.Discards.{discard_line}
 use Rattle.lr_causes.specs.Puts.{Puts, PutFails}
-use Rattle.lr_commands.proofs.AddingRuns.{ready_loaded}
-use Rattle.lr_commands.proofs.Discarding.{not_begun, not_loaded, not_added, ok_from, told_line, cut_line}
+use Rattle.lr_commands.specs.Discard.{discard_asked}
+use Rattle.lr_commands.proofs.AddingRuns.{not_loaded, ready_loaded}
+use Rattle.lr_commands.proofs.Discarding.{not_begun, not_added, ok_from, told_line, cut_line, discard_once}
 use Rattle.lr_commands.proofs.discard.discard.Goals as goal
 
 pub returns-in-Err : goal.returns-in-Err
@@ -13,8 +14,8 @@ returns-in-Err g c =
 pub returns-in-Err-load : goal.returns-in-Err-load
 returns-in-Err-load g c =
     rw c.shelf_cause.ensures
-    (not_loaded g.D.Disk g.O.Sink c.args.number c.args.disk.now c.load.new.disk c.args.out.now c.load.result
-    c.in-Err-load.error c.load.ensures c.in-Err-load.is c.in-Err-load.ensures.refused)
+    (not_loaded g.D.Disk g.O.Sink (discard_asked c.args.number) (discard_once c.args.number) c.args.disk.now
+    c.load.new.disk c.args.out.now c.load.result c.in-Err-load.error c.load.ensures c.in-Err-load.is)
 
 pub returns-in-Err-discard : goal.returns-in-Err-discard
 returns-in-Err-discard g c =

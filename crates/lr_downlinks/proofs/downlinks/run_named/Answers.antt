@@ -1,4 +1,4 @@
-use Rattle.std.proofs.Common.{◌<◌, ◌+◌, ℕ, List, length, sym, ap, subst, ◌∙◌}
+use Rattle.std.proofs.Common.{◌<◌, ◌+◌, ℕ, List, length, sym, ap, subst, ◌∙◌, ◌^◌}
 use Rattle.lr_downlinks.specs.Books.{BookView}
 use Rattle.lr_downlinks.specs.Ending.{EndsWith}
 use Rattle.lr_downlinks.proofs.Running.{merges_over, order_fits}
@@ -7,7 +7,7 @@ use Rattle.lr_downlinks.proofs.downlinks.run_named.Goals as goal
 pub invariant_of-result : goal.invariant_of-result
 invariant_of-result g c = record {
   numbered =
-      subst (λ (l : List ℕ). c.len-base.result + length l < 18446744073709551616) (sym c.into_bytes.ensures)
+      subst (λ (l : List ℕ). c.len-base.result + length l < 2 ^ 64) (sym c.into_bytes.ensures)
       (order_fits g.N.Beginning.start _ c.book.invariant.files c.len-base.result
       (c.len-base.ensures ∙ sym (ap (λ w. length w.entries) c.requires.begun.way_is)));
 }

@@ -1,4 +1,5 @@
 use Rattle.std.proofs.Common.{◌≡◌, ◌*◌, ◌++◌, Bool, List, length, map, take, drop}
+use Rattle.lr_bits.specs.declared.sizes.TheConstants.{FRAME_SYMBOLS}
 use Rattle.lr_conv.specs.Convolution.{code}
 use Rattle.lr_conv.specs.Encoder.{StandsFor}
 use Rattle.lr_conv.specs.declared.line.TheConstants.{STANDARD}
@@ -8,7 +9,7 @@ use Rattle.lr_make.proofs.symbols.put_symbols.Given as goal
 
 abbrev pub invariant-loop-place : goal.invariant-loop-place
 invariant-loop-place l = record {
-  long : length l.symbols ≡ 16384;
+  long : length l.symbols ≡ FRAME_SYMBOLS;
   code : (past bits : List Bool) → StandsFor l.initial.encoder past bits
       → take (2 * l.place) l.symbols ≡ map level (drop (2 * length bits)
       (code STANDARD past (bits ++ first_bits l.bytes l.place)));

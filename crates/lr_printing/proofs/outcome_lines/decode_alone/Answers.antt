@@ -1,5 +1,5 @@
 use Rattle.std.proofs.Common.{rules, ap, sym}
-use Rattle.lr_reading.specs.Readers.{ReaderView}
+use Rattle.lr_reading.specs.Readers.{ReaderView, most_waiting}
 use Rattle.lr_printing.specs.Decode.{decode_text, decode_last}
 use Rattle.lr_printing.proofs.Lines.{none_read}
 use Rattle.lr_printing.proofs.outcome_lines.decode_alone.Goals as goal
@@ -10,6 +10,11 @@ returns-in-Err g c =
     c.args.source.now c.args.out.now
 
 pub decode_with-requires-clause-leads : goal.decode_with-requires-clause-leads
-decode_with-requires-clause-leads g c =
-    rw (sym (ap (λ (r : ReaderView). r.input) c.in-Ok.ensures), sym (ap (λ (r : ReaderView). r.most) c.in-Ok.ensures))
-    (search rules)
+decode_with-requires-clause-leads g c = (
+  most_waiting c.in-Ok.reader.input c.in-Ok.reader.workers,
+  rw (
+    sym (ap (λ (r : ReaderView). r.input) c.in-Ok.ensures),
+    sym (ap (λ (r : ReaderView). r.most) c.in-Ok.ensures),
+  )
+      (search rules),
+)

@@ -1,6 +1,7 @@
 use Rattle.std.proofs.Common.{◌∙◌, ◌+◌, ◌*◌, ◌≤◌, refl, ap, arith}
 use Rattle.std.proofs.lemmas.Result.{err_from_is_err_and}
 use Rattle.lr_bits.specs.declared.outcome.Outcome.{Outcome}
+use Rattle.lr_bits.specs.declared.sizes.TheConstants.{FRAME_BYTES}
 use Rattle.lr_reading.specs.Arrivals.{arrival_of}
 use Rattle.lr_reading.specs.Inputs.{outcome_of_unit}
 use Rattle.lr_reading.proofs.UnitLoop.{units_begun, frames_fit, may_take, units_stopped, units_more, units_ended}
@@ -36,7 +37,7 @@ returns-in_err-take-in-Whole-clause-some g c =
 pub overflow_add-frames : goal.overflow_add-frames
 overflow_add-frames g c =
     let why = c.in-Whole.ensures.reason in
-    let fits : 892 * (c.units.frames + 1) ≤ c.args.most =
+    let fits : FRAME_BYTES * (c.units.frames + 1) ≤ c.args.most =
     frames_fit g.S.Source g.C.Consumer.took c.args.form g.row.N c.args.most c.requires.size c.units.invariant
     c.in-Whole.ensures.gathered why.0 why.1 in
     omega (arith, fits)

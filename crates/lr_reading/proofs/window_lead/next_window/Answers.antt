@@ -10,7 +10,7 @@ returns-in-Whole-clause-offers g c = λ line limit bytes given windows kept s so
     (record c.args.intake.now { feed = c.next.new.self; spare = c.pop.new.self }) c.next.new.window
     c.next.new.source (c.in-Whole.ensures.feeds line bytes given s so.feeds) c.in-Whole.ensures.most going refl
     (spare_left c.args.intake.now.spare.items c.pop.new.self.items c.in-Some.window c.in-Some.ensures.items
-    so.jobs.spare_lines)
+    so.jobs.spare_lines) (c.in-Whole.ensures.short refl)
 
 pub returns-in-Ended-clause-offers : goal.returns-in-Ended-clause-offers
 returns-in-Ended-clause-offers g c = λ line limit bytes given windows kept s so. (

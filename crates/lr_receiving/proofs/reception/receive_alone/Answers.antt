@@ -7,12 +7,13 @@ use Rattle.lr_receiving.proofs.reception.receive_alone.Goals as goal
 pub returns-in-Err : goal.returns-in-Err
 returns-in-Err g c =
     not_made (world_of g.S.Source g.D.Disk g.O.Sink) g.met.D.Disk.only_now c.args.input
-    c.args.most (outside c.args.source.now c.args.disk.now c.args.out.now)
+    1 c.args.most (outside c.args.source.now c.args.disk.now c.args.out.now)
 
-pub receive_with-requires-clause-leads : goal.receive_with-requires-clause-leads
-receive_with-requires-clause-leads g c =
+pub returns : goal.returns
+returns g c = c.receive_with.ensures 1 (
     rw (
       sym (ap (λ (r : ReaderView). r.input) c.in-Ok.ensures),
       sym (ap (λ (r : ReaderView). r.most) c.in-Ok.ensures),
+      sym (ap (λ (r : ReaderView). r.workers) c.in-Ok.ensures),
     )
-    (search rules)
+    (search rules))

@@ -1,5 +1,6 @@
 use Rattle.std.proofs.Common.{◌≡◌, ◌<◌, ℕ, List, length, arith, refl, subst, sym}
 use Rattle.std.specs.Prelude.{Result, Ok, Err, IfErr}
+use Rattle.lr_bits.specs.Sizes.{most_body_bytes}
 use Rattle.lr_rice.specs.CodedLines.{Form, form_of}
 use Rattle.lr_rice_coder.specs.declared.fault.CodeFault.{CodeFault}
 use Rattle.lr_rice_coder.specs.declared.fault.CodeFault.TheVariants.{Long, NoMemory}
@@ -9,7 +10,7 @@ use Rattle.lr_rice_coder.proofs.LawLemmas.{fillings_are_whole}
 use Rattle.lr_rice_coder.proofs.line.code_line.Goals as goal
 
 long_line : (result : Result (Unit {0}) CodeFault) (form : Form) (samples bytes : List ℕ)
-    → (result ≡ Err Long → 65534 < length bytes) → ArePaddedBits bytes (shortest_string form samples)
+    → (result ≡ Err Long → most_body_bytes < length bytes) → ArePaddedBits bytes (shortest_string form samples)
     → IfErr result (IsFault form samples)
 long_line (Ok done) form samples bytes long fills = tt
 long_line (Err Long) form samples bytes long fills =

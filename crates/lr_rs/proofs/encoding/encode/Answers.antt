@@ -2,12 +2,13 @@ use Rattle.std.proofs.Common.{◌≡◌, ℕ, ◌<◌, ◌∙◌, sym, slice_ind
 use Rattle.lr_rs.specs.Words.{IsWord, IsCodeword}
 use Rattle.lr_rs.proofs.CheckBytes.{encoded_is_codeword, encoded_is_only, encoded_is_word, begins_with}
 use Rattle.lr_rs.proofs.encoding.encode.Goals as goal
+use Rattle.lr_rs.specs.declared.sizes.TheConstants.{INFORMATION_BYTES}
 
-begins : (c : goal.After-put_check) → (i : ℕ) → i < 223 → slice_index c.put_check.new.word i
+begins : (c : goal.After-put_check) → (i : ℕ) → i < INFORMATION_BYTES → slice_index c.put_check.new.word i
     ≡ slice_index c.args.information.now i
 begins c i h = c.put_check.ensures.kept i h ∙ c.put_information.ensures.begins i h
 
-starts : (c : goal.After-put_check) → take 223 c.put_check.new.word ≡ c.args.information.now
+starts : (c : goal.After-put_check) → take INFORMATION_BYTES c.put_check.new.word ≡ c.args.information.now
 starts c = begins_with c.args.information.now c.put_check.new.word c.told-information c.put_check.array_long (begins c)
 
 word : (c : goal.After-put_check) → IsWord c.put_check.new.word

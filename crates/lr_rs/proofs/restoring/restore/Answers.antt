@@ -6,16 +6,17 @@ use Rattle.lr_rs.specs.Words.{distance, IsCodeword}
 use Rattle.lr_rs.proofs.KeyEquation.{at_most_sixteen}
 use Rattle.lr_rs.proofs.Exactness.{Found, there_is_a_solution, it_is_the_codeword, distance-self}
 use Rattle.lr_rs.proofs.restoring.restore.Goals as goal
+use Rattle.lr_rs.specs.declared.sizes.TheConstants.{WORD_BYTES}
 
 pub returns-then-is_codeword-clause-restored : goal.returns-then-is_codeword-clause-restored
 returns-then-is_codeword-clause-restored c = record {
   is_word = c.is_codeword.ensures.word;
   is_codeword = c.is_codeword.ensures.codeword.0 (cc);
-  near = omega (arith, distance-self 255 c.args.word.now);
+  near = omega (arith, distance-self WORD_BYTES c.args.word.now);
 }
 
 pub returns-then-is_codeword-clause-changed : goal.returns-then-is_codeword-clause-changed
-returns-then-is_codeword-clause-changed c = sym (distance-self 255 c.args.word.now)
+returns-then-is_codeword-clause-changed c = sym (distance-self WORD_BYTES c.args.word.now)
 
 -- the polynomial isn't 0, so it has at most sixteen roots
 pub returns-then-count-gt-MOST_ERRORS-clause-none : goal.returns-then-count-gt-MOST_ERRORS-clause-none
@@ -92,7 +93,7 @@ returns-then-changed-gt-MOST_ERRORS-clause-none c c' r =
     absurd (omega (
       arith,
       c.distance_of-changed.ensures,
-      ap (distance 255 c.args.word.now) same,
+      ap (distance WORD_BYTES c.args.word.now) same,
       r.near,
       c.if-changed-gt-MOST_ERRORS.true,
     ))

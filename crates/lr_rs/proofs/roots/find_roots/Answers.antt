@@ -7,10 +7,11 @@ use Rattle.lr_rs.proofs.KeyEquation.{roots_start, roots_more, roots_skip}
 use Rattle.lr_rs.proofs.TermSteps.{AreTerms, terms_start, terms_next, terms_value}
 use Rattle.lr_rs.proofs.roots.find_roots.Goals as goal
 use Rattle.lr_rs.proofs.roots.find_roots.Goals.{then-here-eq0, else-here-eq0}
+use Rattle.lr_rs.specs.declared.sizes.TheConstants.{WORD_BYTES}
 
 abbrev Kept : List ℕ → List ℕ → ℕ → ℕ → List ℕ → Type 0
 Kept cs terms place count places = AreTerms cs terms place × IsRootList cs place count places × (count ≤ place)
-    × (length places ≡ 255)
+    × (length places ≡ WORD_BYTES)
 
 pub loop-place-init : goal.loop-place-init
 loop-place-init c = (

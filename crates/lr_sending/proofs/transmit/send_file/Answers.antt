@@ -1,4 +1,5 @@
 use Rattle.std.proofs.Common.{◌≡◌, ◌++◌, ◌∷◌, [], ℕ, Result, Ok, Err, refl, sym, ◌∙◌, length}
+use Rattle.lr_bits.specs.declared.sizes.TheConstants.{FILL_CHANNEL}
 use Rattle.lr_commands.proofs.Texts.{on_ok}
 use Rattle.lr_uplink.specs.declared.uplink.UplinkFault.{UplinkFault}
 use Rattle.lr_uplink.specs.declared.uplink.UplinkFault.TheVariants.{Fill}
@@ -15,7 +16,8 @@ returns-in-Ok-clause-puts g c = λ line files sends.
     let wrong = c.args.wrong in
     let file = c.args.file in
     let all : ℕ = length (sent files) in
-    let other : file.vc ≡ 63 → ⊥ = λ fill. ok_or_fill c.in-Ok.field-0 (sym c.in-Ok.is ∙ c.load.ensures.fill.1 fill) in
+    let other : file.vc ≡ FILL_CHANNEL → ⊥ =
+    λ fill. ok_or_fill c.in-Ok.field-0 (sym c.in-Ok.is ∙ c.load.ensures.fill.1 fill) in
     let loaded = loaded_at line wrong files file c.load.new.self
     (c.in-Ok.ensures.loaded line (history_at wrong files all) sends refl) in
     on_ok c.put_frames.result
@@ -34,7 +36,8 @@ returns-in-Ok-clause-stops g c = λ line files sends.
     let wrong = c.args.wrong in
     let file = c.args.file in
     let all : ℕ = length (sent files) in
-    let other : file.vc ≡ 63 → ⊥ = λ fill. ok_or_fill c.in-Ok.field-0 (sym c.in-Ok.is ∙ c.load.ensures.fill.1 fill) in
+    let other : file.vc ≡ FILL_CHANNEL → ⊥ =
+    λ fill. ok_or_fill c.in-Ok.field-0 (sym c.in-Ok.is ∙ c.load.ensures.fill.1 fill) in
     let loaded = loaded_at line wrong files file c.load.new.self
     (c.in-Ok.ensures.loaded line (history_at wrong files all) sends refl) in
     on_stop c.put_frames.result

@@ -4,6 +4,7 @@ use Rattle.std.proofs.lemmas.Bool.{lt-ltb, le-ltb}
 use Rattle.lr_conv.specs.declared.line.LineCode.{LineCode}
 use Rattle.lr_trellis.specs.Trellis.{end_before, end_seven}
 use Rattle.lr_trellis.specs.Words.{branch_by, pair_of, end_cost, last_one}
+use Rattle.lr_trellis.specs.declared.costs.TheConstants.{STEP_COST}
 use Rattle.lr_trellis.proofs.Strings.{end_before_low}
 use Rattle.lr_trellis.proofs.ending.end_state.Goals as goal
 
@@ -26,7 +27,7 @@ module _ (line : LineCode) (last : List ℕ) (low symbols : ℕ) (is_low : low �
   unfolding branch_by
   far = ap (λ k. get_or last k 0) (ap (λ k. 3 - k) (e ∙ ap (λ s. pair_of (2 * s)) is_low) ∙ far_by line.marks)
 
-fits_sum : (a b d : ℕ) → a + 508 < 2 ^ 32 → b ≡ d → d ≤ 508 → Fits w32 (a + b)
+fits_sum : (a b d : ℕ) → a + STEP_COST < 2 ^ 32 → b ≡ d → d ≤ STEP_COST → Fits w32 (a + b)
 fits_sum a b d l e m = record { fits = omega arith }
 
 -- which end it is

@@ -4,6 +4,8 @@ use Rattle.std.specs.Prelude.{All}
 use Rattle.std.specs.List.{concat}
 use Rattle.std.proofs.lemmas.List.{length-map, get_or-map}
 use Rattle.lr_bits.specs.File.{File, IsFile, bytes_of}
+use Rattle.lr_bits.specs.declared.sizes.TheConstants.{SEQUENCE_COUNTS}
+use Rattle.lr_bits.specs.Sizes.{most_body_bytes}
 use Rattle.lr_make.specs.Packets.{packet_for_body}
 use Rattle.lr_uplink.specs.declared.packet.Packet.{Packet}
 use Rattle.lr_uplink.specs.Packets.{flags_at, file_packets, idle_packets}
@@ -16,7 +18,7 @@ record Body (file : File) (lengths : List ℕ) (index at : ℕ) : Type 0 where
   inside : index < length file.bodies
   size : get_or lengths index 0 ≡ length (get_or file.bodies index [])
   room : at + get_or lengths index 0 ≤ length (bytes_of file)
-  short : get_or lengths index 0 < 65535
+  short : get_or lengths index 0 ≤ most_body_bytes
   body : take (get_or lengths index 0) (drop at (bytes_of file)) ≡ get_or file.bodies index []
 
 body_by : (file : File) (lengths : List ℕ) (index at : ℕ) → IsFile file → lengths ≡ map length file.bodies →
@@ -36,7 +38,7 @@ body_by file lengths index at is e h place =
 -- its packet
 body_is : (file : File) (count index apid flags own : ℕ) (bytes body : List ℕ) (packet : Packet) →
     index < length file.bodies → bytes ≡ bytes_of file → apid ≡ file.apid →
-    flags ≡ flags_at (length file.bodies) index → own ≡ (count + index) % 16384 →
+    flags ≡ flags_at (length file.bodies) index → own ≡ (count + index) % SEQUENCE_COUNTS →
     body ≡ get_or file.bodies index [] → Carries packet bytes (packet_for_body apid flags own body) →
     IsPacketAt (file_packets count file) (bytes_of file) index packet
 body_is file count index apid flags own bytes body packet inside b a f o y carries =

@@ -1,6 +1,7 @@
 use Rattle.std.proofs.Common.{◌≡◌, ◌-◌, ◌<◌, ◌++◌, ◌∷◌, [], true, false, length, take, ap, ap₂, ◌∙◌, sym, subst}
 use Rattle.std.proofs.Common.{arith, rules}
 use Rattle.lr_bits.specs.Packet.{IsPacket}
+use Rattle.lr_bits.specs.declared.sizes.TheConstants.{CHANNELS, ZONE_BYTES}
 use Rattle.lr_vc.specs.Packets.{packet_end}
 use Rattle.lr_vc.proofs.Lists.{append_none}
 use Rattle.lr_vc.proofs.Carried.{completed_packet-by, completed_packet-long, continued_packet-long}
@@ -92,8 +93,8 @@ pub whole-requires : goal.whole-requires
 whole-requires c =
     let b = c.args.bytes in
     let z = c.args.frame.now.zone in
-    let zone_long : length z ≡ 884 = search rules in
-    let fits : c.args.frame.now.vc < 64 = c.args.frame.now.vc_fits in
+    let zone_long : length z ≡ ZONE_BYTES = search rules in
+    let fits : c.args.frame.now.vc < CHANNELS = c.args.frame.now.vc_fits in
     let long : length c.as_slice-so_far.result.now ≡ length b = ap length c.as_slice-so_far.ensures in
     let end : c.end_across-end.result ≡ packet_end (b ++ z) 0 =
     c.end_across-end.ensures.end ∙ ap (λ s. packet_end (s ++ z) 0) c.as_slice.ensures in

@@ -2,6 +2,7 @@ use Rattle.std.proofs.Common.{◌≡◌, ◌++◌, ◌∷◌, [], false, length,
 use Rattle.std.proofs.Common.{rules}
 use Rattle.std.proofs.lemmas.Bool.{false_from_ne_true}
 use Rattle.lr_bits.specs.Packet.{IsPacket}
+use Rattle.lr_bits.specs.declared.sizes.TheConstants.{ZONE_BYTES}
 use Rattle.lr_vc.specs.Packets.{is_whole, packet_at}
 use Rattle.lr_vc.specs.Steps.{packets_inside, starts_unfinished}
 use Rattle.lr_vc.proofs.Lists.{front_kept}
@@ -20,7 +21,7 @@ whole-requires c =
 pub loop-end-preserved : goal.loop-end-preserved
 loop-end-preserved c =
     let zone = c.args.zone.now in
-    let long : length zone ≡ 884 = search rules in
+    let long : length zone ≡ ZONE_BYTES = search rules in
     let start = c.loop-end.start in
     let done = c.loop-end.packets.items in
     let whole = c.in-Some.ensures.end.0 in
@@ -41,7 +42,7 @@ loop-end-preserved c =
 pub returns-clause-packets : goal.returns-clause-packets
 returns-clause-packets c =
     let zone = c.args.zone.now in
-    let long : length zone ≡ 884 = search rules in
+    let long : length zone ≡ ZONE_BYTES = search rules in
     let part : is_whole zone c.loop-end.start ≡ false =
     false_from_ne_true (is_whole zone c.loop-end.start) c.in_default.ensures.end in
     sym (append-nil c.loop-end.packets.items) ∙ ap (λ ps. c.loop-end.packets.items ++ ps)
@@ -50,7 +51,7 @@ returns-clause-packets c =
 pub returns-clause-unfinished : goal.returns-clause-unfinished
 returns-clause-unfinished c =
     let zone = c.args.zone.now in
-    let long : length zone ≡ 884 = search rules in
+    let long : length zone ≡ ZONE_BYTES = search rules in
     let part : is_whole zone c.loop-end.start ≡ false =
     false_from_ne_true (is_whole zone c.loop-end.start) c.in_default.ensures.end in
     sym c.loop-end.invariant.1 ∙ starts_unfinished-rest zone long c.loop-end.start part

@@ -1,5 +1,6 @@
 use Rattle.std.proofs.Common.{◌≡◌, ◌≤◌, Option, length, sym, ap, ◌∙◌, subst, rules, arith}
 use Rattle.lr_bits.specs.File.{File}
+use Rattle.lr_bits.specs.Sizes.{most_file_bytes}
 use Rattle.lr_packet.specs.Reading.{good}
 use Rattle.lr_file.specs.Standing.{Open, Kept, StandsFor, kept_of_key}
 use Rattle.lr_file.specs.Steps.{IsFileOf, JoinsNothing, completed_file}
@@ -10,7 +11,7 @@ use Rattle.lr_file.proofs.files.Files.push.Goals as goal
 pub returns-clause-stands : goal.returns-clause-stands
 returns-clause-stands c =
     let p = good c.args.packet.now in
-    let short : length p.body ≤ 67108864 = omega (arith, c.args.packet.now.body_fits) in
+    let short : length p.body ≤ most_file_bytes = omega (arith, c.args.packet.now.body_fits) in
     let old : Kept = record { spent = c.self.inside.spent; files = c.self.inside.files.entries } in
     let new : Kept = record { spent = c.is_err-self-inside.result; files = c.join-result.new.files.entries } in
     λ packets stands.
@@ -22,7 +23,7 @@ returns-clause-stands c =
 pub returns-clause-file : goal.returns-clause-file
 returns-clause-file c =
     let p = good c.args.packet.now in
-    let short : length p.body ≤ 67108864 = omega (arith, c.args.packet.now.body_fits) in
+    let short : length p.body ≤ most_file_bytes = omega (arith, c.args.packet.now.body_fits) in
     let old : Kept = record { spent = c.self.inside.spent; files = c.self.inside.files.entries } in
     λ packets stands.
     let before = subst (λ (kept : Kept). StandsFor kept packets) (sym c.self.view_is) stands in

@@ -1,5 +1,6 @@
 use Rattle.std.proofs.Common.{◌≡◌, ◌+◌, ◌≤◌, true, false, Option, None, Some, List, Bool, ℤ, drop, length, refl, sym}
 use Rattle.std.proofs.Common.{◌∙◌, ap, subst, arith}
+use Rattle.lr_bits.specs.declared.sizes.TheConstants.{FRAME_SYMBOLS}
 use Rattle.lr_lock.specs.Frames.{last_of}
 use Rattle.lr_conv.specs.Marker.{tail_of}
 use Rattle.lr_conv.specs.declared.line.LineCode.{LineCode}
@@ -10,6 +11,7 @@ use Rattle.lr_lock.specs.Steps.{Answers, GivesWindow}
 use Rattle.lr_lock.specs.Windows.{WindowView, window_of}
 use Rattle.lr_lock.specs.declared.frame.Frame.{Frame}
 use Rattle.lr_lock.specs.declared.step.Step.{Step}
+use Rattle.lr_lock.specs.declared.sizes.TheConstants.{WINDOW_END}
 use Rattle.lr_lock.proofs.Stepping.{given_window, wanted_more, had_ended, dropped}
 use Rattle.lr_lock.proofs.lock.Lock.next_window.Goals as goal
 use Rattle.lr_lock.proofs.lock.Lock.next_window.Goals.{then-self, else-self, then-self-2, else-self-2}
@@ -30,19 +32,20 @@ returns-in-Some-clause-answers c fed given h =
     subst (λ (o : Option Frame). FindsOrWaits (tail_of c.self.inside.line) fed
     (last_of None given) c.find_next-found.result.held
     (c.self.inside.place + c.find_next-found.result.passed) c.if-self.needed o) c.in-Some.is sees in
-    let big : 16384 ≤ c.if-self.needed =
+    let big : FRAME_SYMBOLS ≤ c.if-self.needed =
     elim c.if-self.branch [ then-self w ↦ omega (arith, w.needed-is) | else-self w ↦ omega (arith, w.needed-is) ] in
-    let sure : c.self.inside.finished ≡ false → c.if-self.needed ≡ 16396 =
+    let sure : c.self.inside.finished ≡ false → c.if-self.needed ≡ WINDOW_END =
     elim c.if-self.branch as (λ _. c.self.inside.finished ≡ false →
-    c.if-self.needed ≡ 16396) [
+    c.if-self.needed ≡ WINDOW_END) [
       | then-self w ↦ (λ (e : c.self.inside.finished ≡ false). cc)
       | else-self w ↦
           (λ (e : c.self.inside.finished ≡ false). w.needed-is)
     ] in
-    let left : drop (c.self.inside.passed + c.find_next-found.result.passed + 16384) c.self.inside.symbols.items ≡
-    drop (c.find_next-found.result.passed + 16384) (drop c.self.inside.passed c.self.inside.symbols.items) =
-    dropped c.self.inside.symbols.items c.self.inside.passed (c.find_next-found.result.passed + 16384)
-    (c.self.inside.passed + c.find_next-found.result.passed + 16384) (omega arith) in
+    let left : drop
+    (c.self.inside.passed + c.find_next-found.result.passed + FRAME_SYMBOLS) c.self.inside.symbols.items ≡
+    drop (c.find_next-found.result.passed + FRAME_SYMBOLS) (drop c.self.inside.passed c.self.inside.symbols.items) =
+    dropped c.self.inside.symbols.items c.self.inside.passed (c.find_next-found.result.passed + FRAME_SYMBOLS)
+    (c.self.inside.passed + c.find_next-found.result.passed + FRAME_SYMBOLS) (omega arith) in
     let from : c.kept_symbols-in-Some.result.now ≡ drop c.find_next-found.result.passed
     (drop c.self.inside.passed c.self.inside.symbols.items) =
     c.kept_symbols-in-Some.ensures
@@ -76,8 +79,8 @@ returns-in-Some-clause-answers c fed given h =
     let later : LockState =
     record {
       line = c.self.inside.line;
-      place = c.self.inside.place + c.find_next-found.result.passed + 16384;
-      kept = drop (c.self.inside.passed + c.find_next-found.result.passed + 16384) c.self.inside.symbols.items;
+      place = c.self.inside.place + c.find_next-found.result.passed + FRAME_SYMBOLS;
+      kept = drop (c.self.inside.passed + c.find_next-found.result.passed + FRAME_SYMBOLS) c.self.inside.symbols.items;
       held = Some c.in-Some.frame;
       finished = c.self.inside.finished;
     } in
@@ -102,16 +105,16 @@ returns-after-self-2-clause-answers c fed given h =
     subst (λ (o : Option Frame). FindsOrWaits (tail_of c.self.inside.line) fed
     (last_of None given) c.find_next-found.result.held
     (c.self.inside.place + c.find_next-found.result.passed) c.if-self.needed o) c.in-None.is sees in
-    let more : c.self.inside.finished ≡ false → c.if-self.needed ≡ 16396 =
+    let more : c.self.inside.finished ≡ false → c.if-self.needed ≡ WINDOW_END =
     elim c.if-self.branch as (λ _. c.self.inside.finished ≡ false →
-    c.if-self.needed ≡ 16396) [
+    c.if-self.needed ≡ WINDOW_END) [
       | then-self w ↦ (λ (e : c.self.inside.finished ≡ false). cc)
       | else-self w ↦
           (λ (e : c.self.inside.finished ≡ false). w.needed-is)
     ] in
-    let ends : c.self.inside.finished ≡ true → c.if-self.needed ≡ 16384 =
+    let ends : c.self.inside.finished ≡ true → c.if-self.needed ≡ FRAME_SYMBOLS =
     elim c.if-self.branch as (λ _. c.self.inside.finished ≡ true →
-    c.if-self.needed ≡ 16384) [
+    c.if-self.needed ≡ FRAME_SYMBOLS) [
       | then-self w ↦ (λ (e : c.self.inside.finished ≡ true). w.needed-is)
       | else-self w ↦
           (λ (e : c.self.inside.finished ≡ true). cc)

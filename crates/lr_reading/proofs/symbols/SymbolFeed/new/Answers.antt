@@ -10,5 +10,10 @@ pub invariant_of-result : goal.invariant_of-result
 invariant_of-result c =
     let stands = c.in_ok-lock.ensures.stands in
     let within = stands.within in
-    let short = ap length stands.rest in
-    (search rules, omega arith, c.requires, omega (arith, short, length-drop {A = ℤ} c.in_ok-lock.lock.place []))
+    let short = ap length stands.rest in (
+      search rules,
+      omega arith,
+      c.requires,
+      omega (arith, short, length-drop {A = ℤ} c.in_ok-lock.lock.place []),
+      omega (arith, short, length-drop {A = ℤ} c.in_ok-lock.lock.place []),
+    )

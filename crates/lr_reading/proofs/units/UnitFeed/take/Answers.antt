@@ -13,7 +13,7 @@ returns-clause-gathered g c =
     piece_taken g.S.Source c.args.source.now c.take.new.self c.args.self.now inside.buffer c.take.new.into
     inside.filled room c.in_ok-count.count inside.taken inside.most filled enough few
     c.in_ok-count.ensures.told c.in_ok-count.ensures.moved
-    (asked_once g.S.Source c.args.source.now c.take.new.self c.in_ok-count.ensures.asked) c.self.view_is
+    (asked_once g.S.Source c.args.source.now c.take.new.self _ c.in_ok-count.ensures.asked) c.self.view_is
 
 pub returns-in_err-count-clause-gathered : goal.returns-in_err-count-clause-gathered
 returns-in_err-count-clause-gathered g c =
@@ -24,4 +24,4 @@ returns-in_err-count-clause-gathered g c =
     none_taken g.S.Source c.args.source.now c.take.new.self c.args.self.now inside.buffer c.take.new.into
     inside.filled room inside.taken inside.most filled few c.in_err-count.ensures.told
     (λ tells. sym (c.in_err-count.ensures.failed tells))
-    (asked_once g.S.Source c.args.source.now c.take.new.self c.in_err-count.ensures.asked) c.self.view_is
+    (asked_once g.S.Source c.args.source.now c.take.new.self _ c.in_err-count.ensures.asked) c.self.view_is

@@ -3,6 +3,7 @@ use Rattle.std.proofs.Common.{arith, inl, inr, length-set, drop-drop, add-zero}
 use Rattle.std.proofs.lemmas.Bool.{cases_eq}
 use Rattle.std.proofs.lemmas.Grind.{same_number_lists}
 use Rattle.std.proofs.lemmas.List.{get_or-set_same, get_or-set_other, get_or-drop, get_or-take, length-take-le}
+use Rattle.lr_bits.specs.declared.sizes.TheConstants.{ZONE_BYTES}
 use Rattle.lr_uplink.specs.Progress.{IsSending}
 use Rattle.lr_uplink.proofs.sending.Sending.fill.Goals as goal
 
@@ -40,14 +41,14 @@ pub returns-clause-zone : goal.returns-clause-zone
 returns-clause-zone c = λ file count rest s enough.
     let zone = c.loop-place.zone in
     let kept = c.loop-place.invariant in
-    let end : c.loop-place.place ≡ 884 = omega arith in
-    let size : length (take 884 rest) ≡ 884 = length-take-le 884 rest enough in
-    same_number_lists zone (take 884 rest) (kept.long ∙ sym size) (λ i h.
+    let end : c.loop-place.place ≡ ZONE_BYTES = omega arith in
+    let size : length (take ZONE_BYTES rest) ≡ ZONE_BYTES = length-take-le ZONE_BYTES rest enough in
+    same_number_lists zone (take ZONE_BYTES rest) (kept.long ∙ sym size) (λ i h.
     kept.bytes file count rest s i (omega (arith, kept.long))
-    ∙ sym (get_or-take 884 rest i 0 (omega (arith, kept.long))))
+    ∙ sym (get_or-take ZONE_BYTES rest i 0 (omega (arith, kept.long))))
 
 pub returns-clause-moves : goal.returns-clause-moves
 returns-clause-moves c = λ file count rest s.
-    let end : c.loop-place.place ≡ 884 = omega arith in
+    let end : c.loop-place.place ≡ ZONE_BYTES = omega arith in
     subst (λ k. IsSending c.loop-place.self file count (drop k rest)) end
     (c.loop-place.invariant.stands file count rest s)

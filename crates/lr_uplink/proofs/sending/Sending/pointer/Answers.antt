@@ -1,6 +1,7 @@
 use Rattle.std.proofs.Common.{◌≡◌, ◌∙◌, ◌-◌, ◌*◌, ◌<◌, [], ◌++◌, length, drop, get_or, sym, ap}
 use Rattle.std.proofs.Common.{arith, suc, length-drop}
 use Rattle.std.specs.List.{concat}
+use Rattle.lr_bits.specs.declared.sizes.TheConstants.{ZONE_BYTES}
 use Rattle.lr_uplink.specs.Packets.{file_packets}
 use Rattle.lr_uplink.specs.Pieces.{size_of_packet}
 use Rattle.lr_uplink.proofs.FilePackets.{file_tells}
@@ -11,7 +12,7 @@ use Rattle.lr_uplink.proofs.sending.Sending.pointer.Goals as goal
 pub returns-then-self-eq0-clause-value : goal.returns-then-self-eq0-clause-value
 returns-then-self-eq0-clause-value c = λ file count t room s.
     let packets = file_packets count file in
-    let r = rest_of c.args.self.now file count (drop (884 * t) (concat packets)) s.part in
+    let r = rest_of c.args.self.now file count (drop (ZONE_BYTES * t) (concat packets)) s.part in
     sym (pointer_first packets (file_tells count file s.part.is) t c.args.self.now.index room s.part.packet.there
     (r ∙ ap (λ k. drop k (get_or packets c.args.self.now.index []) ++ concat
     (drop (suc c.args.self.now.index) packets)) c.if-self-eq0.true))
@@ -20,8 +21,9 @@ pub returns-then-left-lt-ZONE_BYTES-clause-value : goal.returns-then-left-lt-ZON
 returns-then-left-lt-ZONE_BYTES-clause-value c = λ file count t room s.
     let packets = file_packets count file in
     let sending = c.args.self.now in
-    let r = rest_of sending file count (drop (884 * t) (concat packets)) s.part in
-    let some : 0 < length (drop (884 * t) (concat packets)) = omega (arith, length-drop (884 * t) (concat packets)) in
+    let r = rest_of sending file count (drop (ZONE_BYTES * t) (concat packets)) s.part in
+    let some : 0 < length (drop (ZONE_BYTES * t) (concat packets)) =
+    omega (arith, length-drop (ZONE_BYTES * t) (concat packets)) in
     let size : size_of_packet sending.packet ≡ length (get_or packets sending.index []) = s.part.packet.carries.size in
     let value : c.len.result ≡ size_of_packet sending.packet = c.len.ensures.value in
     let going : sending.sent < size_of_packet sending.packet = s.going some in
@@ -34,8 +36,9 @@ pub returns-else-left-lt-ZONE_BYTES-clause-value : goal.returns-else-left-lt-ZON
 returns-else-left-lt-ZONE_BYTES-clause-value c = λ file count t room s.
     let packets = file_packets count file in
     let sending = c.args.self.now in
-    let r = rest_of sending file count (drop (884 * t) (concat packets)) s.part in
-    let some : 0 < length (drop (884 * t) (concat packets)) = omega (arith, length-drop (884 * t) (concat packets)) in
+    let r = rest_of sending file count (drop (ZONE_BYTES * t) (concat packets)) s.part in
+    let some : 0 < length (drop (ZONE_BYTES * t) (concat packets)) =
+    omega (arith, length-drop (ZONE_BYTES * t) (concat packets)) in
     let size : size_of_packet sending.packet ≡ length (get_or packets sending.index []) = s.part.packet.carries.size in
     let value : c.len.result ≡ size_of_packet sending.packet = c.len.ensures.value in
     let going : sending.sent < size_of_packet sending.packet = s.going some in

@@ -2,6 +2,7 @@ use Rattle.std.proofs.Common.{◌≡◌, ap, sym, subst, refl, arith, ℕ, List,
 use Rattle.std.proofs.lemmas.List.{get_or-replicate}
 use Rattle.std.proofs.lemmas.List.Elements.{All-nil}
 use Rattle.lr_conv.specs.LineEncoder as encoders
+use Rattle.lr_bits.specs.declared.sizes.TheConstants.{CHANNELS}
 use Rattle.lr_file.specs.Standing.{AreAscending, kept_of_key}
 use Rattle.lr_sent.proofs.Splitting.{bits-none}
 use Rattle.lr_uplink.specs.Received.{IsSendable}
@@ -16,9 +17,9 @@ no_counts counts none once = record {
   each = λ vc apid. ap (λ (kept : List ((ℕ × ℕ) × ℕ)). unwrap_or (kept_of_key kept vc apid) 0) none;
 }
 
-at_rest : IsAtRest (replicate 64 0) [] 0
+at_rest : IsAtRest (replicate CHANNELS 0) [] 0
 unfolding frames_before sent
-at_rest = record { count = refl; counted = λ c below. get_or-replicate 64 c 0 0 below }
+at_rest = record { count = refl; counted = λ c below. get_or-replicate CHANNELS c 0 0 below }
 
 pub returns : goal.returns
 returns c = record {

@@ -1,7 +1,8 @@
-use Rattle.std.proofs.Common.{◌≡◌, ◌∙◌, ◌+◌, ◌*◌, ◌%◌, ap, sym, subst, refl, arith, ℕ, List, length}
+use Rattle.std.proofs.Common.{◌≡◌, ◌∙◌, ◌+◌, ◌*◌, ◌%◌, ap, sym, subst, refl, arith, ℕ, List, length, ◌^◌}
 use Rattle.std.proofs.Common.{drop, get_or, set, true≢false}
 use Rattle.std.specs.List.{concat}
 use Rattle.std.proofs.lemmas.List.{take_all}
+use Rattle.lr_bits.specs.declared.sizes.TheConstants.{SEQUENCE_COUNTS, ZONE_BYTES}
 use Rattle.lr_sent.specs.Sent.{AreSentFor}
 use Rattle.lr_uplink.specs.Sent.{sent}
 use Rattle.lr_uplink.specs.Packets.{file_packets}
@@ -38,7 +39,7 @@ returns-then-not-is_done-clause-frame c = λ line history s _.
     s.frames in
     let place : c.from-place.result ≡ way.file.vc =
     c.from-place.ensures ∙ c.vc.ensures.value ∙ ap (λ f. f.vc) way.left.part.same in
-    let counted = first_count counters sending history.files history.given way % 16384 in
+    let counted = first_count counters sending history.files history.given way % SEQUENCE_COUNTS in
     frame_is counters sending history.files history.given way c.put_next.new.frame
     (get_or counters c.from-place.result 0) (ap (λ k. get_or counters k 0) place)
     (c.put_next.ensures.frame way.file counted way.frames (room counters sending history.files history.given way)
@@ -53,9 +54,9 @@ returns-then-not-is_done-clause-given c = λ line history s _.
     s.frames in
     let place : c.from-place.result ≡ way.file.vc =
     c.from-place.ensures ∙ c.vc.ensures.value ∙ ap (λ f. f.vc) way.left.part.same in
-    let counted = first_count counters sending history.files history.given way % 16384 in
-    let rest : List ℕ = drop (884 * way.frames) (concat (file_packets counted way.file)) in
-    let counter : ℕ = (get_or counters c.from-place.result 0 + 1) % 4294967296 in
+    let counted = first_count counters sending history.files history.given way % SEQUENCE_COUNTS in
+    let rest : List ℕ = drop (ZONE_BYTES * way.frames) (concat (file_packets counted way.file)) in
+    let counter : ℕ = (get_or counters c.from-place.result 0 + 1) % 2 ^ 32 in
     let moved = c.put_next.ensures.moves way.file counted rest
     (left_is counters sending history.files history.given way) in
     record {
@@ -65,8 +66,8 @@ returns-then-not-is_done-clause-given c = λ line history s _.
           subst (λ k. IsUnderWay (set counters k counter) c.put_next.new.sending history.files (history.given + 1))
           (sym place)
           (goes_on counters sending history.files history.given way (omega arith) counter
-          (ap (λ k. (get_or counters k 0 + 1) % 4294967296) place) c.put_next.new.sending moved
-          (λ none. true≢false (sym ((c.is_done.ensures way.file counted (drop 884 rest) moved).1 none)
+          (ap (λ k. (get_or counters k 0 + 1) % 2 ^ 32) place) c.put_next.new.sending moved
+          (λ none. true≢false (sym ((c.is_done.ensures way.file counted (drop ZONE_BYTES rest) moved).1 none)
           ∙ c.if-not-is_done.true)));
       given = omega (arith, s.given);
       blocks = s.blocks;
@@ -91,7 +92,7 @@ returns-else-not-is_done-clause-frame c = λ line history s _.
     s.frames in
     let place : c.from-place.result ≡ way.file.vc =
     c.from-place.ensures ∙ c.vc.ensures.value ∙ ap (λ f. f.vc) way.left.part.same in
-    let counted = first_count counters sending history.files history.given way % 16384 in
+    let counted = first_count counters sending history.files history.given way % SEQUENCE_COUNTS in
     frame_is counters sending history.files history.given way c.put_next.new.frame
     (get_or counters c.from-place.result 0) (ap (λ k. get_or counters k 0) place)
     (c.put_next.ensures.frame way.file counted way.frames (room counters sending history.files history.given way)
@@ -106,9 +107,9 @@ returns-else-not-is_done-clause-given c = λ line history s _.
     s.frames in
     let place : c.from-place.result ≡ way.file.vc =
     c.from-place.ensures ∙ c.vc.ensures.value ∙ ap (λ f. f.vc) way.left.part.same in
-    let counted = first_count counters sending history.files history.given way % 16384 in
-    let rest : List ℕ = drop (884 * way.frames) (concat (file_packets counted way.file)) in
-    let counter : ℕ = (get_or counters c.from-place.result 0 + 1) % 4294967296 in
+    let counted = first_count counters sending history.files history.given way % SEQUENCE_COUNTS in
+    let rest : List ℕ = drop (ZONE_BYTES * way.frames) (concat (file_packets counted way.file)) in
+    let counter : ℕ = (get_or counters c.from-place.result 0 + 1) % 2 ^ 32 in
     let moved = c.put_next.ensures.moves way.file counted rest
     (left_is counters sending history.files history.given way) in
     record {
@@ -119,8 +120,8 @@ returns-else-not-is_done-clause-given c = λ line history s _.
           (sym c.take.ensures.after)
           (subst (λ k. IsAtRest (set counters k counter) history.files (history.given + 1)) (sym place)
           (is_done counters sending history.files history.given way (omega arith) counter
-          (ap (λ k. (get_or counters k 0 + 1) % 4294967296) place) c.put_next.new.sending moved
-          ((c.is_done.ensures way.file counted (drop 884 rest) moved).0 c.if-not-is_done.false)));
+          (ap (λ k. (get_or counters k 0 + 1) % 2 ^ 32) place) c.put_next.new.sending moved
+          ((c.is_done.ensures way.file counted (drop ZONE_BYTES rest) moved).0 c.if-not-is_done.false)));
       given = omega (arith, s.given);
       blocks = s.blocks;
       encoder = s.encoder;

@@ -1,4 +1,5 @@
 use Rattle.std.proofs.Common.{◌≡◌, ◌<◌, ◌++◌, length, length-append, ap, ◌∙◌, sym, subst, arith, rules}
+use Rattle.lr_bits.specs.declared.sizes.TheConstants.{CHANNELS, FILL_CHANNEL, ZONE_BYTES}
 use Rattle.lr_vc.specs.Reading.{fields}
 use Rattle.lr_vc.specs.Standing.{Kept, StandsFor, kept_at}
 use Rattle.lr_vc.proofs.Lists.{append_none}
@@ -10,7 +11,7 @@ use Rattle.lr_vc.proofs.channels.Channels.push.Goals as goal
 
 pub returns-then-frame-eq-FILL_CHANNEL-clause-stands : goal.returns-then-frame-eq-FILL_CHANNEL-clause-stands
 returns-then-frame-eq-FILL_CHANNEL-clause-stands c =
-    let long : length c.args.frame.now.zone ≡ 884 = search rules in
+    let long : length c.args.frame.now.zone ≡ ZONE_BYTES = search rules in
     λ history h. stands_fill c.args.self.now history (fields c.args.frame.now) c.if-frame-eq-FILL_CHANNEL.true long h
 
 pub returns-then-frame-eq-FILL_CHANNEL-clause-packets : goal.returns-then-frame-eq-FILL_CHANNEL-clause-packets
@@ -21,9 +22,9 @@ returns-then-frame-eq-FILL_CHANNEL-clause-packets c =
 pub returns-clause-stands : goal.returns-clause-stands
 returns-clause-stands c =
     let f = fields c.args.frame.now in
-    let long : length c.args.frame.now.zone ≡ 884 = search rules in
-    let fits : c.args.frame.now.vc < 64 = c.args.frame.now.vc_fits in
-    let below : c.args.frame.now.vc < 63 = omega (arith, c.if-frame-eq-FILL_CHANNEL.false) in
+    let long : length c.args.frame.now.zone ≡ ZONE_BYTES = search rules in
+    let fits : c.args.frame.now.vc < CHANNELS = c.args.frame.now.vc_fits in
+    let below : c.args.frame.now.vc < FILL_CHANNEL = omega (arith, c.if-frame-eq-FILL_CHANNEL.false) in
     let none = sym c.is_err.ensures.value ∙ c.if-is_err.false in
     let old : Kept = record { spent = c.self.inside.spent; channels = c.self.inside.channels.items } in
     let new : Kept = record { spent = c.self.inside.spent; channels = c.push_to_channel.new.channels.items } in
@@ -36,9 +37,9 @@ returns-clause-stands c =
 pub returns-clause-packets : goal.returns-clause-packets
 returns-clause-packets c =
     let f = fields c.args.frame.now in
-    let long : length c.args.frame.now.zone ≡ 884 = search rules in
-    let fits : c.args.frame.now.vc < 64 = c.args.frame.now.vc_fits in
-    let below : c.args.frame.now.vc < 63 = omega (arith, c.if-frame-eq-FILL_CHANNEL.false) in
+    let long : length c.args.frame.now.zone ≡ ZONE_BYTES = search rules in
+    let fits : c.args.frame.now.vc < CHANNELS = c.args.frame.now.vc_fits in
+    let below : c.args.frame.now.vc < FILL_CHANNEL = omega (arith, c.if-frame-eq-FILL_CHANNEL.false) in
     let none = sym c.is_err.ensures.value ∙ c.if-is_err.false in
     let old : Kept = record { spent = c.self.inside.spent; channels = c.self.inside.channels.items } in
     λ history h.

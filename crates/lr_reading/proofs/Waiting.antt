@@ -1,0 +1,110 @@
+-- After the frames given no more frames come of the symbols fed than stand whole in the lock.
+use Rattle.std.proofs.Common.{
+  ◌≡◌,
+  ℕ,
+  ◌-◌,
+  ◌*◌,
+  ◌<◌,
+  ◌≤◌,
+  inl,
+  inr,
+  Bool,
+  ℤ,
+  None,
+  Some,
+  Option,
+  List,
+  [],
+  ◌∷◌,
+  ◌++◌,
+  length,
+  refl,
+  sym,
+  ◌∙◌,
+  ap,
+  subst,
+  arith,
+  length-drop,
+}
+use Rattle.lr_bits.specs.declared.sizes.TheConstants.{FRAME_SYMBOLS}
+use Rattle.lr_conv.specs.Marker.{tail_of}
+use Rattle.lr_conv.proofs.Tails.{tail_size}
+use Rattle.lr_lock.specs.Frames.{place_after_frame, HasFewer, IsFoundFrom, IsNext, AreNext, AreFrames, last_of}
+use Rattle.lr_lock.specs.FramesOf.{frames_of}
+use Rattle.lr_lock.specs.Machine.{IsAt}
+use Rattle.lr_lock.specs.Standing.{LockState, StandsFor}
+use Rattle.lr_lock.specs.declared.frame.Frame.{Frame}
+use Rattle.lr_lock.proofs.Existing.{frames_of-are, given_are_front}
+use Rattle.lr_lock.proofs.Following.{not_fewer}
+use Rattle.lr_lock.proofs.Stepping.{next_whole, reach}
+
+-- the frames after the first ones
+frames_behind : (tail : List Bool) (symbols : List ℤ) (last : Option Frame) (given more : List Frame)
+    → AreNext tail symbols last (given ++ more) → AreNext tail symbols (last_of last given) more
+frames_behind tail symbols last [] more next = next
+frames_behind tail symbols last (frame ∷ given) more next = frames_behind tail symbols (Some frame) given more next.1
+
+-- what a search finds lies ahead of it
+found_ahead : (tail : List Bool) (symbols : List ℤ) (start begin place : ℕ) (frame : Frame) → start ≡ begin
+    → IsFoundFrom tail symbols start frame
+    → ((p : ℕ) → begin ≤ p → p < place → HasFewer tail symbols p 45) → place ≤ frame.place
+found_ahead tail symbols start begin place frame e found passed =
+    let below : frame.place < place → ⊥ =
+    λ (h : frame.place < place). absurd (omega (
+      arith,
+      found.locked,
+      passed frame.place (omega (arith, found.from)) h frame.positive,
+    )) in
+    omega arith
+
+-- and so does the next frame
+next_ahead : (tail : List Bool) (symbols : List ℤ) (last held : Option Frame) (place : ℕ) (frame : Frame)
+    → IsAt tail symbols last held place → IsNext tail symbols last frame → place ≤ frame.place
+next_ahead tail symbols None None place frame at (inl h) = absurd h
+next_ahead tail symbols None None place frame at (inr h) =
+    found_ahead tail symbols h.0 at.start place frame (h.1 ∙ sym at.begins) h.2 at.passed
+next_ahead tail symbols (Some last) None place frame at (inl (inl h)) =
+    absurd (not_fewer tail symbols frame.place (place_after_frame last) frame.positive 37 h.place h.seen
+    at.begins.0.unseen)
+next_ahead tail symbols (Some last) None place frame at (inl (inr h)) = absurd (omega (arith, h.few, at.begins.0.many))
+next_ahead tail symbols (Some last) None place frame at (inr h) =
+    found_ahead tail symbols h.0 at.start place frame (h.1.1 ∙ sym at.begins.1) h.2 at.passed
+next_ahead tail symbols None (Some held) place frame at next = cc
+next_ahead tail symbols (Some last) (Some held) place frame at (inl (inl h)) =
+    omega (arith, h.place, at.1, ap (λ o. reach o) at.0)
+next_ahead tail symbols (Some last) (Some held) place frame at (inl (inr h)) =
+    omega (arith, h.place, at.1, ap (λ o. reach o) at.0)
+next_ahead tail symbols (Some last) (Some held) place frame at (inr h) =
+    omega (arith, h.2.from, h.1.1, at.1, ap (λ o. reach o) at.0)
+
+-- frames stand whole, one after another, between where the lock is and the end
+fit_behind : (tail : List Bool) (symbols : List ℤ) (last held : Option Frame) (place : ℕ) (more : List Frame)
+    → IsAt tail symbols last held place → AreNext tail symbols last more
+    → FRAME_SYMBOLS * length more ≤ length symbols - place
+fit_behind tail symbols last held place [] at next = omega arith
+fit_behind tail symbols last held place (frame ∷ more) at next =
+    let behind : FRAME_SYMBOLS * length more ≤ length symbols - place_after_frame frame =
+    fit_behind tail symbols (Some frame) (Some frame) (place_after_frame frame) more (refl, refl) next.1 in
+    omega (
+      arith,
+      behind,
+      next_ahead tail symbols last held place frame at next.0,
+      next_whole tail symbols last frame next.0,
+    )
+
+pub few_in_lock : (lock : LockState) (symbols : List ℤ) (given : List Frame) → StandsFor lock symbols given
+    → (rest : List Frame) × (frames_of (tail_of lock.line) symbols ≡ given ++ rest)
+    × (FRAME_SYMBOLS * length rest ≤ length lock.kept)
+few_in_lock lock symbols given stands =
+    let tail = tail_of lock.line in
+    let front : (rest : List Frame) × (frames_of tail symbols ≡ given ++ rest) =
+    given_are_front tail symbols given (tail_size lock.line) stands.frames in
+    let all : AreFrames tail symbols (frames_of tail symbols) = frames_of-are tail symbols in
+    let next : AreNext tail symbols None (given ++ front.0) =
+    subst (λ (l : List Frame). AreNext tail symbols None l) front.1 all.next in
+    let fit = fit_behind tail symbols (last_of None given) lock.held lock.place front.0 stands.stands
+    (frames_behind tail symbols None given front.0 next) in (
+      front.0,
+      front.1,
+      omega (arith, fit, ap length stands.rest, length-drop lock.place symbols),
+    )

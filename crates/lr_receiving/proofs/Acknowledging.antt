@@ -1,0 +1,164 @@
+-- Files stay acknowledged where shelving stops after them.
+use Rattle.std.proofs.Common.{
+  ◌≡◌,
+  inl,
+  inr,
+  ℕ,
+  ◌+◌,
+  ◌≤◌,
+  List,
+  [],
+  ◌∷◌,
+  ◌++◌,
+  length,
+  refl,
+  sym,
+  ◌∙◌,
+  ap,
+  subst,
+  arith,
+  append_assoc,
+  append-nil,
+  length-append,
+}
+use Rattle.lr_bits.specs.declared.placed.Placed.{Placed}
+use Rattle.lr_causes.specs.Outside.{Outlets, OutletsOf}
+use Rattle.lr_forms.specs.declared.forms.Input.{Input}
+use Rattle.lr_reading.specs.Inputs.{outcomes_of_bytes}
+use Rattle.lr_shelf.specs.Grounds.{Ground, HoldsStill, StandsForFront, StandsWith, StandsWithEither, next_number}
+use Rattle.lr_shelf.proofs.GroundFronts.{front_more}
+use Rattle.lr_receiving.specs.Inputs.{files_of_bytes}
+use Rattle.lr_receiving.specs.Reception.{FewWait}
+use Rattle.lr_receiving.specs.Shelving.{AreAcknowledged, shelved_lines}
+use Rattle.lr_receiving.proofs.ShelvedLines.{shelved_lines-append}
+
+module _ {D O : Type 0} (world : OutletsOf D O) (ground : Ground) where
+  -- they stand there still
+  pub still_acknowledged : (first others : List Placed) (w w' : Outlets D O)
+      → HoldsStill ground first world.disk w'.disk
+      → (world.out.tells w.out → (text : List ℕ) × (world.out.contents w'.out
+      ≡ world.out.contents w.out ++ (shelved_lines (next_number ground) first ++ text)))
+      → AreAcknowledged world ground first (first ++ others) w w'
+  still_acknowledged first others w w' durable told = record {
+    others = others;
+    split = refl;
+    held = record {
+      contents =
+          record { first = first; rest = others; split = refl; enough = omega arith; stands = durable.stands };
+      images = λ c image. record {
+        first = first;
+        rest = others;
+        split = refl;
+        enough = omega arith;
+        stands = subst (StandsWith ground first) (sym (durable.durable c image)) durable.stands;
+      };
+    };
+    told = told;
+  }
+
+  either_front : (done : List Placed) (placed : Placed) (bytes : List ℕ) → StandsWithEither ground done placed bytes
+      → StandsForFront ground (done ++ placed ∷ []) (length done) bytes
+  either_front done placed bytes (inl s) =
+      record { first = done; rest = placed ∷ []; split = refl; enough = omega arith; stands = s }
+  either_front done placed bytes (inr s) = record {
+    first = done ++ placed ∷ [];
+    rest = [];
+    split = sym (append-nil (done ++ placed ∷ []));
+    enough = omega (arith, length-append done (placed ∷ []));
+    stands = s;
+  }
+
+  -- one file more may stand there
+  pub either_acknowledged : (done : List Placed) (placed : Placed) (w w' : Outlets D O)
+      → StandsWithEither ground done placed (world.disk.contents w'.disk)
+      → ((c : List ℕ) → world.disk.may_leave w'.disk c → StandsWithEither ground done placed c)
+      → (world.out.tells w.out → (text : List ℕ) × (world.out.contents w'.out
+      ≡ world.out.contents w.out ++ (shelved_lines (next_number ground) done ++ text)))
+      → AreAcknowledged world ground done (done ++ placed ∷ []) w w'
+  either_acknowledged done placed w w' now left told = record {
+    others = placed ∷ [];
+    split = refl;
+    held = record {
+      contents = either_front done placed (world.disk.contents w'.disk) now;
+      images = λ c image. either_front done placed c (left c image);
+    };
+    told = told;
+  }
+
+  -- their lines were put, and nothing else
+  pub lines_alone : (first : List Placed) (w w' : Outlets D O)
+      → (world.out.tells w.out
+      → world.out.contents w'.out ≡ world.out.contents w.out ++ shelved_lines (next_number ground) first)
+      → world.out.tells w.out → (text : List ℕ) × (world.out.contents w'.out
+      ≡ world.out.contents w.out ++ (shelved_lines (next_number ground) first ++ text))
+  lines_alone first w w' put t = (
+    [],
+    put t ∙ ap (λ (l : List ℕ). world.out.contents w.out ++ l)
+        (sym (append-nil (shelved_lines (next_number ground) first))),
+  )
+
+  fewer : (n m : ℕ) (files : List Placed) (bytes : List ℕ) → n ≤ m → StandsForFront ground files m bytes
+      → StandsForFront ground files n bytes
+  fewer n m files bytes le s = record {
+    first = s.first;
+    rest = s.rest;
+    split = s.split;
+    enough = omega (arith, le, s.enough);
+    stands = s.stands;
+  }
+
+  module _ {w w' : Outlets D O} where
+    -- files that are still to come
+    pub acknowledged_more : {first files : List Placed} (more : List Placed)
+        → AreAcknowledged world ground first files w w' → AreAcknowledged world ground first (files ++ more) w w'
+    acknowledged_more {first} {files} more known = record {
+      others = known.others ++ more;
+      split = ap (λ (l : List Placed). l ++ more) known.split ∙ append_assoc first known.others more;
+      held = record {
+        contents = front_more ground files more (length first) (world.disk.contents w'.disk) known.held.contents;
+        images = λ c image. front_more ground files more (length first) c (known.held.images c image);
+      };
+      told = known.told;
+    }
+
+    -- the first ones of them
+    pub acknowledged_first : (first others : List Placed) {files : List Placed}
+        → AreAcknowledged world ground (first ++ others) files w w' → AreAcknowledged world ground first files w w'
+    acknowledged_first first others {files} known =
+        let le : length first ≤ length (first ++ others) = omega (arith, length-append first others) in
+        let lines = shelved_lines (next_number ground) first in
+        let more = shelved_lines (next_number ground + length first) others in
+        record {
+          others = others ++ known.others;
+          split = known.split ∙ append_assoc first others known.others;
+          held = record {
+            contents = fewer (length first) (length (first ++ others)) files (world.disk.contents w'.disk) le
+                known.held.contents;
+            images = λ c image. fewer (length first) (length (first ++ others)) files c le
+                (known.held.images c image);
+          };
+          told = λ t.
+              let told = known.told t in (
+                more ++ told.0,
+                told.1 ∙ ap (λ (l : List ℕ). world.out.contents w.out ++ l)
+                    (ap (λ (l : List ℕ). l ++ told.0) (shelved_lines-append (next_number ground) first others)
+                    ∙ append_assoc lines more told.0),
+              );
+        }
+
+  -- all is worked through
+  pub all_worked : (input : Input) (waiting : ℕ) (bytes : List ℕ) (w w' : Outlets D O)
+      → HoldsStill ground (files_of_bytes input bytes) world.disk w'.disk
+      → (world.out.tells w.out → (text : List ℕ) × (world.out.contents w'.out
+      ≡ world.out.contents w.out ++ (shelved_lines (next_number ground) (files_of_bytes input bytes) ++ text)))
+      → FewWait world ground input waiting bytes w w'
+  unfolding files_of_bytes
+  all_worked input waiting bytes w w' durable told = record {
+    worked = outcomes_of_bytes input bytes;
+    late = [];
+    split = sym (append-nil (outcomes_of_bytes input bytes));
+    few = omega arith;
+    acknowledged = subst (λ (l : List Placed). AreAcknowledged world ground (files_of_bytes input bytes) l w w')
+        (append-nil (files_of_bytes input bytes))
+        (still_acknowledged (files_of_bytes input bytes) [] w w' durable told);
+  }

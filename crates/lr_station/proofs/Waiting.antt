@@ -1,0 +1,91 @@
+-- Where few frames may wait, more may.
+use Rattle.std.proofs.Common.{
+  ◌≡◌,
+  ◌≤◌,
+  ◌+◌,
+  ◌*◌,
+  ◌^◌,
+  ◌==◌,
+  if◌then◌else◌,
+  ℕ,
+  Bool,
+  true,
+  false,
+  List,
+  Option,
+  Some,
+  None,
+  refl,
+  arith,
+}
+use Rattle.lr_causes.specs.Outside.{Outside, World}
+use Rattle.lr_causes.specs.declared.cause.Cause.{Cause}
+use Rattle.lr_forms.specs.declared.forms.Input.{Input}
+use Rattle.lr_forms.specs.declared.forms.Input.TheVariants.{Symbols, Units}
+use Rattle.lr_reading.specs.Readers.{most_waiting}
+use Rattle.lr_receiving.specs.Receive.{Receives, ReceiveRun}
+use Rattle.lr_shelf.specs.Grounds.{Ground}
+use Rattle.lr_station.specs.Deeds.{IsKnownAlone, alone}
+use Rattle.lr_station.specs.Runs.{Runs}
+use Rattle.lr_words.specs.Commands.{IsInRange}
+use Rattle.lr_words.specs.declared.command.Command.{Command}
+use Rattle.lr_words.specs.declared.command.Command.TheVariants.{Downlinks, Intake}
+use Rattle.lr_words.specs.declared.command.IntakeAction.TheVariants.{Decode, Receive}
+
+-- where more work
+four_at_least : (alone : Bool) (workers : ℕ) → 1 ≤ workers → 4 ≤ (if alone then 1 else 2 * workers + 2) + 3
+four_at_least true workers some = omega arith
+four_at_least false workers some = omega (arith, some)
+
+pub more_wait : (input : Input) (workers : ℕ) → 1 ≤ workers → most_waiting input 1 ≤ most_waiting input workers
+more_wait (Symbols line) workers some = four_at_least (workers == 1) workers some
+more_wait (Units form) workers some = omega arith
+
+module _ {S D O : Type 0} {world : World S D O} {input : Input} {limit : ℕ} {cause : Cause} {w w' : Outside S D O}
+    {few many : ℕ} (le : most_waiting input few ≤ most_waiting input many) where
+  receives_within : {ground : Ground} {bytes : List ℕ} → Receives world input few ground limit bytes cause w w'
+      → Receives world input many ground limit bytes cause w w'
+  receives_within receives = record {
+    held = receives.held;
+    held_untold = receives.held_untold;
+    any_moment = receives.any_moment;
+    timely = λ worked waiting split enough. receives.timely worked waiting split (omega (arith, le, enough));
+    ends = receives.ends;
+    complete = receives.complete;
+    overfull = receives.overfull;
+  }
+
+  pub run_within : ReceiveRun world input few limit cause w w' → ReceiveRun world input many limit cause w w'
+  run_within run = record {
+    causes = run.causes;
+    first = run.first;
+    told_by_disk = run.told_by_disk;
+    told_by_out = run.told_by_out;
+    bytes = run.bytes;
+    read = run.read;
+    onto_shelf = λ capacity items told durable. receives_within (run.onto_shelf capacity items told durable);
+    onto_way = λ way told is only. receives_within (run.onto_way way told is only);
+    refused = run.refused;
+    broken = run.broken;
+    full = run.full;
+    nothing_fits = run.nothing_fits;
+    room = run.room;
+    only_read = run.only_read;
+    silent = run.silent;
+    unasked = run.unasked;
+  }
+
+-- ---- what is run on the caller's thread alone, whatever W the words give
+
+module _ {S D O : Type 0} (world : World S D O) (cause : Cause) (w w' : Outside S D O) where
+  -- it does what the command does, but for `downlinks`
+  pub from_alone : (command : Option Command) → IsKnownAlone command → IsInRange command
+      → Runs world (alone command) cause w w' → Runs world command cause w w'
+  from_alone None known range run = run
+  from_alone (Some command) known range run = by command known range run where
+    by : (command : Command) → IsKnownAlone (Some command) → IsInRange (Some command)
+        → Runs world (alone (Some command)) cause w w' → Runs world (Some command) cause w w'
+    by (Downlinks line) known range run = absurd known
+    by (Intake Receive input workers most) known range run = run_within (more_wait input workers range.1.0) run
+    by (Intake Decode input workers most) known range run = run
+    by _ known range run = run
