@@ -1,15 +1,16 @@
 #!/bin/sh
-# Receives standard input onto the shelf of this week, FOLDER/YEAR-WEEK.shelf, which is made where it is missing.
-# Usage: weekly.sh FOLDER CAPACITY [OPTIONS], with the options of `receive`. The program is $LRITSTATION, or else `lritstation` on
-# the path. It ends with the status of `receive`, or of `init` where the shelf can't be made.
+# Receives standard input onto the shelf of this week, FOLDER/YEAR-WEEK.shelf, which is made where it is missing. Where
+# it is full, a next one is taken, FOLDER/YEAR-WEEK-2.shelf, up to the ninth.
+# Usage: weekly.sh FOLDER CAPACITY [OPTIONS], with the options of `receive`. The program is $LRITSTATION, or else
+# `lritstation` on the path. It ends with the status of `receive`, or of `init` where the shelf can't be made, and says
+# why where that isn't 0.
 set -u
-program=${LRITSTATION:-lritstation}
+# shellcheck source-path=SCRIPTDIR source=common.sh
+. "$(dirname -- "$0")/common.sh"
+# shellcheck source-path=SCRIPTDIR source=shelves.sh
+. "$(dirname -- "$0")/shelves.sh"
 [ $# -ge 2 ] || { echo "usage: weekly.sh FOLDER CAPACITY [OPTIONS]" >&2; exit 2; }
-shelf=$1/$(date -u +%G-%V).shelf
-capacity=$2
-shift 2
-"$program" "$shelf" init "$capacity" < /dev/null 2> /dev/null
-status=$?
-# (11: the shelf is there already)
-[ "$status" = 0 ] || [ "$status" = 11 ] || exit "$status"
-exec "$program" "$shelf" receive "$@"
+prefix=$(path "$1")/$(date -u +%G-%V)
+shift
+start
+receive_onto "$prefix" "$@"

@@ -12,8 +12,11 @@ rounds=${1:-20}
 frames=${2:-4000}
 scratch=$(mktemp -d)
 trap 'rm -rf "$scratch"' EXIT
-"$top/lritstation" - frames < /dev/null > "$scratch/build.log" 2>&1 || { cat "$scratch/build.log"; exit 1; }
-cp "$top/crates/lr_program/out/lr_program" "$scratch/lritstation"
+if [ -z "${LRITSTATION-}" ]; then
+    "$top/lritstation" - frames < /dev/null > "$scratch/build.log" 2>&1 || { cat "$scratch/build.log"; exit 1; }
+    LRITSTATION=$top/crates/lr_program/out/lr_program
+fi
+cp "$LRITSTATION" "$scratch/lritstation"
 
 cat > "$scratch/kill.py" <<'PYTHON'
 import os, random, subprocess, sys, time

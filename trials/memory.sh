@@ -10,8 +10,11 @@ for tool in gcc python3; do
 done
 scratch=$(mktemp -d)
 trap 'rm -rf "$scratch"' EXIT
-"$top/lritstation" - frames < /dev/null > "$scratch/build.log" 2>&1 || { cat "$scratch/build.log"; exit 1; }
-cp "$top/crates/lr_program/out/lr_program" "$scratch/lritstation"
+if [ -z "${LRITSTATION-}" ]; then
+    "$top/lritstation" - frames < /dev/null > "$scratch/build.log" 2>&1 || { cat "$scratch/build.log"; exit 1; }
+    LRITSTATION=$top/crates/lr_program/out/lr_program
+fi
+cp "$LRITSTATION" "$scratch/lritstation"
 gcc -O2 -shared -fPIC "$top/trials/refuse.c" -o "$scratch/refuse.so"
 cd "$scratch"
 HELP=$("$top/lritstation" --help)

@@ -29,4 +29,7 @@ planted README.md "The first run proves 1 crates." "the crates of the program ar
 planted docs/ARCHITECTURE.md "| \`lr_bits\` | bits | \`lr_io\` | |" "the row of lr_bits names lr_io"
 planted crates.txt "lr_""nowhere: lr_bits" "no row has the crate"
 planted crates/lr_bits/src/lib.rt "pub fn bare() {}" "a public function without a doc comment"
+planted crates/lr_lock/specs/Thresholds.antt "six""teen : ℕ; six""teen = 163""96" "163""96: write WINDOW_END"
+planted docs/DEFINITIONS.md "| \`crates/lr_gf/specs/Systems.antt\` | - | |" "lists crates/lr_gf/specs/Systems.antt, which doesn't belong"
+planted crates/lr_gf/specs/Dual.antt "use Rattle.lr_gf.specs.Systems.{Solves}" "lacks crates/lr_gf/specs/Systems.antt"
 echo "trials/papers-test.sh: $faults planted faults, each found"

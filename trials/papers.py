@@ -9,11 +9,11 @@ top = sys.argv[1]
 os.chdir(top)
 faults = []
 
-DOCUMENTS = ["README.md", "CHANGELOG.md", *sorted(glob.glob("docs/*.md")), "trials/README.md", "bench/README.md"]
+DOCUMENTS = ["README.md", "CHANGELOG.md", "CONTRIBUTING.md", *sorted(glob.glob("docs/*.md")), "trials/README.md", "bench/README.md"]
 DOCUMENTS = [it for it in DOCUMENTS if os.path.exists(it)]
 # What stands in documents and in no source: programs of others, and words of systemd and of the toolchain.
 OTHERS = set(
-    """satdump cpu goes_hrit goes_lrit baseband samplerate baseband_format s16 cadu perf stat gcc std clap byteorder jiff itoa atomic_table
+    """allow holes lemma satdump cpu goes_hrit goes_lrit baseband samplerate baseband_format s16 cadu perf stat gcc std clap byteorder jiff itoa atomic_table
     tail head pv nc netcat systemctl enable now journalctl daemon reload install usr local bin cmp pnmsplit pnmtopng pnmfile netpbm
     libfec libaec aec valgrind Restart RestartPreventExitStatus RuntimeMaxSec ExecStart mkfifo tee losetup strace rattle kit 13f
     rt must fail plant fmt tidy check anew jiff_core jiff_fmt stage times incremental Clock Recovery Symbol Sync Costas Loop Complex

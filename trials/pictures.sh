@@ -8,8 +8,11 @@ for tool in pnmfile pamtable pnmsplit; do
 done
 scratch=$(mktemp -d) || exit 1
 trap 'rm -rf "$scratch"' EXIT
-"$top/lritstation" - frames < /dev/null > "$scratch/build.log" 2>&1 || { cat "$scratch/build.log"; exit 1; }
-station=$top/crates/lr_program/out/lr_program
+if [ -z "${LRITSTATION-}" ]; then
+    "$top/lritstation" - frames < /dev/null > "$scratch/build.log" 2>&1 || { cat "$scratch/build.log"; exit 1; }
+    LRITSTATION=$top/crates/lr_program/out/lr_program
+fi
+station=$LRITSTATION
 draw="python3 $top/trials/pictures.py"
 cd "$scratch" || exit 1
 tried=0

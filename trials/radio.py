@@ -1,14 +1,13 @@
 #!/usr/bin/env python3
-"""A radio link in GNU Radio: symbols become BPSK in baseband, go through a channel with noise, and are received as soft symbols.
+"""The sending half of a radio link in GNU Radio: symbols become BPSK in baseband and go through a channel with noise.
 
-The receiver is the part that follows a radio: matched filter, `Symbol Sync`, `Costas Loop` of order 2, `Complex To Real`, `Float To
-Char` with the scale 64, `File Sink`.
-Usage: radio.py SYMBOLS SOFT: reads and writes a signed byte a symbol.
+Usage: radio.py SYMBOLS FORM: reads a signed byte a symbol, and writes to standard output complex samples, four a symbol, in the form
+f32 or u8 of `examples/receiver.py`.
 """
 import sys
 
 import numpy
-from gnuradio import blocks, channels, digital, filter, gr
+from gnuradio import blocks, channels, filter, gr
 from gnuradio.filter import firdes
 
 SAMPLES = 4  # a symbol
@@ -17,6 +16,8 @@ TAPS = 11 * SAMPLES
 NOISE = 1.4  # volts; a clean sample of a symbol has 1
 OFFSET = 0.0005  # cycles a sample
 DRIFT = 1.00002  # samples of the sender a sample of the receiver
+LEVEL = 20  # of an unsigned byte, for a volt
+MIDDLE = 127.5
 
 
 def levels(path):
@@ -26,20 +27,23 @@ def levels(path):
     return numpy.concatenate([drawn[:20000], symbols, drawn[20000:]]).astype(numpy.complex64)
 
 
-def link(symbols, soft):
-    graph = gr.top_block()
+def samples(symbols):
+    graph, sink = gr.top_block(), blocks.vector_sink_c()
     graph.connect(
         blocks.vector_source_c(levels(symbols).tolist()),
         filter.interp_fir_filter_ccf(SAMPLES, firdes.root_raised_cosine(SAMPLES, SAMPLES, 1.0, ROLL_OFF, TAPS)),
         channels.channel_model(NOISE, OFFSET, DRIFT, [complex(0.8, 0.6)], 1),
-        filter.fir_filter_ccf(1, firdes.root_raised_cosine(1.0, SAMPLES, 1.0, ROLL_OFF, TAPS)),
-        digital.symbol_sync_cc(digital.TED_GARDNER, SAMPLES, 0.01, 1.0, 1.0, 1.5, 1),
-        digital.costas_loop_cc(0.01, 2),
-        blocks.complex_to_real(),
-        blocks.float_to_char(1, 64),
-        blocks.file_sink(gr.sizeof_char, soft),
+        sink,
     )
     graph.run()
+    return numpy.array(sink.data(), numpy.complex64)
 
 
-link(*sys.argv[1:])
+def main(symbols, form):
+    values = samples(symbols).view(numpy.float32)
+    if form == "u8":
+        values = numpy.clip(numpy.round(LEVEL * values + MIDDLE), 0, 255).astype(numpy.uint8)
+    sys.stdout.buffer.write(values.tobytes())
+
+
+main(*sys.argv[1:])

@@ -1,6 +1,7 @@
 #!/bin/sh
-# The files of a test stream are sent by `transmit` under each line code, led through a noisy channel and received again by GNU Radio
-# (Debian's package of that name; without it nothing is tried). `receive` of the soft symbols gives each file with its bytes.
+# The files of a test stream are sent by `transmit` under each line code, led through a noisy channel and received again
+# by GNU Radio (Debian's package of that name; without it nothing is tried), with examples/receiver.py. `receive` of the
+# soft symbols gives each file with its bytes. Under one line code the samples also come as unsigned bytes.
 # Usage: trials/radio.sh. Needs rt and python3.
 top=$(cd "$(dirname "$0")/.." && pwd)
 for python in python3 /usr/bin/python3 none; do
@@ -9,15 +10,22 @@ done
 [ "$python" != none ] || { echo "GNU Radio isn't installed: nothing was tried"; exit 0; }
 scratch=$(mktemp -d) || exit 1
 trap 'rm -rf "$scratch"' EXIT
-"$top/lritstation" - frames < /dev/null > "$scratch/build.log" 2>&1 || { cat "$scratch/build.log"; exit 1; }
-station=$top/crates/lr_program/out/lr_program
+if [ -z "${LRITSTATION-}" ]; then
+    "$top/lritstation" - frames < /dev/null > "$scratch/build.log" 2>&1 || { cat "$scratch/build.log"; exit 1; }
+    LRITSTATION=$top/crates/lr_program/out/lr_program
+fi
+station=$LRITSTATION
 cd "$scratch" || exit 1
 
 "$station" sent.shelf trial 1 64 0 || exit 1
-# Sends the 63 files with these options, and compares those that come back.
+# send FORM OPTIONS: sends the 63 files with these options, as samples of this form, and compares those that come back.
 send() {
+    form=$1
+    shift
     "$station" sent.shelf transmit 0 63 0 "$@" > sent || exit 1
-    "$python" "$top/trials/radio.py" sent soft > radio.log 2>&1 || { cat radio.log; exit 1; }
+    "$python" "$top/trials/radio.py" sent "$form" > samples 2> radio.log || { cat radio.log; exit 1; }
+    "$python" "$top/examples/receiver.py" --rate 4000000 --symbols 1000000 --form "$form" < samples > soft 2> radio.log ||
+        { cat radio.log; exit 1; }
     rm -f soft.shelf
     "$station" soft.shelf init 200000 > lines || exit 1
     "$station" soft.shelf receive "$@" < soft >> lines || exit 1
@@ -32,7 +40,8 @@ send() {
 }
 for line in nrz-l nrz-m; do
     for g2 in inverted plain; do
-        send --line "$line" --g2 "$g2"
+        send f32 --line "$line" --g2 "$g2"
     done
 done
-echo "63 files came back under each of 4 line codes"
+send u8 --line nrz-m --g2 plain
+echo "63 files came back under each of 4 line codes, and from unsigned bytes"

@@ -15,8 +15,11 @@ if [ -z "$root" ]; then
 fi
 scratch=$(mktemp -d "$root/tmp/satdump-trial.XXXXXX") || exit 1
 trap 'rm -rf "$scratch"' EXIT
-"$top/lritstation" - frames < /dev/null > "$scratch/build.log" 2>&1 || { cat "$scratch/build.log"; exit 1; }
-station=$top/crates/lr_program/out/lr_program
+if [ -z "${LRITSTATION-}" ]; then
+    "$top/lritstation" - frames < /dev/null > "$scratch/build.log" 2>&1 || { cat "$scratch/build.log"; exit 1; }
+    LRITSTATION=$top/crates/lr_program/out/lr_program
+fi
+station=$LRITSTATION
 cd "$scratch" || exit 1
 
 # orbits of one satellite, so that SatDump doesn't look for them on the network

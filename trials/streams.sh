@@ -6,8 +6,11 @@ top=$(cd "$(dirname "$0")/.." && pwd)
 scratch=$(mktemp -d)
 trap 'rm -rf "$scratch"' EXIT
 cd "$scratch"
-"$top/lritstation" - frames < /dev/null > build.log 2>&1 || { cat build.log; exit 1; }
-program=$top/crates/lr_program/out/lr_program
+if [ -z "${LRITSTATION-}" ]; then
+    "$top/lritstation" - frames < /dev/null > build.log 2>&1 || { cat build.log; exit 1; }
+    LRITSTATION=$top/crates/lr_program/out/lr_program
+fi
+program=$LRITSTATION
 failed=0
 
 # what came of the last command: the status that was wanted, and the shelf's bytes

@@ -8,8 +8,11 @@ top=$(cd "$(dirname "$0")/.." && pwd)
 [ "$(getconf _NPROCESSORS_ONLN)" -gt 1 ] || { echo "there is one processor: nothing was tried"; exit 0; }
 scratch=$(mktemp -d) || exit 1
 trap 'rm -rf "$scratch"' EXIT
-"$top/lritstation" - frames < /dev/null > "$scratch/build.log" 2>&1 || { cat "$scratch/build.log"; exit 1; }
-cp "$top/crates/lr_program/out/lr_program" "$scratch/lritstation"
+if [ -z "${LRITSTATION-}" ]; then
+    "$top/lritstation" - frames < /dev/null > "$scratch/build.log" 2>&1 || { cat "$scratch/build.log"; exit 1; }
+    LRITSTATION=$top/crates/lr_program/out/lr_program
+fi
+cp "$LRITSTATION" "$scratch/lritstation"
 cd "$scratch" || exit 1
 PYTHONPATH=$top/reference PYTHONDONTWRITEBYTECODE=1 python3 - << 'PYTHON'
 import hashlib, os, subprocess, sys, threading, time

@@ -12,8 +12,11 @@ if ! strace -o "$scratch/log" true 2> "$scratch/strace.log"; then
     echo "trials/syncs.sh: strace is missing or can't trace: nothing was tried"
     exit 0
 fi
-"$top/lritstation" - frames < /dev/null > "$scratch/build.log" 2>&1 || { cat "$scratch/build.log"; exit 1; }
-cp "$top/crates/lr_program/out/lr_program" "$scratch/lritstation"
+if [ -z "${LRITSTATION-}" ]; then
+    "$top/lritstation" - frames < /dev/null > "$scratch/build.log" 2>&1 || { cat "$scratch/build.log"; exit 1; }
+    LRITSTATION=$top/crates/lr_program/out/lr_program
+fi
+cp "$LRITSTATION" "$scratch/lritstation"
 
 cat > "$scratch/syncs.py" <<'PYTHON'
 import os, re, subprocess, sys

@@ -1,0 +1,64 @@
+# What the scripts of this folder share. They read it, so it is no script of its own.
+# shellcheck shell=sh
+
+# end STATUS: what a signal calls. A script with programs of its own to end has another one.
+end() { exit "$1"; }
+
+# From here on a signal ends the script, with 128 and the signal's number.
+obey() {
+    trap 'end 129' HUP
+    trap 'end 130' INT
+    trap 'end 143' TERM
+    [ -z "${kept-}" ] || end "$kept"
+}
+
+# From here on a signal is kept until `obey`, so that a program is started and noted, or not at all.
+defer() {
+    kept=
+    trap 'kept=129' HUP
+    trap 'kept=130' INT
+    trap 'kept=143' TERM
+}
+
+# stop PID..: ends these programs of this script (or groups of them, -PID) and waits until they have. (A shell that
+# starts a program loses a signal that comes before it is ready.)
+stop() {
+    for pid; do
+        while kill -- "$pid" 2> /dev/null; do
+            sleep 0.1
+        done
+    done
+}
+
+# Makes the folder $scratch. It goes when the script ends, by a signal too, and so does the file $part. (dash runs no
+# trap for EXIT where a signal ends it.)
+scratch_folder() {
+    scratch=
+    part=
+    trap clear_away EXIT
+    trap 'exit 141' PIPE
+    defer
+    scratch=$(mktemp -d) || exit 1
+    obey
+}
+
+clear_away() {
+    [ -z "$scratch" ] || rm -rf "$scratch"
+    [ -z "$part" ] || rm -f "$part"
+}
+
+# path WORD: this path, so that no program takes it for an option
+path() {
+    case $1 in
+    -*) printf '%s\n' "./$1" ;;
+    *) printf '%s\n' "$1" ;;
+    esac
+}
+
+# is_number WORD: whether it is a number of digits alone, without a zero in front
+is_number() {
+    case $1 in
+    0) ;;
+    '' | 0* | *[!0-9]*) return 1 ;;
+    esac
+}

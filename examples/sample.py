@@ -1,0 +1,359 @@
+#!/usr/bin/env python3
+"""Draws some minutes of a downlink like that of GOES, as frames for `lritstation SHELF receive --input frames`.
+
+Usage: sample.py [MINUTES] > frames, with 1 to 60 minutes; 2 where the word is missing
+
+There is an earth in four segments, a bulletin and a zip with a bulletin in it, and fill between them. Nothing of it
+comes from a satellite: coasts are a few hundred corners, and the clouds are sums of waves. A frame has 892 bytes, as
+16,384 symbols carry it.
+"""
+
+import datetime
+import io
+import math
+import struct
+import sys
+import zipfile
+
+import shelf as shelves
+
+# ---- the downlink
+SYMBOLS_A_SECOND = 927_000
+SYMBOLS_A_FRAME = 16_384
+SPACECRAFT = 7
+IMAGE_CHANNEL, TEXT_CHANNEL, FILL_CHANNEL = 13, 20, 63
+IMAGE_APPLICATION, TEXT_APPLICATION = 313, 614
+MOST_MINUTES = 60
+
+# ---- frames and packets, by their documents: CCSDS 732.0-B (frames) and 133.0-B (packets)
+ZONE_BYTES = 884
+PACKET_HEAD = struct.Struct(">HHH")  # application, sequence flags and count, bytes of the data field less one
+IDLE_APPLICATION = 2047
+FIRST, GOING_ON, LAST, ONLY = 1, 0, 2, 3  # sequence flags
+NO_START, IDLE_ONLY = 2047, 2046  # pointers
+COUNT_MODULUS = 1 << 14
+COUNTER_MODULUS = 1 << 24
+BODY_BYTES = 8000
+
+# ---- the image
+SIZE = 640  # columns and lines
+SEGMENTS = 4
+LONGITUDE = -75.2  # degrees, below the satellite
+FIELD_DEGREES = 17.8  # across the image
+FACTOR = round(SIZE / FIELD_DEGREES * 65536)  # pixels a degree, times 2^16
+OFFSET = SIZE // 2  # the column and the line, counted from 1, of the place below the satellite
+DISTANCE = 42164 / 6371  # of the satellite from the centre, in radii of the earth
+WHEN = datetime.datetime(2026, 11, 29, 17, 0, 20)
+SUN = (-21.0, -70.0)  # latitude and longitude below the sun, in degrees
+WATER, LAND, ICE, CLOUD = 36, 112, 200, 240  # grey levels in full light
+TWILIGHT = 6  # grey levels at night
+
+# Corners of coasts: latitudes and longitudes in degrees, roughly.
+COASTS = """
+71 -156 70 -141 69 -130 70 -120 68 -110 68 -97 72 -94 69 -86 64 -88 60 -94 57 -92 55 -84 52 -80 55 -78 59 -78 62 -77
+  62 -72 59 -69 60 -64 56 -61 52 -56 50 -60 49 -66 46 -64 45 -61 44 -66 43 -70 41 -71 40 -74 37 -76 35 -76 32 -80 30
+  -81 27 -80 25 -81 28 -83 30 -84 30 -88 29 -91 29 -95 26 -97 22 -98 19 -96 18 -94 19 -91 21 -90 21 -87 18 -88 16
+  -88 15 -84 11 -84 9 -82 9 -79 8 -77 7 -80 8 -83 10 -86 13 -88 14 -92 16 -95 17 -101 20 -106 23 -106 28 -111 31
+  -114 28 -112 24 -110 23 -110 25 -112 28 -115 32 -117 34 -119 36 -122 40 -124 46 -124 49 -125 54 -131 59 -138 60
+  -146 59 -152 56 -158 55 -164 59 -162 62 -166 66 -167 68 -166
+12 -72 11 -74 9 -76 8 -77 4 -77 1 -79 -1 -80 -4 -81 -6 -81 -12 -77 -16 -74 -18 -70 -24 -70 -30 -71 -37 -73 -42 -74
+  -47 -75 -52 -74 -55 -70 -55 -66 -52 -69 -48 -66 -45 -67 -42 -64 -41 -63 -39 -62 -38 -58 -35 -57 -34 -58 -35 -55
+  -33 -53 -29 -49 -26 -48 -23 -44 -22 -41 -18 -39 -13 -38 -8 -35 -5 -35 -3 -40 -1 -47 0 -50 2 -50 5 -53 6 -57 9 -61
+  11 -63 11 -68 12 -70
+36 -6 37 10 33 12 31 20 31 32 12 44 -5 40 -34 20 -20 13 -5 12 4 9 6 1 4 -8 8 -13 13 -17 21 -17 28 -13 33 -8
+43 -9 37 -9 36 -6 37 -1 43 4 52 5 48 -5 46 -1 43 -2
+66 -23 66 -15 64 -14 63 -19 65 -24
+22 -85 23 -82 22 -78 20 -74 20 -77 21 -79
+20 -73 19 -70 18 -68 18 -71 18 -74
+51 -56 47 -53 47 -59
+73 -117 72 -105 69 -103 69 -115
+"""
+ICE_COASTS = """
+83 -35 82 -22 76 -20 70 -23 65 -40 60 -44 61 -48 66 -54 70 -55 76 -68 78 -73 81 -62
+73 -80 70 -68 66 -62 62 -66 64 -72 66 -73 69 -77 70 -88 73 -88
+-63 -57 -65 -62 -72 -62 -74 -20 -89 -20 -89 -170 -74 -170 -73 -110 -72 -75 -66 -66
+"""
+# The waves of the clouds: how many along a radian of latitude and of longitude, where they begin, and their heights.
+WAVES = (
+    (3, 2, 0.3, 1.0),
+    (7, -4, 1.7, 0.8),
+    (5, 9, 4.0, 0.7),
+    (13, 6, 2.2, 0.45),
+    (-11, 17, 0.9, 0.4),
+    (23, -19, 5.1, 0.25),
+    (31, 37, 3.3, 0.16),
+)
+CLOUDS_FROM = 0.72  # the height of the waves at which clouds begin
+
+BULLETIN = """\
+TTAA00 KWBC 291700\r\r
+SAMPLE BULLETIN, DRAWN BY A SCRIPT\r\r
+\r\r
+NORTH ATLANTIC: WEST 5 TO 6, SEA 2.5 METERS, RAIN AT TIMES.\r\r
+CARIBBEAN: EAST 4, SEA 1.2 METERS, FAIR.\r\r
+"""
+
+
+# ---- the earth
+
+
+def polygons_of(text):
+    """Lists of corners; a line that begins with spaces goes on with the one before."""
+    for line in text.strip().replace("\n ", " ").splitlines():
+        numbers = list(map(float, line.split()))
+        yield list(zip(numbers[0::2], numbers[1::2]))
+
+
+def crossings(corners, latitude):
+    """The longitudes at which a parallel crosses the sides, from west to east."""
+    found = []
+    for (one, west), (other, east) in zip(corners, corners[1:] + corners[:1]):
+        if (one > latitude) != (other > latitude):
+            found.append(west + (latitude - one) * (east - west) / (other - one))
+    return sorted(found)
+
+
+class Ground:
+    """How much land and ice there is at a place, on a grid of half degrees."""
+
+    STEPS = 2  # a degree
+
+    def __init__(self, text):
+        self.rows = [bytearray(360 * self.STEPS + 1) for _ in range(180 * self.STEPS + 1)]
+        for corners in polygons_of(text):
+            for place, row in enumerate(self.rows):
+                found = crossings(corners, place / self.STEPS - 90 + 1e-6)
+                for west, east in zip(found[0::2], found[1::2]):
+                    first, last = (round((it + 180) * self.STEPS) for it in (west, east))
+                    row[first:last] = b"\1" * (last - first)
+
+    def at(self, latitude, longitude):
+        """From 0, none, to 1, in between by the four corners around."""
+        y, x = (latitude + 90) * self.STEPS, (longitude + 180) * self.STEPS
+        line, column = int(y), int(x)
+        y, x = y - line, x - column
+        low, high = self.rows[line], self.rows[min(line + 1, len(self.rows) - 1)]
+        next_column = min(column + 1, len(low) - 1)
+        return (low[column] * (1 - x) + low[next_column] * x) * (1 - y) + (
+            high[column] * (1 - x) + high[next_column] * x
+        ) * y
+
+
+def clouds_at(latitude, longitude):
+    """How much cloud there is, from 0 to 1: waves that other waves bend, most near the equator and in the middle
+    latitudes."""
+    bent_latitude = latitude + 0.12 * math.sin(4 * longitude + 6 * latitude)
+    bent_longitude = longitude + 0.25 * math.sin(5 * latitude) + 0.08 * math.sin(9 * longitude - 4 * latitude)
+    height = sum(it[3] * math.sin(it[0] * bent_latitude + it[1] * bent_longitude + it[2]) for it in WAVES)
+    height += 0.7 * math.cos(6 * latitude) - 0.2
+    return min(1.0, max(0.0, (height - CLOUDS_FROM) * 0.9))
+
+
+def place_of(column, line):
+    """The latitude and longitude, in radians, that a pixel of the whole image sees, or None beside the earth (a
+    sphere here)."""
+    x = math.radians((column + 1 - OFFSET) * 65536 / FACTOR)
+    y = math.radians((OFFSET - line - 1) * 65536 / FACTOR)
+    sight = (-math.cos(x) * math.cos(y), math.sin(x) * math.cos(y), math.sin(y))
+    half = DISTANCE * sight[0]
+    rest = half * half - DISTANCE * DISTANCE + 1
+    if rest < 0:
+        return None
+    way = -half - math.sqrt(rest)
+    point = (DISTANCE + way * sight[0], way * sight[1], way * sight[2])
+    return math.asin(point[2]), math.radians(LONGITUDE) + math.atan2(point[1], point[0])
+
+
+def light_at(latitude, longitude):
+    """The cosine of the sun's height above a place; 0 at night."""
+    sun_latitude, sun_longitude = map(math.radians, SUN)
+    height = math.sin(latitude) * math.sin(sun_latitude) + math.cos(latitude) * math.cos(sun_latitude) * math.cos(
+        longitude - sun_longitude
+    )
+    return max(0.0, height)
+
+
+def grey_at(place, land, ice):
+    """The grey level, 0 to 255, of a place as `place_of` gives it."""
+    if place is None:
+        return 0
+    latitude, longitude = place
+    degrees = math.degrees(latitude), (math.degrees(longitude) + 180) % 360 - 180
+    level = WATER + (LAND - WATER) * land.at(*degrees)
+    level += (ICE - level) * ice.at(*degrees)
+    level += (CLOUD - level) * clouds_at(latitude, longitude)
+    return round(TWILIGHT + (level - TWILIGHT) * light_at(latitude, longitude) ** 0.6)
+
+
+def earth():
+    """The pixels of the whole image, line by line."""
+    land, ice = Ground(COASTS), Ground(ICE_COASTS)
+    return bytes(grey_at(place_of(column, line), land, ice) for line in range(SIZE) for column in range(SIZE))
+
+
+# ---- mission files
+
+
+def record(kind, contents):
+    return shelves.RECORD.pack(kind, len(contents) + shelves.RECORD.size) + contents
+
+
+def mission_file(file_type, records, data, bits=None):
+    """A mission file without its transport header; `bits` of the data field, where they aren't 8 a byte."""
+    size = shelves.PRIMARY.size + sum(map(len, records))
+    bits = 8 * len(data) if bits is None else bits
+    return (
+        shelves.PRIMARY.pack(shelves.PRIMARY_KIND, shelves.PRIMARY.size, file_type, size, bits)
+        + b"".join(records)
+        + data
+    )
+
+
+def structure(bits, columns, lines):
+    return record(shelves.STRUCTURE_KIND, shelves.STRUCTURE.pack(bits, columns, lines, 0))
+
+
+def navigation(name, *numbers):
+    """Column and line factor, column and line offset."""
+    return record(shelves.NAVIGATION_KIND, name.ljust(32).encode() + struct.pack(">iiii", *numbers))
+
+
+def annotation(name):
+    return record(shelves.ANNOTATION_KIND, name.encode())
+
+
+def stamp(when):
+    since = when - datetime.datetime(1958, 1, 1)
+    return record(
+        shelves.STAMP_KIND, shelves.STAMP.pack(0x40, since.days, since.seconds * 1000 + since.microseconds // 1000)
+    )
+
+
+def segment(image, number, first_line, segments, columns, lines):
+    return record(shelves.SEGMENT_KIND, struct.pack(">7H", image, number, 0, first_line, segments, columns, lines))
+
+
+def segments_of_earth():
+    pixels, lines = earth(), SIZE // SEGMENTS
+    for number in range(SEGMENTS):
+        records = [
+            structure(8, SIZE, lines),
+            navigation(f"geos({LONGITUDE})", FACTOR, FACTOR, OFFSET, OFFSET),
+            annotation(f"SAMPLE_EARTH_{WHEN:%Y%m%d%H%M%S}_{number}.lrit"),
+            stamp(WHEN),
+            segment(1, number, number * lines, SEGMENTS, SIZE, SIZE),
+        ]
+        yield mission_file(shelves.IMAGE_TYPE, records, pixels[number * lines * SIZE : (number + 1) * lines * SIZE])
+
+
+def bulletin(text, number):
+    """A text as it is sent between start and end of text, in a file of its own."""
+    records = [annotation(f"A_TTAA00KWBC291700_C_KWIN_{WHEN:%Y%m%d%H%M%S}_{number:06d}-2-SAMPLE.TXT.lrit"), stamp(WHEN)]
+    return mission_file(shelves.TEXT_TYPE, records, framed(text))
+
+
+def framed(text):
+    return b"\x01\r\r\n" + text.encode("ascii") + b"\x03"
+
+
+def zip_of(name, data):
+    out = io.BytesIO()
+    with zipfile.ZipFile(out, "w", zipfile.ZIP_DEFLATED) as archive:
+        archive.writestr(zipfile.ZipInfo(name, WHEN.timetuple()[:6]), data)
+    return out.getvalue()
+
+
+def zipped_bulletin(text):
+    records = [annotation(f"Z_EMWIN_{WHEN:%Y%m%d%H%M%S}.ZIS.lrit"), stamp(WHEN)]
+    return mission_file(shelves.TEXT_TYPE, records, zip_of("SEASTATE.TXT", framed(text)))
+
+
+# ---- packets and frames
+
+
+class Sender:
+    """Frames of files. Each file begins a new frame of its channel; counters go on from file to file."""
+
+    def __init__(self):
+        self.files = 0
+        self.counts = {}
+        self.counters = {}
+
+    def next_of(self, counters, key, modulus):
+        number = counters.get(key, 0)
+        counters[key] = (number + 1) % modulus
+        return number
+
+    def packet(self, channel, application, flags, body):
+        count = self.next_of(self.counts, (channel, application), COUNT_MODULUS)
+        data = body + shelves.checksum(body).to_bytes(2, "big")
+        return PACKET_HEAD.pack(application, flags << 14 | count, len(data) - 1) + data
+
+    def packets(self, channel, application, proper):
+        content = shelves.TRANSPORT.pack(self.files % 65536, 8 * len(proper)) + proper
+        self.files += 1
+        bodies = [content[at : at + BODY_BYTES] for at in range(0, len(content), BODY_BYTES)]
+        for place, body in enumerate(bodies):
+            flags = (
+                ONLY if len(bodies) == 1 else FIRST if place == 0 else LAST if place == len(bodies) - 1 else GOING_ON
+            )
+            yield self.packet(channel, application, flags, body)
+
+    def frame(self, channel, pointer, zone):
+        counter = self.next_of(self.counters, channel, COUNTER_MODULUS)
+        head = (1 << 14 | SPACECRAFT << 6 | channel).to_bytes(2, "big") + counter.to_bytes(3, "big") + b"\0"
+        return head + pointer.to_bytes(2, "big") + zone
+
+    def file(self, channel, application, proper):
+        """The frames of a file; an idle packet fills the last one."""
+        stream, starts = b"", []
+        for packet in self.packets(channel, application, proper):
+            starts.append(len(stream))
+            stream += packet
+        left = -len(stream) % ZONE_BYTES
+        if left:
+            left += ZONE_BYTES if left <= PACKET_HEAD.size else 0
+            starts.append(len(stream))
+            stream += PACKET_HEAD.pack(IDLE_APPLICATION, ONLY << 14, left - PACKET_HEAD.size - 1) + bytes(
+                left - PACKET_HEAD.size
+            )
+        for first in range(0, len(stream), ZONE_BYTES):
+            pointer = next((start - first for start in starts if first <= start < first + ZONE_BYTES), NO_START)
+            yield self.frame(channel, pointer, stream[first : first + ZONE_BYTES])
+
+    def fill(self):
+        return self.frame(FILL_CHANNEL, IDLE_ONLY, bytes(ZONE_BYTES))
+
+
+def downlink(minutes):
+    """The frames of so many minutes: the files at equal distances, and fill between them."""
+    sender = Sender()
+    files = [(IMAGE_CHANNEL, IMAGE_APPLICATION, it) for it in segments_of_earth()]
+    files.insert(0, (TEXT_CHANNEL, TEXT_APPLICATION, bulletin(BULLETIN, 1)))
+    files.insert(3, (TEXT_CHANNEL, TEXT_APPLICATION, zipped_bulletin(BULLETIN)))
+    total = minutes * 60 * SYMBOLS_A_SECOND // SYMBOLS_A_FRAME
+    sent = 0
+    for place, file in enumerate(files):
+        while sent < total * place // len(files):
+            yield sender.fill()
+            sent += 1
+        for frame in sender.file(*file):
+            yield frame
+            sent += 1
+    for _ in range(sent, total):
+        yield sender.fill()
+
+
+def main():
+    words = sys.argv[1:]
+    minutes = int(words[0]) if len(words) == 1 and words[0].isdecimal() and words[0].isascii() else 2
+    if (words and words != [str(minutes)]) or not 1 <= minutes <= MOST_MINUTES:
+        print("Usage: sample.py [MINUTES] > frames, with 1 to 60 minutes", file=sys.stderr)
+        return 2
+    for frame in downlink(minutes):
+        sys.stdout.buffer.write(frame)
+    return 0
+
+
+if __name__ == "__main__":
+    sys.exit(main())

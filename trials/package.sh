@@ -1,0 +1,259 @@
+#!/bin/sh
+# The Debian package and the archive of packaging/: two runs and another clone give the same bytes, the installed
+# `lritstation` starts the program that fits the processor and changes nothing else, and the pages name every command.
+# Then a fresh Debian system: the package is installed there, README's example runs as a user without rights, the shelf
+# is that of the built program, systemd takes the units, and after the removal nothing is left.
+# Usage: trials/package.sh [SUITE], bookworm by default. Needs dpkg-deb, git, python3, xz, and both built programs: that
+# of $LRITSTATION, or else of this folder, and the one beside it with -v3 after its name. Root, mmdebstrap and the
+# network for the system, and lintian, zsh, fish and man for some cases. It takes a minute.
+# shellcheck disable=SC2012,SC2016 # (the names are those that are made here; a variable is one of an inner shell)
+top=$(cd "$(dirname "$0")/.." && pwd)
+suite=${1:-bookworm}
+for tool in dpkg-deb git python3 xz; do
+    command -v "$tool" > /dev/null || { echo "trials/package.sh: $tool is missing, so nothing was tried"; exit 0; }
+done
+if [ -z "${LRITSTATION-}" ]; then
+    "$top/lritstation" - frames < /dev/null > /dev/null || exit 1
+    LRITSTATION=$top/crates/lr_program/out/lr_program
+fi
+if [ ! -x "$LRITSTATION-v3" ]; then
+    echo "trials/package.sh: there is no program for x86-64-v3, so nothing was tried"
+    exit 0
+fi
+export LRITSTATION
+unset SOURCE_DATE_EPOCH LRITSTATION_CPU
+scratch=$(mktemp -d) || exit 1
+trap 'rm -rf --one-file-system "$scratch"' EXIT
+trap 'exit 130' HUP INT TERM
+cd "$scratch" || exit 1
+cases=0
+
+fail() {
+    echo "trials/package.sh: $1"
+    exit 1
+}
+
+# is WHAT GOT WANTED
+is() {
+    [ "$2" = "$3" ] || fail "$1 is '$2', not '$3'"
+    cases=$((cases + 1))
+}
+
+# same ONE OTHER: these files have the same bytes
+same() {
+    cmp -s "$1" "$2" || fail "$1 and $2 differ"
+    cases=$((cases + 1))
+}
+
+# lacks TOOL WHAT: whether the tool is missing, with a word then
+lacks() {
+    command -v "$1" > /dev/null && return 1
+    echo "$1 is missing: $2"
+}
+
+# make_packages TOP FOLDER: both packages of this clone
+make_packages() {
+    "$1/packaging/debian.sh" "$2" > made 2> said || fail "debian.sh: $(cat said)"
+    "$1/packaging/archive.sh" "$2" > made 2> said || fail "archive.sh: $(cat said)"
+}
+
+try_bytes() {
+    make_packages "$top" first
+    sleep 1
+    make_packages "$top" second
+    for file in first/*; do
+        same "$file" "second/${file##*/}"
+    done
+    if [ -n "$(git -C "$top" status --porcelain)" ]; then
+        echo "some files are not those of the commit: no other clone was tried"
+        return
+    fi
+    git clone -q "$top" "another place/clone" 2> said || fail "git: $(cat said)"
+    (umask 077 && make_packages "$PWD/another place/clone" third) || exit 1
+    for file in first/*; do
+        same "$file" "third/${file##*/}"
+    done
+}
+
+# loader LINE: what the loader says from here on of the processor, to the `lritstation` of the folder `away`
+loader() {
+    printf '#!/bin/sh\necho "  %s"\n' "$1" > loader
+    chmod +x loader
+}
+
+# starts WHAT WANTED: which program is started, as the very process, with its words, its status and its streams
+starts() {
+    echo input | "away/bin/lritstation" - list 'a  b' > out 2> err
+    is "the status where $1" "$?" 7
+    is "what is started where $1" "$(cat out) $(cat err)" "$2 - list a  b input error"
+}
+
+# The archive, unpacked under a path with a space, with scripts in the places of its programs.
+try_choice() {
+    mkdir -p "un packed"
+    xz -dc first/*.tar.xz | tar -C "un packed" -xf - || fail "the archive"
+    installed=$(echo "$PWD/un packed/"gomtasil-*)
+    cp -R "$installed" away
+    for name in v2 v3; do
+        printf '#!/bin/sh\necho "%s $*" $(cat)\necho error >&2\nexit 7\n' $name > away/lib/gomtasil/lritstation-$name
+    done
+    sed -i "s,^loader=.*,loader=$PWD/loader," away/bin/lritstation
+    loader "x86-64-v3 (supported, searched)"
+    starts "the processor is a new one" v3
+    LRITSTATION_CPU=x86-64-v2 starts "the environment says so" v2
+    loader "x86-64-v2 (supported, searched)"
+    starts "the processor is an old one" v2
+    loader "x86-64-v3"
+    starts "the loader doesn't say that it is supported" v2
+    rm loader
+    starts "there is no loader" v2
+}
+
+# What is answered at once, and the true program: its statuses, a signal, and a link to it.
+try_installed() {
+    station=$installed/bin/lritstation
+    mkdir empty && cd empty || exit 1
+    is "the version" "$("$station" --version)" "Gomtasil $version"
+    is "the first line of the help" "$("$station" --help | head -n 1 | cut -d : -f 1)" "Gomtasil $version"
+    is "what -h says" "$("$station" -h)" "$("$station" --help)"
+    is "the files that are there then" "$(ls -A)" ""
+    "$station" > ../out 2> ../err
+    is "the status with no word" "$?" 2
+    is "what is said then" "$(cat ../err)" "station: usage: SHELF COMMAND [WORDS]"
+    "$station" nowhere/shelf verify > ../out 2> ../err
+    is "the status with a path that isn't there" "$?" 1
+    "$station" - nothing > ../out 2> ../err
+    is "the status with a word that is no command" "$?" 2
+    ln -s "$station" ../link
+    is "what a link to it does" "$(../link - trial 1 1 0 | cut -d ' ' -f 4)" 1
+    cd ..
+    mkfifo hold
+    "$station" held.shelf init 1000 > out || fail "init"
+    "$station" held.shelf receive < hold > out 2> err &
+    receiving=$!
+    exec 9> hold
+    sleep 1
+    is "which program has the process" "$(basename "$(readlink "/proc/$receiving/exe")")" "lritstation-$fits"
+    kill "$receiving"
+    wait "$receiving" 2> said
+    is "the status after TERM" "$?" 143
+    exec 9>&-
+}
+
+# Each command of the help stands in the manual page and in the completions.
+try_pages() {
+    share=$installed/share
+    gzip -dc "$share/man/man1/lritstation.1.gz" > page || fail "the manual page"
+    sed 's/\\f[BR]//g; s/\\-/-/g' page > plain
+    names='s/^  \([a-z, ]*[a-z]\)  .*/\1/p; s/^  \([a-z]*\) [[A-Z].*/\1/p'
+    for word in $(sed -n "$names" "$share/gomtasil/help" | tr -d ,); do
+        for file in plain "$share/bash-completion/completions/lritstation" "$share/zsh/site-functions/_lritstation" \
+            "$share/fish/vendor_completions.d/lritstation.fish"; do
+            grep -qw "$word" "$file" || fail "${file##*/} doesn't name $word"
+            cases=$((cases + 1))
+        done
+    done
+    is "the statuses on the manual page" "$(sed -n '/^.SH "STATUSES"/,/^.SH "THE/p' plain | grep -cx '[0-9]*')" \
+        "$(sed -n '/^## Statuses/,/^## The/p' "$top/docs/FORMATS.md" | grep -c '^| [0-9]')"
+    lacks man "the manual page was only read" || is "what man says" "$(man --warnings -l page 2>&1 > /dev/null)" ""
+    lacks bash "its completions were only read" ||
+        is "what bash completes" "$(completed)" "receive render repack symbols blocks "
+    lacks zsh "its completions were only read" || zsh -n "$share/zsh/site-functions/_lritstation" || fail "zsh"
+    lacks fish "its completions were only read" || fish -n "$share/fish/vendor_completions.d/lritstation.fish" ||
+        fail "fish"
+}
+
+completed() {
+    bash -c '. "$1"
+        for words in "x re" "x decode --input "; do
+            IFS=" " read -r -a COMP_WORDS <<< "lritstation $words"
+            [ "${words% }" = "$words" ] || COMP_WORDS+=("")
+            COMP_CWORD=$((${#COMP_WORDS[@]} - 1))
+            _lritstation
+            printf "%s " "${COMPREPLY[@]}"
+        done' bash "$share/bash-completion/completions/lritstation"
+}
+
+try_lintian() {
+    lacks lintian "the package wasn't looked at" && return
+    # (it would rather not be root)
+    is "the errors that lintian finds" "$(lintian --fail-on none first/*.deb 2> said | grep '^E:')" ""
+}
+
+# A fresh system in the folder `root`, where it can be had.
+make_root() {
+    mirror=$(cat /etc/apt/sources.list.d/debian.sources /etc/apt/sources.list 2> /dev/null |
+        awk '$1 == "URIs:" || $1 == "deb" { print $2; exit }')
+    mmdebstrap --quiet --variant=apt --include=netcat-openbsd,netpbm,python3,systemd "$suite" root \
+        "${mirror:-http://deb.debian.org/debian}" > said 2>&1 && return
+    tail -n 3 said
+    echo "no Debian system can be had here (is there a network?): nothing was installed"
+    return 1
+}
+
+# example: a script that runs README's example with the installed names; where a command has lines after it, it printed
+# them
+example() {
+    cat << 'EXAMPLE'
+run() {
+    eval "$1" > /tmp/said 2>&1 || { echo "'$1' ended with $?: $(cat /tmp/said)"; exit 1; }
+    [ -z "$2" ] || [ "$(cat /tmp/said)" = "$2" ] || { echo "'$1' printed '$(cat /tmp/said)', not '$2'"; exit 1; }
+}
+cd /example || exit 1
+EXAMPLE
+    awk '
+        function end() { if (command != "") printf "run '\''%s'\'' '\''%s'\''\n", command, lines }
+        $0 == "## From symbols to a picture" { on = 1; next }
+        /^## / { on = 0 }
+        on && /^    \$ / { end(); command = substr($0, 7); lines = ""; next }
+        on && /^    / { lines = lines (lines == "" ? "" : "\n") substr($0, 5) }
+        END { end() }' "$top/README.md" |
+        sed 's,\$PWD/lrit,/usr/bin/lrit,; s,\./lrit,lrit,; s,examples/,/usr/share/gomtasil/,'
+}
+
+# files: what stands in the system, without what lasts no start, and what apt and dpkg note for themselves
+files() { find root -xdev | grep -v '^root/\(run\|tmp\|var/lib/dpkg\|var/lib/apt\|var/log\|var/cache\)/' | sort; }
+
+# apt VERB PACKAGE: in the system
+apt() { chroot root apt-get "$1" --yes "$2" > said 2>&1 < /dev/null || fail "apt-get $1: $(cat said)"; }
+
+try_system() {
+    if [ "$(id -u)" != 0 ] || ! command -v mmdebstrap > /dev/null; then
+        echo "root or mmdebstrap is missing: nothing was installed"
+        return
+    fi
+    make_root || return
+    cp first/*.deb root/gomtasil.deb
+    files > before
+    apt install /gomtasil.deb
+    mkdir -m 777 root/example
+    example > root/example/run
+    is "the commands of README's example" "$(grep -c '^run ' root/example/run)" "$(grep -c '^    \$ ' "$top/README.md")"
+    is "what went wrong with them" "$(chroot --userspec=nobody:nogroup root sh /example/run 2>&1)" ""
+    "$LRITSTATION" my.shelf init 1000000 > out || fail "init"
+    "$LRITSTATION" my.shelf receive --line nrz-m --g2 plain < root/example/recording > out || fail "receive"
+    same my.shelf root/example/my.shelf
+    is "the page and the picture" "$(ls root/example/page/index.html root/example/earth.pgm | wc -l)" 2
+    is "the version there" "$(chroot root lritstation --version)" "Gomtasil $version"
+    rm -rf root/example root/tmp/said
+    try_units
+    apt purge gomtasil
+    files > after
+    is "what is new after the removal" "$(diff before after)" ""
+}
+
+# The units of the package, as systemd reads them.
+try_units() {
+    for unit in station.service station@.service station-failed@.service watch.service watch.timer; do
+        is "what systemd says of $unit" "$(chroot root systemd-analyze verify "/usr/lib/systemd/system/$unit" 2>&1)" ""
+    done
+}
+
+fits=v2
+! /lib64/ld-linux-x86-64.so.2 --help | grep -q 'x86-64-v3 (supported' || fits=v3
+try_bytes
+version=$(dpkg-deb --field first/*.deb Version)
+for part in choice installed pages lintian system; do
+    try_$part
+done
+echo "trials/package.sh: $cases cases"

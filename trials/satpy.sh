@@ -1,0 +1,60 @@
+#!/bin/sh
+# Sets of files as Himawari, ELEKTRO-L and GOES send them, drawn here, through the whole station and into satpy's own readers: as frames, sent
+# by `transmit` with wrong bytes in each word, received, taken off the shelf by follow.py, and read: all pixels, platforms and times are those
+# that were drawn. Images that are coded without loss are made plain by plain.py, and geo.py places an image where satpy does.
+# Usage: trials/satpy.sh. Needs rt, or LRITSTATION set to the built program, and python3 with satpy (Debian's package python3-satpy);
+# without it nothing is tried.
+top=$(cd "$(dirname "$0")/.." && pwd)
+python=
+for one in python3 /usr/bin/python3; do
+    [ -n "$python" ] || { "$one" -c 'import satpy' 2> /dev/null && python=$one; }
+done
+[ -n "$python" ] || { echo "trials/satpy.sh: satpy is missing, so nothing was tried"; exit 0; }
+scratch=$(mktemp -d) || exit 1
+trap 'rm -rf "$scratch"' EXIT
+trap 'exit 130' HUP INT TERM
+if [ -z "${LRITSTATION-}" ]; then
+    "$top/lritstation" - frames < /dev/null > "$scratch/build.log" 2>&1 || { cat "$scratch/build.log"; exit 1; }
+    LRITSTATION=$top/crates/lr_program/out/lr_program
+fi
+export LRITSTATION PYTHONDONTWRITEBYTECODE=1
+cd "$scratch" || exit 1
+
+fail() {
+    echo "trials/satpy.sh: $1"
+    exit 1
+}
+
+mkdir drawn && "$python" "$top/trials/satellites.py" draw drawn > frames || fail "satellites.py"
+"$LRITSTATION" sent.shelf init 20000000 > log || fail "init"
+"$LRITSTATION" sent.shelf receive --input frames < frames > log || fail "receive, of frames"
+count=$(grep -c '^shelved' log)
+"$LRITSTATION" received.shelf init 20000000 > log || fail "init"
+"$LRITSTATION" sent.shelf transmit 0 "$count" 8 --line nrz-m --g2 plain |
+    "$LRITSTATION" received.shelf receive --line nrz-m --g2 plain > log || fail "receive, of symbols"
+tail -n 1 log
+python3 "$top/examples/follow.py" received.shelf files --flat > log || fail "follow.py"
+echo "files: $count sent, $(wc -l < log | tr -d ' ') taken by follow.py"
+"$python" "$top/trials/satellites.py" compare drawn files || fail "satpy reads something else"
+
+# coded without loss, and plain again (Himawari's line times are of the kind that repack leaves out, so its files stay as they are)
+mkdir plain
+while read -r number name; do
+    case $name in
+    L-000*-00_6_* | OR_ABI*)
+        coded=$("$LRITSTATION" received.shelf repack "$number" 16 | cut -d ' ' -f 4) || fail "repack"
+        python3 "$top/examples/plain.py" received.shelf "$coded" "plain/$name" || fail "plain.py"
+        cmp -s "plain/$name" "files/$name" || fail "plain.py gives another $name"
+        ;;
+    *)
+        cp "files/$name" plain/ || fail "cp"
+        ;;
+    esac
+done < log
+"$python" "$top/trials/satellites.py" compare drawn plain > log2 || fail "satpy reads another plain file"
+echo "plain files of coded ones: the same in satpy"
+
+# an image of Himawari's, where satpy places it
+number=$(awk '$2 ~ /^IMG_DK01B14.*_001$/ { print $1 }' log)
+python3 "$top/examples/geo.py" received.shelf "$number" placed.tif || fail "geo.py"
+"$python" "$top/trials/satellites.py" placed files placed.tif || fail "geo.py places the image elsewhere"
