@@ -1,11 +1,12 @@
 #!/bin/sh
-# Processor time, user and system, of `decode` and of SatDump up to its transfer frames, over the same symbols: clean frames of
-# the test stream. SatDump's pipeline goes_lrit wants a second symbol that isn't complemented, so that symbol of each pair of
+# Processor time, user and system, of `decode` and of SatDump up to its transfer frames, over the same symbols: clean
+# frames of the test stream. `decode` of the program for x86-64-v3 has a line of its own, where it is built and the
+# processor has what it needs. SatDump's pipeline goes_lrit wants a second symbol that isn't complemented, so that symbol of each pair of
 # `make` is turned first, and `decode` has `--g2 plain`. SatDump's frames have to be those of `make`.
 # Usage: bench/satdump.sh ROOT [RUNS [FRAMES]]. ROOT is a folder with a Debian system that has SatDump, as
 #   mmdebstrap --variant=apt --include=satdump trixie ROOT
-# makes it; chroot enters it, so this runs as root. Without a ROOT nothing is compared. The two take turns, and the best of RUNS
-# runs (3) of FRAMES frames (8192) is taken. Needs rt and python3.
+# makes it; chroot enters it, so this runs as root. Without a ROOT nothing is compared. They take turns, and the best of
+# RUNS runs (3) of FRAMES frames (8192) is taken. Needs rt and python3.
 set -e
 top=$(cd "$(dirname "$0")/.." && pwd)
 root=$1
@@ -18,7 +19,11 @@ fi
 scratch=$(mktemp -d "$root/tmp/satdump-bench.XXXXXX")
 trap 'rm -rf "$scratch"' EXIT
 "$top/lritstation" - frames < /dev/null > "$scratch/build.log" 2>&1 || { cat "$scratch/build.log"; exit 1; }
-cp "$top/crates/lr_program/out/lr_program" "$scratch/lritstation"
+program=$top/crates/lr_program/out/lr_program
+cp "$program" "$scratch/lritstation"
+if [ -x "$program-v3" ] && /lib64/ld-linux-x86-64.so.2 --help | grep -q '^ *x86-64-v3 (supported'; then
+    cp "$program-v3" "$scratch/lritstation-v3"
+fi
 cd "$scratch"
 ./lritstation - make 1 "$frames" 0 > symbols
 ./lritstation - make 1 "$frames" 0 --output frames > frames
@@ -82,9 +87,9 @@ def seconds(command, stdin=None):
     return after.ru_utime - before.ru_utime + after.ru_stime - before.ru_stime
 
 
-def ours():
+def ours(program):
     with open('plain', 'rb') as plain:
-        took = seconds(['./lritstation', '-', 'decode', '--g2', 'plain'], plain)
+        took = seconds([program, '-', 'decode', '--g2', 'plain'], plain)
     with open('told') as told:
         restored = sum(' restored 0 0 0 0' in line for line in told)
     return took, restored
@@ -100,17 +105,22 @@ def theirs():
     return took, same
 
 
+sides = [('decode', lambda: ours('./lritstation')), ('SatDump', theirs)]
+if os.path.exists('lritstation-v3'):
+    sides.insert(1, ('decode for x86-64-v3', lambda: ours('./lritstation-v3')))
 best = {}
 right = True
 for _ in range(runs):
-    for name, run in (('decode', ours), ('SatDump', theirs)):
+    for name, run in sides:
         took, good = run()
         right = right and good == frames
         best[name] = min(took, best.get(name, (took, 0))[0]), good
 print(f'{frames} frames, {os.cpu_count()} processors, the best of {runs} runs')
-words = {'decode': 'restored with no byte changed', 'SatDump': 'as they were sent'}
 for name, (took, good) in best.items():
-    print(f'{name:8} {took:7.3f} s of processor time {took / frames * 1e6:9.1f} us a frame   {good} frames {words[name]}')
-print(f'decode takes {best["decode"][0] / best["SatDump"][0]:.2f} of the processor time of SatDump')
+    words = 'as they were sent' if name == 'SatDump' else 'restored with no byte changed'
+    print(f'{name:20} {took:7.3f} s of processor time {took / frames * 1e6:9.1f} us a frame   {good} frames {words}')
+for name in best:
+    if name != 'SatDump':
+        print(f'{name} takes {best[name][0] / best["SatDump"][0]:.2f} of the processor time of SatDump')
 sys.exit(not right)
 PYTHON

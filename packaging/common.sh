@@ -1,0 +1,73 @@
+# What the scripts of this folder share. They read it, so it is no script of its own.
+# shellcheck shell=sh
+export LC_ALL=C TZ=UTC
+umask 022
+
+fail() {
+    echo "${0##*/}: $1" >&2
+    exit 1
+}
+
+# Makes the folder $scratch, which goes when the script ends.
+scratch_folder() {
+    scratch=
+    trap '[ -z "$scratch" ] || rm -rf "$scratch"' EXIT
+    trap 'exit 129' HUP
+    trap 'exit 130' INT
+    trap 'exit 143' TERM
+    scratch=$(mktemp -d) || exit 1
+}
+
+# begin TOOL..: looks for the tools and for both programs, and sets $version, and the time of all files: the commit's
+begin() {
+    for tool; do
+        command -v "$tool" > /dev/null || fail "$tool is missing"
+    done
+    program=${LRITSTATION:-$top/crates/lr_program/out/lr_program}
+    for built in "$program" "$program-v3"; do
+        [ -x "$built" ] || fail "$built is missing: a first run of ./lritstation makes both on a newer processor"
+    done
+    SOURCE_DATE_EPOCH=${SOURCE_DATE_EPOCH:-$(git -C "$top" log -1 --format=%ct)}
+    [ -n "$SOURCE_DATE_EPOCH" ] || fail "there is no commit here, and no SOURCE_DATE_EPOCH"
+    export SOURCE_DATE_EPOCH
+    [ -z "$(git -C "$top" status --porcelain 2> /dev/null)" ] ||
+        echo "${0##*/}: some files are not those of the commit, so these bytes aren't either" >&2
+    version=$(sed -n 's/^## \([0-9][0-9.]*\) .*/\1/p' "$top/CHANGELOG.md" | head -n 1)
+    ! grep -q '^## Next$' "$top/CHANGELOG.md" || version=$version+$(date -d "@$SOURCE_DATE_EPOCH" +%Y%m%d.%H%M)
+}
+
+# put MODE FILE PLACE: a copy in $tree with these rights
+put() { mkdir -p "$tree/${3%/*}" && install -m "$1" "$2" "$tree/$3"; }
+
+# page NAME: one of the pages that are made from others
+page() { python3 "$top/packaging/pages.py" "$1" "$top" "$version"; }
+
+# made NAME PLACE: such a page in $tree
+made() { mkdir -p "$tree/${2%/*}" && page "$1" > "$tree/$2"; }
+
+# fill TREE ZSH: what both packages have, under the folder TREE; ZSH is the folder of zsh's functions there
+fill() {
+    tree=$1
+    put 755 "$top/packaging/lritstation" bin/lritstation || return 1
+    put 755 "$program" lib/gomtasil/lritstation-v2 || return 1
+    put 755 "$program-v3" lib/gomtasil/lritstation-v3 || return 1
+    for example in "$top/examples/"*.sh "$top/examples/"*.py; do
+        # (what others read is no program of its own, and has no `#!`)
+        mode=755
+        head -c 2 "$example" | grep -q '#!' || mode=644
+        put $mode "$example" "share/gomtasil/${example##*/}" || return 1
+    done
+    put 644 "$top/examples/station.conf" share/gomtasil/station.conf || return 1
+    made help share/gomtasil/help || return 1
+    made man share/man/man1/lritstation.1 && gzip -9n "$tree/share/man/man1/lritstation.1" || return 1
+    made bash share/bash-completion/completions/lritstation || return 1
+    made zsh "share/zsh/$2/_lritstation" || return 1
+    made fish share/fish/vendor_completions.d/lritstation.fish || return 1
+    for document in README.md docs/earth.png docs/FORMATS.md docs/OPERATING.md docs/CLAIMS.md docs/STREAM.md; do
+        put 644 "$top/$document" "share/doc/gomtasil/$document" || return 1
+    done
+    put 644 "$top/packaging/copyright" share/doc/gomtasil/copyright
+}
+
+# dated FOLDER: every file and folder has the commit's time
+dated() { find "$1" -exec touch --no-dereference --date "@$SOURCE_DATE_EPOCH" {} +; }

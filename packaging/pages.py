@@ -1,0 +1,256 @@
+"""Writes a page of the package from what stands in README, docs/FORMATS.md, CHANGELOG and the wrapper's help, so that
+nothing is written twice. Usage: pages.py help|man|bash|zsh|fish|changelog TOP VERSION, with SOURCE_DATE_EPOCH."""
+
+import calendar
+import email.utils
+import os
+import re
+import subprocess
+import sys
+import textwrap
+import time
+
+MAINTAINER = "Gomtasil maintainers <maintainers@users.noreply.gomtasil.example>"
+UNPROVED = "--unproved"  # (what a checkout alone can do)
+MANUAL = "The manual page lritstation(1) has every input, printed line and status."
+DOCUMENTS = """In share/doc/gomtasil README.md leads from symbols to a picture, and docs/OPERATING.md has a station
+that runs day and night."""
+
+
+def text_of(name):
+    with open(os.path.join(TOP, name), encoding="utf-8") as file:
+        return file.read()
+
+
+def help_text():
+    """The wrapper's help without what only a checkout has, and with what an installed one has."""
+    wrapper = [os.path.join(TOP, "lritstation"), "--help"]
+    said = subprocess.run(wrapper, capture_output=True, text=True, check=True).stdout
+    paragraphs = [part for part in said.strip().split("\n\n") if not part.startswith("README.md leads")]
+    paragraphs.append(MANUAL + "\n" + DOCUMENTS)
+    lines = [line for line in "\n\n".join(paragraphs).split("\n") if UNPROVED not in line]
+    lines[0] = re.sub(r"^Gomtasil [^:]*", f"Gomtasil {VERSION}", lines[0])
+    return "\n".join(lines).replace("./lritstation", "lritstation")
+
+
+def summaries():
+    """What the help says of each command, by name."""
+    found = {}
+    for line in help_text().split("\n"):
+        parts = re.match(r"  ([a-z]+(?:, [a-z]+)*)(?: \S+)*?  +(\S.*)", line)
+        if parts:
+            found.update((name, parts[2]) for name in parts[1].split(", "))
+    return found
+
+
+def rows_of(lines):
+    """The cells of the table in these lines, without its second line."""
+    rows = [re.split(r"(?<!\\)\|", line)[1:-1] for line in lines]
+    return [[cell.strip().replace("\\|", "|") for cell in row] for place, row in enumerate(rows) if place != 1]
+
+
+def commands():
+    """README's commands: name, options with their values, the words, and what it does."""
+    part = text_of("README.md").split("\n## Commands\n")[1].split("\n## ")[0]
+    values = {}
+    found = []
+    for call, does in rows_of([line for line in part.split("\n") if line.startswith("|")])[1:]:
+        for words in re.findall(r"`([^`]+)`", call):
+            name = words.split()[0]
+            options = re.findall(r"\[(--[\w-]+) ([^\]]+)\]", words)
+            for option, value in options:
+                if "|" in value:
+                    values[name, option] = values[option] = value.split("|")
+            found.append((name, [option for option, _ in options], words, does))
+    # (`[--line ..]` takes what an earlier row says)
+    choices = {}
+    for name, options, _, _ in found:
+        for option in options:
+            choices[name, option] = values.get((name, option), values.get(option, []))
+    return found, choices
+
+
+def escaped(text):
+    text = text.replace("\\", "\\e").replace("-", "\\-")
+    return "\\&" + text if text[:1] in (".", "'") else text
+
+
+def in_line(text):
+    """A line of prose or a cell: what stands in backticks or between stars is bold."""
+    parts = re.split(r"`([^`]*)`|\*\*([^*]*)\*\*", text)
+    written = ""
+    for place, part in enumerate(parts):
+        if part:
+            written += escaped(part) if place % 3 == 0 else "\\fB" + escaped(part).replace("\\&", "") + "\\fR"
+    return "\\&" + written if written[:1] in (".", "'") else written
+
+
+def bold(cell):
+    return "\\fB" + re.sub(r"\\f[BR]", "", in_line(cell)) + "\\fR"
+
+
+def table(lines):
+    """Each row as a paragraph: the first cell, and then the others, with their heads where they aren't prose, and from
+    the third one on."""
+    rows = rows_of(lines)
+    head = rows[0]
+    written = []
+    last = ""
+    for row in rows[1:]:
+        last = row[0] or last
+        bare = len(row) > 2 and re.fullmatch(r"\d+|`[^`]*`", row[1])
+        rest = [f"{head[1]}: {row[1]}" if bare else row[1]]
+        rest += [f"{head[place]}: {row[place]}" for place in range(2, len(row)) if row[place]]
+        written += [".TP", bold(last), in_line("; ".join(rest))]
+    return written
+
+
+def roff(markdown):
+    """A page in Markdown as lines of roff: its headings, tables, examples, lists and prose."""
+    written = []
+    for block in re.split(r"\n\n+", markdown.strip()):
+        lines = block.split("\n")
+        if lines[0].startswith("#"):
+            level, title = lines[0].split(" ", 1)
+            written.append(f'.SH "{escaped(title.upper())}"' if level == "##" else f'.SS "{escaped(title)}"')
+        elif lines[0].startswith("|"):
+            written += table(lines)
+        elif lines[0].startswith("    "):
+            written += [".PP", ".in +4n", ".nf", *[escaped(line[4:]) for line in lines], ".fi", ".in"]
+        elif lines[0].startswith("- "):
+            for item in re.split(r"\n?(?:^|(?<=\n))- ", block)[1:]:
+                written += [".IP \\(bu 2", *[in_line(line.strip()) for line in item.split("\n")]]
+        else:
+            written += [".PP", *[in_line(line) for line in lines]]
+    return written
+
+
+def man():
+    paragraphs = help_text().split("\n\n")
+    name = paragraphs[0].split(": ", 1)[1]
+    date = time.strftime("%Y-%m-%d", time.gmtime(EPOCH))
+    written = [f'.TH LRITSTATION 1 "{date}" "Gomtasil {VERSION}" "User Commands"']
+    written += [".SH NAME", f"lritstation \\- {escaped(name)}", ".SH SYNOPSIS"]
+    for line in paragraphs[1].split("\n"):
+        written += [".PP" if line.startswith("usage") else ".br", bold(line.replace("usage:", "").strip())]
+    written += [".SH DESCRIPTION", *roff(text_of("README.md").split("\n\n")[1])]
+    for part in paragraphs[2:]:
+        if not part.startswith(("  ", MANUAL)):
+            written += [".PP", *[in_line(line) for line in part.split("\n")]]
+    written.append(".SH COMMANDS")
+    for _, _, words, does in commands()[0]:
+        written += [".TP", in_line(f"`{words}`"), in_line(does)]
+    # (its title and what stands before the first heading say what the page is)
+    written += roff("## " + text_of("docs/FORMATS.md").split("\n## ", 1)[1])
+    written += [".SH SEE ALSO", *DOCUMENTS.split("\n")]
+    return "\n".join(written) + "\n"
+
+
+def cases(form):
+    """The lines of a shell's `case` over a command and the word before: the values of options, and then the options."""
+    found, choices = commands()
+    numbers = sorted({option for (_, option), words in choices.items() if not words})
+    keys = [(f'"{name} {option}"', words) for (name, option), words in choices.items() if words]
+    keys.append(("|".join(f'*" {option}"' for option in numbers), []))
+    keys += [(f'"{name} "*', options) for name, options, _, _ in found if options]
+    return "\n".join(form.format(key=key, words=" ".join(words)) for key, words in keys)
+
+
+def bash():
+    names = " ".join(name for name, _, _, _ in commands()[0])
+    return f"""# Completions of lritstation(1) for bash.
+_lritstation() {{
+    local word=${{COMP_WORDS[COMP_CWORD]}} words=
+    case $COMP_CWORD in
+    1)
+        compopt -o filenames
+        mapfile -t COMPREPLY < <(compgen -f -W "- --help --version" -- "$word")
+        return
+        ;;
+    2) words="{names}" ;;
+    *)
+        case "${{COMP_WORDS[2]}} ${{COMP_WORDS[COMP_CWORD - 1]}}" in
+{cases('        {key}) words="{words}" ;;')}
+        esac
+        ;;
+    esac
+    mapfile -t COMPREPLY < <(compgen -W "$words" -- "$word")
+}}
+complete -F _lritstation lritstation
+"""
+
+
+def zsh():
+    said = summaries()
+    names = "\n".join(f"            '{name}:{said[name]}'" for name, _, _, _ in commands()[0])
+    return f"""#compdef lritstation
+# Completions of lritstation(1) for zsh.
+_lritstation() {{
+    case $CURRENT in
+    2)
+        compadd -- - --help --version
+        _files
+        ;;
+    3)
+        local -a commands=(
+{names}
+        )
+        _describe command commands
+        ;;
+    *)
+        case "$words[3] $words[CURRENT-1]" in
+{cases('        {key}) compadd -- {words} ;;')}
+        esac
+        ;;
+    esac
+}}
+_lritstation "$@"
+"""
+
+
+def fish():
+    found, choices = commands()
+    said = summaries()
+    lines = [
+        "# Completions of lritstation(1) for fish.",
+        "function __lritstation_at",
+        "    test (count (commandline -opc)) -eq $argv[1]",
+        "end",
+        "function __lritstation_is",
+        "    set -l words (commandline -opc)",
+        '    test (count $words) -ge 3; and test "$words[3]" = "$argv[1]"',
+        "end",
+        "complete -c lritstation -n '__lritstation_at 1' -s h -l help",
+        "complete -c lritstation -n '__lritstation_at 1' -l version",
+        "complete -c lritstation -n 'not __lritstation_at 1' -f",
+    ]
+    for name, options, _, _ in found:
+        lines.append(f"complete -c lritstation -n '__lritstation_at 2' -a {name} -d '{said[name]}'")
+        for option in options:
+            words = " ".join(choices[name, option])
+            values = f" -a '{words}'" if words else ""
+            lines.append(f"complete -c lritstation -n '__lritstation_is {name}' -l {option[2:]} -x{values}")
+    return "\n".join(lines) + "\n"
+
+
+def changelog():
+    """CHANGELOG in Debian's form: an entry for each version, and one for what comes after the newest."""
+    written = []
+    for part in re.split(r"(?m)^## ", text_of("CHANGELOG.md"))[1:]:
+        title, rest = part.split("\n", 1)
+        dated = re.match(r"(\S+) \((.*)\)", title)
+        seconds = calendar.timegm(time.strptime(dated[2], "%d %B %Y")) if dated else EPOCH
+        written.append(f"gomtasil ({dated[1] if dated else VERSION}) unstable; urgency=medium\n")
+        for item in re.split(r"\n(?=- )", rest)[1:]:
+            line = " ".join(item.split("\n\n")[0][2:].replace("`", "").split())
+            written.append(textwrap.fill(line, 78, initial_indent="  * ", subsequent_indent="    "))
+        written.append(f"\n -- {MAINTAINER}  {email.utils.formatdate(seconds).replace('-0000', '+0000')}\n")
+    return "\n".join(written)
+
+
+PAGES = {"help": lambda: help_text() + "\n", "man": man, "bash": bash, "zsh": zsh, "fish": fish, "changelog": changelog}
+if len(sys.argv) != 4 or sys.argv[1] not in PAGES:
+    sys.exit(__doc__)
+TOP, VERSION = sys.argv[2:]
+EPOCH = int(os.environ["SOURCE_DATE_EPOCH"])
+sys.stdout.write(PAGES[sys.argv[1]]())
