@@ -6,4 +6,4 @@
 top=$(cd "$(dirname "$0")/.." && pwd)
 command -v python3 > /dev/null || { echo "trials/papers.sh: python3 is missing, so nothing was looked at"; exit 0; }
 python3 "$top/trials/papers.py" "$top" || exit 1
-cd "$top" && python3 trials/numbers.py && exec python3 trials/definitions.py
+cd "$top" && python3 trials/bare_numbers.py && exec python3 trials/definitions.py

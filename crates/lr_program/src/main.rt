@@ -69,10 +69,18 @@ fn open_shelf(rt: &HostRuntime, path: &str) -> io::Result<File> {
     }
 }
 
+/// Whether the file is there and may only be read.
+fn may_only_be_read(error: &io::Error) -> bool {
+    matches!(
+        error.kind(),
+        io::ErrorKind::PermissionDenied | io::ErrorKind::ReadOnlyFilesystem
+    )
+}
+
 /// The file of the shelf for a command. One that doesn't write a shelf reads it where it may only be read.
 fn open_for(rt: &HostRuntime, path: &str, writes: bool) -> io::Result<File> {
     match open_shelf(rt, path) {
-        Err(_) if !writes => fs::open(rt, path),
+        Err(error) if !writes && may_only_be_read(&error) => fs::open(rt, path),
         other => other,
     }
 }

@@ -1,13 +1,13 @@
 #!/usr/bin/env python3
 """Finds numbers that have a name and are written out all the same.
 
-Usage, at the top: trials/numbers.py [CRATE ..]
+Usage, at the top: trials/bare_numbers.py [CRATE ..]
 
 It reads the clauses and ghost items of crates/NAME/src/*.rt, and all of crates/NAME/specs and proofs (*.antt), without
 comments, texts and `use` lines. It prints `FILE:LINE: NUMBER: write NAME (MODULE)` for each number of the table that
 stands there bare, and ends with status 1 where there is one.
 
-The table, trials/numbers.txt, has lines `VALUE | NAME | MODULE | CRATES | WHERE`; `#` begins a comment line.
+The table, trials/bare_numbers.txt, has lines `VALUE | NAME | MODULE | CRATES | WHERE`; `#` begins a comment line.
   VALUE   a number (16384 is also 16_384 and 0x4000), or an expression as `2 ^ 24`, of any spacing
   NAME    what to write
   MODULE  where a spec imports it from: `lr_bits sizes` is Rattle.lr_bits.specs.declared.sizes.TheConstants
@@ -20,7 +20,7 @@ import re
 import sys
 
 HERE = os.path.dirname(os.path.abspath(__file__))
-TABLE = os.path.join(HERE, "numbers.txt")
+TABLE = os.path.join(HERE, "bare_numbers.txt")
 
 NUMBER = re.compile(r"(?<![\w.\-'◌])(0x[0-9a-fA-F_]+|0b[01_]+|\d[\d_]*)(?![\w\-'])")
 ANTT_NOTES = re.compile(r'\{-.*?-\}|"(?:[^"\\\n]|\\.)*"|(?:(?<=\s)|^)--[^\n]*', re.S | re.M)
@@ -138,7 +138,7 @@ def main():
         for number, text, row in bare_numbers(path, rows):
             print(f"{path}:{number}: {text}: write {row.name} ({row.module or 'as it is'})")
             count += 1
-    print(f"trials/numbers.py: {count} bare numbers, against the {len(rows)} lines of trials/numbers.txt")
+    print(f"trials/bare_numbers.py: {count} bare numbers, against the {len(rows)} lines of trials/bare_numbers.txt")
     return 1 if count else 0
 
 
