@@ -54,7 +54,7 @@ impl<'a> Model for BitReader<'a> {
 const SHOWN: u64 = 57;
 
 impl<'a> BitReader<'a> {
-    /// All bits of these bytes.
+    /// All bits of these bytes, each byte's most significant one first.
     pub fn new(bytes: &'a [u8]) -> Self
         requires { length bytes.now < 2 ^ 61 }
         ensures { result ≡ bits_of bytes.now }
@@ -69,7 +69,7 @@ impl<'a> BitReader<'a> {
         8 * self.bytes.len() as u64 - self.at
     }
 
-    /// The next bit.
+    /// The next bit. `Ended`: none is left.
     pub fn bit(&mut self) -> Result<bool, Ended>
         ensures ok { IfOk result (λ one. self.old ≡ (if one then 1 else 0) ∷ self.new) }
         ensures err { OnErr result ((self.old ≡ []) × (self.new ≡ self.old)) }
@@ -78,7 +78,8 @@ impl<'a> BitReader<'a> {
         Ok(number == 1)
     }
 
-    /// The number that the next `width` bits write.
+    /// The number that the next `width` bits write, the most significant first. `Ended`: fewer are left, and the reader
+    /// is as it was.
     #[inline(always)]
     pub fn bits(&mut self, width: u32) -> Result<u64, Ended>
         requires { width ≤ 64 }
@@ -97,7 +98,8 @@ impl<'a> BitReader<'a> {
         Ok(high << 32 | low)
     }
 
-    /// The number of the zeros before the next one. Both are passed.
+    /// The number of the zeros before the next one. Both are passed. `Ended`: no 1 is left, and the reader is as it
+    /// was.
     #[inline(always)]
     pub fn zeros(&mut self) -> Result<u64, Ended>
         ensures ok { IfOk result (λ n. self.old ≡ zeros_and_one n ++ self.new) }

@@ -6,7 +6,7 @@ pub const FRAME_BYTES: usize = 892;
 /// The bytes of a frame's packet zone, after its header of 8 bytes.
 pub const ZONE_BYTES: usize = 884;
 
-/// How many virtual channels there are: their numbers have 6 bits (CCSDS 732.0-B, section 4.1.2.2).
+/// How many virtual channels there are: their numbers have 6 bits (CCSDS 732.0-B).
 pub const CHANNELS: usize = 64;
 
 /// The channel of fill frames, the last one (CCSDS 732.0-B).

@@ -55,7 +55,7 @@ use Rattle.lr_block.specs.Outcomes.{
   outcome_of_block,
   IsBlock,
   OutcomeIsTheOne,
-  SentIsReceived,
+  SentBlockIsReceived,
   all_lists,
 }
 use Rattle.lr_block.proofs.Sequence.{
@@ -316,7 +316,7 @@ pub outcome_from_lost : (block plain : List ℕ) (k : ℕ) → plain ≡ randomi
     → IsOutcome block (Lost k)
 outcome_from_lost block plain k e l = subst (λ (z : List ℕ). IsFirstLost z k) e l
 
-pub sent_is_received : SentIsReceived
+pub sent_is_received : SentBlockIsReceived
 sent_is_received frame sent received e b near =
     let restored : IsRestoredBlock received sent =
     record {

@@ -104,8 +104,8 @@ OutcomeIsTheOne = (block : List ℕ) → IsBlock block → (outcome : Outcome)
     → IsOutcome block outcome ↔ (outcome ≡ outcome_of_block block)
 
 -- the law: an encoded frame that is received with at most sixteen wrong bytes in each word is restored
-abbrev pub SentIsReceived : Type 0
-SentIsReceived =
+abbrev pub SentBlockIsReceived : Type 0
+SentBlockIsReceived =
     (frame sent received : List ℕ) → IsEncoded frame sent → IsBlock received
     → ((k : ℕ) → k < 4 → distance WORD_BYTES (word_of received k) (word_of sent k) ≤ most_errors)
     → outcome_of_block (randomised_block received) ≡ Restored (record { 0 = changes_of received sent }) frame

@@ -6,7 +6,7 @@ ghost use Rattle.lr_block.specs.Outcomes.{
   IsOutcome,
   OutcomeIsTheOne,
   RestoredIsFound,
-  SentIsReceived,
+  SentBlockIsReceived,
   outcome_of_block,
 };
 
@@ -45,5 +45,5 @@ pub fn outcome_is_the_one()
 
 /// That an encoded frame, received with at most sixteen wrong bytes in each word, is restored.
 pub fn sent_is_received()
-    ensures { SentIsReceived }
+    ensures { SentBlockIsReceived }
 {}

@@ -1,3 +1,4 @@
+//! Numbers that look drawn, from a linear congruence modulo 2^64.
 ghost use Rattle.std.specs.Prelude.{◌<◌};
 
 /// Numbers that are drawn by a linear congruence modulo 2^64.

@@ -1,4 +1,4 @@
-// Drawn lists of good packets, given to `Files`.
+//! Drawn lists of good packets are given to `Files`.
 ghost use Rattle.std.specs.Prelude.{◌<◌};
 ghost use Rattle.lr_bits.specs.declared.sizes.TheConstants.{SEQUENCE_COUNTS};
 

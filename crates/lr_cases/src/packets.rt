@@ -1,4 +1,4 @@
-// Drawn histories of a few frames each, given to `Channels`.
+//! Drawn histories of a few frames each are given to `Channels`.
 use crate::draw::Draw;
 use crate::sender::{Sender, draw_frame};
 use lr_bits::{NoMemory, RawPacket};

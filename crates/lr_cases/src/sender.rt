@@ -1,3 +1,4 @@
+//! A channel is drawn that sends its packets frame by frame.
 ghost use Rattle.std.specs.Prelude.{◌<◌, ◌≤◌, ◌^◌};
 ghost use Rattle.lr_bits.specs.declared.sizes.TheConstants.{ZONE_BYTES};
 

@@ -11,7 +11,7 @@ use Rattle.lr_headers.specs.declared.fault.HeaderFault.TheVariants.{NoMemory}
 use Rattle.lr_headers.specs.declared.fields.Stamp.{Stamp}
 use Rattle.lr_headers.specs.Fields.{content_of, contents_of}
 use Rattle.lr_headers.specs.Stamps.{IsStampText, stamp_text}
-use Rattle.lr_headers.specs.Tiling.{HasFaultOrMemory, Header}
+use Rattle.lr_headers.specs.Tiling.{HasHeaderFaultOrMemory, Header}
 use Rattle.lr_headers.proofs.Days.{stamp_texts_are_one}
 use Rattle.lr_catalog.specs.Records.{content_words, fault_line, header_lines, record_line, record_words}
 use Rattle.lr_catalog.proofs.Faults.{is_fault}
@@ -46,7 +46,7 @@ module _ {T E : Type 0} where
   put_line (Err x) old key size bits middle kind origin t0 t1 t2 t3 t4 t5 new e0 e1 e2 e3 e4 e5 put = put
 
   pub put_fault : (r : Result T E) (proper : List ℕ) (fault : HeaderFault) (old new : List ℕ)
-      → HasFaultOrMemory proper fault → OnOk r (new ≡ old ++ fault_line fault) → OnOk r (fault ≡ NoMemory → ⊥)
+      → HasHeaderFaultOrMemory proper fault → OnOk r (new ≡ old ++ fault_line fault) → OnOk r (fault ≡ NoMemory → ⊥)
       → OnOk r (new ≡ old ++ header_lines proper)
   unfolding header_lines
   put_fault (Ok x) proper fault old new has put not = let is = is_fault proper fault has not in rw is put

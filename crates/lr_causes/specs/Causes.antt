@@ -89,23 +89,23 @@ cause_of_fault None = NoMemory
 cause_of_fault (Some fault) = Refused (CannotExport fault)
 
 -- how often each party has failed
-pub record Counts : Type 0 where
+pub record FaultCounts : Type 0 where
   pub source : ℕ
   pub disk : ℕ
   pub output : ℕ
 
-abbrev pub count_of_party : Party → Counts → ℕ
+abbrev pub count_of_party : Party → FaultCounts → ℕ
 count_of_party Source counts = counts.source
 count_of_party Disk counts = counts.disk
 count_of_party Output counts = counts.output
 
 -- a cause that names a party comes only where that party's count rose
-abbrev pub IsCaused : Cause → Counts → Counts → Type 0
+abbrev pub IsCaused : Cause → FaultCounts → FaultCounts → Type 0
 IsCaused (Failed party) before now = Rose (count_of_party party before) (count_of_party party now)
 IsCaused _ before now = Unit {0}
 
 -- how often the source, the disk and `out` have failed
-abbrev pub counts : ℕ → ℕ → ℕ → Counts
+abbrev pub counts : ℕ → ℕ → ℕ → FaultCounts
 counts source disk output = record { source = source; disk = disk; output = output }
 
 -- the cause of a run that put its last line

@@ -3,7 +3,7 @@ use Rattle.lr_bits.specs.Faults.{Rose}
 use Rattle.lr_disk.specs.declared.disk.Disk.{Ghosts as DiskOf}
 use Rattle.lr_io.specs.declared.sink.Sink.{Ghosts as SinkOf}
 use Rattle.lr_io.specs.declared.source.Source.{Ghosts as SourceOf}
-use Rattle.lr_causes.specs.Causes.{Counts, counts}
+use Rattle.lr_causes.specs.Causes.{FaultCounts, counts}
 
 -- what is said of sources, of disks and of sinks
 pub record World (S D O : Type 0) : Type 1 where
@@ -24,7 +24,7 @@ abbrev pub outside : {S D O : Type 0} → S → D → O → Outside S D O
 outside s d o = record { source = s; disk = d; out = o }
 
 -- how often each of them has failed
-abbrev pub counts_in : {S D O : Type 0} → World S D O → Outside S D O → Counts
+abbrev pub counts_in : {S D O : Type 0} → World S D O → Outside S D O → FaultCounts
 counts_in world w = counts (world.source.faults w.source) (world.disk.faults w.disk) (world.out.faults w.out)
 
 -- none of them failed
@@ -59,7 +59,7 @@ abbrev pub outlets_in : {S D O : Type 0} → Outside S D O → Outlets D O
 outlets_in w = outlets w.disk w.out
 
 -- how often each of them has failed
-abbrev pub outlet_counts : {D O : Type 0} → OutletsOf D O → Outlets D O → Counts
+abbrev pub outlet_counts : {D O : Type 0} → OutletsOf D O → Outlets D O → FaultCounts
 outlet_counts world w = counts 0 (world.disk.faults w.disk) (world.out.faults w.out)
 
 -- ---- a source and `out`, for a command that has no disk

@@ -7,8 +7,8 @@ use Rattle.lr_causes.specs.declared.cause.Cause.{Cause}
 use Rattle.lr_causes.specs.declared.cause.Cause.TheVariants.{Failed, NoMemory}
 use Rattle.lr_causes.specs.declared.cause.Party.TheVariants.{Output}
 
--- a front of the bytes was appended, perhaps all of them
-pub record PutsFront (bytes old new : List ℕ) : Type 0 where
+-- a prefix of the bytes was appended, perhaps all of them
+pub record PutsPrefix (bytes old new : List ℕ) : Type 0 where
   pub front : List ℕ
   pub rest : List ℕ
   pub split : bytes ≡ front ++ rest
@@ -21,7 +21,7 @@ module _ {O : Type 0} (out : SinkOf O) where
     pub put : out.tells o → out.contents o' ≡ out.contents o ++ text
     pub kept : out.faults o' ≡ out.faults o
 
-  -- a front of the text was put that isn't all of it
+  -- a prefix of the text was put that isn't all of it
   pub record PutFails (text : List ℕ) (o o' : O) : Type 0 where
     pub told : out.tells o → out.tells o'
     pub part : out.tells o → PutsPart text (out.contents o) (out.contents o')

@@ -15,8 +15,8 @@ use Rattle.lr_shelf_format.specs.declared.stored.Stored.{Stored}
 use Rattle.lr_shelf_format.proofs.WayLemmas.{has_one_way}
 use Rattle.lr_shelf.specs.Adding.{StaysOutside, WithOrWithout}
 use Rattle.lr_shelf.specs.Adds.{Adds, last_gate, new_end}
-use Rattle.lr_shelf.specs.Calls.{IsCounted}
-use Rattle.lr_shelf.specs.Kept.{Kept, kept_by, kept_with}
+use Rattle.lr_shelf.specs.Calls.{IsFaultCounted}
+use Rattle.lr_shelf.specs.Kept.{KeptShelf, kept_by, kept_with}
 use Rattle.lr_shelf.specs.Load.{Loads, IsLoadRefusal}
 use Rattle.lr_shelf.specs.Read.{Gets}
 use Rattle.lr_shelf.specs.Shelf.{HasEitherWay, IsDurable, IsSettled, KeepsWay, StandsForEither}
@@ -38,7 +38,7 @@ use Rattle.lr_causes.specs.declared.cause.Refusal.{Refusal}
 use Rattle.lr_causes.specs.declared.cause.Refusal.TheVariants.{NotAShelf, Capacity}
 use Rattle.lr_causes.specs.declared.cause.Cause.{Cause}
 use Rattle.lr_causes.specs.declared.cause.Cause.TheVariants.{Done, DoneWith, Usage, Failed, NoMemory, Refused}
-use Rattle.lr_causes.specs.Causes.{Counts, IsEarlier}
+use Rattle.lr_causes.specs.Causes.{FaultCounts, IsEarlier}
 use Rattle.lr_causes.specs.Outside.{outlet_counts, outlets, outlets_of}
 use Rattle.lr_refusals.specs.Errors.{cause_of}
 use Rattle.lr_causes.specs.Puts.{Puts, PutFails}
@@ -46,7 +46,7 @@ use Rattle.lr_commands.specs.Adding.{
   Addition,
   AddsItem,
   AreSameOrOneMore,
-  AskedToAdd,
+  AdditionQuery,
   EndsWith,
   Fits,
   HasWayOrOneMore,
@@ -99,7 +99,8 @@ module _ {D : Type 0} (disk : DiskOf D) where
     told = loads.calls.told;
     unwritten = loads.unwritten;
     count =
-        subst (λ (r : Result Shelf ShelfError). IsCounted (disk.faults d) (disk.faults d') r) is loads.calls.counted;
+        subst (λ (r : Result Shelf ShelfError). IsFaultCounted (disk.faults d) (disk.faults d') r) is
+        loads.calls.counted;
     works = subst (λ (r : Result Shelf ShelfError). IfOk r (λ s. (kept_by s).failed ≡ false)) is loads.working;
     keeps = λ t. subst (λ (r : Result Shelf ShelfError). IfOk r (KeepsWay (disk.contents d'))) is (loads.way t);
     settled = λ capacity items t durable.
@@ -126,19 +127,19 @@ module _ {D : Type 0} (disk : DiskOf D) where
       told = told_got;
       unwritten = unwritten_got;
       count =
-          subst (λ (r : Result Stored ShelfError). IsCounted (disk.faults d1) (disk.faults d2) r) is
+          subst (λ (r : Result Stored ShelfError). IsFaultCounted (disk.faults d1) (disk.faults d2) r) is
           gets.reads.calls.counted ∙ ready.count;
-      works = ap (λ (k : Kept). k.failed) gets.kept ∙ ready.works;
+      works = ap (λ (k : KeptShelf). k.failed) gets.kept ∙ ready.works;
       keeps = λ t.
           subst (λ (l : List ℕ). KeepsWay l new) (sym (since t).contents)
-          (subst (λ (k : Kept). IsWay (disk.contents d1) k.way) (sym gets.kept) (ready.keeps t));
+          (subst (λ (k : KeptShelf). IsWay (disk.contents d1) k.way) (sym gets.kept) (ready.keeps t));
       settled = λ capacity items t durable.
           let was = ready.settled capacity items t durable in
           record {
             told = told_got t;
             kept = record {
-              way = ap (λ (k : Kept). k.way) gets.kept ∙ was.kept.way;
-              working = ap (λ (k : Kept). k.failed) gets.kept ∙ was.kept.working;
+              way = ap (λ (k : KeptShelf). k.way) gets.kept ∙ was.kept.way;
+              working = ap (λ (k : KeptShelf). k.failed) gets.kept ∙ was.kept.working;
             };
             on_disk = record {
               stands =
@@ -183,17 +184,17 @@ module _ {D : Type 0} (disk : DiskOf D) where
 refused_is : (one other : Refusal) → Refused one ≡ Refused other → one ≡ other
 refused_is one other same = cc (same)
 
-module _ {D O : Type 0} (disk : DiskOf D) (out : SinkOf O) (asked : AskedToAdd)
-    (once : (bytes : List ℕ) (way : Way) (one other : Result Addition Refusal) → asked.decides bytes way one
-    → asked.decides bytes way other → one ≡ other) where
+module _ {D O : Type 0} (disk : DiskOf D) (out : SinkOf O) (query : AdditionQuery)
+    (once : (bytes : List ℕ) (way : Way) (one other : Result Addition Refusal) → query.decides bytes way one
+    → query.decides bytes way other → one ≡ other) where
   one_way : (bytes : List ℕ) (way way' : Way) → IsWay bytes way → IsWay bytes way' → way ≡ way'
   one_way bytes way way' is is' = (has_one_way bytes).way way way' is is'
 
   -- ---- one refusal
 
   module _ (bytes : List ℕ) (way : Way) where
-    full_once : (one other : Addition) (refusal refusal' : Refusal) → asked.decides bytes way (Ok one)
-        → asked.decides bytes way (Ok other) → IsFullFor one.item way refusal → IsFullFor other.item way refusal'
+    full_once : (one other : Addition) (refusal refusal' : Refusal) → query.decides bytes way (Ok one)
+        → query.decides bytes way (Ok other) → IsFullFor one.item way refusal → IsFullFor other.item way refusal'
         → refusal ≡ refusal'
     full_once one other refusal refusal' is is' full full' =
         let same = once bytes way (Ok one) (Ok other) is is' in
@@ -201,8 +202,8 @@ module _ {D O : Type 0} (disk : DiskOf D) (out : SinkOf O) (asked : AskedToAdd)
         full.is ∙ ap (λ (a : Addition). Capacity (min (way_added a.item way).end most_u64) way.capacity)
         addition ∙ sym full'.is
 
-    pub refused_once : (one other : Refusal) → IsRefusedOnWay asked bytes way one
-        → IsRefusedOnWay asked bytes way other
+    pub refused_once : (one other : Refusal) → IsRefusedOnWay query bytes way one
+        → IsRefusedOnWay query bytes way other
         → one ≡ other
     refused_once one other (inl is) (inl is') =
         let same = once bytes way (Err one) (Err other) is is' in
@@ -215,8 +216,8 @@ module _ {D O : Type 0} (disk : DiskOf D) (out : SinkOf O) (asked : AskedToAdd)
         cc (same)
     refused_once one other (inr is) (inr is') = full_once is.0 is'.0 one other is.1 is'.1 is.2 is'.2
 
-    pub not_both : (refusal : Refusal) (addition : Addition) → IsRefusedOnWay asked bytes way refusal
-        → asked.decides bytes way (Ok addition) → Fits addition.item way → ⊥
+    pub not_both : (refusal : Refusal) (addition : Addition) → IsRefusedOnWay query bytes way refusal
+        → query.decides bytes way (Ok addition) → Fits addition.item way → ⊥
     not_both refusal addition (inl is) is' fits =
         let same = once bytes way (Err refusal) (Ok addition) is is' in
         cc (same)
@@ -227,45 +228,45 @@ module _ {D O : Type 0} (disk : DiskOf D) (out : SinkOf O) (asked : AskedToAdd)
         subst (λ (a : Addition). way.capacity < (way_added a.item way).end) one is.2.over in
         omega (arith, over, fits)
 
-  pub over_once : (bytes : List ℕ) (one other : Refusal) → IsAddingRefused asked bytes one
-      → IsAddingRefused asked bytes other → one ≡ other
+  pub over_once : (bytes : List ℕ) (one other : Refusal) → IsAddingRefused query bytes one
+      → IsAddingRefused query bytes other → one ≡ other
   over_once bytes one other (inl is) (inl is') =
       sym is.2 ∙ ap NotAShelf ((has_one_way bytes).place is.0 is'.0 is.1 is'.1) ∙ is'.2
   over_once bytes one other (inl is) (inr is') = absurd ((has_one_way bytes).none is'.0 is.0 is'.1 is.1)
   over_once bytes one other (inr is) (inl is') = absurd ((has_one_way bytes).none is.0 is'.0 is.1 is'.1)
   over_once bytes one other (inr is) (inr is') =
       refused_once bytes is.0 one other is.2
-      (subst (λ (w : Way). IsRefusedOnWay asked bytes w other) (one_way bytes is'.0 is.0 is'.1 is.1) is'.2)
+      (subst (λ (w : Way). IsRefusedOnWay query bytes w other) (one_way bytes is'.0 is.0 is'.1 is.1) is'.2)
 
-  pub over_none : (bytes : List ℕ) (refusal : Refusal) (addition : Addition) → IsAddingRefused asked bytes refusal
-      → MayAdd asked bytes addition → ⊥
+  pub over_none : (bytes : List ℕ) (refusal : Refusal) (addition : Addition) → IsAddingRefused query bytes refusal
+      → MayAdd query bytes addition → ⊥
   over_none bytes refusal addition (inl is) may = (has_one_way bytes).none may.way is.0 may.is_way is.1
   over_none bytes refusal addition (inr is) may =
       not_both bytes may.way refusal addition
-      (subst (λ (w : Way). IsRefusedOnWay asked bytes w refusal) (one_way bytes is.0 may.way is.1 may.is_way) is.2)
+      (subst (λ (w : Way). IsRefusedOnWay query bytes w refusal) (one_way bytes is.0 may.way is.1 may.is_way) is.2)
       may.decided may.fits
 
   -- ---- nothing was written
 
   still : (capacity : ℕ) (items : List Item) (d d' : D) → IsUnwritten disk d d' → IsDurable disk capacity items d
-      → EachImageSince disk d d' (StandsForOneMore asked (disk.contents d) capacity items)
+      → EachImageSince disk d d' (StandsForOneMore query (disk.contents d) capacity items)
   still capacity items d d' unwritten is =
       weaker disk.moment disk.left_since d d' (disk.may_leave d)
-      (StandsForOneMore asked (disk.contents d) capacity items)
+      (StandsForOneMore query (disk.contents d) capacity items)
       (λ c image. inl (subst (λ (l : List ℕ). StandsForShelf l capacity items) (sym (is.durable c image)) is.stands))
       unwritten.any_moment
 
   way_still : (way : Way) (d d' : D) → IsUnwritten disk d d' → IsWay (disk.contents d) way
       → NothingPending disk d
-      → EachImageSince disk d d' (HasWayOrOneMore asked (disk.contents d) way)
+      → EachImageSince disk d d' (HasWayOrOneMore query (disk.contents d) way)
   way_still way d d' unwritten is only =
-      weaker disk.moment disk.left_since d d' (disk.may_leave d) (HasWayOrOneMore asked (disk.contents d) way)
+      weaker disk.moment disk.left_since d d' (disk.may_leave d) (HasWayOrOneMore query (disk.contents d) way)
       (λ c image. inl (subst (λ (l : List ℕ). IsWay l way) (sym (only c image)) is)) unwritten.any_moment
 
   bytes_still : (way : Way) (d d' : D) → IsUnwritten disk d d' → NothingPending disk d
-      → EachImageSince disk d d' (AreSameOrOneMore asked (disk.contents d) way)
+      → EachImageSince disk d d' (AreSameOrOneMore query (disk.contents d) way)
   bytes_still way d d' unwritten only =
-      weaker disk.moment disk.left_since d d' (disk.may_leave d) (AreSameOrOneMore asked (disk.contents d) way)
+      weaker disk.moment disk.left_since d d' (disk.may_leave d) (AreSameOrOneMore query (disk.contents d) way)
       (λ c image. inl (only c image)) unwritten.any_moment
 
   module _ (d d' : D) (o : O) (told : disk.tells d → disk.tells d')
@@ -274,7 +275,7 @@ module _ {D O : Type 0} (disk : DiskOf D) (out : SinkOf O) (asked : AskedToAdd)
     pub earlier_run : (cause : Cause) → IsEarlier cause
         → Counted cause (outlet_counts (outlets_of disk out) (outlets d o))
         (outlet_counts (outlets_of disk out) (outlets d' o))
-        → RunsAdding (outlets_of disk out) asked cause (outlets d o) (outlets d' o)
+        → RunsAdding (outlets_of disk out) query cause (outlets d o) (outlets d' o)
     earlier_run Done is counted = absurd is
     earlier_run (DoneWith note) is counted = absurd is
     earlier_run Usage is counted = absurd is
@@ -309,9 +310,9 @@ module _ {D O : Type 0} (disk : DiskOf D) (out : SinkOf O) (asked : AskedToAdd)
     }
 
     -- this is refused
-    pub refused_run : (refusal : Refusal) → MayEndAdding asked (Refused refusal) → disk.faults d' ≡ disk.faults d
-        → (disk.tells d → IsAddingRefused asked (disk.contents d) refusal)
-        → RunsAdding (outlets_of disk out) asked (Refused refusal) (outlets d o) (outlets d' o)
+    pub refused_run : (refusal : Refusal) → MayEndAdding query (Refused refusal) → disk.faults d' ≡ disk.faults d
+        → (disk.tells d → IsAddingRefused query (disk.contents d) refusal)
+        → RunsAdding (outlets_of disk out) query (Refused refusal) (outlets d o) (outlets d' o)
     refused_run refusal may count over = record {
       may = may;
       counted = same_counts disk out d d' o o count refl;
@@ -319,7 +320,7 @@ module _ {D O : Type 0} (disk : DiskOf D) (out : SinkOf O) (asked : AskedToAdd)
       told_by_out = λ t. t;
       leaves = record { silent = refl; unwritten = unwritten };
       refused = λ r same t.
-          subst (IsAddingRefused asked (disk.contents d)) (refused_is refusal r same) (over t);
+          subst (IsAddingRefused query (disk.contents d)) (refused_is refusal r same) (over t);
       refuses = λ r t is. inl (ap Refused (over_once (disk.contents d) refusal r (over t) is));
       adds = λ addition t is. absurd (over_none (disk.contents d) refusal addition (over t) is);
       way_any_moment = λ way t is_way only. way_still way d d' (unwritten t) is_way only;
@@ -330,16 +331,17 @@ module _ {D O : Type 0} (disk : DiskOf D) (out : SinkOf O) (asked : AskedToAdd)
   -- no shelf was loaded
   pub not_loaded : (d d' : D) (o : O) (result : Result Shelf ShelfError) (error : ShelfError) → Loads disk d d' result
       → result ≡ Err error
-      → RunsAdding (outlets_of disk out) asked (cause_of error) (outlets d o) (outlets d' o)
+      → RunsAdding (outlets_of disk out) query (cause_of error) (outlets d o) (outlets d' o)
   not_loaded d d' o result error loads is = by_error error is
       (subst (λ (r : Result Shelf ShelfError). IfErr r (IsLoadRefusal disk d)) is loads.refused) where
-        counted : (e : ShelfError) → result ≡ Err e → IsCounted {A = Shelf} (disk.faults d) (disk.faults d') (Err e)
+        counted : (e : ShelfError) → result ≡ Err e
+            → IsFaultCounted {A = Shelf} (disk.faults d) (disk.faults d') (Err e)
         counted e same =
-            subst (λ (r : Result Shelf ShelfError). IsCounted (disk.faults d) (disk.faults d') r) same
+            subst (λ (r : Result Shelf ShelfError). IsFaultCounted (disk.faults d) (disk.faults d') r) same
             loads.calls.counted
 
         by_error : (e : ShelfError) → result ≡ Err e → IsLoadRefusal disk d e
-            → RunsAdding (outlets_of disk out) asked (cause_of e) (outlets d o) (outlets d' o)
+            → RunsAdding (outlets_of disk out) query (cause_of e) (outlets d o) (outlets d' o)
         by_error Disk' same refusal =
             earlier_run d d' o loads.calls.told loads.unwritten (Failed Disk) tt ((counted Disk' same).1, refl, refl)
         by_error (NotAShelf' at) same refusal =
@@ -357,10 +359,10 @@ module _ {D O : Type 0} (disk : DiskOf D) (out : SinkOf O) (asked : AskedToAdd)
 
   -- ---- the call that adds the item
 
-  module _ {A : Type 0} (d d1 d2 : D) (o : O) (shelf shelf2 : Shelf) (addition : Addition) (made : asked.makes addition)
+  module _ {A : Type 0} (d d1 d2 : D) (o : O) (shelf shelf2 : Shelf) (addition : Addition) (made : query.makes addition)
       (ready : IsReady disk d d1 shelf) (answer : Result A ShelfError)
       (adding : Adds disk addition.item shelf shelf2 d1 d2 answer)
-      (decided : disk.tells d → asked.decides (disk.contents d) (kept_by shelf).way (Ok addition)) where
+      (decided : disk.tells d → query.decides (disk.contents d) (kept_by shelf).way (Ok addition)) where
     abbrev there : Way
     there = (kept_by shelf).way
 
@@ -378,39 +380,39 @@ module _ {D O : Type 0} (disk : DiskOf D) (out : SinkOf O) (asked : AskedToAdd)
         → disk.faults d2 ≡ disk.faults d
     refusal_counted = count_still disk d d1 d2 shelf shelf2 addition.item ready answer adding
 
-    may_add : Fits addition.item there → disk.tells d → MayAdd asked (disk.contents d) addition
+    may_add : Fits addition.item there → disk.tells d → MayAdd query (disk.contents d) addition
     may_add fits t = record { way = there; is_way = way_is t; decided = decided t; fits = fits }
 
     both_moments : Fits addition.item there → (capacity : ℕ) (items : List Item) → disk.tells d
         → IsDurable disk capacity items d
-        → EachImageSince disk d d2 (StandsForOneMore asked (disk.contents d) capacity items)
+        → EachImageSince disk d d2 (StandsForOneMore query (disk.contents d) capacity items)
     both_moments fits capacity items t durable =
-        joined disk.moment disk.left_since d d1 d2 (StandsForOneMore asked (disk.contents d) capacity items)
+        joined disk.moment disk.left_since d d1 d2 (StandsForOneMore query (disk.contents d) capacity items)
         (still capacity items d d1 (ready.unwritten t) durable)
         (weaker disk.moment disk.left_since d1 d2 (StandsForEither capacity items addition.item)
-        (StandsForOneMore asked (disk.contents d) capacity items) to
+        (StandsForOneMore query (disk.contents d) capacity items) to
         (adding.any_moment capacity items (ready.settled capacity items t durable))) where
           to : (c : List ℕ) → StandsForEither capacity items addition.item c
-              → StandsForOneMore asked (disk.contents d) capacity items c
+              → StandsForOneMore query (disk.contents d) capacity items c
           to c (inl stands) = inl stands
           to c (inr stands) = inr (addition, may_add fits t, stands)
 
     both_ways : Fits addition.item there → (way : Way) → disk.tells d → IsWay (disk.contents d) way
         → NothingPending disk d
-        → EachImageSince disk d d2 (HasWayOrOneMore asked (disk.contents d) way)
+        → EachImageSince disk d d2 (HasWayOrOneMore query (disk.contents d) way)
     both_ways fits way t is_way only =
-        joined disk.moment disk.left_since d d1 d2 (HasWayOrOneMore asked (disk.contents d) way)
+        joined disk.moment disk.left_since d d1 d2 (HasWayOrOneMore query (disk.contents d) way)
         (way_still way d d1 (ready.unwritten t) is_way only)
         (weaker disk.moment disk.left_since d1 d2 (HasEitherWay there addition.item)
-        (HasWayOrOneMore asked (disk.contents d) way) to
+        (HasWayOrOneMore query (disk.contents d) way) to
         (adding.way_any_moment (ready.told t) (ready.keeps t) (ready.synced t))) where
           same : there ≡ way
           same = one_way (disk.contents d) there way (way_is t) is_way
 
-          to : (c : List ℕ) → HasEitherWay there addition.item c → HasWayOrOneMore asked (disk.contents d) way c
+          to : (c : List ℕ) → HasEitherWay there addition.item c → HasWayOrOneMore query (disk.contents d) way c
           to c (inl is) = inl (subst (IsWay c) same is)
           to c (inr is) =
-              inr (addition, may_add fits t, subst (λ (w : Way). IsWay c (way_added addition.item w)) same is)
+              inr (addition, may_add fits t, subst (λ (w : Way). IsWay c (way_added addition.item w)) same is.0)
 
     -- the bytes before the last gate and after the new end, whatever the item
     outside_here : (c : List ℕ) → disk.tells d
@@ -422,11 +424,11 @@ module _ {D O : Type 0} (disk : DiskOf D) (out : SinkOf O) (asked : AskedToAdd)
 
     both_bytes : Fits addition.item there → (way : Way) → disk.tells d → IsWay (disk.contents d) way
         → NothingPending disk d
-        → EachImageSince disk d d2 (AreSameOrOneMore asked (disk.contents d) way)
+        → EachImageSince disk d d2 (AreSameOrOneMore query (disk.contents d) way)
     both_bytes fits way t is_way only =
-        joined disk.moment disk.left_since d d1 d2 (AreSameOrOneMore asked (disk.contents d) way)
+        joined disk.moment disk.left_since d d1 d2 (AreSameOrOneMore query (disk.contents d) way)
         (bytes_still way d d1 (ready.unwritten t) only)
-        (weaker disk.moment disk.left_since d1 d2 AreBoth (AreSameOrOneMore asked (disk.contents d) way) to
+        (weaker disk.moment disk.left_since d1 d2 AreBoth (AreSameOrOneMore query (disk.contents d) way) to
         (both disk.moment disk.left_since d1 d2 Outside Within
         (adding.outside_any_moment (ready.told t) (ready.synced t))
         (adding.bytes_any_moment (ready.told t) (ready.keeps t) (ready.synced t)))) where
@@ -454,7 +456,7 @@ module _ {D O : Type 0} (disk : DiskOf D) (out : SinkOf O) (asked : AskedToAdd)
               StaysOutside (w.end - 1) (way_added addition.item w).end (disk.contents d) c
               × WithOrWithout (take (w.end - 1) (disk.contents d)) (item_bytes addition.item) c
 
-          to : (c : List ℕ) → AreBoth c → AreSameOrOneMore asked (disk.contents d) way c
+          to : (c : List ℕ) → AreBoth c → AreSameOrOneMore query (disk.contents d) way c
           to c is =
               let one = subst (OneMore c) same (outside_here c t is.0, within_here c is.1) in
               inr (addition, may_add fits t, one.0, one.1)
@@ -463,7 +465,7 @@ module _ {D O : Type 0} (disk : DiskOf D) (out : SinkOf O) (asked : AskedToAdd)
     pub full_run : (needed : ℕ) → answer ≡ Err (Capacity' needed there.capacity)
         → there.capacity < (way_added addition.item there).end
         → needed ≡ min (way_added addition.item there).end most_u64
-        → RunsAdding (outlets_of disk out) asked (Refused (Capacity needed there.capacity)) (outlets d o)
+        → RunsAdding (outlets_of disk out) query (Refused (Capacity needed there.capacity)) (outlets d o)
         (outlets d2 o)
     full_run needed is over needs =
         refused_run d d2 o told_both (refusal_unwritten (Capacity' needed there.capacity) is (λ same. cc (same)))
@@ -481,21 +483,21 @@ module _ {D O : Type 0} (disk : DiskOf D) (out : SinkOf O) (asked : AskedToAdd)
 
     -- memory was refused
     pub no_memory_run : answer ≡ Err NoMemory'
-        → RunsAdding (outlets_of disk out) asked NoMemory (outlets d o) (outlets d2 o)
+        → RunsAdding (outlets_of disk out) query NoMemory (outlets d o) (outlets d2 o)
     no_memory_run is =
         earlier_run d d2 o told_both (refusal_unwritten NoMemory' is (λ same. cc (same))) NoMemory tt
         (same_counts disk out d d2 o o (refusal_counted NoMemory' is (λ same. cc (same))) refl)
 
     -- the disk failed: with the item or without it
     pub failed_run : answer ≡ Err Disk' → Fits addition.item there
-        → RunsAdding (outlets_of disk out) asked (Failed Disk) (outlets d o) (outlets d2 o)
+        → RunsAdding (outlets_of disk out) query (Failed Disk) (outlets d o) (outlets d2 o)
     failed_run is fits = record {
       may = tt;
       counted =
-          subst (λ (c : Counts). Counted (Failed Disk) c (outlet_counts (outlets_of disk out) (outlets d2 o)))
+          subst (λ (c : FaultCounts). Counted (Failed Disk) c (outlet_counts (outlets_of disk out) (outlets d2 o)))
           (same_counts disk out d d1 o o ready.count refl)
           (shelf_counted disk out A d1 d2 o Disk' (λ same. cc (same))
-          (subst (λ (r : Result A ShelfError). IsCounted (disk.faults d1) (disk.faults d2) r) is
+          (subst (λ (r : Result A ShelfError). IsFaultCounted (disk.faults d1) (disk.faults d2) r) is
           adding.calls.counted));
       told = told_both;
       told_by_out = λ t. t;
@@ -506,7 +508,7 @@ module _ {D O : Type 0} (disk : DiskOf D) (out : SinkOf O) (asked : AskedToAdd)
           made = made;
           decided = may_add fits;
           way = λ way t is_way.
-              subst (λ (w : Way). MayEndWith (outlets_of disk out) asked addition.item w d d2)
+              subst (λ (w : Way). MayEndWith (outlets_of disk out) query addition.item w d d2)
               (one_way (disk.contents d) there way (way_is t) is_way)
               (record {
                 has = adding.either_way (ready.told t) (ready.keeps t);
@@ -531,12 +533,12 @@ module _ {D O : Type 0} (disk : DiskOf D) (out : SinkOf O) (asked : AskedToAdd)
 
       count_both : disk.faults d2 ≡ disk.faults d
       count_both =
-          subst (λ (r : Result A ShelfError). IsCounted (disk.faults d1) (disk.faults d2) r) added
+          subst (λ (r : Result A ShelfError). IsFaultCounted (disk.faults d1) (disk.faults d2) r) added
           adding.calls.counted ∙ ready.count
 
       way_after : disk.tells d → IsWay (disk.contents d2) (way_added addition.item there)
       way_after t =
-          subst (λ (k : Kept). IsWay (disk.contents d2) k.way)
+          subst (λ (k : KeptShelf). IsWay (disk.contents d2) k.way)
           (on_ok (kept_by shelf2 ≡ kept_with addition.item (kept_by shelf)) adding.kept)
           (on_ok (KeepsWay (disk.contents d2) shelf2) (adding.way (ready.told t) (ready.keeps t)))
 
@@ -546,14 +548,14 @@ module _ {D O : Type 0} (disk : DiskOf D) (out : SinkOf O) (asked : AskedToAdd)
           ≡ 1 ∷ (item_bytes addition.item ++ 0 ∷ [])
 
       adds_item : (IsPut : List ℕ → O → O → Type 0) (o2 : O) → IsPut addition.text o o2
-          → AddsItem (outlets_of disk out) asked IsPut (outlets d o) (outlets d2 o2)
+          → AddsItem (outlets_of disk out) query IsPut (outlets d o) (outlets d2 o2)
       adds_item IsPut o2 put = record {
         addition = addition;
         made = made;
         decided = may_add fits;
         put = put;
         way = λ way t is_way.
-            subst (λ (w : Way). EndsWith (outlets_of disk out) asked addition.item w d d2)
+            subst (λ (w : Way). EndsWith (outlets_of disk out) query addition.item w d d2)
             (one_way (disk.contents d) there way (way_is t) is_way)
             (record {
               has = way_after t;
@@ -568,7 +570,7 @@ module _ {D O : Type 0} (disk : DiskOf D) (out : SinkOf O) (asked : AskedToAdd)
 
       -- and the text was put
       pub done_run : (o2 : O) → Puts out addition.text o o2
-          → RunsAdding (outlets_of disk out) asked Done (outlets d o) (outlets d2 o2)
+          → RunsAdding (outlets_of disk out) query Done (outlets d o) (outlets d2 o2)
       done_run o2 puts = record {
         may = tt;
         counted = same_counts disk out d d2 o o2 count_both puts.kept;
@@ -585,7 +587,7 @@ module _ {D O : Type 0} (disk : DiskOf D) (out : SinkOf O) (asked : AskedToAdd)
 
       -- or it wasn't
       pub cut_run : (o2 : O) → PutFails out addition.text o o2
-          → RunsAdding (outlets_of disk out) asked (Failed Output) (outlets d o) (outlets d2 o2)
+          → RunsAdding (outlets_of disk out) query (Failed Output) (outlets d o) (outlets d2 o2)
       cut_run o2 fails = record {
         may = tt;
         counted = (fails.rose, refl, count_both);

@@ -1,4 +1,4 @@
--- Bytes have one answer; the texts that are begun are a front of it; and what was read on the way to it.
+-- Bytes have one answer; the texts that are begun are a prefix of it; and what was read on the way to it.
 use Rattle.std.proofs.Common.{
   ◌≡◌,
   inl,
@@ -35,11 +35,11 @@ use Rattle.lr_shelf_format.proofs.WayLemmas.{has_one_way}
 use Rattle.lr_causes.specs.declared.cause.Refusal.{Refusal}
 use Rattle.lr_causes.specs.declared.cause.Refusal.TheVariants.{NotAShelf}
 use Rattle.lr_commands.specs.declared.range.Range.{Range}
-use Rattle.lr_commands.specs.Asked.{
-  Asked,
+use Rattle.lr_commands.specs.Queries.{
+  Query,
   Answer,
   IsSeen,
-  Seen,
+  EntryView,
   done_answer,
   refused_answer,
   entry_at,
@@ -54,7 +54,7 @@ use Rattle.lr_commands.specs.Asked.{
   IsBegun,
   without_last,
 }
-use Rattle.lr_commands.specs.Reached.{Reaches}
+use Rattle.lr_commands.specs.Reached.{ReachesEntry}
 use Rattle.lr_commands.proofs.Seeing.{seen_once}
 
 -- a text was given or refused, not both
@@ -75,54 +75,54 @@ some_or_none o a is is' = cc (is, is')
 
 -- ---- one answer
 
-module _ (asked : Asked) (bytes : List ℕ) (way : Way) where
+module _ (query : Query) (bytes : List ℕ) (way : Way) where
   -- what becomes of what stands there
-  pub fates : (read : List Seen) (number : ℕ) (one other : Option Seen)
-      → IsSeen asked.looks bytes (entry_at way number) one
-      → IsSeen asked.looks bytes (entry_at way number) other
-      → fate_of asked way read number one ≡ fate_of asked way read number other
+  pub fates : (read : List EntryView) (number : ℕ) (one other : Option EntryView)
+      → IsSeen query.looks bytes (entry_at way number) one
+      → IsSeen query.looks bytes (entry_at way number) other
+      → fate_of query way read number one ≡ fate_of query way read number other
   fates read number one other is is' =
-      ap (fate_of asked way read number) (seen_once asked.looks bytes (entry_at way number) one other is is')
+      ap (fate_of query way read number) (seen_once query.looks bytes (entry_at way number) one other is is')
 
-  pub from_is : (left number : ℕ) (read : List Seen) (one other : Answer)
-      → AnswersFrom asked bytes way left number read one → AnswersFrom asked bytes way left number read other
+  pub from_is : (left number : ℕ) (read : List EntryView) (one other : Answer)
+      → AnswersFrom query bytes way left number read one → AnswersFrom query bytes way left number read other
       → one ≡ other
   from_is zero number read one other is is' = is ∙ sym is'
   from_is (suc left) number read one other (inl a) (inl b) =
       let same = some_is a.seen b.seen
-      (seen_once asked.looks bytes (entry_at way number) (Some a.seen) (Some b.seen) a.stands b.stands) in
-      let text = ok_is (asked.becomes read number b.seen) a.text b.text
-      (ap (asked.becomes read number) (sym same) ∙ a.fate) b.fate in
+      (seen_once query.looks bytes (entry_at way number) (Some a.seen) (Some b.seen) a.stands b.stands) in
+      let text = ok_is (query.entry_text read number b.seen) a.text b.text
+      (ap (query.entry_text read number) (sym same) ∙ a.fate) b.fate in
       let rest = from_is left (number + 1) (read ++ b.seen ∷ []) a.rest b.rest
-      (subst (λ (f : Seen). AnswersFrom asked bytes way left (number + 1) (read ++ f ∷ []) a.rest) same a.after)
+      (subst (λ (f : EntryView). AnswersFrom query bytes way left (number + 1) (read ++ f ∷ []) a.rest) same a.after)
       b.after in
       a.is ∙ ap (λ (t : List ℕ). then_rest t a.rest) text ∙ ap (then_rest b.text) rest ∙ sym b.is
   from_is (suc left) number read one other (inl a) (inr b) =
-      absurd (ok_or_err (fate_of asked way read number b.seen) a.text b.refusal
+      absurd (ok_or_err (fate_of query way read number b.seen) a.text b.refusal
       (fates read number b.seen (Some a.seen) b.stands a.stands ∙ a.fate) b.fate)
   from_is (suc left) number read one other (inr a) (inl b) =
-      absurd (ok_or_err (fate_of asked way read number a.seen) b.text a.refusal
+      absurd (ok_or_err (fate_of query way read number a.seen) b.text a.refusal
       (fates read number a.seen (Some b.seen) a.stands b.stands ∙ b.fate) a.fate)
   from_is (suc left) number read one other (inr a) (inr b) =
-      let refusal = err_is (fate_of asked way read number b.seen) a.refusal b.refusal
+      let refusal = err_is (fate_of query way read number b.seen) a.refusal b.refusal
       (fates read number b.seen a.seen b.stands a.stands ∙ a.fate) b.fate in
       a.is ∙ ap (λ (r : Refusal). refused_answer [] r) refusal ∙ sym b.is
 
-  in_is : (range : Option Range) (one other : Answer) → AnswersIn asked bytes way range one
-      → AnswersIn asked bytes way range other → one ≡ other
+  in_is : (range : Option Range) (one other : Answer) → AnswersIn query bytes way range one
+      → AnswersIn query bytes way range other → one ≡ other
   in_is None one other is is' = is ∙ sym is'
   in_is (Some range) one other is is' = from_is (range.to - range.from) range.from [] one other is is'
 
 -- bytes have one answer
-pub answer_is : (asked : Asked) (bytes : List ℕ) (one other : Answer) → IsAnswer asked bytes one
-    → IsAnswer asked bytes other → one ≡ other
-answer_is asked bytes one other (inl a) (inl b) =
+pub answer_is : (query : Query) (bytes : List ℕ) (one other : Answer) → IsAnswer query bytes one
+    → IsAnswer query bytes other → one ≡ other
+answer_is query bytes one other (inl a) (inl b) =
     a.2 ∙ ap (λ (n : ℕ). refused_answer [] (NotAShelf n)) ((has_one_way bytes).place a.0 b.0 a.1 b.1) ∙ sym b.2
-answer_is asked bytes one other (inl a) (inr b) = absurd ((has_one_way bytes).none b.0 a.0 b.1 a.1)
-answer_is asked bytes one other (inr a) (inl b) = absurd ((has_one_way bytes).none a.0 b.0 a.1 b.1)
-answer_is asked bytes one other (inr a) (inr b) =
-    in_is asked bytes b.0 (asked.range (length b.0.entries)) one other
-    (subst (λ (w : Way). AnswersOn asked bytes w one) ((has_one_way bytes).way a.0 b.0 a.1 b.1) a.2) b.2
+answer_is query bytes one other (inl a) (inr b) = absurd ((has_one_way bytes).none b.0 a.0 b.1 a.1)
+answer_is query bytes one other (inr a) (inl b) = absurd ((has_one_way bytes).none a.0 b.0 a.1 b.1)
+answer_is query bytes one other (inr a) (inr b) =
+    in_is query bytes b.0 (query.range (length b.0.entries)) one other
+    (subst (λ (w : Way). AnswersOn query bytes w one) ((has_one_way bytes).way a.0 b.0 a.1 b.1) a.2) b.2
 
 -- ---- the texts that are begun
 
@@ -130,21 +130,21 @@ answer_is asked bytes one other (inr a) (inr b) =
 abbrev pub StartsWith : List ℕ → List ℕ → Type 0
 StartsWith text whole = (rest : List ℕ) × (whole ≡ text ++ rest)
 
-module _ (asked : Asked) (bytes : List ℕ) (way : Way) where
-  front_from : (passed left number : ℕ) (read : List Seen) (begun answer : Answer) → passed ≤ left
-      → begun.refusal ≡ None → AnswersFrom (without_last asked) bytes way passed number read begun
-      → AnswersFrom asked bytes way left number read answer → StartsWith begun.text answer.text
+module _ (query : Query) (bytes : List ℕ) (way : Way) where
+  front_from : (passed left number : ℕ) (read : List EntryView) (begun answer : Answer) → passed ≤ left
+      → begun.refusal ≡ None → AnswersFrom (without_last query) bytes way passed number read begun
+      → AnswersFrom query bytes way left number read answer → StartsWith begun.text answer.text
   front_from zero left number read begun answer few none is is' =
       (answer.text, ap (λ (a : Answer). a.text ++ answer.text) (sym is))
   front_from (suc passed) zero number read begun answer few none is is' = absurd (omega (arith, few))
   front_from (suc passed) (suc left) number read begun answer few none (inl a) (inl b) =
       let same = some_is a.seen b.seen
-      (seen_once asked.looks bytes (entry_at way number) (Some a.seen) (Some b.seen) a.stands b.stands) in
-      let text = ok_is (asked.becomes read number b.seen) a.text b.text
-      (ap (asked.becomes read number) (sym same) ∙ a.fate) b.fate in
+      (seen_once query.looks bytes (entry_at way number) (Some a.seen) (Some b.seen) a.stands b.stands) in
+      let text = ok_is (query.entry_text read number b.seen) a.text b.text
+      (ap (query.entry_text read number) (sym same) ∙ a.fate) b.fate in
       let more = front_from passed left (number + 1) (read ++ b.seen ∷ []) a.rest b.rest (omega (arith, few))
       (ap (λ (x : Answer). x.refusal) (sym a.is) ∙ none)
-      (subst (λ (f : Seen). AnswersFrom (without_last asked) bytes way passed (number + 1) (read ++ f ∷ []) a.rest)
+      (subst (λ (f : EntryView). AnswersFrom (without_last query) bytes way passed (number + 1) (read ++ f ∷ []) a.rest)
       same a.after) b.after in (
         more.0,
         ap (λ (x : Answer). x.text) b.is ∙ ap (λ (l : List ℕ). b.text ++ l) more.1
@@ -153,38 +153,39 @@ module _ (asked : Asked) (bytes : List ℕ) (way : Way) where
             ∙ ap (λ (x : Answer). x.text ++ more.0) (sym a.is),
       )
   front_from (suc passed) (suc left) number read begun answer few none (inl a) (inr b) =
-      absurd (ok_or_err (fate_of asked way read number b.seen) a.text b.refusal
-      (fates asked bytes way read number b.seen (Some a.seen) b.stands a.stands ∙ a.fate) b.fate)
+      absurd (ok_or_err (fate_of query way read number b.seen) a.text b.refusal
+      (fates query bytes way read number b.seen (Some a.seen) b.stands a.stands ∙ a.fate) b.fate)
   front_from (suc passed) (suc left) number read begun answer few none (inr a) is' =
       absurd (some_or_none begun.refusal a.refusal (ap (λ (x : Answer). x.refusal) a.is) none)
 
-  front_on : (passed left : ℕ) (text : List ℕ) (answer : Answer) → BegunOn asked bytes way passed left text
-      → AnswersOn asked bytes way answer → StartsWith text answer.text
+  front_on : (passed left : ℕ) (text : List ℕ) (answer : Answer) → BegunOn query bytes way passed left text
+      → AnswersOn query bytes way answer → StartsWith text answer.text
   front_on passed left text answer begun is =
       front_from passed (begun.range.to - begun.range.from) begun.range.from []
       (done_answer text None) answer (omega (arith, begun.inside)) refl begun.texts
-      (subst (λ (r : Option Range). AnswersIn asked bytes way r answer) begun.allowed is)
+      (subst (λ (r : Option Range). AnswersIn query bytes way r answer) begun.allowed is)
 
--- what is begun is a front of the answer
-pub begun_front : (asked : Asked) (bytes : List ℕ) (passed left : ℕ) (text : List ℕ) (answer : Answer)
-    → IsBegun asked bytes passed left text → IsAnswer asked bytes answer → StartsWith text answer.text
-begun_front asked bytes passed left text answer (inl nothing) is =
+-- what is begun is a prefix of the answer
+pub begun_front : (query : Query) (bytes : List ℕ) (passed left : ℕ) (text : List ℕ) (answer : Answer)
+    → IsBegun query bytes passed left text → IsAnswer query bytes answer → StartsWith text answer.text
+begun_front query bytes passed left text answer (inl nothing) is =
     (answer.text, ap (λ (l : List ℕ). l ++ answer.text) (sym nothing.1))
-begun_front asked bytes passed left text answer (inr begun) (inl none) =
+begun_front query bytes passed left text answer (inr begun) (inl none) =
     absurd ((has_one_way bytes).none begun.0 none.0 begun.1 none.1)
-begun_front asked bytes passed left text answer (inr begun) (inr some) =
-    front_on asked bytes some.0 passed left text answer
-    (subst (λ (w : Way). BegunOn asked bytes w passed left text)
+begun_front query bytes passed left text answer (inr begun) (inr some) =
+    front_on query bytes some.0 passed left text answer
+    (subst (λ (w : Way). BegunOn query bytes w passed left text)
     ((has_one_way bytes).way begun.0 some.0 begun.1 some.1) begun.2)
     some.2
 
 -- ---- what was read
 
-module _ (asked : Asked) (bytes : List ℕ) (way : Way) (from : ℕ) where
-  pub reaches_first : Reaches asked bytes way from from [] []
+module _ (query : Query) (bytes : List ℕ) (way : Way) (from : ℕ) where
+  pub reaches_first : ReachesEntry query bytes way from from [] []
   reaches_first = record { on = λ last tells to inside rest is. is }
 
-  module _ (number : ℕ) (read : List Seen) (text : List ℕ) (reaches : Reaches asked bytes way from number read text)
+  module _ (number : ℕ) (read : List EntryView) (text : List ℕ)
+      (reaches : ReachesEntry query bytes way from number read text)
     where
       together : (one : List ℕ) (rest : Answer)
           → then_rest text (then_rest one rest) ≡ then_rest (text ++ one) rest
@@ -193,18 +194,19 @@ module _ (asked : Asked) (bytes : List ℕ) (way : Way) (from : ℕ) where
           (sym (append_assoc text one rest.text))
 
       -- one entry more
-      pub reaches_more : (seen : Seen) → IsSeen asked.looks bytes (entry_at way number) (Some seen) → (one : List ℕ)
-          → asked.becomes read number seen ≡ Ok one
-          → Reaches asked bytes way from (number + 1) (read ++ seen ∷ []) (text ++ one)
+      pub reaches_more : (seen : EntryView) → IsSeen query.looks bytes (entry_at way number) (Some seen)
+          → (one : List ℕ)
+          → query.entry_text read number seen ≡ Ok one
+          → ReachesEntry query bytes way from (number + 1) (read ++ seen ∷ []) (text ++ one)
       reaches_more seen stands one fate = record {
         on = λ last tells to inside rest is.
             let left : to - number ≡ suc (to - (number + 1)) = omega (arith, inside) in
             let whole = then_rest one rest in
-            subst (AnswersFrom (record asked { last = last; tells = tells }) bytes way (to - from) from [])
+            subst (AnswersFrom (record query { last = last; tells = tells }) bytes way (to - from) from [])
             (together one rest)
             (reaches.on last tells to (omega (arith, inside)) whole
             (subst
-            (λ n. AnswersFrom (record asked { last = last; tells = tells }) bytes way n number read whole)
+            (λ n. AnswersFrom (record query { last = last; tells = tells }) bytes way n number read whole)
             (sym left)
             (inl (record {
               seen = seen;
@@ -218,35 +220,35 @@ module _ (asked : Asked) (bytes : List ℕ) (way : Way) (from : ℕ) where
       }
 
       -- the run is refused here
-      pub refused_here : (to : ℕ) → number < to → (seen : Option Seen) (refusal : Refusal)
-          → IsSeen asked.looks bytes (entry_at way number) seen → fate_of asked way read number seen ≡ Err refusal
-          → AnswersFrom asked bytes way (to - from) from [] (refused_answer text refusal)
+      pub refused_here : (to : ℕ) → number < to → (seen : Option EntryView) (refusal : Refusal)
+          → IsSeen query.looks bytes (entry_at way number) seen → fate_of query way read number seen ≡ Err refusal
+          → AnswersFrom query bytes way (to - from) from [] (refused_answer text refusal)
       refused_here to more seen refusal stands fate =
           let left : to - number ≡ suc (to - (number + 1)) = omega (arith, more) in
           subst
-          (λ (t : List ℕ). AnswersFrom asked bytes way (to - from) from []
+          (λ (t : List ℕ). AnswersFrom query bytes way (to - from) from []
           (refused_answer t refusal)) (append-nil text)
-          (reaches.on asked.last asked.tells to (omega (arith, more)) (refused_answer [] refusal)
-          (subst (λ n. AnswersFrom asked bytes way n number read (refused_answer [] refusal)) (sym left)
+          (reaches.on query.last query.tells to (omega (arith, more)) (refused_answer [] refusal)
+          (subst (λ n. AnswersFrom query bytes way n number read (refused_answer [] refusal)) (sym left)
           (inr (record { seen = seen; refusal = refusal; stands = stands; fate = fate; is = refl }))))
 
       -- the texts before this number
-      pub begun_before : AnswersFrom (without_last asked) bytes way (number - from) from []
+      pub begun_before : AnswersFrom (without_last query) bytes way (number - from) from []
           (done_answer text None)
       begun_before =
           let none : number - number ≡ 0 = omega arith in
           subst
-          (λ (t : List ℕ). AnswersFrom (without_last asked) bytes way (number - from) from []
+          (λ (t : List ℕ). AnswersFrom (without_last query) bytes way (number - from) from []
           (done_answer t None)) (append-nil text)
           (reaches.on (λ w r. Ok []) (λ r. None) number (omega arith) (done_answer [] None)
-          (subst (λ n. AnswersFrom (without_last asked) bytes way n number read (done_answer [] None)) (sym none) refl))
+          (subst (λ n. AnswersFrom (without_last query) bytes way n number read (done_answer [] None)) (sym none) refl))
 
       -- all were read
       pub ends_here : (to : ℕ) → number ≤ to → to ≤ number → (last : Result (List ℕ) Refusal)
-          → asked.last way read ≡ last
-          → AnswersFrom asked bytes way (to - from) from [] (then_rest text (answer_of last (asked.tells read)))
+          → query.last way read ≡ last
+          → AnswersFrom query bytes way (to - from) from [] (then_rest text (answer_of last (query.tells read)))
       ends_here to inside all last is =
           let none : to - number ≡ 0 = omega (arith, all) in
-          reaches.on asked.last asked.tells to (omega (arith, inside)) (answer_of last (asked.tells read))
-          (subst (λ n. AnswersFrom asked bytes way n number read (answer_of last (asked.tells read))) (sym none)
-          (ap (λ (l : Result (List ℕ) Refusal). answer_of l (asked.tells read)) (sym is)))
+          reaches.on query.last query.tells to (omega (arith, inside)) (answer_of last (query.tells read))
+          (subst (λ n. AnswersFrom query bytes way n number read (answer_of last (query.tells read))) (sym none)
+          (ap (λ (l : Result (List ℕ) Refusal). answer_of l (query.tells read)) (sym is)))

@@ -10,7 +10,7 @@ use Rattle.lr_bits.specs.File.{File, proper_of}
 use Rattle.lr_catalog.proofs.Faults.{is_fault}
 use Rattle.lr_headers.proofs.Readings.{header_is}
 use Rattle.lr_headers.specs.Fields.{segment_of}
-use Rattle.lr_headers.specs.Tiling.{Header, HasFaultOrMemory, IsHeaderOf}
+use Rattle.lr_headers.specs.Tiling.{Header, HasHeaderFaultOrMemory, IsHeaderOf}
 use Rattle.lr_headers.specs.declared.fault.HeaderFault.{HeaderFault}
 use Rattle.lr_headers.specs.declared.fault.HeaderFault.TheVariants.{NoMemory as NoMemory'}
 use Rattle.lr_headers.specs.declared.fields.Segment.{Segment}
@@ -32,7 +32,7 @@ use Rattle.lr_commands.specs.Assemble.{
   segment_for_image,
   skipped_of,
 }
-use Rattle.lr_commands.specs.Gathered.{Gathers, IsStop, with_member, with_skipped}
+use Rattle.lr_commands.specs.Gathered.{GathersMembers, IsStop, with_member, with_skipped}
 use Rattle.lr_commands.specs.Steps.{PutsText, TextStops}
 use Rattle.lr_commands.proofs.Exporting.{pgm_some}
 use Rattle.lr_causes.proofs.Joining.{puts_none}
@@ -45,7 +45,7 @@ module _ (apid image : ℕ) (file : File) where
   other_application other = rw (ne_eqb file.apid apid other) refl
 
   module _ (same : file.apid ≡ apid) where
-    pub no_header : (fault : HeaderFault) → HasFaultOrMemory (proper_of file) fault → (fault ≡ NoMemory' → ⊥)
+    pub no_header : (fault : HeaderFault) → HasHeaderFaultOrMemory (proper_of file) fault → (fault ≡ NoMemory' → ⊥)
         → None ≡ segment_for_image apid image file
     unfolding segment_for_image
     no_header fault has not = rw (eq-eqb file.apid apid same, is_fault (proper_of file) fault has not) refl
@@ -94,15 +94,17 @@ module _ (apid image : ℕ) where
 
   -- what was gathered, of one file more
   pub gathers_more : (read : List Opened) (opened : Opened) (gathering : Gathering)
-      → Gathers (with_member (members_of apid image read) (member_of apid image opened))
+      → GathersMembers (with_member (members_of apid image read) (member_of apid image opened))
       (with_skipped (skipped_of apid image read)
       (is_without (segment_for_image apid image opened.stored.file) opened.image))
       gathering
-      → Gathers (members_of apid image (read ++ opened ∷ [])) (skipped_of apid image (read ++ opened ∷ [])) gathering
+      → GathersMembers (members_of apid image (read ++ opened ∷ [])) (skipped_of apid image (read ++ opened ∷ []))
+      gathering
   gathers_more read opened gathering gathers =
-      subst (λ n. Gathers (members_of apid image (read ++ opened ∷ [])) n gathering) (sym (skipped_more read opened))
+      subst (λ n. GathersMembers (members_of apid image (read ++ opened ∷ [])) n gathering)
+      (sym (skipped_more read opened))
       (subst
-      (λ (l : List Member). Gathers l (with_skipped (skipped_of apid image read)
+      (λ (l : List Member). GathersMembers l (with_skipped (skipped_of apid image read)
       (is_without (segment_for_image apid image opened.stored.file) opened.image)) gathering)
       (sym (members_more read opened)) gathers)
 

@@ -33,8 +33,8 @@ use Rattle.lr_causes.specs.Outside.{outlets, outlets_of}
 use Rattle.lr_refusals.specs.Errors.{cause_of}
 use Rattle.lr_causes.specs.Puts.{Puts, PutFails}
 use Rattle.lr_commands.specs.Adding.{Addition, Fits, MayEndAdding, RunsAdding, way_added}
-use Rattle.lr_commands.specs.Asked.{entry_at}
-use Rattle.lr_commands.specs.Discard.{DecidesDiscard, MayGo, discard_addition, discard_asked}
+use Rattle.lr_commands.specs.Queries.{entry_at}
+use Rattle.lr_commands.specs.Discard.{DecidesDiscard, MayGo, discard_addition, discard_query}
 use Rattle.lr_commands.proofs.AddingRuns.{IsReady, cut_run, done_run, earlier_run, failed_run, full_run, refused_run}
 use Rattle.lr_commands.proofs.AddingRuns.{count_still, told_through, unwritten_still, way_read}
 
@@ -66,14 +66,14 @@ ok_from (Err e) never = absurd (never e refl)
 module _ {D O : Type 0} (disk : DiskOf D) (out : SinkOf O) (number : ℕ) where
   abbrev pub RunsDiscard : Cause → D → D → O → O → Type 0
   RunsDiscard cause d d' o o' =
-      RunsAdding (outlets_of disk out) (discard_asked number) cause (outlets d o) (outlets d' o')
+      RunsAdding (outlets_of disk out) (discard_query number) cause (outlets d o) (outlets d' o')
 
   -- memory was refused before the shelf was loaded
   pub not_begun :
       ((x : D) (c : List ℕ) → disk.tells x → disk.left_since x (disk.moment x) c → disk.may_leave x c)
       → (d : D) (o : O) → RunsDiscard NoMemory d d o o
   not_begun only_now d o =
-      earlier_run disk out (discard_asked number) (discard_once number) d d o (λ t. t)
+      earlier_run disk out (discard_query number) (discard_once number) d d o (λ t. t)
       (unwritten_yet disk only_now d) NoMemory tt refl
 
   module _ (d d1 d2 : D) (o : O) (shelf shelf2 : Shelf) (ready : IsReady disk d d1 shelf)
@@ -86,12 +86,12 @@ module _ {D O : Type 0} (disk : DiskOf D) (out : SinkOf O) (number : ℕ) where
     decided may t = inr (inr (may, refl))
 
     -- the shelf's own refusal
-    refused_by : (error : ShelfError) (refusal : Refusal) → MayEndAdding (discard_asked number) (Refused refusal)
+    refused_by : (error : ShelfError) (refusal : Refusal) → MayEndAdding (discard_query number) (Refused refusal)
         → answer ≡ Err error → (error ≡ Disk' → ⊥)
         → ((bytes : List ℕ) → DecidesDiscard number bytes there (Err refusal))
         → RunsDiscard (Refused refusal) d d2 o o
     refused_by error refusal may is not_disk is_decided =
-        refused_run disk out (discard_asked number) (discard_once number) d d2 o
+        refused_run disk out (discard_query number) (discard_once number) d d2 o
         (told_through disk d d1 d2 shelf shelf2 (discard_item number) ready answer discards.adds)
         (unwritten_still disk d d1 d2 shelf shelf2 (discard_item number) ready answer discards.adds error is not_disk)
         refusal may
@@ -105,14 +105,14 @@ module _ {D O : Type 0} (disk : DiskOf D) (out : SinkOf O) (number : ℕ) where
     pub not_added : (error : ShelfError) → answer ≡ Err error → IsDiscardError number (kept_by shelf) error
         → RunsDiscard (cause_of error) d d2 o o
     not_added Disk' is refusal =
-        failed_run disk out (discard_asked number) (discard_once number) d d1 d2 o shelf shelf2
+        failed_run disk out (discard_query number) (discard_once number) d d1 d2 o shelf shelf2
         (discard_addition number) refl ready answer discards.adds (decided (may_of refusal.0)) is refusal.1
     not_added (NotAShelf' at) is refusal = absurd refusal
     not_added (NotEmpty' size) is refusal = absurd refusal
     not_added (Capacity' needed most) is refusal =
         let same : Capacity' needed most ≡ Capacity' needed there.capacity = ap (Capacity' needed) refusal.3 in
         subst (λ (n : ℕ). RunsDiscard (Refused (Capacity needed n)) d d2 o o) (sym refusal.3)
-        (full_run disk out (discard_asked number) (discard_once number) d d1 d2 o shelf shelf2
+        (full_run disk out (discard_query number) (discard_once number) d d1 d2 o shelf shelf2
         (discard_addition number) refl ready answer discards.adds (decided (may_of refusal.0)) needed
         (is ∙ ap (λ (e : ShelfError). Err e) same) refusal.1 refusal.2)
     not_added (NoSuchFile' count) is refusal =
@@ -155,11 +155,11 @@ module _ {D O : Type 0} (disk : DiskOf D) (out : SinkOf O) (number : ℕ) where
       -- and its line was put
       pub told_line : (o2 : O) → Puts out (discard_line number) o o2 → RunsDiscard Done d d2 o o2
       told_line o2 puts =
-          done_run disk out (discard_asked number) (discard_once number) d d1 d2 o shelf shelf2
+          done_run disk out (discard_query number) (discard_once number) d d1 d2 o shelf shelf2
           (discard_addition number) refl ready answer discards.adds (decided may) tt added fits o2 puts
 
       -- or it wasn't
       pub cut_line : (o2 : O) → PutFails out (discard_line number) o o2 → RunsDiscard (Failed Output) d d2 o o2
       cut_line o2 fails =
-          cut_run disk out (discard_asked number) (discard_once number) d d1 d2 o shelf shelf2
+          cut_run disk out (discard_query number) (discard_once number) d d1 d2 o shelf shelf2
           (discard_addition number) refl ready answer discards.adds (decided may) tt added fits o2 fails

@@ -2,6 +2,7 @@ pub mod AddingRuns
 pub mod Answering
 pub mod Assembling
 pub mod Discarding
+pub mod EachAnswer
 pub mod Exporting
 pub mod Filing
 pub mod Loading

@@ -31,7 +31,7 @@ use Rattle.lr_io.specs.declared.sink.Sink.{Ghosts as SinkOf}
 use Rattle.lr_disk.specs.declared.disk.Disk.{Ghosts as DiskOf}
 use Rattle.lr_disk.proofs.Moments.{unwritten_joined, unwritten_yet}
 use Rattle.lr_shelf_format.specs.Way.{Way, IsWay}
-use Rattle.lr_shelf.specs.Calls.{IsCounted}
+use Rattle.lr_shelf.specs.Calls.{IsFaultCounted}
 use Rattle.lr_shelf.specs.Kept.{kept_by}
 use Rattle.lr_shelf.specs.Load.{Loads, IsLoadRefusal}
 use Rattle.lr_shelf.specs.Shelf.{KeepsWay}
@@ -52,8 +52,8 @@ use Rattle.lr_causes.specs.declared.cause.Party.TheVariants.{Source, Disk, Outpu
 use Rattle.lr_causes.specs.declared.cause.Cause.{Cause}
 use Rattle.lr_causes.specs.declared.cause.Cause.TheVariants.{Done, DoneWith, Usage, Failed, NoMemory, Refused}
 use Rattle.lr_causes.specs.declared.note.Note.{Note}
-use Rattle.lr_commands.specs.Asked.{
-  Asked,
+use Rattle.lr_commands.specs.Queries.{
+  Query,
   Answer,
   AnswersOn,
   BegunBy,
@@ -62,7 +62,7 @@ use Rattle.lr_commands.specs.Asked.{
   done_answer,
   refused_answer,
 }
-use Rattle.lr_causes.specs.Causes.{Counts}
+use Rattle.lr_causes.specs.Causes.{FaultCounts}
 use Rattle.lr_causes.specs.Outside.{outlet_counts, outlets, outlets_of}
 use Rattle.lr_refusals.specs.Errors.{cause_of}
 use Rattle.lr_commands.specs.Runs.{
@@ -84,45 +84,45 @@ some_after : (text one rest whole : List ℕ) → whole ≡ (text ++ one) ++ res
 some_after text one rest whole same some =
     omega (arith, some, ap length same, length-append (text ++ one) rest, length-append text one)
 
-module _ {D O : Type 0} (disk : DiskOf D) (out : SinkOf O) (asked : Asked) where
+module _ {D O : Type 0} (disk : DiskOf D) (out : SinkOf O) (query : Query) where
   -- what the bytes answer comes, unless an event came before it
   ends : (bytes : List ℕ) (o o' : O) (cause : Cause)
-      → Got out (IsAnswer asked bytes) (IsBegun asked bytes) cause o o' → (answer : Answer)
-      → IsAnswer asked bytes answer → (cause ≡ cause_for answer.refusal answer.note) ⊎ Precedes cause answer
+      → Got out (IsAnswer query bytes) (IsBegun query bytes) cause o o' → (answer : Answer)
+      → IsAnswer query bytes answer → (cause ≡ cause_for answer.refusal answer.note) ⊎ Precedes cause answer
   ends bytes o o' Done got answer is =
       inl (ap (λ (a : Answer). cause_for a.refusal a.note)
-      (answer_is asked bytes (done_answer got.text None) answer got.is is))
+      (answer_is query bytes (done_answer got.text None) answer got.is is))
   ends bytes o o' (DoneWith note) got answer is =
       inl (ap (λ (a : Answer). cause_for a.refusal a.note)
-      (answer_is asked bytes (done_answer got.text (Some note)) answer got.is is))
+      (answer_is query bytes (done_answer got.text (Some note)) answer got.is is))
   ends bytes o o' Usage got answer is = absurd got
   ends bytes o o' (Failed Source) got answer is = absurd got
   ends bytes o o' (Failed Disk) got answer is = inr tt
   ends bytes o o' (Failed Output) got answer is = inr (cut got.next) where
-    cut : IsBegun asked bytes (got.passed + 1) 0 (got.text ++ got.one)
-        ⊎ ((note : Option Note) × IsAnswer asked bytes (done_answer (got.text ++ got.one) note))
+    cut : IsBegun query bytes (got.passed + 1) 0 (got.text ++ got.one)
+        ⊎ ((note : Option Note) × IsAnswer query bytes (done_answer (got.text ++ got.one) note))
         → 0 < length answer.text
     cut (inl begun) =
-        let front = begun_front asked bytes (got.passed + 1) 0 (got.text ++ got.one) answer begun is in
+        let front = begun_front query bytes (got.passed + 1) 0 (got.text ++ got.one) answer begun is in
         some_after got.text got.one front.0 answer.text front.1 got.some
     cut (inr whole) =
         some_after got.text got.one [] answer.text
         (ap (λ (a : Answer). a.text)
-        (answer_is asked bytes answer (done_answer (got.text ++ got.one) whole.0) is whole.1)
+        (answer_is query bytes answer (done_answer (got.text ++ got.one) whole.0) is whole.1)
         ∙ sym (append-nil (got.text ++ got.one))) got.some
   ends bytes o o' NoMemory got answer is = inr tt
   ends bytes o o' (Refused refusal) got answer is =
       inl (ap (λ (a : Answer). cause_for a.refusal a.note)
-      (answer_is asked bytes (refused_answer got.first.text refusal) answer got.is is))
+      (answer_is query bytes (refused_answer got.first.text refusal) answer got.is is))
 
   pub over : (d d' : D) (o o' : O) (cause : Cause)
-      → RunsReading (outlets_of disk out) asked (IsAnswer asked) (IsBegun asked) cause (outlets d o) (outlets d' o')
-      → RunsOver (outlets_of disk out) asked cause (outlets d o) (outlets d' o')
+      → RunsReading (outlets_of disk out) query (IsAnswer query) (IsBegun query) cause (outlets d o) (outlets d' o')
+      → RunsOver (outlets_of disk out) query cause (outlets d o) (outlets d' o')
   over d d' o o' cause runs =
       record { runs = runs; ends = λ answer t. ends (disk.contents d) o o' cause (runs.got t) answer }
 
   -- nothing was put
-  nothing : (bytes : List ℕ) (o : O) → PutsFirst out (IsAnswer asked bytes) (IsBegun asked bytes) 1 o o
+  nothing : (bytes : List ℕ) (o : O) → PutsFirst out (IsAnswer query bytes) (IsBegun query bytes) 1 o o
   nothing bytes o = record {
     passed = 0;
     text = [];
@@ -131,7 +131,7 @@ module _ {D O : Type 0} (disk : DiskOf D) (out : SinkOf O) (asked : Asked) where
     untouched = λ none. refl;
   }
 
-  nothing_yet : (bytes : List ℕ) (o : O) → PutsFirst out (IsAnswer asked bytes) (IsBegun asked bytes) 0 o o
+  nothing_yet : (bytes : List ℕ) (o : O) → PutsFirst out (IsAnswer query bytes) (IsBegun query bytes) 0 o o
   nothing_yet bytes o = record {
     passed = 0;
     text = [];
@@ -144,7 +144,7 @@ module _ {D O : Type 0} (disk : DiskOf D) (out : SinkOf O) (asked : Asked) where
   pub not_started :
       ((x : D) (c : List ℕ) → disk.tells x → disk.left_since x (disk.moment x) c → disk.may_leave x c)
       → (d : D) (o : O)
-      → RunsReading (outlets_of disk out) asked (IsAnswer asked) (IsBegun asked) NoMemory (outlets d o) (outlets d o)
+      → RunsReading (outlets_of disk out) query (IsAnswer query) (IsBegun query) NoMemory (outlets d o) (outlets d o)
   not_started only_now d o = record {
     may = tt;
     counted = refl;
@@ -157,13 +157,14 @@ module _ {D O : Type 0} (disk : DiskOf D) (out : SinkOf O) (asked : Asked) where
 
   module _ (d d1 : D) (o : O) (result : Result Shelf ShelfError) (loads : Loads disk d d1 result) where
     counted_load : (error : ShelfError) → result ≡ Err error
-        → IsCounted {A = Shelf} (disk.faults d) (disk.faults d1) (Err error)
+        → IsFaultCounted {A = Shelf} (disk.faults d) (disk.faults d1) (Err error)
     counted_load error is =
-        subst (λ (r : Result Shelf ShelfError). IsCounted (disk.faults d) (disk.faults d1) r) is loads.calls.counted
+        subst (λ (r : Result Shelf ShelfError). IsFaultCounted (disk.faults d) (disk.faults d1) r) is
+        loads.calls.counted
 
     -- no shelf was loaded
     pub not_loaded : (error : ShelfError) → result ≡ Err error → IsLoadRefusal disk d error
-        → RunsReading (outlets_of disk out) asked (IsAnswer asked) (IsBegun asked) (cause_of error) (outlets d o)
+        → RunsReading (outlets_of disk out) query (IsAnswer query) (IsBegun query) (cause_of error) (outlets d o)
         (outlets d1 o)
     not_loaded Disk' is refusal = record {
       may = tt;
@@ -216,7 +217,7 @@ module _ {D O : Type 0} (disk : DiskOf D) (out : SinkOf O) (asked : Asked) where
 
       pub counted_ok : disk.faults d1 ≡ disk.faults d
       counted_ok =
-          subst (λ (r : Result Shelf ShelfError). IsCounted (disk.faults d) (disk.faults d1) r) is
+          subst (λ (r : Result Shelf ShelfError). IsFaultCounted (disk.faults d) (disk.faults d1) r) is
           loads.calls.counted
 
       module _ (t : disk.tells d) where
@@ -226,17 +227,17 @@ module _ {D O : Type 0} (disk : DiskOf D) (out : SinkOf O) (asked : Asked) where
         abbrev bytes : List ℕ
         bytes = disk.contents d
 
-        onto : (answer : Answer) → AnswersOn asked bytes way answer → IsAnswer asked bytes answer
+        onto : (answer : Answer) → AnswersOn query bytes way answer → IsAnswer query bytes answer
         onto answer one = inr (way, way_there t, one)
 
-        first : (passed left : ℕ) (text : List ℕ) → BegunBy asked bytes way passed left text
-            → IsBegun asked bytes passed left text
+        first : (passed left : ℕ) (text : List ℕ) → BegunBy query bytes way passed left text
+            → IsBegun query bytes passed left text
         first passed left text (inl none) = inl none
         first passed left text (inr begun) = inr (way, way_there t, begun)
 
         first_all : (left : ℕ) (o' : O)
-            → PutsFirst out (AnswersOn asked bytes way) (BegunBy asked bytes way) left o o'
-            → PutsFirst out (IsAnswer asked bytes) (IsBegun asked bytes) left o o'
+            → PutsFirst out (AnswersOn query bytes way) (BegunBy query bytes way) left o o'
+            → PutsFirst out (IsAnswer query bytes) (IsBegun query bytes) left o o'
         first_all left o' got = record {
           passed = got.passed;
           text = got.text;
@@ -246,16 +247,16 @@ module _ {D O : Type 0} (disk : DiskOf D) (out : SinkOf O) (asked : Asked) where
         }
 
         next_all : (passed : ℕ) (text : List ℕ)
-            → BegunBy asked bytes way passed 0 text
-            ⊎ ((note : Option Note) × AnswersOn asked bytes way (done_answer text note))
-            → IsBegun asked bytes passed 0 text
-            ⊎ ((note : Option Note) × IsAnswer asked bytes (done_answer text note))
+            → BegunBy query bytes way passed 0 text
+            ⊎ ((note : Option Note) × AnswersOn query bytes way (done_answer text note))
+            → IsBegun query bytes passed 0 text
+            ⊎ ((note : Option Note) × IsAnswer query bytes (done_answer text note))
         next_all passed text (inl begun) = inl (first passed 0 text begun)
         next_all passed text (inr one) = inr (one.0, onto (done_answer text one.0) one.1)
 
         got_all : (cause : Cause) (o' : O)
-            → Got out (AnswersOn asked bytes way) (BegunBy asked bytes way) cause o o'
-            → Got out (IsAnswer asked bytes) (IsBegun asked bytes) cause o o'
+            → Got out (AnswersOn query bytes way) (BegunBy query bytes way) cause o o'
+            → Got out (IsAnswer query bytes) (IsBegun query bytes) cause o o'
         unfolding first_all
         got_all Done o' got = record {
           text = got.text;
@@ -287,11 +288,11 @@ module _ {D O : Type 0} (disk : DiskOf D) (out : SinkOf O) (asked : Asked) where
 
       -- a shelf was loaded, and its entries were run over
       pub loaded : (d2 : D) (o' : O) (cause : Cause)
-          → RunsOn (outlets_of disk out) asked (kept_by shelf).way cause (outlets d1 o) (outlets d2 o')
-          → RunsReading (outlets_of disk out) asked (IsAnswer asked) (IsBegun asked) cause (outlets d o) (outlets d2 o')
+          → RunsOn (outlets_of disk out) query (kept_by shelf).way cause (outlets d1 o) (outlets d2 o')
+          → RunsReading (outlets_of disk out) query (IsAnswer query) (IsBegun query) cause (outlets d o) (outlets d2 o')
       loaded d2 o' cause runs = record {
         may = runs.may;
-        counted = subst (λ (c : Counts). Counted cause c (outlet_counts (outlets_of disk out) (outlets d2 o')))
+        counted = subst (λ (c : FaultCounts). Counted cause c (outlet_counts (outlets_of disk out) (outlets d2 o')))
             (same_counts disk out d d1 o o counted_ok refl) runs.counted;
         told = λ t. runs.told (loads.calls.told t);
         told_by_out = runs.told_by_out;
@@ -299,7 +300,7 @@ module _ {D O : Type 0} (disk : DiskOf D) (out : SinkOf O) (asked : Asked) where
         got = λ t.
             got_all t cause o'
             (subst
-            (λ (b : List ℕ). Got out (AnswersOn asked b (kept_by shelf).way) (BegunBy asked b (kept_by shelf).way)
+            (λ (b : List ℕ). Got out (AnswersOn query b (kept_by shelf).way) (BegunBy query b (kept_by shelf).way)
             cause o o') (loads.unwritten t).contents (runs.got (loads.calls.told t)));
         untouched = runs.untouched;
       }

@@ -53,8 +53,8 @@ use Rattle.lr_causes.specs.declared.cause.Refusal.TheVariants.{
 }
 use Rattle.lr_causes.specs.declared.fault.ExportFault.{ExportFault}
 use Rattle.lr_commands.specs.declared.range.Range.{Range}
-use Rattle.lr_commands.specs.Asked.{
-  Asked,
+use Rattle.lr_commands.specs.Queries.{
+  Query,
   Answer,
   entry_at,
   answer_of,
@@ -65,7 +65,7 @@ use Rattle.lr_commands.specs.Asked.{
   IsAnswer,
   IsRefusedFor,
   IsSeen,
-  Seen,
+  EntryView,
   Whole,
   Wrong,
   Absent,
@@ -73,13 +73,13 @@ use Rattle.lr_commands.specs.Asked.{
   plain,
   refused_answer,
 }
-use Rattle.lr_commands.specs.Export.{export_asked}
-use Rattle.lr_commands.specs.Extract.{extract_asked}
+use Rattle.lr_commands.specs.Export.{export_query}
+use Rattle.lr_commands.specs.Extract.{extract_query}
 use Rattle.lr_refusals.specs.Errors.{image_fault}
 use Rattle.lr_commands.specs.Files.{one_entry, refused_for}
 use Rattle.lr_commands.specs.Laws.{HasReasons, ExtractHasReasons, HasExportReasons, ExportHasReasons, SaysWhy}
 use Rattle.lr_commands.specs.Laws.{OneFilePutsOneText, VerifyHasReasons}
-use Rattle.lr_commands.specs.Verify.{none_bad, verdict, verify_asked}
+use Rattle.lr_commands.specs.Verify.{none_bad, verdict, verify_query}
 use Rattle.lr_commands.proofs.Answering.{err_is, some_is, some_or_none}
 use Rattle.lr_commands.proofs.Verifying.{none_bad-absent, none_bad-whole, none_bad-wrong}
 use Rattle.lr_commands.proofs.Seeing.{seen_once}
@@ -95,20 +95,20 @@ range_of number false range is = cc (is)
 
 -- ---- commands of one entry
 
-module _ (asked : Asked) (number : ℕ) (ranges : (count : ℕ) → asked.range count ≡ one_entry number count)
+module _ (query : Query) (number : ℕ) (ranges : (count : ℕ) → query.range count ≡ one_entry number count)
     (bytes : List ℕ) (way : Way) (is : IsWay bytes way) where
   in_range : (b : Bool) → ltb number (length way.entries) ≡ b → (answer : Answer)
-      → AnswersIn asked bytes way (chosen number b) answer → IsAnswer asked bytes answer
+      → AnswersIn query bytes way (chosen number b) answer → IsAnswer query bytes answer
   in_range b same answer from =
       inr (
         way,
         is,
-        subst (λ (r : Option Range). AnswersIn asked bytes way r answer)
+        subst (λ (r : Option Range). AnswersIn query bytes way r answer)
             (ap (chosen number) (sym same) ∙ sym (ranges (length way.entries))) from,
       )
 
   -- there is no such entry
-  none_there : length way.entries ≤ number → IsRefusedFor asked bytes (NoSuchFile (length way.entries))
+  none_there : length way.entries ≤ number → IsRefusedFor query bytes (NoSuchFile (length way.entries))
   none_there beyond = (
     refused_answer [] (NoSuchFile (length way.entries)),
     in_range false (le-ltb number (length way.entries) beyond) (refused_answer [] (NoSuchFile (length way.entries)))
@@ -118,24 +118,24 @@ module _ (asked : Asked) (number : ℕ) (ranges : (count : ℕ) → asked.range 
 
   module _ (there : number < length way.entries) where
     -- what the one entry answers is what the bytes do
-    one_entry_is : (answer : Answer) → AnswersFrom asked bytes way 1 number [] answer → IsAnswer asked bytes answer
+    one_entry_is : (answer : Answer) → AnswersFrom query bytes way 1 number [] answer → IsAnswer query bytes answer
     one_entry_is answer from =
         let one : number + 1 - number ≡ 1 = omega arith in
         in_range true (lt-ltb number (length way.entries) there) answer
-        (subst (λ n. AnswersFrom asked bytes way n number [] answer) (sym one) from)
+        (subst (λ n. AnswersFrom query bytes way n number [] answer) (sym one) from)
 
-    from_one : (answer : Answer) → IsAnswer asked bytes answer → AnswersFrom asked bytes way 1 number [] answer
+    from_one : (answer : Answer) → IsAnswer query bytes answer → AnswersFrom query bytes way 1 number [] answer
     from_one answer (inl none) = absurd ((has_one_way bytes).none way none.0 is none.1)
     from_one answer (inr some) =
         let one : number + 1 - number ≡ 1 = omega arith in
-        subst (λ n. AnswersFrom asked bytes way n number [] answer) one
-        (subst (λ (r : Option Range). AnswersIn asked bytes way r answer)
+        subst (λ n. AnswersFrom query bytes way n number [] answer) one
+        (subst (λ (r : Option Range). AnswersIn query bytes way r answer)
         (ranges (length way.entries) ∙ ap (chosen number) (lt-ltb number (length way.entries) there))
-        (subst (λ (w : Way). AnswersOn asked bytes w answer)
+        (subst (λ (w : Way). AnswersOn query bytes w answer)
         ((has_one_way bytes).way some.0 way some.1 is) some.2))
 
-    stopped : (seen : Option Seen) (refusal : Refusal) → IsSeen asked.looks bytes (entry_at way number) seen
-        → fate_of asked way [] number seen ≡ Err refusal → IsRefusedFor asked bytes refusal
+    stopped : (seen : Option EntryView) (refusal : Refusal) → IsSeen query.looks bytes (entry_at way number) seen
+        → fate_of query way [] number seen ≡ Err refusal → IsRefusedFor query bytes refusal
     stopped seen refusal stands fate = (
       refused_answer [] refusal,
       one_entry_is (refused_answer [] refusal)
@@ -144,9 +144,9 @@ module _ (asked : Asked) (number : ℕ) (ranges : (count : ℕ) → asked.range 
     )
 
     -- its text is the only one
-    put_one : ((read : List Seen) → answer_of (asked.last way read) (asked.tells read) ≡ done_answer [] None)
-        → (seen : Seen) → IsSeen asked.looks bytes (entry_at way number) (Some seen) → (text : List ℕ)
-        → asked.becomes [] number seen ≡ Ok text → IsAnswer asked bytes (done_answer text None)
+    put_one : ((read : List EntryView) → answer_of (query.last way read) (query.tells read) ≡ done_answer [] None)
+        → (seen : EntryView) → IsSeen query.looks bytes (entry_at way number) (Some seen) → (text : List ℕ)
+        → query.entry_text [] number seen ≡ Ok text → IsAnswer query bytes (done_answer text None)
     put_one nothing seen stands text fate =
         one_entry_is (done_answer text None)
         (inl (record {
@@ -162,14 +162,14 @@ module _ (asked : Asked) (number : ℕ) (ranges : (count : ℕ) → asked.range 
 -- ---- `extract`
 
 module _ (number : ℕ) (bytes : List ℕ) (way : Way) (is : IsWay bytes way) where
-  asked : Asked
-  asked = extract_asked number
+  query : Query
+  query = extract_query number
 
   module _ (there : number < length way.entries) where
     -- what a record with the right checksum is found to be
     not_refused : (entry_at way number).gone ≡ false → HasSoundRecord bytes (entry_at way number)
-        → (seen : Option Seen) → IsSeen (λ stored. false) bytes (entry_at way number) seen → (refusal : Refusal)
-        → fate_of (extract_asked number) way [] number seen ≡ Err refusal → ⊥
+        → (seen : Option EntryView) → IsSeen (λ stored. false) bytes (entry_at way number) seen → (refusal : Refusal)
+        → fate_of (extract_query number) way [] number seen ≡ Err refusal → ⊥
     not_refused stays sound None stands refusal fate = stands.1 sound.has
     not_refused stays sound (Some (Whole opened)) stands refusal fate = cc (fate)
     not_refused stays sound (Some (Wrong s c)) stands refusal fate =
@@ -177,38 +177,38 @@ module _ (number : ℕ) (bytes : List ℕ) (way : Way) (is : IsWay bytes way) wh
     not_refused stays sound (Some Absent) stands refusal fate = cc (stays, stands)
 
     right_from : (entry_at way number).gone ≡ false → HasSoundRecord bytes (entry_at way number) → (answer : Answer)
-        → AnswersFrom (extract_asked number) bytes way 1 number [] answer → answer.refusal ≡ None
+        → AnswersFrom (extract_query number) bytes way 1 number [] answer → answer.refusal ≡ None
     right_from stays sound answer (inl a) =
         ap (λ (x : Answer). x.refusal) a.is ∙ ap (λ (x : Answer). x.refusal) a.after
     right_from stays sound answer (inr b) =
         absurd (not_refused stays sound b.seen b.stands b.refusal b.fate)
 
-  abbrev one : (count : ℕ) → (extract_asked number).range count ≡ one_entry number count
+  abbrev one : (count : ℕ) → (extract_query number).range count ≡ one_entry number count
   one count = refl
 
   reasons : HasReasons number bytes way
   reasons = record {
-    no_file = none_there (extract_asked number) number one bytes way is;
+    no_file = none_there (extract_query number) number one bytes way is;
     gone = λ there gone.
-        stopped (extract_asked number) number one bytes way is there (Some Absent) Discarded gone refl;
+        stopped (extract_query number) number one bytes way is there (Some Absent) Discarded gone refl;
     no_record = λ there none.
-        stopped (extract_asked number) number one bytes way is there None (NotAShelf (entry_at way number).gate) none
+        stopped (extract_query number) number one bytes way is there None (NotAShelf (entry_at way number).gate) none
         refl;
     bad = λ there stored computed found.
-        stopped (extract_asked number) number one bytes way is there (Some (Wrong stored computed)) BadChecksum found
+        stopped (extract_query number) number one bytes way is there (Some (Wrong stored computed)) BadChecksum found
         refl;
     sound = λ there stored stands.
-        put_one (extract_asked number) number one bytes way is there (λ read. refl) (plain stored) (stands, tt)
+        put_one (extract_query number) number one bytes way is there (λ read. refl) (plain stored) (stands, tt)
         (proper_of stored.file) refl;
     right = λ there stays sound answer from.
-        right_from there stays sound answer (from_one (extract_asked number) number one bytes way is there answer from);
+        right_from there stays sound answer (from_one (extract_query number) number one bytes way is there answer from);
   }
 
 pub has_reasons : ExtractHasReasons
 has_reasons number bytes way is = reasons number bytes way is
 
 pub one_file_puts_one_text : OneFilePutsOneText
-one_file_puts_one_text looks becomes number = record {
+one_file_puts_one_text looks entry_text number = record {
   one = λ count range allowed. range_of number _ range allowed;
   nothing_last = λ way read. refl;
 }
@@ -216,36 +216,36 @@ one_file_puts_one_text looks becomes number = record {
 -- ---- `export`
 
 module _ (number : ℕ) (bytes : List ℕ) (way : Way) (is : IsWay bytes way) where
-  abbrev once : (count : ℕ) → (export_asked number).range count ≡ one_entry number count
+  abbrev once : (count : ℕ) → (export_query number).range count ≡ one_entry number count
   once count = refl
 
-  abbrev with_outcome : Stored → Result Picture ImageFault → Seen
+  abbrev with_outcome : Stored → Result Picture ImageFault → EntryView
   with_outcome stored outcome = Whole (record { stored = stored; image = Some outcome })
 
   module _ (there : number < length way.entries) (stored : Stored)
       (stands : IsFound bytes (entry_at way number) (Some (Sound stored))) where
     faulty : (fault : ImageFault) → HasOutcome stored.file (Err fault) → (word : ExportFault)
-        → image_fault fault ≡ Some word → IsRefusedFor (export_asked number) bytes (CannotExport word)
+        → image_fault fault ≡ Some word → IsRefusedFor (export_query number) bytes (CannotExport word)
     faulty fault has word named =
-        stopped (export_asked number) number once bytes way is there (Some (with_outcome stored (Err fault)))
+        stopped (export_query number) number once bytes way is there (Some (with_outcome stored (Err fault)))
         (CannotExport word) (stands, has) (ap refused_for named)
 
     pictured : (picture : Picture) → HasOutcome stored.file (Ok picture)
-        → IsAnswer (export_asked number) bytes (done_answer (pgm_text picture) None)
+        → IsAnswer (export_query number) bytes (done_answer (pgm_text picture) None)
     pictured picture has =
-        put_one (export_asked number) number once bytes way is there (λ read. refl) (with_outcome stored (Ok picture))
+        put_one (export_query number) number once bytes way is there (λ read. refl) (with_outcome stored (Ok picture))
         (stands, has) (pgm_text picture) refl
 
   export_reasons : HasExportReasons number bytes way
   export_reasons = record {
-    no_file = none_there (export_asked number) number once bytes way is;
+    no_file = none_there (export_query number) number once bytes way is;
     gone = λ there gone.
-        stopped (export_asked number) number once bytes way is there (Some Absent) Discarded gone refl;
+        stopped (export_query number) number once bytes way is there (Some Absent) Discarded gone refl;
     no_record = λ there none.
-        stopped (export_asked number) number once bytes way is there None (NotAShelf (entry_at way number).gate) none
+        stopped (export_query number) number once bytes way is there None (NotAShelf (entry_at way number).gate) none
         refl;
     bad = λ there stored computed found.
-        stopped (export_asked number) number once bytes way is there (Some (Wrong stored computed)) BadChecksum found
+        stopped (export_query number) number once bytes way is there (Some (Wrong stored computed)) BadChecksum found
         refl;
     fault = faulty;
     image = pictured;
@@ -256,27 +256,27 @@ has_export_reasons number bytes way is = export_reasons number bytes way is
 
 -- ---- `verify`
 
-spoilt : (read : List Seen) (seen : Seen) → none_bad read ≡ false → none_bad (read ++ seen ∷ []) ≡ false
+spoilt : (read : List EntryView) (seen : EntryView) → none_bad read ≡ false → none_bad (read ++ seen ∷ []) ≡ false
 spoilt read (Whole opened) bad = none_bad-whole read opened ∙ bad
 spoilt read (Wrong stored computed) bad = none_bad-wrong read stored computed
 spoilt read Absent bad = none_bad-absent read ∙ bad
 
 module _ (bytes : List ℕ) (way : Way) where
-  abbrev From : (left number : ℕ) → List Seen → Answer → Type 0
-  From left number read answer = AnswersFrom verify_asked bytes way left number read answer
+  abbrev From : (left number : ℕ) → List EntryView → Answer → Type 0
+  From left number read answer = AnswersFrom verify_query bytes way left number read answer
 
   -- it is refused at an entry only where that has no record
-  at_none : (read : List Seen) (number : ℕ) (seen : Option Seen) (refusal : Refusal)
-      → fate_of verify_asked way read number seen ≡ Err refusal
+  at_none : (read : List EntryView) (number : ℕ) (seen : Option EntryView) (refusal : Refusal)
+      → fate_of verify_query way read number seen ≡ Err refusal
       → (seen ≡ None) × (NotAShelf (entry_at way number).gate ≡ refusal)
   at_none read number None refusal fate = (
     refl,
-    err_is (fate_of verify_asked way read number None) (NotAShelf (entry_at way number).gate) refusal
+    err_is (fate_of verify_query way read number None) (NotAShelf (entry_at way number).gate) refusal
         refl fate,
   )
   at_none read number (Some seen) refusal fate = cc (fate)
 
-  none_from : (left number : ℕ) (read : List Seen) (answer : Answer) → From left number read answer → (which : ℕ)
+  none_from : (left number : ℕ) (read : List EntryView) (answer : Answer) → From left number read answer → (which : ℕ)
       → number ≤ which → which < number + left → IsFound bytes (entry_at way which) None
       → (at : ℕ) × (answer.refusal ≡ Some (NotAShelf at))
   none_from zero number read answer is which above below none = absurd (omega (arith, above, below))
@@ -296,15 +296,15 @@ module _ (bytes : List ℕ) (way : Way) where
       ((entry_at way number).gate, ap (λ (x : Answer). x.refusal) b.is ∙ ap Some (sym stop.1))
 
   module _ (stand : (each : ℕ) → each < length way.entries → IsFound bytes (entry_at way each) None → ⊥) where
-    no_stop : (number : ℕ) → number < length way.entries → (read : List Seen) (seen : Option Seen)
+    no_stop : (number : ℕ) → number < length way.entries → (read : List EntryView) (seen : Option EntryView)
         (refusal : Refusal) → IsSeen (λ stored. false) bytes (entry_at way number) seen
-        → fate_of verify_asked way read number seen ≡ Err refusal → ⊥
+        → fate_of verify_query way read number seen ≡ Err refusal → ⊥
     no_stop number there read seen refusal stands fate =
         let stop = at_none read number seen refusal fate in
         stand number there (subst (IsSeen (λ stored. false) bytes (entry_at way number)) stop.0 stands)
 
     -- a wrong checksum was read
-    spoilt_from : (left number : ℕ) (read : List Seen) (answer : Answer) → number + left ≤ length way.entries
+    spoilt_from : (left number : ℕ) (read : List EntryView) (answer : Answer) → number + left ≤ length way.entries
         → none_bad read ≡ false → From left number read answer → answer.refusal ≡ Some BadChecksum
     spoilt_from zero number read answer few bad is =
         ap (λ (x : Answer). x.refusal) is ∙ ap (λ (b : Bool). (answer_of (verdict b) None).refusal) bad
@@ -315,7 +315,7 @@ module _ (bytes : List ℕ) (way : Way) where
     spoilt_from (suc left) number read answer few bad (inr b) =
         absurd (no_stop number (omega (arith, few)) read b.seen b.refusal b.stands b.fate)
 
-    bad_from : (left number : ℕ) (read : List Seen) (answer : Answer) → number + left ≤ length way.entries
+    bad_from : (left number : ℕ) (read : List EntryView) (answer : Answer) → number + left ≤ length way.entries
         → From left number read answer → (which : ℕ) → number ≤ which → which < number + left
         → (stored computed : ℕ) → IsFound bytes (entry_at way which) (Some (Bad stored computed))
         → answer.refusal ≡ Some BadChecksum
@@ -336,7 +336,7 @@ module _ (bytes : List ℕ) (way : Way) where
               (subst (λ n. IsFound bytes (entry_at way n) (Some (Bad stored computed))) same bad)) in
               ap (λ (x : Answer). x.refusal) a.is
               ∙ spoilt_from left (number + 1) (read ++ a.seen ∷ []) a.rest (omega (arith, few))
-              (ap (λ (f : Seen). none_bad (read ++ f ∷ [])) found ∙ none_bad-wrong read stored computed) a.after
+              (ap (λ (f : EntryView). none_bad (read ++ f ∷ [])) found ∙ none_bad-wrong read stored computed) a.after
         ]
     bad_from (suc left) number read answer few (inr b) which above below stored computed bad =
         absurd (no_stop number (omega (arith, few)) read b.seen b.refusal b.stands b.fate)
@@ -353,7 +353,7 @@ module _ (bytes : List ℕ) (way : Way) where
     no_bad each (inl gone) stored computed bad = cc (gone, bad.0)
     no_bad each (inr sound) stored computed bad = bad.4 (bad.2 ∙ sound.right ∙ sym bad.3)
 
-    stays_right : (each : ℕ) → each < length way.entries → (read : List Seen) (seen : Seen)
+    stays_right : (each : ℕ) → each < length way.entries → (read : List EntryView) (seen : EntryView)
         → IsSeen (λ stored. false) bytes (entry_at way each) (Some seen) → none_bad read ≡ true
         → none_bad (read ++ seen ∷ []) ≡ true
     stays_right each there read (Whole opened) stands good = none_bad-whole read opened ∙ good
@@ -361,7 +361,7 @@ module _ (bytes : List ℕ) (way : Way) where
         absurd (no_bad each (right each there) stored computed stands)
     stays_right each there read Absent stands good = none_bad-absent read ∙ good
 
-    sound_from : (left number : ℕ) (read : List Seen) (answer : Answer) → number + left ≤ length way.entries
+    sound_from : (left number : ℕ) (read : List EntryView) (answer : Answer) → number + left ≤ length way.entries
         → none_bad read ≡ true → From left number read answer → answer.refusal ≡ None
     sound_from zero number read answer few good is =
         ap (λ (x : Answer). x.refusal) is ∙ ap (λ (b : Bool). (answer_of (verdict b) None).refusal) good
@@ -373,13 +373,13 @@ module _ (bytes : List ℕ) (way : Way) where
         absurd (no_stop (λ each there. no_none each (right each there)) number (omega (arith, few)) read b.seen
         b.refusal b.stands b.fate)
 
-  on_all : (answer : Answer) → IsWay bytes way → IsAnswer verify_asked bytes answer
+  on_all : (answer : Answer) → IsWay bytes way → IsAnswer verify_query bytes answer
       → From (length way.entries - 0) 0 [] answer
   on_all answer is (inl none) = absurd ((has_one_way bytes).none way none.0 is none.1)
   on_all answer is (inr some) =
-      subst (λ (w : Way). AnswersOn verify_asked bytes w answer) ((has_one_way bytes).way some.0 way some.1 is) some.2
+      subst (λ (w : Way). AnswersOn verify_query bytes w answer) ((has_one_way bytes).way some.0 way some.1 is) some.2
 
-  why : (answer : Answer) → IsWay bytes way → IsAnswer verify_asked bytes answer → SaysWhy bytes way answer
+  why : (answer : Answer) → IsWay bytes way → IsAnswer verify_query bytes answer → SaysWhy bytes way answer
   why answer is one =
       let all = on_all answer is one in
       record {

@@ -7,7 +7,7 @@ use Rattle.lr_disk.specs.Reads.{IsUnwritten}
 use Rattle.lr_io.specs.declared.sink.Sink.{Ghosts as SinkOf}
 use Rattle.lr_disk.specs.declared.disk.Disk.{Ghosts as DiskOf}
 use Rattle.lr_shelf_format.specs.Items.{add_item}
-use Rattle.lr_shelf_format.specs.Way.{Way, Found, Sound, Bad, Gone, IsFound, IsWay}
+use Rattle.lr_shelf_format.specs.Way.{Way, EntryState, Sound, Bad, Gone, IsFound, IsWay}
 use Rattle.lr_shelf_format.specs.declared.stored.Stored.{Stored}
 use Rattle.lr_shelf_format.proofs.WayLemmas.{found_once}
 use Rattle.lr_bits.specs.File.{File, bytes_of}
@@ -21,8 +21,8 @@ use Rattle.lr_rice_coder.specs.Refusals.{HasRepackFault}
 use Rattle.lr_rice_coder.proofs.OneRepack.{repacks_are_one}
 use Rattle.lr_shelf.specs.Append.{Appends, IsAppendRefusal, item_for}
 use Rattle.lr_shelf.specs.Asked.{IsAskable}
-use Rattle.lr_shelf.specs.Calls.{IsCounted}
-use Rattle.lr_shelf.specs.Kept.{Kept, kept_by}
+use Rattle.lr_shelf.specs.Calls.{IsFaultCounted}
+use Rattle.lr_shelf.specs.Kept.{KeptShelf, kept_by}
 use Rattle.lr_shelf.specs.Read.{Finds, Gets, IsGetRefusal}
 use Rattle.lr_shelf.specs.declared.shelf.Shelf.{Shelf}
 use Rattle.lr_shelf.specs.declared.error.ShelfError.{ShelfError}
@@ -37,7 +37,7 @@ use Rattle.lr_shelf.specs.declared.error.ShelfError.TheVariants.{
   Failed as Failed',
   Discarded as Discarded',
 }
-use Rattle.lr_refusals.specs.Errors.{image_fault}
+use Rattle.lr_refusals.specs.Errors.{image_fault, cause_of}
 use Rattle.lr_causes.specs.Puts.{Puts, PutFails}
 use Rattle.lr_causes.specs.declared.fault.CodingFault.{CodingFault}
 use Rattle.lr_causes.specs.declared.fault.CodingFault.TheVariants.{Depth, Line, Header, File as LongFile}
@@ -48,11 +48,10 @@ use Rattle.lr_causes.specs.declared.cause.Refusal.TheVariants.{NotAShelf, NoSuch
 use Rattle.lr_causes.specs.declared.cause.Refusal.TheVariants.{Capacity, CannotExport, CannotRepack}
 use Rattle.lr_causes.specs.declared.cause.Cause.{Cause}
 use Rattle.lr_causes.specs.declared.cause.Cause.TheVariants.{Done, Failed, NoMemory, Refused}
-use Rattle.lr_causes.specs.Causes.{Counts}
+use Rattle.lr_causes.specs.Causes.{FaultCounts}
 use Rattle.lr_causes.specs.Outside.{outlet_counts, outlets, outlets_of}
-use Rattle.lr_refusals.specs.Errors.{cause_of}
 use Rattle.lr_commands.specs.Adding.{Addition, Fits, MayEndAdding, RunsAdding, way_added}
-use Rattle.lr_commands.specs.Asked.{entry_at}
+use Rattle.lr_commands.specs.Queries.{entry_at}
 use Rattle.lr_commands.specs.Repack.{
   DecidesCoded,
   DecidesFound,
@@ -62,7 +61,7 @@ use Rattle.lr_commands.specs.Repack.{
   MakesRepacked,
   refusal_cause,
   repack_addition,
-  repack_asked,
+  repack_query,
   repack_refusal,
 }
 use Rattle.lr_commands.specs.declared.repack.Repacked.{Repacked}
@@ -85,7 +84,7 @@ module _ (number block : ℕ) where
       let same : is.0 ≡ is'.0 = cc (named, also) in
       is.2 ∙ ap (λ (r : Refusal). Err r) same ∙ sym is'.2
 
-  found_decides_once : (way : Way) (found : Option Found) (one other : Result Addition Refusal)
+  found_decides_once : (way : Way) (found : Option EntryState) (one other : Result Addition Refusal)
       → DecidesFound number block way found one → DecidesFound number block way found other → one ≡ other
   found_decides_once way None one other is is' = is ∙ sym is'
   found_decides_once way (Some Gone) one other is is' = is ∙ sym is'
@@ -103,25 +102,25 @@ module _ (number block : ℕ) where
   repack_once bytes way one other (inr is) (inr is') =
       let same = found_once bytes (entry_at way number) is.1.0 is'.1.0 is.1.1 is'.1.1 in
       found_decides_once way is'.1.0 one other
-      (subst (λ (f : Option Found). DecidesFound number block way f one) same is.1.2) is'.1.2
+      (subst (λ (f : Option EntryState). DecidesFound number block way f one) same is.1.2) is'.1.2
 
 -- the refusals of a file that isn't coded anew are among those of the command
 module _ (number block : ℕ) where
   coding : (word : CodingFault) (refusal : Refusal) → Some (CannotRepack word) ≡ Some refusal
-      → MayEndAdding (repack_asked number block) (Refused refusal)
+      → MayEndAdding (repack_query number block) (Refused refusal)
   coding word refusal names =
       let is : CannotRepack word ≡ refusal = cc (names) in
-      subst (λ (r : Refusal). MayEndAdding (repack_asked number block) (Refused r)) is tt
+      subst (λ (r : Refusal). MayEndAdding (repack_query number block) (Refused r)) is tt
 
   may_refuse : (fault : RepackFault) (refusal : Refusal) → repack_refusal fault ≡ Some refusal
-      → MayEndAdding (repack_asked number block) (Refused refusal)
+      → MayEndAdding (repack_query number block) (Refused refusal)
   may_refuse (fault.Image cause) refusal names = by (image_fault cause) refl names where
     by : (named : Option ExportFault) → image_fault cause ≡ named → option_map CannotExport named ≡ Some refusal
-        → MayEndAdding (repack_asked number block) (Refused refusal)
+        → MayEndAdding (repack_query number block) (Refused refusal)
     by None is same = cc (same)
     by (Some word) is same =
         let refuses : CannotExport word ≡ refusal = cc (same) in
-        subst (λ (r : Refusal). MayEndAdding (repack_asked number block) (Refused r)) refuses (cause, is)
+        subst (λ (r : Refusal). MayEndAdding (repack_query number block) (Refused r)) refuses (cause, is)
   may_refuse (fault.Depth bits) refusal names = coding Depth refusal names
   may_refuse (fault.Line line) refusal names = coding Line refusal names
   may_refuse (fault.Header size) refusal names = coding Header refusal names
@@ -131,7 +130,7 @@ module _ (number block : ℕ) where
 module _ {D O : Type 0} (disk : DiskOf D) (out : SinkOf O) (number block : ℕ) where
   abbrev pub RunsRepack : Cause → D → D → O → O → Type 0
   RunsRepack cause d d' o o' =
-      RunsAdding (outlets_of disk out) (repack_asked number block) cause (outlets d o)
+      RunsAdding (outlets_of disk out) (repack_query number block) cause (outlets d o)
       (outlets d' o')
 
   module _ (d d1 d2 : D) (o : O) (old new : Shelf) (result : Result Stored ShelfError) (ready : IsReady disk d d1 old)
@@ -149,24 +148,24 @@ module _ {D O : Type 0} (disk : DiskOf D) (out : SinkOf O) (number block : ℕ) 
     way_here t = subst (λ (l : List ℕ). IsWay l there) (ready.unwritten t).contents (ready.keeps t)
 
     -- what was found on the disk that was read before
-    found_here : (found : Option Found) → Finds disk (entry_at there number) d1 found → disk.tells d
+    found_here : (found : Option EntryState) → Finds disk (entry_at there number) d1 found → disk.tells d
         → IsFound (disk.contents d) (entry_at there number) found
     found_here found finds t =
         subst (λ (l : List ℕ). IsFound l (entry_at there number) found) (ready.unwritten t).contents
         (finds (ready.told t))
 
     counted_at : (error : ShelfError) → result ≡ Err error
-        → IsCounted {A = Stored} (disk.faults d1) (disk.faults d2) (Err error)
+        → IsFaultCounted {A = Stored} (disk.faults d1) (disk.faults d2) (Err error)
     counted_at error is =
-        subst (λ (r : Result Stored ShelfError). IsCounted (disk.faults d1) (disk.faults d2) r) is
+        subst (λ (r : Result Stored ShelfError). IsFaultCounted (disk.faults d1) (disk.faults d2) r) is
         gets.reads.calls.counted
 
-    decided_run : (refusal : Refusal) → MayEndAdding (repack_asked number block) (Refused refusal)
+    decided_run : (refusal : Refusal) → MayEndAdding (repack_query number block) (Refused refusal)
         → disk.faults d2 ≡ disk.faults d1
         → (disk.tells d → DecidesRepack number block (disk.contents d) there (Err refusal))
         → RunsRepack (Refused refusal) d d2 o o
     decided_run refusal may count decided =
-        refused_run disk out (repack_asked number block) (repack_once number block) d d2 o told_to
+        refused_run disk out (repack_query number block) (repack_once number block) d d2 o told_to
         unwritten_to refusal may (count ∙ ready.count)
         (λ t. inr (there, way_here t, inl (decided t)))
 
@@ -174,9 +173,9 @@ module _ {D O : Type 0} (disk : DiskOf D) (out : SinkOf O) (number block : ℕ) 
     pub not_read : (error : ShelfError) → result ≡ Err error → IsGetRefusal disk (kept_by old) number d1 error
         → RunsRepack (cause_of error) d d2 o o
     not_read Disk' is refusal =
-        earlier_run disk out (repack_asked number block) (repack_once number block) d d2 o told_to
+        earlier_run disk out (repack_query number block) (repack_once number block) d d2 o told_to
         unwritten_to (Failed Disk) tt
-        (subst (λ (c : Counts). Counted (Failed Disk) c (outlet_counts (outlets_of disk out) (outlets d2 o)))
+        (subst (λ (c : FaultCounts). Counted (Failed Disk) c (outlet_counts (outlets_of disk out) (outlets d2 o)))
         (same_counts disk out d d1 o o ready.count refl)
         (shelf_counted disk out Stored d1 d2 o Disk' (λ same. cc (same)) (counted_at Disk' is)))
     not_read (NotAShelf' at) is refusal =
@@ -205,7 +204,7 @@ module _ {D O : Type 0} (disk : DiskOf D) (out : SinkOf O) (number block : ℕ) 
           ),
         ))
     not_read NoMemory' is refusal =
-        earlier_run disk out (repack_asked number block) (repack_once number block) d d2 o told_to
+        earlier_run disk out (repack_query number block) (repack_once number block) d d2 o told_to
         unwritten_to NoMemory tt
         (same_counts disk out d d2 o o (counted_at NoMemory' is ∙ ready.count) refl)
     not_read Failed' is refusal =
@@ -219,7 +218,7 @@ module _ {D O : Type 0} (disk : DiskOf D) (out : SinkOf O) (number block : ℕ) 
     module _ (stored : Stored) (is : result ≡ Ok stored) where
       count_read : disk.faults d2 ≡ disk.faults d1
       count_read =
-          subst (λ (r : Result Stored ShelfError). IsCounted (disk.faults d1) (disk.faults d2) r) is
+          subst (λ (r : Result Stored ShelfError). IsFaultCounted (disk.faults d1) (disk.faults d2) r) is
           gets.reads.calls.counted
 
       inside : number < length there.entries
@@ -239,10 +238,10 @@ module _ {D O : Type 0} (disk : DiskOf D) (out : SinkOf O) (number block : ℕ) 
 
       refuses_with : (fault : RepackFault) → HasRepackFault stored.file block fault → (named : Option Refusal)
           → repack_refusal fault ≡ named
-          → ((refusal : Refusal) → named ≡ Some refusal → MayEndAdding (repack_asked number block) (Refused refusal))
+          → ((refusal : Refusal) → named ≡ Some refusal → MayEndAdding (repack_query number block) (Refused refusal))
           → RunsRepack (refusal_cause named) d d2 o o
       refuses_with fault has None names may =
-          earlier_run disk out (repack_asked number block) (repack_once number block) d
+          earlier_run disk out (repack_query number block) (repack_once number block) d
           d2 o told_to unwritten_to NoMemory tt (same_counts disk out d d2 o o (count_read ∙ ready.count) refl)
       refuses_with fault has (Some refusal) names may =
           decided_run refusal (may refusal refl) count_read
@@ -251,7 +250,7 @@ module _ {D O : Type 0} (disk : DiskOf D) (out : SinkOf O) (number block : ℕ) 
       pub not_coded : (cause : Cause) → IsNotRepacked block stored cause → RunsRepack cause d d2 o o
       not_coded cause (inl none) =
           subst (λ (c : Cause). RunsRepack c d d2 o o) (sym none)
-          (earlier_run disk out (repack_asked number block) (repack_once number block) d
+          (earlier_run disk out (repack_query number block) (repack_once number block) d
           d2 o told_to unwritten_to NoMemory tt (same_counts disk out d d2 o o (count_read ∙ ready.count) refl))
       not_coded cause (inr refused) =
           subst (λ (c : Cause). RunsRepack c d d2 o o) (sym refused.2)
@@ -270,7 +269,7 @@ module _ {D O : Type 0} (disk : DiskOf D) (out : SinkOf O) (number block : ℕ) 
       pub not_added : (error : ShelfError) → answer ≡ Err error
           → IsAppendRefusal (item_for placed) (kept_by shelf) error → RunsRepack (cause_of error) d d2 o o
       not_added Disk' is refusal =
-          failed_run disk out (repack_asked number block) (repack_once number block) d d1
+          failed_run disk out (repack_query number block) (repack_once number block) d d1
           d2 o shelf shelf2 addition made ready answer appends.adds decided is refusal.1
       not_added (NotAShelf' at) is refusal = absurd refusal
       not_added (NotEmpty' size) is refusal = absurd refusal
@@ -278,13 +277,13 @@ module _ {D O : Type 0} (disk : DiskOf D) (out : SinkOf O) (number block : ℕ) 
           let same : Capacity' needed most ≡ Capacity' needed (kept_by shelf).way.capacity =
           ap (Capacity' needed) refusal.3 in
           subst (λ (n : ℕ). RunsRepack (Refused (Capacity needed n)) d d2 o o) (sym refusal.3)
-          (full_run disk out (repack_asked number block) (repack_once number block) d d1
+          (full_run disk out (repack_query number block) (repack_once number block) d d1
           d2 o shelf shelf2 addition made ready answer appends.adds decided needed
           (is ∙ ap (λ (e : ShelfError). Err e) same) refusal.1 refusal.2)
       not_added (NoSuchFile' count) is refusal = absurd refusal
       not_added (Crc' stored computed) is refusal = absurd refusal
       not_added NoMemory' is refusal =
-          no_memory_run disk out (repack_asked number block) (repack_once number block) d
+          no_memory_run disk out (repack_query number block) (repack_once number block) d
           d1 d2 o shelf shelf2 addition made ready answer appends.adds decided is
       not_added Failed' is refusal =
           let works = ready.works in
@@ -303,12 +302,12 @@ module _ {D O : Type 0} (disk : DiskOf D) (out : SinkOf O) (number block : ℕ) 
 
         pub told_line : (o2 : O) → Puts out text o o2 → RunsRepack Done d d2 o o2
         told_line =
-            done_run disk out (repack_asked number block) (repack_once number block) d d1
+            done_run disk out (repack_query number block) (repack_once number block) d d1
             d2 o shelf shelf2 addition made ready answer appends.adds decided place added fits
 
         pub cut_line : (o2 : O) → PutFails out text o o2 → RunsRepack (Failed Output) d d2 o o2
         cut_line =
-            cut_run disk out (repack_asked number block) (repack_once number block) d d1
+            cut_run disk out (repack_query number block) (repack_once number block) d d1
             d2 o shelf shelf2 addition made ready answer appends.adds decided place added fits
 
 pub ok_is : {A E : Type 0} (r : Result A E) → ((e : E) → r ≡ Err e → ⊥) → (v : A) × (r ≡ Ok v)
@@ -353,7 +352,7 @@ pub decides_made : {D O : Type 0} (disk : DiskOf D) (out : SinkOf O) (number blo
 decides_made disk out number block d d1 d2 o old new result ready gets stored is place made is_place re t =
     subst (λ (a : Addition). DecidesRepack number block (disk.contents d) (kept_by new).way (Ok a))
     (sym (addition_is number block place (kept_by new).way stored made is_place re))
-    (subst (λ (k : Kept).
+    (subst (λ (k : KeptShelf).
     DecidesRepack number block (disk.contents d) k.way (Ok (repack_addition number k.way stored made.placed.file)))
     (sym gets.kept)
     (decides_new disk out number block d d1 d2 o old new result ready gets stored is made.placed.file re.repacked t))

@@ -4,12 +4,12 @@ use Rattle.lr_bits.specs.File.{File}
 use Rattle.lr_image.proofs.OneReading.{outcomes_are_one}
 use Rattle.lr_image.specs.Picture.{Picture}
 use Rattle.lr_image.specs.declared.fault.ImageFault.{ImageFault}
-use Rattle.lr_shelf_format.specs.Way.{Found, Sound, Bad, Gone, IsFound}
+use Rattle.lr_shelf_format.specs.Way.{EntryState, Sound, Bad, Gone, IsFound}
 use Rattle.lr_shelf_format.specs.declared.entry.Entry.{Entry}
 use Rattle.lr_shelf_format.specs.declared.stored.Stored.{Stored}
 use Rattle.lr_shelf_format.proofs.WayLemmas.{found_once}
 use Rattle.lr_commands.specs.declared.opened.Opened.{Opened}
-use Rattle.lr_commands.specs.Asked.{Seen, Whole, Wrong, Absent, IsLooked, IsSeen}
+use Rattle.lr_commands.specs.Queries.{EntryView, Whole, Wrong, Absent, IsLooked, IsSeen}
 
 -- one image, or one first fault
 looked_once : (looks : Bool) (file : File) (one other : Option (Result Picture ImageFault)) → IsLooked looks file one
@@ -36,24 +36,24 @@ module _ (looks : Stored → Bool) (bytes : List ℕ) (entry : Entry) where
       (subst (λ (s : Stored). IsLooked (looks s) s.file one.image) stored is) is')
 
   -- what was found there, of what is seen
-  abbrev found_in : Option Seen → Option Found
+  abbrev found_in : Option EntryView → Option EntryState
   found_in None = None
   found_in (Some (Whole opened)) = Some (Sound opened.stored)
   found_in (Some (Wrong stored computed)) = Some (Bad stored computed)
   found_in (Some Absent) = Some Gone
 
-  is_found : (seen : Option Seen) → IsSeen looks bytes entry seen → IsFound bytes entry (found_in seen)
+  is_found : (seen : Option EntryView) → IsSeen looks bytes entry seen → IsFound bytes entry (found_in seen)
   is_found None is = is
   is_found (Some (Whole opened)) is = is.0
   is_found (Some (Wrong stored computed)) is = is
   is_found (Some Absent) is = is
 
-  found_same : (one other : Option Seen) → IsSeen looks bytes entry one → IsSeen looks bytes entry other
+  found_same : (one other : Option EntryView) → IsSeen looks bytes entry one → IsSeen looks bytes entry other
       → found_in one ≡ found_in other
   found_same one other is is' =
       found_once bytes entry (found_in one) (found_in other) (is_found one is) (is_found other is')
 
-  once : (one other : Option Seen) → found_in one ≡ found_in other → IsSeen looks bytes entry one
+  once : (one other : Option EntryView) → found_in one ≡ found_in other → IsSeen looks bytes entry one
       → IsSeen looks bytes entry other → one ≡ other
   once None None same is is' = refl
   once None (Some (Whole b)) same is is' = cc (same)
@@ -76,7 +76,7 @@ module _ (looks : Stored → Bool) (bytes : List ℕ) (entry : Entry) where
   once (Some Absent) (Some Absent) same is is' = refl
 
 -- one thing is seen
-pub seen_once : (looks : Stored → Bool) (bytes : List ℕ) (entry : Entry) (one other : Option Seen)
+pub seen_once : (looks : Stored → Bool) (bytes : List ℕ) (entry : Entry) (one other : Option EntryView)
     → IsSeen looks bytes entry one → IsSeen looks bytes entry other → one ≡ other
 seen_once looks bytes entry one other is is' =
     once looks bytes entry one other (found_same looks bytes entry one other is is') is is'

@@ -42,11 +42,11 @@ use Rattle.lr_causes.specs.declared.cause.Cause.{Cause}
 use Rattle.lr_causes.specs.declared.cause.Cause.TheVariants.{Done, DoneWith, Usage, Failed, NoMemory, Refused}
 use Rattle.lr_causes.specs.declared.note.Note.{Note}
 use Rattle.lr_commands.specs.declared.range.Range.{Range}
-use Rattle.lr_commands.specs.Asked.{
-  Asked,
+use Rattle.lr_commands.specs.Queries.{
+  Query,
   Answer,
   IsSeen,
-  Seen,
+  EntryView,
   done_answer,
   refused_answer,
   entry_at,
@@ -58,7 +58,7 @@ use Rattle.lr_commands.specs.Asked.{
   AnswersOn,
   BegunBy,
 }
-use Rattle.lr_causes.specs.Causes.{Counts, done_with}
+use Rattle.lr_causes.specs.Causes.{FaultCounts, done_with}
 use Rattle.lr_causes.specs.Outside.{outlet_counts, outlets, outlets_of}
 use Rattle.lr_commands.specs.Runs.{Counted, Got, IsDoneWith, PutsAll, PutsFirst, PutsRefused, PutsCut, RunsOn, by_count}
 use Rattle.lr_commands.specs.Steps.{PutsText, CutsText, TextStops, TakesEntry, EntryStops}
@@ -82,9 +82,10 @@ use Rattle.lr_commands.proofs.Texts.{
   text_told,
 }
 
-module _ {D O : Type 0} (disk : DiskOf D) (out : SinkOf O) (asked : Asked) (way : Way) (range : Range) (d : D)
+module _ {D O : Type 0} (disk : DiskOf D) (out : SinkOf O) (query : Query) (way : Way) (range : Range) (d : D)
     (o : O) where
-  pub so_first : (gathers : List Seen → Type 0) → gathers [] → SoFar disk out asked way range d o gathers range.from o
+  pub so_first : (gathers : List EntryView → Type 0) → gathers []
+      → SoFar disk out query way range d o gathers range.from o
   so_first gathers fresh = record {
     read = [];
     text = [];
@@ -93,37 +94,37 @@ module _ {D O : Type 0} (disk : DiskOf D) (out : SinkOf O) (asked : Asked) (way 
     after = omega arith;
     puts = record { told = λ t. t; put = λ t. sym (append-nil (out.contents o)); kept = refl };
     untouched = λ same. refl;
-    reaches = λ t. reaches_first asked (disk.contents d) way range.from;
+    reaches = λ t. reaches_first query (disk.contents d) way range.from;
     texts = [];
     joined = refl;
     all = omega arith;
-    seen = λ t. none_seen asked (disk.contents d) way range.from;
+    seen = none_seen disk d query way range.from;
   }
 
-  module _ (gathers : List Seen → Type 0) (number : ℕ) (o1 o2 : O)
-      (so : SoFar disk out asked way range d o gathers number o1) where
-    module _ (t : disk.tells d) (allowed : asked.range (length way.entries) ≡ Some range) where
-      abbrev IsOne : Answer → Type 0
-      IsOne = AnswersOn asked (disk.contents d) way
+  module _ (gathers : List EntryView → Type 0) (number : ℕ) (o1 o2 : O)
+      (so : SoFar disk out query way range d o gathers number o1) where
+    module _ (t : disk.tells d) (allowed : query.range (length way.entries) ≡ Some range) where
+      abbrev MayAnswer : Answer → Type 0
+      MayAnswer = AnswersOn query (disk.contents d) way
 
-      abbrev IsFirst : (passed left : ℕ) → List ℕ → Type 0
-      IsFirst = BegunBy asked (disk.contents d) way
+      abbrev MayBegin : (passed left : ℕ) → List ℕ → Type 0
+      MayBegin = BegunBy query (disk.contents d) way
 
       pub onto : (answer : Answer)
-          → AnswersFrom asked (disk.contents d) way (range.to - range.from) range.from [] answer → IsOne answer
-      onto answer is = subst (λ (r : Option Range). AnswersIn asked (disk.contents d) way r answer) (sym allowed) is
+          → AnswersFrom query (disk.contents d) way (range.to - range.from) range.from [] answer → MayAnswer answer
+      onto answer is = subst (λ (r : Option Range). AnswersIn query (disk.contents d) way r answer) (sym allowed) is
 
       -- the texts so far
-      pub begun_so : (left : ℕ) → number + left ≤ range.to → IsFirst (number - range.from) left so.text
+      pub begun_so : (left : ℕ) → number + left ≤ range.to → MayBegin (number - range.from) left so.text
       begun_so left inside = inr (record {
         range = range;
         allowed = allowed;
         inside = omega (arith, so.after, inside);
-        texts = begun_before asked (disk.contents d) way range.from number so.read so.text (so.reaches t);
+        texts = begun_before query (disk.contents d) way range.from number so.read so.text (so.reaches t);
       })
 
       -- nothing was put after them
-      pub first_put : (left : ℕ) → number + left ≤ range.to → o2 ≡ o1 → PutsFirst out IsOne IsFirst left o o2
+      pub first_put : (left : ℕ) → number + left ≤ range.to → o2 ≡ o1 → PutsFirst out MayAnswer MayBegin left o o2
       first_put left inside still = record {
         passed = number - range.from;
         text = so.text;
@@ -133,9 +134,9 @@ module _ {D O : Type 0} (disk : DiskOf D) (out : SinkOf O) (asked : Asked) (way 
       }
 
       pub refused_put : (refusal : Refusal) → number ≤ range.to → o2 ≡ o1
-          → AnswersFrom asked (disk.contents d) way (range.to - range.from) range.from []
+          → AnswersFrom query (disk.contents d) way (range.to - range.from) range.from []
           (refused_answer so.text refusal)
-          → PutsRefused out IsOne IsFirst refusal o o2
+          → PutsRefused out MayAnswer MayBegin refusal o o2
       unfolding first_put
       refused_put refusal inside still is = record {
         first = first_put 0 (omega (arith, inside)) still;
@@ -145,15 +146,15 @@ module _ {D O : Type 0} (disk : DiskOf D) (out : SinkOf O) (asked : Asked) (way 
     -- one entry more, or the one at which it ends
     module _ (more : number < range.to) (d1 : D) (told : disk.tells d → disk.tells d1)
         (same : disk.tells d → disk.contents d1 ≡ disk.contents d) where
-      at_start : (seen : Option Seen)
-          → (disk.tells d1 → IsSeen asked.looks (disk.contents d1) (entry_at way number) seen) → disk.tells d
-          → IsSeen asked.looks (disk.contents d) (entry_at way number) seen
+      at_start : (seen : Option EntryView)
+          → (disk.tells d1 → IsSeen query.looks (disk.contents d1) (entry_at way number) seen) → disk.tells d
+          → IsSeen query.looks (disk.contents d) (entry_at way number) seen
       at_start seen stands t =
-          subst (λ (b : List ℕ). IsSeen asked.looks b (entry_at way number) seen) (same t) (stands (told t))
+          subst (λ (b : List ℕ). IsSeen query.looks b (entry_at way number) seen) (same t) (stands (told t))
 
-      pub so_more : (gathers' : List Seen → Type 0) (d2 : D)
-          → TakesEntry (outlets_of disk out) asked way so.read number gathers' (outlets d1 o1) (outlets d2 o2)
-          → SoFar disk out asked way range d o gathers' (number + 1) o2
+      pub so_more : (gathers' : List EntryView → Type 0) (d2 : D)
+          → TakesEntry (outlets_of disk out) query way so.read number gathers' (outlets d1 o1) (outlets d2 o2)
+          → SoFar disk out query way range d o gathers' (number + 1) o2
       so_more gathers' d2 takes = record {
         read = so.read ++ takes.seen ∷ [];
         text = so.text ++ takes.puts.text;
@@ -169,28 +170,27 @@ module _ {D O : Type 0} (disk : DiskOf D) (out : SinkOf O) (asked : Asked) (way 
         };
         untouched = λ none. absurd (omega (arith, so.after, none));
         reaches = λ t.
-            reaches_more asked (disk.contents d) way range.from number so.read so.text (so.reaches t) takes.seen
+            reaches_more query (disk.contents d) way range.from number so.read so.text (so.reaches t) takes.seen
             (at_start (Some takes.seen) takes.stands t) takes.puts.text takes.puts.is;
         texts = so.texts ++ takes.puts.text ∷ [];
         joined =
             ap (λ (l : List ℕ). l ++ takes.puts.text) so.joined
             ∙ sym (concat-push so.texts takes.puts.text);
         all = omega (arith, so.all, so.after, length-append so.read (takes.seen ∷ []));
-        seen = λ t.
+        seen =
             let here : number ≡ range.from + length so.read = omega (arith, so.all, so.after) in
-            one_more_seen asked (disk.contents d) way range.from so.read so.texts (so.seen t) takes.seen
-            takes.puts.text
-            (subst (λ n. IsSeen asked.looks (disk.contents d) (entry_at way n) (Some takes.seen)) here
+            one_more_seen disk d query way range.from so.read so.texts so.seen takes.seen takes.puts.text
+            (λ t. subst (λ n. IsSeen query.looks (disk.contents d) (entry_at way n) (Some takes.seen)) here
             (at_start (Some takes.seen) takes.stands t))
-            (subst (λ n. asked.becomes so.read n takes.seen ≡ Ok takes.puts.text) here takes.puts.is);
+            (subst (λ n. query.entry_text so.read n takes.seen ≡ Ok takes.puts.text) here takes.puts.is);
       }
 
-      module _ (allowed : asked.range (length way.entries) ≡ Some range) (t : disk.tells d) where
+      module _ (allowed : query.range (length way.entries) ≡ Some range) (t : disk.tells d) where
         -- `out` failed in the text of the entry
-        cut_here : (seen : Option Seen)
-            → (disk.tells d1 → IsSeen asked.looks (disk.contents d1) (entry_at way number) seen)
-            → CutsText out (fate_of asked way so.read number seen) o1 o2
-            → PutsCut out (IsOne t allowed) (IsFirst t allowed) o o2
+        cut_here : (seen : Option EntryView)
+            → (disk.tells d1 → IsSeen query.looks (disk.contents d1) (entry_at way number) seen)
+            → CutsText out (fate_of query way so.read number seen) o1 o2
+            → PutsCut out (MayAnswer t allowed) (MayBegin t allowed) o o2
         cut_here None stands cuts = absurd (no_text cuts.is) where
           no_text : {e : Refusal} → ◌≡◌ {A = Result (List ℕ) Refusal} (Err e) (Ok cuts.text) → ⊥
           no_text same = cc (same)
@@ -206,11 +206,11 @@ module _ {D O : Type 0} (disk : DiskOf D) (out : SinkOf O) (asked : Asked) (way 
             texts =
                 let passed : number + 1 - range.from ≡ number - range.from + 1 = omega (arith, so.after) in
                 subst
-                (λ n. AnswersFrom (record asked { last = λ w r. Ok []; tells = λ r. None }) (disk.contents d) way n
+                (λ n. AnswersFrom (record query { last = λ w r. Ok []; tells = λ r. None }) (disk.contents d) way n
                 range.from [] (done_answer (so.text ++ cuts.text) None)) passed
-                (begun_before asked (disk.contents d) way range.from (number + 1) (so.read ++ seen ∷ [])
+                (begun_before query (disk.contents d) way range.from (number + 1) (so.read ++ seen ∷ [])
                 (so.text ++ cuts.text)
-                (reaches_more asked (disk.contents d) way range.from number so.read so.text (so.reaches t) seen
+                (reaches_more query (disk.contents d) way range.from number so.read so.text (so.reaches t) seen
                 (at_start (Some seen) stands t) cuts.text cuts.is));
           }));
           some = cuts.some;
@@ -220,8 +220,8 @@ module _ {D O : Type 0} (disk : DiskOf D) (out : SinkOf O) (asked : Asked) (way 
         }
 
         pub entry_got : (d2 : D) (cause : Cause)
-            → EntryStops (outlets_of disk out) asked way so.read number cause (outlets d1 o1) (outlets d2 o2)
-            → Got out (IsOne t allowed) (IsFirst t allowed) cause o o2
+            → EntryStops (outlets_of disk out) query way so.read number cause (outlets d1 o1) (outlets d2 o2)
+            → Got out (MayAnswer t allowed) (MayBegin t allowed) cause o o2
         entry_got d2 Done stops = absurd stops.stops
         entry_got d2 (DoneWith note) stops = absurd stops.stops
         entry_got d2 Usage stops = absurd stops.stops
@@ -231,32 +231,32 @@ module _ {D O : Type 0} (disk : DiskOf D) (out : SinkOf O) (asked : Asked) (way 
         entry_got d2 NoMemory stops = first_put t allowed 0 (omega (arith, more)) stops
         entry_got d2 (Refused refusal) stops =
             refused_put t allowed refusal (omega (arith, more)) stops.stops.1
-            (refused_here asked (disk.contents d) way range.from number so.read so.text (so.reaches t) range.to more
+            (refused_here query (disk.contents d) way range.from number so.read so.text (so.reaches t) range.to more
             stops.seen refusal (at_start stops.seen stops.stands t) stops.stops.0)
 
     -- after the last entry
     module _ (inside : number ≤ range.to) (all : range.to ≤ number)
-        (allowed : asked.range (length way.entries) ≡ Some range) (t : disk.tells d) where
-      last_from : (last : Result (List ℕ) Refusal) → asked.last way so.read ≡ last
-          → AnswersFrom asked (disk.contents d) way (range.to - range.from) range.from []
-          (then_rest so.text (answer_of last (asked.tells so.read)))
+        (allowed : query.range (length way.entries) ≡ Some range) (t : disk.tells d) where
+      last_from : (last : Result (List ℕ) Refusal) → query.last way so.read ≡ last
+          → AnswersFrom query (disk.contents d) way (range.to - range.from) range.from []
+          (then_rest so.text (answer_of last (query.tells so.read)))
       last_from last is =
-          ends_here asked (disk.contents d) way range.from number so.read so.text (so.reaches t) range.to inside all
+          ends_here query (disk.contents d) way range.from number so.read so.text (so.reaches t) range.to inside all
           last is
 
-      pub last_put : PutsText out (asked.last way so.read) o1 o2
-          → PutsAll out (IsOne t allowed) (IsFirst t allowed) (asked.tells so.read) o o2
+      pub last_put : PutsText out (query.last way so.read) o1 o2
+          → PutsAll out (MayAnswer t allowed) (MayBegin t allowed) (query.tells so.read) o o2
       last_put puts = record {
         text = so.text ++ puts.text;
-        is = onto t allowed (then_rest so.text (answer_of (Ok puts.text) (asked.tells so.read)))
+        is = onto t allowed (then_rest so.text (answer_of (Ok puts.text) (query.tells so.read)))
             (last_from (Ok puts.text) puts.is);
         put = λ told_out.
             puts.puts.put (so.puts.told told_out) ∙ ap (λ (l : List ℕ). l ++ puts.text) (so.puts.put told_out)
             ∙ append_assoc (out.contents o) so.text puts.text;
       }
 
-      pub last_got : (cause : Cause) → TextStops out (asked.last way so.read) cause o1 o2
-          → Got out (IsOne t allowed) (IsFirst t allowed) cause o o2
+      pub last_got : (cause : Cause) → TextStops out (query.last way so.read) cause o1 o2
+          → Got out (MayAnswer t allowed) (MayBegin t allowed) cause o o2
       last_got Done stops = absurd stops
       last_got (DoneWith note) stops = absurd stops
       last_got Usage stops = absurd stops
@@ -269,8 +269,8 @@ module _ {D O : Type 0} (disk : DiskOf D) (out : SinkOf O) (asked : Asked) (way 
         begun = begun_so t allowed 0 (omega (arith, inside));
         next =
             inr (
-              asked.tells so.read,
-              onto t allowed (then_rest so.text (answer_of (Ok stops.text) (asked.tells so.read)))
+              query.tells so.read,
+              onto t allowed (then_rest so.text (answer_of (Ok stops.text) (query.tells so.read)))
                   (last_from (Ok stops.text) stops.is),
             );
         some = stops.some;
@@ -282,17 +282,17 @@ module _ {D O : Type 0} (disk : DiskOf D) (out : SinkOf O) (asked : Asked) (way 
       last_got (Refused refusal) stops =
           refused_put t allowed refusal inside stops.1
           (subst
-          (λ (l : List ℕ). AnswersFrom asked (disk.contents d) way (range.to - range.from) range.from []
+          (λ (l : List ℕ). AnswersFrom query (disk.contents d) way (range.to - range.from) range.from []
           (refused_answer l refusal)) (append-nil so.text) (last_from (Err refusal) stops.0))
 
 -- ---- the ways out
 
-module _ {D O : Type 0} (disk : DiskOf D) (out : SinkOf O) (asked : Asked) (way : Way) (d : D) (o : O) where
+module _ {D O : Type 0} (disk : DiskOf D) (out : SinkOf O) (query : Query) (way : Way) (d : D) (o : O) where
   -- a number isn't allowed
   pub not_allowed :
       ((x : D) (c : List ℕ) → disk.tells x → disk.left_since x (disk.moment x) c → disk.may_leave x c)
-      → (count : ℕ) → count ≡ length way.entries → asked.range count ≡ None
-      → RunsOn (outlets_of disk out) asked way (Refused (NoSuchFile count)) (outlets d o) (outlets d o)
+      → (count : ℕ) → count ≡ length way.entries → query.range count ≡ None
+      → RunsOn (outlets_of disk out) query way (Refused (NoSuchFile count)) (outlets d o) (outlets d o)
   not_allowed only_now count count_is none = record {
     may = by_count count none refl;
     counted = refl;
@@ -309,17 +309,17 @@ module _ {D O : Type 0} (disk : DiskOf D) (out : SinkOf O) (asked : Asked) (way 
       };
       is =
           subst
-          (λ (r : Option Range). AnswersIn asked (disk.contents d) way r
+          (λ (r : Option Range). AnswersIn query (disk.contents d) way r
           (refused_answer [] (NoSuchFile count)))
-          (sym (ap asked.range (sym count_is) ∙ none))
+          (sym (ap query.range (sym count_is) ∙ none))
           (ap (λ (n : ℕ). refused_answer [] (NoSuchFile n)) count_is);
     };
     untouched = λ one cuts. refl;
   }
 
-  module _ (range : Range) (allowed : asked.range (length way.entries) ≡ Some range)
-      (gathers : List Seen → Type 0) (number : ℕ) (d1 : D) (o1 o2 : O)
-      (so : SoFar disk out asked way range d o gathers number o1) (told : disk.tells d → disk.tells d1)
+  module _ (range : Range) (allowed : query.range (length way.entries) ≡ Some range)
+      (gathers : List EntryView → Type 0) (number : ℕ) (d1 : D) (o1 o2 : O)
+      (so : SoFar disk out query way range d o gathers number o1) (told : disk.tells d → disk.tells d1)
       (reads : disk.tells d → IsUnwritten disk d d1) (count : disk.faults d1 ≡ disk.faults d) where
     same_here : outlet_counts (outlets_of disk out) (outlets d1 o1) ≡ outlet_counts (outlets_of disk out) (outlets d o)
     same_here = same_counts disk out d d1 o o1 count so.puts.kept
@@ -327,48 +327,48 @@ module _ {D O : Type 0} (disk : DiskOf D) (out : SinkOf O) (asked : Asked) (way 
     -- an entry was not taken
     pub entry_stopped : (d2 : D) → number < range.to → (disk.tells d1 → disk.tells d2)
         → (disk.tells d1 → IsUnwritten disk d1 d2) → (cause : Cause)
-        → EntryStops (outlets_of disk out) asked way so.read number cause (outlets d1 o1) (outlets d2 o2)
+        → EntryStops (outlets_of disk out) query way so.read number cause (outlets d1 o1) (outlets d2 o2)
         → Counted cause (outlet_counts (outlets_of disk out) (outlets d1 o1))
         (outlet_counts (outlets_of disk out) (outlets d2 o2))
-        → RunsOn (outlets_of disk out) asked way cause (outlets d o) (outlets d2 o2)
+        → RunsOn (outlets_of disk out) query way cause (outlets d o) (outlets d2 o2)
     entry_stopped d2 more told2 unwritten cause stops counted = record {
-      may = entry_may disk out asked way so.read number d1 d2 o1 o2 cause stops;
+      may = entry_may disk out query way so.read number d1 d2 o1 o2 cause stops;
       counted =
-          subst (λ (c : Counts). Counted cause c (outlet_counts (outlets_of disk out) (outlets d2 o2))) same_here
+          subst (λ (c : FaultCounts). Counted cause c (outlet_counts (outlets_of disk out) (outlets d2 o2))) same_here
           counted;
       told = λ t. told2 (told t);
       told_by_out = λ t.
-          entry_told disk out asked way so.read number d1 d2 o1 o2 cause stops (so.puts.told t);
+          entry_told disk out query way so.read number d1 d2 o1 o2 cause stops (so.puts.told t);
       reads = λ t. unwritten_joined disk d d1 d2 (reads t) (unwritten (told t));
       got = λ t.
-          entry_got disk out asked way range d o gathers number o1 o2 so more d1 told (λ t'. (reads t').contents)
+          entry_got disk out query way range d o gathers number o1 o2 so more d1 told (λ t'. (reads t').contents)
           allowed t d2 cause stops;
       untouched = λ one cuts.
-          entry_untouched disk out asked way so.read number d1 d2 o1 o2 cause stops cuts
+          entry_untouched disk out query way so.read number d1 d2 o1 o2 cause stops cuts
           ∙ so.untouched (omega (arith, so.after, more, one.one (length way.entries) range allowed));
     }
 
     -- the last text was put, and this is told beside it
     module _ (inside : number ≤ range.to) (all : range.to ≤ number)
-        (puts : PutsText out (asked.last way so.read) o1 o2) where
+        (puts : PutsText out (query.last way so.read) o1 o2) where
       counts_stay : outlet_counts (outlets_of disk out) (outlets d1 o2)
           ≡ outlet_counts (outlets_of disk out) (outlets d o)
       counts_stay = same_counts disk out d d1 o o2 count (puts.puts.kept ∙ so.puts.kept)
 
-      put_so : (t : disk.tells d) → (noted : Option Note) → noted ≡ asked.tells so.read
-          → PutsAll out (AnswersOn asked (disk.contents d) way) (BegunBy asked (disk.contents d) way) noted o o2
+      put_so : (t : disk.tells d) → (noted : Option Note) → noted ≡ query.tells so.read
+          → PutsAll out (AnswersOn query (disk.contents d) way) (BegunBy query (disk.contents d) way) noted o o2
       put_so t noted is =
           subst
-          (λ (n : Option Note). PutsAll out (AnswersOn asked (disk.contents d) way)
-          (BegunBy asked (disk.contents d) way) n o o2) (sym is)
-          (last_put disk out asked way range d o gathers number o1 o2 so inside all allowed t puts)
+          (λ (n : Option Note). PutsAll out (AnswersOn query (disk.contents d) way)
+          (BegunBy query (disk.contents d) way) n o o2) (sym is)
+          (last_put disk out query way range d o gathers number o1 o2 so inside all allowed t puts)
 
-      done_with_so : (told_note : Option Note) → told_note ≡ asked.tells so.read → IsDoneWith asked told_note
+      done_with_so : (told_note : Option Note) → told_note ≡ query.tells so.read → IsDoneWith query told_note
       done_with_so told_note is =
           record { way = way; read = so.read; text = puts.text; last = puts.is; tells = sym is }
 
-      pub last_taken : (note : Option Note) → note ≡ asked.tells so.read
-          → RunsOn (outlets_of disk out) asked way (done_with note) (outlets d o) (outlets d1 o2)
+      pub last_taken : (note : Option Note) → note ≡ query.tells so.read
+          → RunsOn (outlets_of disk out) query way (done_with note) (outlets d o) (outlets d1 o2)
       last_taken None is = record {
         may = done_with_so None is;
         counted = counts_stay;
@@ -389,10 +389,10 @@ module _ {D O : Type 0} (disk : DiskOf D) (out : SinkOf O) (asked : Asked) (way 
       }
 
       -- what all entries gave
-      pub gathered_all : {G : Type 0} (gather : G → List Seen → Type 0) (value : G) → gather value so.read
-          → disk.tells d → out.tells o → (put : List ℕ) × (out.contents o2 ≡ out.contents o ++ put)
-          × HasGathered asked gather (disk.contents d) way put
-      gathered_all gather value knows t told_out = (
+      pub gathered_all : {G : Type 0} (gather : G → List EntryView → Type 0) (value : G) → gather value so.read
+          → out.tells o → (put : List ℕ) × (out.contents o2 ≡ out.contents o ++ put)
+          × HasGathered disk d query gather way put
+      gathered_all gather value knows told_out = (
         so.text ++ puts.text,
         puts.puts.put (so.puts.told told_out) ∙ ap (λ (l : List ℕ). l ++ puts.text) (so.puts.put told_out)
             ∙ append_assoc (out.contents o) so.text puts.text,
@@ -401,7 +401,7 @@ module _ {D O : Type 0} (disk : DiskOf D) (out : SinkOf O) (asked : Asked) (way 
           allowed = allowed;
           read = so.read;
           texts = so.texts;
-          are = so.seen t;
+          are = so.seen;
           all = omega (arith, so.all, inside, all);
           gathered = value;
           knows = knows;
@@ -413,16 +413,17 @@ module _ {D O : Type 0} (disk : DiskOf D) (out : SinkOf O) (asked : Asked) (way 
 
     -- or it was not
     pub last_stopped : number ≤ range.to → range.to ≤ number → (cause : Cause)
-        → TextStops out (asked.last way so.read) cause o1 o2 → (asked.last way so.read ≡ Ok [] → ⊥)
-        → RunsOn (outlets_of disk out) asked way cause (outlets d o) (outlets d1 o2)
+        → TextStops out (query.last way so.read) cause o1 o2 → (query.last way so.read ≡ Ok [] → ⊥)
+        → RunsOn (outlets_of disk out) query way cause (outlets d o) (outlets d1 o2)
     last_stopped inside all cause stops some = record {
-      may = last_may disk out asked way so.read o1 o2 cause stops;
-      counted = subst (λ (c : Counts). Counted cause c (outlet_counts (outlets_of disk out) (outlets d1 o2))) same_here
-          (text_counted disk out (asked.last way so.read) d1 d1 o1 o2 refl cause stops);
+      may = last_may disk out query way so.read o1 o2 cause stops;
+      counted = subst (λ (c : FaultCounts). Counted cause c (outlet_counts (outlets_of disk out) (outlets d1 o2)))
+          same_here
+          (text_counted disk out (query.last way so.read) d1 d1 o1 o2 refl cause stops);
       told = told;
-      told_by_out = λ t. text_told disk out (asked.last way so.read) o1 o2 cause stops (so.puts.told t);
+      told_by_out = λ t. text_told disk out (query.last way so.read) o1 o2 cause stops (so.puts.told t);
       reads = reads;
-      got = λ t. last_got disk out asked way range d o gathers number o1 o2 so inside all allowed t cause stops;
+      got = λ t. last_got disk out query way range d o gathers number o1 o2 so inside all allowed t cause stops;
       untouched = λ one cuts. absurd (some (one.nothing_last way so.read));
     }
 
@@ -438,11 +439,12 @@ module _ {D O : Type 0} (disk : DiskOf D) (out : SinkOf O) where
   text_undone fate o o' NoMemory stops done = done
   text_undone fate o o' (Refused refusal) stops done = done
 
-  pub entry_undone : (asked : Asked) (way : Way) (read : List Seen) (number : ℕ) (d d' : D) (o o' : O) (cause : Cause)
-      → EntryStops (outlets_of disk out) asked way read number cause (outlets d o) (outlets d' o') → IsDone cause → ⊥
-  entry_undone asked way read number d d' o o' Done stops done = stops.stops
-  entry_undone asked way read number d d' o o' (DoneWith note) stops done = stops.stops
-  entry_undone asked way read number d d' o o' Usage stops done = done
-  entry_undone asked way read number d d' o o' (Failed party) stops done = done
-  entry_undone asked way read number d d' o o' NoMemory stops done = done
-  entry_undone asked way read number d d' o o' (Refused refusal) stops done = done
+  pub entry_undone : (query : Query) (way : Way) (read : List EntryView) (number : ℕ) (d d' : D) (o o' : O)
+      (cause : Cause)
+      → EntryStops (outlets_of disk out) query way read number cause (outlets d o) (outlets d' o') → IsDone cause → ⊥
+  entry_undone query way read number d d' o o' Done stops done = stops.stops
+  entry_undone query way read number d d' o o' (DoneWith note) stops done = stops.stops
+  entry_undone query way read number d d' o o' Usage stops done = done
+  entry_undone query way read number d d' o o' (Failed party) stops done = done
+  entry_undone query way read number d d' o o' NoMemory stops done = done
+  entry_undone query way read number d d' o o' (Refused refusal) stops done = done

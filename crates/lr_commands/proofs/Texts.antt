@@ -10,7 +10,7 @@ use Rattle.lr_causes.specs.declared.cause.Refusal.{Refusal}
 use Rattle.lr_causes.specs.declared.cause.Refusal.TheVariants.{NotAShelf}
 use Rattle.lr_causes.specs.declared.cause.Cause.{Cause}
 use Rattle.lr_causes.specs.declared.cause.Cause.TheVariants.{Done, DoneWith, Usage, Failed, NoMemory, Refused}
-use Rattle.lr_commands.specs.Asked.{Asked, IsSeen, Seen, entry_at, fate_of}
+use Rattle.lr_commands.specs.Queries.{Query, IsSeen, EntryView, entry_at, fate_of}
 use Rattle.lr_commands.proofs.Answering.{err_is}
 use Rattle.lr_commands.specs.Runs.{Counted, CutsNothing, MayCause, MayRefuse, at_place, at_entry, at_end}
 use Rattle.lr_commands.specs.Steps.{TextStops, EntryStops}
@@ -76,28 +76,28 @@ module _ {D O : Type 0} (disk : DiskOf D) (out : SinkOf O) where
   text_told fate o o' (Refused refusal) stops t = subst (λ (x : O). out.tells x) (sym stops.1) t
   text_told fate o o' _ stops t = absurd stops
 
-  pub last_may : (asked : Asked) (way : Way) (read : List Seen) (o o' : O) (cause : Cause)
-      → TextStops out (asked.last way read) cause o o' → MayCause asked cause
-  last_may asked way read o o' Done stops = absurd stops
-  last_may asked way read o o' (DoneWith note) stops = absurd stops
-  last_may asked way read o o' Usage stops = absurd stops
-  last_may asked way read o o' (Failed Source) stops = absurd stops
-  last_may asked way read o o' (Failed Disk) stops = absurd stops
-  last_may asked way read o o' (Failed Output) stops = tt
-  last_may asked way read o o' NoMemory stops = tt
-  last_may asked way read o o' (Refused refusal) stops = at_end way read stops.0
+  pub last_may : (query : Query) (way : Way) (read : List EntryView) (o o' : O) (cause : Cause)
+      → TextStops out (query.last way read) cause o o' → MayCause query cause
+  last_may query way read o o' Done stops = absurd stops
+  last_may query way read o o' (DoneWith note) stops = absurd stops
+  last_may query way read o o' Usage stops = absurd stops
+  last_may query way read o o' (Failed Source) stops = absurd stops
+  last_may query way read o o' (Failed Disk) stops = absurd stops
+  last_may query way read o o' (Failed Output) stops = tt
+  last_may query way read o o' NoMemory stops = tt
+  last_may query way read o o' (Refused refusal) stops = at_end way read stops.0
 
-  module _ (asked : Asked) (way : Way) (read : List Seen) (number : ℕ) (d d' : D) (o o' : O) where
-    entry_refused : (seen : Option Seen) (refusal : Refusal) → fate_of asked way read number seen ≡ Err refusal
-        → MayRefuse asked refusal
+  module _ (query : Query) (way : Way) (read : List EntryView) (number : ℕ) (d d' : D) (o o' : O) where
+    entry_refused : (seen : Option EntryView) (refusal : Refusal) → fate_of query way read number seen ≡ Err refusal
+        → MayRefuse query refusal
     entry_refused None refusal fate =
         at_place (entry_at way number).gate
-        (err_is (fate_of asked way read number None) refusal (NotAShelf (entry_at way number).gate) fate refl)
+        (err_is (fate_of query way read number None) refusal (NotAShelf (entry_at way number).gate) fate refl)
     entry_refused (Some seen) refusal fate = at_entry read number seen fate
 
     pub entry_may : (cause : Cause)
-        → EntryStops (outlets_of disk out) asked way read number cause (outlets d o) (outlets d' o')
-        → MayCause asked cause
+        → EntryStops (outlets_of disk out) query way read number cause (outlets d o) (outlets d' o')
+        → MayCause query cause
     entry_may Done stops = absurd stops.stops
     entry_may (DoneWith note) stops = absurd stops.stops
     entry_may Usage stops = absurd stops.stops
@@ -108,7 +108,7 @@ module _ {D O : Type 0} (disk : DiskOf D) (out : SinkOf O) where
     entry_may (Refused refusal) stops = entry_refused stops.seen refusal stops.stops.0
 
     pub entry_untouched : (cause : Cause)
-        → EntryStops (outlets_of disk out) asked way read number cause (outlets d o) (outlets d' o') → CutsNothing cause
+        → EntryStops (outlets_of disk out) query way read number cause (outlets d o) (outlets d' o') → CutsNothing cause
         → o' ≡ o
     entry_untouched Done stops cuts = absurd cuts
     entry_untouched (DoneWith note) stops cuts = absurd cuts
@@ -121,7 +121,7 @@ module _ {D O : Type 0} (disk : DiskOf D) (out : SinkOf O) where
 
     -- a sink still tells what it holds
     pub entry_told : (cause : Cause)
-        → EntryStops (outlets_of disk out) asked way read number cause (outlets d o) (outlets d' o') → out.tells o
+        → EntryStops (outlets_of disk out) query way read number cause (outlets d o) (outlets d' o') → out.tells o
         → out.tells o'
     entry_told (Failed Disk) stops t = subst (λ (x : O). out.tells x) (sym stops) t
     entry_told (Failed Output) stops t = stops.stops.fails.told t
@@ -133,10 +133,10 @@ module _ {D O : Type 0} (disk : DiskOf D) (out : SinkOf O) where
     entry_told (Failed Source) stops t = absurd stops.stops
 
     -- what stands there is known, and its text was not put
-    pub stops_seen : (seen : Option Seen)
-        → (disk.tells d → IsSeen asked.looks (disk.contents d) (entry_at way number) seen) → (cause : Cause)
-        → TextStops out (fate_of asked way read number seen) cause o o'
-        → EntryStops (outlets_of disk out) asked way read number cause (outlets d o) (outlets d' o')
+    pub stops_seen : (seen : Option EntryView)
+        → (disk.tells d → IsSeen query.looks (disk.contents d) (entry_at way number) seen) → (cause : Cause)
+        → TextStops out (fate_of query way read number seen) cause o o'
+        → EntryStops (outlets_of disk out) query way read number cause (outlets d o) (outlets d' o')
     stops_seen seen stands Done stops = absurd stops
     stops_seen seen stands (DoneWith note) stops = absurd stops
     stops_seen seen stands Usage stops = absurd stops

@@ -3,7 +3,7 @@ use Rattle.std.proofs.Common.{◌≡◌, ℕ, Bool, false, Some, None, Ok, List,
 use Rattle.lr_io.specs.declared.sink.Sink.{Ghosts as SinkOf}
 use Rattle.lr_disk.specs.declared.disk.Disk.{Ghosts as DiskOf}
 use Rattle.lr_shelf.specs.Asked.{entry_of}
-use Rattle.lr_shelf.specs.Kept.{Kept}
+use Rattle.lr_shelf.specs.Kept.{KeptShelf}
 use Rattle.lr_shelf.specs.Read.{FindsFile, IsCheckRefusal, IsGetRefusal}
 use Rattle.lr_shelf.specs.declared.error.ShelfError.{ShelfError}
 use Rattle.lr_shelf.specs.declared.error.ShelfError.TheVariants.{
@@ -22,31 +22,32 @@ use Rattle.lr_catalog.specs.Files.{check_line}
 use Rattle.lr_causes.specs.Outside.{outlets, outlets_of}
 use Rattle.lr_causes.specs.declared.cause.Cause.{Cause}
 use Rattle.lr_commands.specs.declared.opened.Opened.{Opened}
-use Rattle.lr_commands.specs.Asked.{Seen, Whole, Wrong, Absent, plain}
+use Rattle.lr_commands.specs.Queries.{EntryView, Whole, Wrong, Absent, plain}
 use Rattle.lr_commands.specs.Steps.{PutsText, TextStops, TakesEntry, EntryStops}
-use Rattle.lr_commands.specs.Verify.{none_bad, verify_asked}
+use Rattle.lr_commands.specs.Verify.{none_bad, verify_query}
 use Rattle.lr_commands.proofs.Texts.{stops_seen}
 
-pub none_bad-whole : (read : List Seen) (opened : Opened) → none_bad (read ++ Whole opened ∷ []) ≡ none_bad read
+pub none_bad-whole : (read : List EntryView) (opened : Opened) → none_bad (read ++ Whole opened ∷ []) ≡ none_bad read
 none_bad-whole [] opened = refl
 none_bad-whole (Whole first ∷ read) opened = none_bad-whole read opened
 none_bad-whole (Wrong s c ∷ read) opened = refl
 none_bad-whole (Absent ∷ read) opened = none_bad-whole read opened
 
-pub none_bad-absent : (read : List Seen) → none_bad (read ++ Absent ∷ []) ≡ none_bad read
+pub none_bad-absent : (read : List EntryView) → none_bad (read ++ Absent ∷ []) ≡ none_bad read
 none_bad-absent [] = refl
 none_bad-absent (Whole first ∷ read) = none_bad-absent read
 none_bad-absent (Wrong s c ∷ read) = refl
 none_bad-absent (Absent ∷ read) = none_bad-absent read
 
-pub none_bad-wrong : (read : List Seen) (stored computed : ℕ) → none_bad (read ++ Wrong stored computed ∷ []) ≡ false
+pub none_bad-wrong : (read : List EntryView) (stored computed : ℕ)
+    → none_bad (read ++ Wrong stored computed ∷ []) ≡ false
 none_bad-wrong [] stored computed = refl
 none_bad-wrong (Whole first ∷ read) stored computed = none_bad-wrong read stored computed
 none_bad-wrong (Wrong s c ∷ read) stored computed = refl
 none_bad-wrong (Absent ∷ read) stored computed = none_bad-wrong read stored computed
 
 -- `check` refuses what `get` does
-pub check_refusal : {D : Type 0} (disk : DiskOf D) (kept : Kept) (number : ℕ) (d : D) (error : ShelfError)
+pub check_refusal : {D : Type 0} (disk : DiskOf D) (kept : KeptShelf) (number : ℕ) (d : D) (error : ShelfError)
     → IsCheckRefusal disk kept number d error → IsGetRefusal disk kept number d error
 check_refusal disk kept number d Disk' refusal = refusal
 check_refusal disk kept number d (NotAShelf' at) refusal = refusal
@@ -58,15 +59,16 @@ check_refusal disk kept number d NoMemory' refusal = absurd refusal
 check_refusal disk kept number d Failed' refusal = refusal
 check_refusal disk kept number d Discarded' refusal = refusal
 
-module _ {D O : Type 0} (disk : DiskOf D) (out : SinkOf O) (kept : Kept) (read : List Seen) (number : ℕ) (d d' : D)
+module _ {D O : Type 0} (disk : DiskOf D) (out : SinkOf O) (kept : KeptShelf) (read : List EntryView) (number : ℕ)
+    (d d' : D)
     (o o' : O) where
   abbrev Takes : Bool → Type 0
   Takes sound =
-      TakesEntry (outlets_of disk out) verify_asked kept.way read number (λ read'. sound ≡ none_bad read')
+      TakesEntry (outlets_of disk out) verify_query kept.way read number (λ read'. sound ≡ none_bad read')
       (outlets d o) (outlets d' o')
 
   abbrev Stops : Cause → Type 0
-  Stops cause = EntryStops (outlets_of disk out) verify_asked kept.way read number cause (outlets d o) (outlets d' o')
+  Stops cause = EntryStops (outlets_of disk out) verify_query kept.way read number cause (outlets d o) (outlets d' o')
 
   module _ (right : FindsFile disk (entry_of kept number) d) where
     pub takes_right : (sound : Bool) → sound ≡ none_bad read → PutsText out (Ok (check_line number None)) o o'
@@ -80,7 +82,7 @@ module _ {D O : Type 0} (disk : DiskOf D) (out : SinkOf O) (kept : Kept) (read :
 
     pub stops_right : (cause : Cause) → TextStops out (Ok (check_line number None)) cause o o' → Stops cause
     stops_right =
-        stops_seen disk out verify_asked kept.way read number d d' o o' (Some (plain right.0)) (λ t. (right.1 t, tt))
+        stops_seen disk out verify_query kept.way read number d d' o o' (Some (plain right.0)) (λ t. (right.1 t, tt))
 
   module _ (stored computed : ℕ) (wrong : IsCheckRefusal disk kept number d (Crc' stored computed)) where
     pub takes_wrong : PutsText out (Ok (check_line number (Some (stored, computed)))) o o' → Takes false
@@ -94,7 +96,7 @@ module _ {D O : Type 0} (disk : DiskOf D) (out : SinkOf O) (kept : Kept) (read :
     pub stops_wrong : (cause : Cause) → TextStops out (Ok (check_line number (Some (stored, computed)))) cause o o'
         → Stops cause
     stops_wrong =
-        stops_seen disk out verify_asked kept.way read number d d' o o' (Some (Wrong stored computed)) wrong.1.1
+        stops_seen disk out verify_query kept.way read number d d' o o' (Some (Wrong stored computed)) wrong.1.1
 
   module _ (gone : IsCheckRefusal disk kept number d Discarded') where
     pub takes_gone : (sound : Bool) → sound ≡ none_bad read → PutsText out (Ok (gone_line number)) o o' → Takes sound
@@ -106,4 +108,4 @@ module _ {D O : Type 0} (disk : DiskOf D) (out : SinkOf O) (kept : Kept) (read :
     }
 
     pub stops_gone : (cause : Cause) → TextStops out (Ok (gone_line number)) cause o o' → Stops cause
-    stops_gone = stops_seen disk out verify_asked kept.way read number d d' o o' (Some Absent) (λ t. gone.2)
+    stops_gone = stops_seen disk out verify_query kept.way read number d d' o o' (Some Absent) (λ t. gone.2)

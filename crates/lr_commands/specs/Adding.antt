@@ -1,7 +1,6 @@
 -- Commands that add an item to a shelf: what they decide of its bytes, what is put once the item stands, and what
 -- becomes of the disk.
-use Rattle.std.specs.Prelude.{◌≡◌, ◌⊎◌, ◌+◌, ◌-◌, ◌<◌, ◌≤◌, ℕ, min, Result, Ok, Err, List, [], ◌∷◌, ◌++◌}
-use Rattle.std.specs.Prelude.{take, drop}
+use Rattle.std.specs.Prelude.{◌≡◌, ◌⊎◌, ◌+◌, ◌-◌, ◌<◌, ◌≤◌, ℕ, min, Result, Ok, Err, List, [], ◌∷◌, ◌++◌, take, drop}
 use Rattle.lr_bits.specs.Sizes.{most_u64}
 use Rattle.lr_disk.specs.Reads.{IsUnwritten}
 use Rattle.lr_disk.specs.Pending.{EachImageSince, NothingPending}
@@ -41,7 +40,7 @@ pub record IsFullFor (item : Item) (way : Way) (refusal : Refusal) : Type 0 wher
 -- ---- what is asked
 
 -- What a command asks that adds an item, the same over all disks.
-pub record AskedToAdd : Type 1 where
+pub record AdditionQuery : Type 1 where
   -- what it may add, over any disk
   pub makes : Addition → Type 0
   -- what it decides of bytes that have a way: an addition, or a refusal
@@ -51,19 +50,19 @@ pub record AskedToAdd : Type 1 where
 
 -- ---- what is decided
 
-module _ (asked : AskedToAdd) where
+module _ (query : AdditionQuery) where
   -- the bytes are of a shelf to which this is added
   pub record MayAdd (bytes : List ℕ) (addition : Addition) : Type 0 where
     pub way : Way
     pub is_way : IsWay bytes way
-    pub decided : asked.decides bytes way (Ok addition)
+    pub decided : query.decides bytes way (Ok addition)
     pub fits : Fits addition.item way
 
   -- a refusal over bytes of this way: it is decided, or there is no room for what is
   abbrev pub IsRefusedOnWay : List ℕ → Way → Refusal → Type 0
   IsRefusedOnWay bytes way refusal =
-      asked.decides bytes way (Err refusal)
-      ⊎ ((addition : Addition) × asked.decides bytes way (Ok addition) × IsFullFor addition.item way refusal)
+      query.decides bytes way (Err refusal)
+      ⊎ ((addition : Addition) × query.decides bytes way (Ok addition) × IsFullFor addition.item way refusal)
 
   -- a refusal over bytes: no shelf stands there, or it is one of their way
   abbrev pub IsAddingRefused : List ℕ → Refusal → Type 0
@@ -82,8 +81,9 @@ module _ (asked : AskedToAdd) where
   HasWayOrOneMore bytes way c =
       IsWay c way ⊎ ((addition : Addition) × MayAdd bytes addition × IsWay c (way_added addition.item way))
 
-  -- They are those of this way, or nothing of them changes before the last gate and after the end with the item that is
-  -- added; between the two stands the closed gate, or an open one, the item and a closed gate.
+  -- They are these bytes, or these with one item more: nothing of them changes before the last gate and after the end
+  -- with the item that is added, and between the two stands the closed gate, or an open one, the item and a closed
+  -- gate.
   abbrev pub AreSameOrOneMore : List ℕ → Way → List ℕ → Type 0
   AreSameOrOneMore bytes way c =
       (c ≡ bytes)
@@ -94,15 +94,15 @@ module _ (asked : AskedToAdd) where
 -- ---- causes
 
 -- the causes that it may have, over any disk
-abbrev pub MayEndAdding : AskedToAdd → Cause → Type 0
-MayEndAdding asked Done = Unit {0}
-MayEndAdding asked (Failed Disk) = Unit {0}
-MayEndAdding asked (Failed Output) = Unit {0}
-MayEndAdding asked NoMemory = Unit {0}
-MayEndAdding asked (Refused (NotAShelf at)) = Unit {0}
-MayEndAdding asked (Refused (Capacity needed capacity)) = Unit {0}
-MayEndAdding asked (Refused refusal) = asked.refuses refusal
-MayEndAdding asked _ = ⊥
+abbrev pub MayEndAdding : AdditionQuery → Cause → Type 0
+MayEndAdding query Done = Unit {0}
+MayEndAdding query (Failed Disk) = Unit {0}
+MayEndAdding query (Failed Output) = Unit {0}
+MayEndAdding query NoMemory = Unit {0}
+MayEndAdding query (Refused (NotAShelf at)) = Unit {0}
+MayEndAdding query (Refused (Capacity needed capacity)) = Unit {0}
+MayEndAdding query (Refused refusal) = query.refuses refusal
+MayEndAdding query _ = ⊥
 
 -- a cause that comes only where the item was added
 abbrev pub IsAdded : Cause → Type 0
@@ -112,7 +112,7 @@ IsAdded _ = ⊥
 
 -- ---- a run
 
-module _ {D O : Type 0} (world : OutletsOf D O) (asked : AskedToAdd) where
+module _ {D O : Type 0} (world : OutletsOf D O) (query : AdditionQuery) where
   -- Over a disk that has this way, whatever its items hold: it has the item at its end, with nothing pending. The bytes
   -- before the last gate and after the new end stay, and between them stand an open gate, the item and a closed gate.
   pub record EndsWith (item : Item) (way : Way) (d d' : D) : Type 0 where
@@ -130,8 +130,8 @@ module _ {D O : Type 0} (world : OutletsOf D O) (asked : AskedToAdd) where
   -- the item was added, and its text was put in this manner
   pub record AddsItem (IsPut : List ℕ → O → O → Type 0) (w w' : Outlets D O) : Type 0 where
     pub addition : Addition
-    pub made : asked.makes addition
-    pub decided : world.disk.tells w.disk → MayAdd asked (world.disk.contents w.disk) addition
+    pub made : query.makes addition
+    pub decided : world.disk.tells w.disk → MayAdd query (world.disk.contents w.disk) addition
     pub put : IsPut addition.text w.out w'.out
     -- over every disk that has a way, and over a shelf of these items
     pub way : (way : Way) → world.disk.tells w.disk → IsWay (world.disk.contents w.disk) way
@@ -143,8 +143,8 @@ module _ {D O : Type 0} (world : OutletsOf D O) (asked : AskedToAdd) where
   -- the disk failed while the item was added: it is there, or it isn't
   pub record MayHaveAdded (w w' : Outlets D O) : Type 0 where
     pub addition : Addition
-    pub made : asked.makes addition
-    pub decided : world.disk.tells w.disk → MayAdd asked (world.disk.contents w.disk) addition
+    pub made : query.makes addition
+    pub decided : world.disk.tells w.disk → MayAdd query (world.disk.contents w.disk) addition
     pub way : (way : Way) → world.disk.tells w.disk → IsWay (world.disk.contents w.disk) way
         → MayEndWith addition.item way w.disk w'.disk
     pub stands : (capacity : ℕ) (items : List Item) → world.disk.tells w.disk
@@ -167,7 +167,7 @@ module _ {D O : Type 0} (world : OutletsOf D O) (asked : AskedToAdd) where
   LeavesAdding _ w w' = ⊥
 
   pub record RunsAdding (cause : Cause) (w w' : Outlets D O) : Type 0 where
-    pub may : MayEndAdding asked cause
+    pub may : MayEndAdding query cause
     pub counted : Counted cause (outlet_counts world w) (outlet_counts world w')
     pub told : world.disk.tells w.disk → world.disk.tells w'.disk
     pub told_by_out : world.out.tells w.out → world.out.tells w'.out
@@ -175,21 +175,21 @@ module _ {D O : Type 0} (world : OutletsOf D O) (asked : AskedToAdd) where
     -- a refusal comes exactly where it stands, unless the disk failed or memory was refused; the item is added exactly
     -- where none stands
     pub refused : (refusal : Refusal) → cause ≡ Refused refusal → world.disk.tells w.disk
-        → IsAddingRefused asked (world.disk.contents w.disk) refusal
+        → IsAddingRefused query (world.disk.contents w.disk) refusal
     pub refuses : (refusal : Refusal) → world.disk.tells w.disk
-        → IsAddingRefused asked (world.disk.contents w.disk) refusal
+        → IsAddingRefused query (world.disk.contents w.disk) refusal
         → (cause ≡ Refused refusal) ⊎ IsEarlier cause
     pub adds : (addition : Addition) → world.disk.tells w.disk
-        → MayAdd asked (world.disk.contents w.disk) addition → IsAdded cause ⊎ IsEarlier cause
+        → MayAdd query (world.disk.contents w.disk) addition → IsAdded cause ⊎ IsEarlier cause
     -- with nothing pending, what a stop at any moment leaves: over every disk that has a way, as ways and as bytes, and
     -- over a shelf of these items
     pub way_any_moment : (way : Way) → world.disk.tells w.disk → IsWay (world.disk.contents w.disk) way
         → NothingPending world.disk w.disk
-        → EachImageSince world.disk w.disk w'.disk (HasWayOrOneMore asked (world.disk.contents w.disk) way)
+        → EachImageSince world.disk w.disk w'.disk (HasWayOrOneMore query (world.disk.contents w.disk) way)
     pub bytes_any_moment : (way : Way) → world.disk.tells w.disk → IsWay (world.disk.contents w.disk) way
         → NothingPending world.disk w.disk
-        → EachImageSince world.disk w.disk w'.disk (AreSameOrOneMore asked (world.disk.contents w.disk) way)
+        → EachImageSince world.disk w.disk w'.disk (AreSameOrOneMore query (world.disk.contents w.disk) way)
     pub any_moment : (capacity : ℕ) (items : List Item) → world.disk.tells w.disk
         → IsDurable world.disk capacity items w.disk
         → EachImageSince world.disk w.disk w'.disk
-        (StandsForOneMore asked (world.disk.contents w.disk) capacity items)
+        (StandsForOneMore query (world.disk.contents w.disk) capacity items)

@@ -18,9 +18,9 @@ use Rattle.lr_causes.specs.declared.fault.ExportFault.TheVariants.{NoSegment}
 use Rattle.lr_causes.specs.declared.note.Note.{Note}
 use Rattle.lr_causes.specs.declared.note.Note.TheVariants.{Assembled}
 use Rattle.lr_commands.specs.declared.opened.Opened.{Opened}
-use Rattle.lr_commands.specs.Asked.{Asked}
+use Rattle.lr_commands.specs.Queries.{Query}
 use Rattle.lr_refusals.specs.Errors.{assembly_fault}
-use Rattle.lr_commands.specs.Files.{AskedOfFiles, asked_of_files, entries_between, no_text, refused_for}
+use Rattle.lr_commands.specs.Files.{FileQuery, query_of_files, entries_between, no_text, refused_for}
 
 -- ---- the segments of an image
 
@@ -80,15 +80,15 @@ module _ (apid image : ℕ) where
   abbrev pub skipped_of : List Opened → ℕ
   skipped_of read = count_by (λ opened. is_without (segment_for_image apid image opened.stored.file) opened.image) read
 
-abbrev pub asked_of_assemble : (from to apid image : ℕ) → AskedOfFiles
-asked_of_assemble from to apid image = record {
+abbrev pub assemble_files_query : (from to apid image : ℕ) → FileQuery
+assemble_files_query from to apid image = record {
   range = entries_between from to;
   looks = λ stored. is_some (segment_for_image apid image stored.file);
-  becomes = λ read n opened. join_fate (members_of apid image read) (member_of apid image opened);
+  entry_text = λ read n opened. join_fate (members_of apid image read) (member_of apid image opened);
   gone = λ n. no_text;
   last = λ way read. whole_fate (members_of apid image read);
   tells = λ read. note_of (members_of apid image read) (skipped_of apid image read);
 }
 
-abbrev pub assemble_asked : (from to apid image : ℕ) → Asked
-assemble_asked from to apid image = asked_of_files (asked_of_assemble from to apid image)
+abbrev pub assemble_query : (from to apid image : ℕ) → Query
+assemble_query from to apid image = query_of_files (assemble_files_query from to apid image)

@@ -5,8 +5,8 @@ use Rattle.lr_shelf_format.specs.Way.{Way}
 use Rattle.lr_catalog.specs.Discards.{discard_line}
 use Rattle.lr_causes.specs.declared.cause.Refusal.{Refusal}
 use Rattle.lr_causes.specs.declared.cause.Refusal.TheVariants.{NoSuchFile, Discarded}
-use Rattle.lr_commands.specs.Adding.{Addition, AskedToAdd}
-use Rattle.lr_commands.specs.Asked.{entry_at}
+use Rattle.lr_commands.specs.Adding.{Addition, AdditionQuery}
+use Rattle.lr_commands.specs.Queries.{entry_at}
 
 -- the entry is there and isn't gone
 pub record MayGo (number : ℕ) (way : Way) : Type 0 where
@@ -30,8 +30,8 @@ RefusesDiscard number (NoSuchFile count) = count ≤ number
 RefusesDiscard number Discarded = Unit {0}
 RefusesDiscard number _ = ⊥
 
-abbrev pub discard_asked : ℕ → AskedToAdd
-discard_asked number = record {
+abbrev pub discard_query : ℕ → AdditionQuery
+discard_query number = record {
   makes = λ addition. addition ≡ discard_addition number;
   decides = DecidesDiscard number;
   refuses = RefusesDiscard number;

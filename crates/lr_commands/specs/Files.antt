@@ -10,37 +10,37 @@ use Rattle.lr_causes.specs.declared.fault.ExportFault.{ExportFault}
 use Rattle.lr_causes.specs.declared.note.Note.{Note}
 use Rattle.lr_commands.specs.declared.opened.Opened.{Opened}
 use Rattle.lr_commands.specs.declared.range.Range.{Range}
-use Rattle.lr_commands.specs.Asked.{Asked, Seen, Whole, Wrong, Absent}
+use Rattle.lr_commands.specs.Queries.{Query, EntryView, Whole, Wrong, Absent}
 
-pub record AskedOfFiles : Type 0 where
+pub record FileQuery : Type 0 where
   pub range : ℕ → Option Range
   pub looks : Stored → Bool
   -- of a file after those that were read
-  pub becomes : List Opened → ℕ → Opened → Result (List ℕ) Refusal
+  pub entry_text : List Opened → ℕ → Opened → Result (List ℕ) Refusal
   -- of an entry that is gone
   pub gone : ℕ → Result (List ℕ) Refusal
   pub last : Way → List Opened → Result (List ℕ) Refusal
   pub tells : List Opened → Option Note
 
 -- the files among what was seen
-abbrev pub files_of : List Seen → List Opened
+abbrev pub files_of : List EntryView → List Opened
 files_of [] = []
 files_of (Whole opened ∷ read) = opened ∷ files_of read
 files_of (Wrong stored computed ∷ read) = files_of read
 files_of (Absent ∷ read) = files_of read
 
-abbrev pub becomes_by : AskedOfFiles → List Seen → ℕ → Seen → Result (List ℕ) Refusal
-becomes_by asked read number (Whole opened) = asked.becomes (files_of read) number opened
-becomes_by asked read number (Wrong stored computed) = Err BadChecksum
-becomes_by asked read number Absent = asked.gone number
+abbrev pub becomes_by : FileQuery → List EntryView → ℕ → EntryView → Result (List ℕ) Refusal
+becomes_by query read number (Whole opened) = query.entry_text (files_of read) number opened
+becomes_by query read number (Wrong stored computed) = Err BadChecksum
+becomes_by query read number Absent = query.gone number
 
-abbrev pub asked_of_files : AskedOfFiles → Asked
-asked_of_files asked = record {
-  range = asked.range;
-  looks = asked.looks;
-  becomes = becomes_by asked;
-  last = λ way read. asked.last way (files_of read);
-  tells = λ read. asked.tells (files_of read);
+abbrev pub query_of_files : FileQuery → Query
+query_of_files query = record {
+  range = query.range;
+  looks = query.looks;
+  entry_text = becomes_by query;
+  last = λ way read. query.last way (files_of read);
+  tells = λ read. query.tells (files_of read);
 }
 
 -- ---- what many commands ask
@@ -62,11 +62,11 @@ refused_for (Some fault) = Err (CannotExport fault)
 refused_for None = no_text
 
 -- the file of this number, whose image is looked at or not; one that is gone is refused
-abbrev pub asked_of_one : Bool → (ℕ → Opened → Result (List ℕ) Refusal) → ℕ → AskedOfFiles
-asked_of_one looks becomes number = record {
+abbrev pub query_of_one : Bool → (ℕ → Opened → Result (List ℕ) Refusal) → ℕ → FileQuery
+query_of_one looks entry_text number = record {
   range = one_entry number;
   looks = λ stored. looks;
-  becomes = λ read n opened. becomes n opened;
+  entry_text = λ read n opened. entry_text n opened;
   gone = λ n. Err Discarded;
   last = λ way read. no_text;
   tells = λ read. None;

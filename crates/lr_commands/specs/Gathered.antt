@@ -1,7 +1,7 @@
 -- What `assemble` keeps of the segments so far. No clause of a public call cites this.
 use Rattle.std.specs.Prelude.{◌≡◌, ◌+◌, ℕ, Bool, true, false, Option, Some, None, Result, Err, List, [], ◌∷◌, ◌++◌}
 use Rattle.std.specs.Prelude.{length}
-use Rattle.lr_segment.specs.Canvas.{Canvas, HasSizeOf, Member, StandsFor}
+use Rattle.lr_segment.specs.Canvas.{Canvas, HasSizeOf, Member, CanvasStandsFor}
 use Rattle.lr_commands.specs.declared.gathering.Gathering.{Gathering}
 use Rattle.lr_causes.specs.declared.cause.Cause.{Cause}
 use Rattle.lr_causes.specs.declared.cause.Cause.TheVariants.{NoMemory, Refused}
@@ -11,10 +11,10 @@ use Rattle.lr_causes.specs.declared.cause.Refusal.{Refusal}
 abbrev pub IsCanvasOf : List Member → Option Canvas → Type 0
 IsCanvasOf [] None = Unit {0}
 IsCanvasOf (first ∷ members) (Some canvas) =
-    HasSizeOf first.segment first.picture.bits canvas × StandsFor canvas (first ∷ members)
+    HasSizeOf first.segment first.picture.bits canvas × CanvasStandsFor canvas (first ∷ members)
 IsCanvasOf _ canvas = ⊥
 
-pub record Gathers (members : List Member) (skipped : ℕ) (gathering : Gathering) : Type 0 where
+pub record GathersMembers (members : List Member) (skipped : ℕ) (gathering : Gathering) : Type 0 where
   pub canvas : IsCanvasOf members gathering.assembly
   pub members_are : gathering.added ≡ length members
   pub skipped_are : gathering.skipped ≡ skipped

@@ -1,5 +1,5 @@
 pub mod Adding
-pub mod Asked
+pub mod Queries
 pub mod Assemble
 pub mod Discard
 pub mod Export

@@ -5,8 +5,8 @@ use Rattle.lr_image.specs.Picture.{Picture}
 use Rattle.lr_image.specs.declared.fault.ImageFault.{ImageFault}
 use Rattle.lr_causes.specs.declared.note.Note.TheVariants.{Rendered}
 use Rattle.lr_commands.specs.declared.opened.Opened.{Opened}
-use Rattle.lr_commands.specs.Asked.{Asked}
-use Rattle.lr_commands.specs.Files.{AskedOfFiles, all_entries, asked_of_files, no_text}
+use Rattle.lr_commands.specs.Queries.{Query}
+use Rattle.lr_commands.specs.Files.{FileQuery, all_entries, query_of_files, no_text}
 
 -- the text of an image; a file that has none has no text
 abbrev pub image_text : Option (Result Picture ImageFault) → List ℕ
@@ -24,15 +24,15 @@ images_in read = count_by (λ opened. is_image opened.image) read
 abbrev pub skipped_in : List Opened → ℕ
 skipped_in read = count_by (λ opened. not (is_image opened.image)) read
 
-abbrev pub asked_of_render : AskedOfFiles
-asked_of_render = record {
+abbrev pub render_files_query : FileQuery
+render_files_query = record {
   range = all_entries;
   looks = λ stored. true;
-  becomes = λ read number opened. Ok (image_text opened.image);
+  entry_text = λ read number opened. Ok (image_text opened.image);
   gone = λ number. no_text;
   last = λ way read. no_text;
   tells = λ read. Some (Rendered (images_in read) (skipped_in read));
 }
 
-abbrev pub render_asked : Asked
-render_asked = asked_of_files asked_of_render
+abbrev pub render_query : Query
+render_query = query_of_files render_files_query

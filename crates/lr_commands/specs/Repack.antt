@@ -3,7 +3,7 @@ use Rattle.std.specs.Prelude.{◌≡◌, ◌⊎◌, ◌<◌, ◌≤◌, ℕ, Opt
 use Rattle.lr_bits.specs.File.{File, bytes_of}
 use Rattle.lr_bits.specs.declared.placed.Origin.{Origin}
 use Rattle.lr_shelf_format.specs.Items.{add_item}
-use Rattle.lr_shelf_format.specs.Way.{Way, Found, Sound, Bad, Gone, IsFound}
+use Rattle.lr_shelf_format.specs.Way.{Way, EntryState, Sound, Bad, Gone, IsFound}
 use Rattle.lr_shelf_format.specs.declared.stored.Stored.{Stored}
 use Rattle.lr_rice_coder.specs.Repacked.{IsRepacked}
 use Rattle.lr_rice_coder.specs.Refusals.{HasRepackOutcome, HasRepackFault}
@@ -18,9 +18,9 @@ use Rattle.lr_causes.specs.declared.cause.Refusal.{Refusal}
 use Rattle.lr_causes.specs.declared.cause.Refusal.TheVariants.{NotAShelf, NoSuchFile, BadChecksum, Discarded}
 use Rattle.lr_causes.specs.declared.cause.Refusal.TheVariants.{CannotExport, CannotRepack}
 use Rattle.lr_causes.specs.declared.fault.CodingFault.TheVariants.{Depth, Line, Header, File as LongFile}
-use Rattle.lr_commands.specs.Adding.{Addition, AskedToAdd}
+use Rattle.lr_commands.specs.Adding.{Addition, AdditionQuery}
 use Rattle.lr_commands.specs.declared.repack.Repacked.{Repacked}
-use Rattle.lr_commands.specs.Asked.{entry_at}
+use Rattle.lr_commands.specs.Queries.{entry_at}
 
 -- the origin of a file that has none, as version 1 stored it
 abbrev pub no_origin : Origin
@@ -55,7 +55,7 @@ module _ (number block : ℕ) where
       (refusal : Refusal) × (repack_refusal fault ≡ Some refusal) × (result ≡ Err refusal)
 
   -- of what stands at the entry
-  abbrev pub DecidesFound : Way → Option Found → Result Addition Refusal → Type 0
+  abbrev pub DecidesFound : Way → Option EntryState → Result Addition Refusal → Type 0
   DecidesFound way None result = result ≡ Err (NotAShelf (entry_at way number).gate)
   DecidesFound way (Some Gone) result = result ≡ Err Discarded
   DecidesFound way (Some (Bad stored computed)) result = result ≡ Err BadChecksum
@@ -68,7 +68,7 @@ module _ (number block : ℕ) where
   DecidesRepack bytes way result =
       ((length way.entries ≤ number) × (result ≡ Err (NoSuchFile (length way.entries))))
       ⊎ ((number < length way.entries)
-      × ((found : Option Found) × IsFound bytes (entry_at way number) found × DecidesFound way found result))
+      × ((found : Option EntryState) × IsFound bytes (entry_at way number) found × DecidesFound way found result))
 
   -- what may be added, over any disk
   pub record MakesRepacked (addition : Addition) : Type 0 where
@@ -87,8 +87,8 @@ module _ (number block : ℕ) where
   RefusesRepack (CannotRepack fault) = Unit {0}
   RefusesRepack _ = ⊥
 
-  abbrev pub repack_asked : AskedToAdd
-  repack_asked = record { makes = MakesRepacked; decides = DecidesRepack; refuses = RefusesRepack }
+  abbrev pub repack_query : AdditionQuery
+  repack_query = record { makes = MakesRepacked; decides = DecidesRepack; refuses = RefusesRepack }
 
 -- ---- a file that was read
 

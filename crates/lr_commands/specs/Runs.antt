@@ -11,50 +11,50 @@ use Rattle.lr_causes.specs.declared.cause.Cause.{Cause}
 use Rattle.lr_causes.specs.declared.cause.Cause.TheVariants.{Done, DoneWith, Failed, NoMemory, Refused}
 use Rattle.lr_causes.specs.declared.note.Note.{Note}
 use Rattle.lr_shelf_format.specs.Way.{Way}
-use Rattle.lr_commands.specs.Asked.{
-  Asked,
+use Rattle.lr_commands.specs.Queries.{
+  Query,
   Answer,
   AnswersOn,
   BegunBy,
   IsAnswer,
   IsBegun,
   PutsOneText,
-  Seen,
+  EntryView,
   done_answer,
   refused_answer,
 }
-use Rattle.lr_causes.specs.Causes.{Counts, done_with}
+use Rattle.lr_causes.specs.Causes.{FaultCounts, done_with}
 use Rattle.lr_causes.specs.Outside.{Outlets, OutletsOf, outlet_counts}
 
 -- what a command may be refused for, over any disk: no shelf or no item at a place, a count by which a number isn't
 -- allowed, or what it says of something that was seen or of all that was
-pub data MayRefuse (asked : Asked) (refusal : Refusal) : Type 0 where
-  at_place : (at : ℕ) → refusal ≡ NotAShelf at → MayRefuse asked refusal
-  by_count : (count : ℕ) → asked.range count ≡ None → refusal ≡ NoSuchFile count → MayRefuse asked refusal
-  at_entry : (read : List Seen) (number : ℕ) (seen : Seen) → asked.becomes read number seen ≡ Err refusal
-      → MayRefuse asked refusal
-  at_end : (way : Way) (read : List Seen) → asked.last way read ≡ Err refusal → MayRefuse asked refusal
+pub data MayRefuse (query : Query) (refusal : Refusal) : Type 0 where
+  at_place : (at : ℕ) → refusal ≡ NotAShelf at → MayRefuse query refusal
+  by_count : (count : ℕ) → query.range count ≡ None → refusal ≡ NoSuchFile count → MayRefuse query refusal
+  at_entry : (read : List EntryView) (number : ℕ) (seen : EntryView) → query.entry_text read number seen ≡ Err refusal
+      → MayRefuse query refusal
+  at_end : (way : Way) (read : List EntryView) → query.last way read ≡ Err refusal → MayRefuse query refusal
 
 -- entries were seen for which a last text stands, and this is told of them
-pub record IsDoneWith (asked : Asked) (told : Option Note) : Type 0 where
+pub record IsDoneWith (query : Query) (told : Option Note) : Type 0 where
   pub way : Way
-  pub read : List Seen
+  pub read : List EntryView
   pub text : List ℕ
-  pub last : asked.last way read ≡ Ok text
-  pub tells : asked.tells read ≡ told
+  pub last : query.last way read ≡ Ok text
+  pub tells : query.tells read ≡ told
 
 -- the causes that it may have, over any disk
-abbrev pub MayCause : Asked → Cause → Type 0
-MayCause asked Done = IsDoneWith asked None
-MayCause asked (DoneWith note) = IsDoneWith asked (Some note)
-MayCause asked (Failed Disk) = Unit {0}
-MayCause asked (Failed Output) = Unit {0}
-MayCause asked NoMemory = Unit {0}
-MayCause asked (Refused refusal) = MayRefuse asked refusal
-MayCause asked _ = ⊥
+abbrev pub MayCause : Query → Cause → Type 0
+MayCause query Done = IsDoneWith query None
+MayCause query (DoneWith note) = IsDoneWith query (Some note)
+MayCause query (Failed Disk) = Unit {0}
+MayCause query (Failed Output) = Unit {0}
+MayCause query NoMemory = Unit {0}
+MayCause query (Refused refusal) = MayRefuse query refusal
+MayCause query _ = ⊥
 
 -- the count of the party that a cause names rose, and all other counts stay
-abbrev pub Counted : Cause → Counts → Counts → Type 0
+abbrev pub Counted : Cause → FaultCounts → FaultCounts → Type 0
 Counted (Failed Source) before now =
     Rose before.source now.source × (now.disk ≡ before.disk) × (now.output ≡ before.output)
 Counted (Failed Disk) before now =
@@ -83,34 +83,35 @@ CutsNothing (Refused refusal) = Unit {0}
 CutsNothing _ = ⊥
 
 -- which answers there are, and which texts are begun
-module _ {O : Type 0} (out : SinkOf O) (IsOne : Answer → Type 0)
-    (IsFirst : (passed left : ℕ) → List ℕ → Type 0) where
+module _ {O : Type 0} (out : SinkOf O) (MayAnswer : Answer → Type 0)
+    (MayBegin : (passed left : ℕ) → List ℕ → Type 0) where
   -- there is an answer that refuses nothing and tells this, and its text was put
   pub record PutsAll (note : Option Note) (o o' : O) : Type 0 where
     pub text : List ℕ
-    pub is : IsOne (done_answer text note)
+    pub is : MayAnswer (done_answer text note)
     pub put : out.tells o → out.contents o' ≡ out.contents o ++ text
 
   -- the texts of the first entries were put, and at least this many entries are left
   pub record PutsFirst (left : ℕ) (o o' : O) : Type 0 where
     pub passed : ℕ
     pub text : List ℕ
-    pub begun : IsFirst passed left text
+    pub begun : MayBegin passed left text
     pub put : out.tells o → out.contents o' ≡ out.contents o ++ text
     pub untouched : passed ≡ 0 → o' ≡ o
 
   -- they are all of an answer with this refusal
   pub record PutsRefused (refusal : Refusal) (o o' : O) : Type 0 where
     pub first : PutsFirst 0 o o'
-    pub is : IsOne (refused_answer first.text refusal)
+    pub is : MayAnswer (refused_answer first.text refusal)
 
   -- `out` failed in the text of an entry, or in the last one: those before it were put, and a part of it
   pub record PutsCut (o o' : O) : Type 0 where
     pub passed : ℕ
     pub text : List ℕ
     pub one : List ℕ
-    pub begun : IsFirst passed 0 text
-    pub next : IsFirst (passed + 1) 0 (text ++ one) ⊎ ((note : Option Note) × IsOne (done_answer (text ++ one) note))
+    pub begun : MayBegin passed 0 text
+    pub next : MayBegin (passed + 1) 0 (text ++ one)
+        ⊎ ((note : Option Note) × MayAnswer (done_answer (text ++ one) note))
     pub some : 0 < length one
     pub part : out.tells o → PutsPart one (out.contents o ++ text) (out.contents o')
 
@@ -125,10 +126,10 @@ module _ {O : Type 0} (out : SinkOf O) (IsOne : Answer → Type 0)
   Got _ o o' = ⊥
 
 module _ {D O : Type 0} (world : OutletsOf D O) where
-  pub record RunsReading (asked : Asked) (IsOne : List ℕ → Answer → Type 0)
-      (IsFirst : List ℕ → (passed left : ℕ) → List ℕ → Type 0)
+  pub record RunsReading (query : Query) (MayAnswer : List ℕ → Answer → Type 0)
+      (MayBegin : List ℕ → (passed left : ℕ) → List ℕ → Type 0)
       (cause : Cause) (w w' : Outlets D O) : Type 0 where
-    pub may : MayCause asked cause
+    pub may : MayCause query cause
     pub counted : Counted cause (outlet_counts world w) (outlet_counts world w')
     -- nothing on the disk changes
     pub told : world.disk.tells w.disk → world.disk.tells w'.disk
@@ -136,19 +137,19 @@ module _ {D O : Type 0} (world : OutletsOf D O) where
     pub reads : world.disk.tells w.disk → IsUnwritten world.disk w.disk w'.disk
     -- `out` got what the bytes answer; a refusal comes only where it is that of the answer, with its values
     pub got : world.disk.tells w.disk
-        → Got world.out (IsOne (world.disk.contents w.disk)) (IsFirst (world.disk.contents w.disk)) cause
+        → Got world.out (MayAnswer (world.disk.contents w.disk)) (MayBegin (world.disk.contents w.disk)) cause
         w.out w'.out
     -- over any disk, where the only text is that of one entry
-    pub untouched : PutsOneText asked → CutsNothing cause → w'.out ≡ w.out
+    pub untouched : PutsOneText query → CutsNothing cause → w'.out ≡ w.out
 
   -- a run over the entries of a shelf of this way
-  abbrev pub RunsOn : Asked → Way → Cause → Outlets D O → Outlets D O → Type 0
-  RunsOn asked way = RunsReading asked (λ bytes. AnswersOn asked bytes way) (λ bytes. BegunBy asked bytes way)
+  abbrev pub RunsOn : Query → Way → Cause → Outlets D O → Outlets D O → Type 0
+  RunsOn query way = RunsReading query (λ bytes. AnswersOn query bytes way) (λ bytes. BegunBy query bytes way)
 
   -- a whole run
-  pub record RunsOver (asked : Asked) (cause : Cause) (w w' : Outlets D O) : Type 0 where
-    pub runs : RunsReading asked (IsAnswer asked) (IsBegun asked) cause w w'
+  pub record RunsOver (query : Query) (cause : Cause) (w w' : Outlets D O) : Type 0 where
+    pub runs : RunsReading query (IsAnswer query) (IsBegun query) cause w w'
     -- what the bytes answer decides, unless an event comes before: done, or refused for this
     pub ends : (answer : Answer) → world.disk.tells w.disk
-        → IsAnswer asked (world.disk.contents w.disk) answer
+        → IsAnswer query (world.disk.contents w.disk) answer
         → (cause ≡ cause_for answer.refusal answer.note) ⊎ Precedes cause answer

@@ -6,8 +6,8 @@ use Rattle.lr_catalog.specs.Records.{header_lines}
 use Rattle.lr_shelf_format.specs.declared.stored.Stored.{Stored}
 use Rattle.lr_causes.specs.declared.cause.Refusal.{Refusal}
 use Rattle.lr_commands.specs.declared.opened.Opened.{Opened}
-use Rattle.lr_commands.specs.Asked.{Asked}
-use Rattle.lr_commands.specs.Files.{asked_of_files, asked_of_one}
+use Rattle.lr_commands.specs.Queries.{Query}
+use Rattle.lr_commands.specs.Files.{query_of_files, query_of_one}
 
 abbrev pub show_text : ℕ → Stored → List ℕ
 show_text number stored = file_line number stored.file stored.origin ++ header_lines (proper_of stored.file)
@@ -15,5 +15,5 @@ show_text number stored = file_line number stored.file stored.origin ++ header_l
 abbrev pub show_fate : ℕ → Opened → Result (List ℕ) Refusal
 show_fate number opened = Ok (show_text number opened.stored)
 
-abbrev pub show_asked : ℕ → Asked
-show_asked number = asked_of_files (asked_of_one false show_fate number)
+abbrev pub show_query : ℕ → Query
+show_query number = query_of_files (query_of_one false show_fate number)

@@ -10,7 +10,7 @@ use Rattle.lr_causes.specs.declared.cause.Party.TheVariants.{Disk, Output}
 use Rattle.lr_causes.specs.declared.cause.Refusal.{Refusal}
 use Rattle.lr_causes.specs.declared.cause.Cause.{Cause}
 use Rattle.lr_causes.specs.declared.cause.Cause.TheVariants.{Failed, NoMemory, Refused}
-use Rattle.lr_commands.specs.Asked.{Asked, IsSeen, Seen, entry_at, fate_of}
+use Rattle.lr_commands.specs.Queries.{Query, IsSeen, EntryView, entry_at, fate_of}
 use Rattle.lr_causes.specs.Outside.{Outlets, OutletsOf}
 use Rattle.lr_causes.specs.Puts.{Puts, PutFails}
 
@@ -35,22 +35,22 @@ module _ {O : Type 0} (out : SinkOf O) (fate : Result (List ℕ) Refusal) where
   TextStops (Refused refusal) o o' = (fate ≡ Err refusal) × (o' ≡ o)
   TextStops _ o o' = ⊥
 
-module _ {D O : Type 0} (world : OutletsOf D O) (asked : Asked) (way : Way) (read : List Seen)
+module _ {D O : Type 0} (world : OutletsOf D O) (query : Query) (way : Way) (read : List EntryView)
     (number : ℕ) where
   -- the text of the entry was put, and it was gathered
-  pub record TakesEntry (gathers : List Seen → Type 0) (w w' : Outlets D O) : Type 0 where
-    pub seen : Seen
+  pub record TakesEntry (gathers : List EntryView → Type 0) (w w' : Outlets D O) : Type 0 where
+    pub seen : EntryView
     pub stands : world.disk.tells w.disk
-        → IsSeen asked.looks (world.disk.contents w.disk) (entry_at way number) (Some seen)
-    pub puts : PutsText world.out (asked.becomes read number seen) w.out w'.out
+        → IsSeen query.looks (world.disk.contents w.disk) (entry_at way number) (Some seen)
+    pub puts : PutsText world.out (query.entry_text read number seen) w.out w'.out
     pub gathered : gathers (read ++ seen ∷ [])
 
   -- what stands there is known, and its text was not put
   pub record SeenStops (cause : Cause) (w w' : Outlets D O) : Type 0 where
-    pub seen : Option Seen
+    pub seen : Option EntryView
     pub stands : world.disk.tells w.disk
-        → IsSeen asked.looks (world.disk.contents w.disk) (entry_at way number) seen
-    pub stops : TextStops world.out (fate_of asked way read number seen) cause w.out w'.out
+        → IsSeen query.looks (world.disk.contents w.disk) (entry_at way number) seen
+    pub stops : TextStops world.out (fate_of query way read number seen) cause w.out w'.out
 
   -- why an entry was not taken
   abbrev pub EntryStops : Cause → Outlets D O → Outlets D O → Type 0

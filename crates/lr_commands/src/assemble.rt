@@ -3,14 +3,14 @@ ghost use Rattle.std.specs.Prelude.{◌≡◌, ◌+◌, ◌<◌, ◌^◌, ◌∷
 ghost use Rattle.lr_segment.specs.Canvas.{Member, member};
 ghost use Rattle.lr_causes.specs.Outside.{outlets, outlets_of};
 ghost use Rattle.lr_commands.specs.Assemble.{
-  assemble_asked,
+  assemble_query,
   if_of,
   is_without,
   join_fate,
   member_with,
   segment_for_image,
 };
-ghost use Rattle.lr_commands.specs.Gathered.{Gathers, IsCanvasOf, IsStop, with_member, with_skipped};
+ghost use Rattle.lr_commands.specs.Gathered.{GathersMembers, IsCanvasOf, IsStop, with_member, with_skipped};
 ghost use Rattle.lr_commands.specs.Runs.{RunsOver};
 
 use crate::files::{Files, ReadsFiles};
@@ -109,11 +109,11 @@ fn add_segment(
     gathering: &mut Gathering,
 ) -> Result<(), Cause>
     ensures added { (members : List Member) (skipped : ℕ) → length members + 1 < 2 ^ 64
-        → Gathers members skipped gathering.old
-        → OnOk result (Gathers (members ++ member image.now segment.now ∷ []) skipped gathering.new) }
-    ensures fits { (members : List Member) (skipped : ℕ) → Gathers members skipped gathering.old
+        → GathersMembers members skipped gathering.old
+        → OnOk result (GathersMembers (members ++ member image.now segment.now ∷ []) skipped gathering.new) }
+    ensures fits { (members : List Member) (skipped : ℕ) → GathersMembers members skipped gathering.old
         → OnOk result (join_fate members (Some (member image.now segment.now)) ≡ Ok []) }
-    ensures stops { (members : List Member) (skipped : ℕ) → Gathers members skipped gathering.old
+    ensures stops { (members : List Member) (skipped : ℕ) → GathersMembers members skipped gathering.old
         → IfErr result (IsStop (join_fate members (Some (member image.now segment.now)))) }
 {
     match assembly_with(alloc, gathering.assembly.take(), image, segment) {
@@ -134,12 +134,12 @@ fn take_file(
     gathering: &mut Gathering,
 ) -> Result<(), Cause>
     ensures gathered { (members : List Member) (skipped : ℕ) → length members + 1 < 2 ^ 64 → skipped + 1 < 2 ^ 64
-        → Gathers members skipped gathering.old
-        → OnOk result (Gathers (with_member members (member_with segment opened.now.image))
+        → GathersMembers members skipped gathering.old
+        → OnOk result (GathersMembers (with_member members (member_with segment opened.now.image))
         (with_skipped skipped (is_without segment opened.now.image)) gathering.new) }
-    ensures fits { (members : List Member) (skipped : ℕ) → Gathers members skipped gathering.old
+    ensures fits { (members : List Member) (skipped : ℕ) → GathersMembers members skipped gathering.old
         → OnOk result (join_fate members (member_with segment opened.now.image) ≡ Ok []) }
-    ensures stops { (members : List Member) (skipped : ℕ) → Gathers members skipped gathering.old
+    ensures stops { (members : List Member) (skipped : ℕ) → GathersMembers members skipped gathering.old
         → IfErr result (IsStop (join_fate members (member_with segment opened.now.image))) }
 {
     let Some(segment) = segment else {
@@ -165,14 +165,15 @@ struct AssembleRange {
 }
 
 impl ReadsFiles for AssembleRange {
-    ghost use Rattle.lr_commands.specs.Assemble.{asked_of_assemble, members_of, skipped_of};
-    ghost use Rattle.lr_commands.specs.Gathered.{Gathers};
+    ghost use Rattle.lr_commands.specs.Assemble.{assemble_files_query, members_of, skipped_of};
+    ghost use Rattle.lr_commands.specs.Gathered.{GathersMembers};
 
     type Gathered = Gathering;
 
-    ghost asked = { λ s. asked_of_assemble s.from s.to s.apid s.image };
+    ghost query = { λ s. assemble_files_query s.from s.to s.apid s.image };
 
-    ghost gathers = { λ s gathered read. Gathers (members_of s.apid s.image read) (skipped_of s.apid s.image read)
+    ghost gathers = { λ s gathered read. GathersMembers (members_of s.apid s.image read)
+        (skipped_of s.apid s.image read)
         gathered };
 
     fn range(&self, count: u64) -> Option<Range> {
@@ -243,7 +244,7 @@ pub fn assemble<D: Disk, O: Sink>(
     disk: &mut D,
     out: &mut O,
 ) -> Cause
-    ensures { RunsOver (outlets_of D.Disk O.Sink) (assemble_asked from to apid image) result
+    ensures { RunsOver (outlets_of D.Disk O.Sink) (assemble_query from to apid image) result
         (outlets disk.old out.old) (outlets disk.new out.new) }
 {
     let command = AssembleRange {

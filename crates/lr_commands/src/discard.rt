@@ -1,7 +1,7 @@
 //! `discard`: a file is discarded.
 ghost use Rattle.lr_causes.specs.Outside.{outlets, outlets_of};
 ghost use Rattle.lr_commands.specs.Adding.{RunsAdding};
-ghost use Rattle.lr_commands.specs.Discard.{discard_asked};
+ghost use Rattle.lr_commands.specs.Discard.{discard_query};
 
 use lr_bits::Bytes;
 use lr_catalog::discard_line;
@@ -15,7 +15,7 @@ use std::alloc::Global;
 /// Discards the file of this number on the disk, and then puts a line that says so. The line is composed first, so that
 /// want of memory leaves the disk as it was. Refused, in this order: no shelf, no such file, discarded, capacity.
 pub fn discard<D: Disk, O: Sink>(alloc: Global, number: u64, disk: &mut D, out: &mut O) -> Cause
-    ensures { RunsAdding (outlets_of D.Disk O.Sink) (discard_asked number) result
+    ensures { RunsAdding (outlets_of D.Disk O.Sink) (discard_query number) result
         (outlets disk.old out.old) (outlets disk.new out.new) }
 {
     let mut line = Bytes::new(alloc);

@@ -1,6 +1,6 @@
 //! `export`: the image of one file.
 ghost use Rattle.lr_causes.specs.Outside.{outlets, outlets_of};
-ghost use Rattle.lr_commands.specs.Export.{export_asked};
+ghost use Rattle.lr_commands.specs.Export.{export_query};
 ghost use Rattle.lr_commands.specs.Runs.{RunsOver};
 
 use crate::one_file::{PutsFile, run_one};
@@ -21,7 +21,7 @@ impl PutsFile for Exporting {
 
     ghost looks = { λ s. true };
 
-    ghost becomes = { λ s number opened. export_fate number opened };
+    ghost entry_text = { λ s number opened. export_fate number opened };
 
     fn looks(&self) -> bool {
         true
@@ -44,7 +44,7 @@ impl PutsFile for Exporting {
 
 /// Puts the image of the file of this number as PGM. It is read whole before the first byte is put.
 pub fn export<D: Disk, O: Sink>(alloc: Global, number: u64, disk: &mut D, out: &mut O) -> Cause
-    ensures { RunsOver (outlets_of D.Disk O.Sink) (export_asked number) result
+    ensures { RunsOver (outlets_of D.Disk O.Sink) (export_query number) result
         (outlets disk.old out.old) (outlets disk.new out.new) }
 {
     run_one(alloc, number, Exporting, disk, out)

@@ -1,6 +1,6 @@
 //! `extract`: one mission file.
 ghost use Rattle.lr_causes.specs.Outside.{outlets, outlets_of};
-ghost use Rattle.lr_commands.specs.Extract.{extract_asked};
+ghost use Rattle.lr_commands.specs.Extract.{extract_query};
 ghost use Rattle.lr_commands.specs.Runs.{RunsOver};
 
 use crate::one_file::{PutsFile, run_one};
@@ -19,7 +19,7 @@ impl PutsFile for Extracting {
 
     ghost looks = { λ s. false };
 
-    ghost becomes = { λ s number opened. extract_fate number opened };
+    ghost entry_text = { λ s number opened. extract_fate number opened };
 
     fn looks(&self) -> bool {
         false
@@ -32,7 +32,7 @@ impl PutsFile for Extracting {
 
 /// Puts the mission file proper of the file of this number: its bytes without the transport header.
 pub fn extract<D: Disk, O: Sink>(alloc: Global, number: u64, disk: &mut D, out: &mut O) -> Cause
-    ensures { RunsOver (outlets_of D.Disk O.Sink) (extract_asked number) result
+    ensures { RunsOver (outlets_of D.Disk O.Sink) (extract_query number) result
         (outlets disk.old out.old) (outlets disk.new out.new) }
 {
     run_one(alloc, number, Extracting, disk, out)

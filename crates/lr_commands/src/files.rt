@@ -1,7 +1,7 @@
 //! Commands that read whole files.
 ghost use Rattle.std.specs.Prelude.{◌≡◌, IfOk};
 ghost use Rattle.lr_image.specs.Images.{HasOutcome};
-ghost use Rattle.lr_commands.specs.Asked.{IsLooked};
+ghost use Rattle.lr_commands.specs.Queries.{IsLooked};
 
 use crate::opened::Opened;
 use crate::range::Range;
@@ -21,21 +21,21 @@ pub trait ReadsFiles {
     ghost use Rattle.std.specs.Prelude.{IfOk, IfErr, IfSome, OnOk};
     ghost use Rattle.lr_shelf.specs.Kept.{kept_by};
     ghost use Rattle.lr_commands.specs.declared.opened.Opened.{Opened};
-    ghost use Rattle.lr_commands.specs.Files.{AskedOfFiles};
+    ghost use Rattle.lr_commands.specs.Files.{FileQuery};
     ghost use Rattle.lr_commands.specs.Steps.{PutsText, TextStops};
 
     /// What it gathers of the files.
     type Gathered: Drop;
 
     /// What it asks.
-    ghost asked: { Self → AskedOfFiles };
+    ghost query: { Self → FileQuery };
 
     /// What was gathered of these files.
     ghost gathers: { Self → Self.Gathered → List Opened → Type 0 };
 
     /// The entries that it reads of this many, if no number is refused.
     fn range(&self, count: u64) -> Option<Range>
-        ensures is { result ≡ (asked self.now).range count }
+        ensures is { result ≡ (query self.now).range count }
         ensures ordered { IfSome result (λ range. range.from ≤ range.to) }
         ensures inside { IfSome result (λ range. range.to ≤ count) };
 
@@ -45,7 +45,7 @@ pub trait ReadsFiles {
 
     /// Whether it looks at the image of this file.
     fn looks(&self, alloc: Global, stored: &Stored) -> Result<bool, NoMemory>
-        ensures { IfOk result (λ looks. looks ≡ (asked self.now).looks stored.now) };
+        ensures { IfOk result (λ looks. looks ≡ (query self.now).looks stored.now) };
 
     /// Puts the text of a file. Memory is taken before the text.
     fn file<O: Sink>(
@@ -57,17 +57,17 @@ pub trait ReadsFiles {
         out: &mut O,
     ) -> Result<(), Cause>
         ensures puts { (read : List Opened) → gathers self.now gathered.old read
-            → OnOk result (PutsText O.Sink ((asked self.now).becomes read number opened.now) out.old out.new) }
+            → OnOk result (PutsText O.Sink ((query self.now).entry_text read number opened.now) out.old out.new) }
         ensures gathered { (read : List Opened) → length read + 1 < 2 ^ 64 → gathers self.now gathered.old read
             → OnOk result (gathers self.now gathered.new (read ++ opened.now ∷ [])) }
         ensures stops { (read : List Opened) → gathers self.now gathered.old read → IfErr result (λ cause.
-            TextStops O.Sink ((asked self.now).becomes read number opened.now) cause out.old out.new) };
+            TextStops O.Sink ((query self.now).entry_text read number opened.now) cause out.old out.new) };
 
     /// Puts the text of an entry that is gone. Memory is taken before the text.
     fn gone_entry<O: Sink>(&self, alloc: Global, number: u64, out: &mut O) -> Result<(), Cause>
-        ensures puts { OnOk result (PutsText O.Sink ((asked self.now).gone number) out.old out.new) }
+        ensures puts { OnOk result (PutsText O.Sink ((query self.now).gone number) out.old out.new) }
         ensures stops { IfErr result (λ cause.
-            TextStops O.Sink ((asked self.now).gone number) cause out.old out.new) };
+            TextStops O.Sink ((query self.now).gone number) cause out.old out.new) };
 
     /// Puts the last text, and answers what is told beside it. Memory is taken before the text, and none where there
     /// is no text.
@@ -79,13 +79,13 @@ pub trait ReadsFiles {
         out: &mut O,
     ) -> Result<Option<Note>, Cause>
         ensures puts { (read : List Opened) → gathers self.now gathered read
-            → OnOk result (PutsText O.Sink ((asked self.now).last (kept_by shelf.now).way read) out.old out.new) }
+            → OnOk result (PutsText O.Sink ((query self.now).last (kept_by shelf.now).way read) out.old out.new) }
         ensures tells { (read : List Opened) → gathers self.now gathered read
-            → IfOk result (λ note. note ≡ (asked self.now).tells read) }
+            → IfOk result (λ note. note ≡ (query self.now).tells read) }
         ensures stops { (read : List Opened) → gathers self.now gathered read → IfErr result (λ cause.
-            TextStops O.Sink ((asked self.now).last (kept_by shelf.now).way read) cause out.old out.new) }
+            TextStops O.Sink ((query self.now).last (kept_by shelf.now).way read) cause out.old out.new) }
         ensures sure { (read : List Opened) → gathers self.now gathered read
-            → (asked self.now).last (kept_by shelf.now).way read ≡ Ok [] → IfErr result (λ _. ⊥) };
+            → (query self.now).last (kept_by shelf.now).way read ≡ Ok [] → IfErr result (λ _. ⊥) };
 }
 
 /// The image of a file, or the first fault for which it has none.
@@ -105,7 +105,7 @@ fn outcome_of(alloc: Global, file: &MissionFile) -> Result<Result<Image, ImageFa
 fn open<C: ReadsFiles>(alloc: Global, command: &C, stored: Stored) -> Result<Opened, NoMemory>
     ensures same { IfOk result (λ opened. opened.stored ≡ stored) }
     ensures looked { IfOk result (λ opened.
-        IsLooked ((C.asked command.now).looks stored) stored.file opened.image) }
+        IsLooked ((C.query command.now).looks stored) stored.file opened.image) }
 {
     if !command.looks(alloc, &stored)? {
         return Ok(Opened {
@@ -125,11 +125,11 @@ fn open<C: ReadsFiles>(alloc: Global, command: &C, stored: Stored) -> Result<Ope
 pub struct Files<C>(pub C);
 
 impl<C: ReadsFiles> ReadsEntries for Files<C> {
-    ghost use Rattle.lr_commands.specs.Files.{asked_of_files, files_of};
+    ghost use Rattle.lr_commands.specs.Files.{query_of_files, files_of};
 
     type Gathered = C::Gathered;
 
-    ghost asked = { λ s. asked_of_files (C.asked s.0) };
+    ghost query = { λ s. query_of_files (C.query s.0) };
 
     ghost gathers = { λ s gathered read. C.gathers s.0 gathered (files_of read) };
 

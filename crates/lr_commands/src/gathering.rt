@@ -13,11 +13,11 @@ pub(crate) struct Gathering {
 
 impl Gathering {
     ghost use Rattle.std.specs.Prelude.{[]};
-    ghost use Rattle.lr_commands.specs.Gathered.{Gathers};
+    ghost use Rattle.lr_commands.specs.Gathered.{GathersMembers};
 
     /// No segments yet.
     pub(crate) fn new() -> Self
-        ensures { Gathers [] 0 result }
+        ensures { GathersMembers [] 0 result }
     {
         Gathering {
             assembly: None,

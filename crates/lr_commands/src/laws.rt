@@ -4,17 +4,23 @@ ghost use Rattle.lr_commands.specs.Laws.{
   ExportHasReasons,
   ExtractHasReasons,
   OneFilePutsOneText,
+  HasAnAnswer,
   HasOneAnswer,
   VerifyHasReasons,
 };
 ghost use Rattle.lr_commands.specs.Rendered.{RenderPutsImages};
 
-/// Bytes have one answer to what a command asks, if they have any: so a run is refused for one thing, the first.
+/// Bytes have an answer to each thing that a command asks: a text, or a refusal.
+pub fn bytes_have_an_answer()
+    ensures { HasAnAnswer }
+{}
+
+/// They have one answer at most: so a run is refused for one thing, the first.
 pub fn bytes_have_one_answer()
     ensures { HasOneAnswer }
 {}
 
-/// What a run puts before an event ends it is a front of what it would have put.
+/// What a run puts before an event ends it is a prefix of what it would have put.
 pub fn begun_texts_come_first()
     ensures { BegunComesFirst }
 {}

@@ -2,7 +2,7 @@
 ghost use Rattle.std.specs.Prelude.{◌≡◌, Ok, OnOk, IfErr};
 ghost use Rattle.lr_catalog.specs.Entries.{file_line, shelf_line};
 ghost use Rattle.lr_causes.specs.Outside.{outlets, outlets_of};
-ghost use Rattle.lr_commands.specs.List.{list_asked};
+ghost use Rattle.lr_commands.specs.List.{list_query};
 ghost use Rattle.lr_commands.specs.Runs.{RunsOver};
 ghost use Rattle.lr_commands.specs.Steps.{PutsText, TextStops};
 
@@ -52,11 +52,11 @@ fn put_shelf<O: Sink>(
 struct ListAll;
 
 impl ReadsFiles for ListAll {
-    ghost use Rattle.lr_commands.specs.List.{asked_of_list};
+    ghost use Rattle.lr_commands.specs.List.{list_files_query};
 
     type Gathered = ();
 
-    ghost asked = { λ s. asked_of_list };
+    ghost query = { λ s. list_files_query };
 
     ghost gathers = { λ s gathered read. Unit {0} };
 
@@ -102,7 +102,7 @@ impl ReadsFiles for ListAll {
 /// A line for each entry, of its file or that it is gone, and a last one with the number of entries, the shelf's end
 /// and its capacity, both in bytes. A file whose checksum is wrong is refused.
 pub fn list<D: Disk, O: Sink>(alloc: Global, disk: &mut D, out: &mut O) -> Cause
-    ensures { RunsOver (outlets_of D.Disk O.Sink) list_asked result
+    ensures { RunsOver (outlets_of D.Disk O.Sink) list_query result
         (outlets disk.old out.old) (outlets disk.new out.new) }
 {
     run_entries(alloc, &Files(ListAll), disk, out)

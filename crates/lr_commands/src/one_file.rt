@@ -1,7 +1,7 @@
 //! Commands on the file of one number.
 ghost use Rattle.lr_causes.specs.Outside.{outlets, outlets_of};
 ghost use Rattle.lr_commands.specs.Runs.{RunsOver};
-ghost use Rattle.lr_commands.specs.Files.{asked_of_files, asked_of_one};
+ghost use Rattle.lr_commands.specs.Files.{query_of_files, query_of_one};
 
 use crate::files::{Files, ReadsFiles};
 use crate::opened::Opened;
@@ -25,7 +25,7 @@ pub(crate) trait PutsFile {
     ghost looks: { Self → Bool };
 
     /// The text of the file of this number, or what the run is refused for.
-    ghost becomes: { Self → ℕ → Opened → Result (List ℕ) Refusal };
+    ghost entry_text: { Self → ℕ → Opened → Result (List ℕ) Refusal };
 
     /// Whether it looks at the image.
     fn looks(&self) -> bool
@@ -39,9 +39,9 @@ pub(crate) trait PutsFile {
         opened: &Opened,
         out: &mut O,
     ) -> Result<(), Cause>
-        ensures puts { OnOk result (PutsText O.Sink (becomes self.now number opened.now) out.old out.new) }
+        ensures puts { OnOk result (PutsText O.Sink (entry_text self.now number opened.now) out.old out.new) }
         ensures stops { IfErr result (λ cause.
-            TextStops O.Sink (becomes self.now number opened.now) cause out.old out.new) };
+            TextStops O.Sink (entry_text self.now number opened.now) cause out.old out.new) };
 }
 
 /// The file of this number, and what is put of it. A file that is gone is refused.
@@ -52,11 +52,11 @@ struct OneFile<C> {
 }
 
 impl<C: PutsFile> ReadsFiles for OneFile<C> {
-    ghost use Rattle.lr_commands.specs.Files.{asked_of_one};
+    ghost use Rattle.lr_commands.specs.Files.{query_of_one};
 
     type Gathered = ();
 
-    ghost asked = { λ s. asked_of_one (C.looks s.command) (C.becomes s.command) s.number };
+    ghost query = { λ s. query_of_one (C.looks s.command) (C.entry_text s.command) s.number };
 
     ghost gathers = { λ s gathered read. Unit {0} };
 
@@ -101,7 +101,7 @@ pub(crate) fn run_one<C: PutsFile + Drop, D: Disk, O: Sink>(
     out: &mut O,
 ) -> Cause
     ensures { RunsOver (outlets_of D.Disk O.Sink)
-        (asked_of_files (asked_of_one (C.looks command) (C.becomes command) number)) result
+        (query_of_files (query_of_one (C.looks command) (C.entry_text command) number)) result
         (outlets disk.old out.old) (outlets disk.new out.new) }
 {
     run_entries(alloc, &Files(OneFile { number, command }), disk, out)

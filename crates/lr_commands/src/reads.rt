@@ -14,7 +14,7 @@ pub trait ReadsEntries {
     ghost use Rattle.std.specs.Prelude.{IfOk, IfErr, IfSome, OnOk};
     ghost use Rattle.lr_shelf.specs.Kept.{kept_by};
     ghost use Rattle.lr_causes.specs.Outside.{outlet_counts, outlets, outlets_of};
-    ghost use Rattle.lr_commands.specs.Asked.{Asked, Seen};
+    ghost use Rattle.lr_commands.specs.Queries.{Query, EntryView};
     ghost use Rattle.lr_commands.specs.Runs.{Counted};
     ghost use Rattle.lr_commands.specs.Steps.{PutsText, ReadsOnly, TextStops, TakesEntry, EntryStops};
 
@@ -22,14 +22,14 @@ pub trait ReadsEntries {
     type Gathered: Drop;
 
     /// What it asks.
-    ghost asked: { Self → Asked };
+    ghost query: { Self → Query };
 
     /// What was gathered of the entries that were seen, these.
-    ghost gathers: { Self → Self.Gathered → List Seen → Type 0 };
+    ghost gathers: { Self → Self.Gathered → List EntryView → Type 0 };
 
     /// The entries that it reads of this many, if no number is refused.
     fn range(&self, count: u64) -> Option<Range>
-        ensures is { result ≡ (asked self.now).range count }
+        ensures is { result ≡ (query self.now).range count }
         ensures ordered { IfSome result (λ range. range.from ≤ range.to) }
         ensures inside { IfSome result (λ range. range.to ≤ count) };
 
@@ -51,15 +51,15 @@ pub trait ReadsEntries {
         requires working { (kept_by shelf.old).failed ≡ false }
         ensures reads { ReadsOnly D.Disk shelf.old shelf.new disk.old disk.new }
         ensures same { OnOk result (D.faults disk.new ≡ D.faults disk.old) }
-        ensures counted { (read : List Seen) → gathers self.now gathered.old read → IfErr result (λ cause.
+        ensures counted { (read : List EntryView) → gathers self.now gathered.old read → IfErr result (λ cause.
             Counted cause (outlet_counts (outlets_of D.Disk O.Sink) (outlets disk.old out.old))
             (outlet_counts (outlets_of D.Disk O.Sink) (outlets disk.new out.new))) }
-        ensures takes { (read : List Seen) → length read + 1 < 2 ^ 64 → gathers self.now gathered.old read
-            → OnOk result (TakesEntry (outlets_of D.Disk O.Sink) (asked self.now)
+        ensures takes { (read : List EntryView) → length read + 1 < 2 ^ 64 → gathers self.now gathered.old read
+            → OnOk result (TakesEntry (outlets_of D.Disk O.Sink) (query self.now)
             (kept_by shelf.old).way read number (gathers self.now gathered.new)
             (outlets disk.old out.old) (outlets disk.new out.new)) }
-        ensures stops { (read : List Seen) → gathers self.now gathered.old read → IfErr result (λ cause.
-            EntryStops (outlets_of D.Disk O.Sink) (asked self.now) (kept_by shelf.old).way read number
+        ensures stops { (read : List EntryView) → gathers self.now gathered.old read → IfErr result (λ cause.
+            EntryStops (outlets_of D.Disk O.Sink) (query self.now) (kept_by shelf.old).way read number
             cause (outlets disk.old out.old) (outlets disk.new out.new)) };
 
     /// Puts the last text, and answers what is told beside it. Memory is taken before the text, and none where there
@@ -71,12 +71,12 @@ pub trait ReadsEntries {
         shelf: &Shelf,
         out: &mut O,
     ) -> Result<Option<Note>, Cause>
-        ensures takes { (read : List Seen) → gathers self.now gathered read
-            → OnOk result (PutsText O.Sink ((asked self.now).last (kept_by shelf.now).way read) out.old out.new) }
-        ensures tells { (read : List Seen) → gathers self.now gathered read
-            → IfOk result (λ note. note ≡ (asked self.now).tells read) }
-        ensures stops { (read : List Seen) → gathers self.now gathered read → IfErr result (λ cause.
-            TextStops O.Sink ((asked self.now).last (kept_by shelf.now).way read) cause out.old out.new) }
-        ensures sure { (read : List Seen) → gathers self.now gathered read
-            → (asked self.now).last (kept_by shelf.now).way read ≡ Ok [] → IfErr result (λ _. ⊥) };
+        ensures takes { (read : List EntryView) → gathers self.now gathered read
+            → OnOk result (PutsText O.Sink ((query self.now).last (kept_by shelf.now).way read) out.old out.new) }
+        ensures tells { (read : List EntryView) → gathers self.now gathered read
+            → IfOk result (λ note. note ≡ (query self.now).tells read) }
+        ensures stops { (read : List EntryView) → gathers self.now gathered read → IfErr result (λ cause.
+            TextStops O.Sink ((query self.now).last (kept_by shelf.now).way read) cause out.old out.new) }
+        ensures sure { (read : List EntryView) → gathers self.now gathered read
+            → (query self.now).last (kept_by shelf.now).way read ≡ Ok [] → IfErr result (λ _. ⊥) };
 }

@@ -1,10 +1,10 @@
 //! `repack`: the image of a file is coded anew, and the file with it is added to the shelf.
 ghost use Rattle.std.specs.Prelude.{◌≡◌, IfErr, IfOk};
-ghost use Rattle.lr_rice_coder.specs.Coded.{IsBlock};
+ghost use Rattle.lr_rice_coder.specs.Coded.{IsBlockSize};
 ghost use Rattle.lr_causes.specs.Outside.{outlets, outlets_of};
 ghost use Rattle.lr_commands.specs.Adding.{RunsAdding};
 ghost use Rattle.lr_commands.specs.Repack.{IsNotRepacked, IsRepackOf, origin_kept};
-ghost use Rattle.lr_commands.specs.Repack.{refusal_cause, repack_asked, repack_refusal};
+ghost use Rattle.lr_commands.specs.Repack.{refusal_cause, repack_query, repack_refusal};
 
 use lr_bits::{Bytes, Origin, Placed};
 use lr_catalog::repack_line;
@@ -59,7 +59,7 @@ fn code_stored(
     block: u32,
     stored: Stored,
 ) -> Result<Repacked, Cause>
-    requires { IsBlock block }
+    requires { IsBlockSize block }
     ensures ok { IfOk result (IsRepackOf number place block stored) }
     ensures err { IfErr result (IsNotRepacked block stored) }
 {
@@ -86,8 +86,8 @@ pub fn repack<D: Disk, O: Sink>(
     disk: &mut D,
     out: &mut O,
 ) -> Cause
-    requires { IsBlock block }
-    ensures { RunsAdding (outlets_of D.Disk O.Sink) (repack_asked number block) result
+    requires { IsBlockSize block }
+    ensures { RunsAdding (outlets_of D.Disk O.Sink) (repack_query number block) result
         (outlets disk.old out.old) (outlets disk.new out.new) }
 {
     let mut shelf = match Shelf::load(alloc, disk) {

@@ -25,17 +25,16 @@ fn take_entries<C: ReadsEntries, D: Disk, O: Sink>(
 ) -> Result<Option<Note>, Cause>
     requires fresh { C.gathers command.now gathered [] }
     requires working { (kept_by shelf.old).failed ≡ false }
-    ensures takes { IfOk result (λ note. RunsOn (outlets_of D.Disk O.Sink) (C.asked command.now)
+    ensures takes { IfOk result (λ note. RunsOn (outlets_of D.Disk O.Sink) (C.query command.now)
         (kept_by shelf.old).way (done_with note)
         (outlets disk.old out.old) (outlets disk.new out.new)) }
-    ensures stops { IfErr result (λ cause. RunsOn (outlets_of D.Disk O.Sink) (C.asked command.now)
+    ensures stops { IfErr result (λ cause. RunsOn (outlets_of D.Disk O.Sink) (C.query command.now)
         (kept_by shelf.old).way cause
         (outlets disk.old out.old) (outlets disk.new out.new)) }
     ensures undone { IfErr result (λ cause. IsDone cause → ⊥) }
-    ensures gathers { OnOk result (D.tells disk.old → O.tells out.old → (put : List ℕ)
+    ensures gathers { OnOk result (O.tells out.old → (put : List ℕ)
         × (O.contents out.new ≡ O.contents out.old ++ put)
-        × HasGathered (C.asked command.now) (C.gathers command.now) (D.contents disk.old)
-        (kept_by shelf.old).way put) }
+        × HasGathered D.Disk disk.old (C.query command.now) (C.gathers command.now) (kept_by shelf.old).way put) }
 {
     let count = shelf.len();
     let Some(range) = command.range(count) else {
@@ -57,11 +56,11 @@ pub fn run_entries<C: ReadsEntries, D: Disk, O: Sink>(
     disk: &mut D,
     out: &mut O,
 ) -> Cause
-    ensures runs { RunsOver (outlets_of D.Disk O.Sink) (C.asked command.now) result
+    ensures runs { RunsOver (outlets_of D.Disk O.Sink) (C.query command.now) result
         (outlets disk.old out.old) (outlets disk.new out.new) }
-    ensures gathers { IsDone result → D.tells disk.old → O.tells out.old → (put : List ℕ)
+    ensures gathers { IsDone result → O.tells out.old → (put : List ℕ)
         × (O.contents out.new ≡ O.contents out.old ++ put)
-        × GathersOver (C.asked command.now) (C.gathers command.now) (D.contents disk.old) put }
+        × GathersOver D.Disk disk.old (C.query command.now) (C.gathers command.now) put }
 {
     let gathered = match command.start(alloc) {
         Ok(gathered) => gathered,

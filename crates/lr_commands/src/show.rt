@@ -2,7 +2,7 @@
 ghost use Rattle.std.specs.Prelude.{◌≡◌, IfOk};
 ghost use Rattle.lr_causes.specs.Outside.{outlets, outlets_of};
 ghost use Rattle.lr_commands.specs.Runs.{RunsOver};
-ghost use Rattle.lr_commands.specs.Show.{show_asked, show_text};
+ghost use Rattle.lr_commands.specs.Show.{show_query, show_text};
 
 use crate::one_file::{PutsFile, run_one};
 use crate::opened::Opened;
@@ -33,7 +33,7 @@ impl PutsFile for Showing {
 
     ghost looks = { λ s. false };
 
-    ghost becomes = { λ s number opened. show_fate number opened };
+    ghost entry_text = { λ s number opened. show_fate number opened };
 
     fn looks(&self) -> bool {
         false
@@ -54,7 +54,7 @@ impl PutsFile for Showing {
 /// Puts the line of the file of this number and a line for each record of its header, or one for the header's first
 /// fault.
 pub fn show<D: Disk, O: Sink>(alloc: Global, number: u64, disk: &mut D, out: &mut O) -> Cause
-    ensures { RunsOver (outlets_of D.Disk O.Sink) (show_asked number) result
+    ensures { RunsOver (outlets_of D.Disk O.Sink) (show_query number) result
         (outlets disk.old out.old) (outlets disk.new out.new) }
 {
     run_one(alloc, number, Showing, disk, out)

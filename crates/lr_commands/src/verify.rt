@@ -4,7 +4,7 @@ ghost use Rattle.lr_catalog.specs.Files.{check_line};
 ghost use Rattle.lr_causes.specs.Outside.{outlets, outlets_of};
 ghost use Rattle.lr_commands.specs.Runs.{RunsOver};
 ghost use Rattle.lr_commands.specs.Steps.{PutsText, TextStops};
-ghost use Rattle.lr_commands.specs.Verify.{verify_asked};
+ghost use Rattle.lr_commands.specs.Verify.{verify_query};
 
 use crate::gone::put_gone;
 use crate::range::Range;
@@ -39,12 +39,12 @@ struct VerifyAll;
 
 impl ReadsEntries for VerifyAll {
     ghost use Rattle.std.specs.Prelude.{◌≡◌};
-    ghost use Rattle.lr_commands.specs.Verify.{verify_asked, none_bad};
+    ghost use Rattle.lr_commands.specs.Verify.{verify_query, none_bad};
 
     /// Whether no checksum was wrong.
     type Gathered = bool;
 
-    ghost asked = { λ s. verify_asked };
+    ghost query = { λ s. verify_query };
 
     ghost gathers = { λ s gathered read. gathered ≡ none_bad read };
 
@@ -95,7 +95,7 @@ impl ReadsEntries for VerifyAll {
 
 /// A line for each entry: whether its checksum is right, or that it is gone. It goes on to the last where one is wrong.
 pub fn verify<D: Disk, O: Sink>(alloc: Global, disk: &mut D, out: &mut O) -> Cause
-    ensures { RunsOver (outlets_of D.Disk O.Sink) verify_asked result
+    ensures { RunsOver (outlets_of D.Disk O.Sink) verify_query result
         (outlets disk.old out.old) (outlets disk.new out.new) }
 {
     run_entries(alloc, &VerifyAll, disk, out)

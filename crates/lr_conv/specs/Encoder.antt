@@ -9,6 +9,6 @@ abbrev pub past_of : ℕ → List Bool
 past_of state = map (λ k. bit_at state (5 - k) == 1) (range_with_len 0 6)
 
 -- the encoder began after these six bits, and has taken these bits since
-pub record StandsFor (encoder : Encoder) (past bits : List Bool) : Type 0 where
+pub record EncoderStandsFor (encoder : Encoder) (past bits : List Bool) : Type 0 where
   pub six : length past ≡ 6
   pub last_six : past_of encoder.state ≡ drop (length bits) (past ++ bits)

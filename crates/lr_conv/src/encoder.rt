@@ -15,22 +15,22 @@ pub struct Encoder {
 }
 
 impl Encoder {
-    ghost use Rattle.lr_conv.specs.Encoder.{StandsFor, past_of};
+    ghost use Rattle.lr_conv.specs.Encoder.{EncoderStandsFor, past_of};
 
     /// An encoder after six bits: those of the state, the most significant of them the oldest.
     pub fn new(state: u8) -> Encoder
         requires { state < 64 }
-        ensures { StandsFor result (past_of state) [] }
+        ensures { EncoderStandsFor result (past_of state) [] }
     {
         Encoder { state }
     }
 
     /// The two symbols of one bit more (CCSDS 131.0-B, section 3.3).
     pub fn push(&mut self, bit: bool) -> (bool, bool)
-        ensures symbols { (past bits : List Bool) → StandsFor self.old past bits →
+        ensures symbols { (past bits : List Bool) → EncoderStandsFor self.old past bits →
             code STANDARD past (bits ++ bit ∷ []) ≡ code STANDARD past bits ++ result.0 ∷ result.1 ∷ [] }
-        ensures history { (past bits : List Bool) → StandsFor self.old past bits →
-            StandsFor self.new past (bits ++ bit ∷ []) }
+        ensures history { (past bits : List Bool) → EncoderStandsFor self.old past bits →
+            EncoderStandsFor self.new past (bits ++ bit ∷ []) }
     {
         let seven = 2 * self.state + u8::from(bit);
         self.state = seven % 64;

@@ -38,22 +38,22 @@ fn next_level(line: LineCode, level: bool, bit: bool) -> bool
 }
 
 impl LineEncoder {
-    ghost use Rattle.lr_conv.specs.LineEncoder.{StandsFor};
+    ghost use Rattle.lr_conv.specs.LineEncoder.{LineEncoderStandsFor};
 
     /// An encoder after six levels 0.
     pub fn new(line: LineCode) -> LineEncoder
-        ensures { StandsFor result line [] }
+        ensures { LineEncoderStandsFor result line [] }
     {
         LineEncoder { line, state: 0 }
     }
 
     /// The two symbols of one bit more (CCSDS 131.0-B, section 3.3, over the levels).
     pub fn push(&mut self, bit: bool) -> (bool, bool)
-        ensures symbols { (line : LineCode) (bits : List Bool) → StandsFor self.old line bits →
+        ensures symbols { (line : LineCode) (bits : List Bool) → LineEncoderStandsFor self.old line bits →
             code line six_zeros (levels line false (bits ++ bit ∷ [])) ≡
             code line six_zeros (levels line false bits) ++ result.0 ∷ result.1 ∷ [] }
-        ensures history { (line : LineCode) (bits : List Bool) → StandsFor self.old line bits →
-            StandsFor self.new line (bits ++ bit ∷ []) }
+        ensures history { (line : LineCode) (bits : List Bool) → LineEncoderStandsFor self.old line bits →
+            LineEncoderStandsFor self.new line (bits ++ bit ∷ []) }
     {
         let level = next_level(self.line, self.state % 2 == 1, bit);
         let seven = 2 * self.state + u8::from(level);

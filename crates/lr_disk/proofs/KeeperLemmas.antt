@@ -83,7 +83,7 @@ least_first start [] = omega arith
 least_first start (torn from to ∷ pending) = omega (arith, least_first start pending)
 least_first start (cut n ∷ pending) = omega (arith, least_first start pending)
 
--- some front of c, and then durable bytes
+-- some prefix of c, and then durable bytes
 module _ (durable : List ℕ) (pending : List Pending) (c : List ℕ) (m n : ℕ) (short : m ≤ length c) (later : m ≤ n) where
   front : List ℕ
   front = take m c ++ filler durable m n

@@ -6,7 +6,7 @@ use Rattle.std.proofs.Math.Seq.{take-add, take-append-add}
 use Rattle.std.proofs.lemmas.List.{drop-drop, drop-take, take-take, take_all}
 use Rattle.std.proofs.lemmas.Slice.{take-put_mid}
 use borrow.Rule.Slice.PartMut.{put_mid}
-use Rattle.lr_disk.specs.Disk.{Cut, Elapses, Follows, KeepsImages, SameImages, Torn, Written}
+use Rattle.lr_disk.specs.Disk.{Cut, Elapses, FollowsWrite, KeepsImages, SameImages, Torn, Written}
 use Rattle.lr_disk.specs.Mem.{written_torn}
 
 -- what was read, and one piece more
@@ -71,8 +71,8 @@ torn_wider from to to' old new wider torn =
     }
 
 pub follows_wider : (from to to' : ℕ) (images images' : List ℕ → Type 0) → to ≤ to'
-    → Follows (Torn from to) images images'
-    → Follows (Torn from to') images images'
+    → FollowsWrite (Torn from to) images images'
+    → FollowsWrite (Torn from to') images images'
 follows_wider from to to' images images' wider follows c image =
     let was = follows c image in
     (was.0, was.1, torn_wider from to to' was.0 c wider was.2)
@@ -127,9 +127,9 @@ module _ (at done : ℕ) (bytes rest old mid : List ℕ) (within : done ≤ leng
   torn_now = torn_on old mid torn_so_far
 
   pub follows_on : (images images' images'' : List ℕ → Type 0)
-      → Follows (Torn (min at (length old)) (at + length bytes)) images images'
-      → Follows (Torn (min (at + done) (length mid)) (at + done + length rest)) images' images''
-      → Follows (Torn (min at (length old)) (at + length bytes)) images images''
+      → FollowsWrite (Torn (min at (length old)) (at + length bytes)) images images'
+      → FollowsWrite (Torn (min (at + done) (length mid)) (at + done + length rest)) images' images''
+      → FollowsWrite (Torn (min at (length old)) (at + length bytes)) images images''
   follows_on images images' images'' first second c image =
       let mid_is = second c image in
       let old_is = first mid_is.0 mid_is.1 in
@@ -161,7 +161,7 @@ module _ (at done : ℕ) (bytes rest old mid : List ℕ) (within : done ≤ leng
       ]
 
 -- nothing is cut off
-pub uncut : (n : ℕ) (old new : List ℕ → Type 0) → SameImages old new → Follows (Cut n) old new
+pub uncut : (n : ℕ) (old new : List ℕ → Type 0) → SameImages old new → FollowsWrite (Cut n) old new
 uncut n old new same c image = (
   c,
   (same c).0 image,

@@ -5,7 +5,7 @@ use Rattle.lr_disk.specs.Stop.{with_filler}
 use Rattle.lr_disk.specs.declared.stop.Left.{Left}
 
 -- they are those of this state
-pub record Shows (s : State) (left : Left) : Type 0 where
+pub record ShowsLeft (s : State) (left : Left) : Type 0 where
   pub durable : left.durable.items ≡ s.durable
   pub bytes : left.bytes.items ≡ s.contents
   pub filled_is : left.filled.items ≡ with_filler s.durable s.pending

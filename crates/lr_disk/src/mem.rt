@@ -62,7 +62,7 @@ impl MemDisk {
       room_of,
       faults_of,
       failing_call,
-      IsRefused,
+      RefusesWrites,
       FailsCall,
       States,
     };
@@ -145,7 +145,8 @@ impl MemDisk {
 
     /// Whether the call that begins fails, and is then counted: no call is left, or it is stated to fail.
     fn is_refused(&mut self) -> bool
-        ensures { MatchBool result (FailsCall self.old self.new) ((self.new ≡ self.old) × (IsRefused self.old → ⊥)) }
+        ensures { MatchBool result (FailsCall self.old self.new) ((self.new ≡ self.old)
+            × (RefusesWrites self.old → ⊥)) }
     {
         let made = self.past.calls.len() as u64;
         if made >= self.most {
@@ -186,7 +187,7 @@ impl Disk for MemDisk {
       Torn,
       Cut,
       bytes_at,
-      Follows,
+      FollowsWrite,
       SameImages,
       KeepsImages,
       NoOther,
@@ -200,7 +201,7 @@ impl Disk for MemDisk {
       left_since as left_by,
       calls_made,
       faults_of,
-      IsRefused,
+      RefusesWrites,
       IsPastRoom,
       CountsCall,
     };
@@ -234,7 +235,7 @@ impl Disk for MemDisk {
         ensures crash { SameImages (images_by self.old) (images_by self.new) }
         ensures time { Elapses (calls_made self.old) (calls_made self.new)
             (left_by self.old) (left_by self.new) (images_by self.new) }
-        ensures exact { IsErr result ↔ IsRefused self.old }
+        ensures exact { IsErr result ↔ RefusesWrites self.old }
         ensures limits { CountsCall 0 self.old self.new }
     {
         if self.is_refused() {
@@ -256,7 +257,7 @@ impl Disk for MemDisk {
         ensures crash { SameImages (images_by self.old) (images_by self.new) }
         ensures time { Elapses (calls_made self.old) (calls_made self.new)
             (left_by self.old) (left_by self.new) (images_by self.new) }
-        ensures exact { IsErr result ↔ IsRefused self.old }
+        ensures exact { IsErr result ↔ RefusesWrites self.old }
         ensures limits { CountsCall 0 self.old self.new }
     {
         if self.is_refused() {
@@ -283,12 +284,12 @@ impl Disk for MemDisk {
         ensures written { OnOk result (Written at bytes.now (held_by self.old) (held_by self.new)) }
         ensures torn { Torn (min at (length (held_by self.old))) (at + length bytes.now)
             (held_by self.old) (held_by self.new) }
-        ensures crash { Follows (Torn (min at (length (held_by self.old))) (at + length bytes.now))
+        ensures crash { FollowsWrite (Torn (min at (length (held_by self.old))) (at + length bytes.now))
             (images_by self.old) (images_by self.new) }
         ensures kept { KeepsImages (images_by self.old) (images_by self.new) }
         ensures time { Elapses (calls_made self.old) (calls_made self.new)
             (left_by self.old) (left_by self.new) (images_by self.new) }
-        ensures exact { IsErr result ↔ (IsRefused self.old ⊎ IsPastRoom self.old at (length bytes.now)) }
+        ensures exact { IsErr result ↔ (RefusesWrites self.old ⊎ IsPastRoom self.old at (length bytes.now)) }
         ensures unwritten { OnErr result (held_by self.new ≡ held_by self.old) }
         ensures limits { CountsCall (if is_ok result then length bytes.now else 0) self.old self.new }
     {
@@ -312,11 +313,11 @@ impl Disk for MemDisk {
         ensures cut { OnOk result (held_by self.new ≡ take length (held_by self.old)) }
         ensures failed { OnErr result
             ((held_by self.new ≡ take length (held_by self.old)) ⊎ (held_by self.new ≡ held_by self.old)) }
-        ensures crash { Follows (Cut length) (images_by self.old) (images_by self.new) }
+        ensures crash { FollowsWrite (Cut length) (images_by self.old) (images_by self.new) }
         ensures kept { KeepsImages (images_by self.old) (images_by self.new) }
         ensures time { Elapses (calls_made self.old) (calls_made self.new)
             (left_by self.old) (left_by self.new) (images_by self.new) }
-        ensures exact { IsErr result ↔ IsRefused self.old }
+        ensures exact { IsErr result ↔ RefusesWrites self.old }
         ensures uncut { OnErr result (held_by self.new ≡ held_by self.old) }
         ensures limits { CountsCall 0 self.old self.new }
     {
@@ -336,7 +337,7 @@ impl Disk for MemDisk {
         ensures crash { NoOther (images_by self.old) (images_by self.new) }
         ensures time { Elapses (calls_made self.old) (calls_made self.new)
             (left_by self.old) (left_by self.new) (images_by self.new) }
-        ensures exact { IsErr result ↔ IsRefused self.old }
+        ensures exact { IsErr result ↔ RefusesWrites self.old }
         ensures limits { CountsCall 0 self.old self.new }
     {
         if self.is_refused() {

@@ -7,7 +7,7 @@ ghost use Rattle.lr_disk.specs.Disk.{
   Torn,
   Cut,
   bytes_at,
-  Follows,
+  FollowsWrite,
   SameImages,
   KeepsImages,
   NoOther,
@@ -81,7 +81,7 @@ pub trait RandomAccessFile {
             → Written at (take n bytes.now) (contents self.old) (contents self.new)) }
         ensures torn { tells self.old → Torn (min at (length (contents self.old))) (at + length bytes.now)
             (contents self.old) (contents self.new) }
-        ensures crash { tells self.old → Follows
+        ensures crash { tells self.old → FollowsWrite
             (Torn (min at (length (contents self.old))) (at + length bytes.now))
             (may_leave self.old) (may_leave self.new) }
         ensures kept { tells self.old → KeepsImages (may_leave self.old) (may_leave self.new) }
@@ -100,7 +100,7 @@ pub trait RandomAccessFile {
             → OnErr result ((contents self.new ≡ take size (contents self.old))
             ⊎ (contents self.new ≡ contents self.old)) }
         ensures crash { tells self.old → size ≤ length (contents self.old)
-            → Follows (Cut size) (may_leave self.old) (may_leave self.new) }
+            → FollowsWrite (Cut size) (may_leave self.old) (may_leave self.new) }
         ensures kept { tells self.old → size ≤ length (contents self.old)
             → KeepsImages (may_leave self.old) (may_leave self.new) }
         ensures time { tells self.old → size ≤ length (contents self.old)

@@ -27,13 +27,13 @@ pub(crate) struct Left {
 }
 
 impl Left {
-    ghost use Rattle.lr_disk.specs.Left.{Shows};
+    ghost use Rattle.lr_disk.specs.Left.{ShowsLeft};
     ghost use Rattle.lr_disk.specs.Stop.{inside, left_of_kind};
 
     /// The bytes before any call. It takes the room three times.
     pub(crate) fn of(alloc: Global, first: &[u8], room: usize) -> Result<Left, NoMemory>
         requires { length first.now ≤ room }
-        ensures shows { IfOk result (Shows (at_start first.now)) }
+        ensures shows { IfOk result (ShowsLeft (at_start first.now)) }
         ensures room { IfOk result (λ left. left.room ≡ room) }
     {
         let mut durable = Vec::with_capacity(alloc, room)?;
@@ -54,7 +54,7 @@ impl Left {
     pub(crate) fn make_all(&mut self, log: &[u8], calls: &[Call])
         requires logged { reach calls.now ≤ length log.now }
         requires small { span calls.now ≤ self.old.room }
-        ensures shows { (s : State) → Shows s self.old → Shows (after_all log.now calls.now s) self.new }
+        ensures shows { (s : State) → ShowsLeft s self.old → ShowsLeft (after_all log.now calls.now s) self.new }
         ensures room { self.new.room ≡ self.old.room }
     {
         for call in calls {
@@ -66,7 +66,7 @@ impl Left {
     pub(crate) fn stop_in(&mut self, log: &[u8], call: Call)
         requires logged { reach (call ∷ []) ≤ length log.now }
         requires small { span (call ∷ []) ≤ self.old.room }
-        ensures shows { (s : State) → Shows s self.old → Shows (inside log.now call s) self.new }
+        ensures shows { (s : State) → ShowsLeft s self.old → ShowsLeft (inside log.now call s) self.new }
         ensures room { self.new.room ≡ self.old.room }
     {
         match call {
@@ -79,7 +79,7 @@ impl Left {
     pub(crate) fn make(&mut self, log: &[u8], call: Call)
         requires logged { reach (call ∷ []) ≤ length log.now }
         requires small { span (call ∷ []) ≤ self.old.room }
-        ensures shows { (s : State) → Shows s self.old → Shows (after log.now call s) self.new }
+        ensures shows { (s : State) → ShowsLeft s self.old → ShowsLeft (after log.now call s) self.new }
         ensures room { self.new.room ≡ self.old.room }
     {
         match call {
@@ -99,7 +99,7 @@ impl Left {
     /// Writes the bytes at a place.
     fn write(&mut self, at: usize, piece: &[u8])
         requires { at + length piece.now ≤ self.old.room }
-        ensures shows { (s : State) → Shows s self.old → Shows (over at piece.now s) self.new }
+        ensures shows { (s : State) → ShowsLeft s self.old → ShowsLeft (over at piece.now s) self.new }
         ensures room { self.new.room ≡ self.old.room }
     {
         let from = at.min(self.filled.len());
@@ -109,8 +109,8 @@ impl Left {
 
     /// Makes all bytes durable.
     fn sync(&mut self)
-        ensures shows { (s : State) → Shows s self.old
-            → Shows (record { durable = s.contents; pending = []; contents = s.contents }) self.new }
+        ensures shows { (s : State) → ShowsLeft s self.old
+            → ShowsLeft (record { durable = s.contents; pending = []; contents = s.contents }) self.new }
         ensures room { self.new.room ≡ self.old.room }
     {
         refill(&mut self.durable, &self.bytes);
@@ -119,7 +119,7 @@ impl Left {
 
     /// The bytes that a stop of this kind leaves.
     pub(crate) fn kind(self, kind: u8) -> Vec<u8>
-        ensures value { (s : State) → Shows s self → result.items ≡ left_of_kind kind s }
+        ensures value { (s : State) → ShowsLeft s self → result.items ≡ left_of_kind kind s }
         ensures few { length result.items ≤ self.room }
     {
         match kind {

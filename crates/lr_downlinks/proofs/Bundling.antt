@@ -31,7 +31,7 @@ use Rattle.lr_downlinks.specs.Bundles.{
   part_of,
   parts_of,
 }
-use Rattle.lr_downlinks.specs.Readings.{AreEnds, AreFound, BreaksOff, IsEnd, IsCutAt, last_end, start_of}
+use Rattle.lr_downlinks.specs.Readings.{AreEnds, AreFound, BreaksOff, IsEnd, IsCutAt, last_end, recording_start}
 use Rattle.lr_downlinks.specs.Readings.{streams_between}
 use Rattle.lr_downlinks.specs.declared.fault.BundleFault.{BundleFault}
 use Rattle.lr_downlinks.specs.declared.fault.BundleFault.TheVariants.{Ended, Count, Rest}
@@ -500,8 +500,8 @@ module _ (bytes : List ℕ) (count : ℕ) (first : slice_get bytes 0 ≡ Some co
 
 pub record HasStream (bytes : List ℕ) (from : ℕ) (ends : List ℕ) (k : ℕ) : Type 0 where
   pub stream : slice_index_or (streams_between bytes from ends) k []
-      ≡ slice_range bytes (start_of from ends k + 8) (slice_index ends k)
-  pub after : start_of from ends k + 8 ≤ slice_index ends k
+      ≡ slice_range bytes (recording_start from ends k + 8) (slice_index ends k)
+  pub after : recording_start from ends k + 8 ≤ slice_index ends k
   pub inside : slice_index ends k ≤ length bytes
 
 pub has_stream : (bytes : List ℕ) (from : ℕ) (ends : List ℕ) (k : ℕ) → AreEnds (length bytes) from ends
@@ -516,12 +516,12 @@ has_stream bytes from (end ∷ ends) (suc (suc k)) are inside =
     record { stream = one.stream; after = one.after; inside = one.inside }
 
 -- but for the first, it is the end of the one before
-pub start_later : (from : ℕ) (ends : List ℕ) (k : ℕ) → 0 < k → start_of from ends k ≡ slice_index ends (k - 1)
+pub start_later : (from : ℕ) (ends : List ℕ) (k : ℕ) → 0 < k → recording_start from ends k ≡ slice_index ends (k - 1)
 start_later from ends zero some = absurd (omega (arith, some))
 start_later from ends (suc k) some = ap (slice_index ends) (omega arith)
 
 start_in_front : (from : ℕ) (ends : List ℕ) (count k : ℕ) → k < count
-    → start_of from (take count ends) k ≡ start_of from ends k
+    → recording_start from (take count ends) k ≡ recording_start from ends k
 start_in_front from ends count zero inside = refl
 start_in_front from ends count (suc k) inside = get_or-take count ends k 0 (omega (arith, inside))
 
@@ -532,8 +532,8 @@ count_is bytes count ends is =
 
 -- the stream of this number, as the type of a bundle keeps it
 pub record IsStream (bytes : List ℕ) (ends : List ℕ) (k : ℕ) (stream : List ℕ) : Type 0 where
-  pub stream_is : stream ≡ slice_range bytes (start_of 1 ends k + 8) (slice_index ends k)
-  pub after : start_of 1 ends k + 8 ≤ slice_index ends k
+  pub stream_is : stream ≡ slice_range bytes (recording_start 1 ends k + 8) (slice_index ends k)
+  pub after : recording_start 1 ends k + 8 ≤ slice_index ends k
   pub inside : slice_index ends k ≤ length bytes
   pub below : k < 16
 
@@ -544,7 +544,8 @@ stream_of bytes count ends is k inside =
     let below : k < count = omega (arith, inside, count_is bytes count ends is) in
     let many : length (take count ends) ≡ count = length-take-le count ends (omega (arith, is.few, is.room)) in
     let has = has_stream bytes 1 (take count ends) k is.are_ends (omega (arith, below, many)) in
-    let start : start_of 1 (take count ends) k ≡ start_of 1 ends k = start_in_front 1 ends count k below in
+    let start : recording_start 1 (take count ends) k ≡ recording_start 1 ends k =
+    start_in_front 1 ends count k below in
     let end : slice_index (take count ends) k ≡ slice_index ends k = get_or-take count ends k 0 below in
     record {
       stream_is = has.stream ∙ (λ i. slice_range bytes (start i + 8) (end i));

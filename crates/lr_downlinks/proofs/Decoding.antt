@@ -15,24 +15,24 @@ use Rattle.lr_frame.proofs.Given.{all_outcomes, outcomes_stay}
 use Rattle.lr_frame.specs.Outcomes.{outcome_in, outcome_of_window, outcomes_of_symbols}
 use Rattle.lr_bits.specs.Outcomes.{is_restored}
 use Rattle.lr_bits.specs.declared.sizes.TheConstants.{FRAME_SYMBOLS}
-use Rattle.lr_layers.specs.Layers.{numbers_of, Numbers}
+use Rattle.lr_layers.specs.Layers.{numbers_of, CountsView}
 use Rattle.lr_layers.specs.Origins.{placed_of_outcomes, placed_packets}
-use Rattle.lr_layers.specs.Standing.{AddsFiles, Kept, StandsFor as LayersStandFor}
+use Rattle.lr_layers.specs.Standing.{AddsFiles, KeptLayers, LayersStandFor}
 use Rattle.lr_lock.proofs.Bytes.{length-symbols_of, symbols_of-append}
 use Rattle.lr_lock.specs.Frames.{AreFrames}
-use Rattle.lr_lock.specs.Standing.{LockState, StandsFor}
+use Rattle.lr_lock.specs.Standing.{LockState, LockStandsFor}
 use Rattle.lr_lock.specs.Steps.{GivesWindow, HasEnded, WantsMore}
 use Rattle.lr_lock.specs.Symbols.{symbols_of}
 use Rattle.lr_lock.specs.Windows.{WindowView, window_view}
 use Rattle.lr_lock.specs.declared.frame.Frame.{Frame}
 use Rattle.lr_downlinks.specs.Decoding.{
   FeedsMore,
-  FeedsOn,
-  IsDecoded,
+  DecodesOn,
+  IsDecodedSoFar,
   IsFed,
-  Shows,
+  ShowsWindow,
   outcomes_given,
-  steps_left,
+  decode_steps_left,
 }
 use Rattle.lr_downlinks.specs.Streams.{files_of_stream}
 use Rattle.lr_downlinks.specs.declared.sizes.TheConstants.{MOST_STREAM_SYMBOLS}
@@ -67,11 +67,11 @@ feeds_rest stream taken lock new size more =
 module _ (line : LineCode) (stream : List ℕ) where
   -- ---- feeding
 
-  module _ (fed : ℕ) (given : List Frame) (now : ℕ) (lock : LockState) (on : FeedsOn line stream fed given now lock)
+  module _ (fed : ℕ) (given : List Frame) (now : ℕ) (lock : LockState) (on : DecodesOn line stream fed given now lock)
       (later : LockState) (line_stays : later.line ≡ lock.line) (finished : later.finished ≡ lock.finished) where
     -- it wants more
     pub wanted : WantsMore lock later (symbols_of (take now stream)) given → length later.kept ≤ length lock.kept
-        → FeedsOn line stream fed given now later
+        → DecodesOn line stream fed given now later
     wanted wants passes = record {
       is_fed = record {
         inside = on.is_fed.inside;
@@ -85,7 +85,7 @@ module _ (line : LineCode) (stream : List ℕ) where
 
     pub window_shown : (seen : WindowView) → GivesWindow lock later seen (symbols_of (take now stream)) given
         → length later.kept + FRAME_SYMBOLS ≤ length lock.kept
-        → Shows line stream fed given later seen (Some now)
+        → ShowsWindow line stream fed given later seen (Some now)
     window_shown seen gives shorter = (
       gives.frame,
       record {
@@ -101,7 +101,7 @@ module _ (line : LineCode) (stream : List ℕ) where
     )
 
     pub all_shown : (seen : WindowView) → HasEnded lock later (symbols_of (take now stream)) given
-        → Shows line stream fed given later seen None
+        → ShowsWindow line stream fed given later seen None
     all_shown seen ended =
         let whole : now ≡ length stream = on.is_fed.ended ended.closed in
         let all : AreFrames (tail_of line) (symbols_of (take now stream)) given =
@@ -120,12 +120,12 @@ module _ (line : LineCode) (stream : List ℕ) where
   pub fed_fewer : (now : ℕ) (lock later new : LockState) (size : ℕ) → now ≤ length stream
       → FeedsMore later new (drop now stream) size → later.finished ≡ false → lock.finished ≡ false
       → length later.kept ≤ length lock.kept
-      → steps_left stream (now + size) new < steps_left stream now lock
+      → decode_steps_left stream (now + size) new < decode_steps_left stream now lock
   fed_fewer now lock later new size inside more unfinished unfinished' passes = by_size (cases_lt 0 size) where
     before : tick lock.finished ≡ 1
     before = ap tick unfinished'
 
-    by_size : (0 < size) ⊎ (size ≤ 0) → steps_left stream (now + size) new < steps_left stream now lock
+    by_size : (0 < size) ⊎ (size ≤ 0) → decode_steps_left stream (now + size) new < decode_steps_left stream now lock
     by_size (inl some) =
         omega (
           arith,
@@ -153,9 +153,9 @@ module _ (line : LineCode) (stream : List ℕ) where
         )
 
   -- symbols are fed, or the lock is finished
-  pub fed_on : (fed : ℕ) (given : List Frame) (now : ℕ) (lock : LockState) → FeedsOn line stream fed given now lock
+  pub fed_on : (fed : ℕ) (given : List Frame) (now : ℕ) (lock : LockState) → DecodesOn line stream fed given now lock
       → lock.finished ≡ false → (new : LockState) (size : ℕ) → FeedsMore lock new (drop now stream) size
-      → FeedsOn line stream fed given (now + size) new
+      → DecodesOn line stream fed given (now + size) new
   unfolding outcomes_given
   fed_on fed given now lock on unfinished new size more =
       by_size (cases_lt 0 size)
@@ -166,13 +166,13 @@ module _ (line : LineCode) (stream : List ℕ) where
       grown : take (now + size) stream ≡ take now stream ++ take size (drop now stream)
       grown = take-add now size stream
 
-      some : 0 < size → FeedsOn line stream fed given (now + size) new
+      some : 0 < size → DecodesOn line stream fed given (now + size) new
       some more_than = record {
         is_fed = record {
           inside = omega (arith, more.inside, length-drop now stream, is.inside);
           line_is = ap (λ (l : LockState). l.line) (more.fed more_than) ∙ is.line_is;
           stands =
-              subst (λ (l : List ℤ). StandsFor new l given)
+              subst (λ (l : List ℤ). LockStandsFor new l given)
               (sym (ap symbols_of grown ∙ symbols_of-append (take now stream) (take size (drop now stream))))
               (more.stands more_than (symbols_of (take now stream)) given is.stands);
           passed = omega (
@@ -200,11 +200,11 @@ module _ (line : LineCode) (stream : List ℕ) where
               ∙ unfinished in
               cc (e, open_is)
 
-      none : size ≡ 0 → FeedsOn line stream fed given (now + size) new
+      none : size ≡ 0 → DecodesOn line stream fed given (now + size) new
       none zero_is =
           let nothing : length stream ≤ now =
           omega (arith, length-drop now stream, ap (λ (l : List ℕ). length l) (more.ended zero_is)) in
-          subst (λ (n : ℕ). FeedsOn line stream fed given n new) (omega (arith, zero_is)) (record {
+          subst (λ (n : ℕ). DecodesOn line stream fed given n new) (omega (arith, zero_is)) (record {
             is_fed = record {
               inside = is.inside;
               line_is = ap (λ (l : LockState). l.line) (more.finished zero_is) ∙ is.line_is;
@@ -215,19 +215,19 @@ module _ (line : LineCode) (stream : List ℕ) where
             same = on.same;
           })
 
-      by_size : (0 < size) ⊎ (size ≤ 0) → FeedsOn line stream fed given (now + size) new
+      by_size : (0 < size) ⊎ (size ≤ 0) → DecodesOn line stream fed given (now + size) new
       by_size (inl more_than) = some more_than
       by_size (inr none_is) = none (omega (arith, none_is))
 
   pub begun : (given : List Frame) (fed : ℕ) (lock : LockState) → IsFed line stream fed lock given
-      → FeedsOn line stream fed given fed lock
+      → DecodesOn line stream fed given fed lock
   begun given fed lock is = record { is_fed = is; same = refl }
 
   -- ---- files
 
   -- nothing was fed yet
-  pub decoded_none : (lock : LockState) (layers : Kept) → StandsFor lock [] [] → lock.line ≡ line
-      → lock.finished ≡ false → LayersStandFor layers [] → IsDecoded line stream 0 lock layers []
+  pub decoded_none : (lock : LockState) (layers : KeptLayers) → LockStandsFor lock [] [] → lock.line ≡ line
+      → lock.finished ≡ false → LayersStandFor layers [] → IsDecodedSoFar line stream 0 lock layers []
   unfolding outcomes_given placed_of_outcomes placed_packets
   decoded_none lock layers stands line_is unfinished layers_stand = record {
     given = [];
@@ -243,8 +243,8 @@ module _ (line : LineCode) (stream : List ℕ) where
   }
 
   -- how many outcomes the layers have
-  pub outcomes_few : (fed : ℕ) (lock : LockState) (layers : Kept) (files : List Placed)
-      → IsDecoded line stream fed lock layers files → length stream ≤ MOST_STREAM_SYMBOLS
+  pub outcomes_few : (fed : ℕ) (lock : LockState) (layers : KeptLayers) (files : List Placed)
+      → IsDecodedSoFar line stream fed lock layers files → length stream ≤ MOST_STREAM_SYMBOLS
       → layers.numbers.restored + layers.numbers.lost < 2 ^ 48
   unfolding outcomes_given
   outcomes_few fed lock layers files is few =
@@ -252,8 +252,8 @@ module _ (line : LineCode) (stream : List ℕ) where
       let numbers : layers.numbers ≡ numbers_of outcomes = is.layers_stand.numbers in
       omega (
         arith,
-        ap (λ (n : Numbers). n.restored) numbers,
-        ap (λ (n : Numbers). n.lost) numbers,
+        ap (λ (n : CountsView). n.restored) numbers,
+        ap (λ (n : CountsView). n.lost) numbers,
         both_kinds outcomes,
         length-map is.given (outcome_in line (symbols_of (take fed stream))),
         is.is_fed.passed,
@@ -262,14 +262,14 @@ module _ (line : LineCode) (stream : List ℕ) where
       )
 
   -- one window more
-  pub decoded_more : (fed : ℕ) (lock : LockState) (layers : Kept) (files : List Placed)
-      → (is : IsDecoded line stream fed lock layers files) → (now : ℕ) (later : LockState) (seen : WindowView)
-      → Shows line stream fed is.given later seen (Some now)
-      → (outcome : Outcome) → outcome ≡ outcome_of_window seen.line seen.symbols → (layers' : Kept)
+  pub decoded_more : (fed : ℕ) (lock : LockState) (layers : KeptLayers) (files : List Placed)
+      → (is : IsDecodedSoFar line stream fed lock layers files) → (now : ℕ) (later : LockState) (seen : WindowView)
+      → ShowsWindow line stream fed is.given later seen (Some now)
+      → (outcome : Outcome) → outcome ≡ outcome_of_window seen.line seen.symbols → (layers' : KeptLayers)
       (files' : List Placed)
       → ((outcomes : List Outcome) → LayersStandFor layers outcomes
       → LayersStandFor layers' (outcomes ++ outcome ∷ []) × AddsFiles outcomes outcome files files')
-      → IsDecoded line stream now later layers' files'
+      → IsDecodedSoFar line stream now later layers' files'
   unfolding outcomes_given
   decoded_more fed lock layers files is now later seen shows outcome outcome_is layers' files' pushed =
       let frame = shows.0 in
@@ -293,9 +293,9 @@ module _ (line : LineCode) (stream : List ℕ) where
       }
 
   -- all windows are done
-  pub decoded_all : (fed : ℕ) (lock : LockState) (layers : Kept) (files : List Placed)
-      → (is : IsDecoded line stream fed lock layers files) → (later : LockState) (seen : WindowView)
-      → Shows line stream fed is.given later seen None → files ≡ files_of_stream line stream
+  pub decoded_all : (fed : ℕ) (lock : LockState) (layers : KeptLayers) (files : List Placed)
+      → (is : IsDecodedSoFar line stream fed lock layers files) → (later : LockState) (seen : WindowView)
+      → ShowsWindow line stream fed is.given later seen None → files ≡ files_of_stream line stream
   unfolding outcomes_given files_of_stream
   decoded_all fed lock layers files is later seen shows =
       let whole : take (length stream) stream ≡ stream = take_all (length stream) stream (omega arith) in

@@ -1,7 +1,6 @@
 -- One file more: what becomes of the disk since it was handed in.
-use Rattle.std.proofs.Common.{◌≡◌, ◌≤◌, ◌+◌, ◌-◌, ℕ, min, Result, Ok, Err, List, [], ◌∷◌, ◌++◌}
-use Rattle.std.proofs.Common.{length, take, drop, refl, sym, ap, ◌∙◌, subst, arith, length-append, length-take}
-use Rattle.std.proofs.lemmas.List.{drop-drop, take-take}
+use Rattle.std.proofs.Common.{◌≡◌, ◌≤◌, ℕ, min, Result, Ok, Err, List, [], ◌∷◌, ◌++◌}
+use Rattle.std.proofs.Common.{length, take, drop, refl, sym, ap, ◌∙◌, subst, arith, length-append}
 use Rattle.lr_bits.specs.Faults.{Rose}
 use Rattle.lr_bits.specs.declared.placed.Placed.{Placed}
 use Rattle.lr_disk.specs.declared.disk.Disk.{Ghosts as DiskOf}
@@ -12,52 +11,25 @@ use Rattle.lr_shelf_format.specs.Way.{IsWay, Way, way_with}
 use Rattle.lr_shelf.specs.Adding.{StaysOutside}
 use Rattle.lr_shelf.specs.Adds.{Adds, last_gate, new_end}
 use Rattle.lr_shelf.specs.Append.{item_for}
-use Rattle.lr_shelf.specs.Grounds.{Ground, IsSettledOn, KeepsOn, LeavesFronts, StandsForFront, StandsWith}
-use Rattle.lr_shelf.specs.Kept.{Kept, kept_by}
+use Rattle.lr_shelf.specs.InitialShelves.{
+  InitialShelf,
+  IsSettledOn,
+  KeepsOn,
+  LeavesPrefixes,
+  StandsForPrefix,
+  StandsWith,
+}
+use Rattle.lr_shelf.specs.Kept.{KeptShelf, kept_by}
 use Rattle.lr_shelf.specs.Shelf.{HasEitherWay, KeepsWay}
 use Rattle.lr_shelf.specs.declared.error.ShelfError.{ShelfError}
 use Rattle.lr_shelf.specs.declared.error.ShelfError.TheVariants.{Disk}
 use Rattle.lr_shelf.specs.declared.shelf.Shelf.{Shelf}
-use Rattle.lr_shelf.specs.Fronts.{way_with_files}
-use Rattle.lr_shelf.proofs.Fronts.{end_later, end_more, way_with_files-push}
-use Rattle.lr_shelf.proofs.GroundFronts.{front_none, fronts_with}
-use Rattle.lr_shelf.proofs.Grounds.{left_on, moments_on, now_on, settled_on}
-use Rattle.lr_downlinks.specs.Since.{HasAppended, MayHaveAppended}
-
--- ---- what stays outside
-
-outside_less : (gate gate' to : ℕ) (file mid c : List ℕ) → gate ≤ gate' → min gate (length file) ≤ length mid
-    → StaysOutside gate' to mid c → take (min gate (length file)) c ≡ take (min gate (length file)) mid
-outside_less gate gate' to file mid c later longer second =
-    let k = min gate (length file) in
-    let m = min gate' (length mid) in
-    let below : k ≤ m = omega (arith, later, longer) in
-    sym (take-take k m c below) ∙ ap (take k) second.before ∙ take-take k m mid below
-
-drop_more : (to to' : ℕ) (file c : List ℕ) → to ≤ to' → drop to c ≡ drop to file → drop to' c ≡ drop to' file
-drop_more to to' file c further same =
-    let size : to + (to' - to) ≡ to' = omega (arith, further) in
-    ap (λ (k : ℕ). drop k c) (sym size) ∙ sym (drop-drop (to' - to) to c) ∙ ap (drop (to' - to)) same
-    ∙ drop-drop (to' - to) to file ∙ ap (λ (k : ℕ). drop k file) size
-
-outside_further : (gate to to' : ℕ) (file c : List ℕ) → to ≤ to' → StaysOutside gate to file c
-    → StaysOutside gate to' file c
-outside_further gate to to' file c further stays = record {
-  before = stays.before;
-  after = drop_more to to' file c further stays.after;
-}
-
--- one write after another, each further on
-outside_on : (gate gate' to to' : ℕ) (file mid c : List ℕ) → gate ≤ gate' → to ≤ to'
-    → StaysOutside gate to file mid → StaysOutside gate' to' mid c → StaysOutside gate to' file c
-outside_on gate gate' to to' file mid c later further first second =
-    let k = min gate (length file) in
-    let longer : k ≤ length mid =
-    omega (arith, ap (λ (l : List ℕ). length l) first.before, length-take k mid, length-take k file) in
-    record {
-      before = outside_less gate gate' to' file mid c later longer second ∙ first.before;
-      after = second.after ∙ drop_more to to' file mid further first.after;
-    }
+use Rattle.lr_shelf.specs.Prefixes.{way_with_files}
+use Rattle.lr_shelf.proofs.Prefixes.{end_later, end_more, way_with_files-push}
+use Rattle.lr_shelf.proofs.InitialPrefixes.{front_none, fronts_with}
+use Rattle.lr_shelf.proofs.InitialShelves.{left_on, moments_on, now_on, settled_on}
+use Rattle.lr_shelf.proofs.Staying.{outside_further, outside_on}
+use Rattle.lr_downlinks.specs.Appended.{HasAppended, MayHaveAppended}
 
 -- ---- the beginning
 
@@ -76,11 +48,11 @@ module _ {D : Type 0} (disk : DiskOf D)
         stays disk only_now d (StaysOutside (last_gate (kept_by shelf)) (kept_by shelf).way.end (disk.contents d)) t
         (λ c image. same_outside c (only c image));
     way = λ t keeps. keeps;
-    on = λ ground s. (
+    on = λ initial s. (
       s.on_disk,
-      stays disk only_now d (StandsForFront ground [] 0) s.told
-          (λ c image. front_none ground c
-          (subst (StandsWith ground []) (sym (s.on_disk.durable c image)) s.on_disk.stands)),
+      stays disk only_now d (StandsForPrefix initial [] 0) s.told
+          (λ c image. front_none initial c
+          (subst (StandsWith initial []) (sym (s.on_disk.durable c image)) s.on_disk.stands)),
     );
   }
     where
@@ -140,28 +112,30 @@ module _ {D : Type 0} (disk : DiskOf D) (shelf : Shelf) (d : D) (files : List Pl
   module _ (leaves_contents : (d : D) → disk.tells d → disk.may_leave d (disk.contents d))
       (counts_now : (d : D) (t : ℕ) (c : List ℕ) → disk.tells d → t ≤ disk.moment d → disk.may_leave d c
       → disk.left_since d t c)
-      (keeps : (ground : Ground) → IsSettledOn ground [] disk shelf d → KeepsOn ground files old) where
-    settled_mid : (ground : Ground) → IsSettledOn ground [] disk shelf d → IsSettledOn ground files disk old mid
-    settled_mid ground s = record {
+      (keeps : (initial : InitialShelf) → IsSettledOn initial [] disk shelf d → KeepsOn initial files old) where
+    settled_mid : (initial : InitialShelf) → IsSettledOn initial [] disk shelf d
+        → IsSettledOn initial files disk old mid
+    settled_mid initial s = record {
       told = so_far.told s.told;
-      kept = keeps ground s;
-      on_disk = (so_far.on ground s).0;
+      kept = keeps initial s;
+      on_disk = (so_far.on initial s).0;
     }
 
     fronts_moments : {A : Type 0} (result : Result A ShelfError)
-        → Adds disk (item_for placed) old new mid d' result → (ground : Ground) → IsSettledOn ground [] disk shelf d
-        → LeavesFronts disk ground (files ++ placed ∷ []) d d'
-    fronts_moments result adds ground s =
-        fronts_with disk ground d mid d' files (so_far.on ground s).1 placed
-        (moments_on disk leaves_contents counts_now files placed old new mid d' result adds ground
-        (settled_mid ground s))
+        → Adds disk (item_for placed) old new mid d' result → (initial : InitialShelf)
+        → IsSettledOn initial [] disk shelf d
+        → LeavesPrefixes disk initial (files ++ placed ∷ []) d d'
+    fronts_moments result adds initial s =
+        fronts_with disk initial d mid d' files (so_far.on initial s).1 placed
+        (moments_on disk leaves_contents counts_now files placed old new mid d' result adds initial
+        (settled_mid initial s))
 
     -- the file was appended
     pub one_appended : {A : Type 0} (answer : A) → Adds disk (item_for placed) old new mid d' (Ok answer)
         → HasAppended disk shelf d (files ++ placed ∷ []) d'
     one_appended answer adds =
         let way : (kept_by new).way ≡ way_with_files (files ++ placed ∷ []) (kept_by shelf).way =
-        ap (λ (k : Kept). k.way) adds.kept
+        ap (λ (k : KeptShelf). k.way) adds.kept
         ∙ ap (way_with (head_of_item (item_for placed))) way_is
         ∙ sym (way_with_files-push files placed (kept_by shelf).way) in
         record {
@@ -177,10 +151,10 @@ module _ {D : Type 0} (disk : DiskOf D) (shelf : Shelf) (d : D) (files : List Pl
           durable = λ t only. adds.durable (so_far.told t);
           outside_any_moment = λ t only. outside_moments (Ok answer) adds t only;
           way = λ t keeps. subst (IsWay (disk.contents d')) way (adds.way (so_far.told t) (keeps_way t keeps));
-          on = λ ground s. (
-            (settled_on disk leaves_contents counts_now files placed old new mid d' answer adds ground
-                (settled_mid ground s)).on_disk,
-            fronts_moments (Ok answer) adds ground s,
+          on = λ initial s. (
+            (settled_on disk leaves_contents counts_now files placed old new mid d' answer adds initial
+                (settled_mid initial s)).on_disk,
+            fronts_moments (Ok answer) adds initial s,
           );
         }
 
@@ -198,14 +172,14 @@ module _ {D : Type 0} (disk : DiskOf D) (shelf : Shelf) (d : D) (files : List Pl
       way = λ t keeps.
           subst (λ (w : Way). HasEitherWay w (item_for placed) (disk.contents d')) way_is
           (adds.either_way (so_far.told t) (keeps_way t keeps));
-      on = λ ground s.
-          let before = settled_mid ground s in (
+      on = λ initial s.
+          let before = settled_mid initial s in (
             record {
               contents =
-                  now_on disk leaves_contents counts_now files placed old new mid d' (Err Disk) adds ground before;
+                  now_on disk leaves_contents counts_now files placed old new mid d' (Err Disk) adds initial before;
               images =
-                  left_on disk leaves_contents counts_now files placed old new mid d' (Err Disk) adds ground before;
+                  left_on disk leaves_contents counts_now files placed old new mid d' (Err Disk) adds initial before;
             },
-            fronts_moments (Err Disk) adds ground s,
+            fronts_moments (Err Disk) adds initial s,
           );
     }

@@ -8,7 +8,7 @@ use Rattle.lr_disk.specs.declared.disk.Disk.{Ghosts as DiskOf}
 use Rattle.lr_shelf_format.specs.Items.{head_of_item}
 use Rattle.lr_shelf_format.specs.Way.{Way, way_with}
 use Rattle.lr_shelf.specs.Append.{Appends, item_for}
-use Rattle.lr_shelf.specs.Kept.{Kept, kept_by, kept_with}
+use Rattle.lr_shelf.specs.Kept.{KeptShelf, kept_by, kept_with}
 use Rattle.lr_shelf.specs.declared.error.ShelfError.{ShelfError}
 use Rattle.lr_shelf.specs.declared.error.ShelfError.TheVariants.{Disk}
 use Rattle.lr_shelf.specs.declared.shelf.Shelf.{Shelf}
@@ -19,15 +19,15 @@ use Rattle.lr_downlinks.specs.Appending.{
   WantsMemory,
   answer_to,
   failed_after,
-  view_of,
+  book_view_of,
 }
-use Rattle.lr_downlinks.specs.Books.{BeginsRun, BookView, IsBookOf, Keeps, StandsOver, Works, WorksOrBroke}
+use Rattle.lr_downlinks.specs.Books.{BeginsRun, BookView, IsBookOf, KeepsBook, StandsOver, BookWorks, WorksOrBroke}
 use Rattle.lr_downlinks.specs.Merge.{IsNextOf, times_in_order}
-use Rattle.lr_shelf.specs.Fronts.{way_with_files}
-use Rattle.lr_downlinks.specs.Since.{HasAppended}
+use Rattle.lr_shelf.specs.Prefixes.{way_with_files}
+use Rattle.lr_downlinks.specs.Appended.{HasAppended}
 use Rattle.lr_downlinks.specs.Start.{Start, files_in, merged}
-use Rattle.lr_shelf.proofs.Fronts.{way_with_files-push}
-use Rattle.lr_shelf.proofs.GroundFronts.{keeps_on}
+use Rattle.lr_shelf.proofs.Prefixes.{way_with_files-push}
+use Rattle.lr_shelf.proofs.InitialPrefixes.{keeps_on}
 use Rattle.lr_downlinks.proofs.Growing.{none_appended, one_appended, one_failed}
 use Rattle.lr_downlinks.proofs.Merging.{merge-none, merge-push, order_more, order_none}
 
@@ -37,16 +37,16 @@ module _ {D : Type 0} (start : Start) (shelf : Shelf) (same_way : (kept_by shelf
     (book : BookView D) (is : IsBookOf start book) where
   -- the way of its shelf, from the one of the shelf that was handed in
   book_way : (kept_by book.shelf).way ≡ way_with_files (merged start book.order) (kept_by shelf).way
-  book_way = ap (λ (k : Kept). k.way) is.kept ∙ ap (way_with_files (merged start book.order)) (sym same_way)
+  book_way = ap (λ (k : KeptShelf). k.way) is.kept ∙ ap (way_with_files (merged start book.order)) (sym same_way)
 
   -- no append met a fault
   book_works : (disk : DiskOf D) (d : D) → book.failed ≡ false
-      → HasAppended disk shelf d (merged start book.order) book.disk → Works disk start shelf d book
+      → HasAppended disk shelf d (merged start book.order) book.disk → BookWorks disk start shelf d book
   book_works disk d working appended = record {
     appended = appended;
-    keeps = λ ground s.
-        keeps_on ground (merged start book.order) shelf book.shelf s.kept book_way
-        (ap (λ (k : Kept). k.failed) is.kept ∙ working);
+    keeps = λ initial s.
+        keeps_on initial (merged start book.order) shelf book.shelf s.kept book_way
+        (ap (λ (k : KeptShelf). k.failed) is.kept ∙ working);
   }
 
 module _ {D : Type 0} (disk : DiskOf D)
@@ -65,11 +65,11 @@ module _ {D : Type 0} (disk : DiskOf D)
       })
   state_same shelf d old shelf' same false works = record {
     appended = works.appended;
-    keeps = λ ground s.
-        let is = works.keeps ground s in
+    keeps = λ initial s.
+        let is = works.keeps initial s in
         record {
-          way = ap (λ (k : Kept). k.way) same ∙ is.way;
-          working = ap (λ (k : Kept). k.failed) same ∙ is.working;
+          way = ap (λ (k : KeptShelf). k.way) same ∙ is.way;
+          working = ap (λ (k : KeptShelf). k.failed) same ∙ is.working;
         };
   }
   state_same shelf d old shelf' same true broke = record {
@@ -79,15 +79,15 @@ module _ {D : Type 0} (disk : DiskOf D)
     appended = broke.appended;
   }
 
-  module _ (old : BookView D) (keeps : Keeps disk start handed name old) where
+  module _ (old : BookView D) (keeps : KeepsBook disk start handed name old) where
     failed_is : (kept_by old.shelf).failed ≡ old.failed
-    failed_is = ap (λ (k : Kept). k.failed) keeps.files.kept
+    failed_is = ap (λ (k : KeptShelf). k.failed) keeps.files.kept
 
     -- nothing was changed
-    pub same_kept : (new : BookView D) → IsSameBook old new → Keeps disk start handed name new
+    pub same_kept : (new : BookView D) → IsSameBook old new → KeepsBook disk start handed name new
     same_kept new same =
         let at : BookView D = record { shelf = new.shelf; disk = old.disk; order = old.order; failed = old.failed } in
-        let kept : Keeps disk start handed name at = record {
+        let kept : KeepsBook disk start handed name at = record {
           same_disk = keeps.same_disk;
           few = keeps.few;
           files = record { order_is = keeps.files.order_is; kept = same.shelf ∙ keeps.files.kept };
@@ -98,19 +98,19 @@ module _ {D : Type 0} (disk : DiskOf D)
                 state = state_same shelf d old new.shelf same.shelf old.failed over.state;
               };
         } in
-        subst (λ (d : D). Keeps disk start handed name (record {
+        subst (λ (d : D). KeepsBook disk start handed name (record {
           shelf = new.shelf;
           disk = d;
           order = new.order;
           failed = new.failed;
         })) (sym same.disk)
-        (subst (λ (o : List ℕ). Keeps disk start handed name (record {
+        (subst (λ (o : List ℕ). KeepsBook disk start handed name (record {
           shelf = new.shelf;
           disk = old.disk;
           order = o;
           failed = new.failed;
         })) (sym same.order)
-        (subst (λ (b : Bool). Keeps disk start handed name (record {
+        (subst (λ (b : Bool). KeepsBook disk start handed name (record {
           shelf = new.shelf;
           disk = old.disk;
           order = old.order;
@@ -118,7 +118,7 @@ module _ {D : Type 0} (disk : DiskOf D)
         })) (sym same.failed) kept))
 
     module _ (shelf : Shelf) (d : D) (over : StandsOver disk start shelf d old) where
-      works_if : old.failed ≡ false → Works disk start shelf d old
+      works_if : old.failed ≡ false → BookWorks disk start shelf d old
       works_if e = subst (λ (b : Bool). WorksOrBroke disk start shelf d b old) e over.state
 
       way_is : (kept_by old.shelf).way ≡ way_with_files (merged start old.order) (kept_by shelf).way
@@ -132,7 +132,7 @@ module _ {D : Type 0} (disk : DiskOf D)
       -- the file was appended
       pub more_kept : (shelf' : Shelf) (d' : D) (number : ℕ)
           → Appends disk placed old.shelf shelf' old.disk d' (Ok number)
-          → Keeps disk start handed name (record {
+          → KeepsBook disk start handed name (record {
             shelf = shelf';
             disk = d';
             order = old.order ++ downlink ∷ [];
@@ -179,7 +179,7 @@ module _ {D : Type 0} (disk : DiskOf D)
               ∙ ap (λ (w : Way). record { way = w; failed = old.failed }) (sym way)
 
           appended_more : (shelf : Shelf) (d : D) → StandsOver disk start shelf d old
-              → Works disk start shelf d old
+              → BookWorks disk start shelf d old
               → HasAppended disk shelf d (merged start (old.order ++ downlink ∷ [])) d'
           appended_more shelf d over was =
               subst (λ (l : List Placed). HasAppended disk shelf d l d') (sym more)
@@ -188,7 +188,7 @@ module _ {D : Type 0} (disk : DiskOf D)
 
       -- the disk failed in it
       pub broke_kept : (shelf' : Shelf) (d' : D) → Appends disk placed old.shelf shelf' old.disk d' (Err Disk)
-          → Keeps disk start handed name (record {
+          → KeepsBook disk start handed name (record {
             shelf = shelf';
             disk = d';
             order = old.order;
@@ -201,7 +201,8 @@ module _ {D : Type 0} (disk : DiskOf D)
             few = keeps.few;
             files = record {
               order_is = keeps.files.order_is;
-              kept = a.adds.failed refl ∙ ap (λ (k : Kept). record { way = k.way; failed = true }) keeps.files.kept;
+              kept = a.adds.failed refl
+                  ∙ ap (λ (k : KeptShelf). record { way = k.way; failed = true }) keeps.files.kept;
             };
             stands = λ shelf d is.
                 let over = keeps.stands shelf d is in
@@ -231,21 +232,21 @@ module _ {D : Type 0} (disk : DiskOf D)
           → Appends disk placed old.shelf shelf old.disk d answer
           → OnOk answer (order ≡ old.order ++ downlink ∷ [])
           → OnErr answer (order ≡ old.order)
-          → Keeps disk start handed name (record {
+          → KeepsBook disk start handed name (record {
             shelf = shelf;
             disk = d;
             order = order;
             failed = failed_after old.failed (answer_to answer);
           })
       one_kept shelf d order (Ok number) a longer same =
-          subst (λ (o : List ℕ). Keeps disk start handed name (record {
+          subst (λ (o : List ℕ). KeepsBook disk start handed name (record {
             shelf = shelf;
             disk = d;
             order = o;
             failed = old.failed;
           })) (sym longer) (more_kept shelf d number a)
       one_kept shelf d order (Err Disk) a longer same =
-          subst (λ (o : List ℕ). Keeps disk start handed name (record {
+          subst (λ (o : List ℕ). KeepsBook disk start handed name (record {
             shelf = shelf;
             disk = d;
             order = o;
@@ -257,16 +258,17 @@ module _ {D : Type 0} (disk : DiskOf D)
           (record { shelf = is.1; disk = is.0; order = same; failed = refl })
 
       pub next_kept : (shelf : Shelf) (d : D) (order : List ℕ) (result : Result Bool ShelfError)
-          → AppendsFile disk downlink placed (view_of old.shelf old.disk old.order) (view_of shelf d order) result
-          ⊎ WantsMemory (view_of old.shelf old.disk old.order) (view_of shelf d order) result
-          → Keeps disk start handed name (record {
+          → AppendsFile disk downlink placed (book_view_of old.shelf old.disk old.order) (book_view_of shelf d order)
+          result
+          ⊎ WantsMemory (book_view_of old.shelf old.disk old.order) (book_view_of shelf d order) result
+          → KeepsBook disk start handed name (record {
             shelf = shelf;
             disk = d;
             order = order;
             failed = failed_after old.failed result;
           })
       next_kept shelf d order result (inl a) =
-          subst (λ (r : Result Bool ShelfError). Keeps disk start handed name (record {
+          subst (λ (r : Result Bool ShelfError). KeepsBook disk start handed name (record {
             shelf = shelf;
             disk = d;
             order = order;
@@ -307,8 +309,9 @@ module _ {D : Type 0} (disk : DiskOf D) (downlink : ℕ) (files : List Placed) (
     not_false (Err error) e = cc (e)
 
     pub some_next : (result : Result Bool ShelfError)
-        → AppendsFile disk downlink placed (view_of old.shelf old.disk old.order) (view_of shelf d order) result
-        ⊎ WantsMemory (view_of old.shelf old.disk old.order) (view_of shelf d order) result
+        → AppendsFile disk downlink placed (book_view_of old.shelf old.disk old.order) (book_view_of shelf d order)
+        result
+        ⊎ WantsMemory (book_view_of old.shelf old.disk old.order) (book_view_of shelf d order) result
         → AppendsNext disk downlink files old (record {
           shelf = shelf;
           disk = d;
@@ -395,7 +398,7 @@ module _ {D : Type 0} (disk : DiskOf D)
         (none_appended disk only_now shelf d));
   }
 
-  begins : Keeps disk start handed name opened
+  begins : KeepsBook disk start handed name opened
   begins = record {
     same_disk = sym begun.disk_is;
     few = few;
@@ -408,7 +411,7 @@ module _ {D : Type 0} (disk : DiskOf D)
 
   -- also where the order is known to be empty
   pub keeps_begun : (order : List ℕ) → order ≡ []
-      → Keeps disk start handed name (record { shelf = shelf; disk = d; order = order; failed = false })
+      → KeepsBook disk start handed name (record { shelf = shelf; disk = d; order = order; failed = false })
   keeps_begun order is =
       subst (λ (l : List ℕ).
-      Keeps disk start handed name (record { shelf = shelf; disk = d; order = l; failed = false })) (sym is) begins
+      KeepsBook disk start handed name (record { shelf = shelf; disk = d; order = l; failed = false })) (sym is) begins

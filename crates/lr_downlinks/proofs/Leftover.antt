@@ -34,27 +34,27 @@ use Rattle.lr_disk.specs.declared.disk.Disk.{Ghosts as DiskOf}
 use Rattle.lr_shelf_format.specs.Way.{Way}
 use Rattle.lr_shelf.specs.Adds.{new_end}
 use Rattle.lr_shelf.specs.Append.{Appends, IsAppendRefusal, item_for}
-use Rattle.lr_shelf.specs.Kept.{Kept, kept_by}
+use Rattle.lr_shelf.specs.Kept.{KeptShelf, kept_by}
 use Rattle.lr_shelf.specs.declared.error.ShelfError.{ShelfError}
 use Rattle.lr_shelf.specs.declared.error.ShelfError.TheVariants.{Disk, Capacity, NoMemory, Failed}
 use Rattle.lr_downlinks.specs.Appending.{AppendsFile, AppendsNext, IsSameBook, WantsMemory, answer_to, failed_after}
 use Rattle.lr_downlinks.specs.Books.{BookView, IsBookOf}
-use Rattle.lr_downlinks.specs.Ending.{DoesNotFitAt, EndsWith, GoesOn, IsLeftAt}
+use Rattle.lr_downlinks.specs.Ending.{DoesNotFitAt, RunEndsWith, BookGoesOn, IsLeftAt}
 use Rattle.lr_downlinks.specs.Merge.{times_in_order}
-use Rattle.lr_shelf.specs.Fronts.{way_with_files}
+use Rattle.lr_shelf.specs.Prefixes.{way_with_files}
 use Rattle.lr_downlinks.specs.Start.{Start, files_in, merged}
 use Rattle.lr_downlinks.specs.declared.run.RunEnd.TheVariants.{Capacity as EndCapacity}
-use Rattle.lr_shelf.proofs.Fronts.{capacity_stays, end_more}
+use Rattle.lr_shelf.proofs.Prefixes.{capacity_stays, end_more}
 use Rattle.lr_downlinks.proofs.Merging.{times-later, times-same}
 
 module _ {D : Type 0} (disk : DiskOf D) (start : Start) (downlink : ℕ) (old new : BookView D) where
   -- what is kept, of the files in order
   way_is : IsBookOf start old → (kept_by old.shelf).way ≡ way_with_files (merged start old.order) start.way
-  way_is is = ap (λ (k : Kept). k.way) is.kept
+  way_is is = ap (λ (k : KeptShelf). k.way) is.kept
 
   -- the order goes on
   longer : (result : Result Bool ShelfError) → (placed : Placed)
-      → AppendsFile disk downlink placed old new result ⊎ WantsMemory old new result → GoesOn old new
+      → AppendsFile disk downlink placed old new result ⊎ WantsMemory old new result → BookGoesOn old new
   longer result placed (inr wants) e = omega (arith, ap (times_in_order e) wants.same.order)
   longer result placed (inl a) e = by_answer a.answer a.order a.order_stays where
     by_answer : (answer : Result ℕ ShelfError)
@@ -66,7 +66,7 @@ module _ {D : Type 0} (disk : DiskOf D) (start : Start) (downlink : ℕ) (old ne
   module _ (result : Result Bool ShelfError) (next : AppendsNext disk downlink (files_in start downlink) old new result)
     where
       -- there is a next file, or there is none
-      pub goes_on : GoesOn old new
+      pub goes_on : BookGoesOn old new
       goes_on e =
           ⊎_elim
           (λ (t : (x : Placed) × (times_in_order downlink old.order < length (files_in start downlink))
@@ -173,7 +173,7 @@ module _ {D : Type 0} (disk : DiskOf D) (start : Start) (downlink : ℕ) (old ne
         )
         left_for placed some NoMemory refusal is = next.failed ∙ ap (failed_after old.failed) is ∙ works
         left_for placed some Failed refusal is =
-            let kept : (kept_by old.shelf).failed ≡ old.failed = ap (λ (k : Kept). k.failed) is_book.kept in
+            let kept : (kept_by old.shelf).failed ≡ old.failed = ap (λ (k : KeptShelf). k.failed) is_book.kept in
             absurd (cc (refusal, kept, works))
         left_for placed some _ refusal is = absurd refusal
 
@@ -218,7 +218,7 @@ module _ {D : Type 0} (start : Start) (book : BookView D) where
 
   pub ends_full : (downlink needed capacity : ℕ) → IsLeftAt start downlink book (Capacity needed capacity)
       → downlink < length start.streams → AreDone downlink
-      → EndsWith start book (EndCapacity needed capacity)
+      → RunEndsWith start book (EndCapacity needed capacity)
   ends_full downlink needed capacity left known done = (
     left.0,
     record {
@@ -243,7 +243,7 @@ module _ {D : Type 0} (start : Start) (book : BookView D) where
 
 -- downlinks that are done stay so
 pub done_still : {D : Type 0} (start : Start) (old new : BookView D) (n : ℕ) → n ≤ length start.streams
-    → AreDone start old n → GoesOn old new → IsBookOf start new → AreDone start new n
+    → AreDone start old n → BookGoesOn old new → IsBookOf start new → AreDone start new n
 done_still start old new n few done on is downlink inside =
     omega (arith, done downlink inside, on downlink, is.order_is.few downlink (omega (arith, inside, few)))
 

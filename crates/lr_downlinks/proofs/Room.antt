@@ -38,8 +38,8 @@ use Rattle.lr_shelf_format.specs.Way.{Way, way_with}
 use Rattle.lr_shelf.specs.Append.{item_for}
 use Rattle.lr_downlinks.specs.Merge.{merge, merge_after, times_in_order}
 use Rattle.lr_downlinks.specs.Room.{AllFit, FullWhereAllDoNotFit, NextDoesNotFit, files_of_all}
-use Rattle.lr_shelf.specs.Fronts.{way_with_files}
-use Rattle.lr_shelf.proofs.Fronts.{end_more}
+use Rattle.lr_shelf.specs.Prefixes.{way_with_files}
+use Rattle.lr_shelf.proofs.Prefixes.{end_more}
 use Rattle.lr_downlinks.proofs.Merging.{times-later, times-same, times-stays}
 
 -- the bytes of a file's item, with its gate

@@ -12,27 +12,36 @@ use Rattle.lr_disk.specs.declared.disk.Disk.{Ghosts as DiskOf}
 use Rattle.lr_shelf_format.specs.Items.{Item}
 use Rattle.lr_shelf_format.specs.ShelfBytes.{StandsForShelf, entries_of}
 use Rattle.lr_shelf.specs.Append.{item_for}
-use Rattle.lr_shelf.specs.Grounds.{OfItems, StandsWithEither, with_files}
-use Rattle.lr_shelf.specs.Kept.{Kept, kept_by}
+use Rattle.lr_shelf.specs.InitialShelves.{OfItems, StandsWithEither, with_files}
+use Rattle.lr_shelf.specs.Kept.{KeptShelf, kept_by}
 use Rattle.lr_shelf.specs.Shelf.{IsSettled}
 use Rattle.lr_shelf.specs.declared.shelf.Shelf.{Shelf}
-use Rattle.lr_shelf.proofs.GroundFronts.{settled_on_items}
-use Rattle.lr_shelf.proofs.Grounds.{entries_of-append, entries_of-files}
+use Rattle.lr_shelf.proofs.InitialPrefixes.{settled_on_items}
+use Rattle.lr_shelf.proofs.InitialShelves.{entries_of-append, entries_of-files}
 use Rattle.lr_shelf.proofs.ItemsKept.{entry_count_is}
-use Rattle.lr_downlinks.specs.Books.{BeginsRun, BookView, Broke, IsBookOf, Keeps, StandsOver, Works, WorksOrBroke}
-use Rattle.lr_downlinks.specs.Ending.{EndsWith}
+use Rattle.lr_downlinks.specs.Books.{
+  BeginsRun,
+  BookView,
+  Broke,
+  IsBookOf,
+  KeepsBook,
+  StandsOver,
+  BookWorks,
+  WorksOrBroke,
+}
+use Rattle.lr_downlinks.specs.Ending.{RunEndsWith}
 use Rattle.lr_downlinks.specs.Members.{AreMembers}
 use Rattle.lr_downlinks.specs.Merge.{IsNextOf, IsWhole, merge, times_in_order}
 use Rattle.lr_downlinks.specs.Receipts.{HasFileAt}
 use Rattle.lr_downlinks.specs.Room.{AllFit, NextDoesNotFit}
 use Rattle.lr_downlinks.specs.Runs.{MergeEnds, MergesOver}
-use Rattle.lr_downlinks.specs.Since.{HasAppended}
+use Rattle.lr_downlinks.specs.Appended.{HasAppended}
 use Rattle.lr_downlinks.specs.Start.{Start, files_in, merged}
 use Rattle.lr_downlinks.specs.Streams.{files_of_downlink}
 use Rattle.lr_downlinks.specs.declared.member.Member.{Member}
 use Rattle.lr_downlinks.specs.declared.run.RunEnd.{RunEnd}
 use Rattle.lr_downlinks.specs.declared.run.RunEnd.TheVariants.{All, Disk, NoMemory, Capacity}
-use Rattle.lr_shelf.proofs.Fronts.{entries_after_files}
+use Rattle.lr_shelf.proofs.Prefixes.{entries_after_files}
 use Rattle.lr_downlinks.proofs.Merging.{get-merge, has_file, length-merge, merge-none}
 use Rattle.lr_downlinks.proofs.Room.{full_where_all_do_not_fit}
 
@@ -87,18 +96,18 @@ module _ {D : Type 0} (disk : DiskOf D) (handed : Shelf → D → Type 0) (strea
   abbrev files : ℕ → List Placed
   files = files_of_downlink line streams
 
-  module _ (name' : GName) (book : BookView D) (keeps : Keeps disk begun_as handed name' book)
+  module _ (name' : GName) (book : BookView D) (keeps : KeepsBook disk begun_as handed name' book)
       (handed_in : handed shelf d) where
     over : StandsOver disk begun_as shelf d book
     over = keeps.stands shelf d handed_in
 
-    works : book.failed ≡ false → Works disk begun_as shelf d book
+    works : book.failed ≡ false → BookWorks disk begun_as shelf d book
     works e = subst (λ (b : Bool). WorksOrBroke disk begun_as shelf d b book) e over.state
 
     broke : book.failed ≡ true → Broke disk begun_as shelf d book
     broke e = subst (λ (b : Bool). WorksOrBroke disk begun_as shelf d b book) e over.state
 
-    ends_for : (result : RunEnd) → EndsWith begun_as book result
+    ends_for : (result : RunEnd) → RunEndsWith begun_as book result
         → MergeEnds count files book.order disk result shelf d book.disk
     ends_for All ends = ((works ends.0).appended, ends.1)
     ends_for Disk ends =
@@ -117,7 +126,7 @@ module _ {D : Type 0} (disk : DiskOf D) (handed : Shelf → D → Type 0) (strea
           slice_get_within (files downlink) (times_in_order downlink book.order) placed next.next,
         )
 
-    whole_for : (result : RunEnd) → EndsWith begun_as book result → IsWhole count files book.order
+    whole_for : (result : RunEnd) → RunEndsWith begun_as book result → IsWhole count files book.order
         → (result ≡ All) ⊎ (result ≡ NoMemory)
     whole_for All ends whole = inl refl
     whole_for Disk ends whole = let b = broke ends in absurd (no_next whole b.downlink b.placed b.next)
@@ -125,7 +134,7 @@ module _ {D : Type 0} (disk : DiskOf D) (handed : Shelf → D → Type 0) (strea
     whole_for (Capacity needed capacity) ends whole =
         absurd (no_next whole ends.1.full.downlink ends.1.placed ends.1.full.least.next)
 
-    full_for : (result : RunEnd) → EndsWith begun_as book result → (placed : Placed)
+    full_for : (result : RunEnd) → RunEndsWith begun_as book result → (placed : Placed)
         → NextDoesNotFit count files book.order (kept_by shelf).way placed
         → (result ≡ Disk) ⊎ (result ≡ NoMemory)
         ⊎ ((needed : ℕ) × (result ≡ Capacity needed (kept_by shelf).way.capacity))
@@ -134,7 +143,7 @@ module _ {D : Type 0} (disk : DiskOf D) (handed : Shelf → D → Type 0) (strea
     full_for NoMemory ends placed full = inr (inl refl)
     full_for (Capacity needed capacity) ends placed full = inr (inr (needed, ap (Capacity needed) ends.1.of))
 
-    complete_for : (result : RunEnd) → EndsWith begun_as book result
+    complete_for : (result : RunEnd) → RunEndsWith begun_as book result
         → (Rose (disk.faults d) (disk.faults book.disk) → ⊥) → AllFit count files (kept_by shelf).way
         → (result ≡ All) ⊎ (result ≡ NoMemory)
     complete_for All ends still fit = inl refl
@@ -145,13 +154,13 @@ module _ {D : Type 0} (disk : DiskOf D) (handed : Shelf → D → Type 0) (strea
         (full_where_all_do_not_fit count files book.order (kept_by shelf).way ends.1.placed keeps.files.order_is
         ends.1.full fit)
 
-    untouched_for : (result : RunEnd) → EndsWith begun_as book result → book.order ≡ []
+    untouched_for : (result : RunEnd) → RunEndsWith begun_as book result → book.order ≡ []
         → (result ≡ Disk) ⊎ (book.disk ≡ d)
     untouched_for result ends none = by_end result ends where
       nothing : merge files book.order ≡ []
       nothing = ap (merge files) none ∙ merge-none files
 
-      by_end : (result : RunEnd) → EndsWith begun_as book result → (result ≡ Disk) ⊎ (book.disk ≡ d)
+      by_end : (result : RunEnd) → RunEndsWith begun_as book result → (result ≡ Disk) ⊎ (book.disk ≡ d)
       by_end All ends = inr ((works ends.0).appended.none nothing)
       by_end Disk ends = inl refl
       by_end NoMemory ends = inr ((works ends).appended.none nothing)
@@ -175,7 +184,7 @@ module _ {D : Type 0} (disk : DiskOf D) (handed : Shelf → D → Type 0) (strea
                 (sym (still.durable c image)) still.stands),
           )
 
-      entry_by_end : (result : RunEnd) → EndsWith begun_as book result → has_entry (length (entries_of items) + at)
+      entry_by_end : (result : RunEnd) → RunEndsWith begun_as book result → has_entry (length (entries_of items) + at)
       entry_by_end All ends = entry_appended (works ends.0).appended
       entry_by_end Disk ends =
           let has = (broke ends).appended in
@@ -188,13 +197,13 @@ module _ {D : Type 0} (disk : DiskOf D) (handed : Shelf → D → Type 0) (strea
       entry_by_end NoMemory ends = entry_appended (works ends).appended
       entry_by_end (Capacity needed most) ends = entry_appended (works ends.0).appended
 
-      entry_in : (result : RunEnd) → EndsWith begun_as book result
+      entry_in : (result : RunEnd) → RunEndsWith begun_as book result
           → has_entry (length (kept_by shelf).way.entries + at)
       entry_in result ends =
           subst (λ (n : ℕ). has_entry (n + at))
           (sym (entry_count_is capacity items shelf s.on_disk.stands.proper s.kept)) (entry_by_end result ends)
 
-    merges : (result : RunEnd) → EndsWith begun_as book result
+    merges : (result : RunEnd) → RunEndsWith begun_as book result
         → (fits : length (kept_by shelf).way.entries + length book.order < 2 ^ 64)
         → MergesOver disk count files shelf d book.disk (record {
           base = length (kept_by shelf).way.entries;
@@ -221,7 +230,7 @@ module _ {D : Type 0} (disk : DiskOf D) (handed : Shelf → D → Type 0) (strea
   -- the start is named
   pub merges_over : (start : Start) → streams ≡ start.streams → line ≡ start.line
       → BeginsRun disk start handed shelf name d → (name' : GName) (book : BookView D)
-      → Keeps disk start handed name' book → (result : RunEnd) → EndsWith start book result
+      → KeepsBook disk start handed name' book → (result : RunEnd) → RunEndsWith start book result
       → (base : ℕ) → base ≡ length (kept_by shelf).way.entries → (order : List ℕ) → order ≡ book.order
       → (fits : base + length order < 2 ^ 64)
       → MergesOver disk (length streams) (files_of_downlink line streams) shelf d book.disk (record {
@@ -241,11 +250,11 @@ module _ {D : Type 0} (disk : DiskOf D) (handed : Shelf → D → Type 0) (strea
         way = begun.way_is i;
       }
 
-      keeps' : Keeps disk begun_as handed name' book
-      keeps' = subst (λ (s : Start). Keeps disk s handed name' book) start_is keeps
+      keeps' : KeepsBook disk begun_as handed name' book
+      keeps' = subst (λ (s : Start). KeepsBook disk s handed name' book) start_is keeps
 
-      ends' : EndsWith begun_as book result
-      ends' = subst (λ (s : Start). EndsWith s book result) start_is ends
+      ends' : RunEndsWith begun_as book result
+      ends' = subst (λ (s : Start). RunEndsWith s book result) start_is ends
 
       based : (n : ℕ) → length (kept_by shelf).way.entries ≡ n → (order : List ℕ) → book.order ≡ order
           → (fits : n + length order < 2 ^ 64)
@@ -282,7 +291,7 @@ order_fits start book is base base_is =
       book.shelf.entries.ok.0,
       book.shelf.entries.ok.1,
       book.shelf.entries.small,
-      ap (λ (k : Kept). length k.way.entries) is.kept,
+      ap (λ (k : KeptShelf). length k.way.entries) is.kept,
       entries_after_files (merged start book.order) start.way,
       length-merge (length start.streams) (files_in start) book.order is.order_is,
     )

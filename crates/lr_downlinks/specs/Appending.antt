@@ -19,8 +19,8 @@ pub record IsSameBook {D : Type 0} (old new : BookView D) : Type 0 where
   pub failed : new.failed ≡ old.failed
 
 -- a book of these parts, of which nothing is said whether the disk failed
-abbrev pub view_of : {D : Type 0} → Shelf → D → List ℕ → BookView D
-view_of shelf d order = record { shelf = shelf; disk = d; order = order; failed = false }
+abbrev pub book_view_of : {D : Type 0} → Shelf → D → List ℕ → BookView D
+book_view_of shelf d order = record { shelf = shelf; disk = d; order = order; failed = false }
 
 -- an append of the shelf, as an answer of the book
 abbrev pub answer_to : Result ℕ ShelfError → Result Bool ShelfError

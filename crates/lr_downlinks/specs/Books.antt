@@ -3,12 +3,12 @@ use Rattle.std.specs.Prelude.{◌≡◌, ◌≤◌, ℕ, Bool, true, false, List
 use Rattle.std.specs.Borrow.{GName}
 use Rattle.lr_bits.specs.declared.placed.Placed.{Placed}
 use Rattle.lr_disk.specs.declared.disk.Disk.{Ghosts as DiskOf}
-use Rattle.lr_shelf.specs.Grounds.{Ground, IsSettledOn, KeepsOn}
+use Rattle.lr_shelf.specs.InitialShelves.{InitialShelf, IsSettledOn, KeepsOn}
 use Rattle.lr_shelf.specs.Kept.{kept_by}
 use Rattle.lr_shelf.specs.declared.shelf.Shelf.{Shelf}
 use Rattle.lr_downlinks.specs.Merge.{IsNextOf, IsOrder}
-use Rattle.lr_shelf.specs.Fronts.{way_with_files}
-use Rattle.lr_downlinks.specs.Since.{HasAppended, MayHaveAppended}
+use Rattle.lr_shelf.specs.Prefixes.{way_with_files}
+use Rattle.lr_downlinks.specs.Appended.{HasAppended, MayHaveAppended}
 use Rattle.lr_downlinks.specs.Start.{Start, files_in, merged}
 use Rattle.lr_downlinks.specs.declared.sizes.TheConstants.{MOST_DOWNLINKS}
 
@@ -29,10 +29,10 @@ module _ {D : Type 0} (disk : DiskOf D) (start : Start) where
   -- `shelf` and `d` are those that were handed in
   module _ (shelf : Shelf) (d : D) where
     -- no append met a fault of the disk
-    pub record Works (book : BookView D) : Type 0 where
+    pub record BookWorks (book : BookView D) : Type 0 where
       pub appended : HasAppended disk shelf d (merged start book.order) book.disk
-      pub keeps : (ground : Ground) → IsSettledOn ground [] disk shelf d
-          → KeepsOn ground (merged start book.order) book.shelf
+      pub keeps : (initial : InitialShelf) → IsSettledOn initial [] disk shelf d
+          → KeepsOn initial (merged start book.order) book.shelf
 
     -- one did, in the next file of some downlink
     pub record Broke (book : BookView D) : Type 0 where
@@ -42,7 +42,7 @@ module _ {D : Type 0} (disk : DiskOf D) (start : Start) where
       pub appended : MayHaveAppended disk shelf d (merged start book.order) placed book.disk
 
     abbrev pub WorksOrBroke : Bool → BookView D → Type 0
-    WorksOrBroke false book = Works book
+    WorksOrBroke false book = BookWorks book
     WorksOrBroke true book = Broke book
 
     pub record StandsOver (book : BookView D) : Type 0 where
@@ -55,7 +55,7 @@ module _ {D : Type 0} (disk : DiskOf D) (start : Start) where
     StandsSince book = (shelf : Shelf) (d : D) → handed shelf d → StandsOver shelf d book
 
     -- the disk is the one of the start, and it and the shelf have the files that were appended
-    pub record Keeps (name : GName) (book : BookView D) : Type 0 where
+    pub record KeepsBook (name : GName) (book : BookView D) : Type 0 where
       pub same_disk : name ≡ start.disk
       pub few : length start.streams ≤ MOST_DOWNLINKS
       pub files : IsBookOf start book

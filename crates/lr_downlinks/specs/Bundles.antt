@@ -1,7 +1,6 @@
 -- Bundles of streams: how many there are in one byte, 1 to 16, and then for each stream its length in eight bytes and
 -- that many symbols, a byte each.
-use Rattle.std.specs.Prelude.{◌≡◌, ◌<◌, ◌≤◌, ℕ, List, [], ◌∷◌, ◌++◌, length, take, All, ◌^◌}
-use Rattle.std.specs.Prelude.{Result, Ok, Err}
+use Rattle.std.specs.Prelude.{◌≡◌, ◌<◌, ◌≤◌, ℕ, List, [], ◌∷◌, ◌++◌, length, take, All, ◌^◌, Result, Ok, Err}
 use Rattle.byteorder.specs.Endian.{big_bytes}
 use Rattle.lr_downlinks.specs.declared.sizes.TheConstants.{MOST_DOWNLINKS}
 use Rattle.lr_downlinks.specs.declared.fault.BundleFault.{BundleFault}
@@ -29,7 +28,7 @@ pub record BeginsBundle (bytes : List ℕ) : Type 0 where
   pub streams : List (List ℕ)
   pub whole : IsBundle (bytes ++ rest) streams
 
--- the first byte is this number, and no bundle has so many streams
+-- the first byte is this number, and no bundle has this many streams
 pub record HasBadCount (bytes : List ℕ) (count : ℕ) : Type 0 where
   pub rest : List ℕ
   pub first : bytes ≡ count ∷ rest

@@ -11,14 +11,14 @@ use Rattle.lr_shelf.specs.declared.error.ShelfError.TheVariants.{
 use Rattle.lr_downlinks.specs.Books.{BookView}
 use Rattle.lr_downlinks.specs.Merge.{IsWhole, times_in_order}
 use Rattle.lr_downlinks.specs.Runs.{NextDoesNotFitBy}
-use Rattle.lr_shelf.specs.Fronts.{way_with_files}
+use Rattle.lr_shelf.specs.Prefixes.{way_with_files}
 use Rattle.lr_downlinks.specs.Start.{Start, files_in, merged}
 use Rattle.lr_downlinks.specs.declared.run.RunEnd.{RunEnd}
 use Rattle.lr_downlinks.specs.declared.run.RunEnd.TheVariants.{All, Disk, NoMemory, Capacity}
 
 -- no downlink stands in the order less often
-abbrev pub GoesOn : {D : Type 0} → BookView D → BookView D → Type 0
-GoesOn old new = (downlink : ℕ) → times_in_order downlink old.order ≤ times_in_order downlink new.order
+abbrev pub BookGoesOn : {D : Type 0} → BookView D → BookView D → Type 0
+BookGoesOn old new = (downlink : ℕ) → times_in_order downlink old.order ≤ times_in_order downlink new.order
 
 -- the next file of this downlink doesn't fit
 pub record DoesNotFitAt {D : Type 0} (start : Start) (downlink needed capacity : ℕ) (book : BookView D) : Type 0 where
@@ -37,10 +37,10 @@ IsLeftAt start downlink book NoMemory' = book.failed ≡ false
 IsLeftAt start downlink book error = ⊥
 
 -- how the run ends with this book
-abbrev pub EndsWith : {D : Type 0} → Start → BookView D → RunEnd → Type 0
-EndsWith start book All = (book.failed ≡ false) × IsWhole (length start.streams) (files_in start) book.order
-EndsWith start book Disk = book.failed ≡ true
-EndsWith start book NoMemory = book.failed ≡ false
-EndsWith start book (Capacity needed capacity) =
+abbrev pub RunEndsWith : {D : Type 0} → Start → BookView D → RunEnd → Type 0
+RunEndsWith start book All = (book.failed ≡ false) × IsWhole (length start.streams) (files_in start) book.order
+RunEndsWith start book Disk = book.failed ≡ true
+RunEndsWith start book NoMemory = book.failed ≡ false
+RunEndsWith start book (Capacity needed capacity) =
     (book.failed ≡ false)
     × NextDoesNotFitBy (length start.streams) (files_in start) book.order start.way needed capacity

@@ -11,6 +11,6 @@ pub mod Readings
 pub mod Receipts
 pub mod Room
 pub mod Runs
-pub mod Since
+pub mod Appended
 pub mod Start
 pub mod Streams

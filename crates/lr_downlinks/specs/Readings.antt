@@ -12,9 +12,9 @@ streams_between bytes from [] = []
 streams_between bytes from (end ∷ ends) = slice_range bytes (from + 8) end ∷ streams_between bytes end ends
 
 -- where the length of the stream of this number stands
-abbrev pub start_of : ℕ → List ℕ → ℕ → ℕ
-start_of from ends zero = from
-start_of from ends (suc k) = slice_index ends k
+abbrev pub recording_start : ℕ → List ℕ → ℕ → ℕ
+recording_start from ends zero = from
+recording_start from ends (suc k) = slice_index ends k
 
 -- where the last of them ends
 abbrev pub last_end : ℕ → List ℕ → ℕ

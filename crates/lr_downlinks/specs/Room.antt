@@ -4,7 +4,7 @@ use Rattle.std.proofs.Common.{zero, suc}
 use Rattle.lr_bits.specs.declared.placed.Placed.{Placed}
 use Rattle.lr_shelf_format.specs.Way.{Way}
 use Rattle.lr_downlinks.specs.Merge.{IsLeastNext, IsOrder, merge}
-use Rattle.lr_shelf.specs.Fronts.{way_with_files}
+use Rattle.lr_shelf.specs.Prefixes.{way_with_files}
 
 -- the files of this many downlinks, one downlink after another
 abbrev pub files_of_all : (ℕ → List Placed) → ℕ → List Placed

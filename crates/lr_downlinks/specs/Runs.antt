@@ -12,8 +12,8 @@ use Rattle.lr_shelf.specs.declared.shelf.Shelf.{Shelf}
 use Rattle.lr_downlinks.specs.Merge.{IsNextOf, IsOrder, IsWhole, merge}
 use Rattle.lr_downlinks.specs.Receipts.{HasFileAt, receipt_at}
 use Rattle.lr_downlinks.specs.Room.{AllFit, NextDoesNotFit}
-use Rattle.lr_shelf.specs.Fronts.{way_with_files}
-use Rattle.lr_downlinks.specs.Since.{HasAppended, MayHaveAppended}
+use Rattle.lr_shelf.specs.Prefixes.{way_with_files}
+use Rattle.lr_downlinks.specs.Appended.{HasAppended, MayHaveAppended}
 use Rattle.lr_downlinks.specs.declared.run.Run.{Run}
 use Rattle.lr_downlinks.specs.declared.run.RunEnd.{RunEnd}
 use Rattle.lr_downlinks.specs.declared.run.RunEnd.TheVariants.{All, Disk, NoMemory, Capacity}

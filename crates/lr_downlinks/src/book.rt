@@ -1,10 +1,10 @@
 //! The shelf, its disk, and what came onto it.
 ghost use Rattle.std.specs.Prelude.{◌≡◌, ◌<◌, ◌⊎◌, ◌^◌};
-ghost use Rattle.lr_downlinks.specs.Appending.{AppendsFile, WantsMemory, failed_after, view_of};
+ghost use Rattle.lr_downlinks.specs.Appending.{AppendsFile, WantsMemory, failed_after, book_view_of};
 ghost use Rattle.lr_downlinks.specs.Merge.{times_in_order};
 
-use crate::beginning::Beginning;
 use crate::order::Order;
+use crate::run_start::RunStart;
 use crate::sizes::MOST_DOWNLINKS;
 use lr_bits::Placed;
 use lr_disk::Disk;
@@ -22,9 +22,9 @@ fn append_file<D: Disk>(
 ) -> Result<bool, ShelfError>
     requires known { downlink < MOST_DOWNLINKS }
     requires few { times_in_order downlink order.old < 2 ^ 63 }
-    ensures { AppendsFile D.Disk downlink placed.now (view_of shelf.old disk.old order.old)
-        (view_of shelf.new disk.new order.new) result
-        ⊎ WantsMemory (view_of shelf.old disk.old order.old) (view_of shelf.new disk.new order.new) result }
+    ensures { AppendsFile D.Disk downlink placed.now (book_view_of shelf.old disk.old order.old)
+        (book_view_of shelf.new disk.new order.new) result
+        ⊎ WantsMemory (book_view_of shelf.old disk.old order.old) (book_view_of shelf.new disk.new order.new) result }
 {
     order.push(downlink)?;
     match shelf.append(disk, placed) {
@@ -48,9 +48,9 @@ fn is_failed_after(failed: bool, answer: &Result<bool, ShelfError>) -> bool
 
 /// A shelf and its disk, on which the files of several downlinks come together. It keeps which downlink each file came
 /// from, in the order in which they were appended. Its type keeps that they are a merge of the downlinks' files, and
-/// that shelf and disk stand for them (`Books.Keeps`).
+/// that shelf and disk stand for them (`Books.KeepsBook`).
 #[derive(Drop)]
-pub struct Book<'a, N: Beginning<D>, D: Disk> {
+pub struct Book<'a, N: RunStart<D>, D: Disk> {
     pub(crate) disk: &'a mut D,
     pub(crate) shelf: Shelf,
     pub(crate) order: Order,
@@ -58,16 +58,16 @@ pub struct Book<'a, N: Beginning<D>, D: Disk> {
     pub(crate) start: PhantomData<N>,
 }
 
-impl<'a, N: Beginning<D>, D: Disk> Model for Book<'a, N, D> {
+impl<'a, N: RunStart<D>, D: Disk> Model for Book<'a, N, D> {
     ghost use Rattle.lr_downlinks.specs.Books.{BookView};
 
     ghost Value = { BookView D };
 
-    ghost use Rattle.lr_downlinks.specs.Books.{Keeps};
+    ghost use Rattle.lr_downlinks.specs.Books.{KeepsBook};
 
     ghost view = { λ b. record { shelf = b.shelf; disk = b.disk.now; order = b.order; failed = b.failed } };
 
-    ghost invariant = { λ b. Keeps D.Disk N.start N.handed b.disk.ghost_name (record {
+    ghost invariant = { λ b. KeepsBook D.Disk N.start N.handed b.disk.ghost_name (record {
       shelf = b.shelf;
       disk = b.disk.now;
       order = b.order;
@@ -75,7 +75,7 @@ impl<'a, N: Beginning<D>, D: Disk> Model for Book<'a, N, D> {
     }) };
 }
 
-impl<'a, N: Beginning<D>, D: Disk> Book<'a, N, D> {
+impl<'a, N: RunStart<D>, D: Disk> Book<'a, N, D> {
     ghost use Rattle.std.specs.Prelude.{◌≡◌, ◌<◌, length};
     ghost use Rattle.lr_downlinks.specs.Appending.{AppendsNext};
     ghost use Rattle.lr_downlinks.specs.Books.{IsBookOf, StandsSince};

@@ -1,7 +1,7 @@
 //! Several streams in one list of bytes.
 ghost use Rattle.std.specs.Prelude.{◌≡◌, ◌<◌, ◌≤◌, [], All, length, slice_index_or};
 ghost use Rattle.lr_downlinks.specs.Bundles.{IsReading};
-ghost use Rattle.lr_downlinks.specs.Readings.{FindsEnd, FindsEnds, start_of};
+ghost use Rattle.lr_downlinks.specs.Readings.{FindsEnd, FindsEnds, recording_start};
 
 use crate::fault::BundleFault;
 use crate::sizes::{MOST_BUNDLE_BYTES, MOST_DOWNLINKS};
@@ -69,7 +69,7 @@ fn find_ends(bytes: &[u8], ends: &mut [usize]) -> Option<usize>
 /// Where the length of this stream stands.
 fn start_in(ends: &[usize; MOST_DOWNLINKS], downlink: usize) -> usize
     requires { downlink ≤ MOST_DOWNLINKS }
-    ensures { result ≡ start_of 1 ends.now downlink }
+    ensures { result ≡ recording_start 1 ends.now downlink }
 {
     if downlink == 0 { 1 } else { ends[downlink - 1] }
 }

@@ -2,18 +2,18 @@
 ghost use Rattle.std.specs.Prelude.{◌≡◌, ◌<◌, ◌≤◌, false, [], length, IfOk};
 ghost use Rattle.lr_shelf.specs.Kept.{kept_by};
 ghost use Rattle.lr_downlinks.specs.Books.{BeginsRun};
-ghost use Rattle.lr_downlinks.specs.Ending.{EndsWith};
+ghost use Rattle.lr_downlinks.specs.Ending.{RunEndsWith};
 ghost use Rattle.lr_downlinks.specs.Members.{AreMembers, IsMember};
 ghost use Rattle.lr_downlinks.specs.Runs.{MergesOver};
 ghost use Rattle.lr_downlinks.specs.Streams.{files_of_downlink};
 
-use crate::beginning::Beginning;
 use crate::book::Book;
 use crate::bundle::Bundle;
 use crate::member::{Member, new_members, work};
 use crate::order::Order;
 use crate::rest::end_run;
 use crate::run::{Run, RunEnd};
+use crate::run_start::RunStart;
 use crate::sizes::MOST_DOWNLINKS;
 use lr_bits::{NoMemory, take_back};
 use lr_conv::LineCode;
@@ -32,7 +32,7 @@ struct Lent<'a, D> {
 }
 
 /// Works on each downlink in a thread of its own.
-fn work_beside<N: Beginning<D> + Send + Sync, R: Threads + Wait + Sync, D: Disk + Send>(
+fn work_beside<N: RunStart<D> + Send + Sync, R: Threads + Wait + Sync, D: Disk + Send>(
     rt: &R,
     alloc: Global,
     bundle: &Bundle,
@@ -58,7 +58,7 @@ fn work_beside<N: Beginning<D> + Send + Sync, R: Threads + Wait + Sync, D: Disk 
 }
 
 /// The book with which a run begins.
-fn open_book<'a, N: Beginning<D>, D: Disk>(
+fn open_book<'a, N: RunStart<D>, D: Disk>(
     shelf: Shelf,
     lent: Lent<'a, D>,
     order: Order,
@@ -80,7 +80,7 @@ fn open_book<'a, N: Beginning<D>, D: Disk>(
 }
 
 /// Appends the files of each downlink in a thread of its own, and then what is left over.
-fn fill_book<'a, N: Beginning<D> + Send + Sync, R: Threads + Wait + Sync, D: Disk + Send>(
+fn fill_book<'a, N: RunStart<D> + Send + Sync, R: Threads + Wait + Sync, D: Disk + Send>(
     rt: &R,
     alloc: Global,
     bundle: &Bundle,
@@ -92,7 +92,7 @@ fn fill_book<'a, N: Beginning<D> + Send + Sync, R: Threads + Wait + Sync, D: Dis
     requires line { line ≡ (N.start).line }
     requires members { IfOk members (λ members. AreMembers N.start members.items) }
     requires working { book.failed ≡ false }
-    ensures { EndsWith N.start result.0 result.1 }
+    ensures { RunEndsWith N.start result.0 result.1 }
 {
     let Ok(mut members) = members else {
         return (book, RunEnd::NoMemory);
@@ -105,7 +105,7 @@ fn fill_book<'a, N: Beginning<D> + Send + Sync, R: Threads + Wait + Sync, D: Dis
 }
 
 /// The run, with what it begins with named.
-fn run_named<'a, N: Beginning<D> + Send + Sync, R: Threads + Wait + Sync, D: Disk + Send>(
+fn run_named<'a, N: RunStart<D> + Send + Sync, R: Threads + Wait + Sync, D: Disk + Send>(
     rt: &R,
     alloc: Global,
     bundle: &Bundle,

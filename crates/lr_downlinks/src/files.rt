@@ -4,7 +4,7 @@ ghost use Rattle.lr_conv.specs.declared.line.LineCode.{LineCode as LineCode'};
 ghost use Rattle.lr_lock.specs.declared.frame.Frame.{Frame};
 ghost use Rattle.lr_lock.specs.Thresholds.{lock_symbols};
 ghost use Rattle.lr_downlinks.specs.Streams.{files_of_stream};
-ghost use Rattle.lr_downlinks.specs.Decoding.{FeedsMore, IsFed, Shows, steps_left};
+ghost use Rattle.lr_downlinks.specs.Decoding.{FeedsMore, IsFed, ShowsWindow, decode_steps_left};
 
 use crate::sizes::MOST_STREAM_SYMBOLS;
 use lr_bits::{NoMemory, Placed};
@@ -38,9 +38,10 @@ fn show_next(lock: &mut Lock, stream: &[u8], fed: usize, window: &mut Window) ->
     requires line { window.old.line ≡ lock.old.line }
     requires is_fed { (line : LineCode') × (given : List Frame) × IsFed line stream.now fed lock.old given }
     ensures shows { (line : LineCode') (given : List Frame) → IsFed line stream.now fed lock.old given
-        → Shows line stream.now fed given lock.new window.new result }
+        → ShowsWindow line stream.now fed given lock.new window.new result }
     ensures line { window.new.line ≡ lock.new.line }
-    ensures fewer { IfSome result (λ taken. steps_left stream.now taken lock.new < steps_left stream.now fed lock.old) }
+    ensures fewer { IfSome result (λ taken. decode_steps_left stream.now taken lock.new
+        < decode_steps_left stream.now fed lock.old) }
 {
     let mut taken = fed;
     'steps: loop {

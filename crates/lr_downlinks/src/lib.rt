@@ -6,13 +6,12 @@
 //!
 //! `run_downlinks` has a thread for each downlink, which appends the downlink's files to the shelf, in their order. The
 //! shelf and its disk lie in a `Book` under a lock. Nothing is known of a locked value but what its type keeps, so the
-//! type of a book names what the run began with (`Beginning`) and keeps the rest (`Books.Keeps`): the files appended so
-//! far are a merge of the downlinks' files (`Merge`), and shelf and disk stand for these. What is left over once the
+//! type of a book names what the run began with (`RunStart`) and keeps the rest (`Books.KeepsBook`): the files appended
+//! so far are a merge of the downlinks' files (`Merge`), and shelf and disk stand for these. What is left over once the
 //! threads have ended the caller appends. The theorem on the whole run is `Runs.MergesOver`, the contract of
 //! `run_downlinks`. A `Receipt` says which entry of the shelf a file is.
 #![tactic(auto)]
 
-mod beginning;
 mod book;
 mod bundle;
 mod downlinks;
@@ -25,9 +24,9 @@ mod receipt;
 mod receipts;
 mod rest;
 mod run;
+mod run_start;
 mod sizes;
 
-pub use beginning::Beginning;
 pub use book::Book;
 pub use bundle::Bundle;
 pub use downlinks::run_downlinks;
@@ -40,4 +39,5 @@ pub use laws::{
 pub use receipt::Receipt;
 pub use receipts::Receipts;
 pub use run::{Run, RunEnd};
+pub use run_start::RunStart;
 pub use sizes::{MOST_BUNDLE_BYTES, MOST_DOWNLINKS, MOST_STREAM_SYMBOLS};

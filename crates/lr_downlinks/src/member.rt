@@ -3,10 +3,10 @@ ghost use Rattle.std.specs.Prelude.{◌≡◌, ◌<◌, ◌≤◌, length, IfOk}
 ghost use Rattle.lr_downlinks.specs.Members.{AreMembers, IsMember};
 ghost use Rattle.lr_downlinks.specs.Start.{files_in};
 
-use crate::beginning::Beginning;
 use crate::book::Book;
 use crate::bundle::Bundle;
 use crate::files::files_of;
+use crate::run_start::RunStart;
 use crate::sizes::MOST_DOWNLINKS;
 use lr_bits::{NoMemory, Placed};
 use lr_conv::LineCode;
@@ -22,7 +22,7 @@ pub(crate) struct Member {
 }
 
 /// A member for each downlink, without its files.
-pub(crate) fn new_members<N: Beginning<D>, D>(
+pub(crate) fn new_members<N: RunStart<D>, D>(
     alloc: Global,
     count: usize,
 ) -> Result<Vec<Member>, NoMemory>
@@ -41,7 +41,7 @@ pub(crate) fn new_members<N: Beginning<D>, D>(
 }
 
 /// Appends the files in their order, until one is refused. What is left over the caller of the threads appends.
-fn append_files<N: Beginning<D>, D: Disk, R: Wait>(
+fn append_files<N: RunStart<D>, D: Disk, R: Wait>(
     rt: &R,
     book: &Mutex<Book<'_, N, D>>,
     downlink: u8,
@@ -58,7 +58,7 @@ fn append_files<N: Beginning<D>, D: Disk, R: Wait>(
 }
 
 /// Finds the files of the downlink, and appends them.
-pub(crate) fn work<N: Beginning<D>, D: Disk, R: Wait>(
+pub(crate) fn work<N: RunStart<D>, D: Disk, R: Wait>(
     rt: &R,
     alloc: Global,
     bundle: &Bundle,

@@ -1,21 +1,21 @@
 //! What is left over once the threads have ended.
 ghost use Rattle.std.specs.Prelude.{◌≡◌, ◌<◌, false, length, OnOk, IfErr};
 ghost use Rattle.lr_downlinks.specs.Books.{IsBookOf};
-ghost use Rattle.lr_downlinks.specs.Ending.{GoesOn, IsLeftAt, EndsWith};
+ghost use Rattle.lr_downlinks.specs.Ending.{BookGoesOn, IsLeftAt, RunEndsWith};
 ghost use Rattle.lr_downlinks.specs.Members.{AreMembers};
 ghost use Rattle.lr_downlinks.specs.Merge.{times_in_order};
 ghost use Rattle.lr_downlinks.specs.Start.{files_in};
 
-use crate::beginning::Beginning;
 use crate::book::Book;
 use crate::member::Member;
 use crate::run::RunEnd;
+use crate::run_start::RunStart;
 use lr_bits::Placed;
 use lr_disk::Disk;
 use lr_shelf::ShelfError;
 
 /// Appends the files of a downlink that aren't appended yet.
-fn append_left<N: Beginning<D>, D: Disk>(
+fn append_left<N: RunStart<D>, D: Disk>(
     book: &mut Book<'_, N, D>,
     downlink: u8,
     files: &[Placed],
@@ -23,7 +23,7 @@ fn append_left<N: Beginning<D>, D: Disk>(
     requires known { downlink < length (N.start).streams }
     requires files { files.now ≡ files_in N.start downlink }
     requires working { book.old.failed ≡ false }
-    ensures goes_on { GoesOn book.old book.new }
+    ensures goes_on { BookGoesOn book.old book.new }
     ensures is { IsBookOf N.start book.new }
     ensures all { OnOk result (times_in_order downlink book.new.order ≡ length files.now) }
     ensures works { OnOk result (book.new.failed ≡ false) }
@@ -39,10 +39,10 @@ fn append_left<N: Beginning<D>, D: Disk>(
 }
 
 /// Appends what is left, downlink by downlink, until nothing is left or a file is refused.
-fn append_rest<N: Beginning<D>, D: Disk>(book: &mut Book<'_, N, D>, members: &[Member]) -> RunEnd
+fn append_rest<N: RunStart<D>, D: Disk>(book: &mut Book<'_, N, D>, members: &[Member]) -> RunEnd
     requires members { AreMembers N.start members.now }
     requires working { book.old.failed ≡ false }
-    ensures { EndsWith N.start book.new result }
+    ensures { RunEndsWith N.start book.new result }
 {
     for member in members {
         let Some(files) = &member.files else {
@@ -61,12 +61,12 @@ fn append_rest<N: Beginning<D>, D: Disk>(book: &mut Book<'_, N, D>, members: &[M
 }
 
 /// How the run ends: where the disk failed in a thread, with that, and else with what is left.
-pub(crate) fn end_run<N: Beginning<D>, D: Disk>(
+pub(crate) fn end_run<N: RunStart<D>, D: Disk>(
     book: &mut Book<'_, N, D>,
     members: &[Member],
 ) -> RunEnd
     requires { AreMembers N.start members.now }
-    ensures { EndsWith N.start book.new result }
+    ensures { RunEndsWith N.start book.new result }
 {
     if book.failed {
         return RunEnd::Disk;

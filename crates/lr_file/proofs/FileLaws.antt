@@ -83,7 +83,7 @@ not_file_of_one q h =
     let other : eqb q.flags 3 ≡ false = grind (arith, nat_tests, two) in
     is_file-one q ∙ ap (λ (b : Bool). (b && leb 10 (length q.body)) && leb (length q.body) most_file_bytes) other
 
--- behind the first packet of a file no other begins
+-- after the first packet of a file no other begins
 none_files : (q : Good) (qs : List Good) → end_with_two q qs ≡ true → filter is_file (last_stretches (q ∷ qs)) ≡ []
 none_files q [] h = rw (not_file_of_one q h) refl
 none_files q (r ∷ rs) h =

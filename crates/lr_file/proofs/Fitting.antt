@@ -179,7 +179,7 @@ module _ (weights : Weights) where
       (λ o. weigh_some o ≤ sum_by weigh s + weigh p)
       (λ e. omega (arith, sum_by_push weigh s p)) (λ e. weigh_alone p alone (sum_by weigh s))
 
-  -- of the file that ends with a packet and the one that is open behind it at most one is there
+  -- of the file that ends with a packet and the one that is open after it at most one is there
   weigh_both : (p : Good) (late : Bool) → leb 2 p.flags ≡ late → (o : Option (List Good)) →
       weigh_some (longer (ends p) p (is_file (p ∷ [])) o) + weigh_some
       (longer (goes_on p) p (is_open (p ∷ [])) o) ≤ weigh_some o + weigh p
@@ -254,7 +254,7 @@ module _ (weights : Weights) where
             (λ s. found is_file s (last_stretches (packets_of_key p.vc p.apid (before ++ p ∷ [])))),
       ))
 
-  -- the files of a key behind these packets fit what was open and the packets of the key
+  -- the files of a key after these packets fit what was open and the packets of the key
   fits_behind : (k : ℕ × ℕ) (before packets : List Good) →
       weigh_files k (files_after before packets) ≤ weigh_open k before + weigh_packets k packets
   fits_behind k before [] = omega arith

@@ -10,9 +10,18 @@ use Rattle.lr_bits.specs.File.{File}
 use Rattle.lr_bits.specs.Sizes.{most_file_bytes}
 use Rattle.lr_packet.specs.Verdict.{Good}
 use Rattle.lr_file.specs.Files.{packets_of_key, last_stretches, bodies_of, size_of, is_file, file_from, file_at}
-use Rattle.lr_file.specs.Standing.{Open, Kept, AreAscending, StandsFor, kept_of_key, is_open, last_count, open_from}
+use Rattle.lr_file.specs.Standing.{
+  Open,
+  KeptFiles,
+  AreAscending,
+  FilesStandFor,
+  kept_of_key,
+  is_open,
+  last_count,
+  open_from,
+}
 use Rattle.lr_file.specs.Standing.{open_file}
-use Rattle.lr_file.specs.Steps.{file_begun_by, file_with, is_next, next_open, completed_file, SetsKey, IsBuilt}
+use Rattle.lr_file.specs.Steps.{file_begun_by, open_file_with, is_next, next_open, completed_file, SetsKey, IsBuilt}
 use Rattle.lr_file.specs.Steps.{IsFileOf}
 use Rattle.lr_file.proofs.Stretches.{longer, find-end, is_open-end, is_file-end, is_open-one, is_file-one, concat-end}
 use Rattle.lr_file.proofs.KeyLemmas.{same_key}
@@ -47,7 +56,7 @@ last_count-end [] p = refl
 last_count-end (q ∷ []) p = refl
 last_count-end (q ∷ r ∷ qs) p = last_count-end (r ∷ qs) p
 
-open_from-end : (s : List Good) (p : Good) → open_from (s ++ p ∷ []) ≡ file_with (open_from s) p
+open_from-end : (s : List Good) (p : Good) → open_from (s ++ p ∷ []) ≡ open_file_with (open_from s) p
 open_from-end s p i = record { lengths = lengths-end s p i; bytes = concat-end s p i; count = last_count-end s p i }
 
 open_from-one : (p : Good) → open_from (p ∷ []) ≡ file_begun_by p
@@ -71,7 +80,7 @@ no_flags : (n k m : ℕ) → k < m → eqb n k ≡ true → eqb n m ≡ true →
 no_flags n k m less h g = let e : ⊥ = grind (arith, nat_tests) in e
 
 goes_on : (s : List Good) (p : Good) (next : Bool) →
-    option_map open_from (cond next (Some (s ++ p ∷ [])) None) ≡ cond next (Some (file_with (open_from s) p)) None
+    option_map open_from (cond next (Some (s ++ p ∷ [])) None) ≡ cond next (Some (open_file_with (open_from s) p)) None
 goes_on s p true = ap Some (open_from-end s p)
 goes_on s p false = refl
 
@@ -88,7 +97,7 @@ longer_open p short false true f b (Some s) = rw (open_alone p short, f, b) (goe
 longer_open p short false false f b None = rw (open_alone p short, f, b) refl
 longer_open p short false false f b (Some s) = rw (open_alone p short, f, b) refl
 
--- the open file behind one packet more of its key
+-- the open file after one packet more of its key
 open_file-own : (packets : List Good) (p : Good) → length p.body ≤ most_file_bytes →
     open_file p.vc p.apid (packets ++ p ∷ []) ≡ next_open (open_file p.vc p.apid packets) p
 unfolding open_file
@@ -140,7 +149,7 @@ some-end [] p = omega arith
 some-end (q ∷ qs) p = omega arith
 
 built_end : (s : List Good) (p : Good) (file : Option File) (next : Bool) →
-    IsFileOf p (cond next (Some (file_with (open_from s) p)) None) file →
+    IsFileOf p (cond next (Some (open_file_with (open_from s) p)) None) file →
     file ≡ option_map (file_from p.vc p.apid) (cond (next && leb 10 (size_of (s ++ p ∷ []))) (Some (s ++ p ∷ [])) None)
 built_end s p file true h =
     built p.vc p.apid (s ++ p ∷ []) file (some-end s p) (subst (λ (o : Open). IsBuilt p.vc p.apid o file)
@@ -176,14 +185,15 @@ file_at-built packets p file short h =
     ∙ sym (ap (λ ps. option_map (file_from p.vc p.apid) (find is_file (last_stretches ps)))
     (packets_of_key-own packets p))
 
-pub stands_new : (kept : Kept) → kept.spent ≡ false → kept.files ≡ [] → AreAscending kept.files → StandsFor kept []
+pub stands_new : (kept : KeptFiles) → kept.spent ≡ false → kept.files ≡ [] → AreAscending kept.files
+    → FilesStandFor kept []
 unfolding open_file kept_of_key
 stands_new kept unspent none once =
     record { unspent = unspent; once = once; files = λ vc apid. ap (λ files. kept_of_key files vc apid) none }
 
--- what is kept of each key behind one packet more
-kept_next : (old new : Kept) (packets : List Good) (p : Good) → length p.body ≤ most_file_bytes →
-    SetsKey old.files new.files p (next_open (kept_of_key old.files p.vc p.apid) p) → StandsFor old packets →
+-- what is kept of each key after one packet more
+kept_next : (old new : KeptFiles) (packets : List Good) (p : Good) → length p.body ≤ most_file_bytes →
+    SetsKey old.files new.files p (next_open (kept_of_key old.files p.vc p.apid) p) → FilesStandFor old packets →
     (vc apid : ℕ) (own : Bool) → is_of_key vc apid p ≡ own →
     kept_of_key new.files vc apid ≡ open_file vc apid (packets ++ p ∷ [])
 kept_next old new packets p short sets h vc apid true e =
@@ -199,10 +209,10 @@ kept_next old new packets p short sets h vc apid false e =
     ∙ h.files vc apid
     ∙ sym (open_file-other vc apid packets p e)
 
-pub stands_next : (old new : Kept) (packets : List Good) (p : Good) → length p.body ≤ most_file_bytes →
+pub stands_next : (old new : KeptFiles) (packets : List Good) (p : Good) → length p.body ≤ most_file_bytes →
     new.spent ≡ false →
-    SetsKey old.files new.files p (next_open (kept_of_key old.files p.vc p.apid) p) → StandsFor old packets →
-    StandsFor new (packets ++ p ∷ [])
+    SetsKey old.files new.files p (next_open (kept_of_key old.files p.vc p.apid) p) → FilesStandFor old packets →
+    FilesStandFor new (packets ++ p ∷ [])
 stands_next old new packets p short unspent sets h =
     record {
       unspent = unspent;

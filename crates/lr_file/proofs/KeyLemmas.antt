@@ -9,7 +9,7 @@ use Rattle.std.specs.Cmp.{tied_then, unsigned_tied}
 use Rattle.std.specs.Ordering.{nat_cmp}
 use Rattle.lr_packet.specs.Verdict.{Good}
 use Rattle.lr_file.specs.Standing.{Open, AreAscending, key_cmp, kept_of_key}
-use Rattle.lr_file.specs.Steps.{SetsKey, continued_file, is_next, file_with}
+use Rattle.lr_file.specs.Steps.{SetsKey, continued_file, is_next, open_file_with}
 use Rattle.lr_file.proofs.Stretches.{and_left, and_right}
 
 -- a key is found where both its numbers agree
@@ -78,7 +78,7 @@ unsets_key {V} old new packet same once none =
 
 -- what goes on of an open file, and of none
 pub continued_file-some : (kept : Option Open) (file : Open) (packet : Good) → kept ≡ Some file →
-    is_next file packet ≡ true → continued_file kept packet ≡ Some (file_with file packet)
+    is_next file packet ≡ true → continued_file kept packet ≡ Some (open_file_with file packet)
 continued_file-some kept file packet e next = rw (e, next) refl
 
 pub continued_file-dropped : (kept : Option Open) (file : Open) (packet : Good) → kept ≡ Some file →

@@ -8,13 +8,12 @@ use Rattle.std.proofs.lemmas.Bool.Decides.{nat_tests}
 use Rattle.std.proofs.lemmas.List.{length-map}
 use Rattle.std.proofs.lemmas.List.Elements.{All-push}
 use Rattle.lr_bits.specs.File.{File, MakeFile, file_of, pieces_of}
-use Rattle.lr_bits.specs.declared.sizes.TheConstants.{CHANNELS, IDLE_APPLICATION}
+use Rattle.lr_bits.specs.declared.sizes.TheConstants.{CHANNELS, IDLE_APPLICATION, SEQUENCE_COUNTS}
 use Rattle.lr_bits.specs.Sizes.{most_body_bytes, most_file_bodies, most_file_bytes}
 use Rattle.lr_bits.proofs.FileLemmas.{pieces_of-concat, sum-map-length}
 use Rattle.lr_packet.specs.Verdict.{Good}
-use Rattle.lr_bits.specs.declared.sizes.TheConstants.{SEQUENCE_COUNTS}
 use Rattle.lr_file.specs.Standing.{Open, IsWithinLimits}
-use Rattle.lr_file.specs.Steps.{is_next, file_with, IsBuilt}
+use Rattle.lr_file.specs.Steps.{is_next, open_file_with, IsBuilt}
 use Rattle.lr_file.proofs.Stretches.{and_left, and_right, and_false}
 
 pub is_next-few : (file : Open) (p : Good) → IsTrue (is_next file p) → length file.lengths < most_file_bodies
@@ -40,7 +39,7 @@ limits-lengths file p short next is =
 
 pub limits-file_with : (file : Open) (p : Good) → length p.body ≤ most_body_bytes → p.count < SEQUENCE_COUNTS →
     IsTrue (is_next file p) →
-    IsWithinLimits file → IsWithinLimits (file_with file p)
+    IsWithinLimits file → IsWithinLimits (open_file_with file p)
 limits-file_with file p short counted next is =
     let longer = limits-lengths file p short next is in
     record {

@@ -20,7 +20,7 @@ flags stretch = map (λ p. p.flags) stretch
 abbrev pub counts : List Good → List ℕ
 counts stretch = map (λ p. p.count) stretch
 
--- so many zeros
+-- n zeros
 abbrev pub zeros : ℕ → List ℕ
 zeros n = replicate n 0
 
@@ -223,7 +223,7 @@ not_open q qs h =
     (size_of (q ∷ qs)) most_file_bytes)
     (open_flags q qs ∙ ap (λ (b : Bool). b && are_zeros qs) h)
 
--- behind the first packet of an open file the flags are 0
+-- after the first packet of an open file the flags are 0
 pub zeros_behind : (q : Good) (qs : List Good) → is_open (q ∷ qs) ≡ true → are_zeros qs ≡ true
 unfolding is_open
 zeros_behind q qs h =

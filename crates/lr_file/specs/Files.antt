@@ -6,9 +6,8 @@ use Rattle.std.specs.List.{concat}
 use Rattle.std.specs.Str.{bytes_eq}
 use Rattle.std.specs.Option.{option_map}
 use Rattle.lr_bits.specs.File.{File}
-use Rattle.lr_bits.specs.declared.sizes.TheConstants.{TRANSPORT_HEADER_BYTES}
+use Rattle.lr_bits.specs.declared.sizes.TheConstants.{TRANSPORT_HEADER_BYTES, SEQUENCE_COUNTS}
 use Rattle.lr_packet.specs.Verdict.{Good}
-use Rattle.lr_bits.specs.declared.sizes.TheConstants.{SEQUENCE_COUNTS}
 use Rattle.lr_bits.specs.Sizes.{most_file_bodies, most_file_bytes}
 
 -- the packets of one channel and application

@@ -20,13 +20,13 @@ pub record Open : Type 0 where
   pub count : ℕ
 
 -- the open files by their channels and applications, and whether memory was wanting
-pub record Kept : Type 0 where
+pub record KeptFiles : Type 0 where
   pub spent : Bool
   pub files : List ((ℕ × ℕ) × Open)
 
 -- memory was wanting in an earlier call
-abbrev pub IsSpent : Kept → Type 0
-IsSpent kept = kept.spent ≡ true
+abbrev pub AreFilesSpent : KeptFiles → Type 0
+AreFilesSpent kept = kept.spent ≡ true
 
 -- the order of the channels and applications: by channels, and by applications within a channel
 abbrev pub key_cmp : ℕ × ℕ → ℕ × ℕ → Ordering
@@ -77,7 +77,7 @@ open_file vc apid packets = option_map open_from (find is_open (last_stretches (
 
 -- What is kept stands for these packets: memory wasn't wanting, and of each channel and application the open file is
 -- kept, once, and none where there is none.
-pub record StandsFor (kept : Kept) (packets : List Good) : Type 0 where
+pub record FilesStandFor (kept : KeptFiles) (packets : List Good) : Type 0 where
   pub unspent : kept.spent ≡ false
   pub once : AreAscending kept.files
   pub files : (vc apid : ℕ) → kept_of_key kept.files vc apid ≡ open_file vc apid packets

@@ -3,9 +3,8 @@ use Rattle.std.specs.Prelude.{◌≡◌, ℕ, ◌+◌, ◌%◌, ◌<◌, ◌≤�
 use Rattle.std.specs.Prelude.{None, SomeIff, List, [], ◌∷◌, ◌++◌, length, map}
 use Rattle.std.specs.List.{concat}
 use Rattle.lr_bits.specs.File.{File}
-use Rattle.lr_bits.specs.declared.sizes.TheConstants.{TRANSPORT_HEADER_BYTES}
+use Rattle.lr_bits.specs.declared.sizes.TheConstants.{TRANSPORT_HEADER_BYTES, SEQUENCE_COUNTS}
 use Rattle.lr_packet.specs.Verdict.{Good}
-use Rattle.lr_bits.specs.declared.sizes.TheConstants.{SEQUENCE_COUNTS}
 use Rattle.lr_bits.specs.Sizes.{most_file_bodies, most_file_bytes}
 use Rattle.lr_file.specs.declared.part.Part.{Part}
 use Rattle.lr_file.specs.declared.part.Part.TheVariants.{First, Between, Last, Single}
@@ -21,8 +20,8 @@ abbrev pub file_begun_by : Good → Open
 file_begun_by packet = record { lengths = length packet.body ∷ []; bytes = packet.body; count = packet.count }
 
 -- the open file with one packet more
-abbrev pub file_with : Open → Good → Open
-file_with file packet =
+abbrev pub open_file_with : Open → Good → Open
+open_file_with file packet =
     record {
       lengths = file.lengths ++ length packet.body ∷ [];
       bytes = file.bytes ++ packet.body;
@@ -38,7 +37,7 @@ is_next file packet =
 -- the open file with one packet more, if there is one and the packet follows
 abbrev pub continued_file : Option Open → Good → Option Open
 continued_file None packet = None
-continued_file (Some file) packet = if is_next file packet then Some (file_with file packet) else None
+continued_file (Some file) packet = if is_next file packet then Some (open_file_with file packet) else None
 
 -- the open file after a packet
 abbrev pub next_open : Option Open → Good → Option Open

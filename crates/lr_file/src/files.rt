@@ -4,7 +4,7 @@ ghost use Rattle.std.specs.Prelude.{◌≡◌, ◌++◌, ◌∷◌, [], List, No
 ghost use Rattle.lr_packet.specs.Verdict.{Good};
 ghost use Rattle.lr_packet.specs.Reading.{good};
 ghost use Rattle.lr_file.specs.Files.{file_at};
-ghost use Rattle.lr_file.specs.Standing.{IsSpent, StandsFor, kept_of_key};
+ghost use Rattle.lr_file.specs.Standing.{AreFilesSpent, FilesStandFor, kept_of_key};
 ghost use Rattle.lr_file.specs.Steps.{SetsKey, IsFileOf, JoinsNothing, file_begun_by, completed_file, continued_file};
 ghost use Rattle.lr_file.specs.Steps.{next_open};
 
@@ -122,9 +122,9 @@ pub struct Files {
 }
 
 impl Model for Files {
-    ghost use Rattle.lr_file.specs.Standing.{Kept};
+    ghost use Rattle.lr_file.specs.Standing.{KeptFiles};
 
-    ghost Value = { Kept };
+    ghost Value = { KeptFiles };
 
     ghost view = { λ f. record { spent = f.spent; files = f.files.entries } };
 }
@@ -132,7 +132,7 @@ impl Model for Files {
 impl Files {
     /// No packets yet. This takes no memory.
     pub fn new(alloc: Global) -> Self
-        ensures { StandsFor result [] }
+        ensures { FilesStandFor result [] }
     {
         Files {
             alloc,
@@ -145,16 +145,16 @@ impl Files {
     ///
     /// `NoMemory`: memory was wanting in this call or in an earlier one.
     pub fn push(&mut self, packet: &GoodPacket) -> Result<Option<MissionFile>, NoMemory>
-        ensures stands { (packets : List Good) → StandsFor self.old packets →
-            OnOk result (StandsFor self.new (packets ++ good packet.now ∷ [])) }
-        ensures file { (packets : List Good) → StandsFor self.old packets →
+        ensures stands { (packets : List Good) → FilesStandFor self.old packets →
+            OnOk result (FilesStandFor self.new (packets ++ good packet.now ∷ [])) }
+        ensures file { (packets : List Good) → FilesStandFor self.old packets →
             IfOk result (λ file. file ≡ file_at packets (good packet.now)) }
         // A packet that joins no file takes no memory.
         ensures succeeds { self.old.spent ≡ false
             → JoinsNothing (kept_of_key self.old.files packet.now.vc packet.now.apid) (good packet.now)
             → IsOk result }
-        ensures spends { OnErr result (IsSpent self.new) }
-        ensures stays_spent { IsSpent self.old → IsErr result × IsSpent self.new }
+        ensures spends { OnErr result (AreFilesSpent self.new) }
+        ensures stays_spent { AreFilesSpent self.old → IsErr result × AreFilesSpent self.new }
     {
         if self.spent {
             return Err(NoMemory);

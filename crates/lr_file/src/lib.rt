@@ -1,5 +1,6 @@
 //! Mission files, joined from the good packets of LRIT and HRIT (CGMS 03, the transport layer; the sequence flags and
-//! counts of space packets, CCSDS 133.0-B, section 4.1.3.4).
+//! counts of space packets, CCSDS 133.0-B, section 4.1.3.4). CGMS 03 calls a file with
+//! its transport header a TP_File, and what comes after that header an S_PDU.
 //!
 //! Good packets come one by one, of all channels and applications, and the file that ends with a packet leaves with
 //! it. A file is one packet with flags 3, or neighbours of one channel and application with flags 1, any number of 0,

@@ -3,7 +3,7 @@
 ghost use Rattle.std.specs.Prelude.{◌≡◌, ◌<◌, IsTrue, IfOk, OnOk};
 ghost use Rattle.lr_bits.specs.declared.sizes.TheConstants.{CHANNELS};
 ghost use Rattle.lr_packet.specs.Reading.{good};
-ghost use Rattle.lr_file.specs.Steps.{IsBuilt, file_begun_by, is_next, file_with};
+ghost use Rattle.lr_file.specs.Steps.{IsBuilt, file_begun_by, is_next, open_file_with};
 
 use lr_bits::{
     Bytes, IDLE_APPLICATION, Lengths, MOST_FILE_BODIES, MOST_FILE_BYTES, MissionFile, NoMemory,
@@ -60,7 +60,7 @@ impl OpenFile {
     /// Appends the packet's body. This takes no memory but the growth of the two lists.
     pub fn append(&mut self, packet: &GoodPacket) -> Result<(), NoMemory>
         requires { IsTrue (is_next self.old (good packet.now)) }
-        ensures { OnOk result (self.new ≡ file_with self.old (good packet.now)) }
+        ensures { OnOk result (self.new ≡ open_file_with self.old (good packet.now)) }
     {
         self.lengths.push(packet.body.len() as u16)?;
         self.bytes.extend(packet.body)?;

@@ -10,7 +10,7 @@ use Rattle.lr_lock.specs.Frames.{AreFrames, AreNext}
 use Rattle.lr_lock.specs.FramesOf.{frames_of}
 use Rattle.lr_lock.specs.declared.frame.Frame.{Frame}
 use Rattle.lr_lock.specs.declared.sizes.TheConstants.{WINDOW_END}
-use Rattle.lr_lock.proofs.Existing.{frames_of-are, frames_once, given_are_front}
+use Rattle.lr_lock.proofs.Existing.{frames_of-are, frames_once, given_are_prefix}
 use Rattle.lr_lock.proofs.Staying.{window_stays}
 use Rattle.lr_frame.specs.Outcomes.{outcome_in, outcome_of_window, outcomes_of_symbols}
 
@@ -30,7 +30,7 @@ pub first_outcomes : (line : LineCode) (symbols : List ℤ) (given : List Frame)
 unfolding outcomes_of_symbols
 first_outcomes line symbols given h =
     let front : (rest : List Frame) × (frames_of (tail_of line) symbols ≡ given ++ rest) =
-    given_are_front (tail_of line) symbols given (tail_size line) h in (
+    given_are_prefix (tail_of line) symbols given (tail_size line) h in (
       map (outcome_in line symbols) front.0,
       ap (map (outcome_in line symbols)) front.1 ∙ map-append (outcome_in line symbols) given front.0,
     )

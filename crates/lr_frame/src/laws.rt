@@ -8,7 +8,7 @@ ghost use Rattle.lr_block.specs.Outcomes.{outcome_of_block};
 ghost use Rattle.lr_conv.specs.Marker.{tail_of};
 ghost use Rattle.lr_conv.specs.declared.line.LineCode.{LineCode};
 ghost use Rattle.lr_lock.specs.Frames.{AreFrames, AreNext};
-ghost use Rattle.lr_lock.specs.Standing.{LockState, StandsFor};
+ghost use Rattle.lr_lock.specs.Standing.{LockState, LockStandsFor};
 ghost use Rattle.lr_lock.specs.declared.frame.Frame.{Frame};
 ghost use Rattle.lr_frame.specs.Outcomes.{outcome_in, outcome_of_window, outcomes_of_symbols};
 
@@ -31,7 +31,7 @@ pub fn given_outcomes_stay()
     ensures all { (line : LineCode) (symbols : List ℤ) (given : List Frame) →
         AreFrames (tail_of line) symbols given →
         outcomes_of_symbols line symbols ≡ map (outcome_in line symbols) given }
-    ensures later { (lock : LockState) (fed more : List ℤ) (given : List Frame) → StandsFor lock fed given →
+    ensures later { (lock : LockState) (fed more : List ℤ) (given : List Frame) → LockStandsFor lock fed given →
         lock.finished ≡ false →
         map (outcome_in lock.line (fed ++ more)) given ≡ map (outcome_in lock.line fed) given }
 {}

@@ -8,7 +8,7 @@ use lib.ListN.{get_elem?}
 use Rattle.atomic_table.proofs.Lists.{at_set, set_here, set_else}
 use Rattle.lr_gatecore.specs.declared.stage.Stage.{Stage}
 use Rattle.lr_gate.specs.declared.view.View.{View}
-use Rattle.lr_gate.specs.Shows.{is_being_taken, IsSeatShown, IsSpent}
+use Rattle.lr_gate.specs.Shows.{is_being_taken, IsSeatShown, IsJoinedView}
 use Rattle.lr_gatecore.proofs.Lists.{at_length}
 
 module _ {J : Type 0} where
@@ -63,7 +63,7 @@ module _ {J : Type 0} where
   }
 
   abbrev pub Spents : List (View J) → Type 0
-  Spents views = (j : ℕ) (v : View J) → get_elem? views j ≡ some v → v.spent ≡ true → IsSpent v
+  Spents views = (j : ℕ) (v : View J) → get_elem? views j ≡ some v → v.spent ≡ true → IsJoinedView v
 
   pub spents_stay : (views : List (View J)) (id : ℕ) (v' : View J) → v'.spent ≡ false → Spents views
       → Spents (set views id v')

@@ -13,16 +13,15 @@ use lib.ListN.{get_elem?}
 use Rattle.atomic_table.specs.Table.{State, Step, step, Act, keeps, takes, stepped, Valid, Allows, carried_after, rest}
 use Rattle.atomic_table.specs.Table as table
 use Rattle.atomic_table.proofs.Lists.{exchanged}
-use Rattle.lr_gate.specs.declared.cargo.Cargo.{Cargo}
-use Rattle.lr_gate.specs.declared.cargo.Cargo.TheVariants.{Given, Made}
+use Rattle.lr_gate.specs.declared.slot_value.SlotValue.{SlotValue}
+use Rattle.lr_gate.specs.declared.slot_value.SlotValue.TheVariants.{Given, Made}
 use Rattle.lr_gate.specs.declared.view.Held.{Held}
 use Rattle.lr_gate.specs.declared.view.Read.{Read}
 use Rattle.lr_gate.specs.declared.view.View.{View}
 use Rattle.lr_gatecore.specs.declared.stage.Stage.{Stage}
 use Rattle.lr_gatecore.specs.declared.stage.Stage.TheVariants.{Ready, Busy, Done}
-use Rattle.lr_gate.specs.Words.{cell_word}
+use Rattle.lr_gate.specs.Words.{cell_word, finish_count}
 use Rattle.lr_gate.specs.Shows.{held_job, count_of, finishes_of, Lies, Shows}
-use Rattle.lr_gate.specs.Words.{finish_count}
 use Rattle.lr_gate.specs.Steps.{FoundAlone, read, SeatState, after_read, after_claim, after_finish, LookTells}
 use Rattle.lr_gate.specs.Steps.{ClaimTells, FinishTells}
 use Rattle.lr_gatecore.specs.declared.sizes.TheConstants.{MOST_JOBS, WORD_BASE}
@@ -126,7 +125,7 @@ module _ {J D : Type 0} (f : J → D) (crew : ℕ) where
         ),
       )
 
-  -- the seat's last read is a load of this word, which found so much
+  -- the seat's last read is a load of this word, which found this value
   abbrev pub LastRead : View J → ℕ → ℕ → Type 0
   LastRead v i old = (earlier : List Read) × (v.reads ≡ earlier ++ read i None old ∷ [])
 
@@ -214,12 +213,12 @@ module _ {J D : Type 0} (f : J → D) (crew : ℕ) where
       (claim_on n slots id m i old new q s r live free pos near old_is new_is last wide at)
       (claim_off n slots id m i old new q s r live old_is last wide at)
 
-  pub finishes_go : (n slots id : ℕ) (m : SeatState J D) (i new c : ℕ) (h : Held J) (more : List (ℕ × Cargo J D))
+  pub finishes_go : (n slots id : ℕ) (m : SeatState J D) (i new c : ℕ) (h : Held J) (more : List (ℕ × SlotValue J D))
       → m.0.spent ≡ false → m.0.held ≡ Some h → h.cell ≡ c → m.1 ≡ (c, Made (f h.what)) ∷ more → i ≡ c + 1
       → new ≡ h.job * WORD_BASE + 2
       → Allows (Shows f n crew) slots id m i (λ _. new) (λ _. FinishTells f (step slots i new 0 none) m new)
   finishes_go n slots id m i new c h more live holds cell has word new_is s r wide at _ =
-      let S : List (ℕ × Cargo J D) → ℕ → ℕ → Type 0 = λ cs x y. Shows f n crew record {
+      let S : List (ℕ × SlotValue J D) → ℕ → ℕ → Type 0 = λ cs x y. Shows f n crew record {
         words = set s.words x y;
         homes = table.put_back s.homes cs;
         views = set s.views id (after_finish m.0 h.job);

@@ -6,7 +6,7 @@ use lib.ListN.{get_elem?}
 use Rattle.atomic_table.specs.Table.{Joins}
 use Rattle.atomic_table.proofs.Lists.{at_set, set_here, set_else}
 use Rattle.lr_gate.specs.declared.view.View.{View}
-use Rattle.lr_gate.specs.Shows.{held_job, count_of, finishes_of, IsSpent, Shows}
+use Rattle.lr_gate.specs.Shows.{held_job, count_of, finishes_of, IsJoinedView, Shows}
 use Rattle.lr_gate.specs.Steps.{after_join, spent_view}
 use Rattle.lr_gatecore.proofs.Lists.{at_length}
 use Rattle.lr_gate.proofs.Lists.{none_not_some}
@@ -84,7 +84,7 @@ module _ {J D : Type 0} (f : J → D) (crew : ℕ) where
             (at_set s.views 0 j me' v x.1))
             (at_set mid k j spent_view v e);
         each_spent = λ j v e gone. ⊎_elim
-            (λ (x : (j ≡ k) × (spent_view ≡ v)). subst IsSpent x.1 record {
+            (λ (x : (j ≡ k) × (spent_view ≡ v)). subst IsJoinedView x.1 record {
               nothing = refl;
               no_job = refl;
               no_read = refl;

@@ -10,8 +10,8 @@ use lib.ListN.{get_elem?}
 use Rattle.atomic_table.specs.Table.{State, Step, step, Act, keeps, stepped, Valid, Allows, carried_after, rest}
 use Rattle.atomic_table.specs.Table as table
 use Rattle.atomic_table.proofs.Lists.{at_set, set_here, set_else, at_longer, at_last}
-use Rattle.lr_gate.specs.declared.cargo.Cargo.{Cargo}
-use Rattle.lr_gate.specs.declared.cargo.Cargo.TheVariants.{Empty, Given, Made}
+use Rattle.lr_gate.specs.declared.slot_value.SlotValue.{SlotValue}
+use Rattle.lr_gate.specs.declared.slot_value.SlotValue.TheVariants.{Empty, Given, Made}
 use Rattle.lr_gate.specs.declared.view.Held.{Held}
 use Rattle.lr_gate.specs.declared.view.View.{View}
 use Rattle.lr_gatecore.specs.declared.stage.Stage.{Stage}
@@ -37,10 +37,10 @@ module _ {J : Type 0} where
       (λ ne. (k.0, set_else views id w v' ne ∙ k.1, k.2))
 
 abbrev pub Homes : Type 0 → Type 0 → Type 0
-Homes J D = List (maybe.Option (Cargo J D))
+Homes J D = List (maybe.Option (SlotValue J D))
 
 abbrev pub St : Type 0 → Type 0 → Type 0
-St J D = State (Cargo J D) (View J)
+St J D = State (SlotValue J D) (View J)
 
 module _ {J D : Type 0} (f : J → D) where
   pub lies_stay : (me me' : View J) (homes homes' : Homes J D) (views views' : List (View J)) (p c : ℕ)
@@ -150,10 +150,10 @@ module _ {J D : Type 0} (f : J → D) (crew : ℕ) where
       }
 
   abbrev pub Goes : ℕ → St J D → ℕ → ℕ → SeatState J D → ℕ → (SeatState J D → Type 0) → Type 0
-  Goes n s i id m new then = (w : View J) × (a : Act (Cargo J D)) × Valid s.homes m.1 a
+  Goes n s i id m new then = (w : View J) × (a : Act (SlotValue J D)) × Valid s.homes m.1 a
       × Shows f n crew (stepped s i new id m.1 w a) × then (w, carried_after m.1 a)
 
-  pub puts_go : (n slots id : ℕ) (m : SeatState J D) (i new c p : ℕ) (j : J) (more : List (ℕ × Cargo J D))
+  pub puts_go : (n slots id : ℕ) (m : SeatState J D) (i new c p : ℕ) (j : J) (more : List (ℕ × SlotValue J D))
       → id ≡ 0 → m.1 ≡ (c, Given j) ∷ more → p ≡ length m.0.jobs → c ≡ p % n → i ≡ c + 1 → new ≡ p * WORD_BASE + 1
       → p < MOST_JOBS → p < m.0.taken + n
       → Allows (Shows f n crew) slots id m i (λ _. new) (λ _. PutTells (step slots i new 0 none) m new)
@@ -166,7 +166,7 @@ module _ {J D : Type 0} (f : J → D) (crew : ℕ) where
       let i' : i ≡ q % n + 1 = word ∙ ap (λ (z : ℕ). z + 1) c' in
       let n' : new ≡ q * WORD_BASE + 1 = new_is ∙ ap (λ (z : ℕ). z * WORD_BASE + 1) pq in
       let told : SeatState J D → Type 0 = PutTells (step slots i new 0 none) m new in
-      let S : List (ℕ × Cargo J D) → ℕ → ℕ → ℕ → View J
+      let S : List (ℕ × SlotValue J D) → ℕ → ℕ → ℕ → View J
       → Type 0 = λ cs x y z v. Shows f n crew record {
         words = set s.words x y;
         homes = table.put_back s.homes cs;
@@ -179,5 +179,10 @@ module _ {J D : Type 0} (f : J → D) (crew : ℕ) where
       (subst (λ x. S ((q % n, Given j) ∷ more) x new id m.0) (sym i')
       (subst (λ y. S ((q % n, Given j) ∷ more) (q % n + 1) y id m.0) (sym n')
       (subst (λ z. S ((q % n, Given j) ∷ more) (q % n + 1) (q * WORD_BASE + 1) z m.0) (sym first)
-      (subst (λ v. S ((q % n, Given j) ∷ more) (q % n + 1) (q * WORD_BASE + 1) 0 v) is start))))) in
-      (after_put m.0 j, table.gives, tt, now, ap (λ (cs : List (ℕ × Cargo J D)). (put_view m.0 cs, rest m.1)) (sym has))
+      (subst (λ v. S ((q % n, Given j) ∷ more) (q % n + 1) (q * WORD_BASE + 1) 0 v) is start))))) in (
+        after_put m.0 j,
+        table.gives,
+        tt,
+        now,
+        ap (λ (cs : List (ℕ × SlotValue J D)). (put_view m.0 cs, rest m.1)) (sym has),
+      )

@@ -8,8 +8,8 @@ use lib.ListN.{get_elem?}
 use Rattle.std.proofs.Math.Nat.{mul-add-mod_self_right, add-mod_right}
 use Rattle.atomic_table.specs.Table.{rest}
 use Rattle.lr_gatecore.specs.declared.sizes.TheConstants.{MOST_SEATS, WORD_BASE}
-use Rattle.lr_gate.specs.declared.cargo.Cargo.{Cargo}
-use Rattle.lr_gate.specs.declared.cargo.Cargo.TheVariants.{Empty, Given, Made}
+use Rattle.lr_gate.specs.declared.slot_value.SlotValue.{SlotValue}
+use Rattle.lr_gate.specs.declared.slot_value.SlotValue.TheVariants.{Empty, Given, Made}
 use Rattle.lr_gate.specs.Shows.{count_of, finishes_of}
 use Rattle.lr_gate.specs.Steps.{free_cells}
 use Rattle.lr_gate.specs.declared.view.View.{View}
@@ -64,7 +64,7 @@ module _ {J D : Type 0} where
       (suc m)
   free_snoc_at k p zero = ap (λ (z : ℕ). (z % k, Empty) ∷ []) (let e : p + 0 ≡ p = omega arith in e)
   free_snoc_at k p (suc m) =
-      ap (λ (xs : List (ℕ × Cargo J D)). (p % k, Empty) ∷ xs)
+      ap (λ (xs : List (ℕ × SlotValue J D)). (p % k, Empty) ∷ xs)
       (ap (λ (z : ℕ). free_cells {J = J} {D = D} k (p + 1) m ++ (z % k, Empty) ∷ [])
       (let e : p + suc m ≡ p + 1 + m = omega arith in e) ∙ free_snoc_at k (p + 1) m)
 
@@ -115,15 +115,15 @@ module _ {J : Type 0} where
   finishes_end i (x ∷ xs) v e = ap (λ (z : ℕ). count_of i x.finished + z) (finishes_end i xs v e)
 
 module _ {J D : Type 0} where
-  abbrev given_or : J → Cargo J D → J
+  abbrev given_or : J → SlotValue J D → J
   given_or j (Given x) = x
   given_or j Empty = j
   given_or j (Made d) = j
 
-  abbrev handed : J → List (ℕ × Cargo J D) → J
+  abbrev handed : J → List (ℕ × SlotValue J D) → J
   handed j [] = j
   handed j (x ∷ xs) = given_or j x.1
 
   -- what was handed over is what the seat holds
-  pub same_job : (a b : ℕ) (x y : J) (xs ys : List (ℕ × Cargo J D)) → (a, Given x) ∷ xs ≡ (b, Given y) ∷ ys → x ≡ y
+  pub same_job : (a b : ℕ) (x y : J) (xs ys : List (ℕ × SlotValue J D)) → (a, Given x) ∷ xs ≡ (b, Given y) ∷ ys → x ≡ y
   same_job a b x y xs ys e = ap (handed x) e

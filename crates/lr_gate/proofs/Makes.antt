@@ -10,8 +10,8 @@ use native.Mathlib.Decide.{ℕ_discrete}
 use lib.ListN.{get_elem?, length-map, length-replicate}
 use Rattle.atomic_table.specs.Table.{step, Act, keeps, takes, chain, Valid, Allows, carried_after, homes_after, opening}
 use Rattle.atomic_table.proofs.Lists.{set_here, set_else}
-use Rattle.lr_gate.specs.declared.cargo.Cargo.{Cargo}
-use Rattle.lr_gate.specs.declared.cargo.Cargo.TheVariants.{Empty}
+use Rattle.lr_gate.specs.declared.slot_value.SlotValue.{SlotValue}
+use Rattle.lr_gate.specs.declared.slot_value.SlotValue.TheVariants.{Empty}
 use Rattle.lr_gate.specs.declared.view.View.{View}
 use Rattle.lr_gate.specs.Shows.{Lies, Shows}
 use Rattle.lr_gate.specs.Steps.{SeatState, new_view, after_stock, free_cells, StockTells}
@@ -27,16 +27,16 @@ zeros (suc k) zero = refl
 zeros (suc k) (suc j) = zeros k j
 
 abbrev Row : Type 0 → Type 0 → Type 0
-Row J D = List (ℕ × Cargo J D)
+Row J D = List (ℕ × SlotValue J D)
 
 module _ {J D : Type 0} where
-  blank : (n i : ℕ) → i < n → get_elem? (map some (replicate {A = Cargo J D} n Empty)) i ≡ some (some Empty)
+  blank : (n i : ℕ) → i < n → get_elem? (map some (replicate {A = SlotValue J D} n Empty)) i ≡ some (some Empty)
   blank zero i near = absurd (omega arith)
   blank (suc n) zero near = refl
   blank (suc n) (suc i) near = blank n i (omega arith)
 
   -- all slots below m are taken, so that the first is in front
-  take_all : ℕ → Act (Cargo J D)
+  take_all : ℕ → Act (SlotValue J D)
   take_all zero = keeps
   take_all (suc m) = chain (takes m Empty) (take_all m)
 
@@ -85,7 +85,7 @@ module _ {J D : Type 0} where
 module _ {J D : Type 0} (f : J → D) (crew : ℕ) where
   -- all cells are free and at home
   pub opens : (n : ℕ) → 0 < n → Shows f n crew (opening (replicate (n + 1) 0) (replicate n Empty) (new_view 0))
-  opens n pos = let hs : List (Cargo J D) = replicate n Empty in let me : View J = new_view 0 in record {
+  opens n pos = let hs : List (SlotValue J D) = replicate n Empty in let me : View J = new_view 0 in record {
     stages = [];
     me = me;
     first = refl;
@@ -116,7 +116,7 @@ module _ {J D : Type 0} (f : J → D) (crew : ℕ) where
   }
 
   -- the conductor picks all cells up
-  stock_shows : (n : ℕ) (s : St J D) (r : Shows f n crew s) (homes' : List (maybe.Option (Cargo J D)))
+  stock_shows : (n : ℕ) (s : St J D) (r : Shows f n crew s) (homes' : List (maybe.Option (SlotValue J D)))
       → r.me.jobs ≡ [] → length homes' ≡ n → ((c : ℕ) → c < n → get_elem? homes' c ≡ some none)
       → Shows f n crew record { words = s.words; homes = homes'; views = set s.views 0 (after_stock r.me) }
   stock_shows n s r homes' none_put long out = let me' : View J = after_stock r.me in
@@ -166,8 +166,8 @@ module _ {J D : Type 0} (f : J → D) (crew : ℕ) where
       (j % n)) free ok.lies in
       ap (get_elem? s.homes) (sym (mod-eq_of_lt l))
       ∙ (lies ∙ ap (λ (b : Bool). some (cond b none (some Empty))) (ap (λ (v : View J). v.stocked) is')) in
-      let act : Act (Cargo J D) = take_all n in
-      let homes' : List (maybe.Option (Cargo J D)) = homes_after s.homes m.1 act in
+      let act : Act (SlotValue J D) = take_all n in
+      let homes' : List (maybe.Option (SlotValue J D)) = homes_after s.homes m.1 act in
       let S : List ℕ → ℕ → View J → Type 0 = λ ws z v. Shows f n crew record {
         words = ws;
         homes = homes';

@@ -9,7 +9,7 @@ use lib.ListN.{get_elem?}
 use Rattle.lr_gatecore.specs.declared.stage.Stage.{Stage}
 use Rattle.lr_gatecore.specs.declared.stage.Stage.TheVariants.{Ready, Busy, Done}
 use Rattle.lr_gate.specs.Words.{cell_word}
-use Rattle.lr_gate.specs.Shows.{flag, Shows, machine_of}
+use Rattle.lr_gate.specs.Shows.{flag, Shows, machine_shown}
 use Rattle.lr_gatecore.proofs.Lists.{at_above}
 use Rattle.lr_gate.proofs.Keeps.{St}
 
@@ -58,7 +58,7 @@ module _ {J D : Type 0} (f : J → D) (n workers : ℕ) where
       ∙ sym (at_above r.stages i (let w = r.within in omega arith))))
 
   pub same_words : (s t : St J D) (r : Shows f n workers s) (q : Shows f n workers t) → t.words ≡ s.words
-      → q.me.taken ≡ r.me.taken → machine_of f n workers t q ≡ machine_of f n workers s r
+      → q.me.taken ≡ r.me.taken → machine_shown f n workers t q ≡ machine_shown f n workers s r
   same_words s t r q words taken =
       let stopped : q.me.stopped ≡ r.me.stopped = same_flag q.me.stopped r.me.stopped
       (sym q.stop_is ∙ (ap (λ (ws : List ℕ). get_or ws 0 0) words ∙ r.stop_is)) in

@@ -10,8 +10,7 @@ use Rattle.lr_gate.specs.Steps.{SeatState}
 use Rattle.lr_gate.specs.Reads.{IsPassedOver}
 use Rattle.lr_gate.specs.declared.gate.Turn.TheVariants.{Did, Nothing}
 use Rattle.lr_gate.specs.Seats.{Turns, SomeUnfinished}
-use Rattle.lr_gate.specs.Calls.{with_reads, IsAlone, HasFinished, Works, Visits}
-use Rattle.lr_gate.specs.Calls.{GoesBetween, GoesRound}
+use Rattle.lr_gate.specs.Calls.{with_reads, IsAlone, HasFinished, Works, Visits, GoesBetween, GoesRound}
 use Rattle.lr_gatecore.proofs.Lists.{at_length}
 use Rattle.lr_gate.proofs.MoreReads.{more_reads, more_work, passed_longer, passed_behind, claimed_behind}
 

@@ -10,11 +10,11 @@ use lib.ListN.{get_elem?}
 use Rattle.lr_gatecore.specs.declared.stage.Stage.{Stage}
 use Rattle.lr_gatecore.specs.declared.stage.Stage.TheVariants.{Ready, Busy, Done}
 use Rattle.lr_gatecore.specs.Machine.{HasStage}
-use Rattle.lr_gate.specs.declared.cargo.Cargo.TheVariants.{Empty, Made}
+use Rattle.lr_gate.specs.declared.slot_value.SlotValue.TheVariants.{Empty, Made}
 use Rattle.lr_gate.specs.declared.view.Held.{Held}
 use Rattle.lr_gate.specs.declared.view.View.{View}
 use Rattle.lr_gate.specs.Words.{cell_word, finish_count}
-use Rattle.lr_gate.specs.Shows.{held_job, is_being_taken, Lies, Shows, machine_of}
+use Rattle.lr_gate.specs.Shows.{held_job, is_being_taken, Lies, Shows, machine_shown}
 use Rattle.lr_gate.specs.Cells.{ShowsMachine}
 use Rattle.lr_gatecore.proofs.Lists.{at_length, at_above}
 use Rattle.lr_gate.proofs.Lists.{at_below, none_not_some, inside}
@@ -63,7 +63,7 @@ module _ {J D : Type 0} (f : J → D) (crew : ℕ) where
 
   holds_by : (n : ℕ) (s : St J D) (r : Shows f n crew s) (w : ℕ) (v : View J) (h : Held J) (b : Bool)
       → v.spent ≡ b → get_elem? s.views w ≡ some v → v.held ≡ Some h
-      → HasStage (machine_of f n crew s r) h.job (Busy w) × (h.cell ≡ h.job % n)
+      → HasStage (machine_shown f n crew s r) h.job (Busy w) × (h.cell ≡ h.job % n)
   holds_by n s r w v h true gone at is = absurd (none_not_some h (sym (r.each_spent w v at gone).nothing ∙ is))
   holds_by n s r w v h false live at is = let k = (r.each_seat w v at live).holds h is in ((k.0, k.2), k.1)
 
@@ -90,7 +90,7 @@ module _ {J D : Type 0} (f : J → D) (crew : ℕ) where
       (r.each_cell p at.1 at.2).lies in
       ap (get_elem? s.homes) (sym at.3) ∙ (lies ∙ ap (λ (b : Bool). some (cond b none (some Empty))) full)
 
-  pub shown : (n : ℕ) (s : St J D) (r : Shows f n crew s) → ShowsMachine f n crew s (machine_of f n crew s r) r.me
+  pub shown : (n : ℕ) (s : St J D) (r : Shows f n crew s) → ShowsMachine f n crew s (machine_shown f n crew s r) r.me
   shown n s r = record {
     state = record {
       past = r.past;

@@ -6,7 +6,7 @@ use lib.ListN.{get_elem?}
 use Rattle.atomic_table.specs.Seated.{TableId}
 use Rattle.atomic_table.specs.declared.shared.Seat.{Seat}
 use Rattle.lr_gatecore.specs.declared.sizes.TheConstants.{MOST_JOBS, MOST_SEATS}
-use Rattle.lr_gate.specs.declared.cargo.Cargo.{Cargo}
+use Rattle.lr_gate.specs.declared.slot_value.SlotValue.{SlotValue}
 use Rattle.lr_gate.specs.declared.view.View.{View}
 use Rattle.lr_gate.specs.declared.view.Read.{Read}
 use Rattle.lr_gate.specs.Shows.{count_of}
@@ -14,7 +14,7 @@ use Rattle.lr_gate.specs.Steps.{SeatState, free_cells}
 use Rattle.lr_gate.specs.Reads.{IsPassedOver, ClaimsJob}
 
 -- the conductor's seat between two calls, with this many seats split off
-pub record IsConductor {J D : Type 0} (z : TableId) (cells crew : ℕ) (seat : Seat (Cargo J D) (View J))
+pub record IsConductor {J D : Type 0} (z : TableId) (cells crew : ℕ) (seat : Seat (SlotValue J D) (View J))
     (put taken : ℕ) : Type 0 where
   pub table : seat.table_id ≡ z
   pub id : seat.id ≡ 0
@@ -33,7 +33,7 @@ pub record IsConductor {J D : Type 0} (z : TableId) (cells crew : ℕ) (seat : S
   pub frees : seat.me.1 ≡ free_cells cells put (taken + cells - put)
 
 -- a worker's seat between two turns
-pub record IsWorker {J D : Type 0} (z : TableId) (seat : Seat (Cargo J D) (View J)) (number : ℕ) : Type 0 where
+pub record IsWorker {J D : Type 0} (z : TableId) (seat : Seat (SlotValue J D) (View J)) (number : ℕ) : Type 0 where
   pub table : seat.table_id ≡ z
   pub number_is : seat.me.0.number ≡ number
   pub low : number < MOST_SEATS
@@ -42,7 +42,7 @@ pub record IsWorker {J D : Type 0} (z : TableId) (seat : Seat (Cargo J D) (View 
   pub empty : seat.me.1 ≡ []
 
 -- a seat that may claim a cell
-pub record MayClaim {J D : Type 0} (z : TableId) (seat : Seat (Cargo J D) (View J)) (number : ℕ) : Type 0 where
+pub record MayClaim {J D : Type 0} (z : TableId) (seat : Seat (SlotValue J D) (View J)) (number : ℕ) : Type 0 where
   pub table : seat.table_id ≡ z
   pub number_is : seat.me.0.number ≡ number
   pub low : number < MOST_SEATS

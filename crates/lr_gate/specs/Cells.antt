@@ -7,16 +7,17 @@ use Rattle.lr_gatecore.specs.declared.stage.Stage.{Stage}
 use Rattle.lr_gatecore.specs.declared.stage.Stage.TheVariants.{Ready, Busy, Done}
 use Rattle.lr_gatecore.specs.Machine.{Machine, IsState, HasStage, put_count}
 use Rattle.lr_gatecore.specs.declared.sizes.TheConstants.{WORD_BASE}
-use Rattle.lr_gate.specs.declared.cargo.Cargo.{Cargo}
-use Rattle.lr_gate.specs.declared.cargo.Cargo.TheVariants.{Given, Made}
+use Rattle.lr_gate.specs.declared.slot_value.SlotValue.{SlotValue}
+use Rattle.lr_gate.specs.declared.slot_value.SlotValue.TheVariants.{Given, Made}
 use Rattle.lr_gate.specs.declared.view.Held.{Held}
 use Rattle.lr_gate.specs.declared.view.View.{View}
 use Rattle.lr_gate.specs.Words.{stage_code}
-use Rattle.lr_gate.specs.Shows.{flag, held_job, finishes_of, IsHeldBy, IsSpent, Shows, machine_of}
+use Rattle.lr_gate.specs.Shows.{flag, held_job, finishes_of, IsHeldBy, IsJoinedView, Shows, machine_shown}
 
 module _ {J D : Type 0} (gives : J → D) where
   -- With n cells and this many worker seats, the table s shows the machine m, of which `me` is the conductor's view
-  pub record ShowsMachine (n workers : ℕ) (s : State (Cargo J D) (View J)) (m : Machine) (me : View J) : Type 0 where
+  pub record ShowsMachine (n workers : ℕ) (s : State (SlotValue J D) (View J)) (m : Machine) (me : View J) : Type
+      0 where
     -- the machine is in a state, with one worker more, the conductor
     pub state : IsState n (workers + 1) m
     pub conductor : get_elem? s.views 0 ≡ some me
@@ -56,18 +57,18 @@ module _ {J D : Type 0} (gives : J → D) where
     pub numbers : (w : ℕ) (v : View J) → get_elem? s.views w ≡ some v → v.spent ≡ false → v.number ≡ w
     pub seats : length s.views ≡ me.split_off + 1
     pub most_seats : me.split_off ≤ workers
-    pub spent : (w : ℕ) (v : View J) → get_elem? s.views w ≡ some v → v.spent ≡ true → IsSpent v
+    pub spent : (w : ℕ) (v : View J) → get_elem? s.views w ≡ some v → v.spent ≡ true → IsJoinedView v
 
   -- the rule shows the machine at every moment
   abbrev pub AlwaysShowsMachine : Type 0
   AlwaysShowsMachine =
-      (n workers : ℕ) (s : State (Cargo J D) (View J)) (r : Shows gives n workers s)
-      → ShowsMachine n workers s (machine_of gives n workers s r) r.me
+      (n workers : ℕ) (s : State (SlotValue J D) (View J)) (r : Shows gives n workers s)
+      → ShowsMachine n workers s (machine_shown gives n workers s r) r.me
 
   -- Tables with the same words, of which as many jobs were taken, show the same machine. So a table shows one
   -- machine, and a step that changes no word and takes no job is no move
   abbrev pub WordsTellMachine : Type 0
   WordsTellMachine =
-      (n workers : ℕ) (s t : State (Cargo J D) (View J)) (r : Shows gives n workers s) (q : Shows gives n workers t)
+      (n workers : ℕ) (s t : State (SlotValue J D) (View J)) (r : Shows gives n workers s) (q : Shows gives n workers t)
       → t.words ≡ s.words → q.me.taken ≡ r.me.taken
-      → machine_of gives n workers t q ≡ machine_of gives n workers s r
+      → machine_shown gives n workers t q ≡ machine_shown gives n workers s r

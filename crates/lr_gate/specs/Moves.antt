@@ -8,24 +8,24 @@ use Rattle.lr_gatecore.specs.declared.event.Event.TheVariants.{Put, Claim, Finis
 use Rattle.lr_gatecore.specs.declared.stage.Stage.TheVariants.{Ready}
 use Rattle.lr_gatecore.specs.Machine.{Moves, HasStage}
 use Rattle.lr_gatecore.specs.declared.sizes.TheConstants.{MOST_JOBS, WORD_BASE}
-use Rattle.lr_gate.specs.declared.cargo.Cargo.{Cargo}
-use Rattle.lr_gate.specs.declared.cargo.Cargo.TheVariants.{Given, Made}
+use Rattle.lr_gate.specs.declared.slot_value.SlotValue.{SlotValue}
+use Rattle.lr_gate.specs.declared.slot_value.SlotValue.TheVariants.{Given, Made}
 use Rattle.lr_gate.specs.declared.view.Held.{Held}
 use Rattle.lr_gate.specs.declared.view.Read.{Read}
 use Rattle.lr_gate.specs.declared.view.View.{View}
-use Rattle.lr_gate.specs.Shows.{held_job, Shows, machine_of}
+use Rattle.lr_gate.specs.Shows.{held_job, Shows, machine_shown}
 use Rattle.lr_gate.specs.Steps.{after_put, after_claim, after_finish, after_take, after_stop}
 
 module _ {J D : Type 0} (gives : J → D) (n workers : ℕ) where
   -- the table s becomes t by this move of the machine that it shows
-  abbrev pub IsMove : (s : State (Cargo J D) (View J)) → Shows gives n workers s → Event → ℕ
-      → State (Cargo J D) (View J) → Type 0
+  abbrev pub IsMove : (s : State (SlotValue J D) (View J)) → Shows gives n workers s → Event → ℕ
+      → State (SlotValue J D) (View J) → Type 0
   IsMove s r event job t =
       (q : Shows gives n workers t)
-      × Moves n (workers + 1) (machine_of gives n workers s r) event job (machine_of gives n workers t q)
+      × Moves n (workers + 1) (machine_shown gives n workers s r) event job (machine_shown gives n workers t q)
 
   -- the store of a put
-  abbrev pub PutIsMove : (s : State (Cargo J D) (View J)) → Shows gives n workers s → Type 0
+  abbrev pub PutIsMove : (s : State (SlotValue J D) (View J)) → Shows gives n workers s → Type 0
   PutIsMove s r =
       (j : J) → r.me.stopped ≡ false → length r.me.jobs < MOST_JOBS → length r.me.jobs < r.me.taken + n
       → IsMove s r Put (length r.me.jobs) record {
@@ -35,10 +35,10 @@ module _ {J D : Type 0} (gives : J → D) (n workers : ℕ) where
       }
 
   -- the exchange of a claim that finds the word that it expects
-  abbrev pub ClaimIsMove : (s : State (Cargo J D) (View J)) → Shows gives n workers s → Type 0
+  abbrev pub ClaimIsMove : (s : State (SlotValue J D) (View J)) → Shows gives n workers s → Type 0
   ClaimIsMove s r =
       (w p : ℕ) (v : View J) (k : Read) (j : J) → get_elem? s.views w ≡ some v → v.spent ≡ false
-      → v.held ≡ None → HasStage (machine_of gives n workers s r) p Ready → get_elem? r.me.jobs p ≡ some j
+      → v.held ≡ None → HasStage (machine_shown gives n workers s r) p Ready → get_elem? r.me.jobs p ≡ some j
       → IsMove s r (Claim w (p % n)) p record {
         words = slice_set s.words (p % n + 1) (p * WORD_BASE + (4 * w + 3));
         homes = slice_set s.homes (p % n) none;
@@ -46,7 +46,7 @@ module _ {J D : Type 0} (gives : J → D) (n workers : ℕ) where
       }
 
   -- the store of a finish
-  abbrev pub FinishIsMove : (s : State (Cargo J D) (View J)) → Shows gives n workers s → Type 0
+  abbrev pub FinishIsMove : (s : State (SlotValue J D) (View J)) → Shows gives n workers s → Type 0
   FinishIsMove s r =
       (w : ℕ) (v : View J) (h : Held J) → get_elem? s.views w ≡ some v → v.spent ≡ false → v.held ≡ Some h
       → IsMove s r (Finish w) h.job record {
@@ -56,7 +56,7 @@ module _ {J D : Type 0} (gives : J → D) (n workers : ℕ) where
       }
 
   -- the store of a take
-  abbrev pub TakeIsMove : (s : State (Cargo J D) (View J)) → Shows gives n workers s → Type 0
+  abbrev pub TakeIsMove : (s : State (SlotValue J D) (View J)) → Shows gives n workers s → Type 0
   TakeIsMove s r =
       r.me.taking ≡ true → r.me.stocked ≡ true
       → IsMove s r Take r.me.taken record {
@@ -66,7 +66,7 @@ module _ {J D : Type 0} (gives : J → D) (n workers : ℕ) where
       }
 
   -- the store of a stop
-  abbrev pub StopIsMove : (s : State (Cargo J D) (View J)) → Shows gives n workers s → Type 0
+  abbrev pub StopIsMove : (s : State (SlotValue J D) (View J)) → Shows gives n workers s → Type 0
   StopIsMove s r =
       r.me.stopped ≡ false
       → IsMove s r Stop (length r.stages) record {
@@ -77,6 +77,6 @@ module _ {J D : Type 0} (gives : J → D) (n workers : ℕ) where
 
 abbrev pub StepsAreMoves : {J D : Type 0} → (J → D) → Type 0
 StepsAreMoves {J} {D} gives =
-    (n workers : ℕ) (s : State (Cargo J D) (View J)) (r : Shows gives n workers s)
+    (n workers : ℕ) (s : State (SlotValue J D) (View J)) (r : Shows gives n workers s)
     → PutIsMove gives n workers s r × ClaimIsMove gives n workers s r × FinishIsMove gives n workers s r
     × TakeIsMove gives n workers s r × StopIsMove gives n workers s r

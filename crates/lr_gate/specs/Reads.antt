@@ -8,11 +8,11 @@ use Rattle.lr_gate.specs.Steps.{read}
 abbrev pub ContainsRead : List Read → Read → Type 0
 ContainsRead reads r = (before : List Read) × (after : List Read) × (reads ≡ before ++ r ∷ after)
 
--- a load of this word found so much
+-- a load of this word found this value
 abbrev pub HasLoad : List Read → ℕ → ℕ → Type 0
 HasLoad reads word found = ContainsRead reads (read word None found)
 
--- an exchange of this word that expected so much found something else
+-- an exchange of this word that expected one value found another
 abbrev pub HasMiss : List Read → ℕ → ℕ → Type 0
 HasMiss reads word expected =
     (found : ℕ) × ContainsRead reads (read word (Some expected) found) × (found ≢ expected)

@@ -1,6 +1,5 @@
 -- What the seats of a ring show to their callers, and what each call makes of it.
-use Rattle.std.specs.Prelude.{◌≡◌, ◌≢◌, ℕ, ◌+◌, ◌-◌, ◌%◌, ◌<◌, ◌≤◌, ◌∷◌, [], Bool, true, false, length, List, None}
-use Rattle.std.specs.Prelude.{◌⊎◌}
+use Rattle.std.specs.Prelude.{◌≡◌, ◌≢◌, ℕ, ◌+◌, ◌-◌, ◌%◌, ◌<◌, ◌≤◌, ◌∷◌, [], Bool, true, false, length, List, None, ◌⊎◌}
 use mathlib.Core.Option.{some}
 use lib.ListN.{get_elem?}
 use Rattle.atomic_table.specs.Seated.{TableId}
@@ -76,8 +75,8 @@ module _ {J : Type 0} where
       × (new ≡ with_reads old (read (old.taken % n + 1) None found ∷ [])) × (found % 4 ≢ 2))
 
   -- the oldest job's result was taken
-  abbrev pub Takes : {D : Type 0} → (J → D) → ℕ → View J → View J → D → Type 0
-  Takes gives n old new done =
+  abbrev pub TakesOldest : {D : Type 0} → (J → D) → ℕ → View J → View J → D → Type 0
+  TakesOldest gives n old new done =
       (j : J) × (get_elem? old.jobs old.taken ≡ some j) × (done ≡ gives j)
       × ((found : ℕ)
       × (new ≡ record (with_reads old (read (old.taken % n + 1) None found ∷ [])) { taken = old.taken + 1 }))

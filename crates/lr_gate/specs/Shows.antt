@@ -9,8 +9,8 @@ use Rattle.lr_gatecore.specs.declared.stage.Stage.{Stage}
 use Rattle.lr_gatecore.specs.declared.stage.Stage.TheVariants.{Ready, Busy, Done}
 use Rattle.lr_gatecore.specs.Machine.{Machine}
 use Rattle.lr_gatecore.specs.declared.sizes.TheConstants.{MOST_JOBS}
-use Rattle.lr_gate.specs.declared.cargo.Cargo.{Cargo}
-use Rattle.lr_gate.specs.declared.cargo.Cargo.TheVariants.{Empty, Given, Made}
+use Rattle.lr_gate.specs.declared.slot_value.SlotValue.{SlotValue}
+use Rattle.lr_gate.specs.declared.slot_value.SlotValue.TheVariants.{Empty, Given, Made}
 use Rattle.lr_gate.specs.declared.view.Held.{Held}
 use Rattle.lr_gate.specs.declared.view.View.{View}
 use Rattle.lr_gate.specs.Words.{cell_word, finish_count}
@@ -45,14 +45,14 @@ pub record IsSeatShown {J : Type 0} (me : View J) (stages : List Stage) (n j : �
       × (get_elem? me.jobs h.job ≡ some h.what)
 
 -- the view of a seat that was joined into another
-pub record IsSpent {J : Type 0} (v : View J) : Type 0 where
+pub record IsJoinedView {J : Type 0} (v : View J) : Type 0 where
   pub nothing : v.held ≡ None
   pub no_job : v.finished ≡ []
   pub no_read : v.reads ≡ []
 
 module _ {J D : Type 0} (gives : J → D) where
   -- where the slot c of the job p is, by the job's stage: out of the table is `some none`
-  abbrev pub Lies : View J → List (maybe.Option (Cargo J D)) → List (View J) → ℕ → ℕ → maybe.Option Stage → Type 0
+  abbrev pub Lies : View J → List (maybe.Option (SlotValue J D)) → List (View J) → ℕ → ℕ → maybe.Option Stage → Type 0
   Lies me homes views p c none = get_elem? homes c ≡ some (cond me.stocked none (some Empty))
   Lies me homes views p c (some Ready) =
       (j : J) × (get_elem? me.jobs p ≡ some j) × (get_elem? homes c ≡ some (some (Given j)))
@@ -63,14 +63,14 @@ module _ {J D : Type 0} (gives : J → D) where
       (j : J) × (get_elem? me.jobs p ≡ some j)
       × (get_elem? homes c ≡ some (cond (is_being_taken me p) none (some (Made (gives j)))))
 
-  pub record IsCellShown (n : ℕ) (me : View J) (stages : List Stage) (s : State (Cargo J D) (View J))
+  pub record IsCellShown (n : ℕ) (me : View J) (stages : List Stage) (s : State (SlotValue J D) (View J))
       (p : ℕ) : Type 0 where
     pub word : slice_index_or s.words (p % n + 1) 0 ≡ cell_word p (get_elem? stages p)
     pub lies : Lies me s.homes s.views p (p % n) (get_elem? stages p)
 
   -- The rule, with n cells and this many worker seats to come. A cell is told by the one number p of the next n jobs
   -- that lies in it: `stages` are those of all jobs put, and a p after them is a free cell
-  pub record Shows (n workers : ℕ) (s : State (Cargo J D) (View J)) : Type 0 where
+  pub record Shows (n workers : ℕ) (s : State (SlotValue J D) (View J)) : Type 0 where
     pub stages : List Stage
     pub me : View J
     pub first : get_elem? s.views 0 ≡ some me
@@ -91,8 +91,8 @@ module _ {J D : Type 0} (gives : J → D) where
     pub each_cell : (p : ℕ) → me.taken ≤ p → p < me.taken + n → IsCellShown n me stages s p
     pub each_seat : (j : ℕ) (v : View J) → get_elem? s.views j ≡ some v → v.spent ≡ false
         → IsSeatShown me stages n j v
-    pub each_spent : (j : ℕ) (v : View J) → get_elem? s.views j ≡ some v → v.spent ≡ true → IsSpent v
+    pub each_spent : (j : ℕ) (v : View J) → get_elem? s.views j ≡ some v → v.spent ≡ true → IsJoinedView v
 
   -- the state of the machine that is shown
-  abbrev pub machine_of : (n workers : ℕ) (s : State (Cargo J D) (View J)) → Shows n workers s → Machine
-  machine_of n workers s r = record { stages = r.stages; taken = r.me.taken; stopped = r.me.stopped }
+  abbrev pub machine_shown : (n workers : ℕ) (s : State (SlotValue J D) (View J)) → Shows n workers s → Machine
+  machine_shown n workers s r = record { stages = r.stages; taken = r.me.taken; stopped = r.me.stopped }

@@ -5,8 +5,8 @@ use mathlib.Core.Option.{some}
 use lib.ListN.{get_elem?}
 use Rattle.atomic_table.specs.Table.{Me, Step, rest}
 use Rattle.lr_gatecore.specs.declared.sizes.TheConstants.{MOST_JOBS, WORD_BASE}
-use Rattle.lr_gate.specs.declared.cargo.Cargo.{Cargo}
-use Rattle.lr_gate.specs.declared.cargo.Cargo.TheVariants.{Empty, Given, Made}
+use Rattle.lr_gate.specs.declared.slot_value.SlotValue.{SlotValue}
+use Rattle.lr_gate.specs.declared.slot_value.SlotValue.TheVariants.{Empty, Given, Made}
 use Rattle.lr_gate.specs.declared.view.Held.{Held}
 use Rattle.lr_gate.specs.declared.view.Read.{Read}
 use Rattle.lr_gate.specs.declared.view.View.{View}
@@ -77,42 +77,42 @@ module _ {J : Type 0} where
 
 -- a seat's view, and the slots that it holds
 abbrev pub SeatState : Type 0 → Type 0 → Type 0
-SeatState J D = Me (Cargo J D) (View J)
+SeatState J D = Me (SlotValue J D) (View J)
 
 module _ {J D : Type 0} where
-  abbrev pub given_view : View J → Cargo J D → View J
+  abbrev pub given_view : View J → SlotValue J D → View J
   given_view v Empty = v
   given_view v (Given j) = after_put v j
   given_view v (Made d) = v
 
-  abbrev pub put_view : View J → List (ℕ × Cargo J D) → View J
+  abbrev pub put_view : View J → List (ℕ × SlotValue J D) → View J
   put_view v [] = v
   put_view v (x ∷ xs) = given_view v x.1
 
   -- put's store: the job that lies in the slot taken last goes home
-  abbrev pub PutTells : Step (Cargo J D) → SeatState J D → ℕ → SeatState J D → Type 0
+  abbrev pub PutTells : Step (SlotValue J D) → SeatState J D → ℕ → SeatState J D → Type 0
   PutTells st m r m' = m' ≡ (put_view m.0 m.1, rest m.1)
 
   -- stop's store
-  abbrev pub StopTells : Step (Cargo J D) → SeatState J D → ℕ → SeatState J D → Type 0
+  abbrev pub StopTells : Step (SlotValue J D) → SeatState J D → ℕ → SeatState J D → Type 0
   StopTells st m r m' = m' ≡ (after_stop m.0, m.1)
 
   -- take's store
-  abbrev pub TakeTells : Step (Cargo J D) → SeatState J D → ℕ → SeatState J D → Type 0
+  abbrev pub TakeTells : Step (SlotValue J D) → SeatState J D → ℕ → SeatState J D → Type 0
   TakeTells st m r m' = m' ≡ (after_take m.0, m.1)
 
   -- the free cells from p on, m of them, of a ring of n
-  abbrev pub free_cells : ℕ → ℕ → ℕ → List (ℕ × Cargo J D)
+  abbrev pub free_cells : ℕ → ℕ → ℕ → List (ℕ × SlotValue J D)
   free_cells n p zero = []
   free_cells n p (suc m) = (p % n, Empty) ∷ free_cells n (p + 1) m
 
   -- the conductor's first load: it picks all cells up
-  abbrev pub StockTells : Step (Cargo J D) → SeatState J D → ℕ → SeatState J D → Type 0
+  abbrev pub StockTells : Step (SlotValue J D) → SeatState J D → ℕ → SeatState J D → Type 0
   StockTells st m r m' = m' ≡ (after_stock m.0, free_cells st.slots 0 st.slots)
 
   module _ (gives : J → D) where
     -- take's load: where the job is done, its slot is taken out, and holds what the job gives
-    abbrev pub GrabTells : Step (Cargo J D) → SeatState J D → ℕ → SeatState J D → Type 0
+    abbrev pub GrabTells : Step (SlotValue J D) → SeatState J D → ℕ → SeatState J D → Type 0
     GrabTells st m r m' =
         (r % 4 ≡ 2 → (j : J) × (get_elem? m.0.jobs m.0.taken ≡ some j)
         × (m' ≡ (after_grab m.0 (read st.word None r), (m.0.taken % st.slots, Made (gives j)) ∷ m.1)))
@@ -120,7 +120,7 @@ module _ {J D : Type 0} where
         × FoundAlone st.slots st.word m.0 r
 
     -- a load of the stop word, or of a cell's word by a claim: a ready word tells the number of its job
-    abbrev pub LookTells : Step (Cargo J D) → SeatState J D → ℕ → SeatState J D → Type 0
+    abbrev pub LookTells : Step (SlotValue J D) → SeatState J D → ℕ → SeatState J D → Type 0
     LookTells st m r m' =
         (m' ≡ (after_read m.0 (read st.word None r), m.1))
         × (r % 4 ≡ 1 → 0 < st.word → (p : ℕ) × (p < MOST_JOBS) × (r ≡ p * WORD_BASE + 1))
@@ -129,7 +129,7 @@ module _ {J D : Type 0} where
     -- claim's exchange, of the word c + 1. It expects a ready word, which the seat's last read found in this very
     -- word. Where that word is still there, the seat holds the cell and its job, which no list of finished jobs has;
     -- the conductor knows it as one of its own jobs
-    abbrev pub ClaimTells : Step (Cargo J D) → SeatState J D → ℕ → SeatState J D → Type 0
+    abbrev pub ClaimTells : Step (SlotValue J D) → SeatState J D → ℕ → SeatState J D → Type 0
     ClaimTells st m r m' =
         ((earlier : List Read) × (m.0.reads ≡ earlier ++ read st.word None st.first ∷ []) × (st.first % 4 ≡ 1))
         × (r ≡ st.first → (p : ℕ) × (j : J) × (st.first ≡ p * WORD_BASE + 1) × (p % st.slots + 1 ≡ st.word)
@@ -143,5 +143,5 @@ module _ {J D : Type 0} where
         × FoundAlone st.slots st.word m.0 r
 
     -- finish's store
-    abbrev pub FinishTells : Step (Cargo J D) → SeatState J D → ℕ → SeatState J D → Type 0
+    abbrev pub FinishTells : Step (SlotValue J D) → SeatState J D → ℕ → SeatState J D → Type 0
     FinishTells st m r m' = (h : Held J) × (m.0.held ≡ Some h) × (m' ≡ (after_finish m.0 h.job, rest m.1))

@@ -1,20 +1,20 @@
 //! How a ring is made, and how it ends.
 
 ghost use Rattle.std.specs.Prelude.{◌≡◌, ◌<◌, ◌≤◌, [], All, IfOk, replicate, vec_len, vec_capacity};
-ghost use Rattle.lr_gate.specs.declared.cargo.Cargo.TheVariants.{Empty};
+ghost use Rattle.lr_gate.specs.declared.slot_value.SlotValue.TheVariants.{Empty};
 ghost use Rattle.lr_gate.specs.Seats.{cells_of, workers_of, IsConductorOf, IsSeatOf, view_of, put_count};
 ghost use Rattle.lr_gate.specs.Seats.{IsConductorWith, IsNewSeat, opening_view};
 
-use crate::cargo::Cargo;
 use crate::gate::{Conductor, Gate, Tally, WorkerSeat};
 use crate::plays::{Joins, Stocks};
+use crate::slot_value::SlotValue;
 use crate::view::Size;
 use atomic_table::Table;
 use lr_bits::NoMemory;
 use lr_gatecore::{MOST_CELLS, MOST_HANDS, Work};
 use std::alloc::{AllocError, Global};
 
-fn empties<J, D>(alloc: Global, count: usize) -> Result<Vec<Cargo<J, D>>, AllocError>
+fn empties<J, D>(alloc: Global, count: usize) -> Result<Vec<SlotValue<J, D>>, AllocError>
 where
     J: Drop,
     D: Drop,
@@ -22,7 +22,7 @@ where
 {
     let mut slots = Vec::with_capacity(alloc, count)?;
     for _ in 0..count {
-        slots.push_reserved(Cargo::Empty);
+        slots.push_reserved(SlotValue::Empty);
     }
     Ok(slots)
 }

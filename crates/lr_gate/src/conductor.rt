@@ -5,13 +5,12 @@ ghost use Rattle.std.specs.Prelude.{IsNone, IsTrue};
 ghost use Rattle.lr_gate.specs.Steps.{after_put, after_stop, after_split, new_view};
 ghost use Rattle.lr_gate.specs.Calls.{IsWorker};
 ghost use Rattle.lr_gate.specs.Seats.{cells_of, workers_of, IsConductorOf, IsConductorWith, view_of, put_count};
-ghost use Rattle.lr_gate.specs.Seats.{waiting_count};
-ghost use Rattle.lr_gate.specs.Seats.{TakesNothing, Takes, Helps, SomeUnfinished, OldestWaits};
+ghost use Rattle.lr_gate.specs.Seats.{waiting_count, TakesNothing, TakesOldest, Helps, SomeUnfinished, OldestWaits};
 
-use crate::cargo::Cargo;
 use crate::gate::{Conductor, Gate, RingFull, WorkerSeat};
 use crate::plays::{Grabs, Puts, SplitsOff, Stops, TakesOut};
 use crate::round::go_round;
+use crate::slot_value::SlotValue;
 use lr_gatecore::{MOST_JOBS, WORD_BASE, Work};
 
 impl<W: Work> Conductor<W> {
@@ -30,7 +29,7 @@ impl<W: Work> Conductor<W> {
         }
         let cell = (self.put % gate.cells) as usize;
         let shared = &gate.table.shared;
-        let _empty = shared.exchange(&mut self.seat, cell, Cargo::Given(job));
+        let _empty = shared.exchange(&mut self.seat, cell, SlotValue::Given(job));
         shared.store::<Puts>(&mut self.seat, cell + 1, self.put * WORD_BASE + 1);
         self.put += 1;
         Ok(())
@@ -42,7 +41,7 @@ impl<W: Work> Conductor<W> {
         ensures mine { IsConductorOf gate.now self.new }
         ensures none { IfNone result (TakesNothing (cells_of gate.now) (view_of self.old) (view_of self.new)) }
         ensures some { IfSome result (λ done.
-            Takes W.gives (cells_of gate.now) (view_of self.old) (view_of self.new) done) }
+            TakesOldest W.gives (cells_of gate.now) (view_of self.old) (view_of self.new) done) }
         ensures alone { workers_of gate.now ≡ 0 → (IsNone result ↔ OldestWaits (view_of self.old)) }
     {
         if self.taken == self.put {
@@ -54,12 +53,12 @@ impl<W: Work> Conductor<W> {
         if word % 4 != 2 {
             return None;
         }
-        let cargo = shared.exchange(&mut self.seat, cell, Cargo::Empty);
+        let slot_value = shared.exchange(&mut self.seat, cell, SlotValue::Empty);
         shared.store::<TakesOut>(&mut self.seat, cell + 1, 0);
         self.seat.turn();
         self.taken += 1;
-        match cargo {
-            Cargo::Made(done) => Some(done),
+        match slot_value {
+            SlotValue::Made(done) => Some(done),
             _ => unreachable!(),
         }
     }

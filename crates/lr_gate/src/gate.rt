@@ -2,8 +2,8 @@
 
 ghost use Rattle.lr_gate.specs.Sizes.{HasSize};
 
-use crate::cargo::Cargo;
 use crate::plays::Law;
+use crate::slot_value::SlotValue;
 use crate::view::{Size, View};
 use atomic_table::{Seat, Table};
 use lr_gatecore::Work;
@@ -12,7 +12,7 @@ use std::alloc::Global;
 /// A ring of cells, which its seats share.
 #[derive(Drop)]
 pub struct Gate<W: Work> {
-    pub(crate) table: Table<Cargo<W::Job, W::Done>, View<W::Job>, Size, Law<W>, Global>,
+    pub(crate) table: Table<SlotValue<W::Job, W::Done>, View<W::Job>, Size, Law<W>, Global>,
     pub(crate) cells: u64,
     pub(crate) workers: u64,
     ghost sized: { HasSize table.shared.table_id table.shared.key cells workers },
@@ -21,7 +21,7 @@ pub struct Gate<W: Work> {
 /// The seat that puts the jobs and takes the results.
 #[derive(Drop)]
 pub struct Conductor<W: Work> {
-    pub(crate) seat: Seat<Cargo<W::Job, W::Done>, View<W::Job>>,
+    pub(crate) seat: Seat<SlotValue<W::Job, W::Done>, View<W::Job>>,
     pub(crate) put: u64,
     pub(crate) taken: u64,
 }
@@ -29,7 +29,7 @@ pub struct Conductor<W: Work> {
 /// The seat of a worker.
 #[derive(Drop)]
 pub struct WorkerSeat<W: Work> {
-    pub(crate) seat: Seat<Cargo<W::Job, W::Done>, View<W::Job>>,
+    pub(crate) seat: Seat<SlotValue<W::Job, W::Done>, View<W::Job>>,
     pub(crate) number: u64,
     /// The cell at which its next round begins: the one after that of its last job.
     pub(crate) start: usize,

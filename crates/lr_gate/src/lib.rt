@@ -16,17 +16,17 @@
 #![tactic(auto)]
 
 mod build;
-mod cargo;
 mod conductor;
 mod gate;
 mod laws;
 mod plays;
 mod round;
+mod slot_value;
 mod view;
 mod worker;
 
-pub use cargo::Cargo;
 pub use gate::{Conductor, Gate, RingFull, Tally, Turn, WorkerSeat};
 pub use laws::{a_ring_shows_the_machine, steps_of_a_ring_are_moves, words_tell_the_machine};
 pub use plays::Law;
+pub use slot_value::SlotValue;
 pub use view::{Held, Read, Size, View};

@@ -6,7 +6,7 @@ ghost use Rattle.lr_gate.specs.Steps.{new_view, spent_view, after_split, after_j
 ghost use Rattle.lr_gate.specs.Steps.{PutTells, TakeTells, StockTells, StopTells, GrabTells, LookTells};
 ghost use Rattle.lr_gate.specs.Steps.{ClaimTells, FinishTells};
 
-use crate::cargo::Cargo;
+use crate::slot_value::SlotValue;
 use crate::view::{Size, View};
 use atomic_table::{Join, Play, Split, TableRule};
 use lr_gatecore::Work;
@@ -17,7 +17,7 @@ pub struct Law<W> {
     marker: PhantomData<W>,
 }
 
-impl<J, D, W: Work<Job = J, Done = D>> TableRule<Cargo<J, D>, View<J>, Size> for Law<W> {
+impl<J, D, W: Work<Job = J, Done = D>> TableRule<SlotValue<J, D>, View<J>, Size> for Law<W> {
     ghost holds = { λ size. Shows W.gives size.cells size.workers };
 
     ghost first = { λ _. new_view 0 };
@@ -26,7 +26,7 @@ impl<J, D, W: Work<Job = J, Done = D>> TableRule<Cargo<J, D>, View<J>, Size> for
 /// The conductor picks all cells up.
 pub struct Stocks;
 
-impl<J, D> Play<Cargo<J, D>, View<J>> for Stocks {
+impl<J, D> Play<SlotValue<J, D>, View<J>> for Stocks {
     ghost then = { StockTells };
 }
 
@@ -42,7 +42,7 @@ impl<J> Split<View<J>> for SplitsOff {
 /// The store of a put.
 pub struct Puts;
 
-impl<J, D> Play<Cargo<J, D>, View<J>> for Puts {
+impl<J, D> Play<SlotValue<J, D>, View<J>> for Puts {
     ghost then = { PutTells };
 }
 
@@ -51,21 +51,21 @@ pub struct Grabs<W> {
     marker: PhantomData<W>,
 }
 
-impl<J, D, W: Work<Job = J, Done = D>> Play<Cargo<J, D>, View<J>> for Grabs<W> {
+impl<J, D, W: Work<Job = J, Done = D>> Play<SlotValue<J, D>, View<J>> for Grabs<W> {
     ghost then = { GrabTells W.gives };
 }
 
 /// The store of a take.
 pub struct TakesOut;
 
-impl<J, D> Play<Cargo<J, D>, View<J>> for TakesOut {
+impl<J, D> Play<SlotValue<J, D>, View<J>> for TakesOut {
     ghost then = { TakeTells };
 }
 
 /// The store of a stop.
 pub struct Stops;
 
-impl<J, D> Play<Cargo<J, D>, View<J>> for Stops {
+impl<J, D> Play<SlotValue<J, D>, View<J>> for Stops {
     ghost then = { StopTells };
 }
 
@@ -74,7 +74,7 @@ pub struct Looks<W> {
     marker: PhantomData<W>,
 }
 
-impl<J, D, W: Work<Job = J, Done = D>> Play<Cargo<J, D>, View<J>> for Looks<W> {
+impl<J, D, W: Work<Job = J, Done = D>> Play<SlotValue<J, D>, View<J>> for Looks<W> {
     ghost then = { LookTells W.gives };
 }
 
@@ -83,7 +83,7 @@ pub struct Claims<W> {
     marker: PhantomData<W>,
 }
 
-impl<J, D, W: Work<Job = J, Done = D>> Play<Cargo<J, D>, View<J>> for Claims<W> {
+impl<J, D, W: Work<Job = J, Done = D>> Play<SlotValue<J, D>, View<J>> for Claims<W> {
     ghost then = { ClaimTells W.gives };
 }
 
@@ -92,7 +92,7 @@ pub struct Finishes<W> {
     marker: PhantomData<W>,
 }
 
-impl<J, D, W: Work<Job = J, Done = D>> Play<Cargo<J, D>, View<J>> for Finishes<W> {
+impl<J, D, W: Work<Job = J, Done = D>> Play<SlotValue<J, D>, View<J>> for Finishes<W> {
     ghost then = { FinishTells W.gives };
 }
 

@@ -3,9 +3,9 @@
 ghost use Rattle.std.specs.Prelude.{◌≡◌, ◌<◌, ◌≤◌, false};
 ghost use Rattle.lr_gate.specs.Calls.{MayClaim, Visits, GoesBetween, GoesRound};
 
-use crate::cargo::Cargo;
 use crate::gate::Gate;
 use crate::plays::{Claims, Finishes, Looks};
+use crate::slot_value::SlotValue;
 use crate::view::View;
 use atomic_table::Seat;
 use lr_gatecore::Work;
@@ -14,7 +14,7 @@ use lr_gatecore::Work;
 /// job is done. The answer is whether one was. Then `start` is the cell after it.
 pub(crate) fn go_round<W: Work>(
     gate: &Gate<W>,
-    seat: &mut Seat<Cargo<W::Job, W::Done>, View<W::Job>>,
+    seat: &mut Seat<SlotValue<W::Job, W::Done>, View<W::Job>>,
     number: u64,
     start: &mut usize,
     work: &mut W,
@@ -34,7 +34,7 @@ pub(crate) fn go_round<W: Work>(
 /// Visits the cells from one up to another, until one is claimed and its job is done.
 fn go_between<W: Work>(
     gate: &Gate<W>,
-    seat: &mut Seat<Cargo<W::Job, W::Done>, View<W::Job>>,
+    seat: &mut Seat<SlotValue<W::Job, W::Done>, View<W::Job>>,
     number: u64,
     start: &mut usize,
     work: &mut W,
@@ -60,7 +60,7 @@ fn go_between<W: Work>(
 /// Claims the cell if it is ready, and does its job. The answer is whether it did.
 fn visit<W: Work>(
     gate: &Gate<W>,
-    seat: &mut Seat<Cargo<W::Job, W::Done>, View<W::Job>>,
+    seat: &mut Seat<SlotValue<W::Job, W::Done>, View<W::Job>>,
     number: u64,
     work: &mut W,
     cell: usize,
@@ -80,10 +80,10 @@ fn visit<W: Work>(
     if found != word {
         return false;
     }
-    match shared.exchange(seat, cell, Cargo::Empty) {
-        Cargo::Given(job) => {
+    match shared.exchange(seat, cell, SlotValue::Empty) {
+        SlotValue::Given(job) => {
             let made = work.run(job);
-            let _empty = shared.exchange(seat, cell, Cargo::Made(made));
+            let _empty = shared.exchange(seat, cell, SlotValue::Made(made));
             shared.store::<Finishes<W>>(seat, cell + 1, word + 1);
             true
         }

@@ -42,7 +42,7 @@ use Rattle.lr_headers.specs.Fields.{content_in, content_of, contents_of, data_bi
 use Rattle.lr_headers.specs.declared.contents.Content.{Content}
 use Rattle.lr_headers.specs.declared.contents.Content.TheVariants.{Primary}
 use Rattle.lr_headers.specs.Laws.{HeadersAreOne, HeadersHaveNoFault, HeaderFaultsAreOne}
-use Rattle.lr_headers.specs.Tiling.{Header, IsRecord, IsPrimary, IsTiling, IsFront, IsTiled, fault_at}
+use Rattle.lr_headers.specs.Tiling.{Header, IsRecord, IsPrimary, IsTiling, IsPrefix, IsTiled, fault_at}
 use Rattle.lr_headers.specs.Tiling.{has_wrong_length, file_header_bytes, kind_at, length_at}
 use Rattle.lr_headers.specs.declared.entry.Entry.{Entry}
 use Rattle.lr_headers.specs.declared.fault.HeaderFault.{HeaderFault}
@@ -75,8 +75,8 @@ tiling_more : (bytes : List ℕ) (from : ℕ) (es : List Entry) (to : ℕ) (e : 
 tiling_more bytes from [] to e h r = (subst (λ k. IsRecord bytes k e) (sym h) r, ap (λ k. k + e.length) h)
 tiling_more bytes from (x ∷ es) to e h r = (h.0, tiling_more bytes (from + x.length) es to e h.1 r)
 
-pub front_more : (bytes : List ℕ) (es : List Entry) (to : ℕ) (e : Entry) → IsFront bytes es to → IsRecord bytes to e
-    → IsFront bytes (es ++ e ∷ []) (to + e.length)
+pub front_more : (bytes : List ℕ) (es : List Entry) (to : ℕ) (e : Entry) → IsPrefix bytes es to → IsRecord bytes to e
+    → IsPrefix bytes (es ++ e ∷ []) (to + e.length)
 front_more bytes [] to e h r = absurd h
 front_more bytes (x ∷ es) to e h r = (h.0, tiling_more bytes 16 es to e h.1 r)
 
@@ -110,7 +110,7 @@ primary_inside bytes e least p =
     let size = p.size in
     record { ends = omega arith; long = omega arith; right = ap (λ (k : ℕ). has_wrong_length k e.length) p.kind }
 
-front_inside : (bytes : List ℕ) (es : List Entry) (to : ℕ) → 16 ≤ length bytes → IsFront bytes es to
+front_inside : (bytes : List ℕ) (es : List Entry) (to : ℕ) → 16 ≤ length bytes → IsPrefix bytes es to
     → All (IsInside bytes) es
 front_inside bytes [] to least h k d inside = absurd h
 front_inside bytes (e ∷ es) to least h zero d inside = primary_inside bytes e least h.0
@@ -239,8 +239,8 @@ tilings_are_one bytes from (e ∷ es) (o ∷ others) h k =
 primary_is : (e other : Entry) → IsPrimary e → IsPrimary other → e ≡ other
 primary_is e other p q = entry_from (p.kind ∙ sym q.kind) (p.here ∙ sym q.here) (p.size ∙ sym q.size)
 
-fronts_are_one : (bytes : List ℕ) (es others : List Entry) → IsFront bytes es (length bytes)
-    → IsFront bytes others (length bytes) → es ≡ others
+fronts_are_one : (bytes : List ℕ) (es others : List Entry) → IsPrefix bytes es (length bytes)
+    → IsPrefix bytes others (length bytes) → es ≡ others
 fronts_are_one bytes [] others h k = absurd h
 fronts_are_one bytes (e ∷ es) [] h k = absurd k
 fronts_are_one bytes (e ∷ es) (o ∷ others) h k =
@@ -249,8 +249,8 @@ fronts_are_one bytes (e ∷ es) (o ∷ others) h k =
 pub headers_are_one : HeadersAreOne
 headers_are_one proper header other h k =
     let bytes : header.bytes ≡ other.bytes = h.bytes ∙ sym k.bytes in
-    let front : IsFront header.bytes other.entries
-    (length header.bytes) = subst (λ (b : List ℕ). IsFront b other.entries (length b)) (sym bytes) k.tiled.front in
+    let front : IsPrefix header.bytes other.entries
+    (length header.bytes) = subst (λ (b : List ℕ). IsPrefix b other.entries (length b)) (sym bytes) k.tiled.front in
     let entries = fronts_are_one header.bytes header.entries other.entries h.tiled.front front in
     header_from bytes entries
   where
@@ -271,7 +271,8 @@ no_stop bytes from (e ∷ es) (o ∷ others) to fault h k before fails =
     (subst (λ y. IsTiling bytes (from + y.length) others to) (sym same) k.1) before fails
 
 front_no_stop : (bytes : List ℕ) (es others : List Entry) (to : ℕ) (fault : HeaderFault)
-    → IsFront bytes es (length bytes) → IsFront bytes others to → to < length bytes → fault_at bytes to ≡ Some fault → ⊥
+    → IsPrefix bytes es (length bytes) → IsPrefix bytes others to → to < length bytes → fault_at bytes to ≡ Some fault
+    → ⊥
 front_no_stop bytes [] others to fault h k before fails = h
 front_no_stop bytes (e ∷ es) [] to fault h k before fails = k
 front_no_stop bytes (e ∷ es) (o ∷ others) to fault h k before fails =
@@ -281,8 +282,8 @@ pub headers_have_no_fault : HeadersHaveNoFault
 headers_have_no_fault proper header fault h (inl first) = let sound = h.sound in cc
 headers_have_no_fault proper header fault h (inr stops) =
     let s = stops.1 in
-    let front : IsFront (file_header_bytes proper) header.entries (length (file_header_bytes proper)) =
-    subst (λ (b : List ℕ). IsFront b header.entries (length b)) h.bytes h.tiled.front in
+    let front : IsPrefix (file_header_bytes proper) header.entries (length (file_header_bytes proper)) =
+    subst (λ (b : List ℕ). IsPrefix b header.entries (length b)) h.bytes h.tiled.front in
     front_no_stop (file_header_bytes proper) header.entries s.entries s.place fault front s.front s.before s.fails
 
 stops_are_one : (bytes : List ℕ) (from : ℕ) (es others : List Entry) (to there : ℕ) (fault other : HeaderFault)
@@ -300,7 +301,7 @@ stops_are_one bytes from (e ∷ es) (o ∷ others) to there fault other h k fail
     (subst (λ y. IsTiling bytes (from + y.length) others there) (sym same) k.1) fails also
 
 front_stops : (bytes : List ℕ) (es others : List Entry) (to there : ℕ) (fault other : HeaderFault)
-    → IsFront bytes es to → IsFront bytes others there
+    → IsPrefix bytes es to → IsPrefix bytes others there
     → fault_at bytes to ≡ Some fault → fault_at bytes there ≡ Some other → fault ≡ other
 front_stops bytes [] others to there fault other h k fails also = absurd h
 front_stops bytes (e ∷ es) [] to there fault other h k fails also = absurd k

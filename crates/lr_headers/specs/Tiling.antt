@@ -76,14 +76,14 @@ IsTiling bytes from [] to = from ≡ to
 IsTiling bytes from (e ∷ es) to = IsRecord bytes from e × IsTiling bytes (from + e.length) es to
 
 -- the records of a header: the primary one, and those that tile the bytes after it up to `to`
-abbrev pub IsFront : List ℕ → List Entry → ℕ → Type 0
-IsFront bytes [] to = ⊥
-IsFront bytes (e ∷ es) to = IsPrimary e × IsTiling bytes primary_bytes es to
+abbrev pub IsPrefix : List ℕ → List Entry → ℕ → Type 0
+IsPrefix bytes [] to = ⊥
+IsPrefix bytes (e ∷ es) to = IsPrimary e × IsTiling bytes primary_bytes es to
 
 -- the records tile the bytes, from the first to the last
 pub record IsTiled (header : Header) : Type 0 where
   pub least : primary_bytes ≤ length header.bytes
-  pub front : IsFront header.bytes header.entries (length header.bytes)
+  pub front : IsPrefix header.bytes header.entries (length header.bytes)
 
 -- the bytes of the header of a file proper
 abbrev pub file_header_bytes : List ℕ → List ℕ
@@ -99,7 +99,7 @@ pub record IsHeaderOf (proper : List ℕ) (header : Header) : Type 0 where
 pub record HasFaultyRecord (bytes : List ℕ) (fault : HeaderFault) : Type 0 where
   pub entries : List Entry
   pub place : ℕ
-  pub front : IsFront bytes entries place
+  pub front : IsPrefix bytes entries place
   pub before : place < length bytes
   pub fails : fault_at bytes place ≡ Some fault
 
@@ -109,6 +109,6 @@ HasHeaderFault proper fault = (first_fault proper ≡ Some fault)
     ⊎ ((first_fault proper ≡ None) × HasFaultyRecord (file_header_bytes proper) fault)
 
 -- the file proper has no header, with this fault; or memory was refused, which may come at any time
-abbrev pub HasFaultOrMemory : List ℕ → HeaderFault → Type 0
-HasFaultOrMemory proper NoMemory = Unit {0}
-HasFaultOrMemory proper fault = HasHeaderFault proper fault
+abbrev pub HasHeaderFaultOrMemory : List ℕ → HeaderFault → Type 0
+HasHeaderFaultOrMemory proper NoMemory = Unit {0}
+HasHeaderFaultOrMemory proper fault = HasHeaderFault proper fault

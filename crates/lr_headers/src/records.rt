@@ -7,7 +7,7 @@ ghost use Rattle.lr_headers.specs.Fields.{content_of, contents_of, data_bits, fi
 ghost use Rattle.lr_headers.specs.Fields.{is_encrypted, is_key, is_sized, lossless_of, navigation_of, segment_of};
 ghost use Rattle.lr_headers.specs.Fields.{stamp_of, structure_of};
 ghost use Rattle.lr_headers.specs.Kinds.{primary_bytes};
-ghost use Rattle.lr_headers.specs.Tiling.{HasFaultOrMemory, IsHeaderOf, IsRecord, IsTiled, fault_at, first_fault};
+ghost use Rattle.lr_headers.specs.Tiling.{HasHeaderFaultOrMemory, IsHeaderOf, IsRecord, IsTiled, fault_at, first_fault};
 ghost use Rattle.lr_headers.specs.Tiling.{has_wrong_length, header_length};
 ghost use Rattle.lr_headers.specs.declared.fault.HeaderFault.{HeaderFault as Fault};
 
@@ -52,7 +52,7 @@ impl<'a> Records<'a> {
     /// Reads the header of a mission file proper.
     pub fn read(alloc: Global, proper: &'a [u8]) -> Result<Records<'a>, HeaderFault>
         ensures ok { IfOk result (IsHeaderOf proper.now) }
-        ensures err { IfErr result (HasFaultOrMemory proper.now) }
+        ensures err { IfErr result (HasHeaderFaultOrMemory proper.now) }
         // A fault of the first record, or of the file's length, is found before memory is taken.
         ensures first { (known : Fault) → first_fault proper.now ≡ Some known → IfErr result (λ fault. fault ≡ known) }
     {

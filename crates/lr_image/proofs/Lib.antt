@@ -1,3 +1,4 @@
+pub mod EachFile
 pub mod LineLemmas
 pub mod OneReading
 pub mod PgmLemmas

@@ -24,9 +24,7 @@ use Rattle.lr_image.specs.Picture.{Picture}
 use Rattle.lr_image.specs.Pieces.{GiveLines, PiecesFail}
 use Rattle.lr_image.specs.Plain.{BeginsWithPixels, PixelsFail}
 use Rattle.lr_image.specs.Images.{HasImageFault, HasLayout, HasNoHeader, HasNoLayout, HasNoPixels, HasNoShape}
-use Rattle.lr_image.specs.Images.{HasPixels, IsImageOf}
-use Rattle.lr_image.specs.Images.{LacksPixels}
-use Rattle.lr_image.specs.Images.{data_field, data_pieces, line_form}
+use Rattle.lr_image.specs.Images.{HasPixels, IsImageOf, LacksPixels, data_field, data_pieces, line_form}
 use Rattle.lr_image.specs.Shapes.{IsShapeOf, shape_of}
 use Rattle.lr_image.proofs.PlainLemmas.{length-written}
 use Rattle.lr_image.proofs.ShapeLemmas.{shape_sound}

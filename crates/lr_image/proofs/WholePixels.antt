@@ -1,7 +1,6 @@
 -- The pixels of a shape make an image.
 use Rattle.std.proofs.Common.{◌≡◌, ◌<◌, ◌≤◌, ◌+◌, ◌-◌, ◌*◌, ◌^◌, min, ℕ, List, [], ◌∷◌, ◌++◌, length, All, Option}
-use Rattle.std.proofs.Common.{Some, None}
-use Rattle.std.proofs.Common.{sym, ap, ◌∙◌, subst, arith, length-append, pow_pos}
+use Rattle.std.proofs.Common.{Some, None, sym, ap, ◌∙◌, subst, arith, length-append, pow_pos}
 use Rattle.std.proofs.lemmas.List.Elements.{All-append}
 use Rattle.lr_bits.specs.File.{File}
 use Rattle.lr_headers.specs.declared.fields.Structure.{Structure}

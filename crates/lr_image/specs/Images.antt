@@ -89,5 +89,5 @@ HasOutcome file (Ok picture) = IsImageOf file picture
 HasOutcome file (Err fault) = HasImageFault file fault
 
 -- its first fault, or want of memory, which may come at any time
-abbrev pub HasFaultOrMemory : File → ImageFault → Type 0
-HasFaultOrMemory file fault = (fault ≡ NoMemory) ⊎ HasImageFault file fault
+abbrev pub HasImageFaultOrMemory : File → ImageFault → Type 0
+HasImageFaultOrMemory file fault = (fault ≡ NoMemory) ⊎ HasImageFault file fault

@@ -9,3 +9,7 @@ use Rattle.lr_image.specs.Images.{HasOutcome}
 abbrev pub OutcomesAreOne : Type 0
 OutcomesAreOne =
     (file : File) (one other : Result Picture ImageFault) → HasOutcome file one → HasOutcome file other → one ≡ other
+
+-- each file has an image or a first fault
+abbrev pub FilesHaveOutcomes : Type 0
+FilesHaveOutcomes = (file : File) → (outcome : Result Picture ImageFault) × HasOutcome file outcome

@@ -16,5 +16,5 @@ most_lines s None pieces = s.lines
 most_lines s (Some l) pieces = min s.lines (sum_by (most_piece_lines s l) pieces)
 
 -- and how many pixels
-abbrev pub most_pixels : Shape → List (List ℕ) → ℕ
-most_pixels shape pieces = shape.structure.columns * most_lines shape.structure shape.lossless pieces
+abbrev pub most_pixels_for : Shape → List (List ℕ) → ℕ
+most_pixels_for shape pieces = shape.structure.columns * most_lines shape.structure shape.lossless pieces

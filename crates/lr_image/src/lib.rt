@@ -25,7 +25,7 @@ mod shape;
 
 pub use fault::ImageFault;
 pub use image::{Image, whole_image};
-pub use laws::outcomes_are_one;
+pub use laws::{files_have_outcomes, outcomes_are_one};
 pub use layout::{Layout, layout_of};
 pub use pgm::{pgm_head, pgm_line, write_pixels};
 pub use pieces::{PiecePlace, first_piece, next_piece};

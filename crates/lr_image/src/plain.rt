@@ -1,7 +1,6 @@
 //! Pixels that stand one after another.
 
-ghost use Rattle.std.specs.Prelude.{◌≡◌, ◌<◌, ◌≤◌, ◌+◌, ◌*◌, ◌^◌, ◌⊎◌};
-ghost use Rattle.std.specs.Prelude.{IfErr, IfNone, IfOk, IfSome, drop, length, take};
+ghost use Rattle.std.specs.Prelude.{◌≡◌, ◌<◌, ◌≤◌, ◌+◌, ◌*◌, ◌^◌, ◌⊎◌, IfErr, IfNone, IfOk, IfSome, drop, length, take};
 ghost use Rattle.lr_bits.specs.Bits.{bits_of};
 ghost use Rattle.lr_image.specs.Plain.{BeginsWithPixels, PixelsFail, whole_pixels};
 ghost use Rattle.lr_image.specs.declared.fault.ImageFault.TheVariants.{NoMemory};

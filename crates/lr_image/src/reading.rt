@@ -2,7 +2,7 @@
 
 ghost use Rattle.std.specs.Prelude.{◌≡◌, ◌≤◌, ◌⊎◌, IfErr, IfOk, Some, length};
 ghost use Rattle.lr_bits.specs.File.{proper_of};
-ghost use Rattle.lr_image.specs.Images.{HasFaultOrMemory, HasPixels, IsImageOf, LacksPixels};
+ghost use Rattle.lr_image.specs.Images.{HasImageFaultOrMemory, HasPixels, IsImageOf, LacksPixels};
 ghost use Rattle.lr_image.specs.Shapes.{IsShape};
 ghost use Rattle.lr_headers.specs.Tiling.{first_fault};
 ghost use Rattle.lr_headers.specs.declared.fault.HeaderFault.{HeaderFault};
@@ -19,7 +19,7 @@ use std::alloc::Global;
 /// The image of a mission file.
 pub fn image_of(alloc: Global, file: &MissionFile) -> Result<Image, ImageFault>
     ensures ok { IfOk result (IsImageOf file.now) }
-    ensures err { IfErr result (HasFaultOrMemory file.now) }
+    ensures err { IfErr result (HasImageFaultOrMemory file.now) }
     // A fault of the header's first record is found before memory is taken.
     ensures first { (known : HeaderFault) → first_fault (proper_of file.now) ≡ Some known
         → IfErr result (λ fault. fault ≡ Headers known) }

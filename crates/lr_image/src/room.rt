@@ -3,7 +3,7 @@
 ghost use Rattle.std.specs.Prelude.{◌≡◌, Some, IfOk, replicate};
 ghost use Rattle.lr_image.specs.Pieces.{pieces_after};
 ghost use Rattle.lr_image.specs.Places.{IsPlaceIn, pieces_at};
-ghost use Rattle.lr_image.specs.Room.{most_lines, most_pixels};
+ghost use Rattle.lr_image.specs.Room.{most_lines, most_pixels_for};
 
 use crate::Shape;
 use crate::pieces::{PiecePlace, first_piece, next_piece};
@@ -24,7 +24,7 @@ pub fn room_for(
     shape: Shape,
 ) -> Result<Pixels, NoMemory>
     ensures { IfOk result
-        (λ pixels. pixels ≡ replicate (most_pixels shape (pieces_after skipped file.now.bodies)) 0) }
+        (λ pixels. pixels ≡ replicate (most_pixels_for shape (pieces_after skipped file.now.bodies)) 0) }
 {
     let Shape {
         structure,

@@ -2,7 +2,7 @@
 use Rattle.std.specs.Prelude.{◌≡◌, ◌<◌, ℕ, Option, List, ◌++◌, length, take}
 use Rattle.std.specs.Io.KnownBytes.{Appends}
 
--- a front of the bytes that isn't all of them was appended
+-- a prefix of the bytes that isn't all of them was appended
 pub record PutsPart (bytes old new : List ℕ) : Type 0 where
   pub part : List ℕ
   pub rest : List ℕ
@@ -10,6 +10,6 @@ pub record PutsPart (bytes old new : List ℕ) : Type 0 where
   pub shorter : length part < length bytes
   pub put : new ≡ old ++ part
 
--- what a writer of std is known to hold grew by some front of the bytes, or by none of them
-abbrev pub AppendsFront : Option (List ℕ) → Option (List ℕ) → List ℕ → Type 0
-AppendsFront old new bytes = (count : ℕ) × Appends old new (take count bytes)
+-- what a writer of std is known to hold grew by some prefix of the bytes, or by none of them
+abbrev pub AppendsPrefix : Option (List ℕ) → Option (List ℕ) → List ℕ → Type 0
+AppendsPrefix old new bytes = (count : ℕ) × Appends old new (take count bytes)

@@ -2,7 +2,7 @@
 ghost use Rattle.std.specs.Prelude.{◌≡◌, ◌≤◌, ◌<◌, ◌++◌, List, [], ℕ, length, take, IfOk, OnOk, OnErr, vec_capacity};
 ghost use Rattle.lr_bits.specs.Faults.{HasCause, WritesAtOnce};
 ghost use Rattle.std.specs.Io.KnownBytes.{Appends};
-ghost use Rattle.lr_io.specs.Pieces.{AppendsFront, PutsPart};
+ghost use Rattle.lr_io.specs.Pieces.{AppendsPrefix, PutsPart};
 
 use crate::Writer;
 use crate::places::{reach, strike};
@@ -20,7 +20,8 @@ pub trait Sink {
     /// The bytes that it holds, where it tells them.
     ghost contents: { Self → List ℕ };
 
-    /// Appends the first bytes of the piece, one at least, and answers how many. Where it fails nothing was appended.
+    /// Appends the first bytes of the piece, one at least, and answers how many. It fails exactly where its count
+    /// rises, and nothing was appended then.
     fn put(&mut self, piece: &[u8]) -> Result<usize, Failed>
         requires { 0 < length piece.now }
         ensures cause { HasCause (faults self.old) (faults self.new) result }
@@ -33,7 +34,7 @@ pub trait Sink {
         ensures failed { tells self.old → OnErr result (contents self.new ≡ contents self.old) };
 }
 
-/// Appends all bytes. Where it fails a front of them that isn't all of them was appended.
+/// Appends all bytes. Where it fails a prefix of them that isn't all of them was appended.
 pub fn put_all<O: Sink>(sink: &mut O, bytes: &[u8]) -> Result<(), Failed>
     ensures cause { HasCause (O.faults sink.old) (O.faults sink.new) result }
     ensures told { O.tells sink.old → O.tells sink.new }
@@ -84,7 +85,7 @@ fn write_and_flush<T: Writer>(writer: &mut T, piece: &[u8]) -> std::io::Result<u
     requires { 0 < length piece.now }
     ensures within { IfOk result (λ n. n ≤ length piece.now) }
     ensures appended { IfOk result (λ n. Appends (T.contents writer.old) (T.contents writer.new) (take n piece.now)) }
-    ensures failed { OnErr result (AppendsFront (T.contents writer.old) (T.contents writer.new) piece.now) }
+    ensures failed { OnErr result (AppendsPrefix (T.contents writer.old) (T.contents writer.new) piece.now) }
     ensures errors { WritesAtOnce (T.errors writer.old) (T.errors writer.new) result }
     ensures flushed { IfOk result (λ n. 0 < n → T.flushed writer.new) }
 {
@@ -99,7 +100,7 @@ impl<T: Writer> Sink for WriteSink<T> {
     ghost use Rattle.std.specs.Prelude.{◌≡◌, ◌<◌, ◌≤◌, IfOk, OnOk, OnErr, length, take};
     ghost use Rattle.std.specs.Io.KnownBytes.{Appends};
     ghost use Rattle.lr_bits.specs.Faults.{HasCause, FailsAtOnce};
-    ghost use Rattle.lr_io.specs.Pieces.{AppendsFront};
+    ghost use Rattle.lr_io.specs.Pieces.{AppendsPrefix};
     ghost use Rattle.lr_io.specs.Streams.{write_faults, writer_in};
 
     ghost faults = { write_faults };
@@ -108,7 +109,7 @@ impl<T: Writer> Sink for WriteSink<T> {
 
     ghost contents = { λ _. [] };
 
-    /// Where it fails the writer holds some front of the piece more, or none of it.
+    /// Where it fails the writer holds some prefix of the piece more, or none of it.
     fn put(&mut self, piece: &[u8]) -> Result<usize, Failed>
         requires { 0 < length piece.now }
         ensures cause { HasCause (write_faults self.old) (write_faults self.new) result }
@@ -117,7 +118,7 @@ impl<T: Writer> Sink for WriteSink<T> {
 
         ensures appended { IfOk result (λ n. Appends (T.contents (writer_in self.old)) (T.contents (writer_in self.new))
             (take n piece.now)) }
-        ensures failed { OnErr result (AppendsFront (T.contents (writer_in self.old)) (T.contents (writer_in self.new))
+        ensures failed { OnErr result (AppendsPrefix (T.contents (writer_in self.old)) (T.contents (writer_in self.new))
             piece.now) }
         ensures errors { FailsAtOnce (T.errors (writer_in self.old)) (T.errors (writer_in self.new)) result }
         ensures flushed { OnOk result (T.flushed (writer_in self.new)) }

@@ -24,7 +24,7 @@ pub trait Source {
     ghost asked: { Self → Result ℕ Failed → Self → Type 0 } = { λ _ _ _. Unit {0} };
 
     /// Moves the next bytes to the front of `into`, and answers how many. A source that tells its bytes moves none only
-    /// at its end. Where it fails nothing was taken.
+    /// at its end. It fails exactly where its count rises, and nothing was taken then.
     fn take(&mut self, into: &mut [u8]) -> Result<usize, Failed>
         requires { 0 < length into.old }
         ensures cause { HasCause (faults self.old) (faults self.new) result }

@@ -21,7 +21,7 @@ use Rattle.lr_bits.specs.declared.outcome.Outcome.{Outcome}
 use Rattle.lr_bits.specs.declared.placed.Placed.{Placed}
 use Rattle.lr_bits.specs.declared.sizes.TheConstants.{ZONE_BYTES}
 use Rattle.lr_vc.specs.Frame.{Fields}
-use Rattle.lr_vc.specs.Runs.{AreFrames}
+use Rattle.lr_vc.specs.Runs.{AreChannelFrames}
 use Rattle.lr_vc.specs.Packets.{packets_of}
 use Rattle.lr_vc.proofs.History.{packets_of-append}
 use Rattle.lr_packet.specs.Verdict.{Good, good_packets}
@@ -36,24 +36,24 @@ frames_of_outcomes-append : (outcomes later : List Outcome) →
 unfolding frames_of_outcomes
 frames_of_outcomes-append outcomes later = filter_map-append frame_in outcomes later
 
-pub first_frames : (outcomes later : List Outcome) → AreFrames (frames_of_outcomes (outcomes ++ later)) →
-    AreFrames (frames_of_outcomes outcomes)
+pub first_frames : (outcomes later : List Outcome) → AreChannelFrames (frames_of_outcomes (outcomes ++ later)) →
+    AreChannelFrames (frames_of_outcomes outcomes)
 first_frames outcomes later frames =
     let front = frames_of_outcomes outcomes in
-    subst (λ (l : List Fields). AreFrames l) (take-append_seam front (frames_of_outcomes later))
+    subst (λ (l : List Fields). AreChannelFrames l) (take-append_seam front (frames_of_outcomes later))
     (All-take (λ f. length f.zone ≡ ZONE_BYTES) (length front) (front ++ frames_of_outcomes later)
-    (subst (λ (l : List Fields). AreFrames l) (frames_of_outcomes-append outcomes later) frames))
+    (subst (λ (l : List Fields). AreChannelFrames l) (frames_of_outcomes-append outcomes later) frames))
 
-more_packets : (outcomes later : List Outcome) → AreFrames (frames_of_outcomes (outcomes ++ later)) →
+more_packets : (outcomes later : List Outcome) → AreChannelFrames (frames_of_outcomes (outcomes ++ later)) →
     (more : _) × (packets_of (frames_of_outcomes (outcomes ++ later)) ≡ packets_of (frames_of_outcomes outcomes)
     ++ more)
 more_packets outcomes later frames =
     let split = frames_of_outcomes-append outcomes later in
     let packets = packets_of-append (frames_of_outcomes outcomes) (frames_of_outcomes later)
-    (subst (λ (l : List Fields). AreFrames l) split frames) in
+    (subst (λ (l : List Fields). AreChannelFrames l) split frames) in
     (packets.0, ap packets_of split ∙ packets.1)
 
-more_good : (outcomes later : List Outcome) → AreFrames (frames_of_outcomes (outcomes ++ later)) →
+more_good : (outcomes later : List Outcome) → AreChannelFrames (frames_of_outcomes (outcomes ++ later)) →
     (more : List Good) × (good_of_outcomes (outcomes ++ later) ≡ good_of_outcomes outcomes ++ more)
 unfolding good_of_outcomes
 more_good outcomes later frames =
@@ -68,7 +68,7 @@ record GoesOn (outcomes later : List Outcome) : Type 0 where
   more : List Placed
   files : placed_of_outcomes (outcomes ++ later) ≡ placed_of_outcomes outcomes ++ more
 
-goes_on : (outcomes later : List Outcome) → AreFrames (frames_of_outcomes (outcomes ++ later)) →
+goes_on : (outcomes later : List Outcome) → AreChannelFrames (frames_of_outcomes (outcomes ++ later)) →
     map packet_of (placed_packets outcomes) ≡ good_of_outcomes outcomes → GoesOn outcomes later
 goes_on outcomes [] frames are =
     let same = sym (append-nil outcomes) in
@@ -79,7 +79,7 @@ goes_on outcomes [] frames are =
     }
 goes_on outcomes (o ∷ later) frames are =
     let moved = append_assoc outcomes (o ∷ []) later in
-    let all = subst (λ (l : List Outcome). AreFrames (frames_of_outcomes l)) (sym moved) frames in
+    let all = subst (λ (l : List Outcome). AreChannelFrames (frames_of_outcomes l)) (sym moved) frames in
     let one = more_good outcomes (o ∷ []) (first_frames (outcomes ++ o ∷ []) later all) in
     let rest = goes_on (outcomes ++ o ∷ []) later all (packets_now outcomes o one.0 one.1 are) in
     let here = files_now outcomes o one.0 one.1 in
@@ -90,12 +90,13 @@ goes_on outcomes (o ∷ later) frames are =
           ∙ append_assoc (placed_of_outcomes outcomes) _ rest.more;
     }
 
-placed_are : (outcomes : List Outcome) → AreFrames (frames_of_outcomes outcomes) →
+placed_are : (outcomes : List Outcome) → AreChannelFrames (frames_of_outcomes outcomes) →
     map packet_of (placed_packets outcomes) ≡ good_of_outcomes outcomes
 unfolding placed_packets good_of_outcomes frames_of_outcomes packets_of
 placed_are outcomes frames = (goes_on [] outcomes frames refl).packets
 
-pub go_on : (outcomes later : List Outcome) → AreFrames (frames_of_outcomes (outcomes ++ later)) → GoOn outcomes later
+pub go_on : (outcomes later : List Outcome) → AreChannelFrames (frames_of_outcomes (outcomes ++ later))
+    → GoOn outcomes later
 go_on outcomes later frames =
     let packets = more_packets outcomes later frames in
     let good = more_good outcomes later frames in

@@ -18,13 +18,13 @@ use Rattle.lr_packet.specs.Verdict.{Good, good_packets, verdict_of}
 use Rattle.lr_packet.proofs.VerdictLemmas.{good_packets-append}
 use Rattle.lr_vc.proofs.ZoneStarts.{back_none, front_none}
 use Rattle.lr_file.specs.Files.{file_at}
-use Rattle.lr_file.specs.Standing.{Kept as KeptFiles, StandsFor as FilesStandFor, kept_of_key}
+use Rattle.lr_file.specs.Standing.{KeptFiles, FilesStandFor, kept_of_key}
 use Rattle.lr_layers.specs.declared.starts.Start.{Start}
 use Rattle.lr_layers.specs.declared.starts.Now.{Now}
 use Rattle.lr_layers.specs.Origins.{PlacedPacket, packet_of, placed_file, placed_files_after}
 use Rattle.lr_layers.specs.Origins.{corrected_between, first_place}
 use Rattle.lr_layers.specs.Starts.{corrected_before, NotesStart, StartsStandFor, IsNow, Joins, start_in}
-use Rattle.lr_layers.specs.Steps.{KeepsFront}
+use Rattle.lr_layers.specs.Steps.{KeepsFilesBefore}
 use Rattle.lr_layers.proofs.Changes.{corrected_between-is}
 use Rattle.lr_layers.proofs.Firsts.{StartsAt, file_starts}
 use Rattle.lr_layers.proofs.Places.{packets_with_more}
@@ -141,10 +141,10 @@ module _ (outcomes : List Outcome) (before : List PlacedPacket) (g : Good) (now 
 
 -- ---- lists that keep their fronts
 
-pub keeps_all : (files : List Placed) → KeepsFront files files
+pub keeps_all : (files : List Placed) → KeepsFilesBefore files files
 keeps_all files = take-length files
 
-pub keeps_more : (files more : List Placed) → KeepsFront files (files ++ more)
+pub keeps_more : (files more : List Placed) → KeepsFilesBefore files (files ++ more)
 keeps_more files more = take-append_seam files more
 
 -- a good packet is the good ones of itself
@@ -152,7 +152,8 @@ pub good_one : (packet : Packet) (g : Good) → verdict_of packet ≡ Ok g → g
 good_one packet g is = ap (λ (r : Result Good PacketFault). cons_option (result_ok r) []) is
 
 -- what was kept twice is kept
-pub keeps_on : (old between new : List Placed) → KeepsFront old between → KeepsFront between new → KeepsFront old new
+pub keeps_on : (old between new : List Placed) → KeepsFilesBefore old between → KeepsFilesBefore between new
+    → KeepsFilesBefore old new
 keeps_on old between new a b =
     let short : length old ≤ length between = omega (arith, ap length a, length-take (length old) between) in
     sym (take-take (length old) (length between) new short) ∙ ap (take (length old)) b ∙ a

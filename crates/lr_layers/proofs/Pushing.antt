@@ -17,25 +17,24 @@ use Rattle.lr_bits.specs.File.{File}
 use Rattle.lr_bits.specs.Packet.{Packet}
 use Rattle.lr_vc.specs.Frame.{Fields, fields_of, frame_of, version_of}
 use Rattle.lr_vc.specs.Packets.{packets_of, packets_at}
-use Rattle.lr_vc.specs.Standing.{Kept as KeptChannels, StandsFor as ChannelsStandFor}
+use Rattle.lr_vc.specs.Standing.{KeptChannels, ChannelsStandFor}
 use Rattle.lr_vc.proofs.History.{packets_of-more}
 use Rattle.lr_packet.specs.Verdict.{Good, good_packets}
 use Rattle.lr_packet.proofs.VerdictLemmas.{good_packets-append}
 use Rattle.lr_file.specs.Files.{files_of_packets, files_after, file_at}
-use Rattle.lr_file.specs.Standing.{Kept as KeptFiles, StandsFor as FilesStandFor}
-use Rattle.lr_layers.specs.declared.counts.Gained.{Gained}
+use Rattle.lr_file.specs.Standing.{KeptFiles, FilesStandFor}
+use Rattle.lr_layers.specs.declared.counts.AddedCounts.{AddedCounts}
 use Rattle.lr_layers.specs.declared.starts.Start.{Start}
 use Rattle.lr_layers.specs.declared.starts.Now.{Now}
-use Rattle.lr_layers.specs.Layers.{Numbers, numbers_of, frame_in, frames_of_outcomes, good_of_outcomes}
-use Rattle.lr_layers.specs.Layers.{files_of_outcomes}
+use Rattle.lr_layers.specs.Layers.{CountsView, numbers_of, frame_in, frames_of_outcomes, good_of_outcomes}
+use Rattle.lr_layers.specs.Layers.{files_of_outcomes, is_bad_version, is_fill}
 use Rattle.lr_bits.specs.Outcomes.{is_restored}
 use Rattle.lr_bits.specs.declared.sizes.TheConstants.{FILL_CHANNEL}
-use Rattle.lr_layers.specs.Layers.{is_bad_version, is_fill}
 use Rattle.lr_layers.specs.Origins.{PlacedPacket, packet_of, at_place, placed_packets, placed_file}
 use Rattle.lr_layers.specs.Origins.{placed_files_after, placed_of_outcomes, corrected_in}
-use Rattle.lr_layers.specs.Standing.{Kept, StandsFor, AddsFiles}
+use Rattle.lr_layers.specs.Standing.{KeptLayers, LayersStandFor, AddsFiles}
 use Rattle.lr_layers.specs.Starts.{IsNow, Joins, StartsStandFor, corrected_before}
-use Rattle.lr_layers.specs.Steps.{Takes}
+use Rattle.lr_layers.specs.Steps.{AddsFrame}
 use Rattle.lr_layers.proofs.Changes.{corrected_before-more, corrected_before-same}
 use Rattle.lr_layers.proofs.Joining.{joins_none, placed_files-append}
 use Rattle.lr_layers.proofs.Places.{placed_packets-more, packets_ending-are, all_below, packets_with_more}
@@ -46,12 +45,12 @@ use Rattle.lr_layers.proofs.Staying.{placed_files-stay}
 
 pub took : (outcomes : List Outcome) (before : List PlacedPacket) (place : ℕ) (frames : List Fields) (f : Fields)
     (channels : KeptChannels) (files : KeptFiles) (starts : List ((ℕ × ℕ) × Start)) (old new : List Placed)
-    (gained : Gained) →
+    (gained : AddedCounts) →
     ChannelsStandFor channels (frames ++ f ∷ []) → (cleared items listed : List Packet) → cleared ≡ [] →
     items ≡ cleared ++ packets_at (frames ++ f ∷ []) (length frames) → listed ≡ items →
     Joins outcomes before (at_place place (good_packets listed)) files starts old new →
     gained.packets ≡ length (good_packets listed) → gained.files ≡ length new - length old →
-    Takes outcomes before place frames (frames ++ f ∷ []) channels files starts old new gained
+    AddsFrame outcomes before place frames (frames ++ f ∷ []) channels files starts old new gained
 took outcomes before place frames f channels files starts old new gained stands cleared items listed none read same
     joins good count =
     let P = packets_at (frames ++ f ∷ []) (length frames) in
@@ -88,10 +87,10 @@ length-is outcomes =
     ∙ each_kind outcomes
 
 -- numbers that agree in each part are the same
-same_numbers : (a b : Numbers) → a.restored ≡ b.restored → a.lost ≡ b.lost → a.bad_versions ≡ b.bad_versions →
+same_numbers : (a b : CountsView) → a.restored ≡ b.restored → a.lost ≡ b.lost → a.bad_versions ≡ b.bad_versions →
     a.fill ≡ b.fill → a.packets ≡ b.packets → a.files ≡ b.files → a ≡ b
 same_numbers a b restored lost bad_versions fill packets files =
-    let mk : ℕ → ℕ → ℕ → ℕ → ℕ → ℕ → Numbers = λ r l v i p f.
+    let mk : ℕ → ℕ → ℕ → ℕ → ℕ → ℕ → CountsView = λ r l v i p f.
     record { restored = r; lost = l; bad_versions = v; fill = i; packets = p; files = f } in
     ap (λ k. mk k a.lost a.bad_versions a.fill a.packets a.files) restored
     ∙ ap (λ k. mk b.restored k a.bad_versions a.fill a.packets a.files) lost
@@ -160,11 +159,11 @@ count_of_files outcomes are =
 
 -- ---- nothing was pushed
 
-pub stands_for_none : (kept : Kept) → kept.spent ≡ false → ChannelsStandFor kept.channels [] →
+pub stands_for_none : (kept : KeptLayers) → kept.spent ≡ false → ChannelsStandFor kept.channels [] →
     FilesStandFor kept.files [] →
     StartsStandFor [] kept.starts [] → kept.corrected ≡ 0 →
     kept.numbers ≡ record { restored = 0; lost = 0; bad_versions = 0; fill = 0; packets = 0; files = 0 } →
-    StandsFor kept []
+    LayersStandFor kept []
 unfolding frames_of_outcomes good_of_outcomes files_of_outcomes packets_of files_of_packets
     placed_packets corrected_before
 stands_for_none kept unspent channels files starts corrected none = record {
@@ -202,7 +201,7 @@ module _ (outcomes : List Outcome) (outcome : Outcome) (ending : List Good)
       (at_place (length outcomes) ending))
       (placed_files-stay outcomes outcome (placed_packets outcomes) (all_below outcomes))
 
-module _ (outcomes : List Outcome) (outcome : Outcome) (old new : Kept) (stood : StandsFor old outcomes)
+module _ (outcomes : List Outcome) (outcome : Outcome) (old new : KeptLayers) (stood : LayersStandFor old outcomes)
     (ending : List Good)
     (good : good_of_outcomes (outcomes ++ outcome ∷ []) ≡ good_of_outcomes outcomes ++ ending)
     (channels : ChannelsStandFor new.channels (frames_of_outcomes (outcomes ++ outcome ∷ [])))
@@ -231,7 +230,7 @@ module _ (outcomes : List Outcome) (outcome : Outcome) (old new : Kept) (stood :
       new.numbers.fill ≡ old.numbers.fill + (if is_fill outcome then 1 else 0) →
       new.numbers.packets ≡ old.numbers.packets + length ending →
       new.numbers.files ≡ old.numbers.files + length joins.more →
-      StandsFor new (outcomes ++ outcome ∷ [])
+      LayersStandFor new (outcomes ++ outcome ∷ [])
   pushed unspent corrected restored lost bad_versions fill packets files = record {
     unspent = unspent;
     channels = channels;
@@ -246,17 +245,18 @@ module _ (outcomes : List Outcome) (outcome : Outcome) (old new : Kept) (stood :
         ∙ sym (ap (corrected_before (outcomes ++ outcome ∷ [])) (length-append outcomes (outcome ∷ []))
         ∙ corrected_before-more outcomes outcome);
     numbers = same_numbers new.numbers (numbers_of (outcomes ++ outcome ∷ []))
-        (restored ∙ ap (λ (k : Numbers). k.restored + (if is_restored outcome then 1 else 0)) stood.numbers
+        (restored ∙ ap (λ (k : CountsView). k.restored + (if is_restored outcome then 1 else 0)) stood.numbers
         ∙ sym (count_by-push is_restored outcomes outcome))
-        (lost ∙ ap (λ (k : Numbers). k.lost + (if not (is_restored outcome) then 1 else 0)) stood.numbers
+        (lost ∙ ap (λ (k : CountsView). k.lost + (if not (is_restored outcome) then 1 else 0)) stood.numbers
         ∙ sym (count_by-push (λ o. not (is_restored o)) outcomes outcome))
-        (bad_versions ∙ ap (λ (k : Numbers). k.bad_versions + (if is_bad_version outcome then 1 else 0)) stood.numbers
+        (bad_versions ∙ ap (λ (k : CountsView). k.bad_versions
+        + (if is_bad_version outcome then 1 else 0)) stood.numbers
         ∙ sym (count_by-push is_bad_version outcomes outcome))
-        (fill ∙ ap (λ (k : Numbers). k.fill + (if is_fill outcome then 1 else 0)) stood.numbers
+        (fill ∙ ap (λ (k : CountsView). k.fill + (if is_fill outcome then 1 else 0)) stood.numbers
         ∙ sym (count_by-push is_fill outcomes outcome))
-        (packets ∙ ap (λ (k : Numbers). k.packets + length ending) stood.numbers
+        (packets ∙ ap (λ (k : CountsView). k.packets + length ending) stood.numbers
         ∙ sym (ap length good ∙ length-append (good_of_outcomes outcomes) ending))
-        (files ∙ ap (λ (k : Numbers). k.files + length joins.more) stood.numbers ∙ sym count_now);
+        (files ∙ ap (λ (k : CountsView). k.files + length joins.more) stood.numbers ∙ sym count_now);
   }
 
 pub good_same : (outcomes : List Outcome) (outcome : Outcome) → frame_in outcome ≡ None →
@@ -276,15 +276,15 @@ good_with outcomes outcome f ending some good =
     ∙ ap (λ l. l ++ ending) (sym (good_is outcomes (frames_of_outcomes outcomes) refl))
 
 -- what was pushed adds no frame
-pub pushed_none : (outcomes : List Outcome) (outcome : Outcome) (old new : Kept) (files : List Placed) →
-    StandsFor old outcomes → frame_in outcome ≡ None → new.spent ≡ false → new.channels ≡ old.channels →
+pub pushed_none : (outcomes : List Outcome) (outcome : Outcome) (old new : KeptLayers) (files : List Placed) →
+    LayersStandFor old outcomes → frame_in outcome ≡ None → new.spent ≡ false → new.channels ≡ old.channels →
     new.files ≡ old.files → new.starts ≡ old.starts → new.corrected ≡ old.corrected + corrected_in outcome →
     new.numbers.restored ≡ old.numbers.restored + (if is_restored outcome then 1 else 0) →
     new.numbers.lost ≡ old.numbers.lost + (if not (is_restored outcome) then 1 else 0) →
     new.numbers.bad_versions ≡ old.numbers.bad_versions + (if is_bad_version outcome then 1 else 0) →
     new.numbers.fill ≡ old.numbers.fill + (if is_fill outcome then 1 else 0) →
     new.numbers.packets ≡ old.numbers.packets → new.numbers.files ≡ old.numbers.files →
-    StandsFor new (outcomes ++ outcome ∷ []) × AddsFiles outcomes outcome files files
+    LayersStandFor new (outcomes ++ outcome ∷ []) × AddsFiles outcomes outcome files files
 unfolding joins_none
 pushed_none outcomes outcome old new files stood none unspent channels open_files starts corrected restored lost bad
     fill packets count =
@@ -308,7 +308,8 @@ pushed_none outcomes outcome old new files stood none unspent channels open_file
     )
 
 -- the outcome at hand
-pub now_is : (outcomes : List Outcome) (outcome : Outcome) (old : Kept) (now : Now) → StandsFor old outcomes →
+pub now_is : (outcomes : List Outcome) (outcome : Outcome) (old : KeptLayers) (now : Now) → LayersStandFor old outcomes
+    →
     now.start.place ≡ old.numbers.restored + old.numbers.lost → now.start.corrected ≡ old.corrected →
     now.corrected ≡ old.corrected + corrected_in outcome →
     IsNow (outcomes ++ outcome ∷ []) now × (now.start.place ≡ length outcomes)
@@ -316,7 +317,7 @@ now_is outcomes outcome old now stood place before after =
     let all = outcomes ++ outcome ∷ [] in
     let n = length outcomes in
     let at : now.start.place ≡ n =
-    place ∙ ap (λ (k : Numbers). k.restored + k.lost) stood.numbers ∙ length-is outcomes in (
+    place ∙ ap (λ (k : CountsView). k.restored + k.lost) stood.numbers ∙ length-is outcomes in (
       record {
         before = before ∙ stood.corrected ∙ sym (corrected_before-same outcomes outcome n (omega arith))
             ∙ ap (corrected_before all) (sym at);
@@ -328,10 +329,11 @@ now_is outcomes outcome old now stood place before after =
     )
 
 -- a frame was pushed
-pub pushed_frame : (outcomes : List Outcome) (outcome : Outcome) (old new : Kept) (f : Fields) (now : Now)
+pub pushed_frame : (outcomes : List Outcome) (outcome : Outcome) (old new : KeptLayers) (f : Fields) (now : Now)
     (before after : List Placed)
-    (gained : Gained) → StandsFor old outcomes → frame_in outcome ≡ Some f → now.start.place ≡ length outcomes →
-    Takes (outcomes ++ outcome ∷ []) (placed_packets outcomes) now.start.place (frames_of_outcomes outcomes)
+    (gained : AddedCounts) → LayersStandFor old outcomes → frame_in outcome ≡ Some f → now.start.place ≡ length outcomes
+    →
+    AddsFrame (outcomes ++ outcome ∷ []) (placed_packets outcomes) now.start.place (frames_of_outcomes outcomes)
     (frames_of_outcomes outcomes ++ f ∷ []) new.channels new.files new.starts before after gained →
     new.spent ≡ false → new.corrected ≡ old.corrected + corrected_in outcome →
     new.numbers.restored ≡ old.numbers.restored + (if is_restored outcome then 1 else 0) →
@@ -339,7 +341,7 @@ pub pushed_frame : (outcomes : List Outcome) (outcome : Outcome) (old new : Kept
     new.numbers.bad_versions ≡ old.numbers.bad_versions + (if is_bad_version outcome then 1 else 0) →
     new.numbers.fill ≡ old.numbers.fill + (if is_fill outcome then 1 else 0) →
     new.numbers.packets ≡ old.numbers.packets + gained.packets → new.numbers.files ≡ old.numbers.files + gained.files →
-    StandsFor new (outcomes ++ outcome ∷ []) × AddsFiles outcomes outcome before after
+    LayersStandFor new (outcomes ++ outcome ∷ []) × AddsFiles outcomes outcome before after
 pushed_frame outcomes outcome old new f now before after gained stood some at takes unspent corrected restored lost bad
     fill packets files =
     let all = outcomes ++ outcome ∷ [] in
@@ -358,11 +360,11 @@ pushed_frame outcomes outcome old new f now before after gained stood some at ta
     )
 
 -- what is kept of the files and of their starts, for a frame more
-pub files_before : (outcomes : List Outcome) (kept : Kept) → StandsFor kept outcomes →
+pub files_before : (outcomes : List Outcome) (kept : KeptLayers) → LayersStandFor kept outcomes →
     FilesStandFor kept.files (map packet_of (placed_packets outcomes))
 files_before outcomes kept stood = subst (λ (l : List Good). FilesStandFor kept.files l) (sym stood.packets) stood.files
 
-pub starts_before : (outcomes : List Outcome) (outcome : Outcome) (kept : Kept) → StandsFor kept outcomes →
+pub starts_before : (outcomes : List Outcome) (outcome : Outcome) (kept : KeptLayers) → LayersStandFor kept outcomes →
     StartsStandFor (outcomes ++ outcome ∷ []) kept.starts (placed_packets outcomes)
 starts_before outcomes outcome kept stood =
     starts_stay outcomes outcome kept.starts (placed_packets outcomes) (all_below outcomes) stood.starts

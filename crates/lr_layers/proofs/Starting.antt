@@ -1,7 +1,6 @@
 -- The latest packet that begins a file, one packet after another.
 use Rattle.std.proofs.Common.{◌≡◌, ℕ, ◌<◌, Bool, true, false, cond, eqb, ◌&&◌, Option, Some}
-use Rattle.std.proofs.Common.{None, List, [], ◌∷◌, ◌++◌, length, refl, sym, ap, ◌∙◌, arith}
-use Rattle.std.proofs.Common.{append-nil}
+use Rattle.std.proofs.Common.{None, List, [], ◌∷◌, ◌++◌, length, refl, sym, ap, ◌∙◌, arith, append-nil}
 use Rattle.std.specs.Prelude.{filter}
 use Rattle.std.specs.Option.{option_map}
 use Rattle.std.proofs.lemmas.List.Elements.{filter-append}
@@ -12,8 +11,7 @@ use Rattle.lr_file.proofs.KeyLemmas.{same_key}
 use Rattle.lr_layers.specs.declared.starts.Start.{Start}
 use Rattle.lr_layers.specs.declared.starts.Now.{Now}
 use Rattle.lr_layers.specs.Origins.{PlacedPacket, placed_of_key}
-use Rattle.lr_layers.specs.Starts.{begins, later_of, latest_start, NotesStart, start_in}
-use Rattle.lr_layers.specs.Starts.{StartsStandFor, IsNow}
+use Rattle.lr_layers.specs.Starts.{begins, later_of, latest_start, NotesStart, start_in, StartsStandFor, IsNow}
 use Rattle.lr_layers.proofs.Changes.{corrected_before-same}
 use Rattle.lr_layers.proofs.Places.{AreBelow}
 

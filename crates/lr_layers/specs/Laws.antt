@@ -6,7 +6,7 @@ use Rattle.lr_bits.specs.declared.placed.Placed.{Placed}
 use Rattle.lr_bits.specs.File.{bytes_of}
 use Rattle.lr_bits.specs.Packet.{Packet}
 use Rattle.lr_bits.specs.declared.sizes.TheConstants.{TRANSPORT_HEADER_BYTES}
-use Rattle.lr_vc.specs.Runs.{AreFrames}
+use Rattle.lr_vc.specs.Runs.{AreChannelFrames}
 use Rattle.lr_vc.specs.Packets.{packets_of}
 use Rattle.lr_packet.specs.Verdict.{Good}
 use Rattle.lr_file.specs.Laws.{Weights, file_weight, packet_weight}
@@ -25,16 +25,17 @@ pub record GoOn (outcomes later : List Outcome) : Type 0 where
 
 -- the files with origins are the files, where each frame has a zone of 884 bytes
 abbrev pub FilesHaveOrigins : Type 0
-FilesHaveOrigins = (outcomes : List Outcome) → AreFrames (frames_of_outcomes outcomes) →
+FilesHaveOrigins = (outcomes : List Outcome) → AreChannelFrames (frames_of_outcomes outcomes) →
     map (λ placed. placed.file) (placed_of_outcomes outcomes) ≡ files_of_outcomes outcomes
 
 -- where each frame has a zone of 884 bytes, as each of 892 bytes has
 abbrev pub FilesGoOn : Type 0
-FilesGoOn = (outcomes later : List Outcome) → AreFrames (frames_of_outcomes (outcomes ++ later)) → GoOn outcomes later
+FilesGoOn = (outcomes later : List Outcome) → AreChannelFrames (frames_of_outcomes (outcomes ++ later))
+    → GoOn outcomes later
 
 -- the files of outcomes weigh at most what the good packets of the outcomes do
-abbrev pub FilesFitThePackets : Type 0
-FilesFitThePackets = (weights : Weights) (outcomes : List Outcome) →
+abbrev pub FilesFitTheOutcomes : Type 0
+FilesFitTheOutcomes = (weights : Weights) (outcomes : List Outcome) →
     sum_by (file_weight weights) (files_of_outcomes outcomes)
     ≤ sum_by (packet_weight weights) (good_of_outcomes outcomes)
 

@@ -40,7 +40,7 @@ is_fill (Restored corrected frame) = (version_of frame == 1) && ((fields_of fram
 is_fill (Lost word) = false
 
 -- how many outcomes of each kind there are, and how many good packets and files
-pub record Numbers : Type 0 where
+pub record CountsView : Type 0 where
   pub restored : ℕ
   pub lost : ℕ
   pub bad_versions : ℕ
@@ -48,7 +48,7 @@ pub record Numbers : Type 0 where
   pub packets : ℕ
   pub files : ℕ
 
-abbrev pub numbers_of : List Outcome → Numbers
+abbrev pub numbers_of : List Outcome → CountsView
 numbers_of outcomes = record {
   restored = count_by is_restored outcomes;
   lost = count_by (λ o. not (is_restored o)) outcomes;

@@ -6,7 +6,7 @@ use Rattle.std.specs.Option.{option_map}
 use Rattle.lr_bits.specs.declared.outcome.Outcome.{Outcome}
 use Rattle.lr_bits.specs.declared.placed.Placed.{Placed}
 use Rattle.lr_packet.specs.Verdict.{Good}
-use Rattle.lr_file.specs.Standing.{Kept as KeptFiles, StandsFor as FilesStandFor, AreAscending, kept_of_key}
+use Rattle.lr_file.specs.Standing.{KeptFiles, FilesStandFor, AreAscending, kept_of_key}
 use Rattle.lr_file.specs.Steps.{SetsKey}
 use Rattle.lr_layers.specs.declared.starts.Start.{Start}
 use Rattle.lr_layers.specs.declared.starts.Now.{Now}

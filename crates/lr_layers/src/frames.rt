@@ -6,14 +6,14 @@ ghost use Rattle.std.specs.Result.{result_ok};
 ghost use Rattle.lr_vc.specs.Frame.{Fields, frame_of};
 ghost use Rattle.lr_bits.specs.declared.outcome.Outcome.{Outcome as Outcome'};
 ghost use Rattle.lr_vc.specs.Reading.{fields};
-ghost use Rattle.lr_vc.specs.Standing.{StandsFor as ChannelsStandFor};
-ghost use Rattle.lr_file.specs.Standing.{StandsFor as FilesStandFor};
+ghost use Rattle.lr_vc.specs.Standing.{ChannelsStandFor};
+ghost use Rattle.lr_file.specs.Standing.{FilesStandFor};
 ghost use Rattle.lr_layers.specs.Standing.{numbers};
 ghost use Rattle.lr_layers.specs.Origins.{PlacedPacket, packet_of};
 ghost use Rattle.lr_layers.specs.Starts.{IsNow, StartsStandFor};
-ghost use Rattle.lr_layers.specs.Steps.{CountsFrame, KeepsFront, Takes};
+ghost use Rattle.lr_layers.specs.Steps.{CountsFrame, KeepsFilesBefore, AddsFrame};
 
-use crate::counts::{Counts, Gained};
+use crate::counts::{AddedCounts, Counts};
 use crate::packets::push_packets;
 use crate::starts::{Now, Starts};
 use lr_bits::{FILL_CHANNEL, FRAME_BYTES, NoMemory, Placed, RawPacket};
@@ -51,23 +51,23 @@ pub(crate) fn push_frame(
     files: &mut Files,
     starts: &mut Starts,
     out: &mut Vec<Placed>,
-) -> Result<Gained, NoMemory>
+) -> Result<AddedCounts, NoMemory>
     ensures takes { (outcomes : List Outcome') (before : List PlacedPacket) (frames : List Fields)
         → ChannelsStandFor channels.old frames → FilesStandFor files.old (map packet_of before)
         → StartsStandFor outcomes starts.old before → IsNow outcomes now
-        → IfOk result (λ gained. Takes outcomes before now.start.place frames (frames ++ fields frame.now ∷ [])
+        → IfOk result (λ gained. AddsFrame outcomes before now.start.place frames (frames ++ fields frame.now ∷ [])
         channels.new files.new starts.new out.old.items out.new.items gained) }
     ensures fill { channels.old.spent ≡ false → frame.now.vc ≡ FILL_CHANNEL → IsOk result }
     ensures few { IfOk result (λ gained. gained.packets ≤ MOST_ENDING_PACKETS) }
     ensures few_new { IfOk result (λ _. length out.new.items ≤ length out.old.items + MOST_ENDING_PACKETS) }
     ensures few_files { IfOk result (λ gained. gained.files ≤ gained.packets) }
-    ensures kept { KeepsFront out.old.items out.new.items }
+    ensures kept { KeepsFilesBefore out.old.items out.new.items }
 {
     packets.clear();
     channels.push(frame, packets)?;
     let before = out.as_slice().len();
     let good = push_packets(packets, now, files, starts, out)?;
-    Ok(Gained {
+    Ok(AddedCounts {
         packets: good,
         files: (out.as_slice().len() - before) as u64,
     })

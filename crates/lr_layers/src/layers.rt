@@ -4,7 +4,7 @@ ghost use Rattle.std.specs.Prelude.{◌≡◌, ◌+◌, ◌^◌, ◌<◌, ◌≤
 ghost use Rattle.std.specs.Prelude.{IsTrue, None, false, sum};
 ghost use Rattle.lr_bits.specs.declared.outcome.Outcome.{Outcome as Outcome'};
 ghost use Rattle.lr_layers.specs.Layers.{frame_in, is_fill};
-ghost use Rattle.lr_layers.specs.Standing.{StandsFor, IsSpent, AddsFiles, AreFew, numbers};
+ghost use Rattle.lr_layers.specs.Standing.{LayersStandFor, AreLayersSpent, AddsFiles, AreFew, numbers};
 
 use crate::counts::Counts;
 use crate::frames::{push_frame, read_frame};
@@ -34,10 +34,10 @@ pub struct Layers {
 
 impl Model for Layers {
     ghost use Rattle.std.specs.Prelude.{◌≤◌, ◌*◌};
-    ghost use Rattle.lr_layers.specs.Standing.{Kept, AreFew, numbers};
+    ghost use Rattle.lr_layers.specs.Standing.{KeptLayers, AreFew, numbers};
     ghost use Rattle.lr_bits.specs.declared.sizes.TheConstants.{BLOCK_BYTES};
 
-    ghost Value = { Kept };
+    ghost Value = { KeptLayers };
 
     ghost view = { λ l. record {
       spent = l.spent;
@@ -63,7 +63,7 @@ fn changed_bytes(corrected: &Corrected) -> u64
 impl Layers {
     /// No outcomes yet. This takes no memory.
     pub fn new(alloc: Global) -> Self
-        ensures { StandsFor result [] }
+        ensures { LayersStandFor result [] }
     {
         Layers {
             channels: Channels::new(alloc),
@@ -101,7 +101,8 @@ impl Layers {
         }
     }
 
-    /// How many outcomes, good packets and files there were so far.
+    /// How many outcomes, good packets and files there were so far. Of a spent object they are those up to the last
+    /// outcome that was taken.
     pub fn counts(&self) -> Counts
         ensures value { numbers result ≡ self.now.numbers }
         ensures few { AreFew (numbers result) }
@@ -110,7 +111,8 @@ impl Layers {
     }
 
     /// Appends the files that end with this outcome, the next one of those for which the object stands. Fewer than 2^48
-    /// outcomes were pushed before.
+    /// outcomes were pushed before. Each file comes with its origin: the places of the outcomes in which its first
+    /// packet and its last one end, and the changed bytes of all restored outcomes from the first of them to the last.
     ///
     /// `NoMemory`: memory was wanting in this call or in an earlier one. The files are as they were.
     pub fn push_outcome(
@@ -119,22 +121,22 @@ impl Layers {
         files: &mut Vec<Placed>,
     ) -> Result<(), NoMemory>
         requires { self.old.numbers.restored + self.old.numbers.lost < 2 ^ 48 }
-        ensures stands { (outcomes : List Outcome') → StandsFor self.old outcomes →
-            OnOk result (StandsFor self.new (outcomes ++ outcome.now ∷ [])) }
-        ensures files { (outcomes : List Outcome') → StandsFor self.old outcomes →
+        ensures stands { (outcomes : List Outcome') → LayersStandFor self.old outcomes →
+            OnOk result (LayersStandFor self.new (outcomes ++ outcome.now ∷ [])) }
+        ensures files { (outcomes : List Outcome') → LayersStandFor self.old outcomes →
             OnOk result (AddsFiles outcomes outcome.now files.old.items files.new.items) }
         // A frame ends at most 885 packets.
         ensures few { OnOk result (length files.new.items ≤ length files.old.items + MOST_ENDING_PACKETS) }
 
         // A lost block, and a frame of another version, take no memory; nor does one of fill.
         ensures succeeds { self.old.spent ≡ false → frame_in outcome.now ≡ None → IsOk result }
-        ensures fill { (outcomes : List Outcome') → StandsFor self.old outcomes → IsTrue (is_fill outcome.now)
+        ensures fill { (outcomes : List Outcome') → LayersStandFor self.old outcomes → IsTrue (is_fill outcome.now)
             → IsOk result }
 
         ensures refused { OnErr result (files.new.items ≡ files.old.items) }
         ensures counts_stay { OnErr result (self.new.numbers ≡ self.old.numbers) }
-        ensures spends { OnErr result (IsSpent self.new) }
-        ensures stays_spent { IsSpent self.old → IsErr result × IsSpent self.new }
+        ensures spends { OnErr result (AreLayersSpent self.new) }
+        ensures stays_spent { AreLayersSpent self.old → IsErr result × AreLayersSpent self.new }
     {
         if self.spent {
             return Err(NoMemory);

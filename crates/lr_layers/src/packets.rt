@@ -3,10 +3,10 @@
 ghost use Rattle.std.specs.Prelude.{◌≡◌, ◌≤◌, ◌+◌, ◌++◌, ◌∷◌, [], List, IfOk, IsOk, OnOk, length, map, if◌then◌else◌};
 ghost use Rattle.lr_bits.specs.declared.outcome.Outcome.{Outcome as Outcome'};
 ghost use Rattle.lr_packet.specs.Verdict.{good_packets};
-ghost use Rattle.lr_file.specs.Standing.{StandsFor};
+ghost use Rattle.lr_file.specs.Standing.{FilesStandFor};
 ghost use Rattle.lr_layers.specs.Origins.{PlacedPacket, packet_of, at_place};
 ghost use Rattle.lr_layers.specs.Starts.{IsNow, Joins, StartsStandFor};
-ghost use Rattle.lr_layers.specs.Steps.{KeepsFront};
+ghost use Rattle.lr_layers.specs.Steps.{KeepsFilesBefore};
 
 use crate::starts::{Now, Starts};
 use lr_bits::{NoMemory, Placed, RawPacket};
@@ -21,7 +21,8 @@ fn push_packet(
     starts: &mut Starts,
     out: &mut Vec<Placed>,
 ) -> Result<bool, NoMemory>
-    ensures joins { (outcomes : List Outcome') (before : List PlacedPacket) → StandsFor files.old (map packet_of before)
+    ensures joins { (outcomes : List Outcome') (before : List PlacedPacket)
+        → FilesStandFor files.old (map packet_of before)
         → StartsStandFor outcomes starts.old before → IsNow outcomes now
         → OnOk result (Joins outcomes before (at_place now.start.place (good_packets (raw.now ∷ []))) files.new
         starts.new
@@ -29,7 +30,7 @@ fn push_packet(
     ensures succeeds { good_packets (raw.now ∷ []) ≡ [] → IsOk result }
     ensures good { IfOk result (λ good. (if good then 1 else 0) ≡ length (good_packets (raw.now ∷ []))) }
     ensures few { IfOk result (λ good. length out.new.items ≤ length out.old.items + (if good then 1 else 0)) }
-    ensures kept { KeepsFront out.old.items out.new.items }
+    ensures kept { KeepsFilesBefore out.old.items out.new.items }
 {
     match check(raw) {
         Err(_) => Ok(false),
@@ -52,7 +53,8 @@ pub(crate) fn push_packets(
     starts: &mut Starts,
     out: &mut Vec<Placed>,
 ) -> Result<u64, NoMemory>
-    ensures joins { (outcomes : List Outcome') (before : List PlacedPacket) → StandsFor files.old (map packet_of before)
+    ensures joins { (outcomes : List Outcome') (before : List PlacedPacket)
+        → FilesStandFor files.old (map packet_of before)
         → StartsStandFor outcomes starts.old before → IsNow outcomes now
         → OnOk result (Joins outcomes before (at_place now.start.place (good_packets packets.now)) files.new starts.new
         out.old.items out.new.items) }
@@ -60,7 +62,7 @@ pub(crate) fn push_packets(
     ensures good { IfOk result (λ good. good ≡ length (good_packets packets.now)) }
     ensures few { IfOk result (λ good. good ≤ length packets.now) }
     ensures few_files { IfOk result (λ good. length out.new.items ≤ length out.old.items + good) }
-    ensures kept { KeepsFront out.old.items out.new.items }
+    ensures kept { KeepsFilesBefore out.old.items out.new.items }
 {
     let mut good = 0;
     for raw in packets {

@@ -14,7 +14,7 @@ use Rattle.lr_lock.specs.Frames.{place_after_frame, HasFewer, IsFoundFrom, IsNex
 use Rattle.lr_lock.specs.Windows.{WindowView, window_view, window_of, window_value, turned_value}
 use Rattle.lr_lock.specs.Machine.{IsAt}
 use Rattle.lr_lock.specs.Search.{IsFrameFound, IsWaiting}
-use Rattle.lr_lock.specs.Standing.{LockState, StandsFor}
+use Rattle.lr_lock.specs.Standing.{LockState, LockStandsFor}
 use Rattle.lr_lock.specs.Steps.{GivesWindow, WantsMore, HasEnded}
 use Rattle.lr_lock.specs.declared.frame.Frame.{Frame}
 use Rattle.lr_lock.specs.declared.sizes.TheConstants.{WINDOW_END}
@@ -45,8 +45,8 @@ at-append tail symbols more last None place t at = record {
   passed = λ p a b. fewer-append tail symbols more p acquiring_hits t (omega (arith, at.whole p a b)) (at.passed p a b);
 }
 
-pub stands_after_feed : (lock : LockState) (piece fed : List ℤ) (given : List Frame) → StandsFor lock fed given →
-    StandsFor (record lock { kept = lock.kept ++ piece }) (fed ++ piece) given
+pub stands_after_feed : (lock : LockState) (piece fed : List ℤ) (given : List Frame) → LockStandsFor lock fed given →
+    LockStandsFor (record lock { kept = lock.kept ++ piece }) (fed ++ piece) given
 stands_after_feed lock piece fed given h = record {
   within = omega (arith, length-append fed piece, h.within);
   rest = ap (λ (s : List ℤ). s ++ piece) h.rest ∙ sym (drop-append-le lock.place fed piece h.within);
@@ -57,8 +57,8 @@ stands_after_feed lock piece fed given h = record {
       (λ frame k. omega (arith, length-append fed piece)) given (h.sure unfinished);
 }
 
-pub stands_after_finish : (lock : LockState) (fed : List ℤ) (given : List Frame) → StandsFor lock fed given →
-    StandsFor (record lock { finished = true }) fed given
+pub stands_after_finish : (lock : LockState) (fed : List ℤ) (given : List Frame) → LockStandsFor lock fed given →
+    LockStandsFor (record lock { finished = true }) fed given
 stands_after_finish lock fed given h = record {
   within = h.within;
   rest = h.rest;
@@ -95,7 +95,7 @@ window_of-drop fed place positive =
     ∙ ap (λ n. get_or fed n (pos 0)) (omega arith)))
 
 pub given_window : (before later : LockState) (fed : List ℤ) (given : List Frame) (frame : Frame) (passed needed : ℕ)
-    (seen : WindowView) → StandsFor before fed given → IsFrameFound (tail_of before.line) fed (last_of None given)
+    (seen : WindowView) → LockStandsFor before fed given → IsFrameFound (tail_of before.line) fed (last_of None given)
     (before.place + passed) needed frame → FRAME_SYMBOLS ≤ needed → (before.finished ≡ false → needed ≡ WINDOW_END) →
     later.line ≡ before.line → later.place ≡ before.place + passed + FRAME_SYMBOLS →
     later.kept ≡ drop (passed + FRAME_SYMBOLS) before.kept → later.held ≡ Some frame →
@@ -185,9 +185,9 @@ next_ahead tail fed (Some last) (Some held) place frame at (inr h) =
     omega (arith, h.2.from, h.1.1, at.1, ap (λ o. reach o) at.0)
 
 stands_on : (before later : LockState) (fed : List ℤ) (given : List Frame) (passed needed : ℕ) →
-    StandsFor before fed given → IsWaiting (tail_of before.line) fed (last_of None given) later.held
+    LockStandsFor before fed given → IsWaiting (tail_of before.line) fed (last_of None given) later.held
     (before.place + passed) needed → later.line ≡ before.line → later.place ≡ before.place + passed →
-    later.kept ≡ drop passed before.kept → later.finished ≡ before.finished → StandsFor later fed given
+    later.kept ≡ drop passed before.kept → later.finished ≡ before.finished → LockStandsFor later fed given
 stands_on before later fed given passed needed h waits line place kept same =
     let at : IsAt (tail_of before.line) fed (last_of None given) later.held later.place =
     subst (λ (p : ℕ). IsAt (tail_of before.line) fed (last_of None given) later.held p) (sym place) waits.stands in
@@ -200,12 +200,13 @@ stands_on before later fed given passed needed h waits line place kept same =
     }
 
 pub wanted_more : (before later : LockState) (fed : List ℤ) (given : List Frame) (passed needed : ℕ) →
-    StandsFor before fed given → IsWaiting (tail_of before.line) fed (last_of None given) later.held
+    LockStandsFor before fed given → IsWaiting (tail_of before.line) fed (last_of None given) later.held
     (before.place + passed) needed → before.finished ≡ false → needed ≡ WINDOW_END → later.line ≡ before.line →
     later.place ≡ before.place + passed → later.kept ≡ drop passed before.kept → later.finished ≡ before.finished →
     WantsMore before later fed given
 wanted_more before later fed given passed needed h waits unfinished e line place kept same =
-    let on : StandsFor later fed given = stands_on before later fed given passed needed h waits line place kept same in
+    let on : LockStandsFor later fed given =
+    stands_on before later fed given passed needed h waits line place kept same in
     record {
       unfinished = unfinished;
       none = λ frame next. omega (
@@ -219,7 +220,7 @@ wanted_more before later fed given passed needed h waits unfinished e line place
     }
 
 pub had_ended : (before later : LockState) (fed : List ℤ) (given : List Frame) (passed needed : ℕ) →
-    StandsFor before fed given → IsWaiting (tail_of before.line) fed (last_of None given) later.held
+    LockStandsFor before fed given → IsWaiting (tail_of before.line) fed (last_of None given) later.held
     (before.place + passed) needed → before.finished ≡ true → needed ≡ FRAME_SYMBOLS → later.line ≡ before.line →
     later.place ≡ before.place + passed → later.kept ≡ drop passed before.kept → later.finished ≡ before.finished →
     HasEnded before later fed given

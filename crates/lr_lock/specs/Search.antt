@@ -22,6 +22,6 @@ abbrev pub FindsOrWaits : List Bool → List ℤ → Option Frame → Option Fra
 FindsOrWaits tail symbols last held place needed None = IsWaiting tail symbols last held place needed
 FindsOrWaits tail symbols last held place needed (Some frame) = IsFrameFound tail symbols last place needed frame
 
-abbrev pub Finds : List Bool → List ℤ → Option Frame → ℕ → ℕ → Found → Type 0
-Finds tail symbols last place needed found =
+abbrev pub FindsFrame : List Bool → List ℤ → Option Frame → ℕ → ℕ → Found → Type 0
+FindsFrame tail symbols last place needed found =
     FindsOrWaits tail symbols last found.held (place + found.passed) needed found.frame

@@ -19,7 +19,7 @@ pub record LockState : Type 0 where
 
 -- The lock stands for these symbols fed and these frames given. While it is unfinished, the symbols of each given
 -- window are among those fed.
-pub record StandsFor (lock : LockState) (fed : List ℤ) (given : List Frame) : Type 0 where
+pub record LockStandsFor (lock : LockState) (fed : List ℤ) (given : List Frame) : Type 0 where
   pub within : lock.place ≤ length fed
   pub rest : lock.kept ≡ drop lock.place fed
   pub frames : AreNext (tail_of lock.line) fed None given

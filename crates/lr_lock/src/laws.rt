@@ -3,7 +3,7 @@
 ghost use Rattle.std.specs.Prelude.{◌≡◌, ◌≤◌, ◌+◌, ◌++◌, ℕ, ℤ, Bool, List, None, length, map, false};
 ghost use Rattle.lr_lock.specs.Frames.{AreFrames, AreNext};
 ghost use Rattle.lr_lock.specs.FramesOf.{frames_of};
-ghost use Rattle.lr_lock.specs.Standing.{LockState, StandsFor};
+ghost use Rattle.lr_lock.specs.Standing.{LockState, LockStandsFor};
 ghost use Rattle.lr_lock.specs.Windows.{window_of, window_view};
 ghost use Rattle.lr_lock.specs.declared.frame.Frame.{Frame};
 
@@ -18,14 +18,14 @@ pub fn frames_are_one()
         AreFrames tail symbols frames → frames ≡ frames_of tail symbols }
 {}
 
-/// That frames which were found one after another are a front of all frames.
-pub fn given_are_front()
+/// That frames which were found one after another are a prefix of all frames.
+pub fn given_are_prefix()
     ensures { (tail : List Bool) (symbols : List ℤ) (given : List Frame) → length tail ≡ TAIL_SYMBOLS →
         AreNext tail symbols None given → (rest : List Frame) × (frames_of tail symbols ≡ given ++ rest) }
 {}
 
-/// That the frames of a front of the symbols are a front of the frames.
-pub fn front_stays()
+/// That the frames of a prefix of the symbols are a prefix of the frames.
+pub fn prefix_stays()
     ensures { (tail : List Bool) (symbols more : List ℤ) → length tail ≡ TAIL_SYMBOLS →
         (rest : List Frame) × (frames_of tail (symbols ++ more) ≡ frames_of tail symbols ++ rest) }
 {}
@@ -38,7 +38,7 @@ pub fn window_stays()
 
 /// That the windows of the frames that a lock gave are the same whatever is fed after them.
 pub fn given_windows_stay()
-    ensures { (lock : LockState) (fed more : List ℤ) (given : List Frame) → StandsFor lock fed given →
+    ensures { (lock : LockState) (fed more : List ℤ) (given : List Frame) → LockStandsFor lock fed given →
         lock.finished ≡ false →
         map (window_view lock.line (fed ++ more)) given ≡ map (window_view lock.line fed) given }
 {}

@@ -1,9 +1,9 @@
 //! The lock, and how it is fed and asked.
 
 ghost use Rattle.std.specs.Prelude.{◌≡◌, ◌≢◌, ◌+◌, ◌-◌, ◌^◌, ◌≤◌, ◌++◌, ℤ, List, [], true, false, length, drop, IfOk};
-ghost use Rattle.std.specs.Prelude.{vec_capacity};
+ghost use Rattle.std.specs.Prelude.{is_none, vec_capacity};
 ghost use Rattle.lr_lock.specs.Steps.{Answers};
-ghost use Rattle.lr_lock.specs.Standing.{StandsFor};
+ghost use Rattle.lr_lock.specs.Standing.{LockStandsFor};
 ghost use Rattle.lr_lock.specs.Symbols.{symbol_of, symbols_of};
 ghost use Rattle.lr_lock.specs.declared.frame.Frame.{Frame};
 ghost use Rattle.lr_lock.specs.Thresholds.{lock_symbols};
@@ -96,7 +96,7 @@ fn put_bytes(symbols: &mut Vec<i8>, piece: &[u8])
 impl Lock {
     /// A lock that searches from the start of a stream of this line code, for the marker of CCSDS 131.0-B, section 9.3.
     pub fn new(alloc: Global, line: LineCode) -> Result<Self, NoMemory>
-        ensures stands { IfOk result (λ lock. StandsFor lock [] []) }
+        ensures stands { IfOk result (λ lock. LockStandsFor lock [] []) }
         ensures line { IfOk result (λ lock. lock.line ≡ line) }
         ensures unfinished { IfOk result (λ lock. lock.finished ≡ false) }
     {
@@ -116,6 +116,13 @@ impl Lock {
         ensures { result + length self.now.kept ≡ lock_symbols }
     {
         LOCK_SYMBOLS - (self.symbols.len() - self.passed)
+    }
+
+    /// Whether it searches: it doesn't stand right after a frame.
+    pub fn searches(&self) -> bool
+        ensures { result ≡ is_none self.now.held }
+    {
+        self.held.is_none()
     }
 
     /// The symbols that are kept.
@@ -159,8 +166,8 @@ impl Lock {
         requires room { length self.old.kept + length piece.now ≤ lock_symbols }
         requires in_all { self.old.place + length self.old.kept + length piece.now ≤ 2 ^ 62 }
         ensures value { self.new ≡ record self.old { kept = self.old.kept ++ piece.now } }
-        ensures stands { (fed : List ℤ) (given : List Frame) → StandsFor self.old fed given →
-            StandsFor self.new (fed ++ piece.now) given }
+        ensures stands { (fed : List ℤ) (given : List Frame) → LockStandsFor self.old fed given →
+            LockStandsFor self.new (fed ++ piece.now) given }
     {
         self.append(piece);
     }
@@ -171,8 +178,8 @@ impl Lock {
         requires room { length self.old.kept + length piece.now ≤ lock_symbols }
         requires in_all { self.old.place + length self.old.kept + length piece.now ≤ 2 ^ 62 }
         ensures value { self.new ≡ record self.old { kept = self.old.kept ++ symbols_of piece.now } }
-        ensures stands { (fed : List ℤ) (given : List Frame) → StandsFor self.old fed given →
-            StandsFor self.new (fed ++ symbols_of piece.now) given }
+        ensures stands { (fed : List ℤ) (given : List Frame) → LockStandsFor self.old fed given →
+            LockStandsFor self.new (fed ++ symbols_of piece.now) given }
     {
         self.append_bytes(piece);
     }
@@ -180,8 +187,8 @@ impl Lock {
     /// Says that no more symbols will be fed.
     pub fn finish(&mut self)
         ensures value { self.new ≡ record self.old { finished = true } }
-        ensures stands { (fed : List ℤ) (given : List Frame) → StandsFor self.old fed given →
-            StandsFor self.new fed given }
+        ensures stands { (fed : List ℤ) (given : List Frame) → LockStandsFor self.old fed given →
+            LockStandsFor self.new fed given }
     {
         self.finished = true;
     }
@@ -191,7 +198,7 @@ impl Lock {
     /// symbols. At `More` and `End` the window is as it was.
     pub fn next_window(&mut self, window: &mut Window) -> Step
         requires { window.old.line ≡ self.old.line }
-        ensures answers { (fed : List ℤ) (given : List Frame) → StandsFor self.old fed given →
+        ensures answers { (fed : List ℤ) (given : List Frame) → LockStandsFor self.old fed given →
             Answers self.old self.new window.new fed given result }
         ensures unchanged { result ≢ Step.Window → window.new ≡ window.old }
 

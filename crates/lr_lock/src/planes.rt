@@ -2,7 +2,7 @@
 
 ghost use Rattle.std.specs.Prelude.{◌≡◌, ◌-◌, ◌∷◌, ◌++◌, [], ℕ, ℤ, Bool, List, length, ◌<◌, ◌≤◌, MatchOption};
 ghost use Rattle.lr_lock.specs.Hits.{agreeing};
-ghost use Rattle.lr_lock.specs.Planes.{AreMasks, Shows};
+ghost use Rattle.lr_lock.specs.Planes.{AreMasks, ShowsSymbols};
 
 use lr_conv::TAIL_SYMBOLS;
 
@@ -24,7 +24,7 @@ pub(crate) struct Masks {
 /// The planes of these symbols.
 pub(crate) fn planes_of(symbols: &[i8]) -> Planes
     requires { length symbols.now ≤ TAIL_SYMBOLS }
-    ensures { Shows result symbols.now }
+    ensures { ShowsSymbols result symbols.now }
 {
     let mut above = 0;
     let mut below = 0;
@@ -52,7 +52,7 @@ pub(crate) fn masks_of(tail: &[bool; TAIL_SYMBOLS]) -> Masks
 #[inline(always)]
 pub(crate) fn next_planes(planes: Planes, symbol: i8) -> Planes
     ensures { (first : ℤ) (rest : List ℤ) → length rest ≡ TAIL_SYMBOLS - 1 →
-        Shows planes (first ∷ rest) → Shows result (rest ++ symbol ∷ []) }
+        ShowsSymbols planes (first ∷ rest) → ShowsSymbols result (rest ++ symbol ∷ []) }
 {
     Planes {
         above: planes.above >> 1 | u64::from(symbol > 0) << (TAIL_SYMBOLS - 1),
@@ -63,7 +63,7 @@ pub(crate) fn next_planes(planes: Planes, symbol: i8) -> Planes
 /// The polarity that has `least` hits, if one has.
 #[inline(always)]
 pub(crate) fn polarity_in(planes: Planes, masks: Masks, least: u32) -> Option<bool>
-    ensures { (tail : List Bool) (symbols : List ℤ) → AreMasks masks tail → Shows planes symbols →
+    ensures { (tail : List Bool) (symbols : List ℤ) → AreMasks masks tail → ShowsSymbols planes symbols →
         MatchOption result ((positive : Bool) → agreeing positive tail symbols < least)
         (λ positive. least ≤ agreeing positive tail symbols) }
 {

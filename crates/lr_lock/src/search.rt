@@ -5,7 +5,7 @@ ghost use Rattle.std.specs.Prelude.{IfSome};
 ghost use Rattle.lr_lock.specs.Hits.{hits};
 ghost use Rattle.lr_lock.specs.Frames.{HasFewer};
 ghost use Rattle.lr_lock.specs.Machine.{IsAt, IsSearching};
-ghost use Rattle.lr_lock.specs.Search.{Finds};
+ghost use Rattle.lr_lock.specs.Search.{FindsFrame};
 ghost use Rattle.lr_lock.specs.Thresholds.{acquiring_hits, lock_symbols};
 
 use crate::frame::Frame;
@@ -108,7 +108,7 @@ fn search_from(
     ensures within { result.passed ≤ length symbols.now }
     ensures whole { IfSome result.frame (λ _. result.passed + needed ≤ length symbols.now) }
     ensures seen { (fed : List ℤ) (last : Option Frame) → place ≤ length fed → symbols.now ≡ drop place fed →
-        IsSearching tail.now fed last (place + start) → Finds tail.now fed last place needed result }
+        IsSearching tail.now fed last (place + start) → FindsFrame tail.now fed last place needed result }
 {
     let hit = first_hit(tail, symbols, start, needed);
     match hit.positive {
@@ -136,7 +136,7 @@ pub(crate) fn find_next(
     ensures within { result.passed ≤ length symbols.now }
     ensures whole { IfSome result.frame (λ _. result.passed + needed ≤ length symbols.now) }
     ensures seen { (fed : List ℤ) (last : Option Frame) → place ≤ length fed → symbols.now ≡ drop place fed →
-        IsAt tail.now fed last held place → Finds tail.now fed last place needed result }
+        IsAt tail.now fed last held place → FindsFrame tail.now fed last place needed result }
 {
     let Some(last) = held else {
         return search_from(tail, symbols, place, 0, needed);

@@ -10,10 +10,9 @@ use Rattle.std.proofs.lemmas.List.{drop-append-le, map-append, take_more_set, sa
 use Rattle.std.proofs.lemmas.List.FromFn.{map-range_with_len_more, length-map-range_with_len, get_or-map-range_with_len}
 use Rattle.lr_bits.specs.Bits.{bit_of}
 use Rattle.lr_bits.specs.declared.sizes.TheConstants.{BLOCK_BYTES, FRAME_SYMBOLS}
-use Rattle.lr_conv.specs.Convolution.{first_symbol}
+use Rattle.lr_conv.specs.Convolution.{first_symbol, code, symbols, second_symbol}
 use Rattle.lr_conv.specs.declared.line.LineCode.{LineCode}
 use Rattle.lr_conv.specs.declared.line.TheConstants.{STANDARD}
-use Rattle.lr_conv.specs.Convolution.{code, symbols, second_symbol}
 use Rattle.lr_conv.specs.Encoder.{past_of}
 use Rattle.lr_conv.proofs.SevenBits.{symbols-more}
 use Rattle.lr_make.specs.Symbols.{bits_of_bytes, level, marked_block}

@@ -51,10 +51,11 @@ length-sent_bits start wrong (suc n) =
 -- an encoder takes the marker and a block more
 pub stands-more : (encoder : Encoder) (past : List Bool) (start wrong n : ℕ) (block : List ℕ) →
     block ≡ block_at start wrong n
-    → encoders.StandsFor encoder past (sent_bits start wrong n ++ bits_of_bytes (marked_block block)) →
-    encoders.StandsFor encoder past (sent_bits start wrong (n + 1))
+    → encoders.EncoderStandsFor encoder past (sent_bits start wrong n ++ bits_of_bytes (marked_block block)) →
+    encoders.EncoderStandsFor encoder past (sent_bits start wrong (n + 1))
 stands-more encoder past start wrong n block b s =
-    subst (encoders.StandsFor encoder past) (ap (λ z. sent_bits start wrong n ++ bits_of_bytes (marked_block z)) b
+    subst (encoders.EncoderStandsFor encoder past)
+    (ap (λ z. sent_bits start wrong n ++ bits_of_bytes (marked_block z)) b
     ∙ sym (sent_bits-more start wrong n)) s
 
 pub symbols_at-is : (start wrong n : ℕ) (block : List ℕ) (symbols : List ℤ) → block ≡ block_at start wrong n

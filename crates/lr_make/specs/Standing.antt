@@ -1,5 +1,5 @@
--- What stands for how much of the stream. Callers need `StandsFor` alone, and nothing of what is in it; only functions
--- inside the crate speak of the rest.
+-- What stands for how much of the stream. Callers need `MakerStandsFor` alone, and nothing of what is in it; only
+-- functions inside the crate speak of the rest.
 use Rattle.std.specs.Prelude.{◌≡◌, ℕ, ◌+◌, ◌-◌, ◌*◌, ◌/◌, ◌%◌, ◌^◌, ◌<◌, ◌≤◌, ◌++◌, ◌==◌, ◌&&◌, if◌then◌else◌, Bool}
 use Rattle.std.specs.Prelude.{false, ℤ, min, List, length, map, drop, replicate, slice_index}
 use Rattle.lr_bits.specs.declared.sizes.TheConstants.{FRAME_COUNTS, NO_PACKET_START, SEQUENCE_COUNTS, ZONE_BYTES}
@@ -27,7 +27,7 @@ pub record ImagesStandFor (images : Images) (start n : ℕ) : Type 0 where
   pub count : images.count ≡ n % SEQUENCE_COUNTS
   pub draws : images.draws ≡ state_after start (4096 * (n / 65) + 64 * (n % 65 - 1))
 
--- n packets of images were sent, and the bytes of the next one are drawn
+-- n packets of images were made, and the bytes of the next one are drawn
 pub record ImagesDrawn (images : Images) (start n : ℕ) : Type 0 where
   pub counter : images.counter ≡ n / 65 % 65536
   pub place : images.place ≡ n % 65
@@ -54,7 +54,7 @@ SourceStandsFor (sources.Images images) packets n =
 SourceStandsFor (sources.Texts texts) packets n =
     (start : ℕ) × ((p : ℕ) → packets p ≡ text_packet start p) × TextsStandFor texts start n
 
--- The channel has sent this many bytes of these packets, joined: all packets that start before that place were made,
+-- The channel has given this many bytes of these packets, joined: all packets that start before that place were made,
 -- and what is left of the last one is what is left of them.
 pub record ChannelStandsFor (channel : Channel) (packets : ℕ → List ℕ) (place : ℕ) : Type 0 where
   pub made : ℕ
@@ -81,13 +81,13 @@ abbrev pub text_frames : ℕ → ℕ
 text_frames n = n / 4 + (n % 4 - 2)
 
 -- n frames were made
-pub record FramesStandFor (frames : Frames) (start n : ℕ) : Type 0 where
+pub record MadeFramesStandFor (frames : Frames) (start n : ℕ) : Type 0 where
   pub images : ChannelStandsFor frames.images (image_packet start) (ZONE_BYTES * image_frames n)
   pub texts : ChannelStandsFor frames.texts (text_packet (text_start start)) (ZONE_BYTES * text_frames n)
   pub round : frames.round ≡ n / 4 % FRAME_COUNTS
   pub turn : frames.turn ≡ n % 4
 
--- n frames were sent, and the channel of the next frame has sent its zone
+-- n frames were made, and the channel of the next frame has given its zone
 pub record FramesSent (frames : Frames) (start n : ℕ) : Type 0 where
   pub images : ChannelStandsFor frames.images (image_packet start) (ZONE_BYTES * image_frames (n + 1))
   pub texts : ChannelStandsFor frames.texts (text_packet (text_start start)) (ZONE_BYTES * text_frames (n + 1))
@@ -99,7 +99,7 @@ abbrev pub IsCodeOf : List Bool → List Bool → List Bool → List ℤ → Typ
 IsCodeOf past bits more symbols = symbols ≡ map level (drop (2 * length bits) (code STANDARD past (bits ++ more)))
 
 -- The maker has made the first n frames of the stream with this start and `wrong` wrong bytes in each word.
-pub record StandsFor (maker : Maker) (start wrong n : ℕ) : Type 0 where
-  pub frames : FramesStandFor maker.frames start n
+pub record MakerStandsFor (maker : Maker) (start wrong n : ℕ) : Type 0 where
+  pub frames : MadeFramesStandFor maker.frames start n
   pub damage : maker.wrong ≡ wrong
-  pub encoder : encoders.StandsFor maker.encoder (replicate 6 false) (sent_bits start wrong n)
+  pub encoder : encoders.EncoderStandsFor maker.encoder (replicate 6 false) (sent_bits start wrong n)

@@ -1,7 +1,6 @@
 -- What a whole run comes to, by what was loaded, what was taken, and how the files were merged.
 use Rattle.std.proofs.Common.{◌≡◌, ◌<◌, ◌-◌, ◌⊎◌, inl, inr, ⊎_elim, ℕ, List, [], ◌∷◌, ◌++◌, length}
-use Rattle.std.proofs.Common.{refl, sym, ◌∙◌, ap, subst, arith}
-use Rattle.std.proofs.Common.{Result, Err, IfErr, MatchResult}
+use Rattle.std.proofs.Common.{refl, sym, ◌∙◌, ap, subst, arith, Result, Err, IfErr, MatchResult}
 use Rattle.lr_bits.specs.declared.placed.Placed.{Placed}
 use Rattle.lr_bits.specs.Faults.{Rose}
 use Rattle.lr_conv.specs.declared.line.LineCode.{LineCode}
@@ -17,9 +16,9 @@ use Rattle.lr_shelf_format.proofs.WayLemmas.{has_one_way}
 use Rattle.lr_shelf.specs.Adding.{StaysOutside}
 use Rattle.lr_shelf.specs.Adds.{last_gate}
 use Rattle.lr_shelf.specs.Append.{item_for}
-use Rattle.lr_shelf.specs.Calls.{IsCounted}
-use Rattle.lr_shelf.specs.Fronts.{way_with_files}
-use Rattle.lr_shelf.specs.Grounds.{Ground, OfItems, OfWay, IsSettledOn, LeavesFronts, StandsWith}
+use Rattle.lr_shelf.specs.Calls.{IsFaultCounted}
+use Rattle.lr_shelf.specs.Prefixes.{way_with_files}
+use Rattle.lr_shelf.specs.InitialShelves.{InitialShelf, OfItems, OfWay, IsSettledOn, LeavesPrefixes, StandsWith}
 use Rattle.lr_shelf.specs.Kept.{kept_by}
 use Rattle.lr_shelf.specs.Load.{IsLoadRefusal, Loads, MayRefuseAt}
 use Rattle.lr_shelf.specs.Shelf.{HasEitherWay, IsDurable}
@@ -30,9 +29,9 @@ use Rattle.lr_shelf.specs.declared.error.ShelfError.TheVariants.{
   NotAShelf as NotAShelf',
   NoMemory as NoMemory',
 }
-use Rattle.lr_shelf.proofs.GroundFronts.{begun_items, begun_way, front_none, fronts_of_more, settled_on_items}
-use Rattle.lr_shelf.proofs.GroundFronts.{still_holds, still_left}
-use Rattle.lr_causes.specs.Causes.{MayEndBefore, Counts, IsCaused, counts}
+use Rattle.lr_shelf.proofs.InitialPrefixes.{begun_items, begun_way, front_none, fronts_of_more, settled_on_items}
+use Rattle.lr_shelf.proofs.InitialPrefixes.{still_holds, still_left}
+use Rattle.lr_causes.specs.Causes.{MayEndBefore, FaultCounts, IsCaused, counts}
 use Rattle.lr_refusals.specs.Errors.{cause_of}
 use Rattle.lr_causes.specs.declared.fault.BundleFlaw.{BundleFlaw}
 use Rattle.lr_causes.specs.declared.cause.Cause.{Cause}
@@ -44,7 +43,7 @@ use Rattle.lr_downlinks.specs.Bundles.{IsBundle}
 use Rattle.lr_downlinks.specs.Merge.{IsWhole, merge}
 use Rattle.lr_downlinks.specs.Room.{AllFit}
 use Rattle.lr_downlinks.specs.Runs.{MergeEnds, MergesOver, NextDoesNotFitBy}
-use Rattle.lr_downlinks.specs.Since.{HasAppended, MayHaveAppended}
+use Rattle.lr_downlinks.specs.Appended.{HasAppended, MayHaveAppended}
 use Rattle.lr_downlinks.specs.Streams.{files_of_downlink}
 use Rattle.lr_downlinks.specs.declared.run.Run.{Run}
 use Rattle.lr_downlinks.specs.declared.run.RunEnd.{RunEnd}
@@ -65,16 +64,16 @@ module _ {D : Type 0} (disk : DiskOf D) (shelf : Shelf) (d d1 : D) (ready : IsRe
   kept_way way t is =
       (has_one_way (disk.contents d)).way (kept_by shelf).way way (way_read disk d d1 shelf ready t) is
 
-  -- the shelf, as it was loaded, is the one of this ground, and nothing else stood on the disk
-  record BeginsOn (ground : Ground) : Type 0 where
-    settled : IsSettledOn ground [] disk shelf d1
-    alone : LeavesFronts disk ground [] d d1
+  -- the shelf, as it was loaded, is the one of this initial shelf, and nothing else stood on the disk
+  record BeginsOn (initial : InitialShelf) : Type 0 where
+    settled : IsSettledOn initial [] disk shelf d1
+    alone : LeavesPrefixes disk initial [] d d1
 
-  alone_on : (ground : Ground) → disk.tells d → StandsWith ground [] (disk.contents d)
-      → NothingPending disk d → LeavesFronts disk ground [] d d1
-  alone_on ground t stands only =
-      weaker disk.moment disk.left_since d d1 _ _ (front_none ground)
-      (still_left disk ground d d1 (ready.unwritten t) stands only)
+  alone_on : (initial : InitialShelf) → disk.tells d → StandsWith initial [] (disk.contents d)
+      → NothingPending disk d → LeavesPrefixes disk initial [] d d1
+  alone_on initial t stands only =
+      weaker disk.moment disk.left_since d d1 _ _ (front_none initial)
+      (still_left disk initial d d1 (ready.unwritten t) stands only)
 
   on_items : (capacity : ℕ) (items : List Item) → disk.tells d → IsDurable disk capacity items d
       → BeginsOn (OfItems capacity items)
@@ -97,19 +96,19 @@ module _ {D : Type 0} (disk : DiskOf D) (shelf : Shelf) (d d1 : D) (ready : IsRe
         alone = alone_on (OfWay way (disk.contents d)) t begun only;
       }
 
-  module _ (d' : D) (files : List Placed) (ground : Ground) (begins : BeginsOn ground) where
-    fronts_since : (all : List Placed) → LeavesFronts disk ground all d1 d' → LeavesFronts disk ground all d d'
+  module _ (d' : D) (files : List Placed) (initial : InitialShelf) (begins : BeginsOn initial) where
+    fronts_since : (all : List Placed) → LeavesPrefixes disk initial all d1 d' → LeavesPrefixes disk initial all d d'
     fronts_since all fronts =
-        joined disk.moment disk.left_since d d1 d' _ (fronts_of_more disk ground d d1 d' [] begins.alone all) fronts
+        joined disk.moment disk.left_since d d1 d' _ (fronts_of_more disk initial d d1 d' [] begins.alone all) fronts
 
-    added_on : HasAppended disk shelf d1 files d' → AddsAllOn disk files d d' ground
+    added_on : HasAppended disk shelf d1 files d' → AddsAllOn disk files d d' initial
     added_on has =
-        let on = has.on ground begins.settled in record { now = on.0; any_moment = fronts_since files on.1 }
+        let on = has.on initial begins.settled in record { now = on.0; any_moment = fronts_since files on.1 }
 
     broken_on : (placed : Placed) → MayHaveAppended disk shelf d1 files placed d'
-        → BreaksOn disk files d d' placed ground
+        → BreaksOn disk files d d' placed initial
     broken_on placed has =
-        let on = has.on ground begins.settled in
+        let on = has.on initial begins.settled in
         record { now = on.0; any_moment = fronts_since (files ++ placed ∷ []) on.1 }
 
 module _ {D : Type 0} (disk : DiskOf D) (shelf : Shelf) (d d1 d' : D) (ready : IsReady disk d d1 shelf)
@@ -477,7 +476,7 @@ module _ {S D O : Type 0} (source : SourceOf S) (disk : DiskOf D) (out : SinkOf 
     complete = λ no_fault streams bundle few way t is fit. whole no_fault way t is;
   }
 
-  by_error : (error : ShelfError) → IsCounted {A = Shelf} (disk.faults d) (disk.faults d1) (Err error)
+  by_error : (error : ShelfError) → IsFaultCounted {A = Shelf} (disk.faults d) (disk.faults d1) (Err error)
       → IsLoadRefusal disk d error
       → ((at : ℕ) → disk.tells d → IsNoShelfAt (disk.contents d) at → MayRefuseAt at error)
       → DownlinksRun (world_of source disk out) line (cause_of error) (outside s d o) (outside s d1 o)
@@ -495,14 +494,15 @@ module _ {S D O : Type 0} (source : SourceOf S) (disk : DiskOf D) (out : SinkOf 
       → DownlinksRun (world_of source disk out) line (cause_of error) (outside s d o) (outside s d1 o)
   not_loaded error is =
       by_error error
-      (subst (λ (r : Result Shelf ShelfError). IsCounted (disk.faults d) (disk.faults d1) r) is loads.calls.counted)
+      (subst (λ (r : Result Shelf ShelfError). IsFaultCounted (disk.faults d) (disk.faults d1) r) is
+      loads.calls.counted)
       (subst (λ (r : Result Shelf ShelfError). IfErr r (IsLoadRefusal disk d)) is loads.refused)
       (λ at t no.
       subst (λ (r : Result Shelf ShelfError). MatchResult r (λ _. ⊥) (MayRefuseAt at)) is (loads.broken at t no))
 
 -- ---- a cause names a party only where its count rose
 
-pub is_caused : (cause : Cause) (before now : Counts) → AreCounted cause before now → IsCaused cause before now
+pub is_caused : (cause : Cause) (before now : FaultCounts) → AreCounted cause before now → IsCaused cause before now
 is_caused (Failed Source) before now counted = counted.0
 is_caused (Failed Disk) before now counted = counted.0
 is_caused (Failed Output) before now counted = counted.0

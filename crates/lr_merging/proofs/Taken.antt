@@ -3,7 +3,7 @@ use Rattle.std.proofs.Common.{◌≡◌, ◌≤◌, ℕ, List, [], ◌++◌, len
 use Rattle.std.proofs.Common.{append_assoc}
 use Rattle.lr_bits.specs.declared.refusals.Failed.{Failed}
 use Rattle.lr_io.specs.declared.source.Source.{Ghosts as SourceOf}
-use Rattle.lr_merging.specs.Taking.{most_taken, WantsMemory}
+use Rattle.lr_merging.specs.Taking.{most_taken, TakingWantsMemory}
 use Rattle.lr_reading.specs.Reading.{IsRead, StopsAtFault}
 
 module _ {S : Type 0} (source : SourceOf S) where
@@ -46,7 +46,7 @@ module _ {S : Type 0} (source : SourceOf S) where
 
     -- memory was refused for it
     pub wants_more : (source.tells s1 → source.left s1 ≡ piece ++ source.left s2)
-        → source.faults s2 ≡ source.faults s1 → length (bytes ++ piece) ≤ most_taken → WantsMemory source s s2
+        → source.faults s2 ≡ source.faults s1 → length (bytes ++ piece) ≤ most_taken → TakingWantsMemory source s s2
     wants_more moved same few =
         let more = took_more moved same in
         record { bytes = bytes ++ piece; read = is_read (bytes ++ piece) s s2 more few; count = more.count }

@@ -13,7 +13,7 @@ use Rattle.lr_shelf.specs.Adding.{StaysOutside}
 use Rattle.lr_shelf.specs.Append.{item_for}
 use Rattle.lr_shelf.specs.Shelf.{HasEitherWay, IsDurable}
 use Rattle.lr_forms.specs.declared.forms.Stop.TheVariants.{End, Fault}
-use Rattle.lr_causes.specs.Causes.{Counts, MayEndBefore}
+use Rattle.lr_causes.specs.Causes.{FaultCounts, MayEndBefore}
 use Rattle.lr_causes.specs.Outside.{NoFault, Outside, World, counts_in}
 use Rattle.lr_causes.specs.Puts.{Puts, PutFails}
 use Rattle.lr_causes.specs.declared.fault.BundleFlaw.{BundleFlaw}
@@ -26,8 +26,8 @@ use Rattle.lr_downlinks.specs.Merge.{IsNextOf, IsOrder, IsWhole, merge}
 use Rattle.lr_downlinks.specs.Receipts.{HasFileAt, receipt_at}
 use Rattle.lr_downlinks.specs.Room.{AllFit}
 use Rattle.lr_downlinks.specs.Runs.{NextDoesNotFitBy}
-use Rattle.lr_shelf.specs.Fronts.{way_with_files}
-use Rattle.lr_shelf.specs.Grounds.{OfItems, OfWay, Ground, HoldsEitherOn, HoldsStill, LeavesFronts}
+use Rattle.lr_shelf.specs.Prefixes.{way_with_files}
+use Rattle.lr_shelf.specs.InitialShelves.{OfItems, OfWay, InitialShelf, HoldsEitherOn, HoldsStill, LeavesPrefixes}
 use Rattle.lr_downlinks.specs.Streams.{files_of_downlink}
 use Rattle.lr_merging.specs.Lines.{receipt_lines, last_line}
 use Rattle.lr_merging.specs.Taking.{AreAllTaken, HasFlaw, most_taken}
@@ -35,7 +35,7 @@ use Rattle.lr_reading.specs.Reading.{IsRead, EndsFor}
 
 -- The counts for each cause. The first event decides, but for this: after the files were put onto the shelf, `out`
 -- may fail in the receipts, and the cause stays.
-abbrev pub AreCounted : Cause → Counts → Counts → Type 0
+abbrev pub AreCounted : Cause → FaultCounts → FaultCounts → Type 0
 AreCounted (Failed Source) before now =
     Rose before.source now.source × (now.disk ≡ before.disk) × (now.output ≡ before.output)
 AreCounted (Failed Disk) before now = Rose before.disk now.disk × (now.source ≡ before.source)
@@ -57,15 +57,15 @@ IsBefore _ = ⊥
 -- ---- the files of all downlinks, merged in an order
 
 module _ {D : Type 0} (disk : DiskOf D) (files : List Placed) (d d' : D) where
-  -- what was there and these files stand on the disk, and a stop at any moment leaves a front of them
-  pub record AddsAllOn (ground : Ground) : Type 0 where
-    pub now : HoldsStill ground files disk d'
-    pub any_moment : LeavesFronts disk ground files d d'
+  -- what was there and these files stand on the disk, and a stop at any moment leaves a prefix of them
+  pub record AddsAllOn (initial : InitialShelf) : Type 0 where
+    pub now : HoldsStill initial files disk d'
+    pub any_moment : LeavesPrefixes disk initial files d d'
 
   -- these files were added, and the disk failed in the next one: that is there, or it isn't
-  pub record BreaksOn (placed : Placed) (ground : Ground) : Type 0 where
-    pub now : HoldsEitherOn disk ground files placed d'
-    pub any_moment : LeavesFronts disk ground (files ++ placed ∷ []) d d'
+  pub record BreaksOn (placed : Placed) (initial : InitialShelf) : Type 0 where
+    pub now : HoldsEitherOn disk initial files placed d'
+    pub any_moment : LeavesPrefixes disk initial (files ++ placed ∷ []) d d'
 
 module _ {D : Type 0} (disk : DiskOf D) (count : ℕ) (files : ℕ → List Placed)
     (order : List ℕ) (d d' : D) where

@@ -21,7 +21,7 @@ use Rattle.lr_reading.specs.Reading.{IsRead, EndsFor}
 
 -- the most bytes that are taken: one more than a bundle can have
 abbrev pub most_taken : ℕ
-most_taken = (MOST_BUNDLE_BYTES + 1)
+most_taken = MOST_BUNDLE_BYTES + 1
 
 abbrev pub flaw_of : BundleFault → BundleFlaw
 flaw_of (EndedAt at) = Ended at
@@ -45,7 +45,7 @@ module _ {S : Type 0} (source : SourceOf S) where
     pub reason : EndsFor source stop most_taken bytes s s'
 
   -- memory was refused while bytes were taken
-  pub record WantsMemory (s s' : S) : Type 0 where
+  pub record TakingWantsMemory (s s' : S) : Type 0 where
     pub bytes : List ℕ
     pub read : IsRead source most_taken bytes s s'
     pub count : source.faults s' ≡ source.faults s

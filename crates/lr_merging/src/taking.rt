@@ -1,6 +1,6 @@
 //! A bundle is taken whole.
 ghost use Rattle.std.specs.Prelude.{◌≡◌, IfOk, IfErr};
-ghost use Rattle.lr_merging.specs.Taking.{TakesBytes, WantsMemory, TakesBundle, TakesNone, flaw_of};
+ghost use Rattle.lr_merging.specs.Taking.{TakesBytes, TakingWantsMemory, TakesBundle, TakesNone, flaw_of};
 
 use lr_bits::{Bytes, Failed, NoMemory};
 use lr_causes::{BundleFlaw, Cause, Party, Refusal};
@@ -18,7 +18,7 @@ const MOST_TAKEN: usize = MOST_BUNDLE_BYTES + 1;
 /// Takes the bytes of the source up to its end, or as many as are taken at most.
 fn take_bytes<S: Source>(alloc: Global, source: &mut S) -> Result<(Bytes, Stop), NoMemory>
     ensures taken { IfOk result (λ taken. TakesBytes S.Source taken.0 taken.1 source.old source.new) }
-    ensures refused { IfErr result (λ _. WantsMemory S.Source source.old source.new) }
+    ensures refused { IfErr result (λ _. TakingWantsMemory S.Source source.old source.new) }
 {
     let mut bytes = Bytes::new(alloc);
     let mut piece = [0; PIECE_BYTES];

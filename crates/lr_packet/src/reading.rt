@@ -10,7 +10,7 @@ use lr_bits::{IDLE_APPLICATION, PACKET_HEADER_BYTES, RawPacket, crc16, field};
 /// The bytes of a checksum.
 const CRC_BYTES: usize = 2;
 
-/// The fields of the packet's header.
+/// The fields of the packet's header (CCSDS 133.0-B, section 4.1), whose length is the number of all bytes less 6.
 pub fn head(raw: &RawPacket) -> PacketHead
     ensures { IsHeadOf raw.now result }
 {
@@ -26,7 +26,9 @@ pub fn head(raw: &RawPacket) -> PacketHead
     }
 }
 
-/// The packet with its body, where it is good, and otherwise the first rule that it breaks.
+/// The packet with its body, where it is good, and otherwise the first rule that it breaks. The rules are, in this
+/// order: its version is 0; its application isn't that of idle packets; its data field has two bytes or more, the last
+/// of which are the checksum of those before. Its type and its secondary header flag take no part.
 pub fn check(raw: &RawPacket) -> Result<GoodPacket<'_>, PacketFault>
     ensures { IsVerdictOf raw.now result }
 {

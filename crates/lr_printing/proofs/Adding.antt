@@ -5,7 +5,7 @@ use Rattle.std.proofs.lemmas.List.Elements.{All-push}
 use Rattle.lr_bits.specs.Packet.{Packet}
 use Rattle.lr_bits.specs.declared.sizes.TheConstants.{FRAME_BYTES, ZONE_BYTES}
 use Rattle.lr_vc.specs.Frame.{Fields, frame_of}
-use Rattle.lr_vc.specs.Runs.{AreFrames}
+use Rattle.lr_vc.specs.Runs.{AreChannelFrames}
 use Rattle.lr_vc.specs.Packets.{packets_at, packets_of}
 use Rattle.lr_reading.proofs.Outcomes.{zone_is}
 use Rattle.lr_printing.specs.Packets.{frames_read, packets_read, lines_from, lines_of_packets}
@@ -19,7 +19,7 @@ unfolding packets_added
 added_is frames frame more is = ap (drop (length (packets_read frames))) is
     ∙ drop-append_seam (packets_read frames) more
 
-pub packets_read-push : (frames : List (List ℕ)) (frame : List ℕ) → AreFrames (frames_read frames)
+pub packets_read-push : (frames : List (List ℕ)) (frame : List ℕ) → AreChannelFrames (frames_read frames)
     → length frame ≡ FRAME_BYTES
     → packets_read (frames ++ frame ∷ []) ≡ packets_read frames ++ packets_added frames frame
 packets_read-push frames frame all whole = cases (frame_of frame) refl where
@@ -39,7 +39,7 @@ pub lines_of_packets-none : lines_of_packets [] ≡ []
 unfolding lines_of_packets packets_read frames_read packets_of
 lines_of_packets-none = lines_from-none 0
 
-pub lines_of_packets-push : (frames : List (List ℕ)) (frame : List ℕ) → AreFrames (frames_read frames)
+pub lines_of_packets-push : (frames : List (List ℕ)) (frame : List ℕ) → AreChannelFrames (frames_read frames)
     → length frame ≡ FRAME_BYTES
     → lines_of_packets (frames ++ frame ∷ []) ≡ lines_of_packets frames ++ lines_added frames frame
 unfolding lines_of_packets lines_added

@@ -1,10 +1,42 @@
 -- `decode` goes on by one outcome, and what it puts in all.
-use Rattle.std.proofs.Common.{◌≡◌, ℕ, ◌+◌, ◌-◌, ◌≤◌, not, List, [], ◌∷◌, ◌++◌, length, ap, ◌∙◌, sym, refl, subst, arith}
+use Rattle.std.proofs.Common.{
+  ◌≡◌,
+  ◌⊎◌,
+  ℕ,
+  ℤ,
+  ◌+◌,
+  ◌-◌,
+  ◌<◌,
+  ◌≤◌,
+  not,
+  List,
+  [],
+  ◌∷◌,
+  ◌++◌,
+  length,
+  length-drop,
+  map,
+  take,
+  drop,
+  ap,
+  ◌∙◌,
+  sym,
+  refl,
+  subst,
+  arith,
+  append-nil,
+  inl,
+  inr,
+  ⊎_elim,
+}
+use Rattle.std.proofs.lemmas.Bool.{cases_lt}
 use Rattle.std.specs.Prelude.{count_by, cond}
-use Rattle.std.proofs.lemmas.List.{map-append}
+use Rattle.std.proofs.lemmas.List.{length-map, map-append, take-append-drop, take-map}
 use Rattle.std.proofs.lemmas.List.Sums.{count_by-le-length, sum_by-append, sum_by-cons}
 use Rattle.lr_bits.specs.declared.outcome.Outcome.{Outcome}
 use Rattle.lr_conv.specs.Marker.{tail_of}
+use Rattle.lr_conv.specs.declared.line.LineCode.{LineCode}
+use Rattle.lr_lock.specs.declared.frame.Frame.{Frame}
 use Rattle.lr_lock.specs.FramesOf.{frames_of}
 use Rattle.lr_lock.specs.Symbols.{symbols_of}
 use Rattle.lr_io.specs.declared.source.Source.{Ghosts as SourceOf}
@@ -23,12 +55,13 @@ use Rattle.lr_reading.specs.Arrivals.{
 }
 use Rattle.lr_reading.specs.Inputs.{unit_bytes, outcome_of_unit, outcomes_of_bytes, bytes_left_over}
 use Rattle.lr_reading.specs.Lines.{numbered_lines}
-use Rattle.lr_reading.specs.Reading.{units_of}
+use Rattle.lr_reading.specs.Reading.{units_of, WhenLastAsked}
+use Rattle.lr_reading.specs.Readers.{leeway_for, most_when_asked}
 use Rattle.lr_reading.specs.Runs.{ReadsInput, TakesAll, TakesSome}
 use Rattle.lr_reading.specs.declared.arrival.Arrival.{Arrival}
 use Rattle.lr_forms.specs.declared.forms.Input.{Input}
 use Rattle.lr_forms.specs.declared.forms.Input.TheVariants.{Symbols, Units}
-use Rattle.lr_reading.specs.declared.totals.Totals.{Totals}
+use Rattle.lr_reading.specs.declared.read_counts.ReadCounts.{ReadCounts}
 use Rattle.lr_reading.proofs.Coming.{outcomes_are, outcomes_counted}
 use Rattle.lr_reading.proofs.Numbered.{
   numbered_lines-none,
@@ -36,16 +69,27 @@ use Rattle.lr_reading.proofs.Numbered.{
   numbered_lines-push,
   numbered_lines-map,
 }
+use Rattle.lr_reading.proofs.Fronts.{take_on}
 use Rattle.lr_reading.proofs.Outcomes.{both_kinds}
+use Rattle.lr_catalog.specs.Outcomes.{window_line}
+use Rattle.lr_frame.specs.Outcomes.{outcome_in}
 use Rattle.lr_printing.specs.declared.outcome_lines.OutcomeLines.{OutcomeLines}
-use Rattle.lr_printing.specs.Decode.{lines_of_units, lines_of_windows, decode_text, decode_last, decode_count}
+use Rattle.lr_printing.specs.Decode.{
+  all_but,
+  lines_of_units,
+  lines_of_windows,
+  decode_text,
+  decode_due,
+  decode_last,
+  decode_count,
+}
 use Rattle.lr_printing.specs.DecodeTaken.{OutcomesTook, OutcomesStopped}
 use Rattle.lr_printing.specs.OutcomeLines.{outcome_text, text_of_outcomes}
 use Rattle.lr_causes.specs.Outside.{pipe, pipe_of}
 use Rattle.lr_printing.specs.Printing.{Prints}
 use Rattle.lr_printing.specs.Progress.{LinesStop}
 use Rattle.lr_causes.proofs.Joining.{puts_both, puts_none}
-use Rattle.lr_printing.proofs.Lines.{lines_stop, lines_stopped}
+use Rattle.lr_printing.proofs.Lines.{IsDue, due_first, due_put, lines_stop, lines_stopped}
 
 abbrev line_of : ℕ → Arrival → List ℕ
 line_of place arrival = outcome_text place arrival.position arrival.outcome
@@ -73,6 +117,74 @@ text_first : (passed rest : List Arrival)
     → (later : List ℕ) × (text_of_outcomes (passed ++ rest) ≡ text_of_outcomes passed ++ later)
 text_first passed rest =
     (numbered_lines line_of (0 + length passed) rest, numbered_lines-append line_of 0 passed rest)
+
+text_grows : (arrivals first rest : List Arrival) → arrivals ≡ first ++ rest
+    → (later : List ℕ) × (text_of_outcomes arrivals ≡ text_of_outcomes first ++ later)
+text_grows arrivals first rest is =
+    let front = text_first first rest in (front.0, ap (λ (l : List Arrival). text_of_outcomes l) is ∙ front.1)
+
+-- the lines that are due are those of all arrivals but the last few
+few_left : (arrivals : List Arrival) (most : ℕ)
+    → (most ≤ length (drop (length arrivals - most) arrivals)) ⊎ (take (length arrivals - most) arrivals ≡ [])
+few_left arrivals most = ⊎_elim
+    (λ (short : length arrivals < most). inr (let none : length arrivals - most ≡ 0 = omega arith in
+    ap (λ (n : ℕ). take n arrivals) none))
+    (λ (long : most ≤ length arrivals). inl (omega (arith, length-drop (length arrivals - most) arrivals)))
+    (cases_lt (length arrivals) most)
+
+text_due : (line : LineCode) (symbols : List ℤ) (most : ℕ) (frames : List Frame)
+    → text_of_outcomes (all_but most (map (arrival_in line symbols) frames))
+    ≡ lines_of_windows line symbols (all_but most frames)
+unfolding lines_of_windows
+text_due line symbols most frames =
+    ap (λ (n : ℕ). text_of_outcomes (take (n - most) (map (arrival_in line symbols) frames)))
+    (length-map frames (arrival_in line symbols))
+    ∙ ap (λ (l : List Arrival). text_of_outcomes l)
+    (take-map (arrival_in line symbols) (length frames - most) frames)
+    ∙ numbered_lines-map line_of (arrival_in line symbols) 0 (all_but most frames)
+
+outcomes_due : (input : Input) (workers : ℕ) (given : List ℕ)
+    → IsDue input text_of_outcomes (decode_due input workers) (most_when_asked input workers) given
+unfolding arrivals_of
+outcomes_due (Symbols line) workers given =
+    let arrivals : List Arrival = arrivals_of (Symbols line) given in
+    let most : ℕ = most_when_asked (Symbols line) workers in
+    record {
+      first = all_but most arrivals;
+      rest = drop (length arrivals - most) arrivals;
+      split = sym (take-append-drop (length arrivals - most) arrivals);
+      text_is = text_due line (symbols_of given) most (frames_of (tail_of line) (symbols_of given));
+      enough = few_left arrivals most;
+    }
+outcomes_due (Units form) workers given = record {
+  first = arrivals_of (Units form) given;
+  rest = [];
+  split = sym (append-nil (arrivals_of (Units form) given));
+  text_is = text_of_all (Units form) given;
+  enough = inl (omega arith);
+}
+
+-- where more work, fewer lines are due
+windows_grow : (line : LineCode) (symbols : List ℤ) (first rest : List Frame)
+    → (more : List ℕ) × (lines_of_windows line symbols (first ++ rest) ≡ lines_of_windows line symbols first ++ more)
+unfolding lines_of_windows
+windows_grow line symbols first rest =
+    let line_at : ℕ → Frame → List ℕ = λ place frame.
+    window_line place frame.place frame.positive (outcome_in line symbols frame) in
+    (numbered_lines line_at (0 + length first) rest, numbered_lines-append line_at 0 first rest)
+
+pub fewer_due : (input : Input) (few many : ℕ) → most_when_asked input few ≤ most_when_asked input many
+    → (given : List ℕ) → (more : List ℕ) × (decode_due input few given ≡ decode_due input many given ++ more)
+fewer_due (Symbols line) few many le given =
+    let symbols : List ℤ = symbols_of given in
+    let frames : List Frame = frames_of (tail_of line) symbols in
+    let less : ℕ = length frames - most_when_asked (Symbols line) many in
+    let all : ℕ = length frames - most_when_asked (Symbols line) few in
+    let front = windows_grow line symbols (take less frames) (take (all - less) (drop less frames)) in (
+      front.0,
+      ap (λ (l : List Frame). lines_of_windows line symbols l) (take_on frames less all (omega (arith, le))) ∙ front.1,
+    )
+fewer_due (Units form) few many le given = ([], sym (append-nil (decode_text (Units form) given)))
 
 -- ---- how many are restored
 
@@ -106,7 +218,7 @@ few_restored out {before} {now} {arrivals} took = omega (
     length-outcomes [] = refl
     length-outcomes (a ∷ arrivals) = omega (arith, length-outcomes arrivals)
 
-module _ {S : Type 0} (source : SourceOf S) (input : Input) (limit : ℕ) (totals : Totals) (restored : ℕ)
+module _ {S : Type 0} (source : SourceOf S) (input : Input) (limit : ℕ) (totals : ReadCounts) (restored : ℕ)
     (bytes : List ℕ) (s s' : S) (ends : ReadsInput source input limit totals bytes s s')
     (restored_is : restored ≡ count_by is_restored (outcomes_of_bytes input bytes)) where
   frames_are : length (outcomes_of_bytes input bytes) ≡ totals.frames
@@ -177,12 +289,15 @@ module _ {O : Type 0} (out : SinkOf O) where
   module _ {S : Type 0} (source : SourceOf S) (input : Input) (limit : ℕ) {s s' : S} {before now : OutcomeLines O}
       (none : before.outcomes ≡ 0) (none_restored : before.restored ≡ 0) where
     -- all outcomes were taken
-    pub outcomes_put : {totals : Totals} → TakesAll source (OutcomesTook out) input limit totals s s' before now
+    pub outcomes_put : (workers : ℕ) {totals : ReadCounts}
+        → TakesAll source (OutcomesTook out) input limit (leeway_for input workers) totals s s' before now
         → (now.out.ghost_name ≡ before.out.ghost_name) × ((bytes : List ℕ)
         × ReadsInput source input limit totals bytes s s'
         × (now.restored ≡ count_by is_restored (outcomes_of_bytes input bytes))
-        × Puts out (decode_text input bytes) before.out.now now.out.now)
-    outcomes_put all =
+        × Puts out (decode_text input bytes) before.out.now now.out.now
+        × WhenLastAsked source (λ given. (more : List ℕ)
+        × (decode_text input bytes ≡ decode_due input workers given ++ more)) bytes s s')
+    outcomes_put workers all =
         let took = all.taken before (outcomes_begun before none none_restored) in (
           took.same_out,
           (
@@ -190,20 +305,32 @@ module _ {O : Type 0} (out : SinkOf O) where
             all.ends,
             took.restored ∙ ap (λ (l : List Outcome). count_by is_restored l) (sym (outcomes_are input all.bytes)),
             subst (λ (l : List ℕ). Puts out l before.out.now now.out.now) (text_of_all input all.bytes) took.put,
+            subst (λ (l : List ℕ). WhenLastAsked source
+                (λ given. (more : List ℕ) × (l ≡ decode_due input workers given ++ more)) all.bytes s s')
+                (text_of_all input all.bytes)
+                (due_first source input (λ l. text_of_outcomes l) (decode_due input workers)
+                (most_when_asked input workers) (outcomes_due input workers) all.bytes s s'
+                (arrivals_of input all.bytes) (text_grows (arrivals_of input all.bytes)) all.in_time),
           ),
         )
 
     -- they were not
-    pub outcomes_stopped : {waiting : ℕ} (cause : Cause)
-        → TakesSome source (OutcomesTook out) input limit waiting (OutcomesStopped out) cause s s' before now
+    pub outcomes_stopped : (workers : ℕ) (cause : Cause)
+        → TakesSome source (OutcomesTook out) input limit (leeway_for input workers) (OutcomesStopped out) cause s s'
+        before now
         → (now.out.ghost_name ≡ before.out.ghost_name)
-        × Prints (pipe_of source out) (decode_text input) (decode_last input) limit cause (pipe s before.out.now)
-        (pipe s' now.out.now)
-    outcomes_stopped cause some =
+        × Prints (pipe_of source out) (decode_text input) (decode_due input workers) (decode_last input) limit cause
+        (pipe s before.out.now) (pipe s' now.out.now)
+    outcomes_stopped workers cause some =
         let stopped = some.stops before (outcomes_begun before none none_restored) in
         let first = text_first some.passed some.rest in (
           stopped.same_out,
-          lines_stopped source out (decode_text input) (decode_last input) limit some.bytes
+          lines_stopped source out (decode_text input) (decode_due input workers) (decode_last input) limit some.bytes
               (text_of_outcomes some.passed) first.0 s s' before.out.now now.out.now some.read
-              (sym (text_of_all input some.bytes) ∙ ap text_of_outcomes some.split ∙ first.1) cause stopped.stops,
+              (sym (text_of_all input some.bytes) ∙ ap text_of_outcomes some.split ∙ first.1)
+              (due_put source input (λ l. text_of_outcomes l) (decode_due input workers)
+              (most_when_asked input workers) (outcomes_due input workers) some.bytes s s' stopped.others.worked
+              (text_grows stopped.others.worked) out before.out.now now.out.now some.passed stopped.others.late
+              stopped.others.split stopped.others.one stopped.others.got some.in_time)
+              cause stopped.stops,
         )

@@ -1,5 +1,24 @@
 -- `frames` goes on by one frame, and what it puts in all.
-use Rattle.std.proofs.Common.{◌≡◌, ℕ, ◌/◌, ◌%◌, List, [], ◌∷◌, ◌++◌, length, ap, ◌∙◌, sym, refl, subst, arith, ◌+◌}
+use Rattle.std.proofs.Common.{
+  ◌≡◌,
+  ℕ,
+  ◌/◌,
+  ◌%◌,
+  List,
+  [],
+  ◌∷◌,
+  ◌++◌,
+  length,
+  ap,
+  ◌∙◌,
+  sym,
+  refl,
+  subst,
+  arith,
+  ◌+◌,
+  append-nil,
+  inl,
+}
 use Rattle.std.specs.List.{range_with_len}
 use Rattle.std.proofs.lemmas.List.{length-map}
 use Rattle.std.proofs.lemmas.List.FromFn.{length-range_with_len}
@@ -13,12 +32,13 @@ use Rattle.lr_causes.specs.Puts.{Puts, PutStops}
 use Rattle.lr_reading.specs.Arrivals.{arrivals_of, arrivals_of_units, arrival_of}
 use Rattle.lr_reading.specs.Inputs.{outcome_of_unit}
 use Rattle.lr_reading.specs.Lines.{numbered_lines}
-use Rattle.lr_reading.specs.Reading.{unit_of, units_of}
+use Rattle.lr_reading.specs.Reading.{unit_of, units_of, WhenLastAsked}
+use Rattle.lr_reading.specs.Readers.{leeway_for}
 use Rattle.lr_reading.specs.Runs.{ReadsInput, TakesAll, TakesSome}
 use Rattle.lr_reading.specs.declared.arrival.Arrival.{Arrival}
 use Rattle.lr_forms.specs.declared.forms.Input.TheVariants.{Units}
 use Rattle.lr_forms.specs.declared.forms.UnitForm.TheVariants.{Frames}
-use Rattle.lr_reading.specs.declared.totals.Totals.{Totals}
+use Rattle.lr_reading.specs.declared.read_counts.ReadCounts.{ReadCounts}
 use Rattle.lr_reading.proofs.Coming.{arrivals_of_units-counted}
 use Rattle.lr_reading.proofs.Numbered.{
   numbered_lines-none,
@@ -34,7 +54,7 @@ use Rattle.lr_causes.specs.Outside.{pipe, pipe_of}
 use Rattle.lr_printing.specs.Printing.{Prints}
 use Rattle.lr_printing.specs.Progress.{LinesStop}
 use Rattle.lr_causes.proofs.Joining.{puts_both, puts_none}
-use Rattle.lr_printing.proofs.Lines.{lines_stop, lines_stopped}
+use Rattle.lr_printing.proofs.Lines.{IsDue, due_first, due_put, lines_stop, lines_stopped}
 
 abbrev line_of : ℕ → Arrival → List ℕ
 line_of place arrival = frame_text place arrival.outcome
@@ -67,13 +87,28 @@ frames_counted bytes =
     ∙ length-range_with_len 0 (length bytes / FRAME_BYTES)
 
 -- the last line says how many there are, and how long the rest is
-pub frames_last_is : {S : Type 0} (source : SourceOf S) (limit : ℕ) (totals : Totals) (bytes : List ℕ) (s s' : S)
+pub frames_last_is : {S : Type 0} (source : SourceOf S) (limit : ℕ) (totals : ReadCounts) (bytes : List ℕ) (s s' : S)
     → ReadsInput source (Units Frames) limit totals bytes s s'
     → frames_last bytes totals.stop ≡ summary_line (FramesLine totals.frames totals.left) totals.stop
 frames_last_is source limit totals bytes s s' ends =
     ap (λ k. summary_line (FramesLine k (length bytes % FRAME_BYTES)) totals.stop)
     (sym (ends.frames ∙ frames_counted bytes))
     ∙ ap (λ k. summary_line (FramesLine totals.frames k) totals.stop) (sym ends.left)
+
+text_grows : (arrivals first rest : List Arrival) → arrivals ≡ first ++ rest
+    → (later : List ℕ) × (text_of_frames arrivals ≡ text_of_frames first ++ later)
+text_grows arrivals first rest is =
+    let front = text_first first rest in (front.0, ap (λ (l : List Arrival). text_of_frames l) is ∙ front.1)
+
+-- all lines are due
+frames_due : (given : List ℕ) → IsDue (Units Frames) text_of_frames frames_text 0 given
+frames_due given = record {
+  first = arrivals_of (Units Frames) given;
+  rest = [];
+  split = sym (append-nil (arrivals_of (Units Frames) given));
+  text_is = text_of_all given;
+  enough = inl (omega arith);
+}
 
 module _ {O : Type 0} (out : SinkOf O) where
   -- it begins
@@ -104,10 +139,12 @@ module _ {O : Type 0} (out : SinkOf O) where
   module _ {S : Type 0} (source : SourceOf S) (limit : ℕ) {s s' : S} {before now : FrameLines O}
       (none : before.frames ≡ 0) where
     -- all frames were taken
-    pub frames_put : {totals : Totals} → TakesAll source (FramesTook out) (Units Frames) limit totals s s' before now
+    pub frames_put : {totals : ReadCounts}
+        → TakesAll source (FramesTook out) (Units Frames) limit (leeway_for (Units Frames) 1) totals s s' before now
         → (now.out.ghost_name ≡ before.out.ghost_name) × ((bytes : List ℕ)
         × ReadsInput source (Units Frames) limit totals bytes s s'
-        × Puts out (frames_text bytes) before.out.now now.out.now)
+        × Puts out (frames_text bytes) before.out.now now.out.now
+        × WhenLastAsked source (λ given. (more : List ℕ) × (frames_text bytes ≡ frames_text given ++ more)) bytes s s')
     frames_put all =
         let took = all.taken before (frames_begun before none) in (
           took.same_out,
@@ -116,19 +153,30 @@ module _ {O : Type 0} (out : SinkOf O) where
             all.ends,
             subst (λ (l : List ℕ). Puts out l before.out.now now.out.now)
                 (text_of_all all.bytes) took.put,
+            subst (λ (l : List ℕ). WhenLastAsked source (λ given. (more : List ℕ) × (l ≡ frames_text given ++ more))
+                all.bytes s s') (text_of_all all.bytes)
+                (due_first source (Units Frames) (λ l. text_of_frames l) (λ l. frames_text l) 0 frames_due all.bytes
+                s s' (arrivals_of (Units Frames) all.bytes) (text_grows (arrivals_of (Units Frames) all.bytes))
+                all.in_time),
           ),
         )
 
     -- they were not
-    pub frames_stopped : {waiting : ℕ} (cause : Cause)
-        → TakesSome source (FramesTook out) (Units Frames) limit waiting (FramesStopped out) cause s s' before now
+    pub frames_stopped : (cause : Cause)
+        → TakesSome source (FramesTook out) (Units Frames) limit (leeway_for (Units Frames) 1) (FramesStopped out)
+        cause s s' before now
         → (now.out.ghost_name ≡ before.out.ghost_name)
-        × Prints (pipe_of source out) frames_text frames_last limit cause (pipe s before.out.now) (pipe s' now.out.now)
+        × Prints (pipe_of source out) frames_text frames_text frames_last limit cause (pipe s before.out.now)
+        (pipe s' now.out.now)
     frames_stopped cause some =
         let stopped = some.stops before (frames_begun before none) in
         let first = text_first some.passed some.rest in (
           stopped.same_out,
-          lines_stopped source out frames_text frames_last limit some.bytes (text_of_frames some.passed) first.0
-              s s' before.out.now now.out.now
-              some.read (sym (text_of_all some.bytes) ∙ ap text_of_frames some.split ∙ first.1) cause stopped.stops,
+          lines_stopped source out frames_text frames_text frames_last limit some.bytes (text_of_frames some.passed)
+              first.0 s s' before.out.now now.out.now
+              some.read (sym (text_of_all some.bytes) ∙ ap text_of_frames some.split ∙ first.1)
+              (due_put source (Units Frames) (λ l. text_of_frames l) (λ l. frames_text l) 0 frames_due some.bytes s s'
+              stopped.others.worked (text_grows stopped.others.worked) out before.out.now now.out.now some.passed
+              stopped.others.late stopped.others.split stopped.others.one stopped.others.got some.in_time)
+              cause stopped.stops,
         )

@@ -4,6 +4,7 @@ use Rattle.std.proofs.Common.{
   ℕ,
   List,
   [],
+  ◌∷◌,
   ◌++◌,
   length,
   ap,
@@ -17,6 +18,10 @@ use Rattle.std.proofs.Common.{
   length-append,
   inl,
   inr,
+  ◌≤◌,
+  ◌⊎◌,
+  ⊎_elim,
+  drop,
 }
 use Rattle.lr_bits.specs.Faults.{Rose}
 use Rattle.lr_io.specs.declared.source.Source.{Ghosts as SourceOf}
@@ -25,14 +30,20 @@ use Rattle.lr_forms.specs.declared.forms.Stop.{Stop}
 use Rattle.lr_forms.specs.declared.forms.Stop.TheVariants.{End, Limit, Fault}
 use Rattle.lr_causes.specs.Causes.{cause_at}
 use Rattle.lr_causes.specs.declared.cause.Cause.{Cause}
-use Rattle.lr_causes.specs.declared.cause.Cause.TheVariants.{Failed, NoMemory}
-use Rattle.lr_causes.specs.declared.cause.Party.TheVariants.{Output}
+use Rattle.lr_causes.specs.declared.cause.Cause.TheVariants.{Done, Failed, NoMemory}
+use Rattle.lr_causes.specs.declared.cause.Party.TheVariants.{Output, Source}
 use Rattle.lr_causes.proofs.Joining.{puts_both}
-use Rattle.lr_causes.specs.Outside.{pipe, pipe_of}
-use Rattle.lr_printing.specs.Printing.{Prints, PrintsAll}
+use Rattle.lr_causes.specs.Outside.{Pipe, PipeOf, pipe, pipe_of}
+use Rattle.lr_forms.specs.declared.forms.Input.{Input}
+use Rattle.lr_printing.specs.Printing.{GotFirst, Prints, PrintsAll}
 use Rattle.lr_causes.specs.Puts.{Puts, PutStops}
-use Rattle.lr_printing.specs.Progress.{LinesStop}
-use Rattle.lr_reading.specs.Reading.{IsRead, EndsFor}
+use Rattle.lr_printing.specs.Progress.{LinesStop, PutsButLast, PutsSome}
+use Rattle.lr_reading.specs.Arrivals.{arrivals_of}
+use Rattle.lr_reading.specs.Reading.{IsRead, EndsFor, WhenLastAsked}
+use Rattle.lr_reading.specs.Runs.{ComesFirstBut}
+use Rattle.lr_reading.specs.declared.arrival.Arrival.{Arrival}
+use Rattle.lr_reading.proofs.Asking.{when_too}
+use Rattle.lr_reading.proofs.Fronts.{front_of}
 
 -- some lines were put, and the next one wasn't
 pub lines_stop : {O : Type 0} (out : SinkOf O) (front line : List ℕ) (o p o' : O) → Puts out front o p
@@ -57,31 +68,156 @@ lines_stop out front line o p o' put NoMemory stop = record {
 }
 lines_stop out front line o p o' put _ stop = absurd stop
 
-module _ {S O : Type 0} (source : SourceOf S) (out : SinkOf O) (lines : List ℕ → List ℕ) (last : List ℕ → Stop
+module _ {O : Type 0} (out : SinkOf O) (text : List Arrival → List ℕ) (arrivals : List Arrival) (o : O) where
+  -- all text was put
+  pub all_but_none : (o' : O) → Puts out (text arrivals) o o' → PutsButLast out text arrivals o o'
+  all_but_none o' put = record {
+    worked = arrivals;
+    late = [];
+    split = sym (append-nil arrivals);
+    one = omega arith;
+    got = λ tells. (
+      [],
+      put.put tells ∙ ap (λ (l : List ℕ). out.contents o ++ l) (sym (append-nil (text arrivals))),
+    );
+  }
+
+  pub none_stopped : (o' : O) → Puts out (text arrivals) o o' → PutsSome out (text arrivals) o o'
+  none_stopped o' put = record {
+    told = put.told;
+    front = λ tells. record {
+      front = text arrivals;
+      rest = [];
+      split = sym (append-nil (text arrivals));
+      put = put.put tells;
+    };
+    kept = put.kept;
+  }
+
+  -- all text was put, and then the line of one more wasn't
+  pub all_but_one : (arrival : Arrival) (line : List ℕ) (p o' : O) → Puts out (text arrivals) o p → (cause : Cause)
+      → PutStops out line cause p o' → PutsButLast out text (arrivals ++ arrival ∷ []) o o'
+  all_but_one arrival line p o' put cause stops = record {
+    worked = arrivals;
+    late = arrival ∷ [];
+    split = refl;
+    one = omega arith;
+    got = got cause stops;
+  }
+    where
+      got : (cause : Cause) → PutStops out line cause p o' → GotFirst out (text arrivals) o o'
+      got (Failed Output) stop = λ tells.
+          let cut = stop.part (put.told tells) in (
+            cut.part,
+            cut.put ∙ ap (λ (l : List ℕ). l ++ cut.part) (put.put tells)
+                ∙ append_assoc (out.contents o) (text arrivals) cut.part,
+          )
+      got NoMemory stop = λ tells. (
+        [],
+        ap out.contents stop ∙ put.put tells
+            ∙ ap (λ (l : List ℕ). out.contents o ++ l) (sym (append-nil (text arrivals))),
+      )
+      got _ stop = absurd stop
+
+-- ---- the lines that are due
+
+-- the lines due of these bytes are those of their first arrivals: of all but the last ones, this many at most
+pub record IsDue (input : Input) (text : List Arrival → List ℕ) (due : List ℕ → List ℕ) (most : ℕ) (given : List ℕ)
+    : Type 0 where
+  pub first : List Arrival
+  pub rest : List Arrival
+  pub split : arrivals_of input given ≡ first ++ rest
+  pub text_is : text first ≡ due given
+  pub enough : (most ≤ length rest) ⊎ (first ≡ [])
+
+-- and they are the first of these
+abbrev IsFrontOf : (text : List Arrival → List ℕ) → List Arrival → List Arrival → Type 0
+IsFrontOf text first arrivals = (later : List ℕ) × (text arrivals ≡ text first ++ later)
+
+module _ {S : Type 0} (source : SourceOf S) (input : Input) (text : List Arrival → List ℕ) (due : List ℕ → List ℕ)
+    (most : ℕ) (is_due : (given : List ℕ) → IsDue input text due most given) (bytes : List ℕ) (s s' : S)
+    (arrivals : List Arrival)
+    (grows : (first rest : List Arrival) → arrivals ≡ first ++ rest → IsFrontOf text first arrivals) where
+  -- where all was taken
+  pub due_first : WhenLastAsked source (ComesFirstBut input most 0 arrivals) bytes s s'
+      → WhenLastAsked source (λ given. (more : List ℕ) × (text arrivals ≡ due given ++ more)) bytes s s'
+  due_first = when_too source (ComesFirstBut input most 0 arrivals)
+      (λ given. (more : List ℕ) × (text arrivals ≡ due given ++ more)) bytes s s' come
+    where
+      come : (given : List ℕ) → ComesFirstBut input most 0 arrivals given
+          → (more : List ℕ) × (text arrivals ≡ due given ++ more)
+      come given taken =
+          let d = is_due given in
+          let front : IsFrontOf text d.first arrivals = ⊎_elim (λ (enough : most ≤ length d.rest).
+          let later = taken d.first d.rest d.split (inl enough) in grows d.first later.0 later.1)
+          (λ (none : d.first ≡ []). grows d.first arrivals (ap (λ (l : List Arrival). l ++ arrivals) (sym none)))
+          d.enough in
+          (front.0, front.1 ∙ ap (λ (l : List ℕ). l ++ front.0) d.text_is)
+
+  -- where it stopped at one more, at most
+  pub due_put : {O : Type 0} (out : SinkOf O) (o o' : O) (passed late : List Arrival) → passed ≡ arrivals ++ late
+      → length late ≤ 1 → GotFirst out (text arrivals) o o'
+      → WhenLastAsked source (ComesFirstBut input most 1 passed) bytes s s'
+      → WhenLastAsked source (λ given. GotFirst out (due given) o o') bytes s s'
+  due_put {O} out o o' passed late parts one got = when_too source (ComesFirstBut input most 1 passed)
+      (λ given. GotFirst out (due given) o o') bytes s s' come
+    where
+      among : (given : List ℕ) → ComesFirstBut input most 1 passed given → (d : IsDue input text due most given)
+          → most ≤ length d.rest → IsFrontOf text d.first arrivals
+      among given taken d enough =
+          let later = taken d.first d.rest d.split (inl enough) in
+          let same : d.first ++ later.0 ≡ arrivals ++ late = sym later.1 ∙ parts in
+          let le : length d.first ≤ length arrivals = omega (
+            arith,
+            ap (λ (l : List Arrival). length l) same,
+            length-append d.first later.0,
+            length-append arrivals late,
+            later.2,
+            one,
+          ) in
+          grows d.first (drop (length d.first) arrivals) (sym (front_of d.first later.0 arrivals late same le))
+
+      come : (given : List ℕ) → ComesFirstBut input most 1 passed given → GotFirst out (due given) o o'
+      come given taken tells =
+          let d = is_due given in
+          let front : IsFrontOf text d.first arrivals = ⊎_elim
+          (λ (enough : most ≤ length d.rest). among given taken d enough)
+          (λ (none : d.first ≡ []). grows d.first arrivals (ap (λ (l : List Arrival). l ++ arrivals) (sym none)))
+          d.enough in
+          let put = got tells in (
+            front.0 ++ put.0,
+            put.1 ∙ ap (λ (l : List ℕ). out.contents o ++ l)
+                (ap (λ (l : List ℕ). l ++ put.0) (front.1 ∙ ap (λ (l : List ℕ). l ++ front.0) d.text_is)
+                ∙ append_assoc (due given) front.0 put.0),
+          )
+
+module _ {S O : Type 0} (source : SourceOf S) (out : SinkOf O) (lines due : List ℕ → List ℕ) (last : List ℕ → Stop
     → List ℕ) (limit : ℕ) where
   -- the last line was put, whatever the input ended for
   pub printed : (stop : Stop) (s s' : S) (o o' : O)
-      → PrintsAll (pipe_of source out) lines last limit stop (pipe s o) (pipe s' o')
-      → Prints (pipe_of source out) lines last limit (cause_at stop) (pipe s o) (pipe s' o')
+      → PrintsAll (pipe_of source out) lines due last limit stop (pipe s o) (pipe s' o')
+      → Prints (pipe_of source out) lines due last limit (cause_at stop) (pipe s o) (pipe s' o')
   printed End s s' o o' all = inl all
   printed Limit s s' o o' all = inr all
   printed Fault s s' o o' all = all
 
   -- memory was refused before anything was read
-  pub none_read : (s : S) (o : O) → Prints (pipe_of source out) lines last limit NoMemory (pipe s o) (pipe s o)
+  pub none_read : (s : S) (o : O) → Prints (pipe_of source out) lines due last limit NoMemory (pipe s o) (pipe s o)
   none_read s o = record {
     bytes = [];
     read = record { told = λ t. t; moved = λ t. refl; few = omega arith; asked = inl refl };
     told = λ t. t;
     front = λ t. record { front = []; rest = lines []; split = refl; put = sym (append-nil (out.contents o)) };
+    in_time = inl refl;
     out_count = refl;
   }
 
   -- the lines of the bytes read begin with these, which were not all put
   pub lines_stopped : (bytes front later : List ℕ) (s s' : S) (o o' : O) → IsRead source limit bytes s s'
-      → lines bytes ≡ front ++ later → (cause : Cause) → LinesStop out front cause o o'
-      → Prints (pipe_of source out) lines last limit cause (pipe s o) (pipe s' o')
-  lines_stopped bytes front later s s' o o' read all (Failed Output) stop = inl (record {
+      → lines bytes ≡ front ++ later → WhenLastAsked source (λ given. GotFirst out (due given) o o') bytes s s'
+      → (cause : Cause) → LinesStop out front cause o o'
+      → Prints (pipe_of source out) lines due last limit cause (pipe s o) (pipe s' o')
+  lines_stopped bytes front later s s' o o' read all in_time (Failed Output) stop = inl (record {
     bytes = bytes;
     read = read;
     told = stop.told;
@@ -95,9 +231,10 @@ module _ {S O : Type 0} (source : SourceOf S) (out : SinkOf O) (lines : List ℕ
           shorter = omega (arith, ap length all, length-append front later, cut.shorter);
           put = cut.put;
         };
+    in_time = in_time;
     rose = stop.rose;
   })
-  lines_stopped bytes front later s s' o o' read all NoMemory stop = record {
+  lines_stopped bytes front later s s' o o' read all in_time NoMemory stop = record {
     bytes = bytes;
     read = read;
     told = stop.told;
@@ -109,16 +246,17 @@ module _ {S O : Type 0} (source : SourceOf S) (out : SinkOf O) (lines : List ℕ
           split = all ∙ ap (λ (l : List ℕ). l ++ later) some.split ∙ append_assoc some.front some.rest later;
           put = some.put;
         };
+    in_time = in_time;
     out_count = stop.kept;
   }
-  lines_stopped bytes front later s s' o o' read all _ stop = absurd stop
+  lines_stopped bytes front later s s' o o' read all in_time _ stop = absurd stop
 
   module _ (bytes : List ℕ) {s s' : S} {o p : O} (read : IsRead source limit bytes s s') (stop : Stop)
       (reason : EndsFor source stop limit bytes s s') (put : Puts out (lines bytes) o p) (line : List ℕ)
       (is : last bytes stop ≡ line) where
     -- all lines and the last one were put
     pub all_put : {o' : O} → Puts out line p o'
-        → PrintsAll (pipe_of source out) lines last limit stop (pipe s o) (pipe s' o')
+        → PrintsAll (pipe_of source out) lines due last limit stop (pipe s o) (pipe s' o')
     all_put {o'} more = record {
       bytes = bytes;
       read = read;
@@ -130,9 +268,10 @@ module _ {S O : Type 0} (source : SourceOf S) (out : SinkOf O) (lines : List ℕ
     }
 
     -- the last line wasn't put
-    pub last_stopped : (o' : O) (cause : Cause) → PutStops out line cause p o'
-        → Prints (pipe_of source out) lines last limit cause (pipe s o) (pipe s' o')
-    last_stopped o' (Failed Output) failed = inr (record {
+    pub last_stopped : WhenLastAsked source (λ given. (more : List ℕ) × (lines bytes ≡ due given ++ more)) bytes s s'
+        → (o' : O) (cause : Cause) → PutStops out line cause p o'
+        → Prints (pipe_of source out) lines due last limit cause (pipe s o) (pipe s' o')
+    last_stopped in_time o' (Failed Output) failed = inr (record {
       bytes = bytes;
       stop = stop;
       read = read;
@@ -149,7 +288,7 @@ module _ {S O : Type 0} (source : SourceOf S) (out : SinkOf O) (lines : List ℕ
           };
       rose = subst (λ k. Rose k (out.faults o')) put.kept failed.rose;
     })
-    last_stopped o' NoMemory same = record {
+    last_stopped in_time o' NoMemory same = record {
       bytes = bytes;
       read = read;
       told = λ tells. subst (λ x. out.tells x) (sym same) (put.told tells);
@@ -159,6 +298,80 @@ module _ {S O : Type 0} (source : SourceOf S) (out : SinkOf O) (lines : List ℕ
         split = sym (append-nil (lines bytes));
         put = ap out.contents same ∙ put.put tells;
       };
+      in_time = when_too source (λ given. (more : List ℕ) × (lines bytes ≡ due given ++ more))
+          (λ given. GotFirst out (due given) o o') bytes s s' (λ given first tells. (
+            first.0,
+            ap out.contents same ∙ put.put tells ∙ ap (λ (l : List ℕ). out.contents o ++ l) first.1,
+          )) in_time;
       out_count = ap out.faults same ∙ put.kept;
     }
-    last_stopped o' _ wrong = absurd wrong
+    last_stopped in_time o' _ wrong = absurd wrong
+
+-- ---- where fewer lines are due
+
+module _ {S O : Type 0} (world : PipeOf S O) (lines due fewer : List ℕ → List ℕ) (last : List ℕ → Stop → List ℕ)
+    (limit : ℕ) (among : (given : List ℕ) → (more : List ℕ) × (due given ≡ fewer given ++ more)) (w w' : Pipe S O) where
+  fewer_put : (bytes : List ℕ)
+      → WhenLastAsked world.source (λ given. GotFirst world.out (due given) w.out w'.out) bytes w.source w'.source
+      → WhenLastAsked world.source (λ given. GotFirst world.out (fewer given) w.out w'.out) bytes w.source w'.source
+  fewer_put bytes = when_too world.source (λ given. GotFirst world.out (due given) w.out w'.out)
+      (λ given. GotFirst world.out (fewer given) w.out w'.out) bytes w.source w'.source (λ given put tells.
+      let got = put tells in
+      let first = among given in (
+        first.0 ++ got.0,
+        got.1 ∙ ap (λ (l : List ℕ). world.out.contents w.out ++ l)
+            (ap (λ (l : List ℕ). l ++ got.0) first.1 ∙ append_assoc (fewer given) first.0 got.0),
+      ))
+
+  pub prints_fewer : (cause : Cause) → Prints world lines due last limit cause w w'
+      → Prints world lines fewer last limit cause w w'
+  prints_fewer Done (inl all) = inl (record {
+    bytes = all.bytes;
+    read = all.read;
+    reason = all.reason;
+    told = all.told;
+    put = all.put;
+    out_count = all.out_count;
+  })
+  prints_fewer Done (inr all) = inr (record {
+    bytes = all.bytes;
+    read = all.read;
+    reason = all.reason;
+    told = all.told;
+    put = all.put;
+    out_count = all.out_count;
+  })
+  prints_fewer (Failed Source) all = record {
+    bytes = all.bytes;
+    read = all.read;
+    reason = all.reason;
+    told = all.told;
+    put = all.put;
+    out_count = all.out_count;
+  }
+  prints_fewer (Failed Output) (inl cut) = inl (record {
+    bytes = cut.bytes;
+    read = cut.read;
+    told = cut.told;
+    part = cut.part;
+    in_time = fewer_put cut.bytes cut.in_time;
+    rose = cut.rose;
+  })
+  prints_fewer (Failed Output) (inr cut) = inr (record {
+    bytes = cut.bytes;
+    stop = cut.stop;
+    read = cut.read;
+    reason = cut.reason;
+    told = cut.told;
+    part = cut.part;
+    rose = cut.rose;
+  })
+  prints_fewer NoMemory stops = record {
+    bytes = stops.bytes;
+    read = stops.read;
+    told = stops.told;
+    front = stops.front;
+    in_time = fewer_put stops.bytes stops.in_time;
+    out_count = stops.out_count;
+  }
+  prints_fewer _ wrong = absurd wrong

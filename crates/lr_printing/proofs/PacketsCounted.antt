@@ -2,7 +2,7 @@
 use Rattle.std.proofs.Common.{◌≡◌, ℕ, ◌+◌, ◌%◌, List, [], ◌∷◌, ◌++◌, length, ap, ◌∙◌, sym, arith, length-append}
 use Rattle.lr_bits.specs.Packet.{Packet}
 use Rattle.lr_bits.specs.declared.sizes.TheConstants.{FRAME_BYTES}
-use Rattle.lr_vc.specs.Standing.{Kept, StandsFor}
+use Rattle.lr_vc.specs.Standing.{KeptChannels, ChannelsStandFor}
 use Rattle.lr_packet.specs.Verdict.{good_packets}
 use Rattle.lr_packet.proofs.VerdictLemmas.{good_packets-append}
 use Rattle.lr_forms.specs.declared.forms.Stop.{Stop}
@@ -13,16 +13,16 @@ use Rattle.lr_reading.specs.Reading.{units_of}
 use Rattle.lr_reading.specs.Runs.{ReadsInput}
 use Rattle.lr_forms.specs.declared.forms.Input.TheVariants.{Units}
 use Rattle.lr_forms.specs.declared.forms.UnitForm.TheVariants.{Frames}
-use Rattle.lr_reading.specs.declared.totals.Totals.{Totals}
+use Rattle.lr_reading.specs.declared.read_counts.ReadCounts.{ReadCounts}
 use Rattle.lr_printing.specs.declared.packet_count.PacketCount.{PacketCount}
 use Rattle.lr_printing.specs.Packets.{frames_read, packets_read, lines_from, packets_count, packets_last}
 use Rattle.lr_printing.specs.Added.{packets_added, lines_added}
-use Rattle.lr_printing.specs.PacketsRead.{IsAfter, IsCounted}
+use Rattle.lr_printing.specs.PacketsRead.{IsAfter, IsPacketCount}
 use Rattle.lr_printing.proofs.Adding.{packets_read-push}
 use Rattle.lr_printing.proofs.FramesGoOn.{frames_counted}
 
 -- what was composed is what is added
-pub lines_are : (channels : Kept) (counted : PacketCount) (frames : List (List ℕ)) (frame : List ℕ)
+pub lines_are : (channels : KeptChannels) (counted : PacketCount) (frames : List (List ℕ)) (frame : List ℕ)
     → IsAfter channels counted frames
     → (cleared items listed : List Packet) → cleared ≡ [] → items ≡ cleared ++ packets_added frames frame
     → listed ≡ items
@@ -37,9 +37,9 @@ lines_are channels counted frames frame after cleared items listed none read sam
     ∙ ap (λ k. lines_from k (packets_added frames frame)) after.all.packets
 
 -- the packets that were counted are those that are added
-pub counted_on : (channels now : Kept) (counted then : PacketCount) (frames : List (List ℕ)) (frame : List ℕ)
+pub counted_on : (channels now : KeptChannels) (counted then : PacketCount) (frames : List (List ℕ)) (frame : List ℕ)
     → IsAfter channels counted frames → length frame ≡ FRAME_BYTES
-    → StandsFor now (frames_read (frames ++ frame ∷ []))
+    → ChannelsStandFor now (frames_read (frames ++ frame ∷ []))
     → (cleared items listed : List Packet) → cleared ≡ [] → items ≡ cleared ++ packets_added frames frame
     → listed ≡ items
     → then.packets ≡ counted.packets + length listed → then.good ≡ counted.good + length (good_packets listed)
@@ -75,7 +75,7 @@ counted_on channels now counted then frames frame after whole stands cleared ite
 
 -- the last line of the packets that were counted
 pub counted_line : (counted : PacketCount) (frames : List (List ℕ)) (count rest : ℕ) (stop : Stop)
-    → IsCounted counted frames → summary_line (Packets count counted.packets counted.good rest) stop
+    → IsPacketCount counted frames → summary_line (Packets count counted.packets counted.good rest) stop
     ≡ packets_count frames count rest stop
 unfolding packets_count
 counted_line counted frames count rest stop all =
@@ -83,7 +83,7 @@ counted_line counted frames count rest stop all =
     ∙ ap (λ k. summary_line (Packets count (length (packets_read frames)) k rest) stop) all.good
 
 -- it says how many frames and packets there are, and how long the rest is
-pub packets_last_is : {S : Type 0} (source : SourceOf S) (limit : ℕ) (totals : Totals) (bytes : List ℕ) (s s' : S)
+pub packets_last_is : {S : Type 0} (source : SourceOf S) (limit : ℕ) (totals : ReadCounts) (bytes : List ℕ) (s s' : S)
     → ReadsInput source (Units Frames) limit totals bytes s s'
     → packets_last bytes totals.stop ≡ packets_count (units_of FRAME_BYTES bytes) totals.frames totals.left totals.stop
 packets_last_is source limit totals bytes s s' ends =

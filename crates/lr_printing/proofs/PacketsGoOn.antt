@@ -17,7 +17,9 @@ use Rattle.std.proofs.Common.{
   refl,
   subst,
   arith,
+  append_assoc,
   append-nil,
+  inl,
   length-append,
   Result,
   Ok,
@@ -38,19 +40,21 @@ use Rattle.lr_bits.specs.Sizes.{most_u64}
 use Rattle.lr_vc.specs.declared.channels.TheConstants.{MOST_ENDING_PACKETS}
 use Rattle.lr_vc.proofs.History.{packets_of-append}
 use Rattle.lr_vc.specs.Frame.{Fields, frame_of}
-use Rattle.lr_vc.specs.Runs.{AreFrames}
+use Rattle.lr_vc.specs.Runs.{AreChannelFrames}
 use Rattle.lr_vc.specs.Packets.{packets_of}
-use Rattle.lr_vc.specs.Standing.{Kept, StandsFor}
+use Rattle.lr_vc.specs.Standing.{KeptChannels, ChannelsStandFor}
 use Rattle.lr_packet.specs.Verdict.{good_packets}
 use Rattle.lr_causes.specs.declared.cause.Cause.{Cause}
 use Rattle.lr_causes.specs.Puts.{Puts, PutStops}
 use Rattle.lr_reading.specs.Arrivals.{arrivals_of, arrivals_of_units}
-use Rattle.lr_reading.specs.Reading.{units_of}
+use Rattle.lr_reading.specs.Reading.{units_of, WhenLastAsked}
+use Rattle.lr_reading.specs.Readers.{leeway_for}
 use Rattle.lr_reading.specs.Runs.{ReadsInput, TakesAll, TakesSome}
 use Rattle.lr_reading.specs.declared.arrival.Arrival.{Arrival}
 use Rattle.lr_forms.specs.declared.forms.Input.TheVariants.{Units}
 use Rattle.lr_forms.specs.declared.forms.UnitForm.TheVariants.{Frames}
-use Rattle.lr_reading.specs.declared.totals.Totals.{Totals}
+use Rattle.lr_reading.specs.declared.read_counts.ReadCounts.{ReadCounts}
+use Rattle.lr_reading.proofs.Fronts.{All-first}
 use Rattle.lr_reading.proofs.Whole.{units_long}
 use Rattle.lr_printing.specs.declared.packet_count.PacketCount.{PacketCount}
 use Rattle.lr_printing.specs.declared.packet_lines.PacketLines.{PacketLines}
@@ -63,8 +67,8 @@ use Rattle.lr_printing.specs.Packets.{
   packets_text,
   packets_last,
 }
-use Rattle.lr_printing.specs.PacketsRead.{IsAfter, IsCounted}
-use Rattle.lr_printing.specs.PacketsTaken.{restored_frame, frames_in, PacketsTook, PacketsStopped}
+use Rattle.lr_printing.specs.PacketsRead.{IsAfter, IsPacketCount}
+use Rattle.lr_printing.specs.PacketsTaken.{restored_frame, frames_in, text_of_packets, PacketsTook, PacketsStopped}
 use Rattle.lr_causes.specs.Outside.{pipe, pipe_of}
 use Rattle.lr_printing.specs.Printing.{Prints}
 use Rattle.lr_printing.specs.Progress.{LinesStop}
@@ -72,7 +76,7 @@ use Rattle.lr_reading.proofs.Outcomes.{zone_is}
 use Rattle.lr_printing.proofs.Adding.{lines_of_packets-none, lines_of_packets-push}
 use Rattle.lr_printing.proofs.PacketsText.{lines_from-append}
 use Rattle.lr_causes.proofs.Joining.{puts_both, puts_none}
-use Rattle.lr_printing.proofs.Lines.{lines_stop, lines_stopped}
+use Rattle.lr_printing.proofs.Lines.{IsDue, all_but_one, due_first, due_put, lines_stop, lines_stopped}
 
 -- ---- the frames of arrivals
 
@@ -112,8 +116,8 @@ frames_in-all bytes = frames_in-units (units_of FRAME_BYTES bytes)
 
 read_at : (frame : List ℕ) (frames : List (List ℕ)) (r : Result Fields ℕ) → frame_of frame ≡ r
     → length frame ≡ FRAME_BYTES
-    → AreFrames (filter_map (λ f. result_ok (frame_of f)) frames)
-    → AreFrames (filter_map (λ f. result_ok (frame_of f)) (frame ∷ frames))
+    → AreChannelFrames (filter_map (λ f. result_ok (frame_of f)) frames)
+    → AreChannelFrames (filter_map (λ f. result_ok (frame_of f)) (frame ∷ frames))
 read_at frame frames (Ok fields) is long rest =
     rw is
     (All-cons (λ (f : Fields). length f.zone ≡ ZONE_BYTES) fields (filter_map (λ f. result_ok (frame_of f)) frames)
@@ -121,7 +125,7 @@ read_at frame frames (Ok fields) is long rest =
 read_at frame frames (Err version) is long rest = rw is rest
 
 all_read : (frames : List (List ℕ)) → All (λ (frame : List ℕ). length frame ≡ FRAME_BYTES) frames
-    → AreFrames (frames_read frames)
+    → AreChannelFrames (frames_read frames)
 unfolding frames_read
 all_read [] all = All-nil (λ (f : Fields). length f.zone ≡ ZONE_BYTES)
 all_read (frame ∷ frames) all =
@@ -137,11 +141,37 @@ lines_first frames more all =
     let front : (later : List Packet)
     × (packets_of (frames_read frames ++ frames_read more) ≡ packets_of (frames_read frames) ++ later) =
     packets_of-append (frames_read frames) (frames_read more)
-    (subst (λ (l : List Fields). AreFrames l) both (all_read (frames ++ more) all)) in (
+    (subst (λ (l : List Fields). AreChannelFrames l) both (all_read (frames ++ more) all)) in (
       lines_from (0 + length (packets_of (frames_read frames))) front.0,
       ap (λ (l : List Packet). lines_from 0 l) (ap packets_of both ∙ front.1)
           ∙ lines_from-append 0 (packets_of (frames_read frames)) front.0,
     )
+
+-- so do those of the first arrivals
+packets_grow : (bytes : List ℕ) (arrivals others : List Arrival) → arrivals_of (Units Frames) bytes ≡ arrivals ++ others
+    → (first rest : List Arrival) → arrivals ≡ first ++ rest
+    → (later : List ℕ) × (text_of_packets arrivals ≡ text_of_packets first ++ later)
+packets_grow bytes arrivals others all first rest is =
+    let units : units_of FRAME_BYTES bytes ≡ frames_in arrivals ++ frames_in others =
+    sym (frames_in-all bytes) ∙ ap frames_in all ∙ frames_in-append arrivals others in
+    let both : frames_in arrivals ≡ frames_in first ++ frames_in rest = ap frames_in is ∙ frames_in-append first rest in
+    let long : All (λ (frame : List ℕ). length frame ≡ FRAME_BYTES) (frames_in arrivals) =
+    All-first (λ (frame : List ℕ). length frame ≡ FRAME_BYTES) (frames_in arrivals) (frames_in others)
+    (subst (λ (l : List (List ℕ)). All (λ (frame : List ℕ). length frame ≡ FRAME_BYTES) l) units
+    (units_long Frames bytes)) in
+    let front = lines_first (frames_in first) (frames_in rest)
+    (subst (λ (l : List (List ℕ)). All (λ (frame : List ℕ). length frame ≡ FRAME_BYTES) l) both long) in
+    (front.0, ap lines_of_packets both ∙ front.1)
+
+-- all lines are due
+packets_due : (given : List ℕ) → IsDue (Units Frames) text_of_packets packets_text 0 given
+packets_due given = record {
+  first = arrivals_of (Units Frames) given;
+  rest = [];
+  split = sym (append-nil (arrivals_of (Units Frames) given));
+  text_is = ap lines_of_packets (frames_in-all given);
+  enough = inl (omega arith);
+}
 
 -- ---- the lines
 
@@ -153,10 +183,10 @@ packets_read-none : packets_read [] ≡ []
 unfolding packets_read packets_of
 packets_read-none = ap packets_of frames_read-none
 
-begun_after : (channels : Kept) (counted : PacketCount) → StandsFor channels [] → counted.packets ≡ 0
+begun_after : (channels : KeptChannels) (counted : PacketCount) → ChannelsStandFor channels [] → counted.packets ≡ 0
     → counted.good ≡ 0 → IsAfter channels counted []
 begun_after channels counted stands packets good = record {
-  stands = subst (λ (l : List Fields). StandsFor channels l) (sym frames_read-none) stands;
+  stands = subst (λ (l : List Fields). ChannelsStandFor channels l) (sym frames_read-none) stands;
   all = record {
     packets = packets ∙ sym (ap length packets_read-none);
     good = good ∙ sym (ap (λ l. length (good_packets l)) packets_read-none);
@@ -165,7 +195,7 @@ begun_after channels counted stands packets good = record {
 
 module _ {O : Type 0} (out : SinkOf O) where
   -- it begins
-  pub packets_begun : (lines : PacketLines O) → StandsFor lines.channels.now [] → lines.counted.packets ≡ 0
+  pub packets_begun : (lines : PacketLines O) → ChannelsStandFor lines.channels.now [] → lines.counted.packets ≡ 0
       → lines.counted.good ≡ 0 → PacketsTook out lines [] lines
   packets_begun lines stands packets good = record {
     same_out = refl;
@@ -225,16 +255,21 @@ module _ {O : Type 0} (out : SinkOf O) where
         stops = subst (λ (l : List ℕ). LinesStop out l cause before.out.now now'.out.now) (sym more)
             (lines_stop out (lines_of_packets (frames_in arrivals)) (lines_added (frames_in arrivals) frame)
             before.out.now now.out.now now'.out.now took.put cause stops);
+        others = all_but_one out (λ l. text_of_packets l) arrivals before.out.now arrival
+            (lines_added (frames_in arrivals) frame) now.out.now now'.out.now took.put cause stops;
       }
 
   module _ {S : Type 0} (source : SourceOf S) (limit : ℕ) {s s' : S} {before now : PacketLines O}
       (begun : PacketsTook out before [] before) where
     -- all frames were taken
-    pub all_packets : {totals : Totals}
-        → TakesAll source (PacketsTook out) (Units Frames) limit totals s s' before now
+    pub all_packets : {totals : ReadCounts}
+        → TakesAll source (PacketsTook out) (Units Frames) limit (leeway_for (Units Frames) 1) totals s s' before now
         → (now.out.ghost_name ≡ before.out.ghost_name) × ((bytes : List ℕ)
-        × ReadsInput source (Units Frames) limit totals bytes s s' × IsCounted now.counted (units_of FRAME_BYTES bytes)
-        × Puts out (packets_text bytes) before.out.now now.out.now)
+        × ReadsInput source (Units Frames) limit totals bytes s s'
+        × IsPacketCount now.counted (units_of FRAME_BYTES bytes)
+        × Puts out (packets_text bytes) before.out.now now.out.now
+        × WhenLastAsked source (λ given. (more : List ℕ) × (packets_text bytes ≡ packets_text given ++ more)) bytes
+        s s')
     all_packets all =
         let took = all.taken before begun in
         let units = frames_in-all all.bytes in (
@@ -242,16 +277,23 @@ module _ {O : Type 0} (out : SinkOf O) where
           (
             all.bytes,
             all.ends,
-            subst (λ (l : List (List ℕ)). IsCounted now.counted l) units took.after.all,
+            subst (λ (l : List (List ℕ)). IsPacketCount now.counted l) units took.after.all,
             subst (λ (l : List (List ℕ)). Puts out (lines_of_packets l) before.out.now now.out.now) units took.put,
+            subst (λ (l : List (List ℕ)). WhenLastAsked source
+                (λ given. (more : List ℕ) × (lines_of_packets l ≡ packets_text given ++ more)) all.bytes s s') units
+                (due_first source (Units Frames) (λ l. text_of_packets l) (λ l. packets_text l) 0 packets_due all.bytes
+                s s' (arrivals_of (Units Frames) all.bytes)
+                (packets_grow all.bytes (arrivals_of (Units Frames) all.bytes) []
+                (sym (append-nil (arrivals_of (Units Frames) all.bytes)))) all.in_time),
           ),
         )
 
     -- they were not
-    pub some_packets : {waiting : ℕ} (cause : Cause)
-        → TakesSome source (PacketsTook out) (Units Frames) limit waiting (PacketsStopped out) cause s s' before now
+    pub some_packets : (cause : Cause)
+        → TakesSome source (PacketsTook out) (Units Frames) limit (leeway_for (Units Frames) 1) (PacketsStopped out)
+        cause s s' before now
         → (now.out.ghost_name ≡ before.out.ghost_name)
-        × Prints (pipe_of source out) packets_text packets_last limit cause (pipe s before.out.now)
+        × Prints (pipe_of source out) packets_text packets_text packets_last limit cause (pipe s before.out.now)
         (pipe s' now.out.now)
     some_packets cause some =
         let stopped = some.stops before begun in
@@ -259,10 +301,18 @@ module _ {O : Type 0} (out : SinkOf O) where
         sym (frames_in-all some.bytes) ∙ ap frames_in some.split ∙ frames_in-append some.passed some.rest in
         let first = lines_first (frames_in some.passed) (frames_in some.rest)
         (subst (λ (l : List (List ℕ)). All (λ (frame : List ℕ). length frame ≡ FRAME_BYTES) l) units
-        (units_long Frames some.bytes)) in (
+        (units_long Frames some.bytes)) in
+        let parts : arrivals_of (Units Frames) some.bytes
+        ≡ stopped.others.worked ++ (stopped.others.late ++ some.rest) =
+        some.split ∙ ap (λ (l : List Arrival). l ++ some.rest) stopped.others.split
+        ∙ append_assoc stopped.others.worked stopped.others.late some.rest in (
           stopped.same_out,
-          lines_stopped source out packets_text packets_last limit some.bytes
+          lines_stopped source out packets_text packets_text packets_last limit some.bytes
               (lines_of_packets (frames_in some.passed)) first.0 s s' before.out.now now.out.now
               some.read (ap lines_of_packets units ∙ first.1)
+              (due_put source (Units Frames) (λ l. text_of_packets l) (λ l. packets_text l) 0 packets_due some.bytes
+              s s' stopped.others.worked (packets_grow some.bytes stopped.others.worked
+              (stopped.others.late ++ some.rest) parts) out before.out.now now.out.now some.passed
+              stopped.others.late stopped.others.split stopped.others.one stopped.others.got some.in_time)
               cause stopped.stops,
         )

@@ -21,7 +21,7 @@ use Rattle.std.specs.Result.{result_ok}
 use Rattle.std.proofs.lemmas.List.Elements.{filter_map-append}
 use Rattle.lr_bits.specs.Packet.{Packet}
 use Rattle.lr_vc.specs.Frame.{Fields, frame_of}
-use Rattle.lr_vc.specs.Runs.{AreFrames}
+use Rattle.lr_vc.specs.Runs.{AreChannelFrames}
 use Rattle.lr_vc.specs.Packets.{packets_of, packets_at}
 use Rattle.lr_vc.proofs.History.{packets_of-more}
 use Rattle.lr_catalog.specs.Packets.{packet_line}
@@ -59,7 +59,7 @@ frames_read-bad frames frame version is =
     ∙ rw is (append-nil (filter_map (λ f. result_ok (frame_of f)) frames))
 
 pub packets_read-good : (frames : List (List ℕ)) (frame : List ℕ) (fields : Fields) → frame_of frame ≡ Ok fields
-    → AreFrames (frames_read frames ++ fields ∷ [])
+    → AreChannelFrames (frames_read frames ++ fields ∷ [])
     → packets_read (frames ++ frame ∷ []) ≡ packets_read frames
     ++ packets_at (frames_read frames ++ fields ∷ []) (length (frames_read frames))
 unfolding packets_read

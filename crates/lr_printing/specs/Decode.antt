@@ -1,5 +1,5 @@
 -- What `decode` prints of the bytes read.
-use Rattle.std.specs.Prelude.{ℕ, ℤ, not, List, length, count_by}
+use Rattle.std.specs.Prelude.{◌-◌, ℕ, ℤ, not, List, length, take, count_by}
 use Rattle.lr_bits.specs.declared.outcome.Outcome.{Outcome}
 use Rattle.lr_bits.specs.Outcomes.{is_restored}
 use Rattle.lr_forms.specs.declared.forms.Stop.{Stop}
@@ -17,6 +17,7 @@ use Rattle.lr_forms.specs.declared.forms.Input.{Input}
 use Rattle.lr_forms.specs.declared.forms.Input.TheVariants.{Symbols, Units}
 use Rattle.lr_reading.specs.Inputs.{unit_bytes, outcome_of_unit, outcomes_of_bytes, bytes_left_over}
 use Rattle.lr_reading.specs.Lines.{numbered_lines}
+use Rattle.lr_reading.specs.Readers.{most_when_asked}
 use Rattle.lr_reading.specs.Reading.{units_of}
 
 -- the lines of these blocks, each numbered by its place
@@ -35,6 +36,18 @@ abbrev pub decode_text : Input → List ℕ → List ℕ
 decode_text (Symbols line) bytes =
     lines_of_windows line (symbols_of bytes) (frames_of (tail_of line) (symbols_of bytes))
 decode_text (Units form) bytes = lines_of_units form (units_of (unit_bytes form) bytes)
+
+-- all of these but the last ones, this many of them
+abbrev pub all_but : {A : Type 0} → ℕ → List A → List A
+all_but few list = take (length list - few) list
+
+-- the lines that are due before more bytes are asked for, where this many work: of symbols those of all windows but the
+-- last few, of blocks all
+abbrev pub decode_due : Input → ℕ → List ℕ → List ℕ
+decode_due (Symbols line) workers bytes =
+    lines_of_windows line (symbols_of bytes)
+    (all_but (most_when_asked (Symbols line) workers) (frames_of (tail_of line) (symbols_of bytes)))
+decode_due (Units form) workers bytes = decode_text (Units form) bytes
 
 -- how many bytes were taken, how many outcomes there are, of each kind, and how many bytes are left
 unfoldable pub decode_count : List Outcome → ℕ → ℕ → Stop → List ℕ

@@ -8,7 +8,7 @@ use Rattle.lr_reading.specs.Arrivals.{outcomes_of_arrivals}
 use Rattle.lr_reading.specs.declared.arrival.Arrival.{Arrival}
 use Rattle.lr_printing.specs.declared.outcome_lines.OutcomeLines.{OutcomeLines}
 use Rattle.lr_printing.specs.OutcomeLines.{text_of_outcomes}
-use Rattle.lr_printing.specs.Progress.{LinesStop}
+use Rattle.lr_printing.specs.Progress.{LinesStop, PutsButLast}
 
 module _ {O : Type 0} (out : SinkOf O) where
   -- the lines of these outcomes were put, and those that are restored counted
@@ -24,3 +24,4 @@ module _ {O : Type 0} (out : SinkOf O) where
       (now : OutcomeLines O) : Type 0 where
     pub same_out : now.out.ghost_name ≡ before.out.ghost_name
     pub stops : LinesStop out (text_of_outcomes arrivals) cause before.out.now now.out.now
+    pub others : PutsButLast out text_of_outcomes arrivals before.out.now now.out.now

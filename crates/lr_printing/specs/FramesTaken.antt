@@ -6,7 +6,7 @@ use Rattle.lr_causes.specs.Puts.{Puts}
 use Rattle.lr_reading.specs.declared.arrival.Arrival.{Arrival}
 use Rattle.lr_printing.specs.declared.frame_lines.FrameLines.{FrameLines}
 use Rattle.lr_printing.specs.FrameLines.{text_of_frames}
-use Rattle.lr_printing.specs.Progress.{LinesStop}
+use Rattle.lr_printing.specs.Progress.{LinesStop, PutsButLast}
 
 module _ {O : Type 0} (out : SinkOf O) where
   -- the lines of these frames were put
@@ -21,3 +21,4 @@ module _ {O : Type 0} (out : SinkOf O) where
       (cause : Cause) (now : FrameLines O) : Type 0 where
     pub same_out : now.out.ghost_name ≡ before.out.ghost_name
     pub stops : LinesStop out (text_of_frames arrivals) cause before.out.now now.out.now
+    pub others : PutsButLast out text_of_frames arrivals before.out.now now.out.now

@@ -11,7 +11,7 @@ use Rattle.lr_reading.specs.declared.arrival.Arrival.{Arrival}
 use Rattle.lr_printing.specs.declared.packet_lines.PacketLines.{PacketLines}
 use Rattle.lr_printing.specs.Packets.{lines_of_packets}
 use Rattle.lr_printing.specs.PacketsRead.{IsAfter}
-use Rattle.lr_printing.specs.Progress.{LinesStop}
+use Rattle.lr_printing.specs.Progress.{LinesStop, PutsButLast}
 
 -- the frame of a block that was restored
 abbrev pub restored_frame : Outcome → Option (List ℕ)
@@ -20,6 +20,10 @@ restored_frame (Lost word) = None
 
 unfoldable pub frames_in : List Arrival → List (List ℕ)
 frames_in arrivals = filter_map (λ (arrival : Arrival). restored_frame arrival.outcome) arrivals
+
+-- the lines of their packets
+abbrev pub text_of_packets : List Arrival → List ℕ
+text_of_packets arrivals = lines_of_packets (frames_in arrivals)
 
 module _ {O : Type 0} (out : SinkOf O) where
   -- the lines of the packets of these frames were put, and the packets counted
@@ -36,3 +40,4 @@ module _ {O : Type 0} (out : SinkOf O) where
     pub same_out : now.out.ghost_name ≡ before.out.ghost_name
     pub stops : LinesStop out (lines_of_packets (frames_in arrivals)) cause
         before.out.now now.out.now
+    pub others : PutsButLast out text_of_packets arrivals before.out.now now.out.now

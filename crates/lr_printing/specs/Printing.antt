@@ -8,11 +8,17 @@ use Rattle.lr_causes.specs.declared.cause.Cause.{Cause}
 use Rattle.lr_causes.specs.declared.cause.Cause.TheVariants.{Done, Failed, NoMemory}
 use Rattle.lr_causes.specs.declared.cause.Party.TheVariants.{Source, Output}
 use Rattle.lr_causes.specs.Outside.{Pipe, PipeOf}
-use Rattle.lr_causes.specs.Puts.{PutsFront}
-use Rattle.lr_reading.specs.Reading.{IsRead, EndsFor}
+use Rattle.lr_causes.specs.Puts.{PutsPrefix}
+use Rattle.lr_io.specs.declared.sink.Sink.{Ghosts as SinkOf}
+use Rattle.lr_reading.specs.Reading.{IsRead, EndsFor, WhenLastAsked}
 
--- The command's lines of the bytes read, its last line of them, and the most bytes that it takes.
-module _ {S O : Type 0} (world : PipeOf S O) (lines : List ℕ → List ℕ)
+-- `out` got this text first, and perhaps more
+abbrev pub GotFirst : {O : Type 0} → SinkOf O → List ℕ → O → O → Type 0
+GotFirst out text o o' = out.tells o → (more : List ℕ) × (out.contents o' ≡ out.contents o ++ (text ++ more))
+
+-- The command's lines of the bytes read, those of them that are due before more bytes are asked for, its last line, and
+-- the most bytes that it takes.
+module _ {S O : Type 0} (world : PipeOf S O) (lines due : List ℕ → List ℕ)
     (last : List ℕ → Stop → List ℕ) (limit : ℕ) where
   -- all lines of the bytes read were put, and the last line
   pub record PrintsAll (stop : Stop) (w w' : Pipe S O) : Type 0 where
@@ -24,16 +30,19 @@ module _ {S O : Type 0} (world : PipeOf S O) (lines : List ℕ → List ℕ)
         → world.out.contents w'.out ≡ world.out.contents w.out ++ (lines bytes ++ last bytes stop)
     pub out_count : world.out.faults w'.out ≡ world.out.faults w.out
 
-  -- `out` failed in a line of the bytes read: a front of their lines was put, and not all of it
+  -- `out` failed in a line of the bytes read: a prefix of their lines was put, and not all of it. When the source was
+  -- last asked, the lines were put that were due of the bytes that it had given
   pub record CutInLines (w w' : Pipe S O) : Type 0 where
     pub bytes : List ℕ
     pub read : IsRead world.source limit bytes w.source w'.source
     pub told : world.out.tells w.out → world.out.tells w'.out
     pub part : world.out.tells w.out
         → PutsPart (lines bytes) (world.out.contents w.out) (world.out.contents w'.out)
+    pub in_time : WhenLastAsked world.source (λ given. GotFirst world.out (due given) w.out w'.out) bytes w.source
+        w'.source
     pub rose : Rose (world.out.faults w.out) (world.out.faults w'.out)
 
-  -- `out` failed in the last line: all lines were put, and then a front of the last one that isn't all of it
+  -- `out` failed in the last line: all lines were put, and then a prefix of the last one that isn't all of it
   pub record CutInLast (w w' : Pipe S O) : Type 0 where
     pub bytes : List ℕ
     pub stop : Stop
@@ -45,13 +54,16 @@ module _ {S O : Type 0} (world : PipeOf S O) (lines : List ℕ → List ℕ)
         (world.out.contents w'.out)
     pub rose : Rose (world.out.faults w.out) (world.out.faults w'.out)
 
-  -- memory was refused: a front of the lines of the bytes read was put, and nothing of the last line
+  -- memory was refused: a prefix of the lines of the bytes read was put, and nothing of the last line. When the source
+  -- was last asked, the lines were put that were due of the bytes that it had given
   pub record StopsForMemory (w w' : Pipe S O) : Type 0 where
     pub bytes : List ℕ
     pub read : IsRead world.source limit bytes w.source w'.source
     pub told : world.out.tells w.out → world.out.tells w'.out
     pub front : world.out.tells w.out
-        → PutsFront (lines bytes) (world.out.contents w.out) (world.out.contents w'.out)
+        → PutsPrefix (lines bytes) (world.out.contents w.out) (world.out.contents w'.out)
+    pub in_time : WhenLastAsked world.source (λ given. GotFirst world.out (due given) w.out w'.out) bytes w.source
+        w'.source
     pub out_count : world.out.faults w'.out ≡ world.out.faults w.out
 
   -- how such a command ends, for each cause that it may have

@@ -1,7 +1,8 @@
 //! `frames`: a line for each transfer frame.
-ghost use Rattle.std.specs.Prelude.{◌≡◌, ◌<◌, ◌^◌, List, ℕ, IfOk, IfErr, IsOk, false};
+ghost use Rattle.std.specs.Prelude.{◌≡◌, ◌<◌, ◌^◌, ◌++◌, List, ℕ, IfOk, IfErr, IsOk, false};
 ghost use Rattle.lr_bits.specs.Outcomes.{is_restored};
 ghost use Rattle.lr_catalog.specs.Summaries.{summary_line};
+ghost use Rattle.lr_reading.specs.Reading.{WhenLastAsked};
 ghost use Rattle.lr_reading.specs.Runs.{ReadsInput};
 ghost use Rattle.lr_forms.specs.declared.forms.Input.TheVariants.{Units};
 ghost use Rattle.lr_forms.specs.declared.forms.UnitForm.TheVariants.{Frames};
@@ -17,7 +18,7 @@ use lr_causes::{Cause, cause_at, put_text};
 use lr_forms::{Input, Stop, UnitForm};
 use lr_frame::FrameWork;
 use lr_io::{Sink, Source};
-use lr_reading::{Arrival, Consumer, Reader, Totals};
+use lr_reading::{Arrival, Consumer, ReadCounts, Reader};
 use lr_vc::TransferFrame;
 use std::alloc::Global;
 
@@ -80,15 +81,17 @@ fn put_each_frame<S: Source, O: Sink>(
     reader: Reader<FrameWork>,
     source: &mut S,
     out: &mut O,
-) -> Result<Totals, Cause>
+) -> Result<ReadCounts, Cause>
     requires input { reader.input ≡ Units Frames }
     requires alone { reader.workers ≡ 1 }
     requires few { reader.most < 2 ^ 64 }
     ensures all { IfOk result (λ totals. (bytes : List ℕ)
         × ReadsInput S.Source (Units Frames) reader.most totals bytes source.old source.new
-        × Puts O.Sink (frames_text bytes) out.old out.new) }
+        × Puts O.Sink (frames_text bytes) out.old out.new
+        × WhenLastAsked S.Source (λ given. (more : List ℕ) × (frames_text bytes ≡ frames_text given ++ more))
+        bytes source.old source.new) }
     ensures stopped { IfErr result (λ cause.
-        Prints (pipe_of S.Source O.Sink) frames_text frames_last reader.most cause
+        Prints (pipe_of S.Source O.Sink) frames_text frames_text frames_last reader.most cause
         (pipe source.old out.old) (pipe source.new out.new)) }
 {
     let mut lines = FrameLines {
@@ -100,7 +103,7 @@ fn put_each_frame<S: Source, O: Sink>(
     Ok(totals)
 }
 
-fn put_last<O: Sink>(alloc: Global, totals: &Totals, out: &mut O) -> Result<(), Cause>
+fn put_last<O: Sink>(alloc: Global, totals: &ReadCounts, out: &mut O) -> Result<(), Cause>
     ensures put { IfOk result (λ _. Puts O.Sink
         (summary_line (Summary.Frames totals.now.frames totals.now.left) totals.now.stop)
         out.old out.new) }
@@ -124,10 +127,10 @@ fn put_frames<S: Source, O: Sink>(
     out: &mut O,
 ) -> Result<Stop, Cause>
     ensures all { IfOk result
-        (λ stop. PrintsAll (pipe_of S.Source O.Sink) frames_text frames_last most stop
+        (λ stop. PrintsAll (pipe_of S.Source O.Sink) frames_text frames_text frames_last most stop
         (pipe source.old out.old) (pipe source.new out.new)) }
     ensures stopped { IfErr result
-        (λ cause. Prints (pipe_of S.Source O.Sink) frames_text frames_last most cause
+        (λ cause. Prints (pipe_of S.Source O.Sink) frames_text frames_text frames_last most cause
         (pipe source.old out.old) (pipe source.new out.new)) }
 {
     let input = Input::Units(UnitForm::Frames);
@@ -139,7 +142,7 @@ fn put_frames<S: Source, O: Sink>(
 
 /// A line for each frame of the source, and a last line. At most `most` bytes are taken.
 pub fn frames<S: Source, O: Sink>(alloc: Global, most: u64, source: &mut S, out: &mut O) -> Cause
-    ensures { Prints (pipe_of S.Source O.Sink) frames_text frames_last most result
+    ensures { Prints (pipe_of S.Source O.Sink) frames_text frames_text frames_last most result
         (pipe source.old out.old) (pipe source.new out.new) }
 {
     match put_frames(alloc, most, source, out) {

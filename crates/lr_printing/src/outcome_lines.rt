@@ -4,9 +4,10 @@ ghost use Rattle.lr_bits.specs.Outcomes.{is_restored};
 ghost use Rattle.lr_catalog.specs.Summaries.{summary_line};
 ghost use Rattle.lr_reading.specs.Inputs.{outcomes_of_bytes};
 ghost use Rattle.lr_reading.specs.Leading.{MayLead, Leads};
-ghost use Rattle.lr_reading.specs.Readers.{most_waiting};
+ghost use Rattle.lr_reading.specs.Readers.{leeway_for};
+ghost use Rattle.lr_reading.specs.Reading.{WhenLastAsked};
 ghost use Rattle.lr_reading.specs.Runs.{ReadsInput, IsLed};
-ghost use Rattle.lr_printing.specs.Decode.{decode_text, decode_last};
+ghost use Rattle.lr_printing.specs.Decode.{decode_text, decode_due, decode_last};
 ghost use Rattle.lr_printing.specs.DecodeTaken.{OutcomesTook, OutcomesStopped};
 ghost use Rattle.lr_printing.specs.OutcomeLines.{outcome_text};
 ghost use Rattle.lr_printing.specs.Printing.{Prints};
@@ -19,7 +20,7 @@ use lr_causes::{Cause, cause_at, put_text};
 use lr_forms::{Input, MOST_WORKERS};
 use lr_frame::{FrameWork, Hand};
 use lr_io::{Sink, Source};
-use lr_reading::{Arrival, Consumer, Reader, Totals};
+use lr_reading::{Arrival, Consumer, ReadCounts, Reader};
 use std::alloc::Global;
 use std::sync::Wait;
 use std::thread::Threads;
@@ -107,7 +108,7 @@ fn put_outcome<O: Sink>(
 fn put_each_outcome<
     S: Source,
     O: Sink,
-    F: FnOnce(&mut S, &mut OutcomeLines<'_, O>) -> Result<Totals, Cause>,
+    F: FnOnce(&mut S, &mut OutcomeLines<'_, O>) -> Result<ReadCounts, Cause>,
 >(
     alloc: Global,
     input: Input,
@@ -115,15 +116,20 @@ fn put_each_outcome<
     source: &mut S,
     out: &mut O,
     read: F,
-) -> Result<(Totals, u64), Cause>
+) -> Result<(ReadCounts, u64), Cause>
     requires ready { MayLead (F.pre read) (OutcomesTook O.Sink) }
-    requires leads { (waiting : ℕ) × Leads (F.post read) S.Source (OutcomesTook O.Sink)
-        (OutcomesStopped O.Sink) input most waiting }
-    ensures all { IfOk result (λ sums. (bytes : List ℕ)
+    ensures all { (workers : ℕ) → Leads (F.post read) S.Source (OutcomesTook O.Sink)
+        (OutcomesStopped O.Sink) input most (leeway_for input workers)
+        → IfOk result (λ sums. (bytes : List ℕ)
         × ReadsInput S.Source input most sums.0 bytes source.old source.new
         × (sums.1 ≡ count_by is_restored (outcomes_of_bytes input bytes))
-        × Puts O.Sink (decode_text input bytes) out.old out.new) }
-    ensures stopped { IfErr result (λ cause. Prints (pipe_of S.Source O.Sink) (decode_text input)
+        × Puts O.Sink (decode_text input bytes) out.old out.new
+        × WhenLastAsked S.Source
+        (λ given. (more : List ℕ) × (decode_text input bytes ≡ decode_due input workers given ++ more))
+        bytes source.old source.new) }
+    ensures stopped { (workers : ℕ) → Leads (F.post read) S.Source (OutcomesTook O.Sink)
+        (OutcomesStopped O.Sink) input most (leeway_for input workers)
+        → IfErr result (λ cause. Prints (pipe_of S.Source O.Sink) (decode_text input) (decode_due input workers)
         (decode_last input) most cause (pipe source.old out.old) (pipe source.new out.new)) }
 {
     let mut lines = OutcomeLines {
@@ -139,7 +145,7 @@ fn put_each_outcome<
 /// The last line.
 fn put_last<O: Sink>(
     alloc: Global,
-    totals: &Totals,
+    totals: &ReadCounts,
     restored: u64,
     out: &mut O,
 ) -> Result<(), Cause>
@@ -168,13 +174,15 @@ fn put_last<O: Sink>(
 fn decode_with<
     S: Source,
     O: Sink,
-    F: FnOnce(&mut S, &mut OutcomeLines<'_, O>) -> Result<Totals, Cause>,
+    F: FnOnce(&mut S, &mut OutcomeLines<'_, O>) -> Result<ReadCounts, Cause>,
 >(alloc: Global, input: Input, most: u64, source: &mut S, out: &mut O, read: F) -> Cause
     requires ready { MayLead (F.pre read) (OutcomesTook O.Sink) }
-    requires leads { (waiting : ℕ) × Leads (F.post read) S.Source (OutcomesTook O.Sink)
-        (OutcomesStopped O.Sink) input most waiting }
-    ensures { Prints (pipe_of S.Source O.Sink) (decode_text input) (decode_last input) most result
-        (pipe source.old out.old) (pipe source.new out.new) }
+    requires leads { (workers : ℕ) × Leads (F.post read) S.Source (OutcomesTook O.Sink)
+        (OutcomesStopped O.Sink) input most (leeway_for input workers) }
+    ensures { (workers : ℕ) → Leads (F.post read) S.Source (OutcomesTook O.Sink)
+        (OutcomesStopped O.Sink) input most (leeway_for input workers)
+        → Prints (pipe_of S.Source O.Sink) (decode_text input) (decode_due input workers) (decode_last input) most
+        result (pipe source.old out.old) (pipe source.new out.new) }
 {
     let (totals, restored) = match put_each_outcome(alloc, input, most, source, out, read) {
         Ok(sums) => sums,
@@ -196,8 +204,8 @@ pub fn decode_alone<S: Source, O: Sink>(
     out: &mut O,
 ) -> Cause
     requires few { most ≤ 2 ^ 48 }
-    ensures { Prints (pipe_of S.Source O.Sink) (decode_text input) (decode_last input) most result
-        (pipe source.old out.old) (pipe source.new out.new) }
+    ensures { Prints (pipe_of S.Source O.Sink) (decode_text input) (decode_due input 1) (decode_last input) most
+        result (pipe source.old out.old) (pipe source.new out.new) }
 {
     let reader = match Reader::<FrameWork>::new(alloc, input, 1, most, &()) {
         Ok(reader) => reader,
@@ -209,11 +217,11 @@ pub fn decode_alone<S: Source, O: Sink>(
         most,
         source,
         out,
-        |source, lines| -> Result<Totals, Cause>
+        |source, lines| -> Result<ReadCounts, Cause>
             requires { ((reader.workers ≡ 1) × (reader.most ≤ 2 ^ 48))
                 × ((first : _) × OutcomesTook O.Sink first [] lines.old) }
             ensures { IsLed S.Source (OutcomesTook O.Sink) reader.input reader.most
-                (most_waiting reader.input reader.workers)
+                (leeway_for reader.input reader.workers)
                 (OutcomesStopped O.Sink) result source.old source.new lines.old lines.new }
         { reader.read_alone(source, lines) },
     )
@@ -232,8 +240,8 @@ pub fn decode<R: Threads + Wait + Sync, H: Hand, S: Source, O: Sink>(
 ) -> Cause
     requires few { most ≤ 2 ^ 48 }
     requires workers { (1 ≤ workers) × (workers ≤ MOST_WORKERS) }
-    ensures { Prints (pipe_of S.Source O.Sink) (decode_text input) (decode_last input) most result
-        (pipe source.old out.old) (pipe source.new out.new) }
+    ensures { Prints (pipe_of S.Source O.Sink) (decode_text input) (decode_due input workers) (decode_last input) most
+        result (pipe source.old out.old) (pipe source.new out.new) }
 {
     let reader = match Reader::<H>::new(alloc, input, workers, most, tools) {
         Ok(reader) => reader,
@@ -245,11 +253,11 @@ pub fn decode<R: Threads + Wait + Sync, H: Hand, S: Source, O: Sink>(
         most,
         source,
         out,
-        |source, lines| -> Result<Totals, Cause>
+        |source, lines| -> Result<ReadCounts, Cause>
             requires { (reader.most ≤ 2 ^ 48) × ((first : _)
                 × OutcomesTook O.Sink first [] lines.old) }
             ensures { IsLed S.Source (OutcomesTook O.Sink) reader.input reader.most
-                (most_waiting reader.input reader.workers)
+                (leeway_for reader.input reader.workers)
                 (OutcomesStopped O.Sink) result source.old source.new lines.old lines.new }
         { reader.read(rt, source, lines) },
     )

@@ -22,9 +22,9 @@ ghost use Rattle.std.specs.Prelude.{
 };
 ghost use Rattle.lr_bits.specs.Packet.{Packet};
 ghost use Rattle.lr_vc.specs.Frame.{frame_of};
-ghost use Rattle.lr_vc.specs.Standing.{StandsFor};
+ghost use Rattle.lr_vc.specs.Standing.{ChannelsStandFor};
 ghost use Rattle.lr_packet.specs.Verdict.{good_of, good_packets};
-ghost use Rattle.lr_reading.specs.Reading.{units_of};
+ghost use Rattle.lr_reading.specs.Reading.{WhenLastAsked, units_of};
 ghost use Rattle.lr_reading.specs.Runs.{ReadsInput};
 ghost use Rattle.lr_forms.specs.declared.forms.Input.TheVariants.{Units};
 ghost use Rattle.lr_forms.specs.declared.forms.UnitForm.TheVariants.{Frames};
@@ -37,7 +37,7 @@ ghost use Rattle.lr_printing.specs.Packets.{
   packets_text,
   packets_last,
 };
-ghost use Rattle.lr_printing.specs.PacketsRead.{IsAfter, IsCounted};
+ghost use Rattle.lr_printing.specs.PacketsRead.{IsAfter, IsPacketCount};
 ghost use Rattle.lr_printing.specs.Printing.{Prints, PrintsAll};
 ghost use Rattle.lr_causes.specs.Outside.{pipe, pipe_of};
 ghost use Rattle.lr_causes.specs.Puts.{Puts, PutStops};
@@ -51,7 +51,7 @@ use lr_forms::{Input, Stop, UnitForm};
 use lr_frame::FrameWork;
 use lr_io::{Sink, Source};
 use lr_packet::check;
-use lr_reading::{Arrival, Consumer, Reader, Totals};
+use lr_reading::{Arrival, Consumer, ReadCounts, Reader};
 use lr_vc::{Channels, MOST_ENDING_PACKETS, TransferFrame};
 use std::alloc::Global;
 
@@ -145,9 +145,9 @@ fn read_packets(
     // A frame of another version takes no memory, and has no packets.
     ensures succeeds { IsErr (frame_of frame.now) → IsOk result }
     ensures none { IsErr (frame_of frame.now) → packets.new.items ≡ packets.old.items }
-    ensures stands { (frames : List (List ℕ)) → StandsFor channels.old (frames_read frames)
-        → OnOk result (StandsFor channels.new (frames_read (frames ++ frame.now ∷ []))) }
-    ensures packets { (frames : List (List ℕ)) → StandsFor channels.old (frames_read frames)
+    ensures stands { (frames : List (List ℕ)) → ChannelsStandFor channels.old (frames_read frames)
+        → OnOk result (ChannelsStandFor channels.new (frames_read (frames ++ frame.now ∷ []))) }
+    ensures packets { (frames : List (List ℕ)) → ChannelsStandFor channels.old (frames_read frames)
         → OnOk result (packets.new.items ≡ packets.old.items ++ packets_added frames frame.now) }
     ensures few { OnOk result (length packets.new.items ≤ length packets.old.items
         + MOST_ENDING_PACKETS) }
@@ -197,16 +197,18 @@ fn put_each_packet<S: Source, O: Sink>(
     reader: Reader<FrameWork>,
     source: &mut S,
     out: &mut O,
-) -> Result<(Totals, PacketCount), Cause>
+) -> Result<(ReadCounts, PacketCount), Cause>
     requires input { reader.input ≡ Units Frames }
     requires alone { reader.workers ≡ 1 }
     requires few { reader.most < 2 ^ 64 }
     ensures all { IfOk result (λ sums. (bytes : List ℕ)
         × ReadsInput S.Source (Units Frames) reader.most sums.0 bytes source.old source.new
-        × IsCounted sums.1 (units_of FRAME_BYTES bytes) × Puts O.Sink (packets_text bytes)
-        out.old out.new) }
+        × IsPacketCount sums.1 (units_of FRAME_BYTES bytes) × Puts O.Sink (packets_text bytes)
+        out.old out.new
+        × WhenLastAsked S.Source (λ given. (more : List ℕ) × (packets_text bytes ≡ packets_text given ++ more))
+        bytes source.old source.new) }
     ensures stopped { IfErr result (λ cause.
-        Prints (pipe_of S.Source O.Sink) packets_text packets_last reader.most cause
+        Prints (pipe_of S.Source O.Sink) packets_text packets_text packets_last reader.most cause
         (pipe source.old out.old) (pipe source.new out.new)) }
 {
     let mut channels = Channels::new(alloc);
@@ -227,14 +229,14 @@ fn put_each_packet<S: Source, O: Sink>(
 
 fn put_last<O: Sink>(
     alloc: Global,
-    totals: &Totals,
+    totals: &ReadCounts,
     counted: PacketCount,
     out: &mut O,
 ) -> Result<(), Cause>
-    ensures put { (frames : List (List ℕ)) → IsCounted counted frames
+    ensures put { (frames : List (List ℕ)) → IsPacketCount counted frames
         → IfOk result (λ _. Puts O.Sink (packets_count frames totals.now.frames totals.now.left
         totals.now.stop) out.old out.new) }
-    ensures stopped { (frames : List (List ℕ)) → IsCounted counted frames
+    ensures stopped { (frames : List (List ℕ)) → IsPacketCount counted frames
         → IfErr result (λ cause. PutStops O.Sink
         (packets_count frames totals.now.frames totals.now.left totals.now.stop) cause
         out.old out.new) }
@@ -257,10 +259,10 @@ fn put_packets<S: Source, O: Sink>(
     out: &mut O,
 ) -> Result<Stop, Cause>
     ensures all { IfOk result
-        (λ stop. PrintsAll (pipe_of S.Source O.Sink) packets_text packets_last most stop
+        (λ stop. PrintsAll (pipe_of S.Source O.Sink) packets_text packets_text packets_last most stop
         (pipe source.old out.old) (pipe source.new out.new)) }
     ensures stopped { IfErr result
-        (λ cause. Prints (pipe_of S.Source O.Sink) packets_text packets_last most cause
+        (λ cause. Prints (pipe_of S.Source O.Sink) packets_text packets_text packets_last most cause
         (pipe source.old out.old) (pipe source.new out.new)) }
 {
     let input = Input::Units(UnitForm::Frames);
@@ -273,7 +275,7 @@ fn put_packets<S: Source, O: Sink>(
 /// A line for each packet of the frames of the source, and a last line. At most `most` bytes are
 /// taken.
 pub fn packets<S: Source, O: Sink>(alloc: Global, most: u64, source: &mut S, out: &mut O) -> Cause
-    ensures { Prints (pipe_of S.Source O.Sink) packets_text packets_last most result
+    ensures { Prints (pipe_of S.Source O.Sink) packets_text packets_text packets_last most result
         (pipe source.old out.old) (pipe source.new out.new) }
 {
     match put_packets(alloc, most, source, out) {

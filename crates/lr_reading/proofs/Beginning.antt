@@ -5,17 +5,17 @@ use Rattle.std.proofs.lemmas.List.Elements.{All-nil}
 use Rattle.lr_conv.specs.declared.line.LineCode.{LineCode}
 use Rattle.lr_io.specs.declared.source.Source.{Ghosts as SourceOf}
 use Rattle.lr_lock.specs.Windows.{WindowView}
-use Rattle.lr_rounds.specs.Leads.{HasGivenNothing}
-use Rattle.lr_reading.specs.Feeding.{FeedState, IsFresh, FedSoFar}
+use Rattle.lr_rounds.specs.JobSources.{HasGivenNothing}
+use Rattle.lr_reading.specs.Feeding.{FeedState, IsFreshFeed, FedSoFar}
 use Rattle.lr_reading.specs.Intakes.{IsFreshIntake}
-use Rattle.lr_reading.specs.WindowLeads.{StandsAt}
+use Rattle.lr_reading.specs.WindowSources.{StandsAt}
 use Rattle.lr_reading.specs.declared.arrival.Arrival.{Arrival}
-use Rattle.lr_reading.specs.declared.window_lead.WindowLead.{WindowLead}
+use Rattle.lr_reading.specs.declared.window_source.WindowSource.{WindowSource}
 use Rattle.lr_reading.proofs.Coming.{arrivals_given-none}
 
 -- nothing is taken
 fed_begun : {S : Type 0} (source : SourceOf S) (line : LineCode) (limit : ℕ) (now : FeedState)
-    → now.lock.line ≡ line → IsFresh limit now → (s : S) → FedSoFar source line [] [] now s s
+    → now.lock.line ≡ line → IsFreshFeed limit now → (s : S) → FedSoFar source line [] [] now s s
 fed_begun source line limit now is fresh s = record {
   stands = fresh.stands;
   line_is = is;
@@ -29,13 +29,13 @@ fed_begun source line limit now is fresh s = record {
   ended = λ e. absurd cc;
 }
 
--- the lead stands, and nothing was given
+-- the job source stands, and nothing was given
 pub may_begin : {S C : Type 0} (source : SourceOf S) (took : C → List Arrival → C → Type 0) (most : ℕ)
-    (lead : WindowLead S C) → IsFreshIntake lead.intake.now.feed.most lead.intake.now
-    → lead.intake.now.feed.most ≤ most → (c : C) × took c [] lead.consumer.now
-    → StandsAt source took most lead lead [] 0
-may_begin source took most lead fresh few ready =
-    let intake = lead.intake.now in
+    (job_source : WindowSource S C) → IsFreshIntake job_source.intake.now.feed.most job_source.intake.now
+    → job_source.intake.now.feed.most ≤ most → (c : C) × took c [] job_source.consumer.now
+    → StandsAt source took most job_source job_source [] 0
+may_begin source took most job_source fresh few ready =
+    let intake = job_source.intake.now in
     let line = intake.feed.lock.line in
     record {
       same_intake = refl;
@@ -50,7 +50,7 @@ may_begin source took most lead fresh few ready =
       bytes = [];
       given = [];
       is_given = record {
-        feeds = fed_begun source line intake.feed.most intake.feed refl fresh.fresh lead.source.now;
+        feeds = fed_begun source line intake.feed.most intake.feed refl fresh.fresh job_source.source.now;
         limit_is = refl;
         jobs = record {
           jobs = sym (arrivals_given-none line []);
@@ -65,11 +65,12 @@ may_begin source took most lead fresh few ready =
           ap length (drop-nil {A = ℤ} intake.feed.lock.place),
         );
       };
+      in_time = inl refl;
       taken = λ c none. none;
     }
 
 pub begins : {S C : Type 0} (source : SourceOf S) (took : C → List Arrival → C → Type 0) (most : ℕ)
-    (lead : WindowLead S C) → IsFreshIntake lead.intake.now.feed.most lead.intake.now
-    → lead.intake.now.feed.most ≤ most → (c : C) × took c [] lead.consumer.now
-    → (start : WindowLead S C) × HasGivenNothing (StandsAt source took most) start lead
-begins source took most lead fresh few ready = (lead, may_begin source took most lead fresh few ready)
+    (job_source : WindowSource S C) → IsFreshIntake job_source.intake.now.feed.most job_source.intake.now
+    → job_source.intake.now.feed.most ≤ most → (c : C) × took c [] job_source.consumer.now
+    → (start : WindowSource S C) × HasGivenNothing (StandsAt source took most) start job_source
+begins source took most job_source fresh few ready = (job_source, may_begin source took most job_source fresh few ready)

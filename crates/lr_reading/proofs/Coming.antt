@@ -6,6 +6,7 @@ use Rattle.std.proofs.Common.{
   ◌+◌,
   ◌*◌,
   ◌≤◌,
+  ◌<◌,
   List,
   [],
   ◌∷◌,
@@ -15,26 +16,36 @@ use Rattle.std.proofs.Common.{
   ap,
   ◌∙◌,
   refl,
+  Option,
+  Some,
+  false,
+  length-drop,
+  ◌⊎◌,
+  inl,
+  inr,
+  ⊎_elim,
   None,
   append_assoc,
   subst,
   arith,
   All,
 }
+use Rattle.std.specs.Prelude.{is_none}
 use Rattle.std.proofs.lemmas.List.{length-map, map-append}
 use Rattle.lr_bits.specs.declared.outcome.Outcome.{Outcome}
 use Rattle.lr_conv.proofs.Tails.{tail_size}
 use Rattle.lr_conv.specs.Marker.{tail_of}
 use Rattle.lr_conv.specs.declared.line.LineCode.{LineCode}
-use Rattle.lr_lock.specs.Frames.{AreNext, AreFrames}
+use Rattle.lr_lock.specs.Frames.{AreNext, AreFrames, last_of, place_after_frame}
+use Rattle.lr_lock.specs.Machine.{IsAt}
 use Rattle.lr_lock.specs.FramesOf.{frames_of}
-use Rattle.lr_lock.specs.Standing.{LockState, StandsFor}
+use Rattle.lr_lock.specs.Standing.{LockState, LockStandsFor}
 use Rattle.lr_lock.specs.Symbols.{symbols_of}
 use Rattle.lr_lock.specs.declared.frame.Frame.{Frame}
 use Rattle.lr_bits.specs.declared.sizes.TheConstants.{FRAME_SYMBOLS}
 use Rattle.lr_lock.specs.declared.sizes.TheConstants.{WINDOW_END}
-use Rattle.lr_lock.proofs.Bytes.{symbols_of-append}
-use Rattle.lr_lock.proofs.Existing.{frames_of-are, frames_once, given_are_front, front_stays}
+use Rattle.lr_lock.proofs.Bytes.{symbols_of-append, length-symbols_of}
+use Rattle.lr_lock.proofs.Existing.{frames_of-are, frames_once, given_are_prefix, prefix_stays}
 use Rattle.lr_frame.specs.Outcomes.{outcome_in, outcomes_of_symbols}
 use Rattle.lr_frame.proofs.Given.{outcomes_stay}
 use Rattle.lr_reading.specs.Arrivals.{
@@ -44,7 +55,7 @@ use Rattle.lr_reading.specs.Arrivals.{
   arrivals_of,
   outcomes_of_arrivals,
 }
-use Rattle.lr_reading.specs.Feeding.{arrivals_given}
+use Rattle.lr_reading.specs.Feeding.{arrivals_given, EndsInFrame, HasOneMore, MayAsk}
 use Rattle.lr_reading.specs.Inputs.{unit_bytes, outcome_of_unit, outcomes_of_units, outcomes_of_bytes}
 use Rattle.lr_reading.specs.Reading.{units_of}
 use Rattle.lr_reading.specs.declared.arrival.Arrival.{Arrival}
@@ -89,6 +100,11 @@ pub arrivals_of_units-push : (form : UnitForm) (units : List (List ℕ)) (unit :
 unfolding arrivals_of_units
 arrivals_of_units-push form units unit = map-append (λ u. arrival_of (outcome_of_unit form u)) units (unit ∷ [])
 
+pub arrivals_of_units-append : (form : UnitForm) (units others : List (List ℕ))
+    → arrivals_of_units form (units ++ others) ≡ arrivals_of_units form units ++ arrivals_of_units form others
+unfolding arrivals_of_units
+arrivals_of_units-append form units others = map-append (λ u. arrival_of (outcome_of_unit form u)) units others
+
 pub arrivals_of_units-counted : (form : UnitForm) (units : List (List ℕ))
     → length (arrivals_of_units form units) ≡ length units
 unfolding arrivals_of_units
@@ -125,14 +141,14 @@ unfolding arrivals_of arrivals_given
 arrivals_first line bytes given next =
     let symbols : List ℤ = symbols_of bytes in
     let front : (rest : List Frame) × (frames_of (tail_of line) symbols ≡ given ++ rest) =
-    given_are_front (tail_of line) symbols given (tail_size line) next in (
+    given_are_prefix (tail_of line) symbols given (tail_size line) next in (
       map (arrival_in line symbols) front.0,
       ap (map (arrival_in line symbols)) front.1 ∙ map-append (arrival_in line symbols) given front.0,
     )
 
 -- and no more come after it than stand whole in the lock
 pub arrivals_few : (line : LineCode) (bytes : List ℕ) (given : List Frame) (lock : LockState)
-    → StandsFor lock (symbols_of bytes) given → lock.line ≡ line
+    → LockStandsFor lock (symbols_of bytes) given → lock.line ≡ line
     → (rest : List Arrival) × (arrivals_of (Symbols line) bytes ≡ arrivals_given line bytes given ++ rest)
     × (FRAME_SYMBOLS * length rest ≤ length lock.kept)
 unfolding arrivals_of arrivals_given
@@ -147,6 +163,64 @@ arrivals_few line bytes given lock stands line_is =
       omega (arith, few.2, length-map few.0 (arrival_in line symbols)),
     )
 
+-- and no more than one, where no whole window is kept
+pub one_more : (line : LineCode) (bytes : List ℕ) (given : List Frame) (lock : LockState)
+    → LockStandsFor lock (symbols_of bytes) given → lock.line ≡ line → length lock.kept < WINDOW_END
+    → HasOneMore line (arrivals_given line bytes given) bytes
+one_more line bytes given lock stands line_is looked =
+    let few = arrivals_few line bytes given lock stands line_is in
+    (few.0, few.1, omega (arith, few.2, looked))
+
+-- where the lock doesn't search, it stands right after the last frame
+last_given : (last : Option Frame) (given : List Frame) (frame : Frame) → last_of last given ≡ Some frame
+    → ((before : List Frame) × (given ≡ before ++ frame ∷ [])) ⊎ ((given ≡ []) × (last ≡ Some frame))
+last_given last [] frame is = inr (refl, is)
+last_given last (first ∷ given) frame is = inl (⊎_elim
+    (λ (more : (before : List Frame) × (given ≡ before ++ frame ∷ [])).
+    (first ∷ more.0, ap (λ (l : List Frame). first ∷ l) more.1))
+    (λ (none : (given ≡ []) × (Some first ≡ Some frame)). let same : first ≡ frame = cc (none.1) in
+    ([], ap (λ (l : List Frame). first ∷ l) none.0 ∙ ap (λ (f : Frame). f ∷ []) same))
+    (last_given (Some first) given frame is))
+
+stands_after : (line : LineCode) (bytes : List ℕ) (given : List Frame) (lock : LockState) (held : Option Frame)
+    → lock.held ≡ held → is_none held ≡ false
+    → LockStandsFor lock (symbols_of bytes) given → lock.line ≡ line → length lock.kept < WINDOW_END
+    → EndsInFrame line given bytes
+stands_after line bytes given lock None is some stands line_is looked = absurd cc
+stands_after line bytes given lock (Some frame) is some stands line_is looked =
+    let at : (last_of None given ≡ Some frame) × (lock.place ≡ place_after_frame frame) =
+    subst (λ (h : Option Frame). IsAt (tail_of lock.line) (symbols_of bytes) (last_of None given) h lock.place) is
+    stands.stands in
+    let last : (before : List Frame) × (given ≡ before ++ frame ∷ []) = ⊎_elim (λ more. more)
+    (λ (none : (given ≡ []) × (None ≡ Some frame)). absurd (let clash = none.1 in cc))
+    (last_given None given frame at.0) in
+    let come = given_are_prefix (tail_of line) (symbols_of bytes) given (tail_size line)
+    (subst (λ (l : LineCode). AreNext (tail_of l) (symbols_of bytes) None given) line_is stands.frames) in
+    record {
+      before = last.0;
+      frame = frame;
+      last = last.1;
+      near = omega (
+        arith,
+        at.1,
+        ap (λ (l : List ℤ). length l) stands.rest,
+        length-drop lock.place (symbols_of bytes),
+        length-symbols_of bytes,
+        looked,
+      );
+      others = come.0;
+      come = come.1;
+    }
+
+-- so the source may be asked
+pub may_ask : (IsUnderWay : Type 0) (line : LineCode) (bytes : List ℕ) (given : List Frame) (lock : LockState)
+    → LockStandsFor lock (symbols_of bytes) given → lock.line ≡ line → length lock.kept < WINDOW_END
+    → (IsUnderWay → is_none lock.held ≡ false) → MayAsk line IsUnderWay bytes given bytes
+may_ask IsUnderWay line bytes given lock stands line_is looked calm = (
+  one_more line bytes given lock stands line_is looked,
+  λ under_way. stands_after line bytes given lock lock.held refl (calm under_way) stands line_is looked,
+)
+
 -- it is the first of what comes of more bytes too, where the windows are there
 pub arrivals_go_on : (line : LineCode) (bytes more : List ℕ) (given : List Frame)
     → AreNext (tail_of line) (symbols_of bytes) None given
@@ -158,9 +232,9 @@ arrivals_go_on line bytes more given next sure =
     let some : List ℤ = symbols_of bytes in
     let all : List ℤ = some ++ symbols_of more in
     let front : (rest : List Frame) × (frames_of tail some ≡ given ++ rest) =
-    given_are_front tail some given (tail_size line) next in
+    given_are_prefix tail some given (tail_size line) next in
     let longer : (rest : List Frame) × (frames_of tail all ≡ frames_of tail some ++ rest) =
-    front_stays tail some (symbols_of more) (tail_size line) in
+    prefix_stays tail some (symbols_of more) (tail_size line) in
     let others : List Arrival = map (arrival_in line all) (front.0 ++ longer.0) in (
       others,
       ap (λ (s : List ℤ). map (arrival_in line s) (frames_of tail s)) (symbols_of-append bytes more)

@@ -22,7 +22,11 @@ use Rattle.std.proofs.Common.{
   arith,
   length-append,
   append_assoc,
+  append-nil,
   Some,
+  inl,
+  inr,
+  ⊎_elim,
 }
 use Rattle.lr_bits.specs.Faults.{Rose}
 use Rattle.lr_bits.specs.declared.outcome.Outcome.{Outcome}
@@ -30,7 +34,7 @@ use Rattle.lr_bits.specs.declared.sizes.TheConstants.{FRAME_SYMBOLS}
 use Rattle.lr_io.specs.declared.source.Source.{Ghosts as SourceOf}
 use Rattle.lr_lock.specs.declared.frame.Frame.{Frame}
 use Rattle.lr_lock.specs.Frames.{AreFrames}
-use Rattle.lr_lock.specs.Standing.{LockState, StandsFor}
+use Rattle.lr_lock.specs.Standing.{LockState, LockStandsFor}
 use Rattle.lr_lock.specs.Steps.{GivesWindow, WantsMore, HasEnded}
 use Rattle.lr_lock.specs.Symbols.{symbols_of}
 use Rattle.lr_conv.specs.Marker.{tail_of}
@@ -43,8 +47,8 @@ use Rattle.lr_reading.specs.declared.arrival.Arrival.{Arrival}
 use Rattle.lr_reading.specs.Arrivals.{arrival_in}
 use Rattle.lr_forms.specs.declared.forms.Stop.{Stop}
 use Rattle.lr_forms.specs.declared.forms.Stop.TheVariants.{End, Limit, Fault}
-use Rattle.lr_reading.specs.Reading.{EndsFor}
-use Rattle.lr_reading.proofs.Asking.{asked_on}
+use Rattle.lr_reading.specs.Reading.{EndsFor, StopsAtFault}
+use Rattle.lr_reading.proofs.Asking.{query_on, asked_piece, last_one, last_too}
 use Rattle.lr_reading.specs.Feeding.{
   FeedState,
   arrivals_given,
@@ -53,13 +57,16 @@ use Rattle.lr_reading.specs.Feeding.{
   FeedsNoneFor,
   FedSoFar,
   FeedsOn,
+  HasOneMore,
+  MayAsk,
+  LooksFirst,
   GivesFrame,
   EndsFrames,
 }
 
 -- a lock that is finished stands for what it stood for
-pub finished_stands : {lock : LockState} {fed : List ℤ} {given : List Frame} → StandsFor lock fed given
-    → StandsFor (record lock { finished = true }) fed given
+pub finished_stands : {lock : LockState} {fed : List ℤ} {given : List Frame} → LockStandsFor lock fed given
+    → LockStandsFor (record lock { finished = true }) fed given
 finished_stands stands = record {
   within = stands.within;
   rest = stands.rest;
@@ -87,7 +94,7 @@ same_arrivals line symbols others (frame ∷ frames) is =
 
 -- what comes of frames whose symbols were all fed stays
 pub arrivals_given-stay : (line : LineCode) (lock : LockState) (bytes piece : List ℕ) (given : List Frame)
-    → StandsFor lock (symbols_of bytes) given → lock.finished ≡ false → arrivals_given line (bytes ++ piece) given
+    → LockStandsFor lock (symbols_of bytes) given → lock.finished ≡ false → arrivals_given line (bytes ++ piece) given
     ≡ arrivals_given line bytes given
 unfolding arrivals_given
 arrivals_given-stay line lock bytes piece given stands unfinished =
@@ -97,13 +104,14 @@ arrivals_given-stay line lock bytes piece given stands unfinished =
 
 module _ {S : Type 0} (source : SourceOf S) (line : LineCode) where
   -- a piece is fed
-  pub piece_fed : {bytes : List ℕ} {given : List Frame} {before now : FeedState} {s t s' : S}
+  pub piece_fed : (IsUnderWay : Type 0) {bytes : List ℕ} {given : List Frame} {before now : FeedState} {s t s' : S}
       → FedSoFar source line bytes given before s t → before.lock.finished ≡ false
-      → FeedsPiece source before now t s' → FeedsOn source line bytes given now s s'
-  piece_fed {bytes} {given} {before} {now} {s} {t} {s'} so unfinished fed = record {
+      → MayAsk line IsUnderWay bytes given bytes
+      → FeedsPiece source before now t s' → FeedsOn source line IsUnderWay bytes given now s t s'
+  piece_fed IsUnderWay {bytes} {given} {before} {now} {s} {t} {s'} so unfinished one fed = record {
     all = bytes ++ fed.piece;
     so_far = record {
-      stands = subst (λ (l : List ℤ). StandsFor now.lock l given) (sym (symbols_of-append bytes fed.piece))
+      stands = subst (λ (l : List ℤ). LockStandsFor now.lock l given) (sym (symbols_of-append bytes fed.piece))
           (fed.stands (symbols_of bytes) given so.stands);
       line_is = ap (λ (l : LockState). l.line) fed.lock_is ∙ so.line_is;
       long = omega (arith, fed.taken, so.long, length-append bytes fed.piece);
@@ -119,10 +127,12 @@ module _ {S : Type 0} (source : SourceOf S) (line : LineCode) where
       told = λ told. fed.told (so.told told);
       moved = λ told. so.moved told ∙ ap (λ (l : List ℕ). bytes ++ l) (fed.moved (so.told told))
           ∙ sym (append_assoc bytes fed.piece (source.left s'));
-      asked = asked_on source s t s' so.asked (so.going_on unfinished) fed.asked;
+      asked = query_on source s t s' so.asked (so.going_on unfinished) (asked_piece source t s' fed.piece fed.asked);
       going_on = λ e. fed.kept ∙ so.going_on unfinished;
       ended = λ e. absurd (open_still e);
     };
+    looks = inr (last_one source (MayAsk line IsUnderWay bytes given) bytes fed.piece
+        (bytes ++ fed.piece) s t s' so.moved fed.asked refl one);
     same = arrivals_given-stay line before.lock bytes fed.piece given so.stands unfinished;
   }
     where
@@ -141,14 +151,17 @@ module _ {S : Type 0} (source : SourceOf S) (line : LineCode) where
       (omega (arith, why.0, so.long), subst (λ k. Rose k (source.faults s')) (so.going_on unfinished) why.1)
 
   -- the lock is finished
-  pub none_fed : (stop : Stop) {bytes : List ℕ} {given : List Frame} {before now : FeedState} {s t s' : S}
+  pub none_fed : (IsUnderWay : Type 0) (stop : Stop) {bytes : List ℕ} {given : List Frame}
+      {before now : FeedState} {s t s' : S}
       → FedSoFar source line bytes given before s t → before.lock.finished ≡ false
+      → MayAsk line IsUnderWay bytes given bytes
       → FeedsNone source stop before now t s'
-      → FeedsOn source line bytes given (record now { lock = record now.lock { finished = true }; stop = stop }) s s'
-  none_fed stop {bytes} {given} {before} {now} {s} {t} {s'} so unfinished fed = record {
+      → FeedsOn source line IsUnderWay bytes given
+      (record now { lock = record now.lock { finished = true }; stop = stop }) s t s'
+  none_fed IsUnderWay stop {bytes} {given} {before} {now} {s} {t} {s'} so unfinished one fed = record {
     all = bytes;
     so_far = record {
-      stands = finished_stands (subst (λ (n : FeedState). StandsFor n.lock (symbols_of bytes) given)
+      stands = finished_stands (subst (λ (n : FeedState). LockStandsFor n.lock (symbols_of bytes) given)
           (sym fed.same) so.stands);
       line_is = ap (λ (n : FeedState). n.lock.line) fed.same ∙ so.line_is;
       long = ap (λ (n : FeedState). n.taken) fed.same ∙ so.long;
@@ -161,18 +174,27 @@ module _ {S : Type 0} (source : SourceOf S) (line : LineCode) where
       );
       told = λ told. fed.told (so.told told);
       moved = λ told. so.moved told ∙ ap (λ (l : List ℕ). bytes ++ l) (sym (fed.moved (so.told told)));
-      asked = asked_on source s t s' so.asked (so.going_on unfinished) fed.asked;
+      asked = query_on source s t s' so.asked (so.going_on unfinished) asked;
       going_on = λ e. absurd cc;
       ended = λ e. subst (λ (n : FeedState). EndsFor source stop n.most bytes s s') (sym fed.same)
           (reason stop bytes given before s t s' so unfinished fed.why);
     };
+    looks = looks;
     same = refl;
   }
+    where
+      asked : StopsAtFault source t s'
+      asked = ⊎_elim (λ same. inl same) (λ once. asked_piece source t s' [] once) fed.asked
+
+      looks : LooksFirst source line IsUnderWay bytes bytes given s t s'
+      looks = ⊎_elim (λ same. inl (refl, same)) (λ once. inr (last_one source
+          (MayAsk line IsUnderWay bytes given) bytes [] bytes s t s' so.moved once
+          (sym (append-nil bytes)) one)) fed.asked
 
   -- the lock steps
   pub stepped : {bytes : List ℕ} {given given' : List Frame} {now : FeedState} {s t : S} (later : LockState)
       → FedSoFar source line bytes given now s t
-      → StandsFor later (symbols_of bytes) given' → later.line ≡ now.lock.line → later.finished ≡ now.lock.finished
+      → LockStandsFor later (symbols_of bytes) given' → later.line ≡ now.lock.line → later.finished ≡ now.lock.finished
       → FRAME_SYMBOLS * length given' + length later.kept ≤ FRAME_SYMBOLS * length given + length now.lock.kept
       → FedSoFar source line bytes given' (record now { lock = later }) s t
   stepped later so stands line_stays finished passed = record {
@@ -188,45 +210,64 @@ module _ {S : Type 0} (source : SourceOf S) (line : LineCode) where
     ended = λ e. so.ended (sym finished ∙ e);
   }
 
-  module _ {bytes : List ℕ} {given : List Frame} {now : FeedState} {s t : S}
-      (on : FeedsOn source line bytes given now s t) (later : LockState) (seen : WindowView)
+  module _ {bytes : List ℕ} {given : List Frame} {now : FeedState} {s r t : S}
+      (IsUnderWay : Type 0) (on : FeedsOn source line IsUnderWay bytes given now s r t) (later : LockState)
+      (seen : WindowView)
       (line_stays : later.line ≡ now.lock.line) (finished : later.finished ≡ now.lock.finished) where
     pub window_given : GivesWindow now.lock later seen (symbols_of on.all) given → length later.kept + FRAME_SYMBOLS
         ≤ length now.lock.kept
-        → GivesFrame source line bytes given (record now { lock = later }) seen s t
+        → GivesFrame source line IsUnderWay bytes given (record now { lock = later }) seen s r t
     window_given gives shorter = record {
       all = on.all;
       frame = gives.frame;
       so_far = stepped later on.so_far gives.stands line_stays finished
           (omega (arith, shorter, length-append given (gives.frame ∷ [])));
+      looks = on.looks;
       window_is = gives.window ∙ ap (λ (l : LineCode). window_view l (symbols_of on.all) gives.frame) on.so_far.line_is;
       same = on.same;
     }
 
     pub more_wanted : WantsMore now.lock later (symbols_of on.all) given → length later.kept ≤ length now.lock.kept
-        → FeedsOn source line bytes given (record now { lock = later }) s t
+        → FeedsOn source line IsUnderWay bytes given (record now { lock = later }) s r t
     more_wanted wants passes = record {
       all = on.all;
       so_far = stepped later on.so_far wants.stands line_stays finished (omega (arith, passes));
+      looks = on.looks;
       same = on.same;
     }
 
     pub all_given : HasEnded now.lock later (symbols_of on.all) given → length later.kept ≤ length now.lock.kept
-        → EndsFrames source line now.stop bytes given (record now { lock = later }) s t
+        → EndsFrames source line IsUnderWay now.stop bytes given (record now { lock = later }) s r t
     all_given ended passes = record {
       all = on.all;
       so_far = stepped later on.so_far ended.stands line_stays finished (omega (arith, passes));
+      looks = on.looks;
       closed = finished ∙ ended.closed;
       stop_is = refl;
       every = subst (λ (l : LineCode). AreFrames (tail_of l) (symbols_of on.all) given) on.so_far.line_is ended.all;
       same = on.same;
     }
 
-  pub joined : {bytes all : List ℕ} {given : List Frame} {now : FeedState} {s t : S}
-      → FeedsOn source line all given now s t → arrivals_given line all given ≡ arrivals_given line bytes given
-      → FeedsOn source line bytes given now s t
-  joined on same = record { all = on.all; so_far = on.so_far; same = on.same ∙ same }
+  -- after one feeding comes another
+  pub joined : (IsUnderWay : Type 0) {bytes all : List ℕ} {given : List Frame} {now : FeedState} {s r t u : S}
+      → FeedsOn source line IsUnderWay all given now s t u → LooksFirst source line IsUnderWay bytes all given s r t
+      → arrivals_given line all given ≡ arrivals_given line bytes given
+      → FeedsOn source line IsUnderWay bytes given now s r u
+  joined IsUnderWay {bytes} {all} {given} {now} {s} {r} {t} {u} on first same = record {
+    all = on.all;
+    so_far = on.so_far;
+    looks = looks;
+    same = on.same ∙ same;
+  }
+    where
+      may : (some : List ℕ) → MayAsk line IsUnderWay all given some → MayAsk line IsUnderWay bytes given some
+      may some asks = (subst (λ (l : List Arrival). HasOneMore line l some) same asks.0, asks.1)
 
-  pub begun : {bytes : List ℕ} {given : List Frame} {now : FeedState} {s t : S}
-      → FedSoFar source line bytes given now s t → FeedsOn source line bytes given now s t
-  begun {bytes} so = record { all = bytes; so_far = so; same = refl }
+      looks : LooksFirst source line IsUnderWay bytes on.all given s r u
+      looks = ⊎_elim (λ none. subst (λ (l : List ℕ). LooksFirst source line IsUnderWay bytes l given s r u)
+          (sym none.0) (subst (λ (x : S). LooksFirst source line IsUnderWay bytes all given s r x) (sym none.1) first))
+          (λ last. inr (last_too source (MayAsk line IsUnderWay bytes given) may last)) on.looks
+
+  pub begun : (IsUnderWay : Type 0) {bytes : List ℕ} {given : List Frame} {now : FeedState} {s t : S}
+      → FedSoFar source line bytes given now s t → FeedsOn source line IsUnderWay bytes given now s t t
+  begun IsUnderWay {bytes} so = record { all = bytes; so_far = so; looks = inl (refl, refl); same = refl }

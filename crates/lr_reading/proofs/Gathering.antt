@@ -4,6 +4,8 @@ use Rattle.std.proofs.Common.{
   ℕ,
   ◌+◌,
   ◌≤◌,
+  ◌<◌,
+  ◌⊎◌,
   List,
   [],
   ◌++◌,
@@ -19,14 +21,17 @@ use Rattle.std.proofs.Common.{
   append-nil,
   add-zero,
   length-append,
+  inl,
+  inr,
+  ⊎_elim,
 }
 use Rattle.std.proofs.lemmas.List.{length-take-le, take-append-le}
 use Rattle.std.proofs.Math.Seq.{take-append-add}
 use borrow.Rule.Slice.PartMut.{put_mid, post_of}
 use Rattle.lr_io.specs.declared.source.Source.{Ghosts as SourceOf}
-use Rattle.lr_reading.proofs.Asking.{asked_on}
+use Rattle.lr_reading.proofs.Asking.{query_on, asked_piece, last_one}
 use Rattle.lr_reading.specs.Gathering.{UnitState, Gathers}
-use Rattle.lr_reading.specs.Reading.{StopsAtFault}
+use Rattle.lr_reading.specs.Reading.{AsksOnce, LastCall}
 
 take-put_mid_more : (buffer piece : List ℕ) (filled room count : ℕ) → filled ≤ length buffer
     → count ≤ length piece → take (filled + count) (put_mid filled room buffer piece) ≡ take filled buffer
@@ -41,58 +46,67 @@ take-put_mid_more buffer piece filled room count inside enough =
 abbrev gathered : List ℕ → ℕ → ℕ → UnitState
 gathered held taken most = record { held = held; taken = taken; most = most }
 
-module _ {S : Type 0} (source : SourceOf S) where
+module _ {S : Type 0} (source : SourceOf S) (n : ℕ) where
+  -- the source wasn't asked for more of this piece, or only while what was held and came of it was no whole unit
+  abbrev NeedsPiece : List ℕ → List ℕ → S → S → Type 0
+  NeedsPiece held piece s s' =
+      ((piece ≡ []) × (s' ≡ s)) ⊎ LastCall source (λ given. length (held ++ given) < n) piece s s'
+
   -- a piece was written after the bytes that were held
   pub piece_taken : (s s' : S) (before : UnitState) (buffer into : List ℕ) (filled room count taken most : ℕ)
       → filled ≤ length buffer → count ≤ length into → taken + count ≤ most
       → (source.tells s → source.tells s') → (source.tells s → source.left s ≡ take count into ++ source.left s')
-      → StopsAtFault source s s' → gathered (take filled buffer) taken most ≡ before
-      → Gathers source before (gathered (take (filled + count) (put_mid filled room buffer into))
+      → AsksOnce source s (take count into) s' → length before.held < n
+      → gathered (take filled buffer) taken most ≡ before
+      → Gathers source n before (gathered (take (filled + count) (put_mid filled room buffer into))
       (taken + count) most) s s'
-  piece_taken s s' before buffer into filled room count taken most inside enough few told moved asked is = record {
-    piece = take count into;
-    held = take-put_mid_more buffer into filled room count inside enough
-        ∙ ap (λ (g : UnitState). g.held ++ take count into) is;
-    taken = ap (λ k. taken + k) (sym (length-take-le count into enough))
-        ∙ ap (λ (g : UnitState). g.taken + length (take count into)) is;
-    most = ap (λ (g : UnitState). g.most) is;
-    few = few;
-    told = told;
-    moved = moved;
-    asked = asked;
-  }
+  piece_taken s s' before buffer into filled room count taken most inside enough few told moved asked short is =
+      record {
+        piece = take count into;
+        held = take-put_mid_more buffer into filled room count inside enough
+            ∙ ap (λ (g : UnitState). g.held ++ take count into) is;
+        taken = ap (λ k. taken + k) (sym (length-take-le count into enough))
+            ∙ ap (λ (g : UnitState). g.taken + length (take count into)) is;
+        most = ap (λ (g : UnitState). g.most) is;
+        few = few;
+        told = told;
+        moved = moved;
+        asked = asked_piece source s s' (take count into) asked;
+        in_need = inr (last_one source (λ given. length (before.held ++ given) < n) [] (take count into)
+            (take count into) s s s' (λ told. refl) asked refl (omega (arith, length-append before.held [], short)));
+      }
 
   -- the call failed, whatever was written
   pub none_taken : (s s' : S) (before : UnitState) (buffer into : List ℕ) (filled room taken most : ℕ)
       → filled ≤ length buffer → taken ≤ most
       → (source.tells s → source.tells s') → (source.tells s → source.left s ≡ source.left s')
-      → StopsAtFault source s s' → gathered (take filled buffer) taken most ≡ before
-      → Gathers source before (gathered (take filled (put_mid filled room buffer into)) taken most) s s'
-  none_taken s s' before buffer into filled room taken most inside few told moved asked is =
-      subst (λ (k : ℕ). Gathers source before (gathered (take k (put_mid filled room buffer into)) taken most) s s')
+      → AsksOnce source s [] s' → length before.held < n → gathered (take filled buffer) taken most ≡ before
+      → Gathers source n before (gathered (take filled (put_mid filled room buffer into)) taken most) s s'
+  none_taken s s' before buffer into filled room taken most inside few told moved asked short is =
+      subst (λ (k : ℕ). Gathers source n before (gathered (take k (put_mid filled room buffer into)) taken most) s s')
       (add-zero filled)
-      (subst (λ (k : ℕ). Gathers source before
+      (subst (λ (k : ℕ). Gathers source n before
       (gathered (take (filled + 0) (put_mid filled room buffer into)) k most) s s') (add-zero taken)
       (piece_taken s s' before buffer into filled room 0 taken most inside (omega arith) (omega (arith, few)) told
-      moved asked is))
+      moved asked short is))
 
-  -- nothing was written
-  pub nothing_taken : (s s' : S) (now : UnitState) → now.taken ≤ now.most → (source.tells s → source.tells s')
-      → (source.tells s → source.left s ≡ source.left s') → StopsAtFault source s s' → Gathers source now now s s'
-  nothing_taken s s' now few told moved asked = record {
+  -- nothing was asked
+  pub nothing_taken : (s : S) (now : UnitState) → now.taken ≤ now.most → Gathers source n now now s s
+  nothing_taken s now few = record {
     piece = [];
     held = sym (append-nil now.held);
     taken = omega arith;
     most = refl;
     few = few;
-    told = told;
-    moved = moved;
-    asked = asked;
+    told = λ t. t;
+    moved = λ t. refl;
+    asked = inl refl;
+    in_need = inl (refl, refl);
   }
 
   -- one piece after another
-  pub joined : {before between now : UnitState} {s t s' : S} → Gathers source before between s t
-      → source.faults t ≡ source.faults s → Gathers source between now t s' → Gathers source before now s s'
+  pub joined : {before between now : UnitState} {s t s' : S} → Gathers source n before between s t
+      → source.faults t ≡ source.faults s → Gathers source n between now t s' → Gathers source n before now s s'
   joined {before} {between} {now} {s} {t} {s'} first kept second = record {
     piece = first.piece ++ second.piece;
     held = second.held ∙ ap (λ l. l ++ second.piece) first.held ∙ append_assoc before.held first.piece second.piece;
@@ -102,5 +116,27 @@ module _ {S : Type 0} (source : SourceOf S) where
     told = λ tells. second.told (first.told tells);
     moved = λ tells. first.moved tells ∙ ap (λ l. first.piece ++ l) (second.moved (first.told tells))
         ∙ sym (append_assoc first.piece second.piece (source.left s'));
-    asked = asked_on source s t s' first.asked kept second.asked;
+    asked = query_on source s t s' first.asked kept second.asked;
+    in_need = ⊎_elim no_more (λ last. inr (later last)) second.in_need;
   }
+    where
+      no_more : (second.piece ≡ []) × (s' ≡ t) → NeedsPiece before.held (first.piece ++ second.piece) s s'
+      no_more none = subst (λ (l : List ℕ). NeedsPiece before.held l s s')
+          (sym (ap (λ (l : List ℕ). first.piece ++ l) none.0 ∙ append-nil first.piece))
+          (subst (λ (x : S). NeedsPiece before.held first.piece s x) (sym none.1) first.in_need)
+
+      later : LastCall source (λ given. length (between.held ++ given) < n) second.piece t s'
+          → LastCall source (λ given. length (before.held ++ given) < n) (first.piece ++ second.piece) s s'
+      later last = record {
+        last = last.last;
+        given = first.piece ++ last.given;
+        piece = last.piece;
+        split = ap (λ (l : List ℕ). first.piece ++ l) last.split
+            ∙ sym (append_assoc first.piece last.given last.piece);
+        asked = last.asked;
+        moved = λ tells. first.moved tells ∙ ap (λ (l : List ℕ). first.piece ++ l) (last.moved (first.told tells))
+            ∙ sym (append_assoc first.piece last.given (source.left last.last));
+        so = subst (λ (l : List ℕ). length l < n)
+            (ap (λ (l : List ℕ). l ++ last.given) first.held ∙ append_assoc before.held first.piece last.given)
+            last.so;
+      }

@@ -2,6 +2,7 @@ pub mod Asking
 pub mod Beginning
 pub mod Coming
 pub mod Feeding
+pub mod Fronts
 pub mod Gathering
 pub mod WindowJobs
 pub mod WindowLeading

@@ -19,30 +19,36 @@ use Rattle.std.proofs.Common.{
   subst,
   arith,
   append-nil,
+  append_assoc,
   length-append,
 }
 use Rattle.std.specs.List.{concat}
+use Rattle.std.specs.Prelude.{All}
 use Rattle.std.proofs.lemmas.List.Elements.{All-push}
 use Rattle.lr_bits.specs.declared.sizes.TheConstants.{FRAME_BYTES}
 use Rattle.lr_io.specs.declared.source.Source.{Ghosts as SourceOf}
 use Rattle.lr_forms.specs.declared.forms.Stop.{Stop}
 use Rattle.lr_reading.specs.Arrivals.{arrival_of, arrivals_of_units, arrivals_of}
-use Rattle.lr_reading.specs.Gathering.{UnitState, Gathers, GathersFor, ReadsUnits, EndsUnits}
+use Rattle.lr_reading.specs.Gathering.{UnitState, IsShortOfOne, Gathers, GathersFor, ReadsUnits, EndsUnits}
 use Rattle.lr_reading.specs.Inputs.{unit_bytes, outcome_of_unit}
 use Rattle.lr_reading.specs.Reading.{EndsFor, units_of}
-use Rattle.lr_reading.specs.Runs.{TakesAll, TakesSome}
+use Rattle.lr_reading.specs.Readers.{leeway_for}
+use Rattle.lr_reading.specs.Runs.{ComesFirstBut, TakesAll, TakesSome}
 use Rattle.lr_reading.specs.declared.arrival.Arrival.{Arrival}
 use Rattle.lr_forms.specs.declared.forms.Input.TheVariants.{Units}
 use Rattle.lr_forms.specs.declared.forms.UnitForm.{UnitForm}
 use Rattle.lr_forms.specs.declared.forms.UnitForm.TheVariants.{Blocks, Frames}
 use Rattle.lr_reading.specs.declared.next.Next.TheVariants.{Ended}
-use Rattle.lr_reading.specs.declared.totals.Totals.{Totals}
+use Rattle.lr_reading.specs.declared.read_counts.ReadCounts.{ReadCounts}
+use Rattle.lr_reading.proofs.Asking.{when_too}
 use Rattle.lr_reading.proofs.Coming.{
+  arrivals_of_units-append,
   arrivals_of_units-none,
   arrivals_of_units-push,
   arrivals_of_units-counted,
   units_come,
 }
+use Rattle.lr_reading.proofs.Fronts.{All-first}
 use Rattle.lr_reading.proofs.UnitsOf.{units_are, length-concat, long}
 use Rattle.lr_reading.proofs.UnitsRead.{begun, gathered_more, cleared, ended, concat-push}
 
@@ -84,9 +90,27 @@ module _ {S C : Type 0} (source : SourceOf S) (took : C → List Arrival → C �
     taken = λ c none. subst (λ (l : List Arrival). took c l before) (sym (arrivals_of_units-none form)) none;
   }
 
+  -- what comes of these bytes comes of the first units
+  come_first : (units : List (List ℕ)) → All (λ unit. length unit ≡ n) units → (given : List ℕ)
+      → IsShortOfOne n units given → (worked waiting : List Arrival)
+      → arrivals_of (Units form) given ≡ worked ++ waiting
+      → (later : List Arrival) × (arrivals_of_units form units ≡ worked ++ later)
+  come_first units whole given short worked waiting split =
+      let first : All (λ (u : List ℕ). length u ≡ n) short.first = All-first (λ (u : List ℕ). length u ≡ n) short.first
+      short.others (subst (λ (l : List (List ℕ)). All (λ (u : List ℕ). length u ≡ n) l) short.split whole) in
+      let there : units_of (unit_bytes form) given ≡ short.first =
+      ap (λ k. units_of k given) (sym size) ∙ ap (units_of n) short.is
+      ∙ units_are n (positive form n size) short.first short.begun first short.short in (
+        waiting ++ arrivals_of_units form short.others,
+        ap (arrivals_of_units form) short.split ∙ arrivals_of_units-append form short.first short.others
+            ∙ ap (λ (l : List Arrival). l ++ arrivals_of_units form short.others)
+            (sym (units_come form given short.first there) ∙ split)
+            ∙ append_assoc worked waiting (arrivals_of_units form short.others),
+      )
+
   module _ {frames : ℕ} {now next : UnitState} {s t s' : S} {before after : C}
       (so : UnitsTaken source took form n limit frames now s t before after)
-      (more : Gathers source now next t s') (whole : length next.held ≡ n) (kept : source.faults s'
+      (more : Gathers source n now next t s') (whole : length next.held ≡ n) (kept : source.faults s'
       ≡ source.faults t) where
     reads_now : ReadsUnits source n limit so.units next s s'
     reads_now = gathered_more source n limit so.reads more kept
@@ -131,7 +155,7 @@ module _ {S C : Type 0} (source : SourceOf S) (took : C → List Arrival → C �
       pub units_stopped : {Cause : Type 0} (stopped : C → List Arrival → Cause → C → Type 0) (cause : Cause) (now' : C)
           → ((c : C) (arrivals : List Arrival) → took c arrivals after
           → stopped c (arrivals ++ arrival ∷ []) cause now')
-          → TakesSome source took (Units form) limit 1 stopped cause s s' before now'
+          → TakesSome source took (Units form) limit (leeway_for (Units form) 1) stopped cause s s' before now'
       units_stopped {Cause} stopped cause now' stops = record {
         bytes = concat so.units ++ next.held;
         read = record {
@@ -145,9 +169,22 @@ module _ {S C : Type 0} (source : SourceOf S) (took : C → List Arrival → C �
         split = units_come form (concat so.units ++ next.held) (so.units ++ next.held ∷ []) units_there
             ∙ one_more ∙ sym (append-nil (arrivals_of_units form so.units ++ arrival ∷ []));
         near = omega arith;
+        in_time = when_too source (IsShortOfOne n so.units) (ComesFirstBut (Units form) 0 1
+            (arrivals_of_units form so.units ++ arrival ∷ [])) (concat so.units ++ next.held) s s'
+            (λ given short. came given short) reads_now.in_need;
         stops = λ c none. stops c (arrivals_of_units form so.units) (so.taken c none);
         first = λ line symbols told few calm. cc (symbols);
       }
+        where
+          came : (given : List ℕ) → IsShortOfOne n so.units given
+              → ComesFirstBut (Units form) 0 1 (arrivals_of_units form so.units ++ arrival ∷ []) given
+          came given short worked waiting split many =
+              let front = come_first so.units reads_now.whole given short worked waiting split in (
+                front.0 ++ arrival ∷ [],
+                ap (λ (l : List Arrival). l ++ arrival ∷ []) front.1
+                    ∙ append_assoc worked front.0 (arrival ∷ []),
+                omega (arith, length-append front.0 (arrival ∷ [])),
+              )
 
       -- it took it
       pub units_more : (empty : UnitState) → empty ≡ record { held = []; taken = next.taken; most = next.most }
@@ -167,7 +204,7 @@ module _ {S C : Type 0} (source : SourceOf S) (took : C → List Arrival → C �
 
   module _ {frames : ℕ} {now next : UnitState} {s t s' : S} {before after : C}
       (so : UnitsTaken source took form n limit frames now s t before after)
-      (stop : Stop) (more : Gathers source now next t s') (why : GathersFor source n (Ended stop) next t s') where
+      (stop : Stop) (more : Gathers source n now next t s') (why : GathersFor source n (Ended stop) next t s') where
     end : EndsUnits source n limit so.units (length next.held) stop s s'
     end = ended source n limit stop so.reads more why
 
@@ -194,8 +231,9 @@ module _ {S C : Type 0} (source : SourceOf S) (took : C → List Arrival → C �
         )
 
     -- the units ended
-    pub units_ended : (totals : Totals) → totals.stop ≡ stop → totals.symbols ≡ next.taken → totals.frames ≡ frames
-        → totals.left ≡ length next.held → TakesAll source took (Units form) limit totals s s' before after
+    pub units_ended : (totals : ReadCounts) → totals.stop ≡ stop → totals.symbols ≡ next.taken → totals.frames ≡ frames
+        → totals.left ≡ length next.held
+        → TakesAll source took (Units form) limit (leeway_for (Units form) 1) totals s s' before after
     units_ended totals stops symbols frames_is left = record {
       bytes = concat so.units ++ end.held;
       ends = record {
@@ -206,5 +244,14 @@ module _ {S C : Type 0} (source : SourceOf S) (took : C → List Arrival → C �
         left = rest_of form n (length so.units) totals.left (length (concat so.units ++ end.held)) size
             (omega (arith, left, all_bytes, end.long)) (omega (arith, left, end.long, end.short));
       };
+      in_time = when_too source (IsShortOfOne n so.units) (ComesFirstBut (Units form) 0 0
+          (arrivals_of (Units form) (concat so.units ++ end.held))) (concat so.units ++ end.held) s s'
+          (λ given short. came given short) end.in_need;
       taken = λ c none. subst (λ (l : List Arrival). took c l after) (sym come) (so.taken c none);
     }
+      where
+        came : (given : List ℕ) → IsShortOfOne n so.units given
+            → ComesFirstBut (Units form) 0 0 (arrivals_of (Units form) (concat so.units ++ end.held)) given
+        came given short worked waiting split many =
+            let front = come_first so.units end.whole given short worked waiting split in
+            (front.0, come ∙ front.1, omega arith)

@@ -2,6 +2,8 @@
 use Rattle.std.proofs.Common.{
   ◌≡◌,
   inl,
+  inr,
+  ⊎_elim,
   ℕ,
   ◌+◌,
   ◌<◌,
@@ -29,9 +31,9 @@ use Rattle.lr_io.specs.declared.source.Source.{Ghosts as SourceOf}
 use Rattle.lr_forms.specs.declared.forms.Stop.{Stop}
 use Rattle.lr_forms.specs.declared.forms.Stop.TheVariants.{End, Limit, Fault}
 use Rattle.lr_reading.specs.declared.next.Next.TheVariants.{Ended}
-use Rattle.lr_reading.specs.Gathering.{UnitState, Gathers, GathersFor, ReadsUnits, EndsUnits}
-use Rattle.lr_reading.specs.Reading.{IsRead, EndsFor}
-use Rattle.lr_reading.proofs.Asking.{asked_on}
+use Rattle.lr_reading.specs.Gathering.{UnitState, IsShortOfOne, Gathers, GathersFor, ReadsUnits, EndsUnits}
+use Rattle.lr_reading.specs.Reading.{IsRead, EndsFor, LastCall, WhenLastAsked}
+use Rattle.lr_reading.proofs.Asking.{query_on, when_too}
 
 -- the bytes of one unit more
 pub concat-push : (units : List (List ℕ)) (unit : List ℕ) → concat (units ++ unit ∷ []) ++ [] ≡ concat units ++ unit
@@ -50,11 +52,51 @@ module _ {S : Type 0} (source : SourceOf S) (n limit : ℕ) where
     moved = λ t. refl;
     kept = refl;
     asked = inl refl;
+    in_need = inl refl;
   }
+
+  -- the last call is one that gathers more of a unit, if that makes any
+  needed : {units : List (List ℕ)} {before now : UnitState} {s t s' : S}
+      → ReadsUnits source n limit units before s t → Gathers source n before now t s'
+      → WhenLastAsked source (IsShortOfOne n units) (concat units ++ now.held) s s'
+  needed {units} {before} {now} {s} {t} {s'} reads more = ⊎_elim no_more (λ last. inr (later last)) more.in_need
+    where
+      both : (piece : List ℕ) → concat units ++ (before.held ++ piece) ≡ (concat units ++ before.held) ++ piece
+      both piece = sym (append_assoc (concat units) before.held piece)
+
+      no_more : (more.piece ≡ []) × (s' ≡ t)
+          → WhenLastAsked source (IsShortOfOne n units) (concat units ++ now.held) s s'
+      no_more none = subst (λ (l : List ℕ). WhenLastAsked source (IsShortOfOne n units) (concat units ++ l) s s')
+          (sym (more.held ∙ ap (λ (l : List ℕ). before.held ++ l) none.0 ∙ append-nil before.held))
+          (subst (λ (x : S). WhenLastAsked source (IsShortOfOne n units) (concat units ++ before.held) s x)
+          (sym none.1) reads.in_need)
+
+      later : LastCall source (λ given. length (before.held ++ given) < n) more.piece t s'
+          → LastCall source (IsShortOfOne n units) (concat units ++ now.held) s s'
+      later last = record {
+        last = last.last;
+        given = (concat units ++ before.held) ++ last.given;
+        piece = last.piece;
+        split = ap (λ (l : List ℕ). concat units ++ l) more.held ∙ both more.piece
+            ∙ ap (λ (l : List ℕ). (concat units ++ before.held) ++ l) last.split
+            ∙ sym (append_assoc (concat units ++ before.held) last.given last.piece);
+        asked = last.asked;
+        moved = λ tells. reads.moved tells
+            ∙ ap (λ (l : List ℕ). (concat units ++ before.held) ++ l) (last.moved (reads.told tells))
+            ∙ sym (append_assoc (concat units ++ before.held) last.given (source.left last.last));
+        so = record {
+          first = units;
+          others = [];
+          split = sym (append-nil units);
+          begun = before.held ++ last.given;
+          short = last.so;
+          is = append_assoc (concat units) before.held last.given;
+        };
+      }
 
   -- more of a unit was gathered, and the source didn't fail
   pub gathered_more : {units : List (List ℕ)} {before now : UnitState} {s t s' : S}
-      → ReadsUnits source n limit units before s t → Gathers source before now t s'
+      → ReadsUnits source n limit units before s t → Gathers source n before now t s'
       → source.faults s' ≡ source.faults t → ReadsUnits source n limit units now s s'
   gathered_more {units} {before} {now} {s} {t} {s'} reads more kept = record {
     whole = reads.whole;
@@ -69,7 +111,8 @@ module _ {S : Type 0} (source : SourceOf S) (n limit : ℕ) where
         ∙ ap (λ l. l ++ source.left s') (append_assoc (concat units) before.held more.piece
         ∙ ap (λ l. concat units ++ l) (sym more.held));
     kept = kept ∙ reads.kept;
-    asked = asked_on source s t s' reads.asked reads.kept more.asked;
+    asked = query_on source s t s' reads.asked reads.kept more.asked;
+    in_need = needed reads more;
   }
 
   -- a whole unit is handed on
@@ -86,11 +129,26 @@ module _ {S : Type 0} (source : SourceOf S) (n limit : ℕ) where
     moved = λ tells. reads.moved tells ∙ ap (λ l. l ++ source.left s') (sym (concat-push units now.held));
     kept = reads.kept;
     asked = reads.asked;
+    in_need = subst (λ (l : List ℕ). WhenLastAsked source (IsShortOfOne n (units ++ now.held ∷ [])) l s s')
+        (sym (concat-push units now.held))
+        (when_too source (IsShortOfOne n units) (IsShortOfOne n (units ++ now.held ∷ [])) (concat units ++ now.held)
+        s s' (λ given short. one_more given short) reads.in_need);
   }
+    where
+      one_more : (given : List ℕ) → IsShortOfOne n units given → IsShortOfOne n (units ++ now.held ∷ []) given
+      one_more given so = record {
+        first = so.first;
+        others = so.others ++ now.held ∷ [];
+        split = ap (λ (l : List (List ℕ)). l ++ now.held ∷ []) so.split
+            ∙ append_assoc so.first so.others (now.held ∷ []);
+        begun = so.begun;
+        short = so.short;
+        is = so.is;
+      }
 
   -- the reading ended with a rest
   pub ended : {units : List (List ℕ)} {before now : UnitState} {s t s' : S} (stop : Stop)
-      → ReadsUnits source n limit units before s t → Gathers source before now t s'
+      → ReadsUnits source n limit units before s t → Gathers source n before now t s'
       → GathersFor source n (Ended stop) now t s'
       → EndsUnits source n limit units (length now.held) stop s s'
   ended {units} {before} {now} {s} {t} {s'} stop reads more why =
@@ -108,7 +166,7 @@ module _ {S : Type 0} (source : SourceOf S) (n limit : ℕ) where
             ∙ sym (append_assoc (concat units ++ before.held) more.piece (source.left s'))
             ∙ ap (λ l. l ++ source.left s') same;
         few = few;
-        asked = asked_on source s t s' reads.asked reads.kept more.asked;
+        asked = query_on source s t s' reads.asked reads.kept more.asked;
       } in
       let short : length now.held < n = short_of stop why in
       record {
@@ -117,6 +175,7 @@ module _ {S : Type 0} (source : SourceOf S) (n limit : ℕ) where
         short = short;
         whole = reads.whole;
         read = read;
+        in_need = needed reads more;
         reason =
             reason_of stop all why;
       }

@@ -32,9 +32,10 @@ use Rattle.lr_conv.proofs.Tails.{tail_size}
 use Rattle.lr_lock.specs.Frames.{place_after_frame, HasFewer, IsFoundFrom, IsNext, AreNext, AreFrames, last_of}
 use Rattle.lr_lock.specs.FramesOf.{frames_of}
 use Rattle.lr_lock.specs.Machine.{IsAt}
-use Rattle.lr_lock.specs.Standing.{LockState, StandsFor}
+use Rattle.lr_lock.specs.Standing.{LockState, LockStandsFor}
+use Rattle.lr_lock.specs.Thresholds.{acquiring_hits, holding_hits}
 use Rattle.lr_lock.specs.declared.frame.Frame.{Frame}
-use Rattle.lr_lock.proofs.Existing.{frames_of-are, given_are_front}
+use Rattle.lr_lock.proofs.Existing.{frames_of-are, given_are_prefix}
 use Rattle.lr_lock.proofs.Following.{not_fewer}
 use Rattle.lr_lock.proofs.Stepping.{next_whole, reach}
 
@@ -47,7 +48,7 @@ frames_behind tail symbols last (frame ∷ given) more next = frames_behind tail
 -- what a search finds lies ahead of it
 found_ahead : (tail : List Bool) (symbols : List ℤ) (start begin place : ℕ) (frame : Frame) → start ≡ begin
     → IsFoundFrom tail symbols start frame
-    → ((p : ℕ) → begin ≤ p → p < place → HasFewer tail symbols p 45) → place ≤ frame.place
+    → ((p : ℕ) → begin ≤ p → p < place → HasFewer tail symbols p acquiring_hits) → place ≤ frame.place
 found_ahead tail symbols start begin place frame e found passed =
     let below : frame.place < place → ⊥ =
     λ (h : frame.place < place). absurd (omega (
@@ -64,8 +65,8 @@ next_ahead tail symbols None None place frame at (inl h) = absurd h
 next_ahead tail symbols None None place frame at (inr h) =
     found_ahead tail symbols h.0 at.start place frame (h.1 ∙ sym at.begins) h.2 at.passed
 next_ahead tail symbols (Some last) None place frame at (inl (inl h)) =
-    absurd (not_fewer tail symbols frame.place (place_after_frame last) frame.positive 37 h.place h.seen
-    at.begins.0.unseen)
+    absurd (not_fewer tail symbols frame.place (place_after_frame last) frame.positive holding_hits h.place
+    h.seen at.begins.0.unseen)
 next_ahead tail symbols (Some last) None place frame at (inl (inr h)) = absurd (omega (arith, h.few, at.begins.0.many))
 next_ahead tail symbols (Some last) None place frame at (inr h) =
     found_ahead tail symbols h.0 at.start place frame (h.1.1 ∙ sym at.begins.1) h.2 at.passed
@@ -92,13 +93,13 @@ fit_behind tail symbols last held place (frame ∷ more) at next =
       next_whole tail symbols last frame next.0,
     )
 
-pub few_in_lock : (lock : LockState) (symbols : List ℤ) (given : List Frame) → StandsFor lock symbols given
+pub few_in_lock : (lock : LockState) (symbols : List ℤ) (given : List Frame) → LockStandsFor lock symbols given
     → (rest : List Frame) × (frames_of (tail_of lock.line) symbols ≡ given ++ rest)
     × (FRAME_SYMBOLS * length rest ≤ length lock.kept)
 few_in_lock lock symbols given stands =
     let tail = tail_of lock.line in
     let front : (rest : List Frame) × (frames_of tail symbols ≡ given ++ rest) =
-    given_are_front tail symbols given (tail_size lock.line) stands.frames in
+    given_are_prefix tail symbols given (tail_size lock.line) stands.frames in
     let all : AreFrames tail symbols (frames_of tail symbols) = frames_of-are tail symbols in
     let next : AreNext tail symbols None (given ++ front.0) =
     subst (λ (l : List Frame). AreNext tail symbols None l) front.1 all.next in

@@ -28,7 +28,7 @@ use Rattle.lr_lock.specs.Windows.{WindowView}
 use Rattle.lr_lock.specs.declared.frame.Frame.{Frame}
 use Rattle.lr_gate.proofs.Seats.{All-last, All-front}
 use Rattle.lr_reading.specs.Feeding.{arrivals_given}
-use Rattle.lr_reading.specs.WindowLeads.{arrival_of_window, AreOfLine, HasJobs, first_arrivals}
+use Rattle.lr_reading.specs.WindowSources.{arrival_of_window, AreOfLine, HasWindowJobs, first_arrivals}
 use Rattle.lr_reading.specs.declared.arrival.Arrival.{Arrival}
 use Rattle.lr_reading.specs.declared.intake.Intake.{Intake}
 
@@ -45,7 +45,7 @@ take_more {X} {Y} f (y ∷ ys) zero x e = ap (λ (z : X). f z ∷ []) (some-inje
 take_more {X} {Y} f (y ∷ ys) (suc n) x e = ap (λ (l : List Y). f y ∷ l) (take_more f ys n x e)
 
 module _ {line : LineCode} {bytes : List ℕ} {given : List Frame} {windows : List WindowView} {kept : ℕ}
-    {intake : Intake} (jobs : HasJobs line bytes given windows kept intake) where
+    {intake : Intake} (jobs : HasWindowJobs line bytes given windows kept intake) where
   -- there is an arrival for each window
   pub as_many : length (arrivals_given line bytes given) ≡ length windows
   as_many = ap (λ (l : List Arrival). length l) (sym jobs.jobs) ∙ length-map windows arrival_of_window

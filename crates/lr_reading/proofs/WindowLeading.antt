@@ -39,10 +39,15 @@ use Rattle.std.proofs.Common.{
   Err,
   OnOk,
   IfErr,
+  inl,
+  inr,
+  ⊎_elim,
 }
-use Rattle.std.proofs.Math.Seq.{take-length}
+use Rattle.std.specs.Prelude.{All}
+use Rattle.std.proofs.Math.Seq.{drop-append_seam, take-length}
+use Rattle.std.proofs.lemmas.Bool.{cases_lt}
 use Rattle.std.proofs.lemmas.List.{map-append, take-append-le, take-append-drop, length-take}
-use Rattle.std.proofs.lemmas.List.Elements.{All-push}
+use Rattle.std.proofs.lemmas.List.Elements.{All-drop, All-head, All-push}
 use Rattle.lr_lock.specs.Thresholds.{lock_symbols}
 use Rattle.lr_bits.specs.Faults.{Rose}
 use Rattle.lr_bits.specs.declared.outcome.Outcome.{Outcome}
@@ -50,7 +55,10 @@ use Rattle.lr_bits.specs.declared.sizes.TheConstants.{FRAME_SYMBOLS}
 use Rattle.lr_conv.specs.Marker.{tail_of}
 use Rattle.lr_conv.specs.declared.line.LineCode.{LineCode}
 use Rattle.lr_io.specs.declared.source.Source.{Ghosts as SourceOf}
-use Rattle.lr_lock.specs.Frames.{AreNext}
+use Rattle.lr_lock.specs.Frames.{AreNext, place_after_frame}
+use Rattle.lr_lock.specs.FramesOf.{frames_of}
+use Rattle.lr_lock.specs.declared.sizes.TheConstants.{WINDOW_END}
+use Rattle.lr_reading.specs.Readers.{AreAllThatWait, EndsInNoise}
 use Rattle.lr_lock.specs.Symbols.{symbols_of}
 use Rattle.lr_lock.specs.Windows.{WindowView}
 use Rattle.lr_lock.specs.declared.frame.Frame.{Frame}
@@ -60,16 +68,26 @@ use Rattle.lr_gatecore.proofs.Lists.{at_length}
 use Rattle.lr_forms.specs.declared.forms.Input.TheVariants.{Symbols}
 use Rattle.lr_forms.specs.declared.forms.Stop.{Stop}
 use Rattle.lr_forms.specs.declared.forms.Stop.TheVariants.{End, Limit, Fault}
-use Rattle.lr_rounds.specs.Leads.{IsDoneNext, EndsWell, Gives, Keeps, IsUnled}
-use Rattle.lr_rounds.specs.declared.unled.Unled.{Unled}
-use Rattle.lr_rounds.specs.declared.unled.Unled.TheVariants.{NoMemory, Stopped}
-use Rattle.lr_rounds.specs.declared.lead.Offer.{Offer}
-use Rattle.lr_rounds.specs.declared.lead.Offer.TheVariants.{Job, Later, Over}
+use Rattle.lr_rounds.specs.JobSources.{IsDoneNext, EndsWell, Gives, Keeps, IsDriveFault}
+use Rattle.lr_rounds.specs.declared.drive_fault.DriveFault.{DriveFault}
+use Rattle.lr_rounds.specs.declared.drive_fault.DriveFault.TheVariants.{NoMemory, Stopped}
+use Rattle.lr_rounds.specs.declared.job_source.NextJob.{NextJob}
+use Rattle.lr_rounds.specs.declared.job_source.NextJob.TheVariants.{Job, NotYet, Finished}
 use Rattle.lr_reading.specs.Arrivals.{arrival_in, arrivals_of}
-use Rattle.lr_reading.specs.Feeding.{FeedState, arrivals_given, FedSoFar, GivesFrame, EndsFrames}
-use Rattle.lr_reading.specs.Reading.{EndsFor}
-use Rattle.lr_reading.specs.Runs.{TakesAll, TakesSome}
-use Rattle.lr_reading.specs.WindowLeads.{
+use Rattle.lr_reading.specs.Feeding.{
+  FeedState,
+  arrivals_given,
+  FedSoFar,
+  EndsInFrame,
+  FeedsOn,
+  MayAsk,
+  LooksFirst,
+  GivesFrame,
+  EndsFrames,
+}
+use Rattle.lr_reading.specs.Reading.{EndsFor, WhenLastAsked}
+use Rattle.lr_reading.specs.Runs.{ComesFirstBut, TakesAll, TakesSome}
+use Rattle.lr_reading.specs.WindowSources.{
   arrival_of_window,
   AreOfLine,
   HasWindows,
@@ -77,11 +95,12 @@ use Rattle.lr_reading.specs.WindowLeads.{
   first_arrivals,
   windows_left,
   left_to_feed,
-  most_in,
+  leeway_in,
+  LooksForSpare,
   IsGiven,
   GivesMore,
-  Offers,
-  OffersLess,
+  HasNextJob,
+  LeavesFewer,
   MayHandOver,
   StandsAt,
   StopsAt,
@@ -90,8 +109,8 @@ use Rattle.lr_reading.specs.WindowLeads.{
 use Rattle.lr_reading.specs.declared.arrival.Arrival.{Arrival}
 use Rattle.lr_reading.specs.declared.arrival.Position.{Position}
 use Rattle.lr_reading.specs.declared.intake.Intake.{Intake}
-use Rattle.lr_reading.specs.declared.totals.Totals.{Totals}
-use Rattle.lr_reading.specs.declared.window_lead.WindowLead.{WindowLead}
+use Rattle.lr_reading.specs.declared.read_counts.ReadCounts.{ReadCounts}
+use Rattle.lr_reading.specs.declared.window_source.WindowSource.{WindowSource}
 use Rattle.lr_reading.proofs.Coming.{
   arrivals_given-push,
   arrivals_given-counted,
@@ -100,6 +119,8 @@ use Rattle.lr_reading.proofs.Coming.{
   arrivals_go_on,
   arrivals_all,
 }
+use Rattle.lr_reading.proofs.Asking.{last_too, when_too}
+use Rattle.lr_reading.proofs.Fronts.{take_on, front_of}
 use Rattle.lr_reading.proofs.Refusing.{stops_at_once}
 use Rattle.lr_reading.proofs.WindowJobs.{as_many, oldest_line, handed_more}
 
@@ -129,12 +150,23 @@ module _ {S : Type 0} (source : SourceOf S) (line : LineCode) (limit : ℕ) {byt
   pub few_given : FRAME_SYMBOLS * length windows ≤ limit
   few_given = omega (arith, given_is, so.feeds.passed, so.feeds.few, so.limit_is)
 
-  pub gives_window : (intake' : Intake) (window : WindowView) (s' : S)
-      → GivesFrame source line bytes given intake'.feed window s s'
+  -- the source was asked while a window was spare
+  looked : (IsUnderWay : Type 0) → (vec_len intake.spare < vec_capacity intake.spare → IsUnderWay) → (all : List ℕ)
+      (s' : S) → LooksFirst source line IsUnderWay bytes all given s t s' → 0 < vec_len intake.spare
+      → LooksForSpare source line limit bytes all given intake s t s'
+  looked IsUnderWay says all s' looks spare = ⊎_elim (λ none. inl none) (λ last. inr (
+    spare,
+    last_too source (MayAsk line (vec_len intake.spare < vec_capacity intake.spare) bytes given)
+        (λ some asks. (asks.0, λ under_way. asks.1 (says under_way))) last,
+  )) looks
+
+  pub gives_window : (IsUnderWay : Type 0) → (vec_len intake.spare < vec_capacity intake.spare → IsUnderWay)
+      → (intake' : Intake) (window : WindowView) (s' : S) → 0 < vec_len intake.spare
+      → GivesFrame source line IsUnderWay bytes given intake'.feed window s t s'
       → intake'.feed.most ≡ intake.feed.most → intake'.ended ≡ None → intake'.frames ≡ intake.frames
       → AreOfLine line intake'.spare.items → length intake'.feed.lock.kept ≤ lock_symbols - FRAME_SYMBOLS
-      → GivesMore source line limit bytes given (windows ++ window ∷ []) kept intake' s s'
-  gives_window intake' window s' gives most still frames lines short = record {
+      → GivesMore source line limit bytes given (windows ++ window ∷ []) kept intake intake' s t s'
+  gives_window IsUnderWay says intake' window s' spare gives most still frames lines short = record {
     all = gives.all;
     every = given ++ gives.frame ∷ [];
     is_given = record {
@@ -151,6 +183,7 @@ module _ {S : Type 0} (source : SourceOf S) (line : LineCode) (limit : ℕ) {byt
       over = λ stop e. absurd (let clash : None ≡ Some stop = sym still ∙ e in cc);
       short = λ e. short;
     };
+    looks = looked IsUnderWay says gives.all s' gives.looks spare;
     rest = arrival_of_window window ∷ [];
     grown = grows;
   }
@@ -162,11 +195,12 @@ module _ {S : Type 0} (source : SourceOf S) (line : LineCode) (limit : ℕ) {byt
           ∙ ap (λ (a : Arrival). arrivals_given line bytes given ++ a ∷ [])
           (sym (ap arrival_of_window gives.window_is))
 
-  pub ends_input : (intake' : Intake) (stop : Stop) (s' : S)
-      → EndsFrames source line stop bytes given intake'.feed s s' → intake'.feed.most ≡ intake.feed.most
+  pub ends_input : (IsUnderWay : Type 0) → (vec_len intake.spare < vec_capacity intake.spare → IsUnderWay)
+      → (intake' : Intake) (stop : Stop) (s' : S) → 0 < vec_len intake.spare
+      → EndsFrames source line IsUnderWay stop bytes given intake'.feed s t s' → intake'.feed.most ≡ intake.feed.most
       → intake'.ended ≡ Some stop → intake'.frames ≡ intake.frames → AreOfLine line intake'.spare.items
-      → GivesMore source line limit bytes given windows kept intake' s s'
-  ends_input intake' stop s' ends most ended frames lines = record {
+      → GivesMore source line limit bytes given windows kept intake intake' s t s'
+  ends_input IsUnderWay says intake' stop s' spare ends most ended frames lines = record {
     all = ends.all;
     every = given;
     is_given = record {
@@ -185,19 +219,62 @@ module _ {S : Type 0} (source : SourceOf S) (line : LineCode) (limit : ℕ) {byt
       };
       short = λ e. absurd (let clash : None ≡ Some stop = sym e ∙ ended in cc);
     };
+    looks = looked IsUnderWay says ends.all s' ends.looks spare;
     rest = [];
     grown = ends.same ∙ sym (append-nil (arrivals_given line bytes given));
   }
 
+  -- no frame was found yet
+  pub waits_more : (IsUnderWay : Type 0) → (vec_len intake.spare < vec_capacity intake.spare → IsUnderWay)
+      → (intake' : Intake) (s' : S) → 0 < vec_len intake.spare
+      → FeedsOn source line IsUnderWay bytes given intake'.feed s t s' → intake'.feed.most ≡ intake.feed.most
+      → intake'.ended ≡ None → intake'.frames ≡ intake.frames → AreOfLine line intake'.spare.items
+      → length intake'.feed.lock.kept < WINDOW_END
+      → GivesMore source line limit bytes given windows kept intake intake' s t s'
+  waits_more IsUnderWay says intake' s' spare on most still frames lines few = record {
+    all = on.all;
+    every = given;
+    is_given = record {
+      feeds = on.so_far;
+      limit_is = most ∙ so.limit_is;
+      jobs = record {
+        jobs = so.jobs.jobs ∙ sym on.same;
+        job_lines = so.jobs.job_lines;
+        spare_lines = lines;
+        count = frames ∙ so.jobs.count;
+      };
+      over = λ stop e. absurd (let clash : None ≡ Some stop = sym still ∙ e in cc);
+      short = λ e. omega (arith, few);
+    };
+    looks = looked IsUnderWay says on.all s' on.looks spare;
+    rest = [];
+    grown = on.same ∙ sym (append-nil (arrivals_given line bytes given));
+  }
+
   -- the input has ended before
-  pub ended_before : GivesMore source line limit bytes given windows kept intake s t
+  pub ended_before : GivesMore source line limit bytes given windows kept intake intake s t t
   ended_before = record {
     all = bytes;
     every = given;
     is_given = so;
+    looks = inl (refl, refl);
     rest = [];
     grown = sym (append-nil (arrivals_given line bytes given));
   }
+
+-- there is no noise after a frame
+no_noise : (line : LineCode) (given : List Frame) (bytes : List ℕ) → EndsInFrame line given bytes
+    → EndsInNoise (Symbols line) bytes → ⊥
+no_noise line given bytes ends noise =
+    let Ends : Frame → Type 0 = λ frame. place_after_frame frame + WINDOW_END ≤ length bytes in
+    let all : frames_of (tail_of line) (symbols_of bytes) ≡ ends.before ++ (ends.frame ∷ ends.others) =
+    ends.come ∙ ap (λ (l : List Frame). l ++ ends.others) ends.last
+    ∙ append_assoc ends.before (ends.frame ∷ []) ends.others in
+    let these : All Ends (ends.frame ∷ ends.others) = subst (All Ends)
+    (ap (drop (length ends.before)) all ∙ drop-append_seam ends.before (ends.frame ∷ ends.others))
+    (All-drop Ends (length ends.before) (frames_of (tail_of line) (symbols_of bytes)) noise) in
+    let this = All-head Ends ends.frame ends.others these in
+    omega (arith, this, ends.near)
 
 -- nothing is left where neither a fault nor the limit ended the reading
 nothing_left : {S : Type 0} (source : SourceOf S) (stop : Stop) (limit : ℕ) (bytes : List ℕ) (s s' : S)
@@ -207,10 +284,10 @@ nothing_left source End limit bytes s s' why told few calm = why.1 told
 nothing_left source Limit limit bytes s s' why told few calm = absurd (omega (arith, why.0, few))
 nothing_left source Fault limit bytes s s' why told few calm = absurd (calm why.1)
 
--- ---- the lead
+-- ---- the job source
 
 module _ {S C : Type 0} (source : SourceOf S) (took : C → List Arrival → C → Type 0) (most : ℕ)
-    {start before : WindowLead S C} {windows : List WindowView} {kept : ℕ}
+    {start before : WindowSource S C} {windows : List WindowView} {kept : ℕ}
     (at : StandsAt source took most start before windows kept) where
   abbrev line : LineCode
   line = start.intake.now.feed.lock.line
@@ -280,14 +357,46 @@ module _ {S C : Type 0} (source : SourceOf S) (took : C → List Arrival → C �
     omega arith,
   )
 
-  -- the consumer stopped at the last one of so many arrivals
-  led_some : (n : ℕ) → kept < n → {Cause : Type 0} (stopped : C → List Arrival → Cause → C → Type 0) (cause : Cause)
-      (now : C)
+  -- what was first among the arrivals that were kept is so among more of them
+  longer : (n after : ℕ) → kept + after ≤ n → n ≤ length windows → (given : List ℕ)
+      → ComesFirstBut (Symbols line) (vec_capacity start.intake.now.spare) 0 first given
+      → ComesFirstBut (Symbols line) (vec_capacity start.intake.now.spare) after
+      (first_arrivals line at.bytes at.given n) given
+  longer n after past enough given due worked waiting split many =
+      let arrivals : List Arrival = arrivals_given line at.bytes at.given in
+      let others : List Arrival = take (n - kept) (drop kept arrivals) in
+      let then = due worked waiting split many in (
+        then.0 ++ others,
+        take_on arrivals kept n (omega (arith, past)) ∙ ap (λ (l : List Arrival). l ++ others) then.1
+            ∙ append_assoc worked then.0 others,
+        omega (
+          arith,
+          length-append then.0 others,
+          length-take (n - kept) (drop kept arrivals),
+          length-drop kept arrivals,
+          as_many at.is_given.jobs,
+          enough,
+          past,
+        ),
+      )
+
+  in_time_on : (n after : ℕ) → kept + after ≤ n → n ≤ length windows
+      → WhenLastAsked source (ComesFirstBut (Symbols line) (vec_capacity start.intake.now.spare) after
+      (first_arrivals line at.bytes at.given n)) at.bytes start.source.now before.source.now
+  in_time_on n after past enough = when_too source
+      (ComesFirstBut (Symbols line) (vec_capacity start.intake.now.spare) 0 first)
+      (ComesFirstBut (Symbols line) (vec_capacity start.intake.now.spare) after
+      (first_arrivals line at.bytes at.given n)) at.bytes start.source.now before.source.now
+      (longer n after past enough) at.in_time
+
+  -- the consumer stopped at the last one of these arrivals
+  led_some : (n : ℕ) → kept < n → n ≤ length windows → {Cause : Type 0}
+      (stopped : C → List Arrival → Cause → C → Type 0) (cause : Cause) (now : C)
       → ((c : C) → took c [] start.consumer.now → stopped c (first_arrivals line at.bytes at.given n) cause now)
-      → TakesSome source took (Symbols line) limit (most_in start.intake.now) stopped cause start.source.now
+      → TakesSome source took (Symbols line) limit (leeway_in start.intake.now) stopped cause start.source.now
       before.source.now start.consumer.now now
   unfolding cut
-  led_some n past {Cause} stopped cause now stops =
+  led_some n past enough {Cause} stopped cause now stops =
       let arrivals = arrivals_given line at.bytes at.given in
       let more = few_more before.intake.now.ended refl in
       let split = cut n (arrivals_of (Symbols line) at.bytes) (more.0, more.1) in
@@ -313,6 +422,7 @@ module _ {S C : Type 0} (source : SourceOf S) (took : C → List Arrival → C �
           at.has_windows.some,
           at.same_room,
         );
+        in_time = in_time_on n 1 (omega (arith, past)) enough;
         stops = stops;
         first = λ other symbols told few calm.
             cut n (arrivals_of (Symbols line) (at.bytes ++ source.left before.source.now))
@@ -320,10 +430,10 @@ module _ {S C : Type 0} (source : SourceOf S) (took : C → List Arrival → C �
       }
 
   -- the consumer took all
-  pub led_all : kept ≡ length windows → (totals : Totals) → before.intake.now.ended ≡ Some totals.stop
+  pub led_all : kept ≡ length windows → (totals : ReadCounts) → before.intake.now.ended ≡ Some totals.stop
       → totals.symbols ≡ before.intake.now.feed.taken → totals.frames ≡ before.intake.now.frames → totals.left ≡ 0
-      → TakesAll source took (Symbols line) limit totals start.source.now before.source.now start.consumer.now
-      before.consumer.now
+      → TakesAll source took (Symbols line) limit (leeway_in start.intake.now) totals start.source.now
+      before.source.now start.consumer.now before.consumer.now
   led_all all totals ended symbols frames left = record {
     bytes = at.bytes;
     ends = record {
@@ -340,6 +450,9 @@ module _ {S C : Type 0} (source : SourceOf S) (took : C → List Arrival → C �
           ∙ ap (λ (l : List Arrival). length l) (sym come);
       left = left;
     };
+    in_time = subst (λ (l : List Arrival). WhenLastAsked source (ComesFirstBut (Symbols line)
+        (vec_capacity start.intake.now.spare) 0 l) at.bytes start.source.now before.source.now) (whole ∙ sym come)
+        at.in_time;
     taken = λ c none. subst (λ (l : List Arrival). took c l before.consumer.now) (whole ∙ sym come) (at.taken c none);
   }
     where
@@ -355,14 +468,15 @@ module _ {S C : Type 0} (source : SourceOf S) (took : C → List Arrival → C �
 
   -- ---- it gives a window, or none
 
-  module _ (now : WindowLead S C) (same_intake : now.intake.ghost_name ≡ before.intake.ghost_name)
+  module _ (now : WindowSource S C) (same_intake : now.intake.ghost_name ≡ before.intake.ghost_name)
       (same_source : now.source.ghost_name ≡ before.source.ghost_name)
       (same_consumer : now.consumer.ghost_name ≡ before.consumer.ghost_name)
       (consumer_is : now.consumer.now ≡ before.consumer.now) where
-    -- the lead stands, where it gave more windows
+    -- the job source stands, where it gave more windows
     stands_more : (windows' : List WindowView) → HasWindows (length windows') kept now.intake.now
         → vec_capacity now.intake.now.spare ≡ vec_capacity before.intake.now.spare → kept ≤ length windows'
-        → GivesMore source line limit at.bytes at.given windows' kept now.intake.now start.source.now now.source.now
+        → GivesMore source line limit at.bytes at.given windows' kept before.intake.now now.intake.now
+        start.source.now before.source.now now.source.now
         → StandsAt source took most start now windows' kept
     stands_more windows' has room behind more = record {
       same_intake = same_intake ∙ at.same_intake;
@@ -377,6 +491,7 @@ module _ {S C : Type 0} (source : SourceOf S) (took : C → List Arrival → C �
       bytes = more.all;
       given = more.every;
       is_given = more.is_given;
+      in_time = in_time;
       taken = λ c none. subst (λ (n : C). took c (first_arrivals line more.all more.every kept) n) (sym consumer_is)
           (subst (λ (l : List Arrival). took c l before.consumer.now) (sym same) (at.taken c none));
     }
@@ -386,12 +501,74 @@ module _ {S C : Type 0} (source : SourceOf S) (took : C → List Arrival → C �
             ∙ take-append-le kept (arrivals_given line at.bytes at.given) more.rest
             (omega (arith, at.behind, as_many at.is_given.jobs))
 
-    pub gives : (offer : Offer WindowView)
-        → Offers source line limit offer at.bytes at.given windows kept before.intake.now now.intake.now
+        -- of what had come as it was asked now all but a few were kept
+        IsUnderWay : Type 0
+        IsUnderWay = vec_len before.intake.now.spare < vec_capacity before.intake.now.spare
+
+        -- of the windows under way none waits where there is noise, and with those that are spare no more than all
+        few_wait : 0 < vec_len before.intake.now.spare → (given : List ℕ) (count : ℕ)
+            → (IsUnderWay → EndsInFrame line at.given given)
+            → AreAllThatWait (Symbols line) (vec_capacity start.intake.now.spare) given count
+            → length windows + 1 ≤ kept + count
+        few_wait spare given count calm waits = ⊎_elim
+            (λ (many : vec_capacity start.intake.now.spare ≤ count). omega (
+              arith,
+              many,
+              spare,
+              at.has_windows.all,
+              at.same_room,
+            ))
+            (λ (noise : EndsInNoise (Symbols line) given × (1 ≤ count)). ⊎_elim
+            (λ (under_way : IsUnderWay). absurd (no_noise line at.given given (calm under_way) noise.0))
+            (λ (none : vec_capacity before.intake.now.spare ≤ vec_len before.intake.now.spare). omega (
+              arith,
+              noise.1,
+              none,
+              at.has_windows.all,
+            )) (cases_lt (vec_len before.intake.now.spare) (vec_capacity before.intake.now.spare)))
+            waits
+
+        due : 0 < vec_len before.intake.now.spare → (given : List ℕ) → MayAsk line IsUnderWay at.bytes at.given given
+            → ComesFirstBut (Symbols line) (vec_capacity start.intake.now.spare) 0 first given
+        due spare given asks worked waiting split many =
+            let one = asks.0 in
+            let arrivals : List Arrival = arrivals_given line at.bytes at.given in
+            let both : worked ++ waiting ≡ first ++ (drop kept arrivals ++ one.0) =
+            sym split ∙ one.1 ∙ ap (λ (l : List Arrival). l ++ one.0) (sym (take-append-drop kept arrivals))
+            ∙ append_assoc first (drop kept arrivals) one.0 in
+            let le : length worked ≤ length first = omega (
+              arith,
+              ap (λ (l : List Arrival). length l) (sym split ∙ one.1),
+              length-append worked waiting,
+              length-append arrivals one.0,
+              length-take kept arrivals,
+              as_many at.is_given.jobs,
+              at.behind,
+              few_wait spare given (length waiting) asks.1 many,
+              one.2,
+            ) in (
+              drop (length worked) first,
+              sym (front_of worked waiting first (drop kept arrivals ++ one.0) both le),
+              omega arith,
+            )
+
+        in_time : WhenLastAsked source (ComesFirstBut (Symbols line) (vec_capacity start.intake.now.spare) 0
+            (first_arrivals line more.all more.every kept)) more.all start.source.now now.source.now
+        in_time = subst (λ (l : List Arrival). WhenLastAsked source (ComesFirstBut (Symbols line)
+            (vec_capacity start.intake.now.spare) 0 l) more.all start.source.now now.source.now) (sym same)
+            (⊎_elim (λ none. subst (λ (l : List ℕ). WhenLastAsked source (ComesFirstBut (Symbols line)
+            (vec_capacity start.intake.now.spare) 0 first) l start.source.now now.source.now) (sym none.0)
+            (subst (λ (s : S). WhenLastAsked source (ComesFirstBut (Symbols line)
+            (vec_capacity start.intake.now.spare) 0 first) at.bytes start.source.now s) (sym none.1) at.in_time))
+            (λ last. inr (last_too source (ComesFirstBut (Symbols line) (vec_capacity start.intake.now.spare) 0
+            first) (due last.0) last.1)) more.looks)
+
+    pub gives : (offer : NextJob WindowView)
+        → HasNextJob source line limit offer at.bytes at.given windows kept before.intake.now now.intake.now
         start.source.now before.source.now now.source.now
-        → OffersLess offer before.intake.now now.intake.now
-        → Gives (StandsAt source took most) (λ (l : WindowLead S C). IsSome l.intake.now.ended)
-        (λ (l : WindowLead S C). windows_left l.intake.now) windows kept start before now offer
+        → LeavesFewer offer before.intake.now now.intake.now
+        → Gives (StandsAt source took most) (λ (l : WindowSource S C). IsSome l.intake.now.ended)
+        (λ (l : WindowSource S C). windows_left l.intake.now) windows kept start before now offer
     gives (Job window) more less = record {
       one_more = stands_more (windows ++ window ∷ []) (record {
         some = omega (arith, less.1, at.has_windows.some);
@@ -400,20 +577,23 @@ module _ {S C : Type 0} (source : SourceOf S) (took : C → List Arrival → C �
       few = omega (arith, few_windows, at.small);
       fewer = less.2;
     }
-    gives Later none less = (
+    gives NotYet waits less = (
       record {
-        same = stands_more windows
-            (subst (HasWindows (length windows) kept) (sym none.0) at.has_windows)
-            (ap (λ (i : Intake). vec_capacity i.spare) none.0) at.behind
-            (subst (λ (i : Intake). GivesMore source line limit at.bytes at.given windows kept i start.source.now
-            now.source.now) (sym none.0)
-            (subst (λ (s : S). GivesMore source line limit at.bytes at.given windows kept before.intake.now
-            start.source.now s) (sym none.1) (ended_before source line limit at.is_given)));
-        no_more = omega (arith, ap windows_left none.0);
+        same = stands_more windows (record {
+          some = omega (arith, less.1, at.has_windows.some);
+          all = omega (arith, less.0, less.1, at.has_windows.all);
+        }) less.1 at.behind waits.0;
+        no_more = less.2;
       },
-      omega (arith, none.2, at.has_windows.all, at.has_windows.some),
+      ⊎_elim (λ (none : vec_len before.intake.now.spare ≡ 0). omega (
+        arith,
+        none,
+        at.has_windows.all,
+        at.has_windows.some,
+      )) (λ (under_way : vec_len before.intake.now.spare < vec_capacity before.intake.now.spare).
+          omega (arith, under_way, at.has_windows.all)) waits.1,
     )
-    gives Over ends less = (
+    gives Finished ends less = (
       record {
         same = stands_more windows (record {
           some = omega (arith, less.1, at.has_windows.some);
@@ -457,7 +637,7 @@ module _ {S C : Type 0} (source : SourceOf S) (took : C → List Arrival → C �
     handed = handed_more at.is_given.jobs next.0 next.1
         ∙ ap (λ (d : FrameDone). first ++ arrival_of_window d.window ∷ []) (sym next.2)
 
-    module _ (now : WindowLead S C) (same_intake : now.intake.ghost_name ≡ before.intake.ghost_name)
+    module _ (now : WindowSource S C) (same_intake : now.intake.ghost_name ≡ before.intake.ghost_name)
         (same_source : now.source.ghost_name ≡ before.source.ghost_name)
         (same_consumer : now.consumer.ghost_name ≡ before.consumer.ghost_name)
         (source_is : now.source.now ≡ before.source.now) where
@@ -467,8 +647,8 @@ module _ {S C : Type 0} (source : SourceOf S) (took : C → List Arrival → C �
           → now.intake.now.frames ≡ before.intake.now.frames + 1
           → ((c : C) (arrivals : List Arrival) → took c arrivals before.consumer.now
           → took c (arrivals ++ arrival_of_window done.window ∷ []) now.consumer.now)
-          → Keeps (StandsAt source took most) (λ (l : WindowLead S C). IsSome l.intake.now.ended)
-          (λ (l : WindowLead S C). windows_left l.intake.now) windows kept start before now
+          → Keeps (StandsAt source took most) (λ (l : WindowSource S C). IsSome l.intake.now.ended)
+          (λ (l : WindowSource S C). windows_left l.intake.now) windows kept start before now
       keeps spare room feed ended frames takes = record {
         one_more = record {
           same_intake = same_intake ∙ at.same_intake;
@@ -513,6 +693,9 @@ module _ {S C : Type 0} (source : SourceOf S) (took : C → List Arrival → C �
               at.is_given.short (sym ended ∙ e),
             );
           };
+          in_time = subst (λ (s : S). WhenLastAsked source (ComesFirstBut (Symbols line)
+              (vec_capacity start.intake.now.spare) 0 (first_arrivals line at.bytes at.given (kept + 1))) at.bytes
+              start.source.now s) (sym source_is) (in_time_on (kept + 1) 0 (omega arith) (omega (arith, below)));
           taken = λ c none. subst (λ (l : List Arrival). took c l now.consumer.now) (sym handed)
               (takes c first (at.taken c none));
         };
@@ -532,9 +715,9 @@ module _ {S C : Type 0} (source : SourceOf S) (took : C → List Arrival → C �
         same_intake = same_intake ∙ at.same_intake;
         same_source = same_source ∙ at.same_source;
         same_consumer = same_consumer ∙ at.same_consumer;
-        some = subst (λ (s : S). TakesSome source took (Symbols line) limit (most_in start.intake.now) stopped cause
+        some = subst (λ (s : S). TakesSome source took (Symbols line) limit (leeway_in start.intake.now) stopped cause
             start.source.now s start.consumer.now now.consumer.now) (sym source_is)
-            (led_some (kept + 1) (omega arith) stopped cause now.consumer.now
+            (led_some (kept + 1) (omega arith) (omega (arith, below)) stopped cause now.consumer.now
             (λ c none. subst (λ (l : List Arrival). stopped c l cause now.consumer.now) (sym handed)
             (at_last c first (at.taken c none))));
       }
@@ -547,8 +730,8 @@ module _ {S C : Type 0} (source : SourceOf S) (took : C → List Arrival → C �
           × (now.intake.now.frames ≡ before.intake.now.frames + 1))
           → ((c : C) (arrivals : List Arrival) → took c arrivals before.consumer.now
           → OnOk came (took c (arrivals ++ arrival_of_window done.window ∷ []) now.consumer.now))
-          → OnOk came (Keeps (StandsAt source took most) (λ (l : WindowLead S C). IsSome l.intake.now.ended)
-          (λ (l : WindowLead S C). windows_left l.intake.now) windows kept start before now)
+          → OnOk came (Keeps (StandsAt source took most) (λ (l : WindowSource S C). IsSome l.intake.now.ended)
+          (λ (l : WindowSource S C). windows_left l.intake.now) windows kept start before now)
       keeps_on_ok (Ok nothing) spare room same takes = keeps spare room same.0 same.1 same.2 takes
       keeps_on_ok (Err cause) spare room same takes = tt
 
@@ -563,10 +746,11 @@ module _ {S C : Type 0} (source : SourceOf S) (took : C → List Arrival → C �
 -- ---- what it came to
 
 module _ {S C : Type 0} (source : SourceOf S) (took : C → List Arrival → C → Type 0) (most : ℕ)
-    {Cause : Type 0} (stopped : C → List Arrival → Cause → C → Type 0) {start now : WindowLead S C} where
+    {Cause : Type 0} (stopped : C → List Arrival → Cause → C → Type 0) {start now : WindowSource S C} where
   -- the input ended, and the consumer took all
-  pub comes_to_end : EndsWell (StandsAt source took most) (λ (l : WindowLead S C). IsSome l.intake.now.ended) start now
-      → (totals : Totals) → now.intake.now.ended ≡ Some totals.stop → totals.symbols ≡ now.intake.now.feed.taken
+  pub comes_to_end : EndsWell (StandsAt source took most) (λ (l : WindowSource S C). IsSome l.intake.now.ended) start
+      now
+      → (totals : ReadCounts) → now.intake.now.ended ≡ Some totals.stop → totals.symbols ≡ now.intake.now.feed.taken
       → totals.frames ≡ now.intake.now.frames → totals.left ≡ 0
       → ComesTo source took stopped (Ok totals) start now
   comes_to_end ends totals ended symbols frames left = record {
@@ -585,22 +769,23 @@ module _ {S C : Type 0} (source : SourceOf S) (took : C → List Arrival → C �
   }
 
   -- it stopped, or there was no memory for threads
-  pub comes_to_unled : (why : Unled Cause) (cause : Cause) → why ≡ Stopped cause
-      → IsUnled (StopsAt source took stopped) why start start now → ComesTo source took stopped (Err cause) start now
-  comes_to_unled why cause is unled = comes_to_stop cause
-      (subst (λ (u : Unled Cause). IsUnled (StopsAt source took stopped) u start start now) is unled)
+  pub comes_to_undriven : (why : DriveFault Cause) (cause : Cause) → why ≡ Stopped cause
+      → IsDriveFault (StopsAt source took stopped) why start start now
+      → ComesTo source took stopped (Err cause) start now
+  comes_to_undriven why cause is undriven = comes_to_stop cause
+      (subst (λ (u : DriveFault Cause). IsDriveFault (StopsAt source took stopped) u start start now) is undriven)
 
-  pub comes_to_no_memory : (why : Unled Cause) (cause : Cause) → why ≡ NoMemory
-      → IsUnled (StopsAt source took stopped) why start start now
+  pub comes_to_no_memory : (why : DriveFault Cause) (cause : Cause) → why ≡ NoMemory
+      → IsDriveFault (StopsAt source took stopped) why start start now
       → ((c : C) (arrivals : List Arrival) → took c arrivals now.consumer.now
       → stopped c arrivals cause now.consumer.now)
       → ComesTo source took stopped (Err cause) start now
-  comes_to_no_memory why cause is unled stops =
+  comes_to_no_memory why cause is undriven stops =
       let same : now ≡ start =
-      subst (λ (u : Unled Cause). IsUnled (StopsAt source took stopped) u start start now) is unled in
-      subst (λ (first : WindowLead S C). ComesTo source took stopped (Err cause) first now) same (record {
+      subst (λ (u : DriveFault Cause). IsDriveFault (StopsAt source took stopped) u start start now) is undriven in
+      subst (λ (first : WindowSource S C). ComesTo source took stopped (Err cause) first now) same (record {
         same_source = refl;
         same_consumer = refl;
         led = stops_at_once source took (Symbols now.intake.now.feed.lock.line) now.intake.now.feed.most
-            (most_in now.intake.now) (omega arith) stopped cause now.source.now now.consumer.now stops;
+            (leeway_in now.intake.now) (omega arith) stopped cause now.source.now now.consumer.now stops;
       })

@@ -1,5 +1,5 @@
 -- Units of the input as they are gathered. No clause of a public call cites this.
-use Rattle.std.specs.Prelude.{◌≡◌, ◌<◌, ◌≤◌, ◌+◌, ℕ, List, [], ◌++◌, length, All}
+use Rattle.std.specs.Prelude.{◌≡◌, ◌⊎◌, ◌<◌, ◌≤◌, ◌+◌, ℕ, List, [], ◌++◌, length, All}
 use Rattle.std.specs.List.{concat}
 use Rattle.lr_bits.specs.Faults.{Rose}
 use Rattle.lr_io.specs.declared.source.Source.{Ghosts as SourceOf}
@@ -7,13 +7,22 @@ use Rattle.lr_forms.specs.declared.forms.Stop.{Stop}
 use Rattle.lr_forms.specs.declared.forms.Stop.TheVariants.{End, Limit, Fault}
 use Rattle.lr_reading.specs.declared.next.Next.{Next}
 use Rattle.lr_reading.specs.declared.next.Next.TheVariants.{Whole, Ended}
-use Rattle.lr_reading.specs.Reading.{StopsAtFault, IsRead, EndsFor}
+use Rattle.lr_reading.specs.Reading.{LastCall, WhenLastAsked, StopsAtFault, IsRead, EndsFor}
 
 -- the bytes of the unit so far, how many bytes were taken in all, and the most that may be
 pub record UnitState : Type 0 where
   pub held : List ℕ
   pub taken : ℕ
   pub most : ℕ
+
+-- these bytes are the first ones of these units, and then too few for one of n bytes
+pub record IsShortOfOne (n : ℕ) (units : List (List ℕ)) (bytes : List ℕ) : Type 0 where
+  pub first : List (List ℕ)
+  pub others : List (List ℕ)
+  pub split : units ≡ first ++ others
+  pub begun : List ℕ
+  pub short : length begun < n
+  pub is : bytes ≡ concat first ++ begun
 
 module _ {S : Type 0} (source : SourceOf S) where
   -- why a unit of n bytes was gathered no further
@@ -27,8 +36,8 @@ module _ {S : Type 0} (source : SourceOf S) where
   GathersFor n (Ended Fault) now s s' =
       (length now.held < n) × (now.taken < now.most) × Rose (source.faults s) (source.faults s')
 
-  -- a piece of the source stands after what was held
-  pub record Gathers (before now : UnitState) (s s' : S) : Type 0 where
+  -- a piece of the source stands after what was held; the source was only asked while a unit of n bytes wasn't whole
+  pub record Gathers (n : ℕ) (before now : UnitState) (s s' : S) : Type 0 where
     pub piece : List ℕ
     pub held : now.held ≡ before.held ++ piece
     pub taken : now.taken ≡ before.taken + length piece
@@ -37,6 +46,8 @@ module _ {S : Type 0} (source : SourceOf S) where
     pub told : source.tells s → source.tells s'
     pub moved : source.tells s → source.left s ≡ piece ++ source.left s'
     pub asked : StopsAtFault source s s'
+    pub in_need : ((piece ≡ []) × (s' ≡ s))
+        ⊎ LastCall source (λ given. length (before.held ++ given) < n) piece s s'
 
   -- these units of n bytes were read, and then what is held
   pub record ReadsUnits (n limit : ℕ) (units : List (List ℕ)) (now : UnitState) (s s' : S) : Type 0 where
@@ -48,6 +59,7 @@ module _ {S : Type 0} (source : SourceOf S) where
     pub moved : source.tells s → source.left s ≡ (concat units ++ now.held) ++ source.left s'
     pub kept : source.faults s' ≡ source.faults s
     pub asked : StopsAtFault source s s'
+    pub in_need : WhenLastAsked source (IsShortOfOne n units) (concat units ++ now.held) s s'
 
   -- these units were read, and then a rest that is none
   pub record EndsUnits (n limit : ℕ) (units : List (List ℕ)) (rest : ℕ) (stop : Stop) (s s' : S) : Type 0 where
@@ -56,4 +68,5 @@ module _ {S : Type 0} (source : SourceOf S) where
     pub short : length held < n
     pub whole : All (λ unit. length unit ≡ n) units
     pub read : IsRead source limit (concat units ++ held) s s'
+    pub in_need : WhenLastAsked source (IsShortOfOne n units) (concat units ++ held) s s'
     pub reason : EndsFor source stop limit (concat units ++ held) s s'

@@ -3,9 +3,10 @@
 use Rattle.std.specs.Prelude.{ℕ, List, [], Result}
 use denote.Ref.{MutBor}
 use Rattle.lr_io.specs.declared.source.Source.{Ghosts as SourceOf}
+use Rattle.lr_reading.specs.Readers.{Leeway}
 use Rattle.lr_reading.specs.Runs.{IsLed}
 use Rattle.lr_reading.specs.declared.arrival.Arrival.{Arrival}
-use Rattle.lr_reading.specs.declared.totals.Totals.{Totals}
+use Rattle.lr_reading.specs.declared.read_counts.ReadCounts.{ReadCounts}
 use Rattle.lr_forms.specs.declared.forms.Input.{Input}
 
 module _ {S C : Type 0} where
@@ -15,8 +16,8 @@ module _ {S C : Type 0} where
 
   -- what it comes to is how far the consumer was led
   abbrev pub Leads : {Cause : Type 0}
-      → (MutBor S → MutBor C → Result Totals Cause → MutBor S → MutBor C → Type 0) → SourceOf S
-      → (C → List Arrival → C → Type 0) → (C → List Arrival → Cause → C → Type 0) → Input → ℕ → ℕ → Type 0
-  Leads {Cause} post source took stopped input limit waiting =
-      (s : MutBor S) (c : MutBor C) (came : Result Totals Cause) (s' : MutBor S) (c' : MutBor C)
-      → post s c came s' c' → IsLed source took input limit waiting stopped came s.now s'.now c.now c'.now
+      → (MutBor S → MutBor C → Result ReadCounts Cause → MutBor S → MutBor C → Type 0) → SourceOf S
+      → (C → List Arrival → C → Type 0) → (C → List Arrival → Cause → C → Type 0) → Input → ℕ → Leeway → Type 0
+  Leads {Cause} post source took stopped input limit leeway =
+      (s : MutBor S) (c : MutBor C) (came : Result ReadCounts Cause) (s' : MutBor S) (c' : MutBor C)
+      → post s c came s' c' → IsLed source took input limit leeway stopped came s.now s'.now c.now c'.now

@@ -8,5 +8,5 @@ pub mod Lines
 pub mod Readers
 pub mod Reading
 pub mod Runs
-pub mod Ways
-pub mod WindowLeads
+pub mod Parts
+pub mod WindowSources

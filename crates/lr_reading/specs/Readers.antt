@@ -1,6 +1,24 @@
 -- What a reader shows: the form of the input that it reads, how many work on its windows, the caller among them, the
 -- most bytes that it takes of it, and what those who work share.
-use Rattle.std.specs.Prelude.{ℕ, ◌+◌, ◌-◌, ◌*◌, ◌==◌, if◌then◌else◌}
+use Rattle.std.specs.Prelude.{
+  ℕ,
+  ◌⊎◌,
+  ◌≤◌,
+  ◌+◌,
+  ◌-◌,
+  ◌*◌,
+  ◌==◌,
+  if◌then◌else◌,
+  List,
+  length,
+  All,
+}
+use Rattle.lr_conv.specs.Marker.{tail_of}
+use Rattle.lr_lock.specs.Frames.{place_after_frame}
+use Rattle.lr_lock.specs.FramesOf.{frames_of}
+use Rattle.lr_lock.specs.Symbols.{symbols_of}
+use Rattle.lr_lock.specs.declared.frame.Frame.{Frame}
+use Rattle.lr_lock.specs.declared.sizes.TheConstants.{WINDOW_END}
 use Rattle.lr_forms.specs.declared.forms.Input.{Input}
 use Rattle.lr_forms.specs.declared.forms.Input.TheVariants.{Symbols, Units}
 
@@ -28,6 +46,33 @@ shared_by (Units form) workers = record { seats = 0; cells = 0; windows = 0 }
 abbrev pub most_waiting : Input → ℕ → ℕ
 most_waiting (Symbols line) workers = windows_for workers + 3
 most_waiting (Units form) workers = 1
+
+-- How many frames may wait for the consumer at most, of those that the source had given when it was last asked, where
+-- this many work: of symbols those in the windows but for one that is spare, and one that lacks the last twelve symbols
+-- of its window, which are the next marker's. No block or frame waits for another call.
+abbrev pub most_when_asked : Input → ℕ → ℕ
+most_when_asked (Symbols line) workers = windows_for workers
+most_when_asked (Units form) workers = 0
+
+-- there is noise after the last frame: each frame ended a window before the end of these symbols, or earlier
+abbrev pub EndsInNoise : Input → List ℕ → Type 0
+EndsInNoise (Symbols line) bytes = All (λ (frame : Frame). place_after_frame frame + WINDOW_END ≤ length bytes)
+    (frames_of (tail_of line) (symbols_of bytes))
+EndsInNoise (Units form) bytes = ⊥
+
+-- The last ones of the frames that come of these bytes, this many, are all that may wait when the source is asked for
+-- more: they are `most` at least; or there is noise after them, and then one is enough.
+abbrev pub AreAllThatWait : Input → ℕ → List ℕ → ℕ → Type 0
+AreAllThatWait input most bytes count = (most ≤ count) ⊎ (EndsInNoise input bytes × (1 ≤ count))
+
+-- both of these
+pub record Leeway : Type 0 where
+  pub at_end : ℕ
+  pub when_asked : ℕ
+
+abbrev pub leeway_for : Input → ℕ → Leeway
+leeway_for input workers =
+    record { at_end = most_waiting input workers; when_asked = most_when_asked input workers }
 
 pub record ReaderView : Type 0 where
   pub input : Input

@@ -1,5 +1,23 @@
 -- The bytes that a call read, and why it read no more of them.
-use Rattle.std.specs.Prelude.{◌≡◌, ◌⊎◌, ◌<◌, ◌≤◌, ◌*◌, ◌/◌, ℕ, List, [], ◌++◌, length, take, drop, map, Result}
+use Rattle.std.specs.Prelude.{
+  ◌≡◌,
+  ◌⊎◌,
+  ◌<◌,
+  ◌≤◌,
+  ◌*◌,
+  ◌/◌,
+  ℕ,
+  List,
+  [],
+  ◌++◌,
+  length,
+  take,
+  drop,
+  map,
+  Result,
+  Ok,
+  Err,
+}
 use Rattle.std.specs.List.{range_with_len}
 use Rattle.lr_bits.specs.Faults.{Rose}
 use Rattle.lr_bits.specs.declared.refusals.Failed.{Failed}
@@ -7,7 +25,30 @@ use Rattle.lr_io.specs.declared.source.Source.{Ghosts as SourceOf}
 use Rattle.lr_forms.specs.declared.forms.Stop.{Stop}
 use Rattle.lr_forms.specs.declared.forms.Stop.TheVariants.{End, Limit, Fault}
 
+-- a call with this answer gave these bytes: as many as it says, and none where it failed
+abbrev pub HasGiven : Result ℕ Failed → List ℕ → Type 0
+HasGiven (Ok count) piece = length piece ≡ count
+HasGiven (Err failed) piece = piece ≡ []
+
 module _ {S : Type 0} (source : SourceOf S) where
+  -- the source was asked once, and gave these bytes
+  abbrev pub AsksOnce : S → List ℕ → S → Type 0
+  AsksOnce s piece s' = (answer : Result ℕ Failed) × source.asked s answer s' × HasGiven answer piece
+
+  -- The last call on the source: some of the bytes had been given before it, of which this was so; it gave the others
+  pub record LastCall (IsSo : List ℕ → Type 0) (bytes : List ℕ) (s s' : S) : Type 0 where
+    pub last : S
+    pub given : List ℕ
+    pub piece : List ℕ
+    pub split : bytes ≡ given ++ piece
+    pub asked : AsksOnce last piece s'
+    pub moved : source.tells s → source.left s ≡ given ++ source.left last
+    pub so : IsSo given
+
+  -- the source wasn't asked; or when it was last asked, this was so of the bytes that it had given
+  abbrev pub WhenLastAsked : (List ℕ → Type 0) → List ℕ → S → S → Type 0
+  WhenLastAsked IsSo bytes s s' = (s' ≡ s) ⊎ LastCall IsSo bytes s s'
+
   -- the source wasn't asked, or its count had not risen as the last call on it began: none follows one that failed
   abbrev pub StopsAtFault : S → S → Type 0
   StopsAtFault s s' = (s' ≡ s)

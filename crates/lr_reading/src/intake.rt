@@ -1,7 +1,7 @@
 //! The windows and the feed of a reader of symbols.
 
 ghost use Rattle.std.specs.Prelude.{◌≡◌, IfOk, vec_len, vec_capacity};
-ghost use Rattle.lr_reading.specs.WindowLeads.{AreOfLine};
+ghost use Rattle.lr_reading.specs.WindowSources.{AreOfLine};
 
 use crate::symbols::SymbolFeed;
 use lr_bits::NoMemory;
@@ -35,7 +35,7 @@ fn new_windows(alloc: Global, line: LineCode, count: usize) -> Result<Vec<Window
 }
 
 impl Intake {
-    ghost use Rattle.std.specs.Prelude.{◌≡◌, ◌<◌, ◌≤◌, ◌^◌, IfOk, vec_capacity};
+    ghost use Rattle.std.specs.Prelude.{◌≡◌, ◌↔◌, ◌<◌, ◌≤◌, ◌^◌, true, IfOk, vec_len, vec_capacity};
     ghost use Rattle.lr_reading.specs.Intakes.{IsFreshIntake};
 
     /// This many windows, and the memory that filling them takes. At most `most` bytes will be taken.
@@ -59,5 +59,12 @@ impl Intake {
             frames: 0,
             ended: None,
         })
+    }
+
+    /// Whether a window was given of which the consumer hasn't taken what became.
+    pub(crate) fn is_under_way(&self) -> bool
+        ensures { (result ≡ true) ↔ (vec_len self.now.spare < vec_capacity self.now.spare) }
+    {
+        self.spare.len() < self.spare.capacity()
     }
 }

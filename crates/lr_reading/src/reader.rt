@@ -1,9 +1,9 @@
 //! What reads the input, with the memory that it takes.
 use crate::consumer::Consumer;
-use crate::desk::Desk;
-use crate::totals::Totals;
+use crate::read_counts::ReadCounts;
+use crate::reader_parts::ReaderParts;
+use crate::symbol_parts::SymbolParts;
 use crate::unit_loop::read_form;
-use crate::way::Way;
 use crate::windows::{read_by_all, read_windows};
 use lr_bits::NoMemory;
 use lr_forms::Input;
@@ -19,7 +19,7 @@ use std::thread::Threads;
 /// caller, and a thread for each other worker.
 #[derive(Drop)]
 pub struct Reader<H: Hand> {
-    way: Way<H>,
+    parts: ReaderParts<H>,
     workers: u32,
     most: u64,
 }
@@ -29,22 +29,22 @@ impl<H: Hand> Model for Reader<H> {
 
     ghost Value = { ReaderView };
 
-    ghost use Rattle.lr_reading.specs.Ways.{input_of_way, shared_of, IsReadyFor};
+    ghost use Rattle.lr_reading.specs.Parts.{input_of_parts, shared_of, IsReadyFor};
 
     ghost view = { λ r. record {
-      input = input_of_way r.way;
+      input = input_of_parts r.parts;
       workers = r.workers;
       most = r.most;
-      shared = shared_of r.way;
+      shared = shared_of r.parts;
     } };
 
-    ghost invariant = { λ r. IsReadyFor r.workers r.most r.way };
+    ghost invariant = { λ r. IsReadyFor r.workers r.most r.parts };
 }
 
 impl<H: Hand> Reader<H> {
     ghost use Rattle.std.specs.Prelude.{◌≡◌, ◌≤◌, [], IfOk};
     ghost use Rattle.lr_reading.specs.Inputs.{MayTake};
-    ghost use Rattle.lr_reading.specs.Readers.{shared_by, most_waiting};
+    ghost use Rattle.lr_reading.specs.Readers.{shared_by, leeway_for};
     ghost use Rattle.lr_reading.specs.Runs.{IsLed};
 
     /// All memory that reading this input takes. At most `most` bytes will be taken. This many work on windows, the
@@ -65,13 +65,17 @@ impl<H: Hand> Reader<H> {
           shared = shared_by input workers;
         }) }
     {
-        let way = match input {
+        let parts = match input {
             Input::Symbols(line) => {
-                Way::Symbols(Desk::<H>::new(alloc, line, most, workers, tools)?)
+                ReaderParts::Symbols(SymbolParts::<H>::new(alloc, line, most, workers, tools)?)
             }
-            Input::Units(form) => Way::Units(form),
+            Input::Units(form) => ReaderParts::Units(form),
         };
-        Ok(Reader { way, workers, most })
+        Ok(Reader {
+            parts,
+            workers,
+            most,
+        })
     }
 
     /// Leads the consumer through all that comes of the input, on the caller's thread. It takes no memory.
@@ -79,21 +83,21 @@ impl<H: Hand> Reader<H> {
         self,
         source: &mut S,
         consumer: &mut C,
-    ) -> Result<Totals, C::Cause>
+    ) -> Result<ReadCounts, C::Cause>
         requires alone { self.workers ≡ 1 }
         requires few { self.most ≤ C.most }
         requires ready { (c : C) × C.took c [] consumer.old }
-        ensures { IsLed S.Source C.took self.input self.most (most_waiting self.input self.workers) C.stopped result
+        ensures { IsLed S.Source C.took self.input self.most (leeway_for self.input self.workers) C.stopped result
             source.old source.new consumer.old consumer.new }
     {
         let Reader {
-            way,
+            parts,
             workers: _,
             most,
         } = self;
-        match way {
-            Way::Symbols(desk) => read_windows(desk, source, consumer),
-            Way::Units(form) => read_form(form, most, source, consumer),
+        match parts {
+            ReaderParts::Symbols(symbol_parts) => read_windows(symbol_parts, source, consumer),
+            ReaderParts::Units(form) => read_form(form, most, source, consumer),
         }
     }
 
@@ -104,20 +108,20 @@ impl<H: Hand> Reader<H> {
         rt: &R,
         source: &mut S,
         consumer: &mut C,
-    ) -> Result<Totals, C::Cause>
+    ) -> Result<ReadCounts, C::Cause>
         requires few { self.most ≤ C.most }
         requires ready { (c : C) × C.took c [] consumer.old }
-        ensures { IsLed S.Source C.took self.input self.most (most_waiting self.input self.workers) C.stopped result
+        ensures { IsLed S.Source C.took self.input self.most (leeway_for self.input self.workers) C.stopped result
             source.old source.new consumer.old consumer.new }
     {
         let Reader {
-            way,
+            parts,
             workers: _,
             most,
         } = self;
-        match way {
-            Way::Symbols(desk) => read_by_all(rt, desk, source, consumer),
-            Way::Units(form) => read_form(form, most, source, consumer),
+        match parts {
+            ReaderParts::Symbols(symbol_parts) => read_by_all(rt, symbol_parts, source, consumer),
+            ReaderParts::Units(form) => read_form(form, most, source, consumer),
         }
     }
 }

@@ -3,9 +3,10 @@ ghost use Rattle.std.specs.Prelude.{◌≡◌, ◌↔◌, ◌<◌, ◌≤◌, �
 ghost use Rattle.lr_bits.specs.declared.sizes.TheConstants.{FRAME_SYMBOLS};
 ghost use Rattle.lr_lock.specs.Thresholds.{lock_symbols};
 ghost use Rattle.lr_bits.specs.Faults.{HasCause};
-ghost use Rattle.lr_reading.specs.Reading.{StopsAtFault};
+ghost use Rattle.lr_lock.specs.declared.sizes.TheConstants.{WINDOW_END};
+ghost use Rattle.lr_reading.specs.Reading.{AsksOnce};
 
-use crate::next::Next;
+use crate::next::Found;
 use lr_bits::{Failed, NoMemory};
 use lr_conv::LineCode;
 use lr_forms::Stop;
@@ -39,7 +40,8 @@ fn take_within<S: Source>(source: &mut S, into: &mut [u8], size: usize) -> Resul
     ensures moved { S.tells source.old → IfOk result (λ n. S.left source.old ≡ take n into.new ++ S.left source.new) }
     ensures ended { S.tells source.old → IfOk result (λ n. (n ≡ 0) ↔ (S.left source.old ≡ [])) }
     ensures failed { S.tells source.old → OnErr result (S.left source.new ≡ S.left source.old) }
-    ensures asked { StopsAtFault S.Source source.old source.new }
+    ensures asked { IfOk result (λ n. AsksOnce S.Source source.old (take n into.new) source.new) }
+    ensures refused { OnErr result (AsksOnce S.Source source.old [] source.new) }
     ensures stays { length into.new ≡ length into.old }
 {
     source.take(&mut into[..size])
@@ -70,24 +72,40 @@ impl Model for SymbolFeed {
 }
 
 impl SymbolFeed {
-    ghost use Rattle.std.specs.Prelude.{◌≡◌, ◌<◌, ◌≤◌, ◌+◌, ◌-◌, ◌^◌, List, ℕ, false, true, IfOk, length, cond};
+    ghost use Rattle.std.specs.Prelude.{
+      ◌≡◌,
+      ◌<◌,
+      ◌≤◌,
+      ◌+◌,
+      ◌-◌,
+      ◌^◌,
+      List,
+      Bool,
+      ℕ,
+      false,
+      true,
+      is_none,
+      IfOk,
+      length,
+      cond,
+    };
     ghost use Rattle.lr_lock.specs.declared.frame.Frame.{Frame};
     ghost use Rattle.lr_reading.specs.Feeding.{
-      IsFresh,
+      IsFreshFeed,
       IsStanding,
       steps_left,
       symbols_left,
-      Takes,
+      FeedsOrStops,
       FedSoFar,
       FeedsOn,
       Feeds,
     };
-    ghost use Rattle.lr_reading.specs.declared.next.Next.TheVariants.{Whole};
+    ghost use Rattle.lr_reading.specs.declared.next.Found.TheVariants.{Whole, Noise};
 
     /// The memory that feeding symbols of this line code takes. At most `most` bytes will be taken.
     pub(crate) fn new(alloc: Global, line: LineCode, most: u64) -> Result<Self, NoMemory>
         requires { most ≤ 2 ^ 61 }
-        ensures fresh { IfOk result (IsFresh most) }
+        ensures fresh { IfOk result (IsFreshFeed most) }
         ensures line { IfOk result (λ feed. feed.lock.line ≡ line) }
     {
         let lock = Lock::new(alloc, line)?;
@@ -112,7 +130,7 @@ impl SymbolFeed {
     fn take<S: Source>(&mut self, source: &mut S) -> Option<Stop>
         requires unfinished { self.old.lock.finished ≡ false }
         requires room { length self.old.lock.kept < lock_symbols }
-        ensures takes { Takes S.Source result self.old self.new source.old source.new }
+        ensures takes { FeedsOrStops S.Source result self.old self.new source.old source.new }
     {
         let left = self.most - self.taken;
         if left == 0 {
@@ -138,13 +156,14 @@ impl SymbolFeed {
         self.stop = stop;
     }
 
-    /// Feeds the lock once more, or finishes it.
+    /// Feeds the lock once more, or finishes it. The lock has looked: it keeps no whole window.
     fn more<S: Source>(&mut self, source: &mut S)
         requires unfinished { self.old.lock.finished ≡ false }
-        requires room { length self.old.lock.kept < lock_symbols }
-        ensures feeds { (line : LineCode) (bytes : List ℕ) (given : List Frame) (s : _)
+        requires looked { length self.old.lock.kept < WINDOW_END }
+        ensures feeds { (line : LineCode) (bytes : List ℕ) (given : List Frame) (s : _) (under_way : Bool)
             → FedSoFar S.Source line bytes given self.old s source.old
-            → FeedsOn S.Source line bytes given self.new s source.new }
+            → (under_way ≡ true → is_none self.old.lock.held ≡ false)
+            → FeedsOn S.Source line (under_way ≡ true) bytes given self.new s source.old source.new }
         ensures standing { IsStanding self.old.lock → IsStanding self.new.lock }
         ensures most { self.new.most ≡ self.old.most }
         ensures line { self.new.lock.line ≡ self.old.lock.line }
@@ -156,25 +175,46 @@ impl SymbolFeed {
         }
     }
 
-    /// Takes bytes until the next frame is shown in the window, or there is none.
-    pub(crate) fn next<S: Source>(&mut self, source: &mut S, window: &mut Window) -> Next
+    /// Whether the source isn't asked before what is under way was taken: while the lock searches.
+    fn holds_back(&self, under_way: bool) -> bool
+        ensures waits { result ≡ true → under_way ≡ true }
+        ensures calm { result ≡ false → under_way ≡ true → is_none self.now.lock.held ≡ false }
+    {
+        under_way && self.lock.searches()
+    }
+
+    /// Takes bytes until the next frame is shown in the window, or there is none. Where windows are under way it takes
+    /// none while the lock searches: they aren't to wait for as long as there is noise.
+    pub(crate) fn next<S: Source>(
+        &mut self,
+        source: &mut S,
+        window: &mut Window,
+        under_way: bool,
+    ) -> Found
         requires standing { IsStanding self.old.lock }
         requires line { window.old.line ≡ self.old.lock.line }
         ensures feeds { (line : LineCode) (bytes : List ℕ) (given : List Frame) (s : _)
             → FedSoFar S.Source line bytes given self.old s source.old
-            → Feeds S.Source line result bytes given self.new window.new s source.new }
+            → Feeds S.Source line (under_way ≡ true) result bytes given self.new window.new s source.old source.new }
         ensures standing { IsStanding self.new.lock }
         ensures most { self.new.most ≡ self.old.most }
         ensures line { self.new.lock.line ≡ self.old.lock.line }
         ensures window_line { window.new.line ≡ window.old.line }
         ensures fewer { result ≡ Whole → symbols_left self.new < symbols_left self.old }
+        ensures no_more { symbols_left self.new ≤ symbols_left self.old }
         ensures short { result ≡ Whole → length self.new.lock.kept ≤ lock_symbols - FRAME_SYMBOLS }
+        ensures looked { result ≡ Noise → length self.new.lock.kept < WINDOW_END }
     {
         'steps: loop {
             match self.lock.next_window(window) {
-                Step::Window => return Next::Whole,
-                Step::End => return Next::Ended(self.stop),
-                Step::More => self.more(source),
+                Step::Window => return Found::Whole,
+                Step::End => return Found::Ended(self.stop),
+                Step::More => {
+                    if self.holds_back(under_way) {
+                        return Found::Noise;
+                    }
+                    self.more(source);
+                }
             }
         }
     }

@@ -1,6 +1,7 @@
 //! Units into a consumer.
 ghost use Rattle.std.specs.Prelude.{◌≡◌, ◌≤◌, [], IfOk, IfErr};
 ghost use Rattle.lr_reading.specs.Inputs.{unit_bytes};
+ghost use Rattle.lr_reading.specs.Readers.{leeway_for};
 ghost use Rattle.lr_reading.specs.Runs.{TakesAll, TakesSome};
 ghost use Rattle.lr_forms.specs.declared.forms.Input.TheVariants.{Units};
 
@@ -8,7 +9,7 @@ use crate::arrival::Arrival;
 use crate::consumer::Consumer;
 use crate::next::Next;
 use crate::outcome::unit_outcome;
-use crate::totals::Totals;
+use crate::read_counts::ReadCounts;
 use crate::units::UnitFeed;
 use lr_bits::{BLOCK_BYTES, FRAME_BYTES};
 use lr_forms::UnitForm;
@@ -21,14 +22,14 @@ pub(crate) fn read_units<const N: usize, S: Source, C: Consumer>(
     most: u64,
     source: &mut S,
     consumer: &mut C,
-) -> Result<Totals, C::Cause>
+) -> Result<ReadCounts, C::Cause>
     requires size { N ≡ unit_bytes form }
     requires few { most ≤ C.most }
     requires ready { (c : C) × C.took c [] consumer.old }
-    ensures all { IfOk result (λ totals. TakesAll S.Source C.took (Units form) most totals
-        source.old source.new consumer.old consumer.new) }
-    ensures some { IfErr result (λ cause. TakesSome S.Source C.took (Units form) most 1 C.stopped cause
-        source.old source.new consumer.old consumer.new) }
+    ensures all { IfOk result (λ totals. TakesAll S.Source C.took (Units form) most (leeway_for (Units form) 1)
+        totals source.old source.new consumer.old consumer.new) }
+    ensures some { IfErr result (λ cause. TakesSome S.Source C.took (Units form) most (leeway_for (Units form) 1)
+        C.stopped cause source.old source.new consumer.old consumer.new) }
 {
     let mut units = UnitFeed::<N>::new(most);
     let mut scratch = RsScratch::new();
@@ -36,7 +37,7 @@ pub(crate) fn read_units<const N: usize, S: Source, C: Consumer>(
     'units: loop {
         match units.next(source) {
             Next::Ended(stop) => {
-                return Ok(Totals {
+                return Ok(ReadCounts {
                     symbols: units.bytes_taken(),
                     frames,
                     left: units.len() as u64,
@@ -63,13 +64,13 @@ pub(crate) fn read_form<S: Source, C: Consumer>(
     most: u64,
     source: &mut S,
     consumer: &mut C,
-) -> Result<Totals, C::Cause>
+) -> Result<ReadCounts, C::Cause>
     requires few { most ≤ C.most }
     requires ready { (c : C) × C.took c [] consumer.old }
-    ensures all { IfOk result (λ totals. TakesAll S.Source C.took (Units form) most totals
-        source.old source.new consumer.old consumer.new) }
-    ensures some { IfErr result (λ cause. TakesSome S.Source C.took (Units form) most 1 C.stopped cause
-        source.old source.new consumer.old consumer.new) }
+    ensures all { IfOk result (λ totals. TakesAll S.Source C.took (Units form) most (leeway_for (Units form) 1)
+        totals source.old source.new consumer.old consumer.new) }
+    ensures some { IfErr result (λ cause. TakesSome S.Source C.took (Units form) most (leeway_for (Units form) 1)
+        C.stopped cause source.old source.new consumer.old consumer.new) }
 {
     match form {
         UnitForm::Blocks => read_units::<BLOCK_BYTES, S, C>(form, most, source, consumer),

@@ -92,7 +92,7 @@ impl<const N: usize> UnitFeed<N> {
         requires room { length self.old.held < N }
         requires more { self.old.taken < self.old.most }
         ensures cause { HasCause (S.faults source.old) (S.faults source.new) result }
-        ensures gathered { Gathers S.Source self.old self.new source.old source.new }
+        ensures gathered { Gathers S.Source N self.old self.new source.old source.new }
         ensures count { IfOk result (λ n. self.new.taken ≡ self.old.taken + n) }
         ensures ended { IfOk result (λ n. n ≡ 0 → S.tells source.old → S.left source.new ≡ []) }
         ensures failed { OnErr result (self.new ≡ self.old) }
@@ -115,7 +115,7 @@ impl<const N: usize> UnitFeed<N> {
 
     /// Takes bytes until the unit is whole, or no more are to be had.
     pub(crate) fn next<S: Source>(&mut self, source: &mut S) -> Next
-        ensures gathered { Gathers S.Source self.old self.new source.old source.new }
+        ensures gathered { Gathers S.Source N self.old self.new source.old source.new }
         ensures reason { GathersFor S.Source N result self.new source.old source.new }
     {
         // So the proof sees how many bytes the unit holds.

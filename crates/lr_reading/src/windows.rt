@@ -2,22 +2,22 @@
 ghost use Rattle.std.specs.Prelude.{◌≡◌, ◌≤◌, [], Some, IsSome};
 ghost use Rattle.lr_reading.specs.Intakes.{IsFreshIntake};
 ghost use Rattle.lr_reading.specs.Runs.{IsLed};
-ghost use Rattle.lr_reading.specs.WindowLeads.{ComesTo, most_in};
+ghost use Rattle.lr_reading.specs.WindowSources.{ComesTo, leeway_in};
 ghost use Rattle.lr_forms.specs.declared.forms.Input.TheVariants.{Symbols};
 
 use crate::consumer::Consumer;
-use crate::desk::Desk;
 use crate::intake::Intake;
-use crate::totals::Totals;
-use crate::window_lead::WindowLead;
+use crate::read_counts::ReadCounts;
+use crate::symbol_parts::SymbolParts;
+use crate::window_source::WindowSource;
 use lr_frame::{Hand, Hired};
 use lr_io::Source;
-use lr_rounds::{Crew, Unled, lead_alone, lead_by_all};
+use lr_rounds::{DriveFault, WorkerPool, drive, drive_alone};
 use std::sync::Wait;
 use std::thread::Threads;
 
 /// What was read, where the input ended.
-fn totals_of(intake: &Intake) -> Totals
+fn totals_of(intake: &Intake) -> ReadCounts
     requires { IsSome intake.now.ended }
     ensures symbols { result.symbols ≡ intake.now.feed.taken }
     ensures frames { result.frames ≡ intake.now.frames }
@@ -27,7 +27,7 @@ fn totals_of(intake: &Intake) -> Totals
     let Some(stop) = intake.ended else {
         unreachable!()
     };
-    Totals {
+    ReadCounts {
         symbols: intake.feed.bytes_taken(),
         frames: intake.frames,
         left: 0,
@@ -37,77 +37,79 @@ fn totals_of(intake: &Intake) -> Totals
 
 /// Leads to the end of the input on the caller's thread.
 fn go_alone<H: Hand, S: Source, C: Consumer>(
-    crew: Crew<Hired<H>>,
-    lead: &mut WindowLead<'_, '_, '_, S, C>,
-) -> Result<Totals, C::Cause>
-    requires alone { crew.seats ≡ 0 }
-    requires fresh { IsFreshIntake lead.old.intake.now.feed.most lead.old.intake.now }
-    requires few { lead.old.intake.now.feed.most ≤ C.most }
-    requires ready { (c : C) × C.took c [] lead.old.consumer.now }
-    ensures { ComesTo S.Source C.took C.stopped result lead.old lead.new }
+    pool: WorkerPool<Hired<H>>,
+    job_source: &mut WindowSource<'_, '_, '_, S, C>,
+) -> Result<ReadCounts, C::Cause>
+    requires alone { pool.seats ≡ 0 }
+    requires fresh { IsFreshIntake job_source.old.intake.now.feed.most job_source.old.intake.now }
+    requires few { job_source.old.intake.now.feed.most ≤ C.most }
+    requires ready { (c : C) × C.took c [] job_source.old.consumer.now }
+    ensures { ComesTo S.Source C.took C.stopped result job_source.old job_source.new }
 {
-    lead_alone(crew, lead)?;
-    Ok(totals_of(lead.intake))
+    drive_alone(pool, job_source)?;
+    Ok(totals_of(job_source.intake))
 }
 
-/// Leads to the end of the input, by all of the crew.
+/// Leads to the end of the input, by all of the pool.
 fn go_by_all<R: Threads + Wait + Sync, H: Hand, S: Source, C: Consumer>(
     rt: &R,
-    crew: Crew<Hired<H>>,
-    lead: &mut WindowLead<'_, '_, '_, S, C>,
-) -> Result<Totals, C::Cause>
-    requires fresh { IsFreshIntake lead.old.intake.now.feed.most lead.old.intake.now }
-    requires few { lead.old.intake.now.feed.most ≤ C.most }
-    requires ready { (c : C) × C.took c [] lead.old.consumer.now }
-    ensures { ComesTo S.Source C.took C.stopped result lead.old lead.new }
+    pool: WorkerPool<Hired<H>>,
+    job_source: &mut WindowSource<'_, '_, '_, S, C>,
+) -> Result<ReadCounts, C::Cause>
+    requires fresh { IsFreshIntake job_source.old.intake.now.feed.most job_source.old.intake.now }
+    requires few { job_source.old.intake.now.feed.most ≤ C.most }
+    requires ready { (c : C) × C.took c [] job_source.old.consumer.now }
+    ensures { ComesTo S.Source C.took C.stopped result job_source.old job_source.new }
 {
-    match lead_by_all(rt, crew, lead) {
-        Ok(()) => Ok(totals_of(lead.intake)),
-        Err(Unled::Stopped(cause)) => Err(cause),
-        Err(Unled::NoMemory) => Err(lead.consumer.no_memory()),
+    match drive(rt, pool, job_source) {
+        Ok(()) => Ok(totals_of(job_source.intake)),
+        Err(DriveFault::Stopped(cause)) => Err(cause),
+        Err(DriveFault::NoMemory) => Err(job_source.consumer.no_memory()),
     }
 }
 
 /// Leads the consumer through what becomes of the window of each frame, on the caller's thread.
 pub(crate) fn read_windows<H: Hand, S: Source, C: Consumer>(
-    desk: Desk<H>,
+    symbol_parts: SymbolParts<H>,
     source: &mut S,
     consumer: &mut C,
-) -> Result<Totals, C::Cause>
-    requires fresh { IsFreshIntake desk.intake.feed.most desk.intake }
-    requires alone { desk.crew.seats ≡ 0 }
-    requires few { desk.intake.feed.most ≤ C.most }
+) -> Result<ReadCounts, C::Cause>
+    requires fresh { IsFreshIntake symbol_parts.intake.feed.most symbol_parts.intake }
+    requires alone { symbol_parts.pool.seats ≡ 0 }
+    requires few { symbol_parts.intake.feed.most ≤ C.most }
     requires ready { (c : C) × C.took c [] consumer.old }
-    ensures { IsLed S.Source C.took (Symbols desk.intake.feed.lock.line) desk.intake.feed.most (most_in desk.intake)
+    ensures { IsLed S.Source C.took (Symbols symbol_parts.intake.feed.lock.line) symbol_parts.intake.feed.most
+        (leeway_in symbol_parts.intake)
         C.stopped result source.old source.new consumer.old consumer.new }
 {
-    let Desk { mut intake, crew } = desk;
-    let mut lead = WindowLead {
+    let SymbolParts { mut intake, pool } = symbol_parts;
+    let mut job_source = WindowSource {
         intake: &mut intake,
         source,
         consumer,
     };
-    go_alone(crew, &mut lead)
+    go_alone(pool, &mut job_source)
 }
 
-/// Leads the consumer through what becomes of the window of each frame, by all of the crew.
+/// Leads the consumer through what becomes of the window of each frame, by all of the pool.
 pub(crate) fn read_by_all<R: Threads + Wait + Sync, H: Hand, S: Source, C: Consumer>(
     rt: &R,
-    desk: Desk<H>,
+    symbol_parts: SymbolParts<H>,
     source: &mut S,
     consumer: &mut C,
-) -> Result<Totals, C::Cause>
-    requires fresh { IsFreshIntake desk.intake.feed.most desk.intake }
-    requires few { desk.intake.feed.most ≤ C.most }
+) -> Result<ReadCounts, C::Cause>
+    requires fresh { IsFreshIntake symbol_parts.intake.feed.most symbol_parts.intake }
+    requires few { symbol_parts.intake.feed.most ≤ C.most }
     requires ready { (c : C) × C.took c [] consumer.old }
-    ensures { IsLed S.Source C.took (Symbols desk.intake.feed.lock.line) desk.intake.feed.most (most_in desk.intake)
+    ensures { IsLed S.Source C.took (Symbols symbol_parts.intake.feed.lock.line) symbol_parts.intake.feed.most
+        (leeway_in symbol_parts.intake)
         C.stopped result source.old source.new consumer.old consumer.new }
 {
-    let Desk { mut intake, crew } = desk;
-    let mut lead = WindowLead {
+    let SymbolParts { mut intake, pool } = symbol_parts;
+    let mut job_source = WindowSource {
         intake: &mut intake,
         source,
         consumer,
     };
-    go_by_all(rt, crew, &mut lead)
+    go_by_all(rt, pool, &mut job_source)
 }

@@ -25,20 +25,27 @@ use Rattle.lr_bits.specs.declared.placed.Placed.{Placed}
 use Rattle.lr_causes.specs.Outside.{Outlets, OutletsOf}
 use Rattle.lr_forms.specs.declared.forms.Input.{Input}
 use Rattle.lr_reading.specs.Inputs.{outcomes_of_bytes}
-use Rattle.lr_shelf.specs.Grounds.{Ground, HoldsStill, StandsForFront, StandsWith, StandsWithEither, next_number}
-use Rattle.lr_shelf.proofs.GroundFronts.{front_more}
+use Rattle.lr_shelf.specs.InitialShelves.{
+  InitialShelf,
+  HoldsStill,
+  StandsForPrefix,
+  StandsWith,
+  StandsWithEither,
+  next_number,
+}
+use Rattle.lr_shelf.proofs.InitialPrefixes.{front_more}
 use Rattle.lr_receiving.specs.Inputs.{files_of_bytes}
 use Rattle.lr_receiving.specs.Reception.{FewWait}
 use Rattle.lr_receiving.specs.Shelving.{AreAcknowledged, shelved_lines}
 use Rattle.lr_receiving.proofs.ShelvedLines.{shelved_lines-append}
 
-module _ {D O : Type 0} (world : OutletsOf D O) (ground : Ground) where
+module _ {D O : Type 0} (world : OutletsOf D O) (initial : InitialShelf) where
   -- they stand there still
   pub still_acknowledged : (first others : List Placed) (w w' : Outlets D O)
-      → HoldsStill ground first world.disk w'.disk
+      → HoldsStill initial first world.disk w'.disk
       → (world.out.tells w.out → (text : List ℕ) × (world.out.contents w'.out
-      ≡ world.out.contents w.out ++ (shelved_lines (next_number ground) first ++ text)))
-      → AreAcknowledged world ground first (first ++ others) w w'
+      ≡ world.out.contents w.out ++ (shelved_lines (next_number initial) first ++ text)))
+      → AreAcknowledged world initial first (first ++ others) w w'
   still_acknowledged first others w w' durable told = record {
     others = others;
     split = refl;
@@ -50,14 +57,14 @@ module _ {D O : Type 0} (world : OutletsOf D O) (ground : Ground) where
         rest = others;
         split = refl;
         enough = omega arith;
-        stands = subst (StandsWith ground first) (sym (durable.durable c image)) durable.stands;
+        stands = subst (StandsWith initial first) (sym (durable.durable c image)) durable.stands;
       };
     };
     told = told;
   }
 
-  either_front : (done : List Placed) (placed : Placed) (bytes : List ℕ) → StandsWithEither ground done placed bytes
-      → StandsForFront ground (done ++ placed ∷ []) (length done) bytes
+  either_front : (done : List Placed) (placed : Placed) (bytes : List ℕ) → StandsWithEither initial done placed bytes
+      → StandsForPrefix initial (done ++ placed ∷ []) (length done) bytes
   either_front done placed bytes (inl s) =
       record { first = done; rest = placed ∷ []; split = refl; enough = omega arith; stands = s }
   either_front done placed bytes (inr s) = record {
@@ -70,11 +77,11 @@ module _ {D O : Type 0} (world : OutletsOf D O) (ground : Ground) where
 
   -- one file more may stand there
   pub either_acknowledged : (done : List Placed) (placed : Placed) (w w' : Outlets D O)
-      → StandsWithEither ground done placed (world.disk.contents w'.disk)
-      → ((c : List ℕ) → world.disk.may_leave w'.disk c → StandsWithEither ground done placed c)
+      → StandsWithEither initial done placed (world.disk.contents w'.disk)
+      → ((c : List ℕ) → world.disk.may_leave w'.disk c → StandsWithEither initial done placed c)
       → (world.out.tells w.out → (text : List ℕ) × (world.out.contents w'.out
-      ≡ world.out.contents w.out ++ (shelved_lines (next_number ground) done ++ text)))
-      → AreAcknowledged world ground done (done ++ placed ∷ []) w w'
+      ≡ world.out.contents w.out ++ (shelved_lines (next_number initial) done ++ text)))
+      → AreAcknowledged world initial done (done ++ placed ∷ []) w w'
   either_acknowledged done placed w w' now left told = record {
     others = placed ∷ [];
     split = refl;
@@ -88,17 +95,17 @@ module _ {D O : Type 0} (world : OutletsOf D O) (ground : Ground) where
   -- their lines were put, and nothing else
   pub lines_alone : (first : List Placed) (w w' : Outlets D O)
       → (world.out.tells w.out
-      → world.out.contents w'.out ≡ world.out.contents w.out ++ shelved_lines (next_number ground) first)
+      → world.out.contents w'.out ≡ world.out.contents w.out ++ shelved_lines (next_number initial) first)
       → world.out.tells w.out → (text : List ℕ) × (world.out.contents w'.out
-      ≡ world.out.contents w.out ++ (shelved_lines (next_number ground) first ++ text))
+      ≡ world.out.contents w.out ++ (shelved_lines (next_number initial) first ++ text))
   lines_alone first w w' put t = (
     [],
     put t ∙ ap (λ (l : List ℕ). world.out.contents w.out ++ l)
-        (sym (append-nil (shelved_lines (next_number ground) first))),
+        (sym (append-nil (shelved_lines (next_number initial) first))),
   )
 
-  fewer : (n m : ℕ) (files : List Placed) (bytes : List ℕ) → n ≤ m → StandsForFront ground files m bytes
-      → StandsForFront ground files n bytes
+  fewer : (n m : ℕ) (files : List Placed) (bytes : List ℕ) → n ≤ m → StandsForPrefix initial files m bytes
+      → StandsForPrefix initial files n bytes
   fewer n m files bytes le s = record {
     first = s.first;
     rest = s.rest;
@@ -110,24 +117,24 @@ module _ {D O : Type 0} (world : OutletsOf D O) (ground : Ground) where
   module _ {w w' : Outlets D O} where
     -- files that are still to come
     pub acknowledged_more : {first files : List Placed} (more : List Placed)
-        → AreAcknowledged world ground first files w w' → AreAcknowledged world ground first (files ++ more) w w'
+        → AreAcknowledged world initial first files w w' → AreAcknowledged world initial first (files ++ more) w w'
     acknowledged_more {first} {files} more known = record {
       others = known.others ++ more;
       split = ap (λ (l : List Placed). l ++ more) known.split ∙ append_assoc first known.others more;
       held = record {
-        contents = front_more ground files more (length first) (world.disk.contents w'.disk) known.held.contents;
-        images = λ c image. front_more ground files more (length first) c (known.held.images c image);
+        contents = front_more initial files more (length first) (world.disk.contents w'.disk) known.held.contents;
+        images = λ c image. front_more initial files more (length first) c (known.held.images c image);
       };
       told = known.told;
     }
 
     -- the first ones of them
     pub acknowledged_first : (first others : List Placed) {files : List Placed}
-        → AreAcknowledged world ground (first ++ others) files w w' → AreAcknowledged world ground first files w w'
+        → AreAcknowledged world initial (first ++ others) files w w' → AreAcknowledged world initial first files w w'
     acknowledged_first first others {files} known =
         let le : length first ≤ length (first ++ others) = omega (arith, length-append first others) in
-        let lines = shelved_lines (next_number ground) first in
-        let more = shelved_lines (next_number ground + length first) others in
+        let lines = shelved_lines (next_number initial) first in
+        let more = shelved_lines (next_number initial + length first) others in
         record {
           others = others ++ known.others;
           split = known.split ∙ append_assoc first others known.others;
@@ -141,24 +148,31 @@ module _ {D O : Type 0} (world : OutletsOf D O) (ground : Ground) where
               let told = known.told t in (
                 more ++ told.0,
                 told.1 ∙ ap (λ (l : List ℕ). world.out.contents w.out ++ l)
-                    (ap (λ (l : List ℕ). l ++ told.0) (shelved_lines-append (next_number ground) first others)
+                    (ap (λ (l : List ℕ). l ++ told.0) (shelved_lines-append (next_number initial) first others)
                     ∙ append_assoc lines more told.0),
               );
         }
 
+  -- all files are acknowledged
+  pub all_acknowledged : (files : List Placed) (w w' : Outlets D O) → HoldsStill initial files world.disk w'.disk
+      → (world.out.tells w.out → (text : List ℕ) × (world.out.contents w'.out
+      ≡ world.out.contents w.out ++ (shelved_lines (next_number initial) files ++ text)))
+      → AreAcknowledged world initial files files w w'
+  all_acknowledged files w w' durable told =
+      subst (λ (l : List Placed). AreAcknowledged world initial files l w w') (append-nil files)
+      (still_acknowledged files [] w w' durable told)
+
   -- all is worked through
   pub all_worked : (input : Input) (waiting : ℕ) (bytes : List ℕ) (w w' : Outlets D O)
-      → HoldsStill ground (files_of_bytes input bytes) world.disk w'.disk
+      → HoldsStill initial (files_of_bytes input bytes) world.disk w'.disk
       → (world.out.tells w.out → (text : List ℕ) × (world.out.contents w'.out
-      ≡ world.out.contents w.out ++ (shelved_lines (next_number ground) (files_of_bytes input bytes) ++ text)))
-      → FewWait world ground input waiting bytes w w'
+      ≡ world.out.contents w.out ++ (shelved_lines (next_number initial) (files_of_bytes input bytes) ++ text)))
+      → FewWait world initial input waiting bytes w w'
   unfolding files_of_bytes
   all_worked input waiting bytes w w' durable told = record {
     worked = outcomes_of_bytes input bytes;
     late = [];
     split = sym (append-nil (outcomes_of_bytes input bytes));
     few = omega arith;
-    acknowledged = subst (λ (l : List Placed). AreAcknowledged world ground (files_of_bytes input bytes) l w w')
-        (append-nil (files_of_bytes input bytes))
-        (still_acknowledged (files_of_bytes input bytes) [] w w' durable told);
+    acknowledged = all_acknowledged (files_of_bytes input bytes) w w' durable told;
   }

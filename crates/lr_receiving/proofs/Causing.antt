@@ -6,8 +6,8 @@ use Rattle.lr_io.specs.declared.source.Source.{Ghosts as SourceOf}
 use Rattle.lr_disk.specs.declared.disk.Disk.{Ghosts as DiskOf}
 use Rattle.lr_shelf_format.specs.Items.{Item}
 use Rattle.lr_shelf.specs.Append.{IsAppendRefusal}
-use Rattle.lr_shelf.specs.Calls.{IsCounted}
-use Rattle.lr_shelf.specs.Kept.{Kept}
+use Rattle.lr_shelf.specs.Calls.{IsFaultCounted}
+use Rattle.lr_shelf.specs.Kept.{KeptShelf}
 use Rattle.lr_shelf.specs.declared.error.ShelfError.{ShelfError}
 use Rattle.lr_shelf.specs.declared.error.ShelfError.TheVariants.{
   Disk as Disk',
@@ -25,7 +25,7 @@ use Rattle.lr_forms.specs.declared.forms.Stop.TheVariants.{End, Limit, Fault}
 use Rattle.lr_causes.specs.declared.cause.Cause.{Cause}
 use Rattle.lr_causes.specs.declared.cause.Cause.TheVariants.{Done, Failed, NoMemory}
 use Rattle.lr_causes.specs.declared.cause.Party.TheVariants.{Source, Disk, Output}
-use Rattle.lr_causes.specs.Causes.{Counts, IsCaused, cause_at, counts}
+use Rattle.lr_causes.specs.Causes.{FaultCounts, IsCaused, cause_at, counts}
 use Rattle.lr_refusals.specs.Errors.{cause_of}
 use Rattle.lr_causes.specs.Puts.{PutStops}
 use Rattle.lr_reading.specs.Reading.{EndsFor}
@@ -33,7 +33,7 @@ use Rattle.lr_receiving.specs.First.{IsFirst}
 use Rattle.lr_receiving.specs.Shelved.{MayStop}
 
 -- the first event has its cause
-pub caused_first : (cause : Cause) (before now : Counts) → IsFirst cause before now → IsCaused cause before now
+pub caused_first : (cause : Cause) (before now : FaultCounts) → IsFirst cause before now → IsCaused cause before now
 caused_first Done before now first = tt
 caused_first (Failed Source) before now first = first.0
 caused_first (Failed Disk) before now first = first.0
@@ -94,11 +94,11 @@ first_put out text _ s s' d d' o o' stops same = absurd stops
 
 -- a call on a shelf that works was refused
 pub first_refused : {A : Type 0} (e : ShelfError) (result : Result A ShelfError) (s s' d d' o : ℕ) → result ≡ Err e
-    → (e ≡ Failed' → ⊥) → IsCounted d d' result → IsFirst (cause_of e) (counts s d o) (counts s' d' o)
+    → (e ≡ Failed' → ⊥) → IsFaultCounted d d' result → IsFirst (cause_of e) (counts s d o) (counts s' d' o)
 first_refused {A} e result s s' d d' o is works counted =
-    by_error e works (subst (λ (r : Result A ShelfError). IsCounted d d' r) is counted)
+    by_error e works (subst (λ (r : Result A ShelfError). IsFaultCounted d d' r) is counted)
   where
-    by_error : (x : ShelfError) → (x ≡ Failed' → ⊥) → IsCounted {A = A} d d' (Err x)
+    by_error : (x : ShelfError) → (x ≡ Failed' → ⊥) → IsFaultCounted {A = A} d d' (Err x)
         → IsFirst (cause_of x) (counts s d o) (counts s' d' o)
     by_error Disk' works c = (c.1, refl)
     by_error Failed' works c = absurd (works refl)
@@ -111,7 +111,7 @@ first_refused {A} e result s s' d d' o is works counted =
     by_error Discarded' works c = (c, refl)
 
 -- a shelf that works isn't refused as one that failed
-pub append_works : (item : Item) (kept : Kept) (e : ShelfError) → IsAppendRefusal item kept e → kept.failed ≡ false
+pub append_works : (item : Item) (kept : KeptShelf) (e : ShelfError) → IsAppendRefusal item kept e → kept.failed ≡ false
     → e ≡ Failed' → ⊥
 append_works item kept e refusal works is =
     let failed : kept.failed ≡ true = subst (λ (x : ShelfError). IsAppendRefusal item kept x) is refusal in

@@ -36,11 +36,11 @@ use Rattle.lr_make.specs.Blocks.{block_at}
 use Rattle.lr_make.specs.Frames.{frame_at}
 use Rattle.lr_make.specs.Received.{IsReceivedAs}
 use Rattle.lr_make.specs.Stream.{symbol_stream}
-use Rattle.lr_make.specs.Symbols.{sent_bits}
+use Rattle.lr_make.specs.Symbols.{sent_bits, bytes_of_symbols}
 use Rattle.lr_make.proofs.Sending.{length-all_symbols, symbols_are_one_code}
 use Rattle.lr_sent.proofs.SymbolsBack.{levels_back}
 use Rattle.lr_sent.proofs.MadeBlocks.{stream_is_received}
-use Rattle.lr_sent.specs.Made.{made_outcomes, room_of_files, room_of}
+use Rattle.lr_sent.specs.Made.{made_outcomes, room_of_files, room_for_file}
 use Rattle.lr_sent.proofs.MadeFiles.{placed_fit}
 use Rattle.lr_shelf_format.specs.Items.{extent_of, head_of_item}
 use Rattle.lr_shelf_format.specs.ShelfBytes.{end_of}
@@ -49,9 +49,8 @@ use Rattle.lr_forms.specs.declared.forms.Input.TheVariants.{Symbols}
 use Rattle.lr_forms.specs.declared.forms.Output.TheVariants.{Symbols as AsSymbols}
 use Rattle.lr_reading.specs.Inputs.{outcomes_of_bytes}
 use Rattle.lr_receiving.specs.Inputs.{files_of_bytes}
-use Rattle.lr_make.specs.Symbols.{bytes_of_symbols}
 use Rattle.lr_receiving.specs.Made.{made_bytes}
-use Rattle.lr_shelf.specs.Grounds.{with_files}
+use Rattle.lr_shelf.specs.InitialShelves.{with_files}
 use Rattle.lr_receiving.specs.Trial.{trial_capacity}
 
 -- ---- symbols in bytes
@@ -89,7 +88,7 @@ room_is (placed ∷ files) =
       arith,
       room_is files,
       sum_by-cons (λ item. extent_of (head_of_item item) + 1) (item_for placed) (map item_for files),
-      sum_by-cons room_of placed.file (map (λ (p : Placed). p.file) files),
+      sum_by-cons room_for_file placed.file (map (λ (p : Placed). p.file) files),
     )
 
 sent_files_fit : (start wrong n : ℕ) → n ≤ 1024

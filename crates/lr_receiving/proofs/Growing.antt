@@ -10,8 +10,8 @@ use Rattle.lr_shelf.specs.declared.shelf.Shelf.{Shelf}
 use Rattle.lr_causes.specs.declared.cause.Cause.{Cause}
 use Rattle.lr_causes.specs.declared.cause.Cause.TheVariants.{NoMemory, Refused}
 use Rattle.lr_causes.specs.declared.cause.Refusal.TheVariants.{Capacity}
-use Rattle.lr_shelf.specs.Fronts.{HasRoom, end_with}
-use Rattle.lr_shelf.proofs.Fronts.{end_with-append}
+use Rattle.lr_shelf.specs.Prefixes.{HasRoom, end_with}
+use Rattle.lr_shelf.proofs.Prefixes.{end_with-append}
 use Rattle.lr_receiving.specs.Onto.{IsFullWith}
 use Rattle.lr_receiving.specs.Shelved.{Grows, GrowsNoMore}
 use Rattle.lr_causes.specs.Outside.{Outlets}
@@ -25,7 +25,7 @@ pub none_in : {X : Type 0} (xs ys : List X) → xs ++ ys ≡ [] → (xs ≡ []) 
 none_in {X} [] ys is = (refl, is)
 none_in {X} (x ∷ xs) ys is = absurd (let no : x ∷ (xs ++ ys) ≡ [] = is in cc (no))
 
-room_after : (way way' : Way) (xs ys : List Placed) → way'.end ≡ end_with way.end xs → way'.capacity ≡ way.capacity
+pub room_after : (way way' : Way) (xs ys : List Placed) → way'.end ≡ end_with way.end xs → way'.capacity ≡ way.capacity
     → HasRoom way xs → HasRoom way' ys → HasRoom way (xs ++ ys)
 room_after way way' xs ys ends same first (inl none) =
     subst (λ (l : List Placed). HasRoom way l) (sym (ap (λ (l : List Placed). xs ++ l) none ∙ append-nil xs)) first
@@ -118,8 +118,8 @@ module _ {D O : Type 0} where
       → end_with (kept_by shelf).way.end (placed ∷ []) ≤ (kept_by shelf).way.capacity
       → Grows (placed ∷ []) shelf shelf' w w'
   grows_one placed shelf shelf' w w' kept fits = record {
-    ends = omega (arith, ap (λ (k : Rattle.lr_shelf.specs.Kept.Kept). k.way.end) kept);
-    same = ap (λ (k : Rattle.lr_shelf.specs.Kept.Kept). k.way.capacity) kept;
+    ends = omega (arith, ap (λ (k : Rattle.lr_shelf.specs.Kept.KeptShelf). k.way.end) kept);
+    same = ap (λ (k : Rattle.lr_shelf.specs.Kept.KeptShelf). k.way.capacity) kept;
     room = inr fits;
     none = λ is. cc (is);
   }

@@ -37,11 +37,12 @@ use Rattle.lr_causes.specs.declared.cause.Cause.TheVariants.{Done, Failed, NoMem
 use Rattle.lr_causes.specs.declared.cause.Party.TheVariants.{Source, Disk, Output}
 use Rattle.lr_causes.specs.declared.cause.Refusal.TheVariants.{Capacity}
 use Rattle.lr_forms.specs.declared.forms.Input.{Input}
-use Rattle.lr_reading.specs.Readers.{most_waiting}
+use Rattle.lr_reading.specs.Readers.{most_waiting, most_when_asked}
+use Rattle.lr_reading.specs.Reading.{WhenLastAsked}
 use Rattle.lr_receiving.proofs.Timely.{acknowledged_before}
 use Rattle.lr_receiving.specs.Inputs.{files_of_bytes}
-use Rattle.lr_shelf.specs.Grounds.{
-  Ground,
+use Rattle.lr_shelf.specs.InitialShelves.{
+  InitialShelf,
   OfItems,
   OfWay,
   AllHaveRoom,
@@ -52,17 +53,17 @@ use Rattle.lr_shelf.specs.Grounds.{
   end_with_files,
   next_number,
   with_files,
-  StandsForFront,
-  LeavesFronts,
-  HoldsFront,
+  StandsForPrefix,
+  LeavesPrefixes,
+  HoldsPrefix,
 }
-use Rattle.lr_shelf.specs.Fronts.{end_with}
+use Rattle.lr_shelf.specs.Prefixes.{end_with}
 use Rattle.lr_receiving.specs.Shelving.{shelved_lines, StandsForOneFileMore}
 use Rattle.lr_causes.specs.Outside.{NoFault, World, Outside, outlets_in, world_outlets}
-use Rattle.lr_receiving.specs.Receive.{IsWorkDone, Ends, Receives}
+use Rattle.lr_receiving.specs.Receive.{AreWorkedBut, IsWorkDone, Ends, Receives}
 use Rattle.lr_receiving.specs.Reception.{FewWait}
-use Rattle.lr_shelf.proofs.Grounds.{with_files-append}
-use Rattle.lr_shelf.proofs.Fronts.{end_with-append}
+use Rattle.lr_shelf.proofs.InitialShelves.{with_files-append}
+use Rattle.lr_shelf.proofs.Prefixes.{end_with-append}
 use Rattle.lr_receiving.proofs.Growing.{some}
 use Rattle.lr_receiving.proofs.ShelvedLines.{shelved_lines-none, shelved_lines-cons, shelved_lines-push, line-some}
 
@@ -103,8 +104,8 @@ end_of-append xs ys =
     let size : Item → ℕ = λ item. extent_of (head_of_item item) + 1 in omega (arith, sum_by-append size xs ys)
 
 -- where the next file doesn't fit there is no room for all
-lacks_room : (ground : Ground) (done : List Placed) (next : Placed) (rest : List Placed)
-    → capacity_of ground < end_with_files ground (done ++ next ∷ []) → AllHaveRoom ground (done ++ next ∷ rest) → ⊥
+lacks_room : (initial : InitialShelf) (done : List Placed) (next : Placed) (rest : List Placed)
+    → capacity_of initial < end_with_files initial (done ++ next ∷ []) → AllHaveRoom initial (done ++ next ∷ rest) → ⊥
 lacks_room (OfItems capacity items) done next rest over fits =
     let all : with_files items (done ++ next ∷ rest)
     ≡ with_files items (done ++ next ∷ []) ++ map item_for rest =
@@ -120,7 +121,7 @@ lacks_room (OfWay way old) done next rest over (inr fits) =
     ∙ end_with-append way.end (done ++ next ∷ []) rest in
     omega (arith, all, fits, over)
 
-not_both : (ground : Ground) (files : List Placed) → AllHaveRoom ground files → SomeLackRoom ground files → ⊥
+not_both : (initial : InitialShelf) (files : List Placed) → AllHaveRoom initial files → SomeLackRoom initial files → ⊥
 not_both (OfItems capacity items) files fits over = omega (arith, fits, over)
 not_both (OfWay way old) files (inl none) lacks = lacks.0 none
 not_both (OfWay way old) files (inr fits) lacks = omega (arith, fits, lacks.1)
@@ -137,9 +138,9 @@ no_longer old new got a b first second =
       length-append a b,
     )
 
-module _ {D : Type 0} (disk : DiskOf D) (ground : Ground) (files : List Placed) (d : D) where
+module _ {D : Type 0} (disk : DiskOf D) (initial : InitialShelf) (files : List Placed) (d : D) where
   holds : (first rest : List Placed) (n : ℕ) → files ≡ first ++ rest → n ≤ length first
-      → HoldsStill ground first disk d → HoldsFront disk ground files n d
+      → HoldsStill initial first disk d → HoldsPrefix disk initial files n d
   holds first rest n split enough durable = record {
     contents = record { first = first; rest = rest; split = split; enough = enough; stands = durable.stands };
     images = λ c image. record {
@@ -147,13 +148,13 @@ module _ {D : Type 0} (disk : DiskOf D) (ground : Ground) (files : List Placed) 
       rest = rest;
       split = split;
       enough = enough;
-      stands = subst (λ (l : List ℕ). StandsWith ground first l)
+      stands = subst (λ (l : List ℕ). StandsWith initial first l)
           (sym (durable.durable c image)) durable.stands;
     };
   }
 
   front_of : (done rest : List Placed) (n : ℕ) (bytes : List ℕ) → files ≡ done ++ rest → n ≤ length done
-      → StandsForOneFileMore ground done rest bytes → StandsForFront ground files n bytes
+      → StandsForOneFileMore initial done rest bytes → StandsForPrefix initial files n bytes
   front_of done rest n bytes split enough (inl s) =
       record { first = done; rest = rest; split = split; enough = enough; stands = s }
   front_of done rest n bytes split enough (inr more) = record {
@@ -165,114 +166,114 @@ module _ {D : Type 0} (disk : DiskOf D) (ground : Ground) (files : List Placed) 
   }
 
 -- as many files are there as whole lines went out
-module _ (ground : Ground) (files whole rest : List Placed) (split : files ≡ whole ++ rest) where
+module _ (initial : InitialShelf) (files whole rest : List Placed) (split : files ≡ whole ++ rest) where
   acknowledged : (first more : List Placed) (old new got text : List ℕ) → files ≡ first ++ more
-      → new ≡ old ++ got → length got ≤ length (shelved_lines (next_number ground) first)
-      → new ≡ old ++ (shelved_lines (next_number ground) whole ++ text) → length whole ≤ length first
+      → new ≡ old ++ got → length got ≤ length (shelved_lines (next_number initial) first)
+      → new ≡ old ++ (shelved_lines (next_number initial) whole ++ text) → length whole ≤ length first
   acknowledged first more old new got text known put le whole_put =
-      no_more (next_number ground) whole first rest more (sym split ∙ known)
-      (omega (arith, le, no_longer old new got (shelved_lines (next_number ground) whole) text put whole_put))
+      no_more (next_number initial) whole first rest more (sym split ∙ known)
+      (omega (arith, le, no_longer old new got (shelved_lines (next_number initial) whole) text put whole_put))
 
   all_there : length whole ≤ length files
   all_there = omega (arith, ap length split, length-append whole rest)
 
-module _ {S D O : Type 0} (world : World S D O) (input : Input) (ground : Ground) (limit : ℕ) (bytes : List ℕ)
+module _ {S D O : Type 0} (world : World S D O) (input : Input) (initial : InitialShelf) (limit : ℕ) (bytes : List ℕ)
     (w w' : Outside S D O) where
   files : List Placed
   files = files_of_bytes input bytes
 
   -- where the last lines are to come, all files are there
   every : (n : ℕ) → n ≤ length (files_of_bytes input bytes)
-      → HoldsStill ground (files_of_bytes input bytes) world.disk w'.disk
-      → HoldsFront world.disk ground (files_of_bytes input bytes) n w'.disk
-  every n enough durable = holds world.disk ground (files_of_bytes input bytes) w'.disk
+      → HoldsStill initial (files_of_bytes input bytes) world.disk w'.disk
+      → HoldsPrefix world.disk initial (files_of_bytes input bytes) n w'.disk
+  every n enough durable = holds world.disk initial (files_of_bytes input bytes) w'.disk
       (files_of_bytes input bytes) [] n (sym (append-nil (files_of_bytes input bytes))) enough durable
 
   module _ (whole rest : List Placed) (text : List ℕ) (told : world.out.tells w.out)
       (split : files_of_bytes input bytes
       ≡ whole ++ rest) (put : world.out.contents w'.out ≡ world.out.contents w.out
-      ++ (shelved_lines (next_number ground) whole ++ text)) where
+      ++ (shelved_lines (next_number initial) whole ++ text)) where
     enough_of : (first more : List Placed) (got : List ℕ) → files_of_bytes input bytes ≡ first ++ more
         → world.out.contents w'.out ≡ world.out.contents w.out ++ got
-        → length got ≤ length (shelved_lines (next_number ground) first) → length whole ≤ length first
+        → length got ≤ length (shelved_lines (next_number initial) first) → length whole ≤ length first
     enough_of first more got known got_put le =
-        acknowledged ground (files_of_bytes input bytes) whole rest split first more (world.out.contents w.out)
+        acknowledged initial (files_of_bytes input bytes) whole rest split first more (world.out.contents w.out)
         (world.out.contents w'.out) got text known got_put le put
 
-    every_one : HoldsStill ground (files_of_bytes input bytes) world.disk w'.disk
-        → HoldsFront world.disk ground (files_of_bytes input bytes) (length whole) w'.disk
-    every_one durable = every (length whole) (all_there ground (files_of_bytes input bytes) whole rest split)
+    every_one : HoldsStill initial (files_of_bytes input bytes) world.disk w'.disk
+        → HoldsPrefix world.disk initial (files_of_bytes input bytes) (length whole) w'.disk
+    every_one durable = every (length whole) (all_there initial (files_of_bytes input bytes) whole rest split)
         durable
 
-    held : (cause : Cause) → Ends world input ground limit bytes cause w w'
-        → HoldsFront world.disk ground (files_of_bytes input bytes) (length whole) w'.disk
+    held : (cause : Cause) → Ends world input initial limit bytes cause w w'
+        → HoldsPrefix world.disk initial (files_of_bytes input bytes) (length whole) w'.disk
     held Done (inl e) = every_one e.durable
     held Done (inr e) = every_one e.durable
     held (Failed Source) e = every_one e.durable
     held (Failed Disk) e =
-        let enough = enough_of e.done e.rest (shelved_lines (next_number ground) e.done) e.split (e.got told)
+        let enough = enough_of e.done e.rest (shelved_lines (next_number initial) e.done) e.split (e.got told)
         (omega arith) in
         record {
-          contents = front_of world.disk ground (files_of_bytes input bytes) w'.disk e.done e.rest (length whole)
+          contents = front_of world.disk initial (files_of_bytes input bytes) w'.disk e.done e.rest (length whole)
               (world.disk.contents w'.disk) e.split enough e.contents;
-          images = λ c image. front_of world.disk ground (files_of_bytes input bytes) w'.disk e.done e.rest
+          images = λ c image. front_of world.disk initial (files_of_bytes input bytes) w'.disk e.done e.rest
               (length whole) c e.split enough (e.images c image);
         }
     held (Failed Output) (inl e) =
         let cut = e.part told in
         let first = e.done ++ e.last ∷ [] in
-        let line = shelved_line (next_number ground + length e.done) e.last.file in
-        let got = shelved_lines (next_number ground) e.done ++ cut.part in
-        let le : length got ≤ length (shelved_lines (next_number ground) first) = omega (
+        let line = shelved_line (next_number initial + length e.done) e.last.file in
+        let got = shelved_lines (next_number initial) e.done ++ cut.part in
+        let le : length got ≤ length (shelved_lines (next_number initial) first) = omega (
           arith,
-          length-append (shelved_lines (next_number ground) e.done) cut.part,
+          length-append (shelved_lines (next_number initial) e.done) cut.part,
           cut.shorter,
-          ap length (shelved_lines-push (next_number ground) e.done e.last),
-          length-append (shelved_lines (next_number ground) e.done) line,
+          ap length (shelved_lines-push (next_number initial) e.done e.last),
+          length-append (shelved_lines (next_number initial) e.done) line,
         ) in
         let put_is : world.out.contents w'.out ≡ world.out.contents w.out ++ got = cut.put
-        ∙ append_assoc (world.out.contents w.out) (shelved_lines (next_number ground) e.done) cut.part in
-        holds world.disk ground (files_of_bytes input bytes) w'.disk first e.rest (length whole) e.split
+        ∙ append_assoc (world.out.contents w.out) (shelved_lines (next_number initial) e.done) cut.part in
+        holds world.disk initial (files_of_bytes input bytes) w'.disk first e.rest (length whole) e.split
         (enough_of first e.rest got e.split put_is le) e.durable
     held (Failed Output) (inr e) = every_one e.durable
     held NoMemory e =
-        let enough = enough_of e.done e.rest (shelved_lines (next_number ground) e.done) e.split (e.got told)
+        let enough = enough_of e.done e.rest (shelved_lines (next_number initial) e.done) e.split (e.got told)
         (omega arith) in
-        holds world.disk ground (files_of_bytes input bytes) w'.disk e.done e.rest (length whole)
+        holds world.disk initial (files_of_bytes input bytes) w'.disk e.done e.rest (length whole)
         e.split enough e.durable
     held (Refused (Capacity needed most)) e =
-        let enough = enough_of e.done (e.next ∷ e.rest) (shelved_lines (next_number ground) e.done) e.split
+        let enough = enough_of e.done (e.next ∷ e.rest) (shelved_lines (next_number initial) e.done) e.split
         (e.got told) (omega arith) in
-        holds world.disk ground (files_of_bytes input bytes) w'.disk e.done (e.next ∷ e.rest) (length whole)
+        holds world.disk initial (files_of_bytes input bytes) w'.disk e.done (e.next ∷ e.rest) (length whole)
         e.split enough e.durable
     held _ e = absurd e
 
-  held_untold : (cause : Cause) → Ends world input ground limit bytes cause w w'
-      → HoldsFront world.disk ground (files_of_bytes input bytes) 0 w'.disk
+  held_untold : (cause : Cause) → Ends world input initial limit bytes cause w w'
+      → HoldsPrefix world.disk initial (files_of_bytes input bytes) 0 w'.disk
   held_untold Done (inl e) = every 0 (omega arith) e.durable
   held_untold Done (inr e) = every 0 (omega arith) e.durable
   held_untold (Failed Source) e = every 0 (omega arith) e.durable
   held_untold (Failed Disk) e = record {
-    contents = front_of world.disk ground (files_of_bytes input bytes) w'.disk e.done e.rest
+    contents = front_of world.disk initial (files_of_bytes input bytes) w'.disk e.done e.rest
         0 (world.disk.contents w'.disk)
         e.split (omega arith) e.contents;
-    images = λ c image. front_of world.disk ground (files_of_bytes input bytes) w'.disk e.done e.rest 0 c e.split
+    images = λ c image. front_of world.disk initial (files_of_bytes input bytes) w'.disk e.done e.rest 0 c e.split
         (omega arith) (e.images c image);
   }
   held_untold (Failed Output) (inl e) =
-      holds world.disk ground (files_of_bytes input bytes) w'.disk (e.done ++ e.last ∷ []) e.rest 0 e.split
+      holds world.disk initial (files_of_bytes input bytes) w'.disk (e.done ++ e.last ∷ []) e.rest 0 e.split
       (omega arith) e.durable
   held_untold (Failed Output) (inr e) = every 0 (omega arith) e.durable
-  held_untold NoMemory e = holds world.disk ground (files_of_bytes input bytes) w'.disk e.done e.rest 0 e.split
+  held_untold NoMemory e = holds world.disk initial (files_of_bytes input bytes) w'.disk e.done e.rest 0 e.split
       (omega arith) e.durable
   held_untold (Refused (Capacity needed most)) e =
-      holds world.disk ground (files_of_bytes input bytes) w'.disk e.done (e.next ∷ e.rest) 0 e.split
+      holds world.disk initial (files_of_bytes input bytes) w'.disk e.done (e.next ∷ e.rest) 0 e.split
       (omega arith) e.durable
   held_untold _ e = absurd e
 
-  complete : (cause : Cause) → Ends world input ground limit bytes cause w w'
+  complete : (cause : Cause) → Ends world input initial limit bytes cause w w'
       → NoFault world w w'
-      → AllHaveRoom ground (files_of_bytes input bytes)
+      → AllHaveRoom initial (files_of_bytes input bytes)
       → (cause ≡ Done) ⊎ (cause ≡ NoMemory)
   complete Done e quiet fits = inl refl
   complete (Failed Source) e quiet fits = absurd (quiet.of_source e.reason.1)
@@ -281,27 +282,31 @@ module _ {S D O : Type 0} (world : World S D O) (input : Input) (ground : Ground
   complete (Failed Output) (inr e) quiet fits = absurd (quiet.of_out e.rose)
   complete NoMemory e quiet fits = inr refl
   complete (Refused (Capacity needed most)) e quiet fits =
-      absurd (lacks_room ground e.done e.next e.rest e.over (subst (AllHaveRoom ground) e.split fits))
+      absurd (lacks_room initial e.done e.next e.rest e.over (subst (AllHaveRoom initial) e.split fits))
   complete _ e quiet fits = absurd e
 
-  pub receives : (cause : Cause) → LeavesFronts world.disk ground (files_of_bytes input bytes) w.disk w'.disk
-      → Ends world input ground limit bytes cause w w'
-      → (IsWorkDone cause → AllHaveRoom ground (files_of_bytes input bytes))
+  pub receives : (cause : Cause) → LeavesPrefixes world.disk initial (files_of_bytes input bytes) w.disk w'.disk
+      → Ends world input initial limit bytes cause w w'
+      → (IsWorkDone cause → AllHaveRoom initial (files_of_bytes input bytes))
       → (workers : ℕ)
-      → FewWait (world_outlets world) ground input (most_waiting input workers) bytes (outlets_in w) (outlets_in w')
-      → Receives world input workers ground limit bytes cause w w'
-  receives cause any_moment ends room workers few = record {
+      → FewWait (world_outlets world) initial input (most_waiting input workers) bytes (outlets_in w) (outlets_in w')
+      → WhenLastAsked world.source (AreWorkedBut (world_outlets world) initial input
+      (most_when_asked input workers) (files_of_bytes input bytes) (outlets_in w) (outlets_in w')) bytes w.source
+      w'.source
+      → Receives world input workers initial limit bytes cause w w'
+  receives cause any_moment ends room workers few in_time = record {
     held = λ whole rest text told split put. held whole rest text told split put cause ends;
     held_untold = held_untold cause ends;
     any_moment = any_moment;
     timely = λ worked waiting split many.
-        acknowledged_before (world_outlets world) ground input (most_waiting input workers) bytes (outlets_in w)
+        acknowledged_before (world_outlets world) initial input (most_waiting input workers) bytes (outlets_in w)
         (outlets_in w') few worked waiting split many;
+    in_time = in_time;
     ends = ends;
     complete = complete cause ends;
     overfull = λ lacks. (
-      λ is. not_both ground (files_of_bytes input bytes) (room (subst IsWorkDone (sym is) tt)) lacks,
-      λ is. not_both ground (files_of_bytes input bytes) (room (subst IsWorkDone (sym is) tt)) lacks,
+      λ is. not_both initial (files_of_bytes input bytes) (room (subst IsWorkDone (sym is) tt)) lacks,
+      λ is. not_both initial (files_of_bytes input bytes) (room (subst IsWorkDone (sym is) tt)) lacks,
     );
   }
 

@@ -1,5 +1,7 @@
 pub mod Acknowledging
 pub mod Causing
+pub mod Changing
+pub mod FirstFiles
 pub mod Fitting
 pub mod Growing
 pub mod Headline

@@ -1,6 +1,6 @@
 -- What comes of a disk from which no shelf was loaded, and of one from which it was.
 use Rattle.std.proofs.Common.{◌≡◌, ◌⊎◌, inl, inr, false, ℕ, List, [], ◌∷◌, ◌++◌, refl, sym, ◌∙◌, ap, subst, arith}
-use Rattle.std.proofs.Common.{Result, Ok, Err, IfOk, MatchResult}
+use Rattle.std.proofs.Common.{Result, Ok, Err, IfOk, MatchResult, OnOk, append-nil, length}
 use Rattle.lr_bits.specs.declared.placed.Placed.{Placed}
 use Rattle.lr_io.specs.declared.source.Source.{Ghosts as SourceOf}
 use Rattle.lr_disk.specs.declared.disk.Disk.{Ghosts as DiskOf}
@@ -8,6 +8,7 @@ use Rattle.lr_disk.specs.Reads.{IsUnwritten}
 use Rattle.lr_disk.specs.Pending.{EachImageSince, NothingPending}
 use Rattle.lr_disk.proofs.Moments.{weaker, stays, unwritten_yet}
 use Rattle.lr_shelf_format.specs.Items.{Item}
+use Rattle.lr_shelf_format.specs.ShelfBytes.{StandsForShelf}
 use Rattle.lr_shelf_format.specs.Way.{IsWay, IsNoShelfAt, Way}
 use Rattle.lr_shelf_format.proofs.WayLemmas.{has_one_way, has_way}
 use Rattle.lr_shelf.specs.Kept.{kept_by}
@@ -27,29 +28,32 @@ use Rattle.lr_causes.specs.declared.cause.Refusal.TheVariants.{NotAShelf, Capaci
 use Rattle.lr_causes.specs.Causes.{MayEndBefore}
 use Rattle.lr_refusals.specs.Errors.{cause_of}
 use Rattle.lr_causes.specs.Outside.{outlets, outside, outlets_in, world_outlets, World, Outside}
-use Rattle.lr_reading.specs.Readers.{most_waiting}
+use Rattle.lr_reading.specs.Readers.{leeway_for, most_waiting}
 use Rattle.lr_receiving.proofs.Causing.{first_later, first_refused}
+use Rattle.lr_receiving.proofs.Changing.{no_change}
 use Rattle.lr_forms.specs.declared.forms.Input.{Input}
 use Rattle.lr_receiving.specs.Inputs.{files_of_bytes}
 use Rattle.lr_reading.specs.Reading.{IsRead}
-use Rattle.lr_shelf.specs.Grounds.{
-  Ground,
+use Rattle.lr_shelf.specs.InitialShelves.{
+  InitialShelf,
   OfItems,
   OfWay,
   AllHaveRoom,
   HoldsStill,
   IsSettledOn,
   StandsWith,
-  LeavesFronts,
+  LeavesPrefixes,
   next_number,
 }
-use Rattle.lr_shelf.specs.Fronts.{HasRoom}
+use Rattle.lr_shelf.specs.Prefixes.{HasRoom}
+use Rattle.lr_receiving.specs.Onto.{ChangesFor}
 use Rattle.lr_receiving.specs.Shelved.{MayStop}
 use Rattle.lr_receiving.specs.Receive.{
   Ends,
   Receives,
   IsReceiveCause,
   IsWorkDone,
+  EndsWork,
   IsUntouched,
   ReceiveRun,
 }
@@ -61,7 +65,14 @@ use Rattle.lr_receiving.proofs.Headline.{receives, room_of_items}
 use Rattle.lr_receiving.proofs.ReceiveEnding.{got_none, loaded}
 use Rattle.lr_receiving.proofs.Shelving.{rose_of, same_of}
 use Rattle.lr_receiving.proofs.Taking.{no_bytes}
-use Rattle.lr_shelf.proofs.GroundFronts.{front_none, begun_items, begun_way, still_holds, still_left, settled_on_items}
+use Rattle.lr_shelf.proofs.InitialPrefixes.{
+  front_none,
+  begun_items,
+  begun_way,
+  still_holds,
+  still_left,
+  settled_on_items,
+}
 
 -- ---- the causes of what `load` refuses
 
@@ -135,15 +146,15 @@ full_reads source input limit bytes s s' read tells empty done next rest split =
     some done next rest (sym split ∙ ap (files_of_bytes input) none ∙ no_bytes input)
 
 -- and where none were taken nothing waits
-nothing_waits : {S D O : Type 0} (world : World S D O) (ground : Ground) (input : Input) (waiting : ℕ)
-    (w w' : Outside S D O) (d : D) → HoldsStill ground [] world.disk d
-    → FewWait (world_outlets world) ground input waiting [] (outlets_in w) (outlets d w.out)
-nothing_waits world ground input waiting w w' d still =
-    all_worked (world_outlets world) ground input waiting [] (outlets_in w) (outlets d w.out)
-    (subst (λ (l : List Placed). HoldsStill ground l world.disk d) (sym (no_bytes input)) still)
-    (lines_alone (world_outlets world) ground (files_of_bytes input []) (outlets_in w) (outlets d w.out)
-    (λ t. got_none world.out ground w.out t ∙ ap (λ (l : List Placed). world.out.contents w.out
-    ++ shelved_lines (next_number ground) l) (sym (no_bytes input))))
+nothing_waits : {S D O : Type 0} (world : World S D O) (initial : InitialShelf) (input : Input) (waiting : ℕ)
+    (w w' : Outside S D O) (d : D) → HoldsStill initial [] world.disk d
+    → FewWait (world_outlets world) initial input waiting [] (outlets_in w) (outlets d w.out)
+nothing_waits world initial input waiting w w' d still =
+    all_worked (world_outlets world) initial input waiting [] (outlets_in w) (outlets d w.out)
+    (subst (λ (l : List Placed). HoldsStill initial l world.disk d) (sym (no_bytes input)) still)
+    (lines_alone (world_outlets world) initial (files_of_bytes input []) (outlets_in w) (outlets d w.out)
+    (λ t. got_none world.out initial w.out t ∙ ap (λ (l : List Placed). world.out.contents w.out
+    ++ shelved_lines (next_number initial) l) (sym (no_bytes input))))
 
 -- ---- memory for reading was refused, before anything was called
 
@@ -151,25 +162,25 @@ module _ {S D O : Type 0} (world : World S D O)
     (only_now : (d : D) (c : List ℕ) → world.disk.tells d → world.disk.left_since d (world.disk.moment d) c
     → world.disk.may_leave d c)
     (input : Input) (workers limit : ℕ) (w : Outside S D O) where
-  nothing_made : (ground : Ground) → world.disk.tells w.disk → StandsWith ground [] (world.disk.contents w.disk)
+  nothing_made : (initial : InitialShelf) → world.disk.tells w.disk → StandsWith initial [] (world.disk.contents w.disk)
       → NothingPending world.disk w.disk
-      → Receives world input workers ground limit [] NoMemory w w
-  nothing_made ground told stands only =
-      receives world input ground limit [] w w NoMemory
-      (subst (λ (l : List Placed). LeavesFronts world.disk ground l w.disk w.disk) (sym (no_bytes input))
-      (weaker world.disk.moment world.disk.left_since w.disk w.disk _ _ (front_none ground)
-      (stays world.disk only_now w.disk (StandsWith ground []) told
-      (λ c left. subst (StandsWith ground []) (sym (only c left)) stands))))
+      → Receives world input workers initial limit [] NoMemory w w
+  nothing_made initial told stands only =
+      receives world input initial limit [] w w NoMemory
+      (subst (λ (l : List Placed). LeavesPrefixes world.disk initial l w.disk w.disk) (sym (no_bytes input))
+      (weaker world.disk.moment world.disk.left_since w.disk w.disk _ _ (front_none initial)
+      (stays world.disk only_now w.disk (StandsWith initial []) told
+      (λ c left. subst (StandsWith initial []) (sym (only c left)) stands))))
       (record {
         done = [];
         rest = [];
         split = no_bytes input;
         durable = record { stands = stands; durable = only };
-        got = got_none world.out ground w.out;
+        got = got_none world.out initial w.out;
       })
       (λ done. absurd done) workers
-      (nothing_waits world ground input (most_waiting input workers) w w w.disk
-      (record { stands = stands; durable = only }))
+      (nothing_waits world initial input (most_waiting input workers) w w w.disk
+      (record { stands = stands; durable = only })) (inl refl)
 
   pub not_made : ReceiveRun world input workers limit NoMemory w w
   not_made = record {
@@ -196,6 +207,9 @@ module _ {S D O : Type 0} (world : World S D O)
     only_read = λ none t. unwritten_yet world.disk only_now w.disk t;
     silent = λ none early. refl;
     unasked = λ none failed. refl;
+    ended = λ done. absurd done;
+    outside = λ way told is.
+        no_change way (files_of_bytes input []) (world.disk.contents w.disk) (world.disk.contents w.disk) refl;
   }
 
 -- ---- the shelf was to be loaded
@@ -206,34 +220,34 @@ module _ {S D O : Type 0} (world : World S D O) (input : Input) (workers limit :
   abbrev read_only : Outside S D O
   read_only = outside w.source d1 w.out
 
-  module _ (ground : Ground) (told : world.disk.tells w.disk)
-      (stands : StandsWith ground [] (world.disk.contents w.disk))
+  module _ (initial : InitialShelf) (told : world.disk.tells w.disk)
+      (stands : StandsWith initial [] (world.disk.contents w.disk))
       (only : NothingPending world.disk w.disk) where
-    still : HoldsStill ground [] world.disk d1
-    still = still_holds world.disk ground w.disk d1 (loads.unwritten told) stands only
+    still : HoldsStill initial [] world.disk d1
+    still = still_holds world.disk initial w.disk d1 (loads.unwritten told) stands only
 
-    loading : EachImageSince world.disk w.disk d1 (StandsWith ground [])
-    loading = still_left world.disk ground w.disk d1 (loads.unwritten told) stands only
+    loading : EachImageSince world.disk w.disk d1 (StandsWith initial [])
+    loading = still_left world.disk initial w.disk d1 (loads.unwritten told) stands only
 
-    none : (cause : Cause) → Ends world input ground limit [] cause w read_only → (IsWorkDone cause → ⊥)
-        → Receives world input workers ground limit [] cause w read_only
+    none : (cause : Cause) → Ends world input initial limit [] cause w read_only → (IsWorkDone cause → ⊥)
+        → Receives world input workers initial limit [] cause w read_only
     none cause ends undone =
-        receives world input ground limit [] w read_only cause
-        (subst (λ (l : List Placed). LeavesFronts world.disk ground l w.disk d1) (sym (no_bytes input))
-        (weaker world.disk.moment world.disk.left_since w.disk d1 _ _ (front_none ground) loading))
+        receives world input initial limit [] w read_only cause
+        (subst (λ (l : List Placed). LeavesPrefixes world.disk initial l w.disk d1) (sym (no_bytes input))
+        (weaker world.disk.moment world.disk.left_since w.disk d1 _ _ (front_none initial) loading))
         ends (λ done. absurd (undone done)) workers
-        (nothing_waits world ground input (most_waiting input workers) w w d1 still)
+        (nothing_waits world initial input (most_waiting input workers) w w d1 still) (inl refl)
 
     nothing : (e : ShelfError) → result ≡ Err e → IsLoadRefusal world.disk w.disk e
         → ((at : ℕ) → IsNoShelfAt (world.disk.contents w.disk) at → ⊥)
-        → Receives world input workers ground limit [] (cause_of e) w read_only
+        → Receives world input workers initial limit [] (cause_of e) w read_only
     nothing Disk' is refusal shelf = none (Failed Disk) (record {
       done = [];
       rest = [];
       split = no_bytes input;
       contents = inl still.stands;
-      images = λ c image. inl (subst (StandsWith ground []) (sym (still.durable c image)) still.stands);
-      got = got_none world.out ground w.out;
+      images = λ c image. inl (subst (StandsWith initial []) (sym (still.durable c image)) still.stands);
+      got = got_none world.out initial w.out;
       rose = rose_of world.disk w.disk d1 result Disk' is loads.calls.counted refl;
     }) (λ done. done)
     nothing (NotAShelf' at) is refusal shelf = absurd (shelf at (refusal told))
@@ -242,7 +256,7 @@ module _ {S D O : Type 0} (world : World S D O) (input : Input) (workers limit :
       rest = [];
       split = no_bytes input;
       durable = still;
-      got = got_none world.out ground w.out;
+      got = got_none world.out initial w.out;
     }) (λ done. done)
     nothing _ is refusal shelf = absurd refusal
 
@@ -290,11 +304,17 @@ module _ {S D O : Type 0} (world : World S D O) (input : Input) (workers limit :
     only_read = λ none told. loads.unwritten told;
     silent = λ none early. refl;
     unasked = λ none failed. refl;
+    ended = λ done. absurd (load_work world.disk w.disk e refusal done);
+    outside = λ way told is.
+        no_change way (files_of_bytes input []) (world.disk.contents w.disk) (world.disk.contents d1)
+        (loads.unwritten told).contents;
   }
 
   -- it was
-  module _ (shelf : Shelf) (is : result ≡ Ok shelf) (w' : Outside S D O) (cause : Cause)
-      (run : EndsRun world input limit (most_waiting input workers) cause shelf read_only w') where
+  module _ (only_now : (d : D) (c : List ℕ) → world.disk.tells d → world.disk.left_since d (world.disk.moment d) c
+      → world.disk.may_leave d c)
+      (shelf : Shelf) (is : result ≡ Ok shelf) (w' : Outside S D O) (cause : Cause)
+      (run : EndsRun world input limit (leeway_for input workers) cause shelf read_only w') where
     if_ok : (P : Shelf → Type 0) → IfOk result P → P shelf
     if_ok P holds = subst (λ (r : Result Shelf ShelfError). IfOk r P) is holds
 
@@ -309,18 +329,19 @@ module _ {S D O : Type 0} (world : World S D O) (input : Input) (workers limit :
         subst (λ (l : List ℕ). IsWay l (kept_by shelf).way) (loads.unwritten told).contents
         (if_ok (KeepsWay (world.disk.contents d1)) (loads.way told))
 
-    -- on a ground that the shelf was loaded from
-    onto : (ground : Ground) (told : world.disk.tells w.disk) → StandsWith ground [] (world.disk.contents w.disk)
+    -- on an initial shelf that the shelf was loaded from
+    onto : (initial : InitialShelf) (told : world.disk.tells w.disk)
+        → StandsWith initial [] (world.disk.contents w.disk)
         → NothingPending world.disk w.disk
-        → IsSettledOn ground [] world.disk shelf d1
-        → (Ends world input ground limit run.bytes cause w w' → IsWorkDone cause
-        → AllHaveRoom ground (files_of_bytes input run.bytes))
-        → Receives world input workers ground limit run.bytes cause w w'
-    onto ground told stands only settled room =
-        let begun = loaded (world_outlets world) ground (outlets_in w) d1 shelf settled
-        (loading ground told stands only) same_count in
-        let all = run.ends ground (outlets_in w) begun in
-        receives world input ground limit run.bytes w w' cause all.0 all.1 (room all.1) workers all.2
+        → IsSettledOn initial [] world.disk shelf d1
+        → (Ends world input initial limit run.bytes cause w w' → IsWorkDone cause
+        → AllHaveRoom initial (files_of_bytes input run.bytes))
+        → Receives world input workers initial limit run.bytes cause w w'
+    onto initial told stands only settled room =
+        let begun = loaded (world_outlets world) initial (outlets_in w) d1 shelf settled
+        (loading initial told stands only) same_count in
+        let all = run.ends initial (outlets_in w) begun in
+        receives world input initial limit run.bytes w w' cause all.0 all.1 (room all.1) workers all.2 all.3
 
     onto_shelf : (capacity : ℕ) (items : List Item) → world.disk.tells w.disk
         → IsDurable world.disk capacity items w.disk
@@ -346,6 +367,65 @@ module _ {S D O : Type 0} (world : World S D O) (input : Input) (workers limit :
           on_disk = still (OfWay way (world.disk.contents w.disk)) told begins only;
         })
         (λ ends done. subst (λ (w : Way). HasRoom w (files_of_bytes input run.bytes)) same (run.over.room done))
+
+    -- also where something was pending on the disk: it was synced first
+    settled_after : (initial : InitialShelf) → world.disk.tells w.disk
+        → StandsWith initial [] (world.disk.contents w.disk)
+        → IsSettledOn initial [] world.disk shelf d1
+    settled_after (OfItems capacity items) told stands =
+        settled_on_items world.disk capacity items shelf d1
+        (if_ok (λ x. IsSettled world.disk capacity items x d1) (loads.settled capacity items told
+        (subst (StandsForShelf (world.disk.contents w.disk) capacity) (append-nil items) stands)))
+    settled_after (OfWay way old) told stands = record {
+      told = loads.calls.told told;
+      kept = record {
+        way = (has_one_way (world.disk.contents w.disk)).way (kept_by shelf).way way (is_way told) stands.is_way;
+        working = working;
+      };
+      on_disk = record {
+        stands = subst (StandsWith (OfWay way old) []) (sym (loads.unwritten told).contents) stands;
+        durable = subst (λ (r : Result Shelf ShelfError). OnOk r (NothingPending world.disk d1)) is
+            (loads.synced told);
+      };
+    }
+
+    still_after : (initial : InitialShelf) (c : Cause) (before : Outside S D O) → IsWorkDone c
+        → Ends world input initial limit run.bytes c before w'
+        → HoldsStill initial (files_of_bytes input run.bytes) world.disk w'.disk
+    still_after initial Done before done (inl ends) = ends.durable
+    still_after initial Done before done (inr ends) = ends.durable
+    still_after initial (Failed Source) before done ends = ends.durable
+    still_after initial _ before done ends = absurd done
+
+    ended_run : IsWorkDone cause → EndsWork world input limit run.bytes cause w w'
+    ended_run done =
+        let there = run.ended done in
+        record {
+          stop = there.0;
+          is = there.1;
+          number = length (kept_by shelf).way.entries;
+          work = record { reason = there.2.reason; got = there.2.got };
+          numbered = λ way told has.
+              ap (λ (x : Way). length x.entries)
+              ((has_one_way (world.disk.contents w.disk)).way (kept_by shelf).way way (is_way told) has);
+          stand = λ initial told stands.
+              let settled = settled_after initial told stands in
+              let begun = loaded (world_outlets world) initial (outlets d1 w.out) d1 shelf settled
+              (stays world.disk only_now d1 (StandsWith initial []) settled.told
+              (λ c left. subst (StandsWith initial []) (sym (settled.on_disk.durable c left)) settled.on_disk.stands))
+              refl in
+              still_after initial cause (outside w.source d1 w.out) done (run.ends initial (outlets d1 w.out) begun).1;
+        }
+
+    changes_run : (way : Way) → world.disk.tells w.disk → IsWay (world.disk.contents w.disk) way
+        → ChangesFor way (files_of_bytes input run.bytes) (world.disk.contents w.disk)
+        (world.disk.contents w'.disk)
+    changes_run way told has =
+        let files = files_of_bytes input run.bytes in
+        subst (λ (x : Way). ChangesFor x files (world.disk.contents w.disk) (world.disk.contents w'.disk))
+        ((has_one_way (world.disk.contents w.disk)).way (kept_by shelf).way way (is_way told) has)
+        (subst (λ (l : List ℕ). ChangesFor (kept_by shelf).way files l (world.disk.contents w'.disk))
+        (loads.unwritten told).contents (run.outside (loads.calls.told told)))
 
     pub loaded_run : ReceiveRun world input workers limit cause w w'
     loaded_run = record {
@@ -375,4 +455,6 @@ module _ {S D O : Type 0} (world : World S D O) (input : Input) (workers limit :
           subst (λ (x : D). IsUnwritten world.disk w.disk x) (sym (run.over.same_disk none)) (loads.unwritten told);
       silent = run.over.silent;
       unasked = λ none failed. absurd (run.over.kind none failed);
+      ended = ended_run;
+      outside = changes_run;
     }

@@ -31,7 +31,7 @@ use Rattle.std.proofs.Common.{
 use Rattle.std.specs.Int.{cast_unsigned, w8}
 use Rattle.std.proofs.lemmas.List.{map-append}
 use Rattle.lr_make.specs.Stream.{symbol_stream}
-use Rattle.lr_make.specs.Symbols.{symbols_at}
+use Rattle.lr_make.specs.Symbols.{symbols_at, bytes_of_symbols}
 use Rattle.lr_make.proofs.Sending.{symbol_stream-more}
 use Rattle.lr_bits.specs.Faults.{Rose}
 use Rattle.lr_io.specs.declared.sink.Sink.{Ghosts as SinkOf}
@@ -39,7 +39,6 @@ use Rattle.lr_causes.specs.declared.cause.Cause.{Cause}
 use Rattle.lr_causes.specs.declared.cause.Cause.TheVariants.{Done, Failed}
 use Rattle.lr_causes.specs.declared.cause.Party.TheVariants.{Output}
 use Rattle.lr_causes.specs.Causes.{counts, IsCaused}
-use Rattle.lr_make.specs.Symbols.{bytes_of_symbols}
 use Rattle.lr_receiving.specs.Made.{MakeEnds}
 use Rattle.lr_causes.specs.Puts.{Puts, PutFails}
 use Rattle.lr_causes.proofs.Joining.{puts_both}

@@ -1,20 +1,26 @@
 -- Files after files: what was shelved, and where shelving stopped.
-use Rattle.std.proofs.Common.{◌≡◌, ℕ, ◌+◌, ◌<◌, ◌≤◌, List, [], ◌∷◌, ◌++◌, length, take, drop, get_or}
+use Rattle.std.proofs.Common.{◌≡◌, ℕ, ◌+◌, ◌-◌, ◌<◌, ◌≤◌, List, [], ◌∷◌, ◌++◌, length, take, drop, get_or}
 use Rattle.std.proofs.Common.{refl, sym, ◌∙◌, ap, subst, append_assoc, append-nil, Result, Ok, Err, OnOk, IfErr}
+use Rattle.std.proofs.Common.{arith, length-append}
 use Rattle.std.proofs.lemmas.List.{drop_all, take_more, take-append-drop}
 use Rattle.lr_bits.specs.declared.outcome.Outcome.{Outcome}
 use Rattle.lr_bits.specs.declared.placed.Placed.{Placed}
+use Rattle.lr_shelf.specs.Prefixes.{end_with}
+use Rattle.lr_shelf.specs.Kept.{kept_by}
 use Rattle.lr_shelf.specs.declared.shelf.Shelf.{Shelf}
+use Rattle.lr_shelf.proofs.Staying.{outside_same}
 use Rattle.lr_layers.specs.Origins.{placed_of_outcomes}
-use Rattle.lr_layers.specs.Standing.{AddsFiles, StandsFor, Kept}
+use Rattle.lr_layers.specs.Standing.{AddsFiles, LayersStandFor, KeptLayers}
 use Rattle.lr_layers.proofs.GoingOn.{go_on}
 use Rattle.lr_causes.specs.declared.cause.Cause.{Cause}
 use Rattle.lr_causes.specs.declared.cause.Cause.TheVariants.{NoMemory}
-use Rattle.lr_receiving.specs.Shelving.{AreAcknowledged, Stops}
+use Rattle.lr_receiving.specs.Shelving.{AreAcknowledged, Stops, shelved_lines}
 use Rattle.lr_reading.specs.Arrivals.{HasWholeFrame}
 use Rattle.lr_receiving.specs.Shelved.{ShelvesSoFar, HasShelved, StopsShelving, Gains, GainsNoMore}
 use Rattle.lr_receiving.proofs.Acknowledging.{acknowledged_first, acknowledged_more}
 use Rattle.lr_receiving.proofs.Causing.{first_later}
+use Rattle.lr_receiving.proofs.Changing.{change_after, change_among, stays_after}
+use Rattle.lr_receiving.proofs.ShelvedLines.{shelved_lines-append, shelved_lines-none}
 use Rattle.lr_receiving.proofs.WholeFrames.{with_outcome}
 use Rattle.lr_receiving.proofs.Growing.{grows_none, grows_on, stops_after, stops_before}
 use Rattle.lr_receiving.proofs.Shelving.{no_line, stops_more}
@@ -29,9 +35,14 @@ module _ {D O : Type 0} (world : OutletsOf D O) where
     working = λ works. works;
     disk_count = refl;
     out_count = refl;
-    shelved = λ ground done before so_far.
-        subst (λ (l : List Placed). ShelvesSoFar world ground l shelf before w) (sym (append-nil done)) so_far;
+    shelved = λ initial done before so_far.
+        subst (λ (l : List Placed). ShelvesSoFar world initial l shelf before w) (sym (append-nil done)) so_far;
     grown = grows_none shelf w;
+    count = omega arith;
+    put = λ t. sym (ap (λ (l : List ℕ). world.out.contents w.out ++ l)
+        (shelved_lines-none (length (kept_by shelf).way.entries)) ∙ append-nil (world.out.contents w.out));
+    outside = λ t. outside_same ((kept_by shelf).way.end - 1) (end_with (kept_by shelf).way.end [])
+        (world.disk.contents w.disk) (world.disk.contents w.disk) refl;
   }
 
   module _ {xs : List Placed} {shelf shelf1 : Shelf} {w w1 : Outlets D O}
@@ -45,10 +56,24 @@ module _ {D O : Type 0} (world : OutletsOf D O) where
       working = λ works. next.working (first.working works);
       disk_count = next.disk_count ∙ first.disk_count;
       out_count = next.out_count ∙ first.out_count;
-      shelved = λ ground done before so_far.
-          subst (λ (l : List Placed). ShelvesSoFar world ground l shelf2 before w2) (append_assoc done xs ys)
-          (next.shelved ground (done ++ xs) before (first.shelved ground done before so_far));
+      shelved = λ initial done before so_far.
+          subst (λ (l : List Placed). ShelvesSoFar world initial l shelf2 before w2) (append_assoc done xs ys)
+          (next.shelved initial (done ++ xs) before (first.shelved initial done before so_far));
       grown = grows_on first.grown next.grown;
+      count = omega (arith, next.count, first.count, length-append xs ys);
+      put = λ t.
+          let number = length (kept_by shelf).way.entries in
+          next.put (first.told_by_out t)
+          ∙ ap (λ (l : List ℕ). l ++ shelved_lines (length (kept_by shelf1).way.entries) ys) (first.put t)
+          ∙ append_assoc (world.out.contents w.out) (shelved_lines number xs)
+          (shelved_lines (length (kept_by shelf1).way.entries) ys)
+          ∙ ap (λ (l : List ℕ). world.out.contents w.out ++ l)
+          (ap (λ (n : ℕ). shelved_lines number xs ++ shelved_lines n ys) first.count
+          ∙ sym (shelved_lines-append number xs ys));
+      outside = λ t.
+          stays_after (kept_by shelf).way (kept_by shelf1).way xs (world.disk.contents w.disk)
+          (world.disk.contents w1.disk) (world.disk.contents w2.disk) first.grown.ends (first.outside t) ys
+          (next.outside (first.told_by_disk t));
     }
 
     -- shelving stopped after files
@@ -61,14 +86,18 @@ module _ {D O : Type 0} (world : OutletsOf D O) where
       first = λ works. first_later cause 0 0 (world.disk.faults w.disk) (world.disk.faults w1.disk)
           (world.disk.faults w2.disk) (world.out.faults w.out) (world.out.faults w1.out)
           (world.out.faults w2.out) first.disk_count first.out_count (stopped.first (first.working works));
-      stops = λ ground done before so_far.
-          subst (λ (l : List Placed). Stops world ground cause l before w2) (append_assoc done xs ys)
-          (stopped.stops ground (done ++ xs) before (first.shelved ground done before so_far));
-      keeps = λ ground done before so_far.
-          subst (λ (l : List Placed). AreAcknowledged world ground done l before w2) (append_assoc done xs ys)
-          (acknowledged_first world ground done xs
-          (stopped.keeps ground (done ++ xs) before (first.shelved ground done before so_far)));
+      stops = λ initial done before so_far.
+          subst (λ (l : List Placed). Stops world initial cause l before w2) (append_assoc done xs ys)
+          (stopped.stops initial (done ++ xs) before (first.shelved initial done before so_far));
+      keeps = λ initial done before so_far.
+          subst (λ (l : List Placed). AreAcknowledged world initial done l before w2) (append_assoc done xs ys)
+          (acknowledged_first world initial done xs
+          (stopped.keeps initial (done ++ xs) before (first.shelved initial done before so_far)));
       grown = stops_after first.grown stopped.grown;
+      outside = λ t.
+          change_after (kept_by shelf).way (kept_by shelf1).way xs (world.disk.contents w.disk)
+          (world.disk.contents w1.disk) (world.disk.contents w2.disk) first.grown.ends (first.outside t) ys
+          first.grown.same first.grown.room (stopped.outside (first.told_by_disk t));
     }
 
   -- it stopped before more of them
@@ -79,13 +108,16 @@ module _ {D O : Type 0} (world : OutletsOf D O) where
     told_by_disk = stopped.told_by_disk;
     told_by_out = stopped.told_by_out;
     first = stopped.first;
-    stops = λ ground done before so_far.
-        subst (λ (l : List Placed). Stops world ground cause l before w') (append_assoc done xs ys)
-        (stops_more world ground before w' (done ++ xs) ys cause (stopped.stops ground done before so_far));
-    keeps = λ ground done before so_far.
-        subst (λ (l : List Placed). AreAcknowledged world ground done l before w') (append_assoc done xs ys)
-        (acknowledged_more world ground ys (stopped.keeps ground done before so_far));
+    stops = λ initial done before so_far.
+        subst (λ (l : List Placed). Stops world initial cause l before w') (append_assoc done xs ys)
+        (stops_more world initial before w' (done ++ xs) ys cause (stopped.stops initial done before so_far));
+    keeps = λ initial done before so_far.
+        subst (λ (l : List Placed). AreAcknowledged world initial done l before w') (append_assoc done xs ys)
+        (acknowledged_more world initial ys (stopped.keeps initial done before so_far));
     grown = stops_before ys stopped.grown;
+    outside = λ t.
+        change_among (kept_by shelf).way xs ys (world.disk.contents w.disk) (world.disk.contents w'.disk)
+        (stopped.outside t);
   }
 
   -- ---- the files of a list, one after another
@@ -138,7 +170,7 @@ module _ {D O : Type 0} (world : OutletsOf D O) where
     gained_some (Err e) stopped = record { more = new; files = these; stopped = stopped }
 
   -- the layers had no memory for it
-  pub gained_none : (outcomes : List Outcome) (outcome : Outcome) (kept : Kept) → StandsFor kept outcomes
+  pub gained_none : (outcomes : List Outcome) (outcome : Outcome) (kept : KeptLayers) → LayersStandFor kept outcomes
       → HasWholeFrame outcome → (shelf : Shelf) (w : Outlets D O)
       → GainsNoMore world NoMemory outcomes outcome shelf w w
   gained_none outcomes outcome kept stands whole shelf w =

@@ -6,6 +6,7 @@ use Rattle.std.proofs.Common.{
   false,
   true,
   ◌+◌,
+  ◌-◌,
   ◌≤◌,
   ◌<◌,
   ℕ,
@@ -41,10 +42,11 @@ use Rattle.lr_io.specs.declared.sink.Sink.{Ghosts as SinkOf}
 use Rattle.lr_disk.specs.declared.disk.Disk.{Ghosts as DiskOf}
 use Rattle.lr_disk.specs.Pending.{EachImageSince}
 use Rattle.lr_shelf_format.specs.Items.{Item}
+use Rattle.lr_shelf.specs.Adding.{StaysOutside}
 use Rattle.lr_shelf.specs.Adds.{new_end}
 use Rattle.lr_shelf.specs.Append.{Appends, IsAppendRefusal, item_for}
-use Rattle.lr_shelf.specs.Calls.{IsCounted}
-use Rattle.lr_shelf.specs.Kept.{Kept, kept_by}
+use Rattle.lr_shelf.specs.Calls.{IsFaultCounted}
+use Rattle.lr_shelf.specs.Kept.{KeptShelf, kept_by}
 use Rattle.lr_shelf.specs.declared.shelf.Shelf.{Shelf}
 use Rattle.lr_shelf.specs.declared.error.ShelfError.{ShelfError}
 use Rattle.lr_shelf.specs.declared.error.ShelfError.TheVariants.{
@@ -60,37 +62,47 @@ use Rattle.lr_causes.specs.declared.cause.Party.TheVariants.{Disk, Output}
 use Rattle.lr_causes.specs.declared.cause.Refusal.TheVariants.{Capacity}
 use Rattle.lr_refusals.specs.Errors.{cause_of}
 use Rattle.lr_causes.specs.Puts.{Puts, PutFails}
-use Rattle.lr_shelf.specs.Grounds.{
-  Ground,
+use Rattle.lr_shelf.specs.InitialShelves.{
+  InitialShelf,
   HoldsStill,
   IsSettledOn,
   next_number,
-  LeavesFronts,
+  LeavesPrefixes,
   StandsWith,
   StandsWithEither,
 }
-use Rattle.lr_shelf.specs.Fronts.{end_with}
+use Rattle.lr_shelf.specs.Prefixes.{end_with}
 use Rattle.lr_receiving.specs.Shelving.{shelved_lines, StandsForOneFileMore, StopsBy, Stops}
 use Rattle.lr_receiving.specs.Shelved.{MayStop, ShelvesSoFar, HasShelved, StopsShelving, Grows, GrowsNoMore}
 use Rattle.lr_receiving.proofs.Acknowledging.{either_acknowledged, lines_alone, still_acknowledged}
 use Rattle.lr_receiving.proofs.Causing.{append_works, first_refused}
-use Rattle.lr_shelf.proofs.Grounds.{capacity_is, ends, left_on, moments_on, needed_is, now_on, number_is, settled_on}
+use Rattle.lr_receiving.proofs.Changing.{change_for, no_change}
+use Rattle.lr_shelf.proofs.InitialShelves.{
+  capacity_is,
+  ends,
+  left_on,
+  moments_on,
+  needed_is,
+  now_on,
+  number_is,
+  settled_on,
+}
 use Rattle.lr_receiving.proofs.Growing.{grows_one, stops_at_one, stops_for_memory}
-use Rattle.lr_receiving.proofs.ShelvedLines.{shelved_lines-push}
+use Rattle.lr_receiving.proofs.ShelvedLines.{shelved_lines-cons, shelved_lines-none, shelved_lines-push}
 use Rattle.lr_causes.specs.Outside.{outlets, outlets_of, Outlets, OutletsOf}
-use Rattle.lr_shelf.proofs.GroundFronts.{fronts_of_more, fronts_with}
+use Rattle.lr_shelf.proofs.InitialPrefixes.{fronts_of_more, fronts_with}
 
 -- ---- one file more
 
-module _ (ground : Ground) where
-  either_more : (done : List Placed) (placed : Placed) (bytes : List ℕ) → StandsWithEither ground done placed bytes
-      → StandsForOneFileMore ground done (placed ∷ []) bytes
+module _ (initial : InitialShelf) where
+  either_more : (done : List Placed) (placed : Placed) (bytes : List ℕ) → StandsWithEither initial done placed bytes
+      → StandsForOneFileMore initial done (placed ∷ []) bytes
   either_more done placed bytes (inl s) = inl s
   either_more done placed bytes (inr s) = inr (placed, [], refl, s)
 
   -- more files that are still to be shelved
-  pub one_more_later : (done rest more : List Placed) (bytes : List ℕ) → StandsForOneFileMore ground done rest bytes
-      → StandsForOneFileMore ground done (rest ++ more) bytes
+  pub one_more_later : (done rest more : List Placed) (bytes : List ℕ) → StandsForOneFileMore initial done rest bytes
+      → StandsForOneFileMore initial done (rest ++ more) bytes
   one_more_later done rest more bytes (inl s) = inl s
   one_more_later done rest more bytes (inr s) =
       inr (s.0, s.1 ++ more, ap (λ (l : List Placed). l ++ more) s.2, s.3)
@@ -98,7 +110,7 @@ module _ (ground : Ground) where
 -- ---- causes
 
 -- what an append refuses for stops shelving
-append_kind : (item : Item) (kept : Kept) (e : ShelfError) → IsAppendRefusal item kept e → MayStop (cause_of e)
+append_kind : (item : Item) (kept : KeptShelf) (e : ShelfError) → IsAppendRefusal item kept e → MayStop (cause_of e)
 append_kind item kept Disk' refusal = tt
 append_kind item kept (Capacity' needed most) refusal = tt
 append_kind item kept NoMemory' refusal = tt
@@ -107,19 +119,19 @@ append_kind item kept _ refusal = absurd refusal
 
 -- ---- more files
 
-module _ {D O : Type 0} (world : OutletsOf D O) (ground : Ground) (w w' : Outlets D O)
+module _ {D O : Type 0} (world : OutletsOf D O) (initial : InitialShelf) (w w' : Outlets D O)
     (files more : List Placed) where
   longer : (done rest : List Placed) → files ≡ done ++ rest → files ++ more ≡ done ++ (rest ++ more)
   longer done rest split = ap (λ (l : List Placed). l ++ more) split ∙ append_assoc done rest more
 
-  stops_by_more : (cause : Cause) → StopsBy world ground cause files w w'
-      → StopsBy world ground cause (files ++ more) w w'
+  stops_by_more : (cause : Cause) → StopsBy world initial cause files w w'
+      → StopsBy world initial cause (files ++ more) w w'
   stops_by_more (Failed Disk) why = record {
     done = why.done;
     rest = why.rest ++ more;
     split = longer why.done why.rest why.split;
-    contents = one_more_later ground why.done why.rest more (world.disk.contents w'.disk) why.contents;
-    images = λ c image. one_more_later ground why.done why.rest more c (why.images c image);
+    contents = one_more_later initial why.done why.rest more (world.disk.contents w'.disk) why.contents;
+    images = λ c image. one_more_later initial why.done why.rest more c (why.images c image);
     got = why.got;
     rose = why.rose;
   }
@@ -153,18 +165,18 @@ module _ {D O : Type 0} (world : OutletsOf D O) (ground : Ground) (w w' : Outlet
   stops_by_more _ why = absurd why
 
   -- shelving that stopped among some files stopped among more of them
-  pub stops_more : (cause : Cause) → Stops world ground cause files w w'
-      → Stops world ground cause (files ++ more) w w'
+  pub stops_more : (cause : Cause) → Stops world initial cause files w w'
+      → Stops world initial cause (files ++ more) w w'
   stops_more cause stops = record {
     any_moment =
-        fronts_of_more world.disk ground w.disk w'.disk w'.disk files stops.any_moment more;
+        fronts_of_more world.disk initial w.disk w'.disk w'.disk files stops.any_moment more;
     why = stops_by_more cause stops.why;
   }
 
--- ---- one file more, on a ground
+-- ---- one file more, on an initial shelf
 
-module _ {D O : Type 0} (world : OutletsOf D O) (ground : Ground) (done : List Placed) (shelf : Shelf)
-    (w w1 : Outlets D O) (so_far : ShelvesSoFar world ground done shelf w w1) where
+module _ {D O : Type 0} (world : OutletsOf D O) (initial : InitialShelf) (done : List Placed) (shelf : Shelf)
+    (w w1 : Outlets D O) (so_far : ShelvesSoFar world initial done shelf w w1) where
   abbrev disk : DiskOf D
   disk = world.disk
 
@@ -172,9 +184,9 @@ module _ {D O : Type 0} (world : OutletsOf D O) (ground : Ground) (done : List P
   out = world.out
 
   -- no memory for what comes next
-  pub out_of_memory : (more : List Placed) → Stops world ground NoMemory (done ++ more) w w1
+  pub out_of_memory : (more : List Placed) → Stops world initial NoMemory (done ++ more) w w1
   out_of_memory more = record {
-    any_moment = fronts_of_more disk ground w.disk w1.disk w1.disk done so_far.any_moment more;
+    any_moment = fronts_of_more disk initial w.disk w1.disk w1.disk done so_far.any_moment more;
     why = record {
       done = done;
       rest = more;
@@ -185,26 +197,26 @@ module _ {D O : Type 0} (world : OutletsOf D O) (ground : Ground) (done : List P
   }
 
   module _ (placed : Placed) (d2 : D) (run : EachImageSince disk w1.disk d2
-      (StandsWithEither ground done placed)) where
-    moments : LeavesFronts disk ground (done ++ placed ∷ []) w.disk d2
-    moments = fronts_with disk ground w.disk w1.disk d2 done so_far.any_moment placed run
+      (StandsWithEither initial done placed)) where
+    moments : LeavesPrefixes disk initial (done ++ placed ∷ []) w.disk d2
+    moments = fronts_with disk initial w.disk w1.disk d2 done so_far.any_moment placed run
 
     -- the append answered an error
     append_stopped : (e : ShelfError) → IsFile placed.file
-        → StandsWithEither ground done placed (disk.contents d2)
-        → ((c : List ℕ) → disk.may_leave d2 c → StandsWithEither ground done placed c)
+        → StandsWithEither initial done placed (disk.contents d2)
+        → ((c : List ℕ) → disk.may_leave d2 c → StandsWithEither initial done placed c)
         → (e ≡ Disk' → Rose (disk.faults w1.disk) (disk.faults d2))
         → ((e ≡ Disk' → ⊥) → d2 ≡ w1.disk)
         → IsAppendRefusal (item_for placed) (kept_by shelf) e
-        → Stops world ground (cause_of e) (done ++ placed ∷ []) w (outlets d2 w1.out)
+        → Stops world initial (cause_of e) (done ++ placed ∷ []) w (outlets d2 w1.out)
     append_stopped Disk' is now left rose stays refusal = record {
       any_moment = moments;
       why = record {
         done = done;
         rest = placed ∷ [];
         split = refl;
-        contents = either_more ground done placed (disk.contents d2) now;
-        images = λ c image. either_more ground done placed c (left c image);
+        contents = either_more initial done placed (disk.contents d2) now;
+        images = λ c image. either_more initial done placed c (left c image);
         got = so_far.put.put;
         rose = subst (λ (k : ℕ). Rose k (disk.faults d2)) so_far.disk_count (rose refl);
       };
@@ -218,15 +230,15 @@ module _ {D O : Type 0} (world : OutletsOf D O) (ground : Ground) (done : List P
             next = placed;
             rest = [];
             split = refl;
-            durable = subst (λ (x : D). HoldsStill ground done disk x) (sym same) so_far.settled.on_disk;
+            durable = subst (λ (x : D). HoldsStill initial done disk x) (sym same) so_far.settled.on_disk;
             got = so_far.put.put;
-            needs = refusal.2 ∙ needed_is disk done shelf w1.disk placed is ground so_far.settled;
-            of = refusal.3 ∙ capacity_is disk done shelf w1.disk ground so_far.settled;
+            needs = refusal.2 ∙ needed_is disk done shelf w1.disk placed is initial so_far.settled;
+            of = refusal.3 ∙ capacity_is disk done shelf w1.disk initial so_far.settled;
             over = omega (
               arith,
               refusal.1,
-              capacity_is disk done shelf w1.disk ground so_far.settled,
-              ends disk done shelf w1.disk placed ground so_far.settled,
+              capacity_is disk done shelf w1.disk initial so_far.settled,
+              ends disk done shelf w1.disk placed initial so_far.settled,
             );
           };
         }
@@ -238,7 +250,7 @@ module _ {D O : Type 0} (world : OutletsOf D O) (ground : Ground) (done : List P
             done = done;
             rest = placed ∷ [];
             split = refl;
-            durable = subst (λ (x : D). HoldsStill ground done disk x) (sym same) so_far.settled.on_disk;
+            durable = subst (λ (x : D). HoldsStill initial done disk x) (sym same) so_far.settled.on_disk;
             got = so_far.put.put;
           };
         }
@@ -246,24 +258,24 @@ module _ {D O : Type 0} (world : OutletsOf D O) (ground : Ground) (done : List P
         let no : false ≡ true = sym so_far.settled.kept.working ∙ refusal in absurd (cc no)
     append_stopped _ is now left rose stays refusal = absurd refusal
 
-    module _ (shelf2 : Shelf) (settled : IsSettledOn ground (done ++ placed ∷ []) disk shelf2 d2) (n : ℕ)
+    module _ (shelf2 : Shelf) (settled : IsSettledOn initial (done ++ placed ∷ []) disk shelf2 d2) (n : ℕ)
         (text : List ℕ) (place : n ≡ length (kept_by shelf).way.entries) (is : text ≡ shelved_line n placed.file)
         (o2 : O) where
-      line_is : text ≡ shelved_line (next_number ground + length done) placed.file
+      line_is : text ≡ shelved_line (next_number initial + length done) placed.file
       line_is =
           is
           ∙ ap (λ (k : ℕ). shelved_line k placed.file)
-          (place ∙ number_is disk done shelf w1.disk ground so_far.settled)
+          (place ∙ number_is disk done shelf w1.disk initial so_far.settled)
 
-      lines_are : shelved_lines (next_number ground) (done ++ placed ∷ [])
-          ≡ shelved_lines (next_number ground) done ++ text
+      lines_are : shelved_lines (next_number initial) (done ++ placed ∷ [])
+          ≡ shelved_lines (next_number initial) done ++ text
       lines_are =
-          shelved_lines-push (next_number ground) done placed
-          ∙ ap (λ (l : List ℕ). shelved_lines (next_number ground) done ++ l) (sym line_is)
+          shelved_lines-push (next_number initial) done placed
+          ∙ ap (λ (l : List ℕ). shelved_lines (next_number initial) done ++ l) (sym line_is)
 
       -- the line was put
       line_put : disk.faults d2 ≡ disk.faults w1.disk → Puts out text w1.out o2
-          → ShelvesSoFar world ground (done ++ placed ∷ []) shelf2 w (outlets d2 o2)
+          → ShelvesSoFar world initial (done ++ placed ∷ []) shelf2 w (outlets d2 o2)
       line_put disk_count put = record {
         settled = settled;
         any_moment = moments;
@@ -272,7 +284,7 @@ module _ {D O : Type 0} (world : OutletsOf D O) (ground : Ground) (done : List P
           put = λ t.
               put.put (so_far.put.told t)
               ∙ ap (λ (l : List ℕ). l ++ text) (so_far.put.put t)
-              ∙ append_assoc (out.contents w.out) (shelved_lines (next_number ground) done) text
+              ∙ append_assoc (out.contents w.out) (shelved_lines (next_number initial) done) text
               ∙ ap (λ (l : List ℕ). out.contents w.out ++ l) (sym lines_are);
           kept = put.kept ∙ so_far.put.kept;
         };
@@ -281,7 +293,7 @@ module _ {D O : Type 0} (world : OutletsOf D O) (ground : Ground) (done : List P
 
       -- a part of the line was put
       line_stopped : PutFails out text w1.out o2
-          → Stops world ground (Failed Output) (done ++ placed ∷ []) w (outlets d2 o2)
+          → Stops world initial (Failed Output) (done ++ placed ∷ []) w (outlets d2 o2)
       line_stopped fails = record {
         any_moment = moments;
         why = record {
@@ -307,17 +319,17 @@ module _ {D O : Type 0} (world : OutletsOf D O) (ground : Ground) (done : List P
 
 -- the disk's count rose at `Disk`
 pub rose_of : {D A : Type 0} (disk : DiskOf D) (d d' : D) (result : Result A ShelfError) (e : ShelfError)
-    → result ≡ Err e → IsCounted (disk.faults d) (disk.faults d') result → e ≡ Disk'
+    → result ≡ Err e → IsFaultCounted (disk.faults d) (disk.faults d') result → e ≡ Disk'
     → Rose (disk.faults d) (disk.faults d')
 rose_of {D = D} {A = A} disk d d' result e is counted same =
-    (subst (λ (r : Result A ShelfError). IsCounted (disk.faults d) (disk.faults d') r)
+    (subst (λ (r : Result A ShelfError). IsFaultCounted (disk.faults d) (disk.faults d') r)
     (is ∙ ap (λ (x : ShelfError). Err x) same) counted).1
 
 -- and stayed at `Ok`
 pub same_of : {D A : Type 0} (disk : DiskOf D) (d d' : D) (result : Result A ShelfError) (answer : A)
-    → result ≡ Ok answer → IsCounted (disk.faults d) (disk.faults d') result → disk.faults d' ≡ disk.faults d
+    → result ≡ Ok answer → IsFaultCounted (disk.faults d) (disk.faults d') result → disk.faults d' ≡ disk.faults d
 same_of {D = D} {A = A} disk d d' result answer is counted =
-    subst (λ (r : Result A ShelfError). IsCounted (disk.faults d) (disk.faults d') r) is counted
+    subst (λ (r : Result A ShelfError). IsFaultCounted (disk.faults d) (disk.faults d') r) is counted
 
 module _ {D O : Type 0} (disk : DiskOf D) (placed : Placed) (shelf shelf' : Shelf) (d d' : D) (o : O)
     (result : Result ℕ ShelfError) (appends : Appends disk placed shelf shelf' d d' result) where
@@ -368,6 +380,15 @@ module _ {D O : Type 0} (disk : DiskOf D) (placed : Placed) (shelf shelf' : Shel
 
 -- ---- one file
 
+-- what stays outside of its item
+outside_one : (placed : Placed) (shelf : Shelf) (old new : List ℕ)
+    → StaysOutside ((kept_by shelf).way.end - 1) (new_end (item_for placed) (kept_by shelf)) old new
+    → StaysOutside ((kept_by shelf).way.end - 1) (end_with (kept_by shelf).way.end (placed ∷ [])) old new
+outside_one placed shelf old new stays =
+    let there : new_end (item_for placed) (kept_by shelf) ≡ end_with (kept_by shelf).way.end (placed ∷ []) =
+    omega arith in
+    subst (λ (n : ℕ). StaysOutside ((kept_by shelf).way.end - 1) n old new) there stays
+
 -- there was no memory for its line
 pub no_line : {D O : Type 0} (world : OutletsOf D O) (files : List Placed) (shelf : Shelf) (w : Outlets D O)
     → StopsShelving world NoMemory files shelf w w
@@ -376,10 +397,12 @@ no_line world files shelf w = record {
   told_by_disk = λ t. t;
   told_by_out = λ t. t;
   first = λ works. (refl, refl);
-  stops = λ ground done before so_far. out_of_memory world ground done shelf before w so_far files;
-  keeps = λ ground done before so_far. still_acknowledged world ground done files before w so_far.settled.on_disk
-      (lines_alone world ground done before w so_far.put.put);
+  stops = λ initial done before so_far. out_of_memory world initial done shelf before w so_far files;
+  keeps = λ initial done before so_far. still_acknowledged world initial done files before w so_far.settled.on_disk
+      (lines_alone world initial done before w so_far.put.put);
   grown = stops_for_memory files shelf w;
+  outside = λ t.
+      no_change (kept_by shelf).way files (world.disk.contents w.disk) (world.disk.contents w.disk) refl;
 }
 
 module _ {D O : Type 0} (disk : DiskOf D)
@@ -399,38 +422,49 @@ module _ {D O : Type 0} (disk : DiskOf D)
         told_by_out = λ t. t;
         first = λ works. first_refused {A = ℕ} e (Err e) 0 0 (disk.faults d) (disk.faults d') (out.faults o) refl
             (append_works (item_for placed) (kept_by shelf) e appends.refused works) adds.calls.counted;
-        stops = λ ground done before so_far.
+        stops = λ initial done before so_far.
             let settled = so_far.settled in
-            append_stopped (outlets_of disk out) ground done shelf before (outlets d o) so_far placed d'
-            (moments_on disk leaves_contents counts_now done placed shelf shelf' d d' (Err e) adds ground settled)
+            append_stopped (outlets_of disk out) initial done shelf before (outlets d o) so_far placed d'
+            (moments_on disk leaves_contents counts_now done placed shelf shelf' d d' (Err e) adds initial settled)
             e is
-            (now_on disk leaves_contents counts_now done placed shelf shelf' d d' (Err e) adds ground settled)
-            (left_on disk leaves_contents counts_now done placed shelf shelf' d d' (Err e) adds ground settled)
+            (now_on disk leaves_contents counts_now done placed shelf shelf' d d' (Err e) adds initial settled)
+            (left_on disk leaves_contents counts_now done placed shelf shelf' d d' (Err e) adds initial settled)
             (rose_of {A = ℕ} disk d d' (Err e) e refl adds.calls.counted)
             (λ other. ⊎_elim (λ is. absurd (other is)) (λ same. same.0) adds.untouched)
             appends.refused;
-        keeps = λ ground done before so_far.
+        keeps = λ initial done before so_far.
             let settled = so_far.settled in
-            either_acknowledged (outlets_of disk out) ground done placed before (outlets d' o)
-            (now_on disk leaves_contents counts_now done placed shelf shelf' d d' (Err e) adds ground settled)
-            (left_on disk leaves_contents counts_now done placed shelf shelf' d d' (Err e) adds ground settled)
-            (lines_alone (outlets_of disk out) ground done before (outlets d' o) so_far.put.put);
+            either_acknowledged (outlets_of disk out) initial done placed before (outlets d' o)
+            (now_on disk leaves_contents counts_now done placed shelf shelf' d d' (Err e) adds initial settled)
+            (left_on disk leaves_contents counts_now done placed shelf shelf' d d' (Err e) adds initial settled)
+            (lines_alone (outlets_of disk out) initial done before (outlets d' o) so_far.put.put);
         grown = not_appended disk placed shelf shelf' d d' o (Err e) appends e appends.refused;
+        outside = λ t. ⊎_elim
+            (λ failed.
+            let refusal : IsAppendRefusal (item_for placed) (kept_by shelf) Disk' =
+            subst (IsAppendRefusal (item_for placed) (kept_by shelf)) failed appends.refused in
+            change_for (kept_by shelf).way (placed ∷ []) (disk.contents d) (disk.contents d')
+            (inr (omega (arith, refusal.1))) (outside_one placed shelf (disk.contents d) (disk.contents d')
+            (adds.outside t)))
+            (λ same.
+            no_change (kept_by shelf).way (placed ∷ []) (disk.contents d) (disk.contents d')
+            (ap disk.contents same.0))
+            adds.untouched;
       }
 
   -- it was
   module _ (number : ℕ) (appends : Appends disk placed shelf shelf' d d' (Ok number)) (n : ℕ) (text : List ℕ)
       (place : n ≡ length (kept_by shelf).way.entries) (is : text ≡ shelved_line n placed.file) (o' : O) where
-    module _ (ground : Ground) (done : List Placed) (before : Outlets D O)
-        (so_far : ShelvesSoFar (outlets_of disk out) ground done shelf before (outlets d o)) where
-      settled_now : IsSettledOn ground (done ++ placed ∷ []) disk shelf' d'
+    module _ (initial : InitialShelf) (done : List Placed) (before : Outlets D O)
+        (so_far : ShelvesSoFar (outlets_of disk out) initial done shelf before (outlets d o)) where
+      settled_now : IsSettledOn initial (done ++ placed ∷ []) disk shelf' d'
       settled_now =
-          settled_on disk leaves_contents counts_now done placed shelf shelf' d d' number appends.adds ground
+          settled_on disk leaves_contents counts_now done placed shelf shelf' d d' number appends.adds initial
           so_far.settled
 
-      run : EachImageSince disk d d' (StandsWithEither ground done placed)
+      run : EachImageSince disk d d' (StandsWithEither initial done placed)
       run =
-          moments_on disk leaves_contents counts_now done placed shelf shelf' d d' (Ok number) appends.adds ground
+          moments_on disk leaves_contents counts_now done placed shelf shelf' d d' (Ok number) appends.adds initial
           so_far.settled
 
     -- and its line was put
@@ -439,15 +473,28 @@ module _ {D O : Type 0} (disk : DiskOf D)
     one_shelved put = record {
       told_by_disk = appends.adds.calls.told;
       told_by_out = put.told;
-      working = λ works. ap (λ (k : Kept). k.failed) appends.adds.kept ∙ works;
+      working = λ works. ap (λ (k : KeptShelf). k.failed) appends.adds.kept ∙ works;
       disk_count = appends.adds.calls.counted;
       out_count = put.kept;
-      shelved = λ ground done before so_far.
-          line_put (outlets_of disk out) ground done shelf before (outlets d o) so_far placed
-          d' (run ground done before so_far) shelf'
-          (settled_now ground done before so_far) n text place is o' appends.adds.calls.counted put;
+      shelved = λ initial done before so_far.
+          line_put (outlets_of disk out) initial done shelf before (outlets d o) so_far placed
+          d' (run initial done before so_far) shelf'
+          (settled_now initial done before so_far) n text place is o' appends.adds.calls.counted put;
       grown = appended disk placed shelf shelf' d d' o (Ok number) appends number refl o';
+      count = ap (λ (k : KeptShelf). length k.way.entries) appends.adds.kept
+          ∙ length-append (kept_by shelf).way.entries (_ ∷ []);
+      put = λ t. put.put t ∙ ap (λ (l : List ℕ). out.contents o ++ l) one_line;
+      outside = λ t.
+          outside_one placed shelf (disk.contents d) (disk.contents d') (appends.adds.outside t);
     }
+      where
+        one_line : text ≡ shelved_lines (length (kept_by shelf).way.entries) (placed ∷ [])
+        one_line =
+            is ∙ ap (λ (k : ℕ). shelved_line k placed.file) place
+            ∙ sym (append-nil (shelved_line (length (kept_by shelf).way.entries) placed.file))
+            ∙ ap (λ (l : List ℕ). shelved_line (length (kept_by shelf).way.entries) placed.file ++ l)
+            (sym (shelved_lines-none (length (kept_by shelf).way.entries + 1)))
+            ∙ sym (shelved_lines-cons (length (kept_by shelf).way.entries) placed [])
 
     -- and a part of its line
     pub one_cut : PutFails out text o o'
@@ -457,14 +504,14 @@ module _ {D O : Type 0} (disk : DiskOf D)
       told_by_disk = appends.adds.calls.told;
       told_by_out = fails.told;
       first = λ works. (fails.rose, appends.adds.calls.counted);
-      stops = λ ground done before so_far.
-          line_stopped (outlets_of disk out) ground done shelf before (outlets d o) so_far
-          placed d' (run ground done before so_far) shelf'
-          (settled_now ground done before so_far) n text place is o' fails;
-      keeps = λ ground done before so_far.
+      stops = λ initial done before so_far.
+          line_stopped (outlets_of disk out) initial done shelf before (outlets d o) so_far
+          placed d' (run initial done before so_far) shelf'
+          (settled_now initial done before so_far) n text place is o' fails;
+      keeps = λ initial done before so_far.
           let both = done ++ placed ∷ [] in
-          let lines = shelved_lines (next_number ground) done in
-          let still = (settled_now ground done before so_far).on_disk in record {
+          let lines = shelved_lines (next_number initial) done in
+          let still = (settled_now initial done before so_far).on_disk in record {
             others = placed ∷ [];
             split = refl;
             held = record {
@@ -480,7 +527,7 @@ module _ {D O : Type 0} (disk : DiskOf D)
                 rest = [];
                 split = sym (append-nil both);
                 enough = omega (arith, length-append done (placed ∷ []));
-                stands = subst (StandsWith ground both) (sym (still.durable c image)) still.stands;
+                stands = subst (StandsWith initial both) (sym (still.durable c image)) still.stands;
               };
             };
             told = λ t.
@@ -491,4 +538,8 @@ module _ {D O : Type 0} (disk : DiskOf D)
                 );
           };
       grown = stops_at_one (Failed Output) placed shelf (outlets d o) (outlets d' o') (λ needed most is. cc (is));
+      outside = λ t.
+          change_for (kept_by shelf).way (placed ∷ []) (disk.contents d) (disk.contents d')
+          (appended disk placed shelf shelf' d d' o (Ok number) appends number refl o').room
+          (outside_one placed shelf (disk.contents d) (disk.contents d') (appends.adds.outside t));
     }

@@ -22,43 +22,39 @@ use Rattle.std.proofs.Common.{
   append-nil,
   length-append,
 }
-use Rattle.std.specs.Prelude.{All}
 use Rattle.std.proofs.lemmas.List.{length-map, map-append}
-use Rattle.std.proofs.lemmas.List.Elements.{All-nil, All-head, All-tail}
 use Rattle.lr_bits.specs.declared.outcome.Outcome.{Outcome}
 use Rattle.lr_bits.specs.declared.placed.Placed.{Placed}
-use Rattle.lr_bits.specs.declared.sizes.TheConstants.{FRAME_BYTES, ZONE_BYTES}
+use Rattle.lr_bits.specs.declared.sizes.TheConstants.{FRAME_BYTES}
 use Rattle.lr_io.specs.declared.source.Source.{Ghosts as SourceOf}
 use Rattle.lr_io.specs.declared.sink.Sink.{Ghosts as SinkOf}
 use Rattle.lr_disk.specs.declared.disk.Disk.{Ghosts as DiskOf}
-use Rattle.lr_vc.specs.Frame.{Fields}
-use Rattle.lr_vc.specs.Runs.{AreFrames}
-use Rattle.lr_layers.specs.Layers.{Numbers, frames_of_outcomes, numbers_of}
+use Rattle.lr_layers.specs.Layers.{CountsView, numbers_of}
 use Rattle.lr_layers.specs.Origins.{placed_of_outcomes, placed_packets}
-use Rattle.lr_layers.specs.Standing.{StandsFor, numbers}
-use Rattle.lr_layers.proofs.GoingOn.{go_on}
+use Rattle.lr_layers.specs.Standing.{LayersStandFor, numbers}
 use Rattle.lr_causes.specs.declared.cause.Cause.{Cause}
 use Rattle.lr_causes.specs.declared.cause.Cause.TheVariants.{NoMemory}
-use Rattle.lr_reading.specs.Arrivals.{HasWholeFrame, arrivals_of, outcomes_of_arrivals}
-use Rattle.lr_reading.specs.Inputs.{outcomes_of_bytes}
+use Rattle.lr_reading.specs.Arrivals.{arrivals_of, outcomes_of_arrivals}
 use Rattle.lr_reading.specs.Runs.{TakesAll, TakesSome}
 use Rattle.lr_reading.specs.declared.arrival.Arrival.{Arrival}
 use Rattle.lr_forms.specs.declared.forms.Input.{Input}
 use Rattle.lr_reading.proofs.Coming.{outcomes_are, no_arrivals}
-use Rattle.lr_reading.proofs.Whole.{all_whole}
 use Rattle.lr_receiving.specs.declared.shelver.Shelver.{Shelver}
-use Rattle.lr_receiving.specs.declared.sums.Sums.{Sums}
+use Rattle.lr_receiving.specs.declared.receive_counts.ReceiveCounts.{ReceiveCounts}
 use Rattle.lr_receiving.specs.Inputs.{files_of_bytes}
-use Rattle.lr_receiving.specs.Reception.{ReadsAll, ReadsSome}
-use Rattle.lr_receiving.specs.Shelved.{HasShelved, StopsShelving, Gains, GainsNoMore}
+use Rattle.lr_receiving.specs.Reception.{FewWait, ReadsAll, ReadsSome}
+use Rattle.lr_receiving.specs.Shelved.{HasShelved, ShelvesSoFar, StopsShelving, Gains, GainsNoMore}
 use Rattle.lr_receiving.specs.ShelverTaken.{IsOnSame, ShelverTook, ShelverStopped, lent_to}
 use Rattle.lr_reading.proofs.Outcomes.{both_kinds}
 use Rattle.lr_receiving.specs.Shelving.{AreAcknowledged}
+use Rattle.lr_receiving.proofs.FirstFiles.{files_first}
+use Rattle.lr_receiving.proofs.Timely.{all_come_first, worked_in_time}
 use Rattle.lr_receiving.proofs.Acknowledging.{acknowledged_more}
 use Rattle.lr_receiving.proofs.Pieces.{shelved_none, shelved_on, stopped_after, stopped_before}
 use Rattle.lr_receiving.proofs.Shelving.{no_line}
-use Rattle.lr_receiving.proofs.WholeFrames.{with_outcome}
-use Rattle.lr_causes.specs.Outside.{outlets_of, outside, world_of}
+use Rattle.lr_causes.specs.Outside.{Outlets, outlets_of, outside, world_of}
+use Rattle.lr_reading.specs.Readers.{Leeway}
+use Rattle.lr_shelf.specs.InitialShelves.{InitialShelf}
 
 -- no outcomes have no files
 pub no_files : placed_of_outcomes [] ≡ []
@@ -76,47 +72,6 @@ outcomes-push : (arrivals : List Arrival) (arrival : Arrival) → outcomes_of_ar
     ≡ outcomes_of_arrivals arrivals ++ arrival.outcome ∷ []
 outcomes-push arrivals arrival = map-append (λ (a : Arrival). a.outcome) arrivals (arrival ∷ [])
 
--- ---- the files of the first arrivals come first
-
-frames_whole : (arrivals : List Arrival) (outcomes : List Outcome) → AreFrames (frames_of_outcomes outcomes)
-    → All (λ (arrival : Arrival). HasWholeFrame arrival.outcome) arrivals
-    → AreFrames (frames_of_outcomes (outcomes ++ outcomes_of_arrivals arrivals))
-frames_whole [] outcomes all whole =
-    subst (λ (l : List Outcome). AreFrames (frames_of_outcomes l)) (sym (append-nil outcomes)) all
-frames_whole (arrival ∷ arrivals) outcomes all whole =
-    let IsWhole : Arrival → Type 0 = λ a. HasWholeFrame a.outcome in
-    subst (λ (l : List Outcome). AreFrames (frames_of_outcomes l))
-    (append_assoc outcomes (arrival.outcome ∷ []) (outcomes_of_arrivals arrivals))
-    (frames_whole arrivals (outcomes ++ arrival.outcome ∷ [])
-    (with_outcome outcomes arrival.outcome all (All-head IsWhole arrival arrivals whole))
-    (All-tail IsWhole arrival arrivals whole))
-
-no_frames : AreFrames (frames_of_outcomes [])
-unfolding frames_of_outcomes
-no_frames = All-nil (λ (f : Fields). length f.zone ≡ ZONE_BYTES)
-
-files_first : (input : Input) (bytes : List ℕ) (passed rest : List Arrival)
-    → arrivals_of input bytes ≡ passed ++ rest
-    → (more : List Placed)
-    × (files_of_bytes input bytes ≡ placed_of_outcomes (outcomes_of_arrivals passed) ++ more)
-unfolding files_of_bytes
-files_first input bytes passed rest split =
-    let both : outcomes_of_bytes input bytes ≡ outcomes_of_arrivals passed ++ outcomes_of_arrivals rest =
-    outcomes_are input bytes ∙ ap outcomes_of_arrivals split
-    ∙ map-append (λ (a : Arrival). a.outcome) passed rest in
-    let whole : AreFrames (frames_of_outcomes (outcomes_of_arrivals passed ++ outcomes_of_arrivals rest)) =
-    subst (λ (l : List Outcome). AreFrames (frames_of_outcomes l))
-    (ap outcomes_of_arrivals split ∙ map-append (λ (a : Arrival). a.outcome) passed rest)
-    (frames_whole (arrivals_of input bytes) [] no_frames (all_whole input bytes)) in
-    let law = go_on (outcomes_of_arrivals passed) (outcomes_of_arrivals rest) whole in
-    (law.more_files, ap placed_of_outcomes both ∙ law.files)
-
--- the frames of all bytes have whole zones
-pub all_frames_whole : (input : Input) (bytes : List ℕ) → AreFrames (frames_of_outcomes (outcomes_of_bytes input bytes))
-all_frames_whole input bytes =
-    subst (λ (l : List Outcome). AreFrames (frames_of_outcomes l)) (sym (outcomes_are input bytes))
-    (frames_whole (arrivals_of input bytes) [] no_frames (all_whole input bytes))
-
 files_all : (input : Input) (bytes : List ℕ)
     → files_of_bytes input bytes ≡ placed_of_outcomes (outcomes_of_arrivals (arrivals_of input bytes))
 unfolding files_of_bytes
@@ -126,7 +81,7 @@ files_all input bytes = ap placed_of_outcomes (outcomes_are input bytes)
 
 module _ {D O : Type 0} (disk : DiskOf D) (out : SinkOf O) where
   -- it begins
-  pub shelver_begun : (shelver : Shelver D O) → StandsFor shelver.layers.now []
+  pub shelver_begun : (shelver : Shelver D O) → LayersStandFor shelver.layers.now []
       → numbers shelver.counts ≡ shelver.layers.now.numbers → ShelverTook disk out shelver [] shelver
   shelver_begun shelver stands counted = record {
     on_same = record { same_layers = refl; same_shelf = refl; same_disk = refl; same_out = refl };
@@ -137,7 +92,7 @@ module _ {D O : Type 0} (disk : DiskOf D) (out : SinkOf O) where
         (shelved_none (outlets_of disk out) shelver.shelf.now (lent_to shelver));
   }
 
-  pub shelver_ready : (shelver : Shelver D O) → StandsFor shelver.layers.now []
+  pub shelver_ready : (shelver : Shelver D O) → LayersStandFor shelver.layers.now []
       → numbers shelver.counts ≡ shelver.layers.now.numbers
       → (first : Shelver D O) × ShelverTook disk out first [] shelver
   shelver_ready shelver stands counted = (shelver, shelver_begun shelver stands counted)
@@ -153,7 +108,7 @@ module _ {D O : Type 0} (disk : DiskOf D) (out : SinkOf O) where
           fits,
           both_kinds (outcomes_of_arrivals arrivals),
           length-map arrivals (λ (a : Arrival). a.outcome),
-          ap (λ (n : Numbers). n.restored + n.lost) took.stands.numbers,
+          ap (λ (n : CountsView). n.restored + n.lost) took.stands.numbers,
         )
 
     -- memory for reading on was refused
@@ -170,11 +125,11 @@ module _ {D O : Type 0} (disk : DiskOf D) (out : SinkOf O) where
           late = [];
           split = sym (append-nil arrivals);
           one = omega arith;
-          keeps = λ ground start so_far.
-              subst (λ (l : List Placed). AreAcknowledged (outlets_of disk out) ground files l start (lent_to now))
+          keeps = λ initial start so_far.
+              subst (λ (l : List Placed). AreAcknowledged (outlets_of disk out) initial files l start (lent_to now))
               (append-nil files)
-              ((no_line (outlets_of disk out) [] now.shelf.now (lent_to now)).keeps ground files start
-              (took.shelved.shelved ground [] start so_far));
+              ((no_line (outlets_of disk out) [] now.shelf.now (lent_to now)).keeps initial files start
+              (took.shelved.shelved initial [] start so_far));
         }
 
     module _ (arrival : Arrival) (now' : Shelver D O) (same : IsOnSame now now') where
@@ -191,14 +146,14 @@ module _ {D O : Type 0} (disk : DiskOf D) (out : SinkOf O) where
       is = ap placed_of_outcomes (sym (outcomes-push arrivals arrival))
 
       -- its files were shelved
-      pub shelver_more : StandsFor now'.layers.now (outcomes_of_arrivals arrivals ++ arrival.outcome ∷ [])
+      pub shelver_more : LayersStandFor now'.layers.now (outcomes_of_arrivals arrivals ++ arrival.outcome ∷ [])
           → numbers now'.counts ≡ now'.layers.now.numbers
           → Gains (outlets_of disk out) (outcomes_of_arrivals arrivals) arrival.outcome
           now.shelf.now now'.shelf.now (lent_to now) (lent_to now')
           → ShelverTook disk out before (arrivals ++ arrival ∷ []) now'
       shelver_more stands counted gains = record {
         on_same = both;
-        stands = subst (λ (l : List Outcome). StandsFor now'.layers.now l) (sym (outcomes-push arrivals arrival))
+        stands = subst (λ (l : List Outcome). LayersStandFor now'.layers.now l) (sym (outcomes-push arrivals arrival))
             stands;
         counted = counted;
         shelved = subst (λ (l : List Placed). HasShelved (outlets_of disk out) l before.shelf.now
@@ -220,11 +175,11 @@ module _ {D O : Type 0} (disk : DiskOf D) (out : SinkOf O) where
         late = arrival ∷ [];
         split = refl;
         one = omega arith;
-        keeps = λ ground start so_far.
+        keeps = λ initial start so_far.
             let files = placed_of_outcomes (outcomes_of_arrivals arrivals) in
-            subst (λ (l : List Placed). AreAcknowledged (outlets_of disk out) ground files l start (lent_to now'))
+            subst (λ (l : List Placed). AreAcknowledged (outlets_of disk out) initial files l start (lent_to now'))
             (sym gains.files ∙ is)
-            (gains.stopped.keeps ground files start (took.shelved.shelved ground [] start so_far));
+            (gains.stopped.keeps initial files start (took.shelved.shelved initial [] start so_far));
       }
 
 -- ---- the whole input
@@ -232,12 +187,12 @@ module _ {D O : Type 0} (disk : DiskOf D) (out : SinkOf O) where
 module _ {S D O : Type 0} (source : SourceOf S) (disk : DiskOf D) (out : SinkOf O) (input : Input) (limit : ℕ)
     {s s' : S} {before now : Shelver D O} (begun : ShelverTook disk out before [] before) where
   -- all files were shelved
-  pub received_all : (sums : Sums)
-      → TakesAll source (ShelverTook disk out) input limit sums.totals s s' before now
+  pub received_all : (leeway : Leeway) (sums : ReceiveCounts)
+      → TakesAll source (ShelverTook disk out) input limit leeway sums.totals s s' before now
       → sums.counts ≡ now.counts
-      → ReadsAll (world_of source disk out) input limit sums before.shelf.now now.shelf.now
+      → ReadsAll (world_of source disk out) input limit leeway sums before.shelf.now now.shelf.now
       (outside s before.disk.now before.out.now) (outside s' now.disk.now now.out.now)
-  received_all sums all same =
+  received_all leeway sums all same =
       let took = all.taken before begun in
       record {
         bytes = all.bytes;
@@ -246,17 +201,39 @@ module _ {S D O : Type 0} (source : SourceOf S) (disk : DiskOf D) (out : SinkOf 
             ∙ ap (λ (l : List Outcome). numbers_of l) (sym (outcomes_are input all.bytes));
         shelved = subst (λ (l : List Placed). HasShelved (outlets_of disk out) l before.shelf.now
             now.shelf.now (lent_to before) (lent_to now)) (sym (files_all input all.bytes)) took.shelved;
+        in_time = all_come_first source input leeway.when_asked all.bytes s s' all.in_time;
       }
 
   -- they were not
-  pub received_some : (waiting : ℕ) (cause : Cause)
-      → TakesSome source (ShelverTook disk out) input limit waiting (ShelverStopped disk out) cause s s' before now
-      → ReadsSome (world_of source disk out) input limit waiting cause before.shelf.now
+  pub received_some : (leeway : Leeway) (cause : Cause)
+      → TakesSome source (ShelverTook disk out) input limit leeway (ShelverStopped disk out) cause s s' before now
+      → ReadsSome (world_of source disk out) input limit leeway cause before.shelf.now
       (outside s before.disk.now before.out.now) (outside s' now.disk.now now.out.now)
-  received_some waiting cause some =
+  received_some leeway cause some =
       let halted = some.stops before begun in
       let stopped = halted.stopped in
       let first = files_first input some.bytes some.passed some.rest some.split in
+      let timely : (initial : InitialShelf) (start : Outlets D O)
+      → ShelvesSoFar (outlets_of disk out) initial [] before.shelf.now start (lent_to before)
+      → FewWait (outlets_of disk out) initial input leeway.at_end some.bytes start (lent_to now) =
+      λ initial start so_far. record {
+        worked = outcomes_of_arrivals halted.worked;
+        late = outcomes_of_arrivals (halted.late ++ some.rest);
+        split = outcomes_are input some.bytes
+            ∙ ap outcomes_of_arrivals (some.split ∙ ap (λ (l : List Arrival). l ++ some.rest) halted.split
+            ∙ append_assoc halted.worked halted.late some.rest)
+            ∙ map-append (λ (a : Arrival). a.outcome) halted.worked (halted.late ++ some.rest);
+        few = omega (
+          arith,
+          length-map (halted.late ++ some.rest) (λ (a : Arrival). a.outcome),
+          length-append halted.late some.rest,
+          halted.one,
+          some.near,
+        );
+        acknowledged = subst (λ (l : List Placed). AreAcknowledged (outlets_of disk out) initial
+            (placed_of_outcomes (outcomes_of_arrivals halted.worked)) l start (lent_to now)) (sym first.1)
+            (acknowledged_more (outlets_of disk out) initial first.0 (halted.keeps initial start so_far));
+      } in
       record {
         bytes = some.bytes;
         read = some.read;
@@ -267,22 +244,8 @@ module _ {S D O : Type 0} (source : SourceOf S) (disk : DiskOf D) (out : SinkOf 
         first = λ line symbols told few calm.
             let later = some.first line symbols told few calm in
             files_first input (some.bytes ++ source.left s') some.passed later.0 later.1;
-        timely = λ ground start so_far. record {
-          worked = outcomes_of_arrivals halted.worked;
-          late = outcomes_of_arrivals (halted.late ++ some.rest);
-          split = outcomes_are input some.bytes
-              ∙ ap outcomes_of_arrivals (some.split ∙ ap (λ (l : List Arrival). l ++ some.rest) halted.split
-              ∙ append_assoc halted.worked halted.late some.rest)
-              ∙ map-append (λ (a : Arrival). a.outcome) halted.worked (halted.late ++ some.rest);
-          few = omega (
-            arith,
-            length-map (halted.late ++ some.rest) (λ (a : Arrival). a.outcome),
-            length-append halted.late some.rest,
-            halted.one,
-            some.near,
-          );
-          acknowledged = subst (λ (l : List Placed). AreAcknowledged (outlets_of disk out) ground
-              (placed_of_outcomes (outcomes_of_arrivals halted.worked)) l start (lent_to now)) (sym first.1)
-              (acknowledged_more (outlets_of disk out) ground first.0 (halted.keeps ground start so_far));
-        };
+        timely = timely;
+        in_time = λ initial start so_far. worked_in_time source input leeway.when_asked some.bytes s s'
+            (outlets_of disk out) initial start (lent_to now) some.passed some.rest halted.worked halted.late some.split
+            halted.split halted.one (timely initial start so_far) refl some.in_time;
       }

@@ -42,7 +42,7 @@ use Rattle.lr_causes.specs.Causes.{IsEarlier, counts}
 use Rattle.lr_refusals.specs.Errors.{cause_of}
 use Rattle.lr_receiving.specs.Filling.{FillEnds, Fills, IsWithdrawn, LeavesBlankOrItems}
 use Rattle.lr_receiving.specs.First.{IsFirst}
-use Rattle.lr_shelf.specs.Grounds.{with_files}
+use Rattle.lr_shelf.specs.InitialShelves.{with_files}
 use Rattle.lr_receiving.specs.Trial.{
   trial_capacity,
   StandsForPart,

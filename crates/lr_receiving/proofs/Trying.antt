@@ -54,7 +54,8 @@ use Rattle.lr_causes.specs.declared.cause.Cause.{Cause}
 use Rattle.lr_causes.specs.declared.cause.Cause.TheVariants.{Done, Failed, NoMemory, Refused}
 use Rattle.lr_causes.specs.declared.cause.Party.TheVariants.{Source, Disk, Output}
 use Rattle.lr_causes.specs.declared.cause.Refusal.TheVariants.{NotAShelf, Capacity}
-use Rattle.lr_receiving.specs.declared.sums.Sums.{Sums}
+use Rattle.lr_reading.specs.Readers.{Leeway}
+use Rattle.lr_receiving.specs.declared.receive_counts.ReceiveCounts.{ReceiveCounts}
 use Rattle.lr_conv.specs.declared.line.TheConstants.{STANDARD}
 use Rattle.lr_forms.specs.declared.forms.Input.TheVariants.{Symbols}
 use Rattle.lr_causes.specs.Causes.{counts}
@@ -63,7 +64,7 @@ use Rattle.lr_receiving.specs.Inputs.{files_of_bytes}
 use Rattle.lr_reading.specs.Reading.{IsRead, EndsFor}
 use Rattle.lr_receiving.specs.Receive.{receive_last}
 use Rattle.lr_receiving.specs.Reception.{sums_line, PutsLast, LastStops, ReadsAll, ReadsSome}
-use Rattle.lr_shelf.specs.Grounds.{OfItems, HoldsStill, with_files, StandsForFront, LeavesFronts}
+use Rattle.lr_shelf.specs.InitialShelves.{OfItems, HoldsStill, with_files, StandsForPrefix, LeavesPrefixes}
 use Rattle.lr_receiving.specs.Shelving.{StopsBy}
 use Rattle.lr_receiving.specs.Shelved.{MayStop, StopsTrial, ShelvesSoFar}
 use Rattle.lr_receiving.specs.Trial.{trial_capacity, StandsForPart, HoldsTrialPart, OutEnds}
@@ -73,7 +74,7 @@ use Rattle.lr_receiving.specs.First.{IsFirst}
 use Rattle.lr_receiving.proofs.Headline.{end_of-append}
 use Rattle.lr_receiving.proofs.Taking.{no_bytes}
 use Rattle.lr_receiving.proofs.ReceiveEnding.{last_line_is, loaded}
-use Rattle.lr_shelf.proofs.Grounds.{of_items, with_files-append}
+use Rattle.lr_shelf.proofs.InitialShelves.{of_items, with_files-append}
 use Rattle.lr_receiving.proofs.Shelving.{same_of}
 use Rattle.lr_causes.specs.Outside.{outlets, outlets_of, outside, world_of}
 
@@ -86,9 +87,9 @@ stops_trial NoMemory s s' d d' may caused = tt
 stops_trial (Refused (Capacity needed most)) s s' d d' may caused = tt
 stops_trial _ s s' d d' may caused = absurd may
 
--- a front of the files of a part
+-- a prefix of the files of a part
 stands_for_part : (symbols part later : List ℕ) → symbols ≡ part ++ later → (bytes : List ℕ)
-    → StandsForFront (OfItems trial_capacity []) (files_of_bytes (Symbols STANDARD) part) 0 bytes
+    → StandsForPrefix (OfItems trial_capacity []) (files_of_bytes (Symbols STANDARD) part) 0 bytes
     → StandsForPart symbols 0 bytes
 stands_for_part symbols part later split bytes stands =
     record { part = part; later = later; split = split; stands = stands }
@@ -168,7 +169,7 @@ module _ {D : Type 0} (disk : DiskOf D) (symbols : List ℕ) (d1 : D)
       split_of bytes read = sym gives ∙ read.moved given
 
       module _ (part : List ℕ) (split : symbols ≡ part ++ source.left s') where
-        fronts : LeavesFronts disk (OfItems trial_capacity []) (files_of_bytes (Symbols STANDARD) part) d1 d'
+        fronts : LeavesPrefixes disk (OfItems trial_capacity []) (files_of_bytes (Symbols STANDARD) part) d1 d'
             → EachImageSince disk d1 d' (StandsForPart symbols 0)
         fronts = weaker disk.moment disk.left_since d1 d' _ _ (stands_for_part symbols part (source.left s') split)
 
@@ -186,8 +187,8 @@ module _ {D : Type 0} (disk : DiskOf D) (symbols : List ℕ) (d1 : D)
       -- shelving stopped
       module _ (calm : Rose (source.faults s) (source.faults s') → ⊥)
           (fit : end_of (with_files [] (files_of_bytes (Symbols STANDARD) symbols)) ≤ trial_capacity)
-          (waiting : ℕ) (cause : Cause)
-          (some : ReadsSome (world_of source disk out) (Symbols STANDARD) limit waiting cause shelf
+          (leeway : Leeway) (cause : Cause)
+          (some : ReadsSome (world_of source disk out) (Symbols STANDARD) limit leeway cause shelf
           (outside s d2 o) (outside s' d' o')) where
         split : symbols ≡ some.bytes ++ source.left s'
         split = split_of some.bytes some.read
@@ -254,8 +255,8 @@ module _ {D : Type 0} (disk : DiskOf D) (symbols : List ℕ) (d1 : D)
           }
 
       -- all of them are shelved
-      module _ (sums : Sums) (shelf' : Shelf)
-          (all : ReadsAll (world_of source disk out) (Symbols STANDARD) limit sums shelf
+      module _ (leeway : Leeway) (sums : ReceiveCounts) (shelf' : Shelf)
+          (all : ReadsAll (world_of source disk out) (Symbols STANDARD) limit leeway sums shelf
           shelf' (outside s d2 o) (outside s' d' o'))
           (calm : Rose (source.faults s) (source.faults s') → ⊥) where
         split_all : symbols ≡ all.bytes ++ source.left s'
@@ -299,34 +300,36 @@ module _ {D : Type 0} (disk : DiskOf D) (symbols : List ℕ) (d1 : D)
         }
 
       -- ---- for either answer
-      abbrev AnswersAll : Shelf → Result Sums Cause → Type 0
-      AnswersAll shelf' answer = IfOk answer
-          (λ sums. ReadsAll (world_of source disk out) (Symbols STANDARD) limit sums shelf
+      abbrev AnswersAll : Leeway → Shelf → Result ReceiveCounts Cause → Type 0
+      AnswersAll leeway shelf' answer = IfOk answer
+          (λ sums. ReadsAll (world_of source disk out) (Symbols STANDARD) limit leeway sums shelf
           shelf' (outside s d2 o) (outside s' d' o'))
 
-      abbrev AnswersSome : ℕ → Result Sums Cause → Type 0
-      AnswersSome waiting answer = IfErr answer
-          (λ cause. ReadsSome (world_of source disk out) (Symbols STANDARD) limit waiting cause shelf
+      abbrev AnswersSome : Leeway → Result ReceiveCounts Cause → Type 0
+      AnswersSome leeway answer = IfErr answer
+          (λ cause. ReadsSome (world_of source disk out) (Symbols STANDARD) limit leeway cause shelf
           (outside s d2 o) (outside s' d' o'))
 
-      pub lines : (shelf' : Shelf) (answer : Result Sums Cause) → AnswersAll shelf' answer
+      pub lines : (leeway : Leeway) (shelf' : Shelf) (answer : Result ReceiveCounts Cause)
+          → AnswersAll leeway shelf' answer
           → (Rose (source.faults s) (source.faults s') → ⊥)
           → IfOk answer (λ sums. sums_line sums ≡ receive_last (Symbols STANDARD) symbols End)
-      lines shelf' (Ok sums) all calm = line sums shelf' all calm
-      lines shelf' (Err cause) all calm = tt
+      lines leeway shelf' (Ok sums) all calm = line leeway sums shelf' all calm
+      lines leeway shelf' (Err cause) all calm = tt
 
-      pub all_done : (shelf' : Shelf) (answer : Result Sums Cause) → AnswersAll shelf' answer
+      pub all_done : (leeway : Leeway) (shelf' : Shelf) (answer : Result ReceiveCounts Cause)
+          → AnswersAll leeway shelf' answer
           → (Rose (source.faults s) (source.faults s') → ⊥) → OnOk answer (FillsDisk disk symbols Done d1 d')
-      all_done shelf' (Ok sums) all calm = finished sums shelf' all calm
-      all_done shelf' (Err cause) all calm = tt
+      all_done leeway shelf' (Ok sums) all calm = finished leeway sums shelf' all calm
+      all_done leeway shelf' (Err cause) all calm = tt
 
-      pub some_done : (waiting : ℕ) (answer : Result Sums Cause) → AnswersSome waiting answer
+      pub some_done : (leeway : Leeway) (answer : Result ReceiveCounts Cause) → AnswersSome leeway answer
           → (Rose (source.faults s) (source.faults s') → ⊥)
           → end_of (with_files [] (files_of_bytes (Symbols STANDARD) symbols)) ≤ trial_capacity
           → ((x : O) → out.faults x ≡ 0) → IfErr answer (λ cause. StopsFilling disk symbols cause d1 d')
-      some_done waiting (Ok sums) some calm fit sure = tt
-      some_done waiting (Err cause) some calm fit sure =
-          stopped calm fit waiting cause some sure
+      some_done leeway (Ok sums) some calm fit sure = tt
+      some_done leeway (Err cause) some calm fit sure =
+          stopped calm fit leeway cause some sure
           (subst (λ (r : Result Shelf ShelfError). IfOk r (λ x. (kept_by x).failed ≡ false)) is2 loads.working)
 
 -- the last line wasn't put, after all was shelved
@@ -351,7 +354,7 @@ module _ {D O : Type 0} (disk : DiskOf D) (out : SinkOf O) (symbols : List ℕ) 
   left_by : (cause : Cause) → FillEnds disk symbols cause d d' → FillsDisk disk symbols cause d d'
   left_by cause ends = record { told = done.told; ends = ends; any_moment = done.any_moment }
 
-  module _ (sums : Sums) (line : sums_line sums ≡ receive_last (Symbols STANDARD) symbols End) where
+  module _ (sums : ReceiveCounts) (line : sums_line sums ≡ receive_last (Symbols STANDARD) symbols End) where
     pub last_stops : (cause : Cause) → LastStops out sums cause o o'
         → Fills (outlets_of disk out) symbols cause (outlets d o) (outlets d' o')
     last_stops (Failed Output) stops = record {

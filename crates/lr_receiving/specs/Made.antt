@@ -17,7 +17,7 @@ made_bytes Symbols start wrong frames = bytes_of_symbols (symbol_stream start wr
 made_bytes (Units Blocks) start wrong frames = block_stream start wrong frames
 made_bytes (Units Frames) start wrong frames = frame_stream start frames
 
--- how the call ends: `out` got these bytes, or it failed and got a front of them that isn't all of them
+-- how the call ends: `out` got these bytes, or it failed and got a prefix of them that isn't all of them
 module _ {O : Type 0} (out : SinkOf O) (bytes : List ℕ) where
   abbrev pub MakeEnds : Cause → O → O → Type 0
   MakeEnds Done o o' =

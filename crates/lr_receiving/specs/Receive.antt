@@ -5,7 +5,7 @@ use Rattle.lr_bits.specs.declared.placed.Placed.{Placed}
 use Rattle.lr_bits.specs.Faults.{Rose}
 use Rattle.lr_disk.specs.Reads.{IsUnwritten}
 use Rattle.lr_disk.specs.Pending.{NothingPending}
-use Rattle.lr_layers.specs.Layers.{Numbers, numbers_of}
+use Rattle.lr_layers.specs.Layers.{CountsView, numbers_of}
 use Rattle.lr_layers.specs.Origins.{placed_of_outcomes}
 use Rattle.lr_shelf_format.specs.Items.{Item}
 use Rattle.lr_shelf_format.specs.Way.{IsNoShelfAt, IsWay, Way}
@@ -19,9 +19,11 @@ use Rattle.lr_causes.specs.declared.cause.Cause.TheVariants.{Done, Failed, NoMem
 use Rattle.lr_causes.specs.declared.cause.Party.TheVariants.{Source, Disk, Output}
 use Rattle.lr_causes.specs.declared.cause.Refusal.TheVariants.{NotAShelf, Capacity}
 use Rattle.lr_forms.specs.declared.forms.Input.{Input}
-use Rattle.lr_causes.specs.Causes.{IsEarlier, MayEndBefore}
+use Rattle.lr_causes.specs.Causes.{IsEarlier, MayEndBefore, cause_at}
 use Rattle.lr_causes.specs.Outside.{
   NoFault,
+  Outlets,
+  OutletsOf,
   Outside,
   World,
   counts_in,
@@ -30,19 +32,20 @@ use Rattle.lr_causes.specs.Outside.{
 }
 use Rattle.lr_receiving.specs.First.{IsFirst}
 use Rattle.lr_reading.specs.Inputs.{outcomes_of_bytes, bytes_left_over}
-use Rattle.lr_reading.specs.Readers.{most_waiting}
+use Rattle.lr_reading.specs.Readers.{AreAllThatWait, most_waiting, most_when_asked}
 use Rattle.lr_receiving.specs.Inputs.{files_of_bytes}
-use Rattle.lr_receiving.specs.Onto.{IsFull, HadRoom}
-use Rattle.lr_reading.specs.Reading.{IsRead, EndsFor}
-use Rattle.lr_shelf.specs.Grounds.{
-  Ground,
+use Rattle.lr_receiving.specs.Onto.{ChangesFor, IsFull, HadRoom}
+use Rattle.lr_reading.specs.Reading.{IsRead, EndsFor, WhenLastAsked}
+use Rattle.lr_shelf.specs.InitialShelves.{
+  InitialShelf,
   OfItems,
   OfWay,
   AllHaveRoom,
-  HoldsFront,
+  HoldsPrefix,
   HoldsStill,
-  LeavesFronts,
+  LeavesPrefixes,
   SomeLackRoom,
+  StandsWith,
   next_number,
 }
 use Rattle.lr_receiving.specs.Shelving.{
@@ -58,7 +61,7 @@ use Rattle.lr_receiving.specs.Shelving.{
 
 -- how many bytes were taken, how many outcomes there are, of each kind, how many good packets and files, and how many
 -- bytes are left
-abbrev pub counts_line : ℕ → ℕ → Numbers → ℕ → Stop → List ℕ
+abbrev pub counts_line : ℕ → ℕ → CountsView → ℕ → Stop → List ℕ
 counts_line symbols frames numbers left stop =
     summary_line (Receive symbols frames numbers.restored numbers.lost
     numbers.packets numbers.files left) stop
@@ -89,14 +92,22 @@ IsWorkDone (Failed Source) = Unit {0}
 IsWorkDone _ = ⊥
 
 module _ {S D O : Type 0} (world : World S D O) where
-  -- What stood there before is the ground, and the files are those of the bytes read.
-  module _ (input : Input) (ground : Ground) (limit : ℕ) (bytes : List ℕ) where
+  -- Why no more of the input was taken, and that `out` got the lines of all files, the first of which has this number,
+  -- and the last line.
+  pub record DoesWork (input : Input) (limit : ℕ) (bytes : List ℕ) (number : ℕ) (stop : Stop)
+      (w w' : Outside S D O) : Type 0 where
+    pub reason : EndsFor world.source stop limit bytes w.source w'.source
+    pub got : GotText world.out
+        (shelved_lines number (files_of_bytes input bytes) ++ receive_last input bytes stop) w.out w'.out
+
+  -- What stood there before is the initial shelf, and the files are those of the bytes read.
+  module _ (input : Input) (initial : InitialShelf) (limit : ℕ) (bytes : List ℕ) where
     -- all files are shelved, and the last line is put
     pub record Finishes (stop : Stop) (w w' : Outside S D O) : Type 0 where
       pub reason : EndsFor world.source stop limit bytes w.source w'.source
-      pub durable : HoldsStill ground (files_of_bytes input bytes) world.disk w'.disk
+      pub durable : HoldsStill initial (files_of_bytes input bytes) world.disk w'.disk
       pub got : GotText world.out
-          (shelved_lines (next_number ground) (files_of_bytes input bytes)
+          (shelved_lines (next_number initial) (files_of_bytes input bytes)
           ++ receive_last input bytes stop)
           w.out w'.out
       pub disk_count : world.disk.faults w'.disk ≡ world.disk.faults w.disk
@@ -106,8 +117,8 @@ module _ {S D O : Type 0} (world : World S D O) where
     pub record SummaryStops (w w' : Outside S D O) : Type 0 where
       pub stop : Stop
       pub reason : EndsFor world.source stop limit bytes w.source w'.source
-      pub durable : HoldsStill ground (files_of_bytes input bytes) world.disk w'.disk
-      pub part : GotPart world.out (shelved_lines (next_number ground) (files_of_bytes input bytes))
+      pub durable : HoldsStill initial (files_of_bytes input bytes) world.disk w'.disk
+      pub part : GotPart world.out (shelved_lines (next_number initial) (files_of_bytes input bytes))
           (receive_last input bytes stop) w.out w'.out
       pub rose : Rose (world.out.faults w.out) (world.out.faults w'.out)
 
@@ -116,48 +127,77 @@ module _ {S D O : Type 0} (world : World S D O) where
     Ends Done w w' = Finishes End w w' ⊎ Finishes Limit w w'
     Ends (Failed Source) w w' = Finishes Fault w w'
     Ends (Failed Disk) w w' =
-        DiskStops (world_outlets world) ground (files_of_bytes input bytes)
+        DiskStops (world_outlets world) initial (files_of_bytes input bytes)
         (outlets_in w) (outlets_in w')
     Ends (Failed Output) w w' =
-        LineStops (world_outlets world) ground (files_of_bytes input bytes)
+        LineStops (world_outlets world) initial (files_of_bytes input bytes)
         (outlets_in w) (outlets_in w')
         ⊎ SummaryStops w w'
     Ends NoMemory w w' =
-        MemoryStops (world_outlets world) ground (files_of_bytes input bytes)
+        MemoryStops (world_outlets world) initial (files_of_bytes input bytes)
         (outlets_in w) (outlets_in w')
     Ends (Refused (Capacity needed most)) w w' =
-        FullStops (world_outlets world) ground needed most (files_of_bytes input bytes)
+        FullStops (world_outlets world) initial needed most (files_of_bytes input bytes)
         (outlets_in w)
         (outlets_in w')
     Ends _ w w' = ⊥
 
--- a run that took these bytes, where this many work on windows; what stood there before is the ground
+-- of the outcomes of these bytes all but the last ones, those that may wait, are worked through: their files are
+-- acknowledged, as the first ones of these
+abbrev pub AreWorkedBut : {D O : Type 0} → OutletsOf D O → InitialShelf → Input → ℕ → List Placed → Outlets D O
+    → Outlets D O → List ℕ → Type 0
+AreWorkedBut world initial input most files w w' bytes =
+    (worked waiting : List Outcome) → outcomes_of_bytes input bytes ≡ worked ++ waiting
+    → AreAllThatWait input most bytes (length waiting)
+    → AreAcknowledged world initial (placed_of_outcomes worked) files w w'
+
+-- a run that took these bytes, where this many work on windows; what stood there before is the initial shelf
 pub record Receives {S D O : Type 0} (world : World S D O) (input : Input)
-    (workers : ℕ) (ground : Ground) (limit : ℕ)
+    (workers : ℕ) (initial : InitialShelf) (limit : ℕ)
     (bytes : List ℕ) (cause : Cause) (w w' : Outside S D O) : Type 0 where
   -- the contents and each crash image hold each file whose line was put whole
   pub held : (whole rest : List Placed) (text : List ℕ) → world.out.tells w.out
       → files_of_bytes input bytes ≡ whole ++ rest
       → world.out.contents w'.out
-      ≡ world.out.contents w.out ++ (shelved_lines (next_number ground) whole ++ text)
-      → HoldsFront world.disk ground (files_of_bytes input bytes) (length whole) w'.disk
-  pub held_untold : HoldsFront world.disk ground (files_of_bytes input bytes) 0 w'.disk
+      ≡ world.out.contents w.out ++ (shelved_lines (next_number initial) whole ++ text)
+      → HoldsPrefix world.disk initial (files_of_bytes input bytes) (length whole) w'.disk
+  pub held_untold : HoldsPrefix world.disk initial (files_of_bytes input bytes) 0 w'.disk
   -- so does every moment of the call
-  pub any_moment : LeavesFronts world.disk ground (files_of_bytes input bytes) w.disk w'.disk
+  pub any_moment : LeavesPrefixes world.disk initial (files_of_bytes input bytes) w.disk w'.disk
   -- However the run ended: of the outcomes of the bytes taken all but the last few are worked through, and their files
   -- are acknowledged. Any append may be the one that fails, so this says when a file is shelved.
   pub timely : (worked waiting : List Outcome) → outcomes_of_bytes input bytes ≡ worked ++ waiting
       → most_waiting input workers ≤ length waiting
-      → AreAcknowledged (world_outlets world) ground (placed_of_outcomes worked) (files_of_bytes input bytes)
+      → AreAcknowledged (world_outlets world) initial (placed_of_outcomes worked) (files_of_bytes input bytes)
       (outlets_in w) (outlets_in w')
+  -- And no file waited for the source: of the outcomes of the bytes that it had given when it was last asked all but
+  -- the last few are worked through: one where noise came after the last frame, and no block or frame. Any append may
+  -- be the one that fails, so they were worked through before that call.
+  pub in_time : WhenLastAsked world.source (AreWorkedBut (world_outlets world) initial input
+      (most_when_asked input workers) (files_of_bytes input bytes) (outlets_in w) (outlets_in w')) bytes w.source
+      w'.source
   -- what a finished run leaves, and one that stopped early
-  pub ends : Ends world input ground limit bytes cause w w'
+  pub ends : Ends world input initial limit bytes cause w w'
   -- where no count rises and all files fit, the work is done or memory was refused
-  pub complete : NoFault world w w' → AllHaveRoom ground (files_of_bytes input bytes)
+  pub complete : NoFault world w w' → AllHaveRoom initial (files_of_bytes input bytes)
       → (cause ≡ Done) ⊎ (cause ≡ NoMemory)
   -- where they don't all fit, the work isn't done
-  pub overfull : SomeLackRoom ground (files_of_bytes input bytes)
+  pub overfull : SomeLackRoom initial (files_of_bytes input bytes)
       → (cause ≡ Done → ⊥) × (cause ≡ Failed Source → ⊥)
+
+-- The work is done, over every disk, whatever it tells and whatever is pending on it.
+pub record EndsWork {S D O : Type 0} (world : World S D O) (input : Input) (limit : ℕ) (bytes : List ℕ) (cause : Cause)
+    (w w' : Outside S D O) : Type 0 where
+  pub stop : Stop
+  pub is : cause ≡ cause_at stop
+  pub number : ℕ
+  pub work : DoesWork world input limit bytes number stop w w'
+  -- where the disk has a way, the first file comes after its entries
+  pub numbered : (way : Way) → world.disk.tells w.disk → IsWay (world.disk.contents w.disk) way
+      → number ≡ length way.entries
+  -- the files stand on each initial shelf that was there, and nothing is pending
+  pub stand : (initial : InitialShelf) → world.disk.tells w.disk → StandsWith initial [] (world.disk.contents w.disk)
+      → HoldsStill initial (files_of_bytes input bytes) world.disk w'.disk
 
 -- the disk was only read, and the source and `out` are as they were
 pub record IsUntouched {S D O : Type 0} (world : World S D O) (w w' : Outside S D O) : Type 0 where
@@ -204,3 +244,8 @@ pub record ReceiveRun {S D O : Type 0} (world : World S D O) (input : Input)
       → IsUnwritten world.disk w.disk w'.disk
   pub silent : files_of_bytes input bytes ≡ [] → IsEarlier cause → w'.out ≡ w.out
   pub unasked : files_of_bytes input bytes ≡ [] → cause ≡ Failed Disk → w'.source ≡ w.source
+  -- where the work is done, also with something pending at the start, and over a disk that tells nothing
+  pub ended : IsWorkDone cause → EndsWork world input limit bytes cause w w'
+  -- however the run ended, nothing was written but for the first ones of the files, and they fit the capacity
+  pub outside : (way : Way) → world.disk.tells w.disk → IsWay (world.disk.contents w.disk) way
+      → ChangesFor way (files_of_bytes input bytes) (world.disk.contents w.disk) (world.disk.contents w'.disk)

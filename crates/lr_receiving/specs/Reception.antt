@@ -14,31 +14,33 @@ use Rattle.lr_causes.specs.declared.cause.Cause.{Cause}
 use Rattle.lr_causes.specs.declared.cause.Cause.TheVariants.{Failed, Refused}
 use Rattle.lr_causes.specs.declared.cause.Party.TheVariants.{Disk}
 use Rattle.lr_causes.specs.declared.cause.Refusal.TheVariants.{Capacity}
-use Rattle.lr_receiving.specs.declared.sums.Sums.{Sums}
+use Rattle.lr_receiving.specs.declared.receive_counts.ReceiveCounts.{ReceiveCounts}
 use Rattle.lr_forms.specs.declared.forms.Input.{Input}
+use Rattle.lr_forms.specs.declared.forms.Stop.{Stop}
 use Rattle.lr_forms.specs.declared.forms.Input.TheVariants.{Symbols}
 use Rattle.lr_reading.specs.Inputs.{outcomes_of_bytes}
 use Rattle.lr_reading.specs.Runs.{ReadsInput}
 use Rattle.lr_receiving.specs.Inputs.{files_of_bytes}
-use Rattle.lr_causes.specs.Causes.{IsEarlier}
+use Rattle.lr_causes.specs.Causes.{IsEarlier, cause_at}
 use Rattle.lr_causes.specs.Outside.{Outlets, OutletsOf, Outside, World, counts_in, outlets_in, outside, world_outlets}
 use Rattle.lr_receiving.specs.First.{IsFirst}
-use Rattle.lr_shelf.specs.Grounds.{Ground, LeavesFronts}
-use Rattle.lr_shelf.specs.Fronts.{HasRoom}
-use Rattle.lr_receiving.specs.Onto.{IsFullWith}
-use Rattle.lr_reading.specs.Reading.{IsRead}
+use Rattle.lr_shelf.specs.InitialShelves.{InitialShelf, LeavesPrefixes}
+use Rattle.lr_shelf.specs.Prefixes.{HasRoom}
+use Rattle.lr_receiving.specs.Onto.{ChangesFor, IsFullWith}
+use Rattle.lr_reading.specs.Readers.{AreAllThatWait, Leeway}
+use Rattle.lr_reading.specs.Reading.{IsRead, WhenLastAsked}
 use Rattle.lr_causes.specs.Puts.{Puts, PutStops}
-use Rattle.lr_receiving.specs.Receive.{counts_line, IsWorkDone, Ends}
+use Rattle.lr_receiving.specs.Receive.{counts_line, AreWorkedBut, DoesWork, IsWorkDone, Ends}
 use Rattle.lr_receiving.specs.Shelved.{HasShelved, MayStop, ShelvesSoFar, StopsShelving}
 use Rattle.lr_receiving.specs.Shelving.{AreAcknowledged}
 
 -- the last line of what was read and counted
-abbrev pub sums_line : Sums → List ℕ
+abbrev pub sums_line : ReceiveCounts → List ℕ
 sums_line sums =
     counts_line sums.totals.symbols sums.totals.frames (numbers sums.counts) sums.totals.left
     sums.totals.stop
 
-module _ {O : Type 0} (out : SinkOf O) (sums : Sums) where
+module _ {O : Type 0} (out : SinkOf O) (sums : ReceiveCounts) where
   abbrev pub PutsLast : O → O → Type 0
   PutsLast o o' = Puts out (sums_line sums) o o'
 
@@ -57,25 +59,35 @@ pub record EndsOver {D O : Type 0} (cause : Cause) (files : List Placed)
 
 -- of the outcomes of these bytes all but the last ones, this many at most, are worked through: their files are
 -- acknowledged
-pub record FewWait {D O : Type 0} (world : OutletsOf D O) (ground : Ground) (input : Input) (most : ℕ)
+pub record FewWait {D O : Type 0} (world : OutletsOf D O) (initial : InitialShelf) (input : Input) (most : ℕ)
     (bytes : List ℕ) (w w' : Outlets D O) : Type 0 where
   pub worked : List Outcome
   pub late : List Outcome
   pub split : outcomes_of_bytes input bytes ≡ worked ++ late
   pub few : length late ≤ most
-  pub acknowledged : AreAcknowledged world ground (placed_of_outcomes worked) (files_of_bytes input bytes) w w'
+  pub acknowledged : AreAcknowledged world initial (placed_of_outcomes worked) (files_of_bytes input bytes) w w'
+
+-- the files of the outcomes of these bytes, but for the last ones, those that may wait, are the first ones of these
+abbrev pub FilesComeFirstBut : Input → ℕ → List Placed → List ℕ → Type 0
+FilesComeFirstBut input most files bytes =
+    (worked waiting : List Outcome) → outcomes_of_bytes input bytes ≡ worked ++ waiting
+    → AreAllThatWait input most bytes (length waiting)
+    → (later : List Placed) × (files ≡ placed_of_outcomes worked ++ later)
 
 module _ {S D O : Type 0} (world : World S D O) (input : Input) (limit : ℕ) where
   -- the input ended, and all its files are shelved, whatever shelf they came onto
-  pub record ReadsAll (sums : Sums) (shelf shelf' : Shelf) (w w' : Outside S D O) : Type 0 where
+  pub record ReadsAll (leeway : Leeway) (sums : ReceiveCounts) (shelf shelf' : Shelf) (w w' : Outside S D O) : Type
+      0 where
     pub bytes : List ℕ
     pub ends : ReadsInput world.source input limit sums.totals bytes w.source w'.source
     pub counts : numbers sums.counts ≡ numbers_of (outcomes_of_bytes input bytes)
     pub shelved : HasShelved (world_outlets world) (files_of_bytes input bytes)
         shelf shelf' (outlets_in w) (outlets_in w')
+    pub in_time : WhenLastAsked world.source
+        (FilesComeFirstBut input leeway.when_asked (files_of_bytes input bytes)) bytes w.source w'.source
 
   -- shelving stopped among the files of these bytes
-  pub record ReadsSome (waiting : ℕ) (cause : Cause) (shelf : Shelf) (w w' : Outside S D O) : Type 0 where
+  pub record ReadsSome (leeway : Leeway) (cause : Cause) (shelf : Shelf) (w w' : Outside S D O) : Type 0 where
     pub bytes : List ℕ
     pub read : IsRead world.source limit bytes w.source w'.source
     pub stopped : StopsShelving (world_outlets world) cause (files_of_bytes input bytes)
@@ -89,12 +101,16 @@ module _ {S D O : Type 0} (world : World S D O) (input : Input) (limit : ℕ) wh
         → (Rose (world.source.faults w.source) (world.source.faults w'.source) → ⊥)
         → (rest : List Placed)
         × (files_of_bytes input (bytes ++ world.source.left w'.source) ≡ files ++ rest)
-    pub timely : (ground : Ground) (before : Outlets D O)
-        → ShelvesSoFar (world_outlets world) ground [] shelf before (outlets_in w)
-        → FewWait (world_outlets world) ground input waiting bytes before (outlets_in w')
+    pub timely : (initial : InitialShelf) (before : Outlets D O)
+        → ShelvesSoFar (world_outlets world) initial [] shelf before (outlets_in w)
+        → FewWait (world_outlets world) initial input leeway.at_end bytes before (outlets_in w')
+    pub in_time : (initial : InitialShelf) (before : Outlets D O)
+        → ShelvesSoFar (world_outlets world) initial [] shelf before (outlets_in w)
+        → WhenLastAsked world.source (AreWorkedBut (world_outlets world) initial input leeway.when_asked
+        (files_of_bytes input bytes) before (outlets_in w')) bytes w.source w'.source
 
   -- how a run ends that took some bytes, whatever shelf it was onto, and what a crash may leave of it
-  pub record EndsRun (waiting : ℕ) (cause : Cause) (shelf : Shelf) (w w' : Outside S D O) : Type 0 where
+  pub record EndsRun (leeway : Leeway) (cause : Cause) (shelf : Shelf) (w w' : Outside S D O) : Type 0 where
     pub bytes : List ℕ
     pub read : IsRead world.source limit bytes w.source w'.source
     pub kind : MayStop cause ⊎ IsWorkDone cause
@@ -102,9 +118,16 @@ module _ {S D O : Type 0} (world : World S D O) (input : Input) (limit : ℕ) wh
     pub told_by_out : world.out.tells w.out → world.out.tells w'.out
     pub first : (kept_by shelf).failed ≡ false
         → IsFirst cause (counts_in world w) (counts_in world w')
-    pub ends : (ground : Ground) (before : Outlets D O)
-        → ShelvesSoFar (world_outlets world) ground [] shelf before (outlets_in w)
-        → LeavesFronts world.disk ground (files_of_bytes input bytes) before.disk w'.disk
-        × Ends world input ground limit bytes cause (outside w.source before.disk before.out) w'
-        × FewWait (world_outlets world) ground input waiting bytes before (outlets_in w')
+    pub ends : (initial : InitialShelf) (before : Outlets D O)
+        → ShelvesSoFar (world_outlets world) initial [] shelf before (outlets_in w)
+        → LeavesPrefixes world.disk initial (files_of_bytes input bytes) before.disk w'.disk
+        × Ends world input initial limit bytes cause (outside w.source before.disk before.out) w'
+        × FewWait (world_outlets world) initial input leeway.at_end bytes before (outlets_in w')
+        × WhenLastAsked world.source (AreWorkedBut (world_outlets world) initial input leeway.when_asked
+        (files_of_bytes input bytes) before (outlets_in w')) bytes w.source w'.source
     pub over : EndsOver cause (files_of_bytes input bytes) shelf (outlets_in w) (outlets_in w')
+    pub ended : IsWorkDone cause → (stop : Stop) × (cause ≡ cause_at stop)
+        × DoesWork world input limit bytes (length (kept_by shelf).way.entries) stop w w'
+    pub outside : world.disk.tells w.disk
+        → ChangesFor (kept_by shelf).way (files_of_bytes input bytes) (world.disk.contents w.disk)
+        (world.disk.contents w'.disk)

@@ -1,5 +1,5 @@
 -- How far shelving files has come. No clause of a public call cites this.
-use Rattle.std.specs.Prelude.{◌≡◌, ℕ, false, List, [], ◌∷◌, ◌++◌}
+use Rattle.std.specs.Prelude.{◌≡◌, ◌+◌, ◌-◌, ℕ, false, List, [], ◌∷◌, ◌++◌, length}
 use Rattle.lr_bits.specs.declared.outcome.Outcome.{Outcome}
 use Rattle.lr_bits.specs.declared.placed.Placed.{Placed}
 use Rattle.lr_layers.specs.Origins.{placed_of_outcomes}
@@ -12,10 +12,11 @@ use Rattle.lr_causes.specs.declared.cause.Refusal.TheVariants.{NotAShelf, Capaci
 use Rattle.lr_causes.specs.Outside.{Outlets, OutletsOf, outlet_counts}
 use Rattle.lr_causes.specs.Puts.{Puts}
 use Rattle.lr_receiving.specs.First.{IsFirst}
-use Rattle.lr_shelf.specs.Grounds.{Ground, IsSettledOn, LeavesFronts, next_number}
-use Rattle.lr_shelf.specs.Fronts.{HasRoom, end_with}
-use Rattle.lr_receiving.specs.Onto.{IsFullWith}
-use Rattle.lr_receiving.specs.Shelving.{shelved_lines, AreAcknowledged, Stops}
+use Rattle.lr_shelf.specs.Adding.{StaysOutside}
+use Rattle.lr_shelf.specs.InitialShelves.{InitialShelf, IsSettledOn, LeavesPrefixes, next_number}
+use Rattle.lr_shelf.specs.Prefixes.{HasRoom, end_with}
+use Rattle.lr_receiving.specs.Onto.{ChangesFor, IsFullWith}
+use Rattle.lr_receiving.specs.Shelving.{shelved_lines, AreAcknowledged, GotText, Stops}
 
 -- the causes for which shelving may stop, over any disk
 abbrev pub MayStop : Cause → Type 0
@@ -49,12 +50,12 @@ pub record GrowsNoMore {D O : Type 0} (cause : Cause) (files : List Placed)
   pub none : files ≡ [] → (cause ≡ NoMemory) × (w'.disk ≡ w.disk) × (w'.out ≡ w.out)
 
 module _ {D O : Type 0} (world : OutletsOf D O) where
-  -- these files are shelved on this ground and their lines put; nothing failed
-  pub record ShelvesSoFar (ground : Ground) (done : List Placed) (shelf : Shelf)
+  -- these files are shelved on this initial shelf and their lines put; nothing failed
+  pub record ShelvesSoFar (initial : InitialShelf) (done : List Placed) (shelf : Shelf)
       (w w' : Outlets D O) : Type 0 where
-    pub settled : IsSettledOn ground done world.disk shelf w'.disk
-    pub any_moment : LeavesFronts world.disk ground done w.disk w'.disk
-    pub put : Puts world.out (shelved_lines (next_number ground) done) w.out w'.out
+    pub settled : IsSettledOn initial done world.disk shelf w'.disk
+    pub any_moment : LeavesPrefixes world.disk initial done w.disk w'.disk
+    pub put : Puts world.out (shelved_lines (next_number initial) done) w.out w'.out
     pub disk_count : world.disk.faults w'.disk ≡ world.disk.faults w.disk
 
   -- these files were shelved, and their lines put; nothing failed
@@ -65,12 +66,17 @@ module _ {D O : Type 0} (world : OutletsOf D O) where
     pub working : (kept_by shelf).failed ≡ false → (kept_by shelf').failed ≡ false
     pub disk_count : world.disk.faults w'.disk ≡ world.disk.faults w.disk
     pub out_count : world.out.faults w'.out ≡ world.out.faults w.out
-    -- after others, on any ground
-    pub shelved : (ground : Ground) (done : List Placed) (before : Outlets D O)
-        → ShelvesSoFar ground done shelf before w
-        → ShelvesSoFar ground (done ++ files) shelf' before w'
+    -- after others, on any initial shelf
+    pub shelved : (initial : InitialShelf) (done : List Placed) (before : Outlets D O)
+        → ShelvesSoFar initial done shelf before w
+        → ShelvesSoFar initial (done ++ files) shelf' before w'
     -- over every disk
     pub grown : Grows files shelf shelf' w w'
+    pub count : length (kept_by shelf').way.entries ≡ length (kept_by shelf).way.entries + length files
+    pub put : GotText world.out (shelved_lines (length (kept_by shelf).way.entries) files) w.out w'.out
+    pub outside : world.disk.tells w.disk
+        → StaysOutside ((kept_by shelf).way.end - 1) (end_with (kept_by shelf).way.end files)
+        (world.disk.contents w.disk) (world.disk.contents w'.disk)
 
   -- they were not all
   pub record StopsShelving (cause : Cause) (files : List Placed) (shelf : Shelf)
@@ -80,16 +86,18 @@ module _ {D O : Type 0} (world : OutletsOf D O) where
     pub told_by_out : world.out.tells w.out → world.out.tells w'.out
     pub first : (kept_by shelf).failed ≡ false
         → IsFirst cause (outlet_counts world w) (outlet_counts world w')
-    -- after others, on any ground
-    pub stops : (ground : Ground) (done : List Placed) (before : Outlets D O)
-        → ShelvesSoFar ground done shelf before w
-        → Stops world ground cause (done ++ files) before w'
+    -- after others, on any initial shelf
+    pub stops : (initial : InitialShelf) (done : List Placed) (before : Outlets D O)
+        → ShelvesSoFar initial done shelf before w
+        → Stops world initial cause (done ++ files) before w'
     -- those stay acknowledged
-    pub keeps : (ground : Ground) (done : List Placed) (before : Outlets D O)
-        → ShelvesSoFar ground done shelf before w
-        → AreAcknowledged world ground done (done ++ files) before w'
+    pub keeps : (initial : InitialShelf) (done : List Placed) (before : Outlets D O)
+        → ShelvesSoFar initial done shelf before w
+        → AreAcknowledged world initial done (done ++ files) before w'
     -- over every disk
     pub grown : GrowsNoMore cause files shelf w w'
+    pub outside : world.disk.tells w.disk
+        → ChangesFor (kept_by shelf).way files (world.disk.contents w.disk) (world.disk.contents w'.disk)
 
   -- the files that one outcome more adds were shelved
   pub record Gains (outcomes : List Outcome) (outcome : Outcome)

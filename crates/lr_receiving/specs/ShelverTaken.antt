@@ -3,7 +3,7 @@ use Rattle.std.specs.Prelude.{◌≡◌, ◌≤◌, List, [], ◌++◌, length}
 use Rattle.lr_io.specs.declared.sink.Sink.{Ghosts as SinkOf}
 use Rattle.lr_disk.specs.declared.disk.Disk.{Ghosts as DiskOf}
 use Rattle.lr_layers.specs.Origins.{placed_of_outcomes}
-use Rattle.lr_layers.specs.Standing.{StandsFor, numbers}
+use Rattle.lr_layers.specs.Standing.{LayersStandFor, numbers}
 use Rattle.lr_causes.specs.Outside.{Outlets, outlets, outlets_of}
 use Rattle.lr_causes.specs.declared.cause.Cause.{Cause}
 use Rattle.lr_reading.specs.Arrivals.{outcomes_of_arrivals}
@@ -11,7 +11,7 @@ use Rattle.lr_reading.specs.declared.arrival.Arrival.{Arrival}
 use Rattle.lr_receiving.specs.declared.shelver.Shelver.{Shelver}
 use Rattle.lr_receiving.specs.Shelved.{HasShelved, ShelvesSoFar, StopsShelving}
 use Rattle.lr_receiving.specs.Shelving.{AreAcknowledged}
-use Rattle.lr_shelf.specs.Grounds.{Ground}
+use Rattle.lr_shelf.specs.InitialShelves.{InitialShelf}
 
 -- the layers, the shelf, the disk and `out` are those that it had
 pub record IsOnSame {D O : Type 0} (before now : Shelver D O) : Type 0 where
@@ -29,7 +29,7 @@ module _ {D O : Type 0} (disk : DiskOf D) (out : SinkOf O) where
   pub record ShelverTook (before : Shelver D O) (arrivals : List Arrival)
       (now : Shelver D O) : Type 0 where
     pub on_same : IsOnSame before now
-    pub stands : StandsFor now.layers.now (outcomes_of_arrivals arrivals)
+    pub stands : LayersStandFor now.layers.now (outcomes_of_arrivals arrivals)
     pub counted : numbers now.counts ≡ now.layers.now.numbers
     pub shelved : HasShelved (outlets_of disk out)
         (placed_of_outcomes (outcomes_of_arrivals arrivals))
@@ -47,7 +47,7 @@ module _ {D O : Type 0} (disk : DiskOf D) (out : SinkOf O) where
     pub late : List Arrival
     pub split : arrivals ≡ worked ++ late
     pub one : length late ≤ 1
-    pub keeps : (ground : Ground) (start : Outlets D O)
-        → ShelvesSoFar (outlets_of disk out) ground [] before.shelf.now start (lent_to before)
-        → AreAcknowledged (outlets_of disk out) ground (placed_of_outcomes (outcomes_of_arrivals worked))
+    pub keeps : (initial : InitialShelf) (start : Outlets D O)
+        → ShelvesSoFar (outlets_of disk out) initial [] before.shelf.now start (lent_to before)
+        → AreAcknowledged (outlets_of disk out) initial (placed_of_outcomes (outcomes_of_arrivals worked))
         (placed_of_outcomes (outcomes_of_arrivals arrivals)) start (lent_to now)

@@ -11,11 +11,11 @@ use Rattle.lr_causes.specs.declared.cause.Cause.TheVariants.{Failed, NoMemory, R
 use Rattle.lr_causes.specs.declared.cause.Party.TheVariants.{Disk, Output}
 use Rattle.lr_causes.specs.declared.cause.Refusal.TheVariants.{Capacity}
 use Rattle.lr_causes.specs.Outside.{Outlets, OutletsOf}
-use Rattle.lr_shelf.specs.Grounds.{
-  Ground,
-  HoldsFront,
+use Rattle.lr_shelf.specs.InitialShelves.{
+  InitialShelf,
+  HoldsPrefix,
   HoldsStill,
-  LeavesFronts,
+  LeavesPrefixes,
   StandsWith,
   capacity_of,
   end_with_files,
@@ -29,41 +29,41 @@ shelved_lines number files =
     numbered_lines (λ place (placed : Placed). shelved_line place placed.file) number files
 
 -- the bytes stand for what was there and the files that are done, or for the next one too
-abbrev pub StandsForOneFileMore : Ground → List Placed → List Placed → List ℕ → Type 0
-StandsForOneFileMore ground done rest bytes =
-    StandsWith ground done bytes
+abbrev pub StandsForOneFileMore : InitialShelf → List Placed → List Placed → List ℕ → Type 0
+StandsForOneFileMore initial done rest bytes =
+    StandsWith initial done bytes
     ⊎ ((next : Placed) × (more : List Placed) × (rest ≡ next ∷ more)
-    × StandsWith ground (done ++ next ∷ []) bytes)
+    × StandsWith initial (done ++ next ∷ []) bytes)
 
 module _ {O : Type 0} (out : SinkOf O) where
   -- `out` got this text
   abbrev pub GotText : List ℕ → O → O → Type 0
   GotText text o o' = out.tells o → out.contents o' ≡ out.contents o ++ text
 
-  -- `out` got this text, and then a front of the line that isn't all of it
+  -- `out` got this text, and then a prefix of the line that isn't all of it
   abbrev pub GotPart : List ℕ → List ℕ → O → O → Type 0
   GotPart text line o o' = out.tells o → PutsPart line (out.contents o ++ text) (out.contents o')
 
-module _ {D O : Type 0} (world : OutletsOf D O) (ground : Ground) where
+module _ {D O : Type 0} (world : OutletsOf D O) (initial : InitialShelf) where
   -- The first ones of these files are acknowledged: the contents and each crash image hold them all, and perhaps files
-  -- after them, and `out` got their lines, and perhaps more
+  -- after them, and `out` got their lines, and perhaps more.
   pub record AreAcknowledged (first files : List Placed) (w w' : Outlets D O) : Type 0 where
     pub others : List Placed
     pub split : files ≡ first ++ others
-    pub held : HoldsFront world.disk ground files (length first) w'.disk
+    pub held : HoldsPrefix world.disk initial files (length first) w'.disk
     pub told : world.out.tells w.out → (text : List ℕ)
         × (world.out.contents w'.out
-        ≡ world.out.contents w.out ++ (shelved_lines (next_number ground) first ++ text))
+        ≡ world.out.contents w.out ++ (shelved_lines (next_number initial) first ++ text))
 
   -- the disk failed: these files are acknowledged, and one more may stand there
   pub record DiskStops (files : List Placed) (w w' : Outlets D O) : Type 0 where
     pub done : List Placed
     pub rest : List Placed
     pub split : files ≡ done ++ rest
-    pub contents : StandsForOneFileMore ground done rest (world.disk.contents w'.disk)
+    pub contents : StandsForOneFileMore initial done rest (world.disk.contents w'.disk)
     pub images : (c : List ℕ) → world.disk.may_leave w'.disk c
-        → StandsForOneFileMore ground done rest c
-    pub got : GotText world.out (shelved_lines (next_number ground) done) w.out w'.out
+        → StandsForOneFileMore initial done rest c
+    pub got : GotText world.out (shelved_lines (next_number initial) done) w.out w'.out
     pub rose : Rose (world.disk.faults w.disk) (world.disk.faults w'.disk)
 
   -- memory was refused: these files are acknowledged, and they alone stand there
@@ -71,8 +71,8 @@ module _ {D O : Type 0} (world : OutletsOf D O) (ground : Ground) where
     pub done : List Placed
     pub rest : List Placed
     pub split : files ≡ done ++ rest
-    pub durable : HoldsStill ground done world.disk w'.disk
-    pub got : GotText world.out (shelved_lines (next_number ground) done) w.out w'.out
+    pub durable : HoldsStill initial done world.disk w'.disk
+    pub got : GotText world.out (shelved_lines (next_number initial) done) w.out w'.out
 
   -- the next file doesn't fit
   pub record FullStops (needed most : ℕ) (files : List Placed) (w w' : Outlets D O) : Type 0 where
@@ -80,11 +80,11 @@ module _ {D O : Type 0} (world : OutletsOf D O) (ground : Ground) where
     pub next : Placed
     pub rest : List Placed
     pub split : files ≡ done ++ next ∷ rest
-    pub durable : HoldsStill ground done world.disk w'.disk
-    pub got : GotText world.out (shelved_lines (next_number ground) done) w.out w'.out
-    pub needs : needed ≡ told_end ground (done ++ next ∷ [])
-    pub of : most ≡ capacity_of ground
-    pub over : capacity_of ground < end_with_files ground (done ++ next ∷ [])
+    pub durable : HoldsStill initial done world.disk w'.disk
+    pub got : GotText world.out (shelved_lines (next_number initial) done) w.out w'.out
+    pub needs : needed ≡ told_end initial (done ++ next ∷ [])
+    pub of : most ≡ capacity_of initial
+    pub over : capacity_of initial < end_with_files initial (done ++ next ∷ [])
 
   -- `out` failed in the line of a file that is shelved
   pub record LineStops (files : List Placed) (w w' : Outlets D O) : Type 0 where
@@ -92,9 +92,9 @@ module _ {D O : Type 0} (world : OutletsOf D O) (ground : Ground) where
     pub last : Placed
     pub rest : List Placed
     pub split : files ≡ (done ++ last ∷ []) ++ rest
-    pub durable : HoldsStill ground (done ++ last ∷ []) world.disk w'.disk
-    pub part : GotPart world.out (shelved_lines (next_number ground) done)
-        (shelved_line (next_number ground + length done) last.file) w.out w'.out
+    pub durable : HoldsStill initial (done ++ last ∷ []) world.disk w'.disk
+    pub part : GotPart world.out (shelved_lines (next_number initial) done)
+        (shelved_line (next_number initial + length done) last.file) w.out w'.out
     pub rose : Rose (world.out.faults w.out) (world.out.faults w'.out)
 
   -- how shelving these files stops, for each cause that may stop it
@@ -107,5 +107,5 @@ module _ {D O : Type 0} (world : OutletsOf D O) (ground : Ground) where
 
   -- shelving stopped
   pub record Stops (cause : Cause) (files : List Placed) (w w' : Outlets D O) : Type 0 where
-    pub any_moment : LeavesFronts world.disk ground files w.disk w'.disk
+    pub any_moment : LeavesPrefixes world.disk initial files w.disk w'.disk
     pub why : StopsBy cause files w w'

@@ -20,20 +20,20 @@ use Rattle.lr_causes.specs.Outside.{Outlets, OutletsOf, outlet_counts}
 use Rattle.lr_receiving.specs.First.{IsFirst}
 use Rattle.lr_receiving.specs.Inputs.{files_of_bytes}
 use Rattle.lr_receiving.specs.Receive.{receive_last}
-use Rattle.lr_shelf.specs.Grounds.{OfItems, StandsForFront, with_files}
+use Rattle.lr_shelf.specs.InitialShelves.{OfItems, StandsForPrefix, with_files}
 use Rattle.lr_receiving.specs.Shelving.{GotText}
 
 -- how many bytes the shelf may have
 abbrev pub trial_capacity : ℕ
 trial_capacity = 1048576
 
--- these bytes stand for a shelf of that capacity with a front of the files of these symbols, or of the first of them;
+-- these bytes stand for a shelf of that capacity with a prefix of the files of these symbols, or of the first of them;
 -- it has n of the files at least
 pub record StandsForPart (symbols : List ℕ) (n : ℕ) (bytes : List ℕ) : Type 0 where
   pub part : List ℕ
   pub later : List ℕ
   pub split : symbols ≡ part ++ later
-  pub stands : StandsForFront (OfItems trial_capacity [])
+  pub stands : StandsForPrefix (OfItems trial_capacity [])
       (files_of_bytes (Symbols STANDARD) part) n bytes
 
 module _ {D : Type 0} (disk : DiskOf D) where

@@ -9,10 +9,10 @@
 #![tactic(auto)]
 
 mod new_shelf;
+mod receive_counts;
 mod reception;
 mod shelve;
 mod shelver;
-mod sums;
 mod test_stream;
 mod trial_run;
 mod withdrawal;

@@ -2,14 +2,14 @@
 ghost use Rattle.std.specs.Prelude.{◌≡◌, ◌≤◌, ◌^◌, ℕ, [], IfOk, IfErr};
 ghost use Rattle.lr_causes.specs.Outside.{outside, world_of};
 ghost use Rattle.lr_reading.specs.Leading.{MayLead, Leads};
-ghost use Rattle.lr_reading.specs.Readers.{most_waiting};
+ghost use Rattle.lr_reading.specs.Readers.{Leeway, leeway_for};
 ghost use Rattle.lr_reading.specs.Runs.{IsLed};
 ghost use Rattle.lr_receiving.specs.Receive.{ReceiveRun};
 ghost use Rattle.lr_receiving.specs.Reception.{ReadsAll, ReadsSome, EndsRun, PutsLast, LastStops};
 ghost use Rattle.lr_receiving.specs.ShelverTaken.{ShelverTook, ShelverStopped};
 
+use crate::receive_counts::ReceiveCounts;
 use crate::shelver::Shelver;
-use crate::sums::Sums;
 use lr_bits::{Bytes, NoMemory};
 use lr_catalog::{Summary, summary_line};
 use lr_causes::{Cause, cause_at, put_text};
@@ -18,7 +18,7 @@ use lr_forms::{Input, MOST_WORKERS};
 use lr_frame::{FrameWork, Hand};
 use lr_io::{Sink, Source};
 use lr_layers::Layers;
-use lr_reading::{Reader, Totals};
+use lr_reading::{ReadCounts, Reader};
 use lr_refusals::shelf_cause;
 use lr_shelf::Shelf;
 use std::alloc::Global;
@@ -30,7 +30,7 @@ pub(crate) fn receive_all<
     S: Source,
     D: Disk,
     O: Sink,
-    F: FnOnce(&mut S, &mut Shelver<'_, D, O>) -> Result<Totals, Cause>,
+    F: FnOnce(&mut S, &mut Shelver<'_, D, O>) -> Result<ReadCounts, Cause>,
 >(
     alloc: Global,
     input: Input,
@@ -40,16 +40,16 @@ pub(crate) fn receive_all<
     disk: &mut D,
     out: &mut O,
     read: F,
-) -> Result<Sums, Cause>
+) -> Result<ReceiveCounts, Cause>
     requires ready { MayLead (F.pre read) (ShelverTook D.Disk O.Sink) }
-    ensures all { (waiting : ℕ) → Leads (F.post read) S.Source (ShelverTook D.Disk O.Sink)
-        (ShelverStopped D.Disk O.Sink) input most waiting
-        → IfOk result (λ sums. ReadsAll (world_of S.Source D.Disk O.Sink) input most sums shelf.old shelf.new
+    ensures all { (leeway : Leeway) → Leads (F.post read) S.Source (ShelverTook D.Disk O.Sink)
+        (ShelverStopped D.Disk O.Sink) input most leeway
+        → IfOk result (λ sums. ReadsAll (world_of S.Source D.Disk O.Sink) input most leeway sums shelf.old shelf.new
         (outside source.old disk.old out.old) (outside source.new disk.new out.new)) }
-    ensures some { (waiting : ℕ) → Leads (F.post read) S.Source (ShelverTook D.Disk O.Sink)
-        (ShelverStopped D.Disk O.Sink) input most waiting
+    ensures some { (leeway : Leeway) → Leads (F.post read) S.Source (ShelverTook D.Disk O.Sink)
+        (ShelverStopped D.Disk O.Sink) input most leeway
         → IfErr result
-        (λ cause. ReadsSome (world_of S.Source D.Disk O.Sink) input most waiting cause shelf.old
+        (λ cause. ReadsSome (world_of S.Source D.Disk O.Sink) input most leeway cause shelf.old
         (outside source.old disk.old out.old) (outside source.new disk.new out.new)) }
 {
     let mut layers = Layers::new(alloc);
@@ -64,14 +64,18 @@ pub(crate) fn receive_all<
         out,
     };
     let totals = read(source, &mut shelver)?;
-    Ok(Sums {
+    Ok(ReceiveCounts {
         totals,
         counts: shelver.counts,
     })
 }
 
 /// Puts the last line.
-pub(crate) fn put_last<O: Sink>(alloc: Global, sums: &Sums, out: &mut O) -> Result<(), Cause>
+pub(crate) fn put_last<O: Sink>(
+    alloc: Global,
+    sums: &ReceiveCounts,
+    out: &mut O,
+) -> Result<(), Cause>
     ensures told { O.tells out.old → O.tells out.new }
     ensures put { IfOk result (λ _. PutsLast O.Sink sums.now out.old out.new) }
     ensures stopped { IfErr result (λ cause. LastStops O.Sink sums.now cause out.old out.new) }
@@ -95,7 +99,7 @@ fn receive_onto<
     S: Source,
     D: Disk,
     O: Sink,
-    F: FnOnce(&mut S, &mut Shelver<'_, D, O>) -> Result<Totals, Cause>,
+    F: FnOnce(&mut S, &mut Shelver<'_, D, O>) -> Result<ReadCounts, Cause>,
 >(
     alloc: Global,
     input: Input,
@@ -107,9 +111,9 @@ fn receive_onto<
     read: F,
 ) -> Cause
     requires ready { MayLead (F.pre read) (ShelverTook D.Disk O.Sink) }
-    ensures { (waiting : ℕ) → Leads (F.post read) S.Source (ShelverTook D.Disk O.Sink)
-        (ShelverStopped D.Disk O.Sink) input most waiting
-        → EndsRun (world_of S.Source D.Disk O.Sink) input most waiting result
+    ensures { (leeway : Leeway) → Leads (F.post read) S.Source (ShelverTook D.Disk O.Sink)
+        (ShelverStopped D.Disk O.Sink) input most leeway
+        → EndsRun (world_of S.Source D.Disk O.Sink) input most leeway result
         shelf.old (outside source.old disk.old out.old) (outside source.new disk.new out.new) }
 {
     let sums = match receive_all(alloc, input, most, shelf, source, disk, out, read) {
@@ -128,7 +132,7 @@ fn receive_with<
     S: Source,
     D: Disk,
     O: Sink,
-    F: FnOnce(&mut S, &mut Shelver<'_, D, O>) -> Result<Totals, Cause>,
+    F: FnOnce(&mut S, &mut Shelver<'_, D, O>) -> Result<ReadCounts, Cause>,
 >(
     alloc: Global,
     input: Input,
@@ -140,7 +144,7 @@ fn receive_with<
 ) -> Cause
     requires ready { MayLead (F.pre read) (ShelverTook D.Disk O.Sink) }
     ensures { (workers : ℕ) → Leads (F.post read) S.Source (ShelverTook D.Disk O.Sink)
-        (ShelverStopped D.Disk O.Sink) input most (most_waiting input workers)
+        (ShelverStopped D.Disk O.Sink) input most (leeway_for input workers)
         → ReceiveRun (world_of S.Source D.Disk O.Sink) input workers most result
         (outside source.old disk.old out.old) (outside source.new disk.new out.new) }
 {
@@ -175,11 +179,11 @@ pub fn receive_alone<S: Source, D: Disk, O: Sink>(
         source,
         disk,
         out,
-        |source, shelver| -> Result<Totals, Cause>
+        |source, shelver| -> Result<ReadCounts, Cause>
             requires { ((reader.workers ≡ 1) × (reader.most ≤ 2 ^ 48))
                 × ((first : _) × ShelverTook D.Disk O.Sink first [] shelver.old) }
             ensures { IsLed S.Source (ShelverTook D.Disk O.Sink) reader.input reader.most
-                (most_waiting reader.input reader.workers) (ShelverStopped D.Disk O.Sink) result source.old source.new
+                (leeway_for reader.input reader.workers) (ShelverStopped D.Disk O.Sink) result source.old source.new
                 shelver.old shelver.new }
         { reader.read_alone(source, shelver) },
     )
@@ -214,11 +218,11 @@ pub fn receive<R: Threads + Wait + Sync, H: Hand, S: Source, D: Disk, O: Sink>(
         source,
         disk,
         out,
-        |source, shelver| -> Result<Totals, Cause>
+        |source, shelver| -> Result<ReadCounts, Cause>
             requires { (reader.most ≤ 2 ^ 48) × ((first : _)
                 × ShelverTook D.Disk O.Sink first [] shelver.old) }
             ensures { IsLed S.Source (ShelverTook D.Disk O.Sink) reader.input reader.most
-                (most_waiting reader.input reader.workers) (ShelverStopped D.Disk O.Sink) result source.old source.new
+                (leeway_for reader.input reader.workers) (ShelverStopped D.Disk O.Sink) result source.old source.new
                 shelver.old shelver.new }
         { reader.read(rt, source, shelver) },
     )

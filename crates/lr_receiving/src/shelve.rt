@@ -1,7 +1,7 @@
 //! Files onto the shelf, each acknowledged by its line.
 ghost use Rattle.std.specs.Prelude.{◌<◌, ◌+◌, ◌^◌, ◌++◌, ◌∷◌, [], List, OnOk, IfErr};
 ghost use Rattle.lr_bits.specs.declared.outcome.Outcome.{Outcome as Outcome'};
-ghost use Rattle.lr_layers.specs.Standing.{StandsFor};
+ghost use Rattle.lr_layers.specs.Standing.{LayersStandFor};
 ghost use Rattle.lr_reading.specs.Arrivals.{HasWholeFrame};
 ghost use Rattle.lr_receiving.specs.Shelved.{HasShelved, StopsShelving, Gains, GainsNoMore};
 ghost use Rattle.lr_causes.specs.Outside.{outlets, outlets_of};
@@ -69,12 +69,12 @@ pub(crate) fn shelve_outcome<D: Disk, O: Sink>(
     out: &mut O,
 ) -> Result<(), Cause>
     requires few { layers.old.numbers.restored + layers.old.numbers.lost < 2 ^ 48 }
-    ensures stands { (outcomes : List Outcome') → StandsFor layers.old outcomes
-        → OnOk result (StandsFor layers.new (outcomes ++ outcome.now ∷ [])) }
-    ensures gained { (outcomes : List Outcome') → StandsFor layers.old outcomes
+    ensures stands { (outcomes : List Outcome') → LayersStandFor layers.old outcomes
+        → OnOk result (LayersStandFor layers.new (outcomes ++ outcome.now ∷ [])) }
+    ensures gained { (outcomes : List Outcome') → LayersStandFor layers.old outcomes
         → OnOk result (Gains (outlets_of D.Disk O.Sink) outcomes outcome.now
         shelf.old shelf.new (outlets disk.old out.old) (outlets disk.new out.new)) }
-    ensures stopped { (outcomes : List Outcome') → StandsFor layers.old outcomes
+    ensures stopped { (outcomes : List Outcome') → LayersStandFor layers.old outcomes
         → HasWholeFrame outcome.now
         → IfErr result (λ cause. GainsNoMore (outlets_of D.Disk O.Sink) cause outcomes
         outcome.now shelf.old (outlets disk.old out.old) (outlets disk.new out.new)) }

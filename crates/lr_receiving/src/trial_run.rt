@@ -8,13 +8,13 @@ ghost use Rattle.lr_make.specs.Blocks.{block_at};
 ghost use Rattle.lr_make.specs.Frames.{frame_at};
 ghost use Rattle.lr_make.specs.Received.{IsReceivedAs};
 ghost use Rattle.lr_receiving.specs.Filling.{FillsDisk, Fills, StopsFilling};
-ghost use Rattle.lr_shelf.specs.Grounds.{with_files};
+ghost use Rattle.lr_shelf.specs.InitialShelves.{with_files};
 ghost use Rattle.lr_receiving.specs.Inputs.{files_of_bytes};
 ghost use Rattle.lr_receiving.specs.Made.{made_bytes};
 ghost use Rattle.lr_receiving.specs.Receive.{receive_last};
 ghost use Rattle.lr_receiving.specs.Reception.{sums_line};
 ghost use Rattle.lr_reading.specs.Leading.{MayLead, Leads};
-ghost use Rattle.lr_reading.specs.Readers.{most_waiting};
+ghost use Rattle.lr_reading.specs.Readers.{Leeway, leeway_for};
 ghost use Rattle.lr_reading.specs.Runs.{IsLed};
 ghost use Rattle.lr_receiving.specs.ShelverTaken.{ShelverTook, ShelverStopped};
 ghost use Rattle.lr_receiving.specs.Sure.{sure_source, sure_sink};
@@ -23,9 +23,9 @@ ghost use Rattle.lr_forms.specs.declared.forms.Input.TheVariants.{Symbols};
 ghost use Rattle.lr_forms.specs.declared.forms.TheConstants.{MOST_BYTES as most_bytes};
 ghost use Rattle.lr_causes.specs.Outside.{outlets, outlets_of};
 
+use crate::receive_counts::ReceiveCounts;
 use crate::reception::{put_last, receive_all};
 use crate::shelver::Shelver;
-use crate::sums::Sums;
 use crate::withdrawal::withdraw;
 use lr_bits::{FRAME_SYMBOLS, NoMemory};
 use lr_causes::Cause;
@@ -35,7 +35,7 @@ use lr_forms::{Input, MOST_BYTES, MOST_WORKERS, Output};
 use lr_frame::{FrameWork, Hand};
 use lr_io::{Sink, Source, SureSink, SureSource};
 use lr_make::{Maker, put_bytes};
-use lr_reading::{Reader, Totals};
+use lr_reading::{ReadCounts, Reader};
 use lr_refusals::shelf_cause;
 use lr_shelf::Shelf;
 use std::alloc::Global;
@@ -71,11 +71,11 @@ fn stream(alloc: Global, start: u64, frames: u64, wrong: u8) -> Result<Vec<u8>, 
 /// Puts the files of these symbols onto the empty shelf on the disk.
 fn shelve_stream<
     D: Disk,
-    F: FnOnce(&mut SureSource, &mut Shelver<'_, D, SureSink>) -> Result<Totals, Cause>,
->(alloc: Global, symbols: Vec<u8>, disk: &mut D, read: F) -> Result<Sums, Cause>
+    F: FnOnce(&mut SureSource, &mut Shelver<'_, D, SureSink>) -> Result<ReadCounts, Cause>,
+>(alloc: Global, symbols: Vec<u8>, disk: &mut D, read: F) -> Result<ReceiveCounts, Cause>
     requires ready { MayLead (F.pre read) (ShelverTook D.Disk sure_sink) }
-    requires leads { (waiting : ℕ) × Leads (F.post read) sure_source (ShelverTook D.Disk sure_sink)
-        (ShelverStopped D.Disk sure_sink) (Symbols standard) most_bytes waiting }
+    requires leads { (leeway : Leeway) × Leads (F.post read) sure_source (ShelverTook D.Disk sure_sink)
+        (ShelverStopped D.Disk sure_sink) (Symbols standard) most_bytes leeway }
     requires few { length symbols.items < most_bytes }
     requires fit { end_of (with_files [] (files_of_bytes (Symbols standard) symbols.items))
         ≤ trial_capacity }
@@ -109,11 +109,11 @@ fn shelve_stream<
 fn fill<
     D: Disk,
     O: Sink,
-    F: FnOnce(&mut SureSource, &mut Shelver<'_, D, SureSink>) -> Result<Totals, Cause>,
+    F: FnOnce(&mut SureSource, &mut Shelver<'_, D, SureSink>) -> Result<ReadCounts, Cause>,
 >(alloc: Global, symbols: Vec<u8>, disk: &mut D, out: &mut O, read: F) -> Cause
     requires ready { MayLead (F.pre read) (ShelverTook D.Disk sure_sink) }
-    requires leads { (waiting : ℕ) × Leads (F.post read) sure_source (ShelverTook D.Disk sure_sink)
-        (ShelverStopped D.Disk sure_sink) (Symbols standard) most_bytes waiting }
+    requires leads { (leeway : Leeway) × Leads (F.post read) sure_source (ShelverTook D.Disk sure_sink)
+        (ShelverStopped D.Disk sure_sink) (Symbols standard) most_bytes leeway }
     requires few { length symbols.items < most_bytes }
     requires fit { end_of (with_files [] (files_of_bytes (Symbols standard) symbols.items))
         ≤ trial_capacity }
@@ -136,13 +136,13 @@ fn fill<
 fn trial_with<
     D: Disk,
     O: Sink,
-    F: FnOnce(&mut SureSource, &mut Shelver<'_, D, SureSink>) -> Result<Totals, Cause>,
+    F: FnOnce(&mut SureSource, &mut Shelver<'_, D, SureSink>) -> Result<ReadCounts, Cause>,
 >(alloc: Global, start: u64, frames: u64, wrong: u8, disk: &mut D, out: &mut O, read: F) -> Cause
     requires few { frames ≤ 1024 }
     requires wrong { wrong ≤ 16 }
     requires ready { MayLead (F.pre read) (ShelverTook D.Disk sure_sink) }
-    requires leads { (waiting : ℕ) × Leads (F.post read) sure_source (ShelverTook D.Disk sure_sink)
-        (ShelverStopped D.Disk sure_sink) (Symbols standard) most_bytes waiting }
+    requires leads { (leeway : Leeway) × Leads (F.post read) sure_source (ShelverTook D.Disk sure_sink)
+        (ShelverStopped D.Disk sure_sink) (Symbols standard) most_bytes leeway }
     ensures { TrialRun (outlets_of D.Disk O.Sink) (made_bytes Output.Symbols start wrong frames)
         result (outlets disk.old out.old) (outlets disk.new out.new) }
 {
@@ -188,11 +188,11 @@ pub fn trial_alone<D: Disk, O: Sink>(
         wrong,
         disk,
         out,
-        |source, shelver| -> Result<Totals, Cause>
+        |source, shelver| -> Result<ReadCounts, Cause>
             requires { ((reader.workers ≡ 1) × (reader.most ≤ 2 ^ 48))
                 × ((first : _) × ShelverTook D.Disk sure_sink first [] shelver.old) }
             ensures { IsLed sure_source (ShelverTook D.Disk sure_sink) reader.input reader.most
-                (most_waiting reader.input reader.workers)
+                (leeway_for reader.input reader.workers)
                 (ShelverStopped D.Disk sure_sink) result source.old source.new
                 shelver.old shelver.new }
         { reader.read_alone(source, shelver) },
@@ -229,11 +229,11 @@ pub fn trial<R: Threads + Wait + Sync, H: Hand, D: Disk, O: Sink>(
         wrong,
         disk,
         out,
-        |source, shelver| -> Result<Totals, Cause>
+        |source, shelver| -> Result<ReadCounts, Cause>
             requires { (reader.most ≤ 2 ^ 48) × ((first : _)
                 × ShelverTook D.Disk sure_sink first [] shelver.old) }
             ensures { IsLed sure_source (ShelverTook D.Disk sure_sink) reader.input reader.most
-                (most_waiting reader.input reader.workers)
+                (leeway_for reader.input reader.workers)
                 (ShelverStopped D.Disk sure_sink) result source.old source.new
                 shelver.old shelver.new }
         { reader.read(rt, source, shelver) },

@@ -19,8 +19,7 @@ use Rattle.lr_image.proofs.PlainLemmas.{length-written}
 use Rattle.lr_render.specs.Making.{StripsMake}
 use Rattle.lr_render.specs.Standing.{IsStripOf, all_lines}
 use Rattle.lr_render.specs.Strips.{GivesPixels, IsStrip}
-use Rattle.lr_render.specs.Tiling.{bytes_for, line_start, plain_count, plain_strip, plain_strips}
-use Rattle.lr_render.specs.Tiling.{strip_lines}
+use Rattle.lr_render.specs.Tiling.{bytes_for, line_start, plain_count, plain_strip, plain_strips, strip_lines}
 use Rattle.lr_render.specs.declared.strip.StripSource.{StripSource}
 use Rattle.lr_render.proofs.Counting.{line_more, no_line, none_needed, some_line, strip_lines-some}
 

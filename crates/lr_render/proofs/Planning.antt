@@ -14,12 +14,11 @@ use Rattle.lr_image.specs.declared.layout.Layout.{Layout}
 use Rattle.lr_image.specs.declared.pieces.PiecePlace.{PiecePlace}
 use Rattle.lr_image.specs.Picture.{IsPicture}
 use Rattle.lr_image.specs.Places.{first_piece_place}
-use Rattle.lr_image.specs.Images.{HasImageFault, HasLayout, HasPixels, IsImageOf}
-use Rattle.lr_image.specs.Images.{data_field, data_pieces}
+use Rattle.lr_image.specs.Images.{HasImageFault, HasLayout, HasPixels, IsImageOf, data_field, data_pieces}
 use Rattle.lr_image.proofs.PieceLemmas.{first_in}
 use Rattle.lr_image.proofs.WholePixels.{makes_picture}
 use Rattle.lr_render.specs.Giving.{CanBeCut, GivesOne, GivesStrip, strips_left}
-use Rattle.lr_render.specs.Keeping.{CanCount, HasFewLines, Takes, TakesAfter}
+use Rattle.lr_render.specs.Keeping.{CanCount, HasFewLines, TakesStrip, TakesAfter}
 use Rattle.lr_render.specs.Laws.{RefusalsAreFaults}
 use Rattle.lr_render.specs.Making.{StripsMake}
 use Rattle.lr_render.specs.Plans.{GivesNext, IsStripAt, PlanView}
@@ -184,7 +183,7 @@ module _ {file : File} {layout : Layout} {giving : Giving} {keeping : Keeping}
         (drop (keeping.strips + 1) strips) left one.rice one.fails)
     come_by new (Some fault) come one count = rw one come
 
-    pub kept_plan : (new : Keeping) → keeping.strips < giving.strips → Takes keeping new strip
+    pub kept_plan : (new : Keeping) → keeping.strips < giving.strips → TakesStrip keeping new strip
         → IsPlan file layout giving new
     kept_plan new before takes = record {
       has_layout = is.has_layout;
@@ -200,7 +199,7 @@ module _ {file : File} {layout : Layout} {giving : Giving} {keeping : Keeping}
 
     -- or it isn't, and then nothing was
     pub kept_or_not : (result : Result (Unit {0}) NoMemory) (new : Keeping) → keeping.strips < giving.strips
-        → OnOk result (Takes keeping new strip) → OnErr result (new ≡ keeping) → IsPlan file layout giving new
+        → OnOk result (TakesStrip keeping new strip) → OnErr result (new ≡ keeping) → IsPlan file layout giving new
     kept_or_not (Ok done) new before takes same = kept_plan new before takes
     kept_or_not (Err refused) new before takes same =
         subst (λ (k : Keeping). IsPlan file layout giving k) (sym same) is

@@ -36,6 +36,6 @@ TakesAfter old new strip None = TakesPixels old new strip ⊎ TakesFault old new
 TakesAfter old new strip (Some fault) = new.fault ≡ Some fault
 
 -- the strip was taken
-pub record Takes (old new : Keeping) (strip : StripSource) : Type 0 where
+pub record TakesStrip (old new : Keeping) (strip : StripSource) : Type 0 where
   pub count : new.strips ≡ old.strips + 1
   pub after : TakesAfter old new strip old.fault

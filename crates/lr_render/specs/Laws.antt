@@ -8,7 +8,7 @@ use Rattle.lr_image.specs.Images.{HasImageFault, HasPixels, LacksPixels}
 use Rattle.lr_image.specs.Shapes.{IsShape}
 use Rattle.lr_render.specs.Making.{StripsMake}
 use Rattle.lr_render.specs.Plans.{HasNoPlan}
-use Rattle.lr_render.specs.Strips.{IsDecoded, IsStrip}
+use Rattle.lr_render.specs.Strips.{IsDecodedStrip, IsStrip}
 use Rattle.lr_render.specs.Tiling.{strips_of}
 use Rattle.lr_render.specs.declared.strip.StripSource.{StripSource}
 
@@ -16,7 +16,7 @@ use Rattle.lr_render.specs.declared.strip.StripSource.{StripSource}
 abbrev pub StripsHaveOneOutcome : Type 0
 StripsHaveOneOutcome =
     (strip : StripSource) (fault other : Option RiceFault) (pixels others : List ℕ) → IsStrip strip
-    → IsDecoded strip fault pixels → IsDecoded strip other others → (fault ≡ other) × (pixels ≡ others)
+    → IsDecodedStrip strip fault pixels → IsDecodedStrip strip other others → (fault ≡ other) × (pixels ≡ others)
 
 -- the image of this layout has these pixels, or lacks some for this fault
 abbrev pub HasPixelsOrFault : File → Layout → Result (List ℕ) ImageFault → Type 0

@@ -45,7 +45,7 @@ abbrev pub FailsWith : StripSource → RiceFault → Type 0
 FailsWith strip fault = FailsBy strip.coding strip fault
 
 -- what comes of the strip: its pixels, or a fault, and then each pixel is 0
-abbrev pub IsDecoded : StripSource → Option RiceFault → List ℕ → Type 0
-IsDecoded strip None pixels = GivesPixels strip pixels
-IsDecoded strip (Some fault) pixels =
+abbrev pub IsDecodedStrip : StripSource → Option RiceFault → List ℕ → Type 0
+IsDecodedStrip strip None pixels = GivesPixels strip pixels
+IsDecodedStrip strip (Some fault) pixels =
     FailsWith strip fault × (pixels ≡ replicate (strip.columns * strip.lines) 0)

@@ -1,7 +1,7 @@
 //! Decoding a strip.
 
 ghost use Rattle.std.specs.Prelude.{◌≡◌, ◌*◌, length, replicate};
-ghost use Rattle.lr_render.specs.Strips.{IsDecoded, IsStrip};
+ghost use Rattle.lr_render.specs.Strips.{IsDecodedStrip, IsStrip};
 ghost use Rattle.lr_render.specs.declared.strip.Coding.TheVariants.{Coded};
 
 use crate::strip::{Coding, StripSource};
@@ -12,7 +12,7 @@ use lr_rice::{RiceFault, decode_into};
 pub(crate) fn decode(source: &StripSource, pixels: &mut [u16]) -> Option<RiceFault>
     requires strip { IsStrip source.now }
     requires room { length pixels.old ≡ source.now.columns * source.now.lines }
-    ensures { IsDecoded source.now result pixels.new }
+    ensures { IsDecodedStrip source.now result pixels.new }
 {
     match source.coding {
         Coding::Plain { first_bit } => {
@@ -33,7 +33,7 @@ fn decode_coded(source: &StripSource, block: u8, pixels: &mut [u16]) -> Option<R
     requires strip { IsStrip source.now }
     requires block { source.now.coding ≡ Coded block }
     requires room { length pixels.old ≡ source.now.columns * source.now.lines }
-    ensures { IsDecoded source.now result pixels.new }
+    ensures { IsDecodedStrip source.now result pixels.new }
 {
     let bits = u32::from(source.bits);
     let coded = source.bytes.as_slice();

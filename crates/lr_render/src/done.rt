@@ -2,7 +2,7 @@
 
 ghost use Rattle.std.specs.Prelude.{◌≡◌, ◌*◌, IfErr, IfOk, Option, length};
 ghost use Rattle.lr_rice.specs.declared.fault.RiceFault.{RiceFault};
-ghost use Rattle.lr_render.specs.Strips.{FailsWith, GivesPixels, IsDecoded};
+ghost use Rattle.lr_render.specs.Strips.{FailsWith, GivesPixels, IsDecodedStrip};
 
 use crate::strip::StripSource;
 use lr_bits::Pixels;
@@ -21,14 +21,14 @@ pub struct DoneStrip {
 impl Model for DoneStrip {
     ghost use Rattle.std.specs.Prelude.{◌≡◌, ◌*◌, length};
     ghost use Rattle.lr_render.specs.declared.strip.StripSource.{StripSource};
-    ghost use Rattle.lr_render.specs.Strips.{IsDecoded, IsStrip};
+    ghost use Rattle.lr_render.specs.Strips.{IsDecodedStrip, IsStrip};
 
     ghost Value = { StripSource };
 
     ghost view = { λ s. s.source };
 
     ghost invariant = { λ s. IsStrip s.source × (length s.pixels ≡ s.source.columns * s.source.lines)
-        × IsDecoded s.source s.fault s.pixels };
+        × IsDecodedStrip s.source s.fault s.pixels };
 }
 
 impl DoneStrip {
@@ -53,7 +53,7 @@ impl DoneStrip {
 
     /// Its pixels, line after line, each of them 0 where its lines have a fault.
     pub fn pixels(&self) -> &[u16]
-        ensures { (fault : Option RiceFault) × IsDecoded self.now fault result.now }
+        ensures { (fault : Option RiceFault) × IsDecodedStrip self.now fault result.now }
     {
         // So the proof sees what the strip keeps.
         let _ = &self.fault;

@@ -3,7 +3,7 @@
 ghost use Rattle.std.specs.Prelude.{◌≡◌, ◌++◌, IsSome, OnErr, OnOk};
 ghost use Rattle.lr_image.specs.declared.fault.ImageFault.TheVariants.{Rice};
 ghost use Rattle.lr_render.specs.Giving.{CanBeCut};
-ghost use Rattle.lr_render.specs.Keeping.{CanCount, Takes};
+ghost use Rattle.lr_render.specs.Keeping.{CanCount, TakesStrip};
 
 use crate::done::DoneStrip;
 use lr_bits::{MissionFile, NoMemory, Pixels, TRANSPORT_HEADER_BYTES};
@@ -36,7 +36,7 @@ impl Keeping {
     ) -> Result<(), NoMemory>
         requires count { CanCount self.old strip.now }
         requires cut { CanBeCut file.now layout }
-        ensures ok { OnOk result (Takes self.old self.new strip.now) }
+        ensures ok { OnOk result (TakesStrip self.old self.new strip.now) }
         // After a fault no pixels are kept, so no memory is asked for.
         ensures sure { IsSome self.old.fault → OnErr result ⊥ }
         ensures err { OnErr result (self.new ≡ self.old) }

@@ -1,7 +1,6 @@
 //! The strips of an image, given one after another and kept again.
 
-ghost use Rattle.std.specs.Prelude.{◌≡◌, ◌<◌, ◌*◌, ◌^◌, ◌⊎◌, None, Some};
-ghost use Rattle.std.specs.Prelude.{IfErr, IfNone, IfOk, IfSome, length};
+ghost use Rattle.std.specs.Prelude.{◌≡◌, ◌<◌, ◌*◌, ◌^◌, ◌⊎◌, None, Some, IfErr, IfNone, IfOk, IfSome, length};
 ghost use Rattle.lr_image.specs.Plain.{PixelsFail};
 ghost use Rattle.lr_image.specs.Images.{HasLayout};
 ghost use Rattle.lr_image.specs.Shapes.{IsShape};

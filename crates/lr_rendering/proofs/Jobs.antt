@@ -24,17 +24,17 @@ use Rattle.lr_image.specs.declared.fault.ImageFault.{ImageFault}
 use Rattle.lr_gatecore.proofs.Lists.{at_length}
 use Rattle.lr_render.specs.Plans.{IsNewPlan, IsStripAt, PlanView, planned_strips}
 use Rattle.lr_render.specs.declared.strip.StripSource.{StripSource}
-use Rattle.lr_rounds.specs.Leads.{IsDoneNext}
+use Rattle.lr_rounds.specs.JobSources.{IsDoneNext}
 use Rattle.lr_shelf_format.specs.declared.stored.Stored.{Stored}
-use Rattle.lr_rendering.specs.Leading.{Ahead, HasJobs, Imageless, Pending, Vacant, pending_in}
+use Rattle.lr_rendering.specs.Leading.{Ahead, HasStripJobs, Imageless, Pending, Vacant, pending_in}
 use Rattle.lr_rendering.specs.Queues.{
   AllGiven,
   EachUnderWay,
   FirstKeeps,
   FirstWaits,
-  GivesNone,
-  GivesOne,
-  IsUnderWay,
+  QueueGivesNone,
+  QueueGivesOne,
+  IsImageUnderWay,
   LastGives,
   LastIs,
   MayKeepFirst,
@@ -44,7 +44,7 @@ use Rattle.lr_rendering.specs.Queues.{
   all_waiting,
   files_under_way,
   image_of,
-  left_in,
+  strips_left_in,
   waiting_in,
 }
 use Rattle.lr_rendering.specs.declared.under_way.UnderWay.{UnderWay}
@@ -88,26 +88,26 @@ last_files old new is same =
     ∙ sym (ap files_under_way is.new_is)
 
 last_left : {Becomes : UnderWay → UnderWay → Type 0} (old new : List UnderWay) (is : LastIs old new Becomes)
-    → all_left new + left_in is.last ≡ all_left old + left_in is.next
+    → all_left new + strips_left_in is.last ≡ all_left old + strips_left_in is.next
 last_left old new is =
     omega (arith, ap all_left is.old_is, ap all_left is.new_is, left-push is.front is.last, left-push is.front is.next)
 
 -- ---- a strip is given
 
 module _ (jobs : List StripSource) (kept next : ℕ) (ahead : List Ahead) (old new : List UnderWay)
-    (has : HasJobs jobs kept next ahead old) where
+    (has : HasStripJobs jobs kept next ahead old) where
   last_each : {Becomes : UnderWay → UnderWay → Type 0} (is : LastIs old new Becomes)
-      → EachUnderWay is.front × IsUnderWay is.last
+      → EachUnderWay is.front × IsImageUnderWay is.last
   last_each is = each_front is.front is.last (subst EachUnderWay is.old_is has.each)
 
   last_given : {Becomes : UnderWay → UnderWay → Type 0} (is : LastIs old new Becomes) → AllGiven is.front
   last_given is = given_front is.front is.last (subst OnlyLastGives is.old_is has.only_last)
 
-  module _ (strip : StripSource) (is : LastIs old new (λ last now. GivesOne last now strip)) where
+  module _ (strip : StripSource) (is : LastIs old new (λ last now. QueueGivesOne last now strip)) where
     pub given_left : all_left new + 1 ≡ all_left old
     given_left = omega (arith, last_left old new is, gives_left is.last is.next strip is.becomes)
 
-    pub given_jobs : HasJobs (jobs ++ strip ∷ []) kept next ahead new
+    pub given_jobs : HasStripJobs (jobs ++ strip ∷ []) kept next ahead new
     given_jobs =
         let each = last_each is in
         record {
@@ -135,7 +135,7 @@ module _ (jobs : List StripSource) (kept next : ℕ) (ahead : List Ahead) (old n
 
   -- ---- no strip is left to give
 
-  ended_jobs : LastIs old new GivesNone → HasJobs jobs kept next ahead new
+  ended_jobs : LastIs old new QueueGivesNone → HasStripJobs jobs kept next ahead new
   ended_jobs is =
       let each = last_each is in
       record {
@@ -152,8 +152,8 @@ module _ (jobs : List StripSource) (kept next : ℕ) (ahead : List Ahead) (old n
         few = omega (arith, has.few, last_left old new is, ends_left is.last is.next is.becomes);
       }
 
-  pub none_jobs : LastGives old new None → HasJobs jobs kept next ahead new
-  none_jobs (inl empty) = subst (HasJobs jobs kept next ahead) (empty.0 ∙ sym empty.1) has
+  pub none_jobs : LastGives old new None → HasStripJobs jobs kept next ahead new
+  none_jobs (inl empty) = subst (HasStripJobs jobs kept next ahead) (empty.0 ∙ sym empty.1) has
   none_jobs (inr is) = ended_jobs is
 
   pub none_given : LastGives old new None → AllGiven new
@@ -218,7 +218,7 @@ first_may (image ∷ images) job rest each only first waits = go image.waiting r
       (each.0, waits', subst (IsStripAt image.plan image.plan.kept) (sym same) oldest.1)
 
 module _ (jobs : List StripSource) (kept next : ℕ) (ahead : List Ahead) (old : List UnderWay)
-    (has : HasJobs jobs kept next ahead old) (done : StripSource)
+    (has : HasStripJobs jobs kept next ahead old) (done : StripSource)
     (is : IsDoneNext (λ strip. strip) jobs kept done) where
   split : done ∷ drop (kept + 1) jobs ≡ all_waiting old
   split =
@@ -228,7 +228,7 @@ module _ (jobs : List StripSource) (kept next : ℕ) (ahead : List Ahead) (old :
   may_keep first = first_may old done (drop (kept + 1) jobs) has.each has.only_last first split
 
   module _ (new : List UnderWay) (keeps : FirstKeeps old new) (first_waits : 0 < keeps.first.waiting) where
-    first_each : IsUnderWay keeps.first × EachUnderWay keeps.rest
+    first_each : IsImageUnderWay keeps.first × EachUnderWay keeps.rest
     first_each = subst EachUnderWay keeps.old_is has.each
 
     rest_only : (rest : List UnderWay) → OnlyLastGives (keeps.first ∷ rest) → OnlyLastGives (keeps.next ∷ rest)
@@ -258,7 +258,7 @@ module _ (jobs : List StripSource) (kept next : ℕ) (ahead : List Ahead) (old :
         let all = subst AllGiven keeps.old_is given in
         subst AllGiven (sym keeps.new_is) (keeps_all keeps.first keeps.next keeps.keeps ∙ all.0, all.1)
 
-    pub kept_jobs : HasJobs jobs (kept + 1) next ahead new
+    pub kept_jobs : HasStripJobs jobs (kept + 1) next ahead new
     kept_jobs =
         let oldest = oldest_waits keeps.first first_each.0 first_waits in
         let whole : done ∷ drop (kept + 1) jobs ≡ oldest.0
@@ -288,8 +288,8 @@ module _ (jobs : List StripSource) (kept next : ℕ) (ahead : List Ahead) (old :
 -- ---- the first image is taken out
 
 module _ (jobs : List StripSource) (kept next : ℕ) (ahead : List Ahead) (old new : List UnderWay) (plan : PlanView)
-    (has : HasJobs jobs kept next ahead old) (takes : TakesFirst old new plan) where
-  taken_each : IsUnderWay takes.first × EachUnderWay new
+    (has : HasStripJobs jobs kept next ahead old) (takes : TakesFirst old new plan) where
+  taken_each : IsImageUnderWay takes.first × EachUnderWay new
   taken_each = subst EachUnderWay takes.old_is has.each
 
   -- it kept all its strips
@@ -314,7 +314,7 @@ module _ (jobs : List StripSource) (kept next : ℕ) (ahead : List Ahead) (old n
   pub taken_given : AllGiven old → AllGiven new
   taken_given given = let all = subst AllGiven takes.old_is given in all.1
 
-  pub taken_jobs : (rest : List Ahead) → pending_in rest ≡ files_under_way new → HasJobs jobs kept next rest new
+  pub taken_jobs : (rest : List Ahead) → pending_in rest ≡ files_under_way new → HasStripJobs jobs kept next rest new
   taken_jobs rest files = record {
     each = taken_each.1;
     only_last = only_tail takes.first new (subst OnlyLastGives takes.old_is has.only_last);
@@ -350,10 +350,10 @@ pending-imageless (Pending other ∷ ahead) stored fault =
     ap (λ (l : List File). other.file ∷ l) (pending-imageless ahead stored fault)
 
 module _ (jobs : List StripSource) (kept next : ℕ) (ahead : List Ahead) (images : List UnderWay)
-    (has : HasJobs jobs kept next ahead images) where
+    (has : HasStripJobs jobs kept next ahead images) where
   -- one without an image under way
   pub passed_jobs : (one : Ahead) → pending_in (ahead ++ one ∷ []) ≡ pending_in ahead
-      → HasJobs jobs kept (next + 1) (ahead ++ one ∷ []) images
+      → HasStripJobs jobs kept (next + 1) (ahead ++ one ∷ []) images
   passed_jobs one same = record {
     each = has.each;
     only_last = has.only_last;
@@ -364,7 +364,7 @@ module _ (jobs : List StripSource) (kept next : ℕ) (ahead : List Ahead) (image
   }
 
   module _ (stored : Stored) (plan : PlanView) (is : IsNewPlan stored.file plan) where
-    fresh_is : IsUnderWay (image_of plan)
+    fresh_is : IsImageUnderWay (image_of plan)
     fresh_is = record {
       waits = omega (arith, is.none_given, is.none_kept);
       within = omega (arith, is.none_given);
@@ -376,7 +376,7 @@ module _ (jobs : List StripSource) (kept next : ℕ) (ahead : List Ahead) (image
     joined_left = omega (arith, left-push images (image_of plan))
 
     pub joined_jobs : AllGiven images
-        → HasJobs jobs kept (next + 1) (ahead ++ Pending stored ∷ []) (images ++ image_of plan ∷ [])
+        → HasStripJobs jobs kept (next + 1) (ahead ++ Pending stored ∷ []) (images ++ image_of plan ∷ [])
     joined_jobs given = record {
       each = each_push images (image_of plan) has.each fresh_is;
       only_last = given_last images (image_of plan) given;

@@ -1,4 +1,4 @@
--- The lead goes on, step by step, and stops.
+-- The job source goes on, step by step, and stops.
 use Rattle.std.proofs.Common.{
   ◌≡◌,
   inl,
@@ -14,8 +14,7 @@ use Rattle.std.proofs.Common.{
   false,
   MatchBool,
 }
-use Rattle.std.proofs.Common.{Option, Some, None}
-use Rattle.std.proofs.Common.{Ok, Err, List, [], ◌∷◌, ◌++◌, length, refl, sym, ap, ◌∙◌}
+use Rattle.std.proofs.Common.{Option, Some, None, Ok, Err, List, [], ◌∷◌, ◌++◌, length, refl, sym, ap, ◌∙◌}
 use Rattle.std.proofs.Common.{subst, arith, length-append, append-nil}
 use Rattle.std.proofs.lemmas.List.{drop_all}
 use Rattle.std.specs.VecDeque.{deque_capacity}
@@ -32,7 +31,7 @@ use Rattle.lr_render.specs.Plans.{PlanView, planned_strips}
 use Rattle.lr_render.specs.declared.strip.StripSource.{StripSource}
 use Rattle.lr_shelf_format.specs.Way.{Way, IsFound, Sound, Gone as GoneThere}
 use Rattle.lr_shelf_format.specs.declared.stored.Stored.{Stored}
-use Rattle.lr_shelf.specs.Kept.{Kept, kept_by}
+use Rattle.lr_shelf.specs.Kept.{KeptShelf, kept_by}
 use Rattle.lr_shelf.specs.declared.shelf.Shelf.{Shelf}
 use Rattle.lr_causes.specs.declared.cause.Cause.{Cause}
 use Rattle.lr_causes.specs.declared.cause.Cause.TheVariants.{
@@ -47,37 +46,37 @@ use Rattle.lr_causes.specs.declared.cause.Party.TheVariants.{Source, Disk, Outpu
 use Rattle.lr_causes.specs.declared.cause.Refusal.{Refusal}
 use Rattle.lr_causes.specs.declared.note.Note.TheVariants.{Rendered}
 use Rattle.lr_commands.specs.declared.range.Range.{Range}
-use Rattle.lr_commands.specs.Asked.{Asked, IsSeen, Seen, Whole, entry_at, fate_of}
+use Rattle.lr_commands.specs.Queries.{Query, IsSeen, EntryView, Whole, entry_at, fate_of}
 use Rattle.lr_causes.specs.Outside.{outlet_counts, outlets, outlets_of}
 use Rattle.lr_commands.specs.Reached.{SoFar}
 use Rattle.lr_commands.specs.Files.{files_of}
-use Rattle.lr_commands.specs.Render.{image_text, images_in, render_asked, skipped_in}
+use Rattle.lr_commands.specs.Render.{image_text, images_in, render_query, skipped_in}
 use Rattle.lr_commands.specs.Runs.{Counted, RunsOn}
 use Rattle.lr_commands.specs.Steps.{EntryStops, ReadsOnly}
 use Rattle.lr_commands.proofs.Taking.{entry_stopped, last_taken, so_first}
 use Rattle.lr_commands.proofs.Texts.{same_counts, stops_seen, text_counted}
-use Rattle.lr_rounds.specs.Leads.{EndsWell, Gives, IsDoneNext, Keeps}
-use Rattle.lr_rounds.specs.declared.lead.Offer.TheVariants.{Job, Later, Over}
+use Rattle.lr_rounds.specs.JobSources.{EndsWell, Gives, IsDoneNext, Keeps}
+use Rattle.lr_rounds.specs.declared.job_source.NextJob.TheVariants.{Job, NotYet, Finished}
 use Rattle.lr_rendering.specs.Contents.{IsContent, IsRefusedAt, ReadStops}
 use Rattle.lr_rendering.specs.Leading.{
   Ahead,
   AreAhead,
-  Goes,
-  HasJobs,
+  RenderGoes,
+  HasStripJobs,
   Imageless,
-  IsOver,
+  IsRenderOver,
   IsSameBut,
   IsTally,
   IsContentTaken,
   MayBeLed,
   MayWait,
-  OnlyReads,
+  OnlyReadsDisk,
   Pending,
   PutsImages,
   ReadsOne,
   Settles,
   Stands,
-  StandsAt,
+  AheadStandsAt,
   StopsFor,
   TakesIn,
   Vacant,
@@ -103,7 +102,7 @@ use Rattle.lr_rendering.specs.Queues.{
 }
 use Rattle.lr_rendering.specs.declared.content.Content.{Content}
 use Rattle.lr_rendering.specs.declared.content.Content.TheVariants.{Gone, NoImage, Image}
-use Rattle.lr_rendering.specs.declared.lead.RenderLead.{RenderLead}
+use Rattle.lr_rendering.specs.declared.render_source.RenderSource.{RenderSource}
 use Rattle.lr_rendering.specs.declared.queue.Queue.{Queue}
 use Rattle.lr_rendering.specs.declared.tally.Tally.{Tally}
 use Rattle.lr_rendering.specs.declared.under_way.UnderWay.{UnderWay}
@@ -171,7 +170,7 @@ imageless-more (Vacant ∷ ahead) stored fault = imageless-more ahead stored fau
 imageless-more (Imageless other first ∷ ahead) stored fault = omega (arith, imageless-more ahead stored fault)
 imageless-more (Pending other ∷ ahead) stored fault = imageless-more ahead stored fault
 
-tally_same : (ahead : List Ahead) (one : Ahead) (tally tally' : Tally) (read : List Seen) → tally' ≡ tally
+tally_same : (ahead : List Ahead) (one : Ahead) (tally tally' : Tally) (read : List EntryView) → tally' ≡ tally
     → imageless_in (ahead ++ one ∷ []) ≡ imageless_in ahead → IsTally ahead tally read
     → IsTally (ahead ++ one ∷ []) tally' read
 tally_same ahead one tally tally' read same none is = record {
@@ -179,7 +178,7 @@ tally_same ahead one tally tally' read same none is = record {
   skipped = omega (arith, ap (λ (t : Tally). t.skipped) same, is.skipped, none);
 }
 
-tally_skips : (ahead : List Ahead) (stored : Stored) (fault : ImageFault) (tally tally' : Tally) (read : List Seen)
+tally_skips : (ahead : List Ahead) (stored : Stored) (fault : ImageFault) (tally tally' : Tally) (read : List EntryView)
     → tally' ≡ record { images = tally.images; skipped = tally.skipped + 1 } → IsTally ahead tally read
     → IsTally (ahead ++ Imageless stored fault ∷ []) tally' read
 tally_skips ahead stored fault tally tally' read same is = record {
@@ -188,21 +187,21 @@ tally_skips ahead stored fault tally tally' read same is = record {
 }
 
 ahead_push : {D : Type 0} (disk : DiskOf D) (way : Way) (d : D) (number : ℕ) (ahead : List Ahead) (one : Ahead)
-    → AreAhead disk way d number ahead → StandsAt disk way d (number + length ahead) one
+    → AreAhead disk way d number ahead → AheadStandsAt disk way d (number + length ahead) one
     → AreAhead disk way d number (ahead ++ one ∷ [])
 ahead_push disk way d number [] one are stands =
-    (subst (λ (n : ℕ). StandsAt disk way d n one) (omega arith) stands, tt)
+    (subst (λ (n : ℕ). AheadStandsAt disk way d n one) (omega arith) stands, tt)
 ahead_push disk way d number (first ∷ ahead) one are stands = (
   are.0,
   ahead_push disk way d (number + 1) ahead one are.1
-      (subst (λ (n : ℕ). StandsAt disk way d n one) (omega arith) stands),
+      (subst (λ (n : ℕ). AheadStandsAt disk way d n one) (omega arith) stands),
 )
 
-with_gathers : {D O : Type 0} (disk : DiskOf D) (out : SinkOf O) (asked : Asked) (way : Way) (range : Range) (d : D)
-    (o : O) {gathers gathers' : List Seen → Type 0} (number : ℕ) (o1 : O)
-    (so : SoFar disk out asked way range d o gathers number o1) → gathers' so.read
-    → SoFar disk out asked way range d o gathers' number o1
-with_gathers disk out asked way range d o number o1 so gathered = record {
+with_gathers : {D O : Type 0} (disk : DiskOf D) (out : SinkOf O) (query : Query) (way : Way) (range : Range) (d : D)
+    (o : O) {gathers gathers' : List EntryView → Type 0} (number : ℕ) (o1 : O)
+    (so : SoFar disk out query way range d o gathers number o1) → gathers' so.read
+    → SoFar disk out query way range d o gathers' number o1
+with_gathers disk out query way range d o number o1 so gathered = record {
   read = so.read;
   text = so.text;
   gathered = gathered;
@@ -220,8 +219,8 @@ with_gathers disk out asked way range d o number o1 so gathered = record {
 module _ {D O : Type 0} (disk : DiskOf D) (out : SinkOf O) where
   -- ---- it goes on
 
-  module _ {start before : RenderLead D O} {jobs : List StripSource} {kept : ℕ}
-      (goes : Goes disk out start before jobs kept) where
+  module _ {start before : RenderSource D O} {jobs : List StripSource} {kept : ℕ}
+      (goes : RenderGoes disk out start before jobs kept) where
     abbrev way : Way
     way = way_in start
 
@@ -230,7 +229,7 @@ module _ {D O : Type 0} (disk : DiskOf D) (out : SinkOf O) where
 
     -- as many entries as the shelf has
     pub count_is : count_in before ≡ count_in start
-    count_is = ap (λ (k : Kept). length k.way.entries) goes.reads.kept
+    count_is = ap (λ (k : KeptShelf). length k.way.entries) goes.reads.kept
 
     -- an image under way is that of an entry
     settled_less : 0 < length (images_under_way before) → goes.settled < count_in start
@@ -246,7 +245,8 @@ module _ {D O : Type 0} (disk : DiskOf D) (out : SinkOf O) where
         )
 
     -- the disk was only read
-    reads_on : (now : RenderLead D O) → now.disk ≡ before.disk → now.shelf ≡ before.shelf → OnlyReads disk out start now
+    reads_on : (now : RenderSource D O) → now.disk ≡ before.disk → now.shelf ≡ before.shelf
+        → OnlyReadsDisk disk out start now
     reads_on now disk_is shelf_is = record {
       kept = ap kept_by shelf_is ∙ goes.reads.kept;
       told = λ t. subst (λ (r : _). disk.tells r.now) (sym disk_is) (goes.reads.told t);
@@ -255,12 +255,12 @@ module _ {D O : Type 0} (disk : DiskOf D) (out : SinkOf O) where
     }
 
     -- the images under way changed, and what was settled
-    goes_on : (now : RenderLead D O) → IsSameBut before now → (ahead : List Ahead) (settled : ℕ)
+    goes_on : (now : RenderSource D O) → IsSameBut before now → (ahead : List Ahead) (settled : ℕ)
         → AreAhead disk way d settled ahead → settled + length ahead ≡ before.next
         → Settles disk out start ahead now.tally settled now.out.now → (jobs' : List StripSource) (kept' : ℕ)
-        → HasJobs jobs' kept' before.next ahead (images_under_way now)
+        → HasStripJobs jobs' kept' before.next ahead (images_under_way now)
         → now.tally.images + now.tally.skipped + length (images_under_way now) ≤ before.next
-        → Goes disk out start now jobs' kept'
+        → RenderGoes disk out start now jobs' kept'
     goes_on now same ahead settled are reached settles jobs' kept' has counted = record {
       same_disk = ap (λ (r : _). r.ghost_name) same.disk ∙ goes.same_disk;
       same_out = same.out ∙ goes.same_out;
@@ -275,18 +275,18 @@ module _ {D O : Type 0} (disk : DiskOf D) (out : SinkOf O) where
       refusal = subst (λ (n : ℕ). MayWait disk way d (count_in start) n now.refusal) (sym same.next)
           (subst (λ (r : Option Refusal). MayWait disk way d (count_in start) before.next r) (sym same.refusal)
           goes.refusal);
-      has_jobs = subst (λ (n : ℕ). HasJobs jobs' kept' n ahead (images_under_way now)) (sym same.next) has;
+      has_jobs = subst (λ (n : ℕ). HasStripJobs jobs' kept' n ahead (images_under_way now)) (sym same.next) has;
       counted = subst (λ (n : ℕ). now.tally.images + now.tally.skipped + length (images_under_way now) ≤ n)
           (sym same.next) counted;
       room = subst (λ (n : ℕ). 0 < n) (sym same.room) goes.room;
     }
 
     -- and nothing was put
-    goes_queue : (now : RenderLead D O) → IsSameBut before now → now.out.now ≡ before.out.now
+    goes_queue : (now : RenderSource D O) → IsSameBut before now → now.out.now ≡ before.out.now
         → now.tally ≡ before.tally → (jobs' : List StripSource) (kept' : ℕ)
-        → HasJobs jobs' kept' before.next goes.ahead (images_under_way now)
+        → HasStripJobs jobs' kept' before.next goes.ahead (images_under_way now)
         → length (images_under_way now) ≡ length (images_under_way before)
-        → Goes disk out start now jobs' kept'
+        → RenderGoes disk out start now jobs' kept'
     goes_queue now same out_is tally_is jobs' kept' has length_is =
         goes_on now same goes.ahead goes.settled goes.are_ahead goes.reached
         (subst (λ (o : O). Settles disk out start goes.ahead now.tally goes.settled o) (sym out_is)
@@ -296,7 +296,7 @@ module _ {D O : Type 0} (disk : DiskOf D) (out : SinkOf O) where
 
     -- ---- strips are given
 
-    module _ (now : RenderLead D O) (same : IsSameBut before now) (out_is : now.out.now ≡ before.out.now)
+    module _ (now : RenderSource D O) (same : IsSameBut before now) (out_is : now.out.now ≡ before.out.now)
         (tally_is : now.tally ≡ before.tally) where
       left_is : jobs_left now + all_left (images_under_way before)
           ≡ jobs_left before + all_left (images_under_way now)
@@ -308,7 +308,7 @@ module _ {D O : Type 0} (disk : DiskOf D) (out : SinkOf O) where
 
       module _ (strip : StripSource)
           (gives : LastGives (images_under_way before) (images_under_way now) (Some strip)) where
-        pub gives_goes : Goes disk out start now (jobs ++ strip ∷ []) kept
+        pub gives_goes : RenderGoes disk out start now (jobs ++ strip ∷ []) kept
         gives_goes =
             goes_queue now same out_is tally_is (jobs ++ strip ∷ []) kept
             (given_jobs jobs kept before.next goes.ahead (images_under_way before) (images_under_way now) goes.has_jobs
@@ -328,7 +328,7 @@ module _ {D O : Type 0} (disk : DiskOf D) (out : SinkOf O) where
         gives_fewer = omega (arith, left_is, gives_left)
 
       module _ (gives : LastGives (images_under_way before) (images_under_way now) None) where
-        pub none_goes : Goes disk out start now jobs kept
+        pub none_goes : RenderGoes disk out start now jobs kept
         none_goes =
             goes_queue now same out_is tally_is jobs kept
             (none_jobs jobs kept before.next goes.ahead (images_under_way before) (images_under_way now) goes.has_jobs
@@ -353,7 +353,7 @@ module _ {D O : Type 0} (disk : DiskOf D) (out : SinkOf O) where
       module _ (done : StripSource) (is : IsDoneNext (λ strip. strip) jobs kept done)
           (keeps : FirstKeeps (images_under_way before) (images_under_way now))
           (waits : 0 < keeps.first.waiting) where
-        pub keeps_goes : Goes disk out start now jobs (kept + 1)
+        pub keeps_goes : RenderGoes disk out start now jobs (kept + 1)
         keeps_goes =
             goes_queue now same out_is tally_is jobs (kept + 1)
             (kept_jobs jobs kept before.next goes.ahead (images_under_way before) goes.has_jobs done is
@@ -366,7 +366,7 @@ module _ {D O : Type 0} (disk : DiskOf D) (out : SinkOf O) where
 
     -- ---- an image is put
 
-    module _ (plan : PlanView) (now : RenderLead D O) (same : IsSameBut before now)
+    module _ (plan : PlanView) (now : RenderSource D O) (same : IsSameBut before now)
         (takes : TakesFirst (images_under_way before) (images_under_way now) plan) where
       first_is : FirstPending disk out start goes.ahead before.tally before.next before.out.now plan.file
           (files_under_way (images_under_way now))
@@ -388,7 +388,7 @@ module _ {D O : Type 0} (disk : DiskOf D) (out : SinkOf O) where
         one_more (Err fault) is = omega (arith, ap (λ (t : Tally). t.images + t.skipped) is)
 
       pub puts_goes : PutsOutcome out plan.file before.tally now.tally before.out.now now.out.now
-          → Goes disk out start now jobs kept
+          → RenderGoes disk out start now jobs kept
       puts_goes puts =
           let first = first_is in
           goes_on now same first.rest (first.number + 1) first.are_ahead (omega (arith, first.reached))
@@ -433,12 +433,12 @@ module _ {D O : Type 0} (disk : DiskOf D) (out : SinkOf O) where
           )
 
     -- nothing changed but where the images stand in memory
-    pub still_goes : (now : RenderLead D O) → IsSameBut before now → now.out.now ≡ before.out.now
+    pub still_goes : (now : RenderSource D O) → IsSameBut before now → now.out.now ≡ before.out.now
         → now.tally ≡ before.tally → images_under_way now ≡ images_under_way before
-        → Goes disk out start now jobs kept
+        → RenderGoes disk out start now jobs kept
     still_goes now same out_is tally_is is =
         goes_queue now same out_is tally_is jobs kept
-        (subst (HasJobs jobs kept before.next goes.ahead) (sym is) goes.has_jobs)
+        (subst (HasStripJobs jobs kept before.next goes.ahead) (sym is) goes.has_jobs)
         (ap (λ (l : List UnderWay). length l) is)
 
     pub few_entries : before.next ≤ count_in before → before.next < 2 ^ 40 + 1
@@ -452,15 +452,15 @@ module _ {D O : Type 0} (disk : DiskOf D) (out : SinkOf O) where
         → found (disk.contents d) way a
     found_at_start found a there t =
         subst (λ (b : List ℕ). found b way a) (goes.reads.unwritten t).contents
-        (subst (λ (k : Kept). found (disk.contents before.disk.now) k.way a) goes.reads.kept
+        (subst (λ (k : KeptShelf). found (disk.contents before.disk.now) k.way a) goes.reads.kept
         (there (goes.reads.told t)))
 
-    module _ (now : RenderLead D O) (disk_name : now.disk.ghost_name ≡ before.disk.ghost_name)
+    module _ (now : RenderSource D O) (disk_name : now.disk.ghost_name ≡ before.disk.ghost_name)
         (out_name : now.out.ghost_name ≡ before.out.ghost_name) (out_is : now.out.now ≡ before.out.now)
         (only : ReadsOnly disk before.shelf now.shelf before.disk.now now.disk.now)
         (faults_are : disk.faults now.disk.now ≡ disk.faults before.disk.now)
         (room_is : deque_capacity now.queue.images ≡ deque_capacity before.queue.images) where
-      reads_more : OnlyReads disk out start now
+      reads_more : OnlyReadsDisk disk out start now
       reads_more = record {
         kept = only.kept ∙ goes.reads.kept;
         told = λ t. only.told (goes.reads.told t);
@@ -471,12 +471,12 @@ module _ {D O : Type 0} (disk : DiskOf D) (out : SinkOf O) where
 
       -- one entry more is ahead
       reads_one : now.next ≡ before.next + 1 → now.refusal ≡ None → before.next < count_in start → (one : Ahead)
-          → StandsAt disk way d before.next one
-          → ((read : List Seen) → IsTally goes.ahead before.tally read
+          → AheadStandsAt disk way d before.next one
+          → ((read : List EntryView) → IsTally goes.ahead before.tally read
           → IsTally (goes.ahead ++ one ∷ []) now.tally read)
-          → HasJobs jobs kept (before.next + 1) (goes.ahead ++ one ∷ []) (images_under_way now)
+          → HasStripJobs jobs kept (before.next + 1) (goes.ahead ++ one ∷ []) (images_under_way now)
           → now.tally.images + now.tally.skipped + length (images_under_way now) ≤ before.next + 1
-          → Goes disk out start now jobs kept
+          → RenderGoes disk out start now jobs kept
       reads_one next_is none there one stands tally has counted = record {
         same_disk = disk_name ∙ goes.same_disk;
         same_out = out_name ∙ goes.same_out;
@@ -485,15 +485,16 @@ module _ {D O : Type 0} (disk : DiskOf D) (out : SinkOf O) where
         ahead = goes.ahead ++ one ∷ [];
         settled = goes.settled;
         are_ahead = ahead_push disk way d goes.settled goes.ahead one goes.are_ahead
-            (subst (λ (n : ℕ). StandsAt disk way d n one) (sym goes.reached) stands);
+            (subst (λ (n : ℕ). AheadStandsAt disk way d n one) (sym goes.reached) stands);
         reached = omega (arith, goes.reached, next_is, length-append goes.ahead (one ∷ []));
         inside = omega (arith, next_is, there);
         settles = subst (λ (o : O). Settles disk out start (goes.ahead ++ one ∷ []) now.tally goes.settled o)
             (sym out_is)
-            (with_gathers disk out render_asked way (record { from = 0; to = count_in start }) d start.out.now
+            (with_gathers disk out render_query way (record { from = 0; to = count_in start }) d start.out.now
             goes.settled before.out.now goes.settles (tally goes.settles.read goes.settles.gathered));
         refusal = subst (MayWait disk way d (count_in start) now.next) (sym none) tt;
-        has_jobs = subst (λ (n : ℕ). HasJobs jobs kept n (goes.ahead ++ one ∷ []) (images_under_way now)) (sym next_is)
+        has_jobs = subst (λ (n : ℕ). HasStripJobs jobs kept n (goes.ahead ++ one ∷ []) (images_under_way now))
+            (sym next_is)
             has;
         counted = omega (arith, next_is, counted);
         room = omega (arith, room_is, goes.room);
@@ -502,12 +503,12 @@ module _ {D O : Type 0} (disk : DiskOf D) (out : SinkOf O) where
       module _ (next_is : now.next ≡ before.next + 1) (none : now.refusal ≡ None)
           (there : before.next < count_in start) where
         images_are : (images : List UnderWay) → images_under_way now ≡ images → (next : ℕ) (ahead : List Ahead)
-            → HasJobs jobs kept next ahead images → HasJobs jobs kept next ahead (images_under_way now)
-        images_are images is next ahead has = subst (HasJobs jobs kept next ahead) (sym is) has
+            → HasStripJobs jobs kept next ahead images → HasStripJobs jobs kept next ahead (images_under_way now)
+        images_are images is next ahead has = subst (HasStripJobs jobs kept next ahead) (sym is) has
 
         pub reads_content : (content : Content)
             → IsContent disk (way_in before) before.next before.disk.now content → IsContentTaken content before now
-            → AllGiven (images_under_way before) → Goes disk out start now jobs kept
+            → AllGiven (images_under_way before) → RenderGoes disk out start now jobs kept
         reads_content Gone gone taken given =
             reads_one next_is none there Vacant
             (found_at_start (λ b w e. IsFound b (entry_at w before.next) (Some e)) GoneThere gone)
@@ -573,7 +574,7 @@ module _ {D O : Type 0} (disk : DiskOf D) (out : SinkOf O) where
         pub reads_one_more : before.refusal ≡ None → (content : Content) → IsContentTaken content before now
             → ReadsOne before now
         reads_one_more was content taken =
-            let counts : count_in now ≡ count_in before = ap (λ (k : Kept). length k.way.entries) only.kept in
+            let counts : count_in now ≡ count_in before = ap (λ (k : KeptShelf). length k.way.entries) only.kept in
             record {
               first = joins_first content taken;
               left = omega (arith, counts, count_is, next_is, there, joins_left content taken);
@@ -584,7 +585,7 @@ module _ {D O : Type 0} (disk : DiskOf D) (out : SinkOf O) where
       pub reads_refusal : now.next ≡ before.next → now.tally ≡ before.tally
           → images_under_way now ≡ images_under_way before → before.next < count_in start → (refusal : Refusal)
           → now.refusal ≡ Some refusal → IsRefusedAt disk (way_in before) before.next before.disk.now refusal
-          → Goes disk out start now jobs kept
+          → RenderGoes disk out start now jobs kept
       reads_refusal next_is tally_is images_are there refusal is refused = record {
         same_disk = disk_name ∙ goes.same_disk;
         same_out = out_name ∙ goes.same_out;
@@ -603,14 +604,14 @@ module _ {D O : Type 0} (disk : DiskOf D) (out : SinkOf O) where
           subst (λ (n : ℕ). IsRefusedAt disk way n d refusal) (sym next_is) (record {
             seen = refused.seen;
             stands = found_at_start
-                (λ b w s. IsSeen render_asked.looks b (entry_at w before.next) s) refused.seen refused.stands;
+                (λ b w s. IsSeen render_query.looks b (entry_at w before.next) s) refused.seen refused.stands;
             fate = λ read. subst
-                (λ (k : Kept). fate_of render_asked k.way read before.next refused.seen ≡ Err refusal)
+                (λ (k : KeptShelf). fate_of render_query k.way read before.next refused.seen ≡ Err refusal)
                 goes.reads.kept (refused.fate read);
           }),
         );
-        has_jobs = subst (λ (n : ℕ). HasJobs jobs kept n goes.ahead (images_under_way now)) (sym next_is)
-            (subst (HasJobs jobs kept before.next goes.ahead) (sym images_are) goes.has_jobs);
+        has_jobs = subst (λ (n : ℕ). HasStripJobs jobs kept n goes.ahead (images_under_way now)) (sym next_is)
+            (subst (HasStripJobs jobs kept before.next goes.ahead) (sym images_are) goes.has_jobs);
         counted = omega (
           arith,
           next_is,
@@ -625,7 +626,7 @@ module _ {D O : Type 0} (disk : DiskOf D) (out : SinkOf O) where
           → before.next < count_in start → (refusal : Refusal) → before.refusal ≡ None → now.refusal ≡ Some refusal
           → ReadsOne before now
       refusal_more next_is images_are there refusal was is =
-          let counts : count_in now ≡ count_in before = ap (λ (k : Kept). length k.way.entries) only.kept in
+          let counts : count_in now ≡ count_in before = ap (λ (k : KeptShelf). length k.way.entries) only.kept in
           record {
             first = λ first. subst FirstWaits (sym images_are) first;
             left = omega (arith, counts, next_is, ap all_left images_are);
@@ -633,8 +634,8 @@ module _ {D O : Type 0} (disk : DiskOf D) (out : SinkOf O) where
           }
 
   -- an entry was read and taken in
-  module _ {start before : RenderLead D O} {jobs : List StripSource} {kept : ℕ}
-      (goes : Goes disk out start before jobs kept) (mid now : RenderLead D O)
+  module _ {start before : RenderSource D O} {jobs : List StripSource} {kept : ℕ}
+      (goes : RenderGoes disk out start before jobs kept) (mid now : RenderSource D O)
       (disk_name : mid.disk.ghost_name ≡ before.disk.ghost_name) (out_is : mid.out ≡ before.out)
       (next_is : mid.next ≡ before.next) (tally_is : mid.tally ≡ before.tally) (queue_is : mid.queue ≡ before.queue)
       (none : mid.refusal ≡ None) (only : ReadsOnly disk before.shelf mid.shelf before.disk.now mid.disk.now)
@@ -659,7 +660,7 @@ module _ {D O : Type 0} (disk : DiskOf D) (out : SinkOf O) where
     more_there = omega (arith, more, count_is goes)
 
     pub takes_goes : IsContent disk (way_in before) before.next before.disk.now content
-        → AllGiven (images_under_way before) → Goes disk out start now jobs kept
+        → AllGiven (images_under_way before) → RenderGoes disk out start now jobs kept
     takes_goes found given =
         reads_content goes now (ap (λ (r : _). r.ghost_name) takes.disk ∙ disk_name)
         (ap (λ (r : _). r.ghost_name) takes.out ∙ ap (λ (r : _). r.ghost_name) out_is)
@@ -682,15 +683,15 @@ module _ {D O : Type 0} (disk : DiskOf D) (out : SinkOf O) where
   -- ---- it stops
 
   module _ (only_now : (x : D) (c : List ℕ) → disk.tells x → disk.left_since x (disk.moment x) c → disk.may_leave x c)
-      {start before : RenderLead D O} {jobs : List StripSource} {kept : ℕ}
-      (goes : Goes disk out start before jobs kept) where
-    stops_with : (now : RenderLead D O) → now.disk.ghost_name ≡ before.disk.ghost_name
+      {start before : RenderSource D O} {jobs : List StripSource} {kept : ℕ}
+      (goes : RenderGoes disk out start before jobs kept) where
+    stops_with : (now : RenderSource D O) → now.disk.ghost_name ≡ before.disk.ghost_name
         → now.out.ghost_name ≡ before.out.ghost_name
         → (disk.tells start.disk.now → disk.tells now.disk.now)
         → (disk.tells start.disk.now → IsUnwritten disk start.disk.now now.disk.now)
         → (ahead : List Ahead) (tally : Tally) (number : ℕ) (o1 : O) → number < count_in start
         → (so : Settles disk out start ahead tally number o1) → (cause : Cause)
-        → EntryStops (outlets_of disk out) render_asked (way_in start) so.read number cause (outlets start.disk.now o1)
+        → EntryStops (outlets_of disk out) render_query (way_in start) so.read number cause (outlets start.disk.now o1)
         (outlets now.disk.now now.out.now)
         → Counted cause (outlet_counts (outlets_of disk out) (outlets start.disk.now o1))
         (outlet_counts (outlets_of disk out) (outlets now.disk.now now.out.now))
@@ -698,14 +699,14 @@ module _ {D O : Type 0} (disk : DiskOf D) (out : SinkOf O) where
     stops_with now disk_name out_name told unwritten ahead tally number o1 there so cause stops counted = record {
       same_disk = disk_name ∙ goes.same_disk;
       same_out = out_name ∙ goes.same_out;
-      runs = entry_stopped disk out render_asked (way_in start) start.disk.now start.out.now
+      runs = entry_stopped disk out render_query (way_in start) start.disk.now start.out.now
           (record { from = 0; to = count_in start }) refl (IsTally ahead tally) number start.disk.now o1 now.out.now
           so (λ t. t) (unwritten_yet disk only_now start.disk.now) refl now.disk.now there told unwritten cause stops
           counted;
     }
 
     -- memory was refused where an image is under way
-    pub memory_stops : (now : RenderLead D O) → now.disk ≡ before.disk → now.out ≡ before.out
+    pub memory_stops : (now : RenderSource D O) → now.disk ≡ before.disk → now.out ≡ before.out
         → now.shelf ≡ before.shelf → 0 < length (images_under_way before) → StopsFor disk out start NoMemory now
     memory_stops now disk_is out_is shelf_is some =
         let reads = reads_on goes now disk_is shelf_is in
@@ -716,7 +717,7 @@ module _ {D O : Type 0} (disk : DiskOf D) (out : SinkOf O) where
         (ap (λ (r : _). out.faults r.now) out_is))
 
     -- an image wasn't put
-    pub outcome_stops : (plan : PlanView) (mid now : RenderLead D O) → IsSameBut before mid
+    pub outcome_stops : (plan : PlanView) (mid now : RenderSource D O) → IsSameBut before mid
         → TakesFirst (images_under_way before) (images_under_way mid) plan → now.disk ≡ before.disk
         → now.out.ghost_name ≡ before.out.ghost_name → now.shelf ≡ before.shelf → (cause : Cause)
         → OutcomeStops out plan.file cause before.out.now now.out.now → StopsFor disk out start cause now
@@ -728,7 +729,7 @@ module _ {D O : Type 0} (disk : DiskOf D) (out : SinkOf O) where
         stops_with now (ap (λ (r : _). r.ghost_name) disk_is) out_name reads.told reads.unwritten
         (Pending first.stored ∷ first.rest) before.tally first.number before.out.now
         (first_there goes plan mid same takes) first.settles cause
-        (stops_seen disk out render_asked (way_in start) first.settles.read first.number start.disk.now
+        (stops_seen disk out render_query (way_in start) first.settles.read first.number start.disk.now
         now.disk.now before.out.now now.out.now (Some (Whole opened))
         (λ t. (first.stands t, subst (λ (f : File). HasOutcome f stops.outcome) (sym first.file_is) stops.has)) cause
         stops.stops)
@@ -736,7 +737,7 @@ module _ {D O : Type 0} (disk : DiskOf D) (out : SinkOf O) where
         stops.stops)
 
     -- the next entry wasn't read
-    pub read_stops : (now : RenderLead D O) → now.disk.ghost_name ≡ before.disk.ghost_name
+    pub read_stops : (now : RenderSource D O) → now.disk.ghost_name ≡ before.disk.ghost_name
         → now.out ≡ before.out → ReadsOnly disk before.shelf now.shelf before.disk.now now.disk.now
         → before.next < count_in start → (cause : Cause) → ((refusal : Refusal) → cause ≡ Refused refusal → ⊥)
         → ReadStops disk (way_in before) before.next cause before.disk.now now.disk.now
@@ -753,7 +754,7 @@ module _ {D O : Type 0} (disk : DiskOf D) (out : SinkOf O) where
 
         stays : (cause : Cause) → ((refusal : Refusal) → cause ≡ Refused refusal → ⊥)
             → ReadStops disk (way_in before) before.next cause before.disk.now now.disk.now
-            → EntryStops (outlets_of disk out) render_asked (way_in start) goes.settles.read goes.settled cause
+            → EntryStops (outlets_of disk out) render_query (way_in start) goes.settles.read goes.settled cause
             (outlets start.disk.now before.out.now) (outlets now.disk.now now.out.now)
         stays Done other stops = absurd stops
         stays (DoneWith note) other stops = absurd stops
@@ -805,7 +806,7 @@ module _ {D O : Type 0} (disk : DiskOf D) (out : SinkOf O) where
     -- ---- all was put
 
     pub ends_run : images_under_way before ≡ [] → count_in before ≤ before.next
-        → RunsOn (outlets_of disk out) render_asked (way_in start)
+        → RunsOn (outlets_of disk out) render_query (way_in start)
         (DoneWith (Rendered before.tally.images before.tally.skipped)) (outlets start.disk.now start.out.now)
         (outlets before.disk.now before.out.now)
     ends_run none all =
@@ -813,7 +814,7 @@ module _ {D O : Type 0} (disk : DiskOf D) (out : SinkOf O) where
         let images : before.tally.images ≡ images_in (files_of so.read) = so.gathered.images in
         let skipped : before.tally.skipped ≡ skipped_in (files_of so.read) =
         omega (arith, so.gathered.skipped) in
-        last_taken disk out render_asked (way_in start) start.disk.now start.out.now
+        last_taken disk out render_query (way_in start) start.disk.now start.out.now
         (record { from = 0; to = count_in start }) refl (IsTally [] before.tally) before.next before.disk.now
         before.out.now before.out.now so goes.reads.told goes.reads.unwritten goes.reads.faults goes.inside
         (subst (λ (n : ℕ). n ≤ before.next) (count_is goes) all)
@@ -828,13 +829,14 @@ module _ {D O : Type 0} (disk : DiskOf D) (out : SinkOf O) where
 
   -- ---- at the end, and at the beginning
 
-  no_refusal : (lead : RenderLead D O) → images_under_way lead ≡ [] → IsOver lead → (refusal : Option Refusal)
-      → lead.refusal ≡ refusal → lead.refusal ≡ None
-  no_refusal lead none over None is = is
-  no_refusal lead none over (Some refusal) is = absurd (over.waits refusal is none)
+  no_refusal : (source : RenderSource D O) → images_under_way source ≡ [] → IsRenderOver source
+      → (refusal : Option Refusal)
+      → source.refusal ≡ refusal → source.refusal ≡ None
+  no_refusal source none over None is = is
+  no_refusal source none over (Some refusal) is = absurd (over.waits refusal is none)
 
   pub ends_well : ((x : D) (c : List ℕ) → disk.tells x → disk.left_since x (disk.moment x) c → disk.may_leave x c)
-      → {start now : RenderLead D O} → EndsWell (Stands disk out) IsOver start now
+      → {start now : RenderSource D O} → EndsWell (Stands disk out) IsRenderOver start now
       → StopsFor disk out start (DoneWith (Rendered now.tally.images now.tally.skipped)) now
   ends_well only_now {start} {now} ends =
       let goes = ends.all_kept.goes in
@@ -850,10 +852,10 @@ module _ {D O : Type 0} (disk : DiskOf D) (out : SinkOf O) where
       }
 
   pub begins : ((x : D) (c : List ℕ) → disk.tells x → disk.left_since x (disk.moment x) c → disk.may_leave x c)
-      → (lead : RenderLead D O) → MayBeLed disk out lead → lead.next ≡ 0 → images_under_way lead ≡ []
-      → lead.tally ≡ record { images = 0; skipped = 0 } → lead.refusal ≡ None
-      → 0 < deque_capacity lead.queue.images → Stands disk out lead lead [] 0
-  begins only_now lead may next_is none tally_is no_refusal room = record {
+      → (source : RenderSource D O) → MayBeLed disk out source → source.next ≡ 0 → images_under_way source ≡ []
+      → source.tally ≡ record { images = 0; skipped = 0 } → source.refusal ≡ None
+      → 0 < deque_capacity source.queue.images → Stands disk out source source [] 0
+  begins only_now source may next_is none tally_is no_refusal room = record {
     goes = record {
       same_disk = refl;
       same_out = refl;
@@ -861,7 +863,7 @@ module _ {D O : Type 0} (disk : DiskOf D) (out : SinkOf O) where
       reads = record {
         kept = refl;
         told = λ t. t;
-        unwritten = unwritten_yet disk only_now lead.disk.now;
+        unwritten = unwritten_yet disk only_now source.disk.now;
         faults = refl;
       };
       ahead = [];
@@ -869,13 +871,14 @@ module _ {D O : Type 0} (disk : DiskOf D) (out : SinkOf O) where
       are_ahead = tt;
       reached = omega (arith, next_is);
       inside = omega (arith, next_is);
-      settles = so_first disk out render_asked (way_in lead) (record { from = 0; to = count_in lead }) lead.disk.now
-          lead.out.now (IsTally [] lead.tally) (record {
+      settles = so_first disk out render_query (way_in source) (record { from = 0; to = count_in source })
+          source.disk.now
+          source.out.now (IsTally [] source.tally) (record {
             images = ap (λ (t : Tally). t.images) tally_is;
             skipped = omega (arith, ap (λ (t : Tally). t.skipped) tally_is);
           });
-      refusal = subst (MayWait disk (way_in lead) lead.disk.now (count_in lead) lead.next) (sym no_refusal) tt;
-      has_jobs = subst (HasJobs [] 0 lead.next []) (sym none) (record {
+      refusal = subst (MayWait disk (way_in source) source.disk.now (count_in source) source.next) (sym no_refusal) tt;
+      has_jobs = subst (HasStripJobs [] 0 source.next []) (sym none) (record {
         each = tt;
         only_last = tt;
         files = refl;
@@ -896,7 +899,7 @@ module _ {D O : Type 0} (disk : DiskOf D) (out : SinkOf O) where
   -- nothing was put where memory was refused at once
   pub nothing_put : ((x : D) (c : List ℕ) → disk.tells x → disk.left_since x (disk.moment x) c → disk.may_leave x c)
       → (over : Way) (d : D) (o : O)
-      → RunsOn (outlets_of disk out) render_asked over NoMemory (outlets d o) (outlets d o)
+      → RunsOn (outlets_of disk out) render_query over NoMemory (outlets d o) (outlets d o)
   nothing_put only_now over d o = record {
     may = tt;
     counted = refl;
@@ -914,8 +917,9 @@ module _ {D O : Type 0} (disk : DiskOf D) (out : SinkOf O) where
   }
 
   pub stops_at_once : ((x : D) (c : List ℕ) → disk.tells x → disk.left_since x (disk.moment x) c → disk.may_leave x c)
-      → (start now : RenderLead D O) → now ≡ start → StopsFor disk out start NoMemory now
-  stops_at_once only_now start now same = subst (λ (l : RenderLead D O). StopsFor disk out start NoMemory l) (sym same)
+      → (start now : RenderSource D O) → now ≡ start → StopsFor disk out start NoMemory now
+  stops_at_once only_now start now same =
+      subst (λ (l : RenderSource D O). StopsFor disk out start NoMemory l) (sym same)
       (record {
         same_disk = refl;
         same_out = refl;
@@ -924,7 +928,7 @@ module _ {D O : Type 0} (disk : DiskOf D) (out : SinkOf O) where
 
   -- ---- a strip is kept
 
-  module _ {start before : RenderLead D O} {jobs : List StripSource} {kept : ℕ}
+  module _ {start before : RenderSource D O} {jobs : List StripSource} {kept : ℕ}
       (at : Stands disk out start before jobs kept) (done : StripSource)
       (is : IsDoneNext (λ strip. strip) jobs kept done) where
     pub may_keep_first : MayKeepFirst done (images_under_way before)
@@ -934,13 +938,13 @@ module _ {D O : Type 0} (disk : DiskOf D) (out : SinkOf O) where
     pub some_kept : 0 < length (images_under_way before)
     some_kept = some_may done (images_under_way before) may_keep_first
 
-    module _ (mid : RenderLead D O) (same : IsSameBut before mid) (out_is : mid.out.now ≡ before.out.now)
+    module _ (mid : RenderSource D O) (same : IsSameBut before mid) (out_is : mid.out.now ≡ before.out.now)
         (tally_is : mid.tally ≡ before.tally)
         (keeps : FirstKeeps (images_under_way before) (images_under_way mid)) where
       waits : 0 < keeps.first.waiting
       waits = first_waits done (images_under_way before) (images_under_way mid) keeps may_keep_first
 
-      pub kept_goes : Goes disk out start mid jobs (kept + 1)
+      pub kept_goes : RenderGoes disk out start mid jobs (kept + 1)
       kept_goes = keeps_goes at.goes mid same out_is tally_is done is keeps waits
 
       pub kept_same : all_left (images_under_way mid) ≡ all_left (images_under_way before)
@@ -951,9 +955,9 @@ module _ {D O : Type 0} (disk : DiskOf D) (out : SinkOf O) where
       kept_all = kept_given jobs kept before.next at.goes.ahead (images_under_way before) at.goes.has_jobs done is
           (images_under_way mid) keeps waits
 
-  -- ---- what the calls of the lead come to
+  -- ---- what the calls of the job source come to
 
-  pub puts_more : {first old new : RenderLead D O} → PutsImages first old → PutsImages old new → PutsImages first new
+  pub puts_more : {first old new : RenderSource D O} → PutsImages first old → PutsImages old new → PutsImages first new
   puts_more one other = record {
     same = record {
       disk = other.same.disk ∙ one.same.disk;
@@ -968,7 +972,7 @@ module _ {D O : Type 0} (disk : DiskOf D) (out : SinkOf O) where
   }
 
   -- images that were put left no more to come
-  pub puts_left : {old new : RenderLead D O} → PutsImages old new → jobs_left new ≤ jobs_left old
+  pub puts_left : {old new : RenderSource D O} → PutsImages old new → jobs_left new ≤ jobs_left old
   puts_left {old} {new} puts =
       omega (
         arith,
@@ -977,12 +981,12 @@ module _ {D O : Type 0} (disk : DiskOf D) (out : SinkOf O) where
         ap (λ (n : ℕ). 65536 * (count_in old - n)) puts.same.next,
       )
 
-  module _ {start before : RenderLead D O} {jobs : List StripSource} {kept : ℕ}
-      (at : Stands disk out start before jobs kept) (entry : RenderLead D O) where
-    pub gives_job : jobs_left before ≤ jobs_left entry → (now : RenderLead D O) → IsSameBut before now
+  module _ {start before : RenderSource D O} {jobs : List StripSource} {kept : ℕ}
+      (at : Stands disk out start before jobs kept) (entry : RenderSource D O) where
+    pub gives_job : jobs_left before ≤ jobs_left entry → (now : RenderSource D O) → IsSameBut before now
         → now.out.now ≡ before.out.now → now.tally ≡ before.tally → (strip : StripSource)
         → LastGives (images_under_way before) (images_under_way now) (Some strip)
-        → Gives (Stands disk out) IsOver jobs_left jobs kept start entry now (Job strip)
+        → Gives (Stands disk out) IsRenderOver jobs_left jobs kept start entry now (Job strip)
     gives_job left now same out_is tally_is strip gives = record {
       one_more = record {
         goes = gives_goes at.goes now same out_is tally_is strip gives;
@@ -995,7 +999,7 @@ module _ {D O : Type 0} (disk : DiskOf D) (out : SinkOf O) where
     -- nothing is given for now, since there is no room
     pub gives_later : jobs_left before ≤ jobs_left entry → AllGiven (images_under_way before)
         → 0 < length (images_under_way before)
-        → Gives (Stands disk out) IsOver jobs_left jobs kept start entry before Later
+        → Gives (Stands disk out) IsRenderOver jobs_left jobs kept start entry before NotYet
     gives_later left given some = (
       record { same = at; no_more = left },
       some_wait jobs kept (images_under_way before) at.goes.has_jobs.each given at.first at.goes.has_jobs.waiting
@@ -1003,8 +1007,8 @@ module _ {D O : Type 0} (disk : DiskOf D) (out : SinkOf O) where
     )
 
     -- nothing is given any more
-    pub gives_over : jobs_left before ≤ jobs_left entry → IsOver before
-        → Gives (Stands disk out) IsOver jobs_left jobs kept start entry before Over
+    pub gives_over : jobs_left before ≤ jobs_left entry → IsRenderOver before
+        → Gives (Stands disk out) IsRenderOver jobs_left jobs kept start entry before Finished
     gives_over left over = (record { same = at; no_more = left }, over)
 
   -- a test that told which of two facts holds
@@ -1017,12 +1021,12 @@ module _ {D O : Type 0} (disk : DiskOf D) (out : SinkOf O) where
   told_false A B false is both = both
 
   -- what came of a strip was kept, and images put
-  pub keeps_on : {start before mid now : RenderLead D O} {jobs : List StripSource} {kept : ℕ}
+  pub keeps_on : {start before mid now : RenderSource D O} {jobs : List StripSource} {kept : ℕ}
       → IsSameBut before mid → all_left (images_under_way mid) ≡ all_left (images_under_way before)
       → (AllGiven (images_under_way before) → AllGiven (images_under_way mid)) → PutsImages mid now
       → ((refusal : Refusal) → now.refusal ≡ Some refusal → images_under_way now ≡ [] → ⊥)
       → Stands disk out start now jobs (kept + 1)
-      → Keeps (Stands disk out) IsOver jobs_left jobs kept start before now
+      → Keeps (Stands disk out) IsRenderOver jobs_left jobs kept start before now
   keeps_on {start} {before} {mid} {now} {jobs} {kept} same left_is given puts waits stands = record {
     one_more = stands;
     no_more = omega (
@@ -1039,7 +1043,7 @@ module _ {D O : Type 0} (disk : DiskOf D) (out : SinkOf O) where
     };
   }
     where
-      over_all : IsOver before → before.refusal ≡ None → count_in now ≤ now.next
+      over_all : IsRenderOver before → before.refusal ≡ None → count_in now ≤ now.next
       over_all over none =
           omega (
             arith,

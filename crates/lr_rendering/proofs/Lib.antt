@@ -1,6 +1,6 @@
 pub mod Jobs
 pub mod Leading
-pub mod Led
+pub mod Driven
 pub mod Lists
 pub mod Queueing
 pub mod Reading

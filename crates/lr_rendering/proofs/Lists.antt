@@ -17,8 +17,7 @@ use Rattle.std.proofs.Common.{
   drop,
   get_or,
 }
-use Rattle.std.proofs.Common.{refl, sym, ap, ◌∙◌, arith, add-one, drop-cons}
-use Rattle.std.proofs.Common.{slice_index_or, slice_set}
+use Rattle.std.proofs.Common.{refl, sym, ap, ◌∙◌, arith, add-one, drop-cons, slice_index_or, slice_set}
 use Rattle.std.proofs.lemmas.List.{length-set, take_all, take_more, take_more_set}
 use Rattle.lr_gatecore.proofs.Lists.{at_length}
 use mathlib.Core.Option.{some, some-injective, some-ne-none}

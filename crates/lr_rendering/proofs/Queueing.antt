@@ -27,17 +27,17 @@ use Rattle.lr_rendering.specs.Queues.{
   AllGiven,
   EachUnderWay,
   FirstWaits,
-  GivesNext,
-  GivesNone,
-  GivesOne,
-  IsUnderWay,
+  QueueGivesNext,
+  QueueGivesNone,
+  QueueGivesOne,
+  IsImageUnderWay,
   KeepsOne,
   LastGives,
   OnlyLastGives,
   all_left,
   all_waiting,
   files_under_way,
-  left_in,
+  strips_left_in,
   waiting_in,
 }
 use Rattle.lr_rendering.specs.declared.under_way.UnderWay.{UnderWay}
@@ -46,18 +46,18 @@ use Rattle.lr_rendering.proofs.Lists.{take_at, drop_at, elem_at, at_first}
 -- ---- one image at the end
 
 pub each_front : (front : List UnderWay) (last : UnderWay) → EachUnderWay (front ++ last ∷ [])
-    → EachUnderWay front × IsUnderWay last
+    → EachUnderWay front × IsImageUnderWay last
 each_front [] last each = (tt, each.0)
 each_front (image ∷ front) last each =
     let rest = each_front front last each.1 in ((each.0, rest.0), rest.1)
 
-pub each_push : (front : List UnderWay) (last : UnderWay) → EachUnderWay front → IsUnderWay last
+pub each_push : (front : List UnderWay) (last : UnderWay) → EachUnderWay front → IsImageUnderWay last
     → EachUnderWay (front ++ last ∷ [])
 each_push [] last each is = (is, tt)
 each_push (image ∷ front) last each is = (each.0, each_push front last each.1 is)
 
 pub left-push : (front : List UnderWay) (last : UnderWay)
-    → all_left (front ++ last ∷ []) ≡ all_left front + left_in last
+    → all_left (front ++ last ∷ []) ≡ all_left front + strips_left_in last
 left-push [] last = omega arith
 left-push (image ∷ front) last = omega (arith, left-push front last)
 
@@ -114,12 +114,12 @@ first_join (image ∷ images) next going first = first
 
 -- ---- a strip is given
 
-left_going : (image : UnderWay) → image.all_given ≡ false → left_in image ≡ 65535 - image.plan.given
+left_going : (image : UnderWay) → image.all_given ≡ false → strips_left_in image ≡ 65535 - image.plan.given
 left_going image going = ap (λ (b : Bool). cond b 0 (65535 - image.plan.given)) going
 
-given_is : (old : UnderWay) (strip : StripSource) → IsUnderWay old → IsStripAt old.plan old.plan.given strip
+given_is : (old : UnderWay) (strip : StripSource) → IsImageUnderWay old → IsStripAt old.plan old.plan.given strip
     → old.all_given ≡ false → old.plan.given + 1 ≤ 65535
-    → IsUnderWay (record old { plan = record old.plan { given = old.plan.given + 1 }; waiting = old.waiting + 1 })
+    → IsImageUnderWay (record old { plan = record old.plan { given = old.plan.given + 1 }; waiting = old.waiting + 1 })
 given_is old strip is at going few = record {
   waits = omega (arith, is.waits);
   within = omega (arith, at_length (planned_strips old.plan) old.plan.given strip at);
@@ -127,11 +127,12 @@ given_is old strip is at going few = record {
   few = few;
 }
 
-pub gives_is : (old new : UnderWay) (strip : StripSource) → IsUnderWay old → GivesOne old new strip → IsUnderWay new
+pub gives_is : (old new : UnderWay) (strip : StripSource) → IsImageUnderWay old → QueueGivesOne old new strip
+    → IsImageUnderWay new
 gives_is old new strip is gives =
-    subst IsUnderWay (sym gives.is) (given_is old strip is gives.at gives.going gives.few)
+    subst IsImageUnderWay (sym gives.is) (given_is old strip is gives.at gives.going gives.few)
 
-pub gives_waiting : (old new : UnderWay) (strip : StripSource) → IsUnderWay old → GivesOne old new strip
+pub gives_waiting : (old new : UnderWay) (strip : StripSource) → IsImageUnderWay old → QueueGivesOne old new strip
     → waiting_in new ≡ waiting_in old ++ strip ∷ []
 gives_waiting old new strip is gives =
     let strips = planned_strips old.plan in
@@ -139,12 +140,12 @@ gives_waiting old new strip is gives =
     ∙ drop-append-le old.plan.kept (take old.plan.given strips) (strip ∷ [])
     (omega (arith, is.waits, is.within, length-take old.plan.given strips))
 
-pub gives_left : (old new : UnderWay) (strip : StripSource) → GivesOne old new strip
-    → left_in new + 1 ≡ left_in old
+pub gives_left : (old new : UnderWay) (strip : StripSource) → QueueGivesOne old new strip
+    → strips_left_in new + 1 ≡ strips_left_in old
 gives_left old new strip gives =
     omega (
       arith,
-      ap left_in gives.is,
+      ap strips_left_in gives.is,
       left_going old gives.going,
       gives.few,
       left_going (record old {
@@ -153,17 +154,17 @@ gives_left old new strip gives =
       }) gives.going,
     )
 
-pub gives_going : (old new : UnderWay) (strip : StripSource) → GivesOne old new strip → new.all_given ≡ false
+pub gives_going : (old new : UnderWay) (strip : StripSource) → QueueGivesOne old new strip → new.all_given ≡ false
 gives_going old new strip gives = ap (λ (image : UnderWay). image.all_given) gives.is ∙ gives.going
 
-pub gives_file : (old new : UnderWay) (strip : StripSource) → GivesOne old new strip
+pub gives_file : (old new : UnderWay) (strip : StripSource) → QueueGivesOne old new strip
     → new.plan.file ≡ old.plan.file
 gives_file old new strip gives = ap (λ (image : UnderWay). image.plan.file) gives.is
 
 -- ---- no strip is left
 
-none_is : (old : UnderWay) → IsUnderWay old → old.plan.given ≡ length (planned_strips old.plan)
-    → IsUnderWay (record old { all_given = true })
+none_is : (old : UnderWay) → IsImageUnderWay old → old.plan.given ≡ length (planned_strips old.plan)
+    → IsImageUnderWay (record old { all_given = true })
 none_is old is all = record {
   waits = is.waits;
   within = is.within;
@@ -171,25 +172,25 @@ none_is old is all = record {
   few = is.few;
 }
 
-pub ends_is : (old new : UnderWay) → IsUnderWay old → GivesNone old new → IsUnderWay new
-ends_is old new is none = subst IsUnderWay (sym none.is) (none_is old is none.all)
+pub ends_is : (old new : UnderWay) → IsImageUnderWay old → QueueGivesNone old new → IsImageUnderWay new
+ends_is old new is none = subst IsImageUnderWay (sym none.is) (none_is old is none.all)
 
-pub ends_left : (old new : UnderWay) → GivesNone old new → left_in new ≡ 0
-ends_left old new none = ap left_in none.is
+pub ends_left : (old new : UnderWay) → QueueGivesNone old new → strips_left_in new ≡ 0
+ends_left old new none = ap strips_left_in none.is
 
-pub ends_waiting : (old new : UnderWay) → GivesNone old new → waiting_in new ≡ waiting_in old
+pub ends_waiting : (old new : UnderWay) → QueueGivesNone old new → waiting_in new ≡ waiting_in old
 ends_waiting old new none = ap waiting_in none.is
 
-pub ends_all : (old new : UnderWay) → GivesNone old new → new.all_given ≡ true
+pub ends_all : (old new : UnderWay) → QueueGivesNone old new → new.all_given ≡ true
 ends_all old new none = ap (λ (image : UnderWay). image.all_given) none.is
 
-pub ends_file : (old new : UnderWay) → GivesNone old new → new.plan.file ≡ old.plan.file
+pub ends_file : (old new : UnderWay) → QueueGivesNone old new → new.plan.file ≡ old.plan.file
 ends_file old new none = ap (λ (image : UnderWay). image.plan.file) none.is
 
 -- ---- a strip is kept
 
-pub keeps_is : (old new : UnderWay) → IsUnderWay old → 0 < old.waiting → KeepsOne old new → IsUnderWay new
-keeps_is old new is waits keeps = subst IsUnderWay (sym keeps) (record {
+pub keeps_is : (old new : UnderWay) → IsImageUnderWay old → 0 < old.waiting → KeepsOne old new → IsImageUnderWay new
+keeps_is old new is waits keeps = subst IsImageUnderWay (sym keeps) (record {
   waits = omega (arith, is.waits, waits);
   within = is.within;
   all = is.all;
@@ -197,7 +198,7 @@ keeps_is old new is waits keeps = subst IsUnderWay (sym keeps) (record {
 })
 
 -- the oldest of an image's strips, and the others that wait
-pub oldest_waits : (image : UnderWay) → IsUnderWay image → 0 < image.waiting → (strip : StripSource)
+pub oldest_waits : (image : UnderWay) → IsImageUnderWay image → 0 < image.waiting → (strip : StripSource)
     × IsStripAt image.plan image.plan.kept strip
     × (waiting_in image ≡ strip ∷ drop (image.plan.kept + 1) (take image.plan.given (planned_strips image.plan)))
 oldest_waits image is waits =
@@ -209,7 +210,7 @@ oldest_waits image is waits =
           (at_first strips image.plan.given image.plan.kept one.0 (omega (arith, is.waits, waits)) one.1),
     )
 
-pub none_waits : (image : UnderWay) → IsUnderWay image → image.waiting ≡ 0 → waiting_in image ≡ []
+pub none_waits : (image : UnderWay) → IsImageUnderWay image → image.waiting ≡ 0 → waiting_in image ≡ []
 none_waits image is none = none_of (waiting_in image)
     (omega (
       arith,
@@ -227,8 +228,8 @@ pub keeps_waiting : (old new : UnderWay) → KeepsOne old new
     → waiting_in new ≡ drop (old.plan.kept + 1) (take old.plan.given (planned_strips old.plan))
 keeps_waiting old new keeps = ap waiting_in keeps
 
-pub keeps_left : (old new : UnderWay) → KeepsOne old new → left_in new ≡ left_in old
-keeps_left old new keeps = ap left_in keeps
+pub keeps_left : (old new : UnderWay) → KeepsOne old new → strips_left_in new ≡ strips_left_in old
+keeps_left old new keeps = ap strips_left_in keeps
 
 pub keeps_file : (old new : UnderWay) → KeepsOne old new → new.plan.file ≡ old.plan.file
 keeps_file old new keeps = ap (λ (image : UnderWay). image.plan.file) keeps
@@ -240,7 +241,7 @@ keeps_all old new keeps = ap (λ (image : UnderWay). image.all_given) keeps
 
 pub last_gives : (front : List UnderWay) (last next : UnderWay) {old new : List UnderWay}
     → old ≡ front ++ last ∷ [] → new ≡ front ++ next ∷ [] → (result : Result (Option StripSource) NoMemory)
-    → IfOk result (GivesNext last next) → IfOk result (LastGives old new)
+    → IfOk result (QueueGivesNext last next) → IfOk result (LastGives old new)
 last_gives front last next old_is new_is (Ok (Some strip)) gives =
     record { front = front; last = last; next = next; old_is = old_is; new_is = new_is; becomes = gives }
 last_gives front last next old_is new_is (Ok None) gives =

@@ -16,8 +16,8 @@ use Rattle.std.proofs.Common.{
 }
 use Rattle.lr_disk.specs.declared.disk.Disk.{Ghosts as DiskOf}
 use Rattle.lr_shelf_format.specs.declared.stored.Stored.{Stored}
-use Rattle.lr_shelf.specs.Calls.{IsCounted}
-use Rattle.lr_shelf.specs.Kept.{Kept}
+use Rattle.lr_shelf.specs.Calls.{IsFaultCounted}
+use Rattle.lr_shelf.specs.Kept.{KeptShelf}
 use Rattle.lr_shelf.specs.Read.{IsGetRefusal}
 use Rattle.lr_shelf.specs.declared.error.ShelfError.{ShelfError}
 use Rattle.lr_shelf.specs.declared.error.ShelfError.TheVariants.{
@@ -33,13 +33,13 @@ use Rattle.lr_shelf.specs.declared.error.ShelfError.TheVariants.{
 }
 use Rattle.lr_refusals.specs.Errors.{cause_of}
 use Rattle.lr_causes.specs.declared.cause.Refusal.TheVariants.{NotAShelf}
-use Rattle.lr_commands.specs.Asked.{Wrong}
+use Rattle.lr_commands.specs.Queries.{Wrong}
 use Rattle.lr_rendering.specs.Contents.{ReadStops}
 
-pub content_stops : {D : Type 0} (disk : DiskOf D) (kept : Kept) (number : ℕ) (d d' : D) → kept.failed ≡ false
+pub content_stops : {D : Type 0} (disk : DiskOf D) (kept : KeptShelf) (number : ℕ) (d d' : D) → kept.failed ≡ false
     → number < length kept.way.entries → (error : ShelfError) → (error ≡ Discarded → ⊥)
     → IsGetRefusal disk kept number d error
-    → IsCounted {A = Stored} (disk.faults d) (disk.faults d') (Err error)
+    → IsFaultCounted {A = Stored} (disk.faults d) (disk.faults d') (Err error)
     → ReadStops disk kept.way number (cause_of error) d d'
 content_stops disk kept number d d' works there Disk stays refusal counted = counted.1
 content_stops disk kept number d d' works there (NotAShelf' at) stays refusal counted = (

@@ -28,9 +28,9 @@ use Rattle.lr_shelf_format.specs.Way.{Way}
 use Rattle.lr_shelf_format.specs.declared.stored.Stored.{Stored}
 use Rattle.lr_causes.specs.Puts.{Puts}
 use Rattle.lr_commands.specs.declared.opened.Opened.{Opened}
-use Rattle.lr_commands.specs.Asked.{Absent, Seen, Whole}
+use Rattle.lr_commands.specs.Queries.{Absent, EntryView, Whole}
 use Rattle.lr_commands.specs.Files.{files_of}
-use Rattle.lr_commands.specs.Render.{image_text, images_in, is_image, render_asked, skipped_in}
+use Rattle.lr_commands.specs.Render.{image_text, images_in, is_image, render_query, skipped_in}
 use Rattle.lr_commands.proofs.Filing.{files_of-absent, files_of-whole}
 use Rattle.lr_commands.proofs.Taking.{so_more}
 use Rattle.lr_rendering.specs.Leading.{
@@ -40,7 +40,7 @@ use Rattle.lr_rendering.specs.Leading.{
   IsTally,
   Pending,
   Settles,
-  StandsAt,
+  AheadStandsAt,
   Vacant,
   count_in,
   imageless_in,
@@ -48,7 +48,7 @@ use Rattle.lr_rendering.specs.Leading.{
   way_in,
 }
 use Rattle.lr_rendering.specs.Outcomes.{tally_with}
-use Rattle.lr_rendering.specs.declared.lead.RenderLead.{RenderLead}
+use Rattle.lr_rendering.specs.declared.render_source.RenderSource.{RenderSource}
 use Rattle.lr_rendering.specs.declared.tally.Tally.{Tally}
 
 -- ---- counts
@@ -64,14 +64,14 @@ skipped-push : (files : List Opened) (opened : Opened)
     → skipped_in (files ++ opened ∷ []) ≡ skipped_in files + cond (not (is_image opened.image)) 1 0
 skipped-push files opened = sum_by_push (λ (o : Opened). cond (not (is_image o.image)) 1 0) files opened
 
-tally_vacant : (rest : List Ahead) (tally : Tally) (read : List Seen) → IsTally (Vacant ∷ rest) tally read
+tally_vacant : (rest : List Ahead) (tally : Tally) (read : List EntryView) → IsTally (Vacant ∷ rest) tally read
     → IsTally rest tally (read ++ Absent ∷ [])
 tally_vacant rest tally read is = record {
   images = is.images ∙ ap images_in (sym (files_of-absent read));
   skipped = is.skipped ∙ ap (λ (l : List Opened). skipped_in l + imageless_in rest) (sym (files_of-absent read));
 }
 
-tally_imageless : (stored : Stored) (fault : ImageFault) (rest : List Ahead) (tally : Tally) (read : List Seen)
+tally_imageless : (stored : Stored) (fault : ImageFault) (rest : List Ahead) (tally : Tally) (read : List EntryView)
     → IsTally (Imageless stored fault ∷ rest) tally read
     → IsTally rest tally (read ++ Whole (opened_with stored (Err fault)) ∷ [])
 tally_imageless stored fault rest tally read is =
@@ -92,7 +92,7 @@ tally_imageless stored fault rest tally read is =
     }
 
 tally_pending : (stored : Stored) (outcome : Result Picture ImageFault) (rest : List Ahead) (tally : Tally)
-    (read : List Seen) → IsTally (Pending stored ∷ rest) tally read
+    (read : List EntryView) → IsTally (Pending stored ∷ rest) tally read
     → IsTally rest (tally_with outcome tally) (read ++ Whole (opened_with stored outcome) ∷ [])
 tally_pending stored (Ok picture) rest tally read is =
     let opened = opened_with stored (Ok picture) in
@@ -129,7 +129,7 @@ tally_pending stored (Err fault) rest tally read is =
 
 -- ---- the entries ahead
 
-module _ {D O : Type 0} (disk : DiskOf D) (out : SinkOf O) (start : RenderLead D O) where
+module _ {D O : Type 0} (disk : DiskOf D) (out : SinkOf O) (start : RenderSource D O) where
   abbrev way : Way
   way = way_in start
 
@@ -141,9 +141,9 @@ module _ {D O : Type 0} (disk : DiskOf D) (out : SinkOf O) (start : RenderLead D
 
   module _ (number : ℕ) (more : number < count_in start) (o : O) where
     vacant : (rest : List Ahead) (tally : Tally) → Settles disk out start (Vacant ∷ rest) tally number o
-        → StandsAt disk way d number Vacant → Settles disk out start rest tally (number + 1) o
+        → AheadStandsAt disk way d number Vacant → Settles disk out start rest tally (number + 1) o
     vacant rest tally so stands =
-        so_more disk out render_asked way (record { from = 0; to = count_in start }) d start.out.now
+        so_more disk out render_query way (record { from = 0; to = count_in start }) d start.out.now
         (IsTally (Vacant ∷ rest) tally) number o o so more d (λ t. t) (λ t. refl) (IsTally rest tally) d (record {
           seen = Absent;
           stands = stands;
@@ -153,9 +153,9 @@ module _ {D O : Type 0} (disk : DiskOf D) (out : SinkOf O) (start : RenderLead D
 
     imageless : (stored : Stored) (fault : ImageFault) (rest : List Ahead) (tally : Tally)
         → Settles disk out start (Imageless stored fault ∷ rest) tally number o
-        → StandsAt disk way d number (Imageless stored fault) → Settles disk out start rest tally (number + 1) o
+        → AheadStandsAt disk way d number (Imageless stored fault) → Settles disk out start rest tally (number + 1) o
     imageless stored fault rest tally so stands =
-        so_more disk out render_asked way (record { from = 0; to = count_in start }) d start.out.now
+        so_more disk out render_query way (record { from = 0; to = count_in start }) d start.out.now
         (IsTally (Imageless stored fault ∷ rest) tally) number o o so more d (λ t. t) (λ t. refl)
         (IsTally rest tally) d (record {
           seen = Whole (opened_with stored (Err fault));
@@ -167,11 +167,11 @@ module _ {D O : Type 0} (disk : DiskOf D) (out : SinkOf O) (start : RenderLead D
     -- the image at the entry was put, if there is one
     pub pending : (stored : Stored) (outcome : Result Picture ImageFault) (rest : List Ahead) (tally : Tally) (o' : O)
         → Settles disk out start (Pending stored ∷ rest) tally number o
-        → StandsAt disk way d number (Pending stored) → HasOutcome stored.file outcome
+        → AheadStandsAt disk way d number (Pending stored) → HasOutcome stored.file outcome
         → Puts out (image_text (Some outcome)) o o'
         → Settles disk out start rest (tally_with outcome tally) (number + 1) o'
     pending stored outcome rest tally o' so stands has puts =
-        so_more disk out render_asked way (record { from = 0; to = count_in start }) d start.out.now
+        so_more disk out render_query way (record { from = 0; to = count_in start }) d start.out.now
         (IsTally (Pending stored ∷ rest) tally) number o o' so more d (λ t. t) (λ t. refl)
         (IsTally rest (tally_with outcome tally)) d (record {
           seen = Whole (opened_with stored outcome);
@@ -188,7 +188,7 @@ module _ {D O : Type 0} (disk : DiskOf D) (out : SinkOf O) (start : RenderLead D
     pub rest : List Ahead
     pub file_is : stored.file ≡ file
     pub files_are : pending_in rest ≡ files
-    pub stands : StandsAt disk way d number (Pending stored)
+    pub stands : AheadStandsAt disk way d number (Pending stored)
     pub are_ahead : AreAhead disk way d (number + 1) rest
     pub reached : number + 1 + length rest ≡ end
     pub settles : Settles disk out start (Pending stored ∷ rest) tally number o

@@ -11,8 +11,8 @@ use Rattle.lr_causes.specs.declared.cause.Cause.{Cause}
 use Rattle.lr_causes.specs.declared.cause.Cause.TheVariants.{Failed, NoMemory, Refused}
 use Rattle.lr_causes.specs.declared.cause.Party.TheVariants.{Disk}
 use Rattle.lr_causes.specs.declared.cause.Refusal.{Refusal}
-use Rattle.lr_commands.specs.Asked.{IsSeen, Seen, entry_at, fate_of}
-use Rattle.lr_commands.specs.Render.{render_asked}
+use Rattle.lr_commands.specs.Queries.{IsSeen, EntryView, entry_at, fate_of}
+use Rattle.lr_commands.specs.Render.{render_query}
 use Rattle.lr_rendering.specs.declared.content.Content.{Content}
 use Rattle.lr_rendering.specs.declared.content.Content.TheVariants.{Gone as AGone, NoImage, Image}
 
@@ -24,8 +24,8 @@ IsContentOf stored (Image plan) = IsNewPlan stored.file plan
 
 module _ {D : Type 0} (disk : DiskOf D) (way : Way) (number : ℕ) where
   -- this file stands there
-  abbrev pub FindsFile : D → Stored → Type 0
-  FindsFile d stored = disk.tells d → IsFound (disk.contents d) (entry_at way number) (Some (Sound stored))
+  abbrev pub ReadsFile : D → Stored → Type 0
+  ReadsFile d stored = disk.tells d → IsFound (disk.contents d) (entry_at way number) (Some (Sound stored))
 
   -- nothing does any more
   abbrev pub FindsGone : D → Type 0
@@ -34,14 +34,14 @@ module _ {D : Type 0} (disk : DiskOf D) (way : Way) (number : ℕ) where
   -- what stands there holds this
   abbrev pub IsContent : D → Content → Type 0
   IsContent d AGone = FindsGone d
-  IsContent d NoImage = (stored : Stored) × FindsFile d stored × IsContentOf stored NoImage
-  IsContent d (Image plan) = (stored : Stored) × FindsFile d stored × IsContentOf stored (Image plan)
+  IsContent d NoImage = (stored : Stored) × ReadsFile d stored × IsContentOf stored NoImage
+  IsContent d (Image plan) = (stored : Stored) × ReadsFile d stored × IsContentOf stored (Image plan)
 
   -- what stands there is refused
   pub record IsRefusedAt (d : D) (refusal : Refusal) : Type 0 where
-    pub seen : Option Seen
-    pub stands : disk.tells d → IsSeen render_asked.looks (disk.contents d) (entry_at way number) seen
-    pub fate : (read : List Seen) → fate_of render_asked way read number seen ≡ Err refusal
+    pub seen : Option EntryView
+    pub stands : disk.tells d → IsSeen render_query.looks (disk.contents d) (entry_at way number) seen
+    pub fate : (read : List EntryView) → fate_of render_query way read number seen ≡ Err refusal
 
   -- why the entry was not read
   abbrev pub ReadStops : Cause → D → D → Type 0

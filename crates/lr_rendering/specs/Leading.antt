@@ -30,13 +30,13 @@ use Rattle.lr_shelf_format.specs.declared.stored.Stored.{Stored}
 use Rattle.lr_shelf.specs.Kept.{kept_by}
 use Rattle.lr_causes.specs.declared.cause.Cause.{Cause}
 use Rattle.lr_causes.specs.declared.cause.Refusal.{Refusal}
-use Rattle.lr_commands.specs.Asked.{Seen}
+use Rattle.lr_commands.specs.Queries.{EntryView}
 use Rattle.lr_commands.specs.Files.{files_of}
 use Rattle.lr_causes.specs.Outside.{outlets, outlets_of}
 use Rattle.lr_commands.specs.Reached.{SoFar}
-use Rattle.lr_commands.specs.Render.{images_in, render_asked, skipped_in}
+use Rattle.lr_commands.specs.Render.{images_in, render_query, skipped_in}
 use Rattle.lr_commands.specs.Runs.{RunsOn}
-use Rattle.lr_rendering.specs.Contents.{FindsFile, FindsGone, IsRefusedAt}
+use Rattle.lr_rendering.specs.Contents.{ReadsFile, FindsGone, IsRefusedAt}
 use Rattle.lr_rendering.specs.Queues.{
   AllGiven,
   EachUnderWay,
@@ -49,7 +49,7 @@ use Rattle.lr_rendering.specs.Queues.{
 }
 use Rattle.lr_rendering.specs.declared.content.Content.{Content}
 use Rattle.lr_rendering.specs.declared.content.Content.TheVariants.{Gone, NoImage, Image}
-use Rattle.lr_rendering.specs.declared.lead.RenderLead.{RenderLead}
+use Rattle.lr_rendering.specs.declared.render_source.RenderSource.{RenderSource}
 use Rattle.lr_rendering.specs.declared.tally.Tally.{Tally}
 use Rattle.lr_rendering.specs.declared.under_way.UnderWay.{UnderWay}
 
@@ -78,15 +78,15 @@ imageless_in (Pending stored ∷ ahead) = imageless_in ahead
 
 module _ {D : Type 0} (disk : DiskOf D) (way : Way) (d : D) where
   -- this stands at the entry of this number
-  abbrev pub StandsAt : ℕ → Ahead → Type 0
-  StandsAt number Vacant = FindsGone disk way number d
-  StandsAt number (Imageless stored fault) = FindsFile disk way number d stored × HasImageFault stored.file fault
-  StandsAt number (Pending stored) = FindsFile disk way number d stored
+  abbrev pub AheadStandsAt : ℕ → Ahead → Type 0
+  AheadStandsAt number Vacant = FindsGone disk way number d
+  AheadStandsAt number (Imageless stored fault) = ReadsFile disk way number d stored × HasImageFault stored.file fault
+  AheadStandsAt number (Pending stored) = ReadsFile disk way number d stored
 
   -- these stand at the entries from this number on
   abbrev pub AreAhead : ℕ → List Ahead → Type 0
   AreAhead number [] = Unit {0}
-  AreAhead number (one ∷ ahead) = StandsAt number one × AreAhead (number + 1) ahead
+  AreAhead number (one ∷ ahead) = AheadStandsAt number one × AreAhead (number + 1) ahead
 
   -- what waits to be refused is refused at the entry of this number
   abbrev pub MayWait : (count number : ℕ) → Option Refusal → Type 0
@@ -94,12 +94,12 @@ module _ {D : Type 0} (disk : DiskOf D) (way : Way) (d : D) where
   MayWait count number (Some refusal) = (number < count) × IsRefusedAt disk way number d refusal
 
 -- what was counted of the settled entries, and of those ahead
-pub record IsTally (ahead : List Ahead) (tally : Tally) (read : List Seen) : Type 0 where
+pub record IsTally (ahead : List Ahead) (tally : Tally) (read : List EntryView) : Type 0 where
   pub images : tally.images ≡ images_in (files_of read)
   pub skipped : tally.skipped ≡ skipped_in (files_of read) + imageless_in ahead
 
 -- these jobs were given, and what came of the first of them kept; the others are the strips that wait
-pub record HasJobs (jobs : List StripSource) (kept next : ℕ) (ahead : List Ahead) (images : List UnderWay)
+pub record HasStripJobs (jobs : List StripSource) (kept next : ℕ) (ahead : List Ahead) (images : List UnderWay)
     : Type 0 where
   pub each : EachUnderWay images
   pub only_last : OnlyLastGives images
@@ -108,40 +108,40 @@ pub record HasJobs (jobs : List StripSource) (kept next : ℕ) (ahead : List Ahe
   pub waiting : drop kept jobs ≡ all_waiting images
   pub few : length jobs + all_left images ≤ 65535 * next
 
--- ---- the lead
+-- ---- the job source
 
 abbrev pub refusals_left : Option Refusal → ℕ
 refusals_left None = 1
 refusals_left (Some refusal) = 0
 
 module _ {D O : Type 0} where
-  abbrev pub way_in : RenderLead D O → Way
-  way_in lead = (kept_by lead.shelf).way
+  abbrev pub way_in : RenderSource D O → Way
+  way_in source = (kept_by source.shelf).way
 
   -- how many entries there are
-  abbrev pub count_in : RenderLead D O → ℕ
-  count_in lead = length (way_in lead).entries
+  abbrev pub count_in : RenderSource D O → ℕ
+  count_in source = length (way_in source).entries
 
-  abbrev pub images_under_way : RenderLead D O → List UnderWay
-  images_under_way lead = lead.queue.images.items
+  abbrev pub images_under_way : RenderSource D O → List UnderWay
+  images_under_way source = source.queue.images.items
 
   -- no more strips than this are to come
-  abbrev pub jobs_left : RenderLead D O → ℕ
-  jobs_left lead = 65536 * (count_in lead - lead.next) + all_left (images_under_way lead)
+  abbrev pub jobs_left : RenderSource D O → ℕ
+  jobs_left source = 65536 * (count_in source - source.next) + all_left (images_under_way source)
 
   -- all strips of the images under way were given, and no further entry is to be read, since all were or since a
   -- refusal waits for the images under way
-  pub record IsOver (lead : RenderLead D O) : Type 0 where
-    pub given : AllGiven (images_under_way lead)
-    pub all : lead.refusal ≡ None → count_in lead ≤ lead.next
-    pub waits : (refusal : Refusal) → lead.refusal ≡ Some refusal → images_under_way lead ≡ [] → ⊥
+  pub record IsRenderOver (source : RenderSource D O) : Type 0 where
+    pub given : AllGiven (images_under_way source)
+    pub all : source.refusal ≡ None → count_in source ≤ source.next
+    pub waits : (refusal : Refusal) → source.refusal ≡ Some refusal → images_under_way source ≡ [] → ⊥
 
   -- how many entries are to be read, and one more where none was refused
-  abbrev pub reads_left : RenderLead D O → ℕ
-  reads_left lead = count_in lead - lead.next + refusals_left lead.refusal
+  abbrev pub reads_left : RenderSource D O → ℕ
+  reads_left source = count_in source - source.next + refusals_left source.refusal
 
-  -- the lead is as it was, but for the images under way, and what was put and counted
-  pub record IsSameBut (old new : RenderLead D O) : Type 0 where
+  -- the job source is as it was, but for the images under way, and what was put and counted
+  pub record IsSameBut (old new : RenderSource D O) : Type 0 where
     pub disk : new.disk ≡ old.disk
     pub out : new.out.ghost_name ≡ old.out.ghost_name
     pub shelf : new.shelf ≡ old.shelf
@@ -150,13 +150,13 @@ module _ {D O : Type 0} where
     pub room : deque_capacity new.queue.images ≡ deque_capacity old.queue.images
 
   -- images were put that gave no strips any more
-  pub record PutsImages (old new : RenderLead D O) : Type 0 where
+  pub record PutsImages (old new : RenderSource D O) : Type 0 where
     pub same : IsSameBut old new
     pub left : all_left (images_under_way new) ≤ all_left (images_under_way old)
     pub given : AllGiven (images_under_way old) → AllGiven (images_under_way new)
 
   -- what an entry holds was counted, or its image joined those under way
-  abbrev pub IsContentTaken : Content → RenderLead D O → RenderLead D O → Type 0
+  abbrev pub IsContentTaken : Content → RenderSource D O → RenderSource D O → Type 0
   IsContentTaken Gone old new = (new.tally ≡ old.tally) × (images_under_way new ≡ images_under_way old)
   IsContentTaken NoImage old new =
       (new.tally ≡ record { images = old.tally.images; skipped = old.tally.skipped + 1 })
@@ -165,7 +165,7 @@ module _ {D O : Type 0} where
       (new.tally ≡ old.tally) × (images_under_way new ≡ images_under_way old ++ image_of plan ∷ [])
 
   -- the next entry holds this
-  pub record TakesIn (content : Content) (old new : RenderLead D O) : Type 0 where
+  pub record TakesIn (content : Content) (old new : RenderSource D O) : Type 0 where
     pub disk : new.disk ≡ old.disk
     pub out : new.out ≡ old.out
     pub shelf : new.shelf ≡ old.shelf
@@ -175,36 +175,36 @@ module _ {D O : Type 0} where
     pub taken : IsContentTaken content old new
 
   -- an entry was read
-  pub record ReadsOne (old new : RenderLead D O) : Type 0 where
+  pub record ReadsOne (old new : RenderSource D O) : Type 0 where
     pub first : FirstWaits (images_under_way old) → FirstWaits (images_under_way new)
     pub left : jobs_left new ≤ jobs_left old
     pub fewer : reads_left new < reads_left old
 
 module _ {D O : Type 0} (disk : DiskOf D) (out : SinkOf O) where
   -- the shelf works and has few entries
-  pub record MayBeLed (lead : RenderLead D O) : Type 0 where
-    pub working : (kept_by lead.shelf).failed ≡ false
-    pub few : count_in lead < 2 ^ 40
+  pub record MayBeLed (source : RenderSource D O) : Type 0 where
+    pub working : (kept_by source.shelf).failed ≡ false
+    pub few : count_in source < 2 ^ 40
 
   -- the shelf is as it was, and the disk was only read
-  pub record OnlyReads (start now : RenderLead D O) : Type 0 where
+  pub record OnlyReadsDisk (start now : RenderSource D O) : Type 0 where
     pub kept : kept_by now.shelf ≡ kept_by start.shelf
     pub told : disk.tells start.disk.now → disk.tells now.disk.now
     pub unwritten : disk.tells start.disk.now → IsUnwritten disk start.disk.now now.disk.now
     pub faults : disk.faults now.disk.now ≡ disk.faults start.disk.now
 
   -- the entries before this number are settled: the texts of their images were put
-  abbrev pub Settles : RenderLead D O → List Ahead → Tally → ℕ → O → Type 0
+  abbrev pub Settles : RenderSource D O → List Ahead → Tally → ℕ → O → Type 0
   Settles start ahead tally number o =
-      SoFar disk out render_asked (way_in start) (record { from = 0; to = count_in start }) start.disk.now
+      SoFar disk out render_query (way_in start) (record { from = 0; to = count_in start }) start.disk.now
       start.out.now (IsTally ahead tally) number o
 
-  -- the lead was the first one, and has given these jobs and kept what came of the first `kept` of them
-  pub record Goes (start now : RenderLead D O) (jobs : List StripSource) (kept : ℕ) : Type 0 where
+  -- the job source was the first one, and has given these jobs and kept what came of the first `kept` of them
+  pub record RenderGoes (start now : RenderSource D O) (jobs : List StripSource) (kept : ℕ) : Type 0 where
     pub same_disk : now.disk.ghost_name ≡ start.disk.ghost_name
     pub same_out : now.out.ghost_name ≡ start.out.ghost_name
     pub may : MayBeLed start
-    pub reads : OnlyReads start now
+    pub reads : OnlyReadsDisk start now
     pub ahead : List Ahead
     pub settled : ℕ
     pub are_ahead : AreAhead disk (way_in start) start.disk.now settled ahead
@@ -212,18 +212,18 @@ module _ {D O : Type 0} (disk : DiskOf D) (out : SinkOf O) where
     pub inside : now.next ≤ count_in start
     pub settles : Settles start ahead now.tally settled now.out.now
     pub refusal : MayWait disk (way_in start) start.disk.now (count_in start) now.next now.refusal
-    pub has_jobs : HasJobs jobs kept now.next ahead (images_under_way now)
+    pub has_jobs : HasStripJobs jobs kept now.next ahead (images_under_way now)
     pub counted : now.tally.images + now.tally.skipped + length (images_under_way now) ≤ now.next
     pub room : 0 < deque_capacity now.queue.images
 
   -- and its first image isn't complete
-  pub record Stands (start now : RenderLead D O) (jobs : List StripSource) (kept : ℕ) : Type 0 where
-    pub goes : Goes start now jobs kept
+  pub record Stands (start now : RenderSource D O) (jobs : List StripSource) (kept : ℕ) : Type 0 where
+    pub goes : RenderGoes start now jobs kept
     pub first : FirstWaits (images_under_way now)
 
-  -- the lead was the first one, and stopped for this cause
-  pub record StopsFor (start : RenderLead D O) (cause : Cause) (now : RenderLead D O) : Type 0 where
+  -- the job source was the first one, and stopped for this cause
+  pub record StopsFor (start : RenderSource D O) (cause : Cause) (now : RenderSource D O) : Type 0 where
     pub same_disk : now.disk.ghost_name ≡ start.disk.ghost_name
     pub same_out : now.out.ghost_name ≡ start.out.ghost_name
-    pub runs : RunsOn (outlets_of disk out) render_asked (way_in start) cause
+    pub runs : RunsOn (outlets_of disk out) render_query (way_in start) cause
         (outlets start.disk.now start.out.now) (outlets now.disk.now now.out.now)

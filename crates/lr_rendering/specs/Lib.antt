@@ -1,5 +1,5 @@
 pub mod Contents
 pub mod Leading
-pub mod Led
+pub mod Driven
 pub mod Outcomes
 pub mod Queues

@@ -26,7 +26,7 @@ use Rattle.lr_rendering.specs.declared.under_way.UnderWay.{UnderWay}
 -- ---- an image
 
 -- of its strips the first ones were given, and some of these kept; the others of these wait
-pub record IsUnderWay (image : UnderWay) : Type 0 where
+pub record IsImageUnderWay (image : UnderWay) : Type 0 where
   pub waits : image.waiting + image.plan.kept ≡ image.plan.given
   pub within : image.plan.given ≤ length (planned_strips image.plan)
   pub all : image.all_given ≡ true → image.plan.given ≡ length (planned_strips image.plan)
@@ -41,11 +41,11 @@ abbrev pub waiting_in : UnderWay → List StripSource
 waiting_in image = drop image.plan.kept (take image.plan.given (planned_strips image.plan))
 
 -- how many more it gives at most
-abbrev pub left_in : UnderWay → ℕ
-left_in image = cond image.all_given 0 (65535 - image.plan.given)
+abbrev pub strips_left_in : UnderWay → ℕ
+strips_left_in image = cond image.all_given 0 (65535 - image.plan.given)
 
 -- it gave this strip
-pub record GivesOne (old new : UnderWay) (strip : StripSource) : Type 0 where
+pub record QueueGivesOne (old new : UnderWay) (strip : StripSource) : Type 0 where
   pub at : IsStripAt old.plan old.plan.given strip
   pub going : old.all_given ≡ false
   pub is : new ≡ record old {
@@ -55,13 +55,13 @@ pub record GivesOne (old new : UnderWay) (strip : StripSource) : Type 0 where
   pub few : old.plan.given + 1 ≤ 65535
 
 -- it had given all
-pub record GivesNone (old new : UnderWay) : Type 0 where
+pub record QueueGivesNone (old new : UnderWay) : Type 0 where
   pub all : old.plan.given ≡ length (planned_strips old.plan)
   pub is : new ≡ record old { all_given = true }
 
-abbrev pub GivesNext : UnderWay → UnderWay → Option StripSource → Type 0
-GivesNext old new (Some strip) = GivesOne old new strip
-GivesNext old new None = GivesNone old new
+abbrev pub QueueGivesNext : UnderWay → UnderWay → Option StripSource → Type 0
+QueueGivesNext old new (Some strip) = QueueGivesOne old new strip
+QueueGivesNext old new None = QueueGivesNone old new
 
 -- what came of the oldest of its strips that wait was kept
 abbrev pub KeepsOne : UnderWay → UnderWay → Type 0
@@ -72,7 +72,7 @@ KeepsOne old new =
 
 abbrev pub EachUnderWay : List UnderWay → Type 0
 EachUnderWay [] = Unit {0}
-EachUnderWay (image ∷ images) = IsUnderWay image × EachUnderWay images
+EachUnderWay (image ∷ images) = IsImageUnderWay image × EachUnderWay images
 
 abbrev pub AllGiven : List UnderWay → Type 0
 AllGiven [] = Unit {0}
@@ -95,7 +95,7 @@ all_waiting (image ∷ images) = waiting_in image ++ all_waiting images
 
 abbrev pub all_left : List UnderWay → ℕ
 all_left [] = 0
-all_left (image ∷ images) = left_in image + all_left images
+all_left (image ∷ images) = strips_left_in image + all_left images
 
 abbrev pub files_under_way : List UnderWay → List File
 files_under_way [] = []
@@ -111,14 +111,14 @@ pub record LastIs (old new : List UnderWay) (Becomes : UnderWay → UnderWay →
   pub becomes : Becomes last next
 
 abbrev pub LastGives : List UnderWay → List UnderWay → Option StripSource → Type 0
-LastGives old new (Some strip) = LastIs old new (λ last next. GivesOne last next strip)
-LastGives old new None = ((old ≡ []) × (new ≡ [])) ⊎ LastIs old new GivesNone
+LastGives old new (Some strip) = LastIs old new (λ last next. QueueGivesOne last next strip)
+LastGives old new None = ((old ≡ []) × (new ≡ [])) ⊎ LastIs old new QueueGivesNone
 
 -- this is the oldest strip of the first image
 abbrev pub MayKeepFirst : StripSource → List UnderWay → Type 0
 MayKeepFirst strip [] = ⊥
 MayKeepFirst strip (image ∷ images) =
-    IsUnderWay image × (0 < image.waiting) × IsStripAt image.plan image.plan.kept strip
+    IsImageUnderWay image × (0 < image.waiting) × IsStripAt image.plan image.plan.kept strip
 
 -- the first one kept it
 pub record FirstKeeps (old new : List UnderWay) : Type 0 where

@@ -1,16 +1,16 @@
 //! `render`: the images of all files of a shelf, one after another, by all who work.
 //!
-//! A `RenderLead` leads the rounds of `lr_rounds` over the entries of a shelf. It reads the next entry when the image
+//! A `RenderSource` leads the rounds of `lr_rounds` over the entries of a shelf. It reads the next entry when the image
 //! before it has no strip left to give, gives the strips of the images in order, and keeps what comes of them. An image
 //! is put once all its strips were kept, and what an entry is refused for waits until all earlier images were put. So
-//! what is put doesn't depend on how many work. `Leading` in specs/ says what the lead has become by the strips that it
-//! gave and kept. `render_alone` leads on the caller's thread, `render` with a thread for each other worker.
+//! what is put doesn't depend on how many work. `Leading` in specs/ says what the job source has become by the strips
+//! that it gave and kept. `render_alone` leads on the caller's thread, `render` with a thread for each other worker.
 #![tactic(auto)]
 
 mod content;
-mod lead;
 mod outcome;
 mod queue;
+mod render_source;
 mod run;
 mod tally;
 mod under_way;

@@ -1,16 +1,17 @@
 //! `render`: the images of all files.
 ghost use Rattle.std.specs.Prelude.{◌≡◌, ◌<◌, ◌≤◌, ◌-◌, [], false, length, IfOk};
 ghost use Rattle.std.specs.VecDeque.{deque_capacity};
-ghost use Rattle.lr_rounds.specs.Crews.{crew_with};
+ghost use Rattle.lr_rounds.specs.WorkerPools.{pool_with};
 ghost use Rattle.lr_shelf.specs.Kept.{kept_by};
 ghost use Rattle.lr_causes.specs.Outside.{outlets, outlets_of};
-ghost use Rattle.lr_commands.specs.Render.{render_asked};
+ghost use Rattle.lr_commands.specs.Render.{render_query};
+ghost use Rattle.lr_commands.specs.Rendered.{Renders};
 ghost use Rattle.lr_commands.specs.Runs.{RunsOn, RunsOver};
 ghost use Rattle.lr_rendering.specs.Leading.{Stands};
-ghost use Rattle.lr_rendering.specs.Led.{ComesTo, IsFresh, Leads, MayLead};
+ghost use Rattle.lr_rendering.specs.Driven.{RenderComesTo, IsFreshQueue, Drives, MayDrive};
 
-use crate::lead::RenderLead;
 use crate::queue::Queue;
+use crate::render_source::RenderSource;
 use crate::tally::Tally;
 use lr_bits::{NoMemory, take_back};
 use lr_causes::{Cause, Note};
@@ -19,7 +20,7 @@ use lr_gatecore::MOST_SEATS;
 use lr_io::Sink;
 use lr_refusals::shelf_cause;
 use lr_render::RenderWork;
-use lr_rounds::{Crew, Unled, lead_alone, lead_by_all};
+use lr_rounds::{DriveFault, WorkerPool, drive, drive_alone};
 use lr_shelf::Shelf;
 use std::alloc::Global;
 use std::sync::Wait;
@@ -31,71 +32,71 @@ const MOST_ENTRIES: u64 = 1_099_511_627_776;
 
 /// Who works, and room for the images under way.
 #[derive(Drop)]
-struct Desk {
-    crew: Crew<RenderWork>,
+struct RenderParts {
+    pool: WorkerPool<RenderWork>,
     queue: Queue,
 }
 
-impl Desk {
+impl RenderParts {
     /// All memory that is taken at opening. This many work, the caller among them.
-    fn new(alloc: Global, workers: u32) -> Result<Desk, NoMemory>
+    fn new(alloc: Global, workers: u32) -> Result<RenderParts, NoMemory>
         requires { (1 ≤ workers) × (workers ≤ MOST_SEATS) }
-        ensures crew { IfOk result (λ desk. desk.crew ≡ crew_with (workers - 1)) }
-        ensures fresh { IfOk result (λ desk. IsFresh desk.queue) }
+        ensures pool { IfOk result (λ parts. parts.pool ≡ pool_with (workers - 1)) }
+        ensures fresh { IfOk result (λ parts. IsFreshQueue parts.queue) }
     {
         let works = Vec::from_elem(alloc, RenderWork::new(), (workers - 1) as usize)?;
-        let crew = Crew::new(alloc, works, RenderWork::new())?;
+        let pool = WorkerPool::new(alloc, works, RenderWork::new())?;
         let queue = Queue::new(alloc, 2 * workers as usize + 2)?;
-        Ok(Desk { crew, queue })
+        Ok(RenderParts { pool, queue })
     }
 }
 
-/// Leads the crew through the entries on the caller's thread.
+/// Leads the pool through the entries on the caller's thread.
 fn go_alone<D: Disk, O: Sink>(
-    crew: Crew<RenderWork>,
-    entries: &mut RenderLead<'_, '_, D, O>,
+    pool: WorkerPool<RenderWork>,
+    entries: &mut RenderSource<'_, '_, D, O>,
 ) -> Result<(), Cause>
-    requires alone { crew.seats ≡ 0 }
+    requires alone { pool.seats ≡ 0 }
     requires begins { Stands D.Disk O.Sink entries.old entries.old [] 0 }
-    ensures { ComesTo D.Disk O.Sink result entries.old entries.new }
+    ensures { RenderComesTo D.Disk O.Sink result entries.old entries.new }
 {
-    lead_alone(crew, entries)
+    drive_alone(pool, entries)
 }
 
-/// Leads all of the crew through the entries.
+/// Leads all of the pool through the entries.
 fn go_by_all<R: Threads + Wait + Sync, D: Disk, O: Sink>(
     rt: &R,
-    crew: Crew<RenderWork>,
-    entries: &mut RenderLead<'_, '_, D, O>,
+    pool: WorkerPool<RenderWork>,
+    entries: &mut RenderSource<'_, '_, D, O>,
 ) -> Result<(), Cause>
     requires { Stands D.Disk O.Sink entries.old entries.old [] 0 }
-    ensures { ComesTo D.Disk O.Sink result entries.old entries.new }
+    ensures { RenderComesTo D.Disk O.Sink result entries.old entries.new }
 {
-    match lead_by_all(rt, crew, entries) {
+    match drive(rt, pool, entries) {
         Ok(()) => Ok(()),
-        Err(Unled::Stopped(cause)) => Err(cause),
-        Err(Unled::NoMemory) => Err(Cause::NoMemory),
+        Err(DriveFault::Stopped(cause)) => Err(cause),
+        Err(DriveFault::NoMemory) => Err(Cause::NoMemory),
     }
 }
 
-/// Puts the images of a shelf that was loaded, as the call `lead` leads the crew.
+/// Puts the images of a shelf that was loaded, as the call `go` leads the pool.
 fn render_entries<
     D: Disk,
     O: Sink,
-    F: FnOnce(Crew<RenderWork>, &mut RenderLead<'_, '_, D, O>) -> Result<(), Cause>,
->(alloc: Global, desk: Desk, shelf: Shelf, disk: &mut D, out: &mut O, lead: F) -> Cause
+    F: FnOnce(WorkerPool<RenderWork>, &mut RenderSource<'_, '_, D, O>) -> Result<(), Cause>,
+>(alloc: Global, parts: RenderParts, shelf: Shelf, disk: &mut D, out: &mut O, go: F) -> Cause
     requires working { (kept_by shelf).failed ≡ false }
-    requires fresh { IsFresh desk.queue }
-    requires ready { MayLead D.Disk O.Sink (F.pre lead) desk.crew }
-    requires leads { Leads D.Disk O.Sink (F.post lead) }
-    ensures { RunsOn (outlets_of D.Disk O.Sink) render_asked (kept_by shelf).way result
+    requires fresh { IsFreshQueue parts.queue }
+    requires ready { MayDrive D.Disk O.Sink (F.pre go) parts.pool }
+    requires drives { Drives D.Disk O.Sink (F.post go) }
+    ensures { RunsOn (outlets_of D.Disk O.Sink) render_query (kept_by shelf).way result
         (outlets disk.old out.old) (outlets disk.new out.new) }
 {
     if shelf.len() >= MOST_ENTRIES {
         return Cause::NoMemory;
     }
-    let Desk { crew, queue } = desk;
-    let mut entries = RenderLead {
+    let RenderParts { pool, queue } = parts;
+    let mut entries = RenderSource {
         alloc,
         shelf,
         disk,
@@ -108,8 +109,8 @@ fn render_entries<
         },
         refusal: None,
     };
-    let led = lead(crew, &mut entries);
-    let RenderLead {
+    let driven = go(pool, &mut entries);
+    let RenderSource {
         shelf: _shelf,
         queue: _queue,
         disk,
@@ -119,7 +120,7 @@ fn render_entries<
     } = entries;
     take_back(disk);
     take_back(out);
-    match led {
+    match driven {
         Ok(()) => Cause::DoneWith(Note::Rendered {
             images: tally.images,
             skipped: tally.skipped,
@@ -128,33 +129,35 @@ fn render_entries<
     }
 }
 
-/// Loads the shelf and puts its images, where this many work, as the call `lead` leads them.
+/// Loads the shelf and puts its images, where this many work, as the call `go` leads them.
 fn render_with<
     D: Disk,
     O: Sink,
-    F: FnOnce(Crew<RenderWork>, &mut RenderLead<'_, '_, D, O>) -> Result<(), Cause>,
->(alloc: Global, workers: u32, disk: &mut D, out: &mut O, lead: F) -> Cause
+    F: FnOnce(WorkerPool<RenderWork>, &mut RenderSource<'_, '_, D, O>) -> Result<(), Cause>,
+>(alloc: Global, workers: u32, disk: &mut D, out: &mut O, go: F) -> Cause
     requires workers { (1 ≤ workers) × (workers ≤ MOST_SEATS) }
-    requires ready { MayLead D.Disk O.Sink (F.pre lead) (crew_with (workers - 1)) }
-    requires leads { Leads D.Disk O.Sink (F.post lead) }
-    ensures { RunsOver (outlets_of D.Disk O.Sink) render_asked result
+    requires ready { MayDrive D.Disk O.Sink (F.pre go) (pool_with (workers - 1)) }
+    requires drives { Drives D.Disk O.Sink (F.post go) }
+    ensures { RunsOver (outlets_of D.Disk O.Sink) render_query result
         (outlets disk.old out.old) (outlets disk.new out.new) }
 {
-    let desk = match Desk::new(alloc, workers) {
-        Ok(desk) => desk,
+    let parts = match RenderParts::new(alloc, workers) {
+        Ok(parts) => parts,
         Err(error) => return Cause::from(error),
     };
     let shelf = match Shelf::load(alloc, disk) {
         Ok(shelf) => shelf,
         Err(error) => return shelf_cause(error),
     };
-    render_entries(alloc, desk, shelf, disk, out, lead)
+    render_entries(alloc, parts, shelf, disk, out, go)
 }
 
 /// Puts the image of each file that has one as PGM, in the order of the entries, each once all of it was read. Where
 /// that is done it tells how many there were, and how many files were skipped. All is done on the caller's thread.
 pub fn render_alone<D: Disk, O: Sink>(alloc: Global, disk: &mut D, out: &mut O) -> Cause
-    ensures { RunsOver (outlets_of D.Disk O.Sink) render_asked result
+    ensures runs { RunsOver (outlets_of D.Disk O.Sink) render_query result
+        (outlets disk.old out.old) (outlets disk.new out.new) }
+    ensures rendered { Renders (outlets_of D.Disk O.Sink) result
         (outlets disk.old out.old) (outlets disk.new out.new) }
 {
     render_with(
@@ -162,10 +165,10 @@ pub fn render_alone<D: Disk, O: Sink>(alloc: Global, disk: &mut D, out: &mut O) 
         1,
         disk,
         out,
-        |crew, entries| -> Result<(), Cause>
-            requires { (crew.seats ≡ 0) × Stands D.Disk O.Sink entries.old entries.old [] 0 }
-            ensures { ComesTo D.Disk O.Sink result entries.old entries.new }
-        { go_alone(crew, entries) },
+        |pool, entries| -> Result<(), Cause>
+            requires { (pool.seats ≡ 0) × Stands D.Disk O.Sink entries.old entries.old [] 0 }
+            ensures { RenderComesTo D.Disk O.Sink result entries.old entries.new }
+        { go_alone(pool, entries) },
     )
 }
 
@@ -179,7 +182,9 @@ pub fn render<R: Threads + Wait + Sync, D: Disk, O: Sink>(
     out: &mut O,
 ) -> Cause
     requires { (1 ≤ workers) × (workers ≤ MOST_SEATS) }
-    ensures { RunsOver (outlets_of D.Disk O.Sink) render_asked result
+    ensures runs { RunsOver (outlets_of D.Disk O.Sink) render_query result
+        (outlets disk.old out.old) (outlets disk.new out.new) }
+    ensures rendered { Renders (outlets_of D.Disk O.Sink) result
         (outlets disk.old out.old) (outlets disk.new out.new) }
 {
     render_with(
@@ -187,9 +192,9 @@ pub fn render<R: Threads + Wait + Sync, D: Disk, O: Sink>(
         workers,
         disk,
         out,
-        |crew, entries| -> Result<(), Cause>
+        |pool, entries| -> Result<(), Cause>
             requires { Stands D.Disk O.Sink entries.old entries.old [] 0 }
-            ensures { ComesTo D.Disk O.Sink result entries.old entries.new }
-        { go_by_all(rt, crew, entries) },
+            ensures { RenderComesTo D.Disk O.Sink result entries.old entries.new }
+        { go_by_all(rt, pool, entries) },
     )
 }

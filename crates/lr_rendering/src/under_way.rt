@@ -1,7 +1,7 @@
 //! An image under way.
 ghost use Rattle.std.specs.Prelude.{◌≡◌, ◌<◌, ◌↔◌, true, IfOk, IsTrue, OnErr, OnOk};
 ghost use Rattle.lr_render.specs.Plans.{IsStripAt};
-ghost use Rattle.lr_rendering.specs.Queues.{GivesNext, IsUnderWay, KeepsOne};
+ghost use Rattle.lr_rendering.specs.Queues.{QueueGivesNext, IsImageUnderWay, KeepsOne};
 
 use lr_bits::NoMemory;
 use lr_render::{DoneStrip, Plan, Strip};
@@ -19,8 +19,8 @@ pub(crate) struct UnderWay {
 impl UnderWay {
     /// Its next strip, if one is left.
     pub fn next_strip(&mut self) -> Result<Option<Strip>, NoMemory>
-        requires { IsUnderWay self.old }
-        ensures gives { IfOk result (GivesNext self.old self.new) }
+        requires { IsImageUnderWay self.old }
+        ensures gives { IfOk result (QueueGivesNext self.old self.new) }
         ensures refused { OnErr result (self.new ≡ self.old) }
     {
         if self.all_given {
@@ -37,7 +37,7 @@ impl UnderWay {
 
     /// Keeps what came of the oldest of its strips that wait.
     pub fn keep(&mut self, strip: DoneStrip) -> Result<(), NoMemory>
-        requires is { IsUnderWay self.old }
+        requires is { IsImageUnderWay self.old }
         requires waits { 0 < self.old.waiting }
         requires oldest { IsStripAt self.old.plan self.old.plan.kept strip }
         ensures kept { OnOk result (KeepsOne self.old self.new) }

@@ -7,8 +7,7 @@ use Rattle.std.specs.List.{flat_map}
 use Rattle.std.proofs.Math.Nat.{le-mul_of_pos_right}
 use Rattle.std.proofs.lemmas.Bool.{cases_lt}
 use Rattle.std.proofs.lemmas.List.{append_assoc, append-nil, drop_more, drop-drop, get_or-drop, get_or-take}
-use Rattle.std.proofs.lemmas.List.{take-append-drop, get_or_default, get_or-set_same, get_or-set_other}
-use Rattle.std.proofs.lemmas.List.{length-take-le}
+use Rattle.std.proofs.lemmas.List.{take-append-drop, get_or_default, get_or-set_same, get_or-set_other, length-take-le}
 use Rattle.std.proofs.lemmas.List.Concat.{flat_map-append}
 use Rattle.std.proofs.lemmas.Nat.{pow_pos, shr_split, mod_below}
 use Rattle.std.proofs.lemmas.Nat.Bits.{bit_at_cat_low}

@@ -1,4 +1,5 @@
 pub mod BlockLemmas
+pub mod EachString
 pub mod ItemLemmas
 pub mod LineLemmas
 pub mod LinesLemmas

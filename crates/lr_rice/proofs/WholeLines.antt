@@ -1,7 +1,6 @@
 -- How many samples coded lines have, and how great these are.
 use Rattle.std.proofs.Common.{◌≡◌, ◌≤◌, ◌+◌, ◌*◌, ℕ, zero, suc, List, [], ◌∷◌, length, All, refl, sym, ap, ◌∙◌, subst}
-use Rattle.std.proofs.Common.{arith}
-use Rattle.std.proofs.Common.{length-append}
+use Rattle.std.proofs.Common.{arith, length-append}
 use Rattle.std.proofs.lemmas.List.{length-take-le}
 use Rattle.std.proofs.lemmas.List.Elements.{All-append, All-take}
 use Rattle.lr_rice.specs.CodedLines.{Form, HaveValues, IsLine, block_count, greatest, values_from}

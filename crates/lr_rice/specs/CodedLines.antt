@@ -24,7 +24,7 @@ greatest bits = 2 ^ bits - 1
 abbrev pub block_count : Form → ℕ
 block_count form = (form.columns + form.block - 1) / form.block
 
--- the blocks of a segment, which a run of zero blocks never passes (CCSDS 121.0-B, section 3.3.2)
+-- the blocks of a segment, which a run of zero blocks never passes (CCSDS 121.0-B)
 abbrev pub segment_blocks : ℕ
 segment_blocks = 64
 

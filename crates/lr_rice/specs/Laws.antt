@@ -1,5 +1,5 @@
 -- What is said of all codings of lines.
-use Rattle.std.specs.Prelude.{◌≡◌, ◌≤◌, ℕ, ◌*◌, ◌%◌, All, List, ◌++◌, length}
+use Rattle.std.specs.Prelude.{◌≡◌, ◌⊎◌, ◌<◌, ◌≤◌, ℕ, ◌*◌, ◌%◌, All, List, ◌++◌, length}
 use Rattle.lr_rice.specs.declared.fault.RiceFault.{RiceFault}
 use Rattle.lr_rice.specs.CodedLines.{Form, AreLines, BeginsWithLines, greatest}
 use Rattle.lr_rice.specs.LineFaults.{LinesFail}
@@ -32,6 +32,14 @@ abbrev pub FaultsAreOne : Type 0
 FaultsAreOne =
     (form : Form) → IsForm form → (n : ℕ) (string : List ℕ) (fault other : RiceFault)
     → LinesFail form n string fault → LinesFail form n string other → fault ≡ other
+
+-- Each string of bits begins with a coding of n lines, or has a fault in them. `LinesHaveNoFault` says that it never
+-- has both.
+abbrev pub LinesAreRead : Type 0
+LinesAreRead =
+    (form : Form) → IsForm form → (n : ℕ) (string : List ℕ) → All (λ bit. bit < 2) string
+    → ((samples : List ℕ) × BeginsWithLines form n samples string)
+    ⊎ ((fault : RiceFault) × LinesFail form n string fault)
 
 -- this many lines have this many samples, each of them in range
 pub record AreSamples (form : Form) (n : ℕ) (samples : List ℕ) : Type 0 where

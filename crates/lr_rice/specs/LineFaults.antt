@@ -12,8 +12,7 @@ use Rattle.lr_rice.specs.declared.fault.Cause.TheVariants.{Ended, OutOfRange, Ru
 use Rattle.lr_rice.specs.declared.fault.RiceFault.{RiceFault}
 use Rattle.lr_rice.specs.declared.fault.RiceFault.TheVariants as fault
 use Rattle.lr_rice.specs.CodedLines.{Form, Part, Follow, AreLines, IsOption, block_count, greatest, head_string}
-use Rattle.lr_rice.specs.CodedLines.{identifier, left_in_segment, pair_number, places, run_of, short_width}
-use Rattle.lr_rice.specs.CodedLines.{string_from}
+use Rattle.lr_rice.specs.CodedLines.{identifier, left_in_segment, pair_number, places, run_of, short_width, string_from}
 
 -- no sequence ends in the string
 abbrev pub NoSequence : List ℕ → Type 0

@@ -21,6 +21,8 @@ mod values;
 
 pub use choice::BlockOption;
 pub use fault::{Cause, RiceFault};
-pub use laws::{faults_are_one, lines_are_one, lines_are_whole, lines_have_no_fault};
+pub use laws::{
+    faults_are_one, lines_are_one, lines_are_read, lines_are_whole, lines_have_no_fault,
+};
 pub use line::SEGMENT_BLOCKS;
 pub use lines::{decode_into, decode_lines};

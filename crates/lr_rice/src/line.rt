@@ -9,7 +9,7 @@ use crate::choice::read_identifier;
 use crate::part::{Site, decode_part};
 use lr_bits::BitReader;
 
-/// The blocks of a segment, which a run of zero blocks never passes (CCSDS 121.0-B, section 3.3.2).
+/// The blocks of a segment, which a run of zero blocks never passes (CCSDS 121.0-B).
 pub const SEGMENT_BLOCKS: usize = 64;
 
 /// Decodes a line with as many columns as there are places.

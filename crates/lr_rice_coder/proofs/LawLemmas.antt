@@ -1,7 +1,6 @@
 -- The shortest string codes the line, and is read as it.
 use Rattle.std.proofs.Common.{◌≡◌, ℕ, suc, ◌+◌, ◌-◌, ◌*◌, ◌%◌, ◌<◌, ◌≤◌, List, [], ◌∷◌, ◌++◌, length, get_or, take}
-use Rattle.std.proofs.Common.{drop, replicate, refl, sym, ap, ◌∙◌, subst, arith, inl, inr}
-use Rattle.std.proofs.Common.{All, length-append}
+use Rattle.std.proofs.Common.{drop, replicate, refl, sym, ap, ◌∙◌, subst, arith, inl, inr, All, length-append}
 use Rattle.std.proofs.lemmas.List.{append-nil, drop_at, take_at, get_or-drop, length-replicate}
 use Rattle.lr_bits.specs.Bits.{bits_of, number_bits}
 use Rattle.lr_bits.proofs.BitsLemmas.{length-bits_of}

@@ -8,9 +8,8 @@ use Rattle.std.proofs.lemmas.List.{take_at}
 use Rattle.byteorder.specs.Endian.{big_bytes, big_number}
 use Rattle.byteorder.specs.Numbers.{big_number-reads_back}
 use Rattle.lr_bits.specs.Written.{primary_record}
-use Rattle.lr_headers.specs.Fields.{data_bits, file_type, is_encrypted, is_key, lossless_of}
-use Rattle.lr_headers.specs.Fields.{structure_of}
-use Rattle.lr_headers.specs.Tiling.{Header, IsFront, IsHeaderOf, IsRecord, IsTiled, IsTiling}
+use Rattle.lr_headers.specs.Fields.{data_bits, file_type, is_encrypted, is_key, lossless_of, structure_of}
+use Rattle.lr_headers.specs.Tiling.{Header, IsPrefix, IsHeaderOf, IsRecord, IsTiled, IsTiling}
 use Rattle.lr_headers.specs.Tiling.{has_wrong_length, header_length, length_at, number_at}
 use Rattle.lr_headers.specs.declared.entry.Entry.{Entry}
 use Rattle.lr_headers.specs.declared.fields.Structure.{Structure}
@@ -22,7 +21,7 @@ use Rattle.lr_image.specs.declared.fault.ImageFault.TheVariants.{Encrypted}
 use Rattle.lr_image.specs.declared.shape.Shape.{Shape}
 use Rattle.lr_image.specs.Shapes.{most_pixels}
 use Rattle.lr_rice.proofs.LineLemmas.{not_first}
-use Rattle.lr_rice_coder.specs.Coded.{IsBlock}
+use Rattle.lr_rice_coder.specs.Coded.{IsBlockSize}
 use Rattle.lr_rice_coder.specs.Repacked.{lossless_record, new_records, other_records, others_of}
 use Rattle.lr_rice_coder.specs.Repacked.{records_size, lossless_structure}
 use Rattle.lr_rice_coder.proofs.NewHeaders.{AllStand, moved, moved_keys, moved_tiling, sound_record}
@@ -62,7 +61,7 @@ new_size header picture block data_bits =
 pub others_stand : (header : Header) → IsTiled header → AllStand header.bytes (others_of header.entries)
 others_stand header tiled = by_front header.bytes header.entries (length header.bytes) tiled.front
   where
-    by_front : (bytes : List ℕ) (entries : List Entry) (to : ℕ) → IsFront bytes entries to
+    by_front : (bytes : List ℕ) (entries : List Entry) (to : ℕ) → IsPrefix bytes entries to
         → AllStand bytes (others_of entries)
     by_front bytes [] to front = tt
     by_front bytes (first ∷ entries) to front = filter_stands bytes entries (tiling_stands bytes 16 entries to front.1)
@@ -210,7 +209,8 @@ size_is_right s deep is =
     both_false : (a b : Bool) → a ≡ false → b ≡ false → (a || b) ≡ false
     both_false a b p q = ap (λ x. x || b) p ∙ q
 
-coding_is_right : (block : ℕ) → IsBlock block → lossless_fault (record { flags = 49; block = block; lines = 1 }) ≡ None
+coding_is_right : (block : ℕ) → IsBlockSize block
+    → lossless_fault (record { flags = 49; block = block; lines = 1 }) ≡ None
 unfolding lossless_fault
 coding_is_right block is = elim is [
   | inl e ↦ by_block 8 block e refl
@@ -234,7 +234,7 @@ new_shape picture block = record {
 pub shape_is : (header : Header) (picture : Picture) (block data_bits : ℕ)
     → AllStand header.bytes (others_of header.entries)
     → list_any (is_key header.bytes) (others_of header.entries) ≡ false
-    → picture.columns < 65536 → picture.lines < 65536 → IsBlock block → 5 ≤ picture.bits
+    → picture.columns < 65536 → picture.lines < 65536 → IsBlockSize block → 5 ≤ picture.bits
     → IsSize 1 (structure_from picture.bits picture.columns picture.lines)
     → shape_of (new_header header picture block data_bits) ≡ Ok (new_shape picture block)
 shape_is header picture block data_bits stand none columns lines is_block deep size =

@@ -1,16 +1,13 @@
 -- The header of a file that is coded anew: its records tile its bytes, and what they say.
 use Rattle.std.proofs.Common.{◌≡◌, ℕ, suc, ◌+◌, ◌-◌, ◌*◌, ◌<◌, ◌≤◌, Bool, true, false, not, ◌&&◌, ◌||◌}
 use Rattle.std.proofs.Common.{eqb, ltb, cond, Option, Some, None, List, [], ◌∷◌, ◌++◌, length, get_or, take, drop}
-use Rattle.std.proofs.Common.{filter}
-use Rattle.std.proofs.Common.{refl, sym, ap, ◌∙◌, subst, arith, length-append}
+use Rattle.std.proofs.Common.{filter, refl, sym, ap, ◌∙◌, subst, arith, length-append}
 use Rattle.std.specs.List.{flat_map, list_any}
 use Rattle.std.proofs.lemmas.Bool.{lt-leb}
 use Rattle.std.proofs.lemmas.List.{append_assoc, append-nil, drop-drop, drop-take, drop_at, get_or_append_left}
-use Rattle.std.proofs.lemmas.List.{get_or-append_right}
-use Rattle.std.proofs.lemmas.List.{get_or-drop, get_or-take, length-take-le, length-drop, take_at}
+use Rattle.std.proofs.lemmas.List.{get_or-append_right, get_or-drop, get_or-take, length-take-le, length-drop, take_at}
 use Rattle.lr_headers.specs.Fields.{contents_of, is_key}
-use Rattle.lr_headers.specs.Tiling.{IsRecord, IsTiling, fault_at, has_wrong_length, kind_at, length_at}
-use Rattle.lr_headers.specs.Tiling.{number_at}
+use Rattle.lr_headers.specs.Tiling.{IsRecord, IsTiling, fault_at, has_wrong_length, kind_at, length_at, number_at}
 use Rattle.lr_headers.specs.declared.entry.Entry.{Entry}
 use Rattle.lr_headers.specs.declared.fault.HeaderFault.{HeaderFault}
 use Rattle.lr_headers.proofs.Tilings.{record_ends}

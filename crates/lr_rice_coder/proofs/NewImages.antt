@@ -1,8 +1,7 @@
 -- A file that is coded anew has the image of the old one.
 use Rattle.std.proofs.Common.{◌≡◌, ℕ, zero, suc, ◌+◌, ◌-◌, ◌*◌, ◌^◌, ◌<◌, ◌≤◌, Bool, true, false, not, ◌||◌, min}
 use Rattle.std.proofs.Common.{All, eqb, cond, Option, Some, None, Result, Ok, Err, List, [], ◌∷◌, ◌++◌, length, map}
-use Rattle.std.proofs.Common.{take}
-use Rattle.std.proofs.Common.{get_or, drop, refl, sym, ap, ◌∙◌, subst, arith, inl, inr, length-append}
+use Rattle.std.proofs.Common.{take, get_or, drop, refl, sym, ap, ◌∙◌, subst, arith, inl, inr, length-append}
 use Rattle.std.specs.List.{AllZip, concat, list_any, range_with_len}
 use Rattle.std.proofs.Math.Seq.{take-add}
 use Rattle.std.proofs.lemmas.Bool.{cases_lt}
@@ -37,7 +36,7 @@ use Rattle.lr_image.specs.declared.fault.ImageFault.TheVariants.{NotImage, Encry
 use Rattle.lr_image.specs.declared.shape.Shape.{Shape}
 use Rattle.lr_image.proofs.ShapeLemmas.{shape_sound}
 use Rattle.lr_image.proofs.WholePixels.{makes_picture}
-use Rattle.lr_rice_coder.specs.Coded.{IsBlock, IsCodedLine}
+use Rattle.lr_rice_coder.specs.Coded.{IsBlockSize, IsCodedLine}
 use Rattle.lr_rice_coder.specs.Laws.{IsRow, RepackedKeepsImage, RepackedKeepsName, RepackedTellsLengths}
 use Rattle.lr_rice_coder.specs.Repacked.{first_body, form_with, new_records, others_of, records_size, rows_of}
 use Rattle.lr_rice_coder.specs.Repacked.{repacked_file}
@@ -111,7 +110,7 @@ record IsCodable' (picture : Picture) (block : ℕ) : Type 0 where
   is : IsPicture picture
   deep : 5 ≤ picture.bits
   some : 1 ≤ picture.columns
-  block_is : IsBlock block
+  block_is : IsBlockSize block
 
 is_row : (picture : Picture) (block line : ℕ) → IsCodable' picture block → line < picture.lines
     → IsRow (form_with picture block) (line_pixels picture line)

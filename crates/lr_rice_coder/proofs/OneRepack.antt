@@ -17,8 +17,7 @@ use Rattle.lr_rice_coder.specs.Coded.{IsCodedLine}
 use Rattle.lr_rice_coder.specs.Laws.{RepacksAreOne}
 use Rattle.lr_rice_coder.specs.Refusals.{AreShort, HasLongLine, HasRepackFault}
 use Rattle.lr_rice_coder.specs.Repacked.{AreCodedLines, IsRepacked, IsSource, file_size, first_body, first_size}
-use Rattle.lr_rice_coder.specs.Repacked.{form_with}
-use Rattle.lr_rice_coder.specs.Repacked.{new_records, records_size, repacked_file, rows_of}
+use Rattle.lr_rice_coder.specs.Repacked.{form_with, new_records, records_size, repacked_file, rows_of}
 use Rattle.lr_rice_coder.specs.declared.fault.RepackFault.{RepackFault}
 use Rattle.lr_rice_coder.specs.declared.fault.RepackFault.TheVariants as fault
 use Rattle.lr_rice_coder.proofs.LawLemmas.{coded_lines_are_one}

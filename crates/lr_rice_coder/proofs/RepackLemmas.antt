@@ -1,15 +1,14 @@
 -- From what the steps made to the file, or to the refusal.
-use Rattle.std.proofs.Common.{◌≡◌, ℕ, ◌+◌, ◌<◌, ◌≤◌, List, length, Some, None, refl, sym, ap, ◌∙◌}
-use Rattle.std.proofs.Common.{subst, arith}
+use Rattle.std.proofs.Common.{◌≡◌, ℕ, ◌+◌, ◌<◌, ◌≤◌, List, length, Some, None, refl, sym, ap, ◌∙◌, subst, arith}
 use Rattle.lr_bits.specs.File.{File, proper_of}
 use Rattle.lr_headers.specs.Fields.{structure_of}
 use Rattle.lr_headers.specs.Tiling.{Header, IsHeaderOf}
 use Rattle.lr_headers.specs.declared.fields.Structure.{Structure}
 use Rattle.lr_image.specs.Picture.{Picture, IsPicture}
 use Rattle.lr_image.specs.Images.{IsImageOf}
-use Rattle.lr_rice_coder.specs.Coded.{IsBlock}
+use Rattle.lr_rice_coder.specs.Coded.{IsBlockSize}
 use Rattle.lr_rice_coder.specs.Fronts.{IsCodedImage, MakesFile, MakingFails, file_with, front_with, picture_with}
-use Rattle.lr_rice_coder.specs.Refusals.{HasFaultOrMemory}
+use Rattle.lr_rice_coder.specs.Refusals.{HasRepackFaultOrMemory}
 use Rattle.lr_rice_coder.specs.Repacked.{IsRepacked, IsSource, other_records, repacked_file}
 use Rattle.lr_rice_coder.specs.declared.fault.RepackFault.{RepackFault}
 use Rattle.lr_rice_coder.specs.declared.fault.RepackFault.TheVariants as fault
@@ -54,7 +53,7 @@ picture_said file picture header s pixels others is =
 
 pub can_be_coded : (file : File) (picture : Picture) (header : Header) (s : Structure) (pixels others : List ℕ)
     (block : ℕ)
-    → IsReadFile file picture header s pixels others → IsBlock block → IsCodedImage s pixels block
+    → IsReadFile file picture header s pixels others → IsBlockSize block → IsCodedImage s pixels block
 can_be_coded file picture header s pixels others block is is_block =
     let same = picture_said file picture header s pixels others is in
     let k = (known file picture header is.image is.is_header).1 in
@@ -100,7 +99,7 @@ repacked file picture header s pixels others block new is makes = record {
 
 pub refused : (file : File) (picture : Picture) (header : Header) (s : Structure) (pixels others : List ℕ) (block : ℕ)
     (f : RepackFault) → IsReadFile file picture header s pixels others
-    → MakingFails (picture_with s pixels) block others f → HasFaultOrMemory file block f
+    → MakingFails (picture_with s pixels) block others f → HasRepackFaultOrMemory file block f
 refused file picture header s pixels others block (fault.Image cause) is fails = absurd fails
 refused file picture header s pixels others block (fault.Depth bits) is fails = absurd fails
 refused file picture header s pixels others block (fault.Line line) is fails = record {

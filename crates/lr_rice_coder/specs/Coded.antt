@@ -8,14 +8,14 @@ use Rattle.lr_rice_coder.specs.declared.fault.CodeFault.{CodeFault}
 use Rattle.lr_rice_coder.specs.declared.fault.CodeFault.TheVariants.{Long, NoMemory}
 
 -- a block has 8, 16, 32 or 64 samples
-abbrev pub IsBlock : ℕ → Type 0
-IsBlock block = (block ≡ 8) ⊎ ((block ≡ 16) ⊎ ((block ≡ 32) ⊎ (block ≡ 64)))
+abbrev pub IsBlockSize : ℕ → Type 0
+IsBlockSize block = (block ≡ 8) ⊎ ((block ≡ 16) ⊎ ((block ≡ 32) ⊎ (block ≡ 64)))
 
 -- lines can be coded so: samples of 5 to 16 bits
 pub record IsCodable (form : Form) : Type 0 where
   pub least_bits : 5 ≤ form.bits
   pub most_bits : form.bits ≤ 16
-  pub block : IsBlock form.block
+  pub block : IsBlockSize form.block
 
 -- the bytes have these bits, and then zeros up to a whole byte
 pub record ArePaddedBits (bytes string : List ℕ) : Type 0 where

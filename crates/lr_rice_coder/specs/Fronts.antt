@@ -8,7 +8,7 @@ use Rattle.lr_bits.specs.Written.{primary_record, transport_header}
 use Rattle.lr_headers.specs.declared.fields.Structure.{Structure}
 use Rattle.lr_rice.specs.CodedLines.{Form}
 use Rattle.lr_image.specs.Picture.{Picture, IsPicture}
-use Rattle.lr_rice_coder.specs.Coded.{IsBlock, IsCodedLine}
+use Rattle.lr_rice_coder.specs.Coded.{IsBlockSize, IsCodedLine}
 use Rattle.lr_rice_coder.specs.Repacked.{AreCodedLines, lossless_record, new_records_bytes}
 use Rattle.lr_rice_coder.specs.Repacked.{line_size, rows_of, lossless_structure}
 use Rattle.lr_rice_coder.specs.Refusals.{AreShort, HasLongLine}
@@ -27,7 +27,7 @@ pub record IsCodedImage (s : Structure) (pixels : List ℕ) (block : ℕ) : Type
   pub some : 1 ≤ s.columns
   pub narrow : s.columns < 65536
   pub low : s.lines < 65536
-  pub block_is : IsBlock block
+  pub block_is : IsBlockSize block
 
 -- the first body, by the records that stay and the number of bytes of the lines
 unfoldable pub front_with : ℕ → Structure → ℕ → List ℕ → ℕ → List ℕ

@@ -4,7 +4,7 @@ use Rattle.std.specs.List.{All}
 use Rattle.lr_bits.specs.Bits.{bits_of}
 use Rattle.lr_bits.specs.File.{File}
 use Rattle.lr_rice.specs.CodedLines.{BeginsWithLines, Codes, Form, GrowsByLines, IsLine}
-use Rattle.lr_rice_coder.specs.Coded.{ArePaddedBits, IsBlock, IsCodable, IsCodedLine, byte_count}
+use Rattle.lr_rice_coder.specs.Coded.{ArePaddedBits, IsBlockSize, IsCodable, IsCodedLine, byte_count}
 use Rattle.lr_rice_coder.specs.Refusals.{HasRepackOutcome}
 use Rattle.lr_rice_coder.specs.Repacked.{HaveOneImage, IsRepacked, KeepsName, TellsLengths}
 use Rattle.lr_rice_coder.specs.declared.fault.RepackFault.{RepackFault}
@@ -63,7 +63,8 @@ FillingsAreWhole = (string bytes : List ℕ) → ArePaddedBits bytes string → 
 
 -- a file that is coded anew has the image of the old one
 abbrev pub RepackedKeepsImage : Type 0
-RepackedKeepsImage = (file new : File) (block : ℕ) → IsBlock block → IsRepacked file block new → HaveOneImage file new
+RepackedKeepsImage = (file new : File) (block : ℕ) → IsBlockSize block → IsRepacked file block new
+    → HaveOneImage file new
 
 -- and its channel, application and file counter
 abbrev pub RepackedKeepsName : Type 0

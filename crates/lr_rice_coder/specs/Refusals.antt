@@ -67,9 +67,9 @@ HasRepackFault file block (fault.Header size) = HasLongHeader file block size
 HasRepackFault file block (fault.File size) = IsLongFile file block size
 HasRepackFault file block fault.NoMemory = ⊥
 
-abbrev pub HasFaultOrMemory : File → ℕ → RepackFault → Type 0
-HasFaultOrMemory file block fault.NoMemory = Unit {0}
-HasFaultOrMemory file block fault = HasRepackFault file block fault
+abbrev pub HasRepackFaultOrMemory : File → ℕ → RepackFault → Type 0
+HasRepackFaultOrMemory file block fault.NoMemory = Unit {0}
+HasRepackFaultOrMemory file block fault = HasRepackFault file block fault
 
 -- what a file gives: a file coded anew, or a first refusal
 abbrev pub HasRepackOutcome : File → ℕ → Result File RepackFault → Type 0

@@ -17,7 +17,7 @@ abbrev pub form_in : Line → Form
 form_in line = form_of line.bits line.block line.columns
 
 -- what is known of each line that is written
-pub record IsReady (line : Line) : Type 0 where
+pub record IsReadyLine (line : Line) : Type 0 where
   pub form : IsForm (form_in line)
   pub few : line.columns ≤ 65535
   pub reference : line.reference < 2 ^ line.bits

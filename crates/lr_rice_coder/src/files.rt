@@ -4,7 +4,7 @@ ghost use Rattle.std.specs.Prelude.{◌≡◌, ◌<◌, ◌≤◌, ◌+◌, ◌^
 ghost use Rattle.lr_bits.specs.File.{counter_of};
 ghost use Rattle.lr_bits.specs.Sizes.{most_body_bytes, most_file_bytes};
 ghost use Rattle.lr_rice.specs.CodedLines.{form_of};
-ghost use Rattle.lr_rice_coder.specs.Coded.{IsBlock, IsFault};
+ghost use Rattle.lr_rice_coder.specs.Coded.{IsBlockSize, IsFault};
 ghost use Rattle.lr_rice_coder.specs.Fronts.{
   AppendsLines,
   AppendsRow,
@@ -14,7 +14,7 @@ ghost use Rattle.lr_rice_coder.specs.Fronts.{
   MakesFile,
 };
 ghost use Rattle.lr_rice_coder.specs.Fronts.{MakingFails, front_with, picture_with};
-ghost use Rattle.lr_rice_coder.specs.Refusals.{HasFaultOrMemory};
+ghost use Rattle.lr_rice_coder.specs.Refusals.{HasRepackFaultOrMemory};
 ghost use Rattle.lr_rice_coder.specs.Repacked.{HaveOneImage, IsRepacked, KeepsName};
 
 use crate::header::{NEW_BYTES, first_body, other_records};
@@ -30,9 +30,9 @@ const LEAST_BITS: u8 = 5;
 /// The file with its image coded anew, in blocks of 8, 16, 32 or 64 samples: the transport header and the header in the
 /// first body, and then each line in a body of its own.
 pub fn repack(alloc: Global, file: &MissionFile, block: u32) -> Result<MissionFile, RepackFault>
-    requires { IsBlock block }
+    requires { IsBlockSize block }
     ensures ok { IfOk result (IsRepacked file.now block) }
-    ensures err { IfErr result (HasFaultOrMemory file.now block) }
+    ensures err { IfErr result (HasRepackFaultOrMemory file.now block) }
     ensures image { IfOk result (HaveOneImage file.now) }
     ensures name { IfOk result (KeepsName file.now) }
 {
@@ -241,7 +241,7 @@ fn code_row(
     out: &mut Bytes,
 ) -> Result<u16, CodeFault>
     requires bits { (5 ≤ bits) × (bits ≤ 16) }
-    requires block { IsBlock block }
+    requires block { IsBlockSize block }
     requires columns { (1 ≤ length row.now) × (length row.now ≤ 65535) }
     requires small { All (λ sample. sample < 2 ^ bits) row.now }
     ensures ok { IfOk result (AppendsRow (form_of bits block (length row.now)) row.now out.old out.new) }

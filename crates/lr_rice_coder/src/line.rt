@@ -4,10 +4,10 @@ ghost use Rattle.std.specs.Prelude.{◌≡◌, ◌<◌, ◌≤◌, ◌*◌, ◌+
 ghost use Rattle.std.specs.Prelude.{length};
 ghost use Rattle.lr_bits.specs.Sizes.{most_body_bytes};
 ghost use Rattle.lr_rice.specs.CodedLines.{block_count, form_of, left_in_segment};
-ghost use Rattle.lr_rice_coder.specs.Coded.{AppendsLine, ArePaddedBits, IsBlock, IsFault};
+ghost use Rattle.lr_rice_coder.specs.Coded.{AppendsLine, ArePaddedBits, IsBlockSize, IsFault};
 ghost use Rattle.lr_rice_coder.specs.declared.fault.CodeFault.TheVariants.{Long};
 ghost use Rattle.lr_rice_coder.specs.Shortest.{run_number, shortest_string};
-ghost use Rattle.lr_rice_coder.specs.Writing.{IsReady, IsWritten, form_in, line_string};
+ghost use Rattle.lr_rice_coder.specs.Writing.{IsReadyLine, IsWritten, form_in, line_string};
 
 use crate::CodeFault;
 use crate::block::{write_block, write_head};
@@ -28,7 +28,7 @@ pub fn code_line(
     out: &mut Bytes,
 ) -> Result<(), CodeFault>
     requires bits { (5 ≤ bits) × (bits ≤ 16) }
-    requires block { IsBlock block }
+    requires block { IsBlockSize block }
     requires columns { (1 ≤ length samples.now) × (length samples.now ≤ 65535) }
     requires small { All (λ sample. sample < 2 ^ bits) samples.now }
     ensures ok { OnOk result
@@ -62,7 +62,7 @@ fn append(bytes: &[u8], out: &mut Bytes) -> Result<(), CodeFault>
 /// The bytes of the shortest coding.
 fn line_bytes(alloc: Global, samples: &[u16], bits: u32, block: u32) -> Result<Vec<u8>, NoMemory>
     requires bits { (5 ≤ bits) × (bits ≤ 16) }
-    requires block { IsBlock block }
+    requires block { IsBlockSize block }
     requires columns { (1 ≤ length samples.now) × (length samples.now ≤ 65535) }
     requires small { All (λ sample. sample < 2 ^ bits) samples.now }
     ensures { IfOk result (λ bytes.
@@ -98,7 +98,7 @@ pub(crate) struct Line<'a> {
 
 /// Writes the line, part by part.
 fn write_line(writer: &mut BitWriter, line: &Line) -> Result<(), NoMemory>
-    requires { IsReady line.now }
+    requires { IsReadyLine line.now }
     ensures { OnOk result (writer.new ≡ writer.old ++ line_string line.now) }
 {
     let blocks = block_count(line);
@@ -111,7 +111,7 @@ fn write_line(writer: &mut BitWriter, line: &Line) -> Result<(), NoMemory>
 
 /// How many blocks the line has.
 fn block_count(line: &Line) -> usize
-    requires { IsReady line.now }
+    requires { IsReadyLine line.now }
     ensures { result ≡ block_count (form_in line.now) }
 {
     let size = line.block as usize;
@@ -120,7 +120,7 @@ fn block_count(line: &Line) -> usize
 
 /// Writes the part at this block of the line, and answers how many blocks it stands for.
 fn write_part(writer: &mut BitWriter, line: &Line, at: usize) -> Result<usize, NoMemory>
-    requires line { IsReady line.now }
+    requires line { IsReadyLine line.now }
     requires inside { at < block_count (form_in line.now) }
     ensures { IfOk result (IsWritten line.now at writer.old writer.new) }
 {
@@ -148,7 +148,7 @@ fn write_part(writer: &mut BitWriter, line: &Line, at: usize) -> Result<usize, N
 
 /// How many blocks are left in the segment, the one at this place counted.
 fn left_in_segment(line: &Line, at: usize) -> usize
-    requires line { IsReady line.now }
+    requires line { IsReadyLine line.now }
     requires inside { at < block_count (form_in line.now) }
     ensures { result ≡ left_in_segment (form_in line.now) at }
 {

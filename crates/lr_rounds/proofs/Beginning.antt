@@ -5,8 +5,8 @@ use Rattle.lr_gate.specs.declared.gate.Conductor.{Conductor}
 use Rattle.lr_gate.specs.declared.gate.Gate.{Gate}
 use Rattle.lr_gate.specs.declared.gate.WorkerSeat.{WorkerSeat}
 use Rattle.lr_gate.specs.declared.view.View.{View}
-use Rattle.lr_rounds.specs.Crews.{IsFreshRing}
-use Rattle.lr_rounds.specs.Leads.{HasGivenNothing}
+use Rattle.lr_rounds.specs.WorkerPools.{IsFreshRing}
+use Rattle.lr_rounds.specs.JobSources.{HasGivenNothing}
 use Rattle.lr_rounds.specs.Rounds.{MayRound}
 
 -- rounds may be made at a ring with nothing in it

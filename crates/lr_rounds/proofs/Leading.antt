@@ -1,4 +1,4 @@
--- A lead is led through a ring, round by round.
+-- A job source is led through a ring, round by round.
 use Rattle.std.proofs.Common.{
   ◌≡◌,
   ◌<◌,
@@ -34,13 +34,22 @@ use Rattle.lr_gate.proofs.Fewer.{same_left}
 use Rattle.lr_gate.specs.Calls.{HasFinished}
 use Rattle.lr_gate.specs.Left.{unfinished_count}
 use Rattle.lr_gate.specs.Shows.{count_of}
-use Rattle.lr_gate.specs.Seats.{cells_of, workers_of, IsConductorOf, view_of, put_count, Takes, Helps, SomeUnfinished}
+use Rattle.lr_gate.specs.Seats.{
+  cells_of,
+  workers_of,
+  IsConductorOf,
+  view_of,
+  put_count,
+  TakesOldest,
+  Helps,
+  SomeUnfinished,
+}
 use Rattle.lr_gate.specs.Steps.{after_put}
 use Rattle.lr_gate.specs.declared.gate.Conductor.{Conductor}
 use Rattle.lr_gate.specs.declared.gate.Gate.{Gate}
 use Rattle.lr_gate.specs.declared.view.View.{View}
-use Rattle.lr_rounds.specs.declared.lead.Offer.{Offer}
-use Rattle.lr_rounds.specs.Leads.{
+use Rattle.lr_rounds.specs.declared.job_source.NextJob.{NextJob}
+use Rattle.lr_rounds.specs.JobSources.{
   Gives,
   IsDoneNext,
   MayGive,
@@ -56,19 +65,19 @@ use Rattle.lr_rounds.specs.declared.round.Traffic.{Traffic}
 use Rattle.lr_rounds.proofs.Left.{unfinished_more, unfinished_less}
 
 -- what was taken came of the oldest job
-pub done_next : {J D : Type 0} (gives : J → D) (n : ℕ) (v w : View J) (done : D) → Takes gives n v w done
+pub done_next : {J D : Type 0} (gives : J → D) (n : ℕ) (v w : View J) (done : D) → TakesOldest gives n v w done
     → IsDoneNext gives v.jobs v.taken done
 done_next gives n v w done takes = (takes.0, takes.1, takes.2)
 
--- what the lead has to give, by its variant
+-- what the job source has to give, by its variant
 pub offered : {L J : Type 0} (stands : L → L → List J → ℕ → Type 0) (is_over : L → Type 0) (left : L → ℕ)
-    (before now : L) (offer variant : Offer J) → offer ≡ variant
+    (before now : L) (offer variant : NextJob J) → offer ≡ variant
     → ((start : L) (jobs : List J) (kept : ℕ) → stands start before jobs kept
     → Gives stands is_over left jobs kept start before now offer)
     → (start : L) (jobs : List J) (kept : ℕ) → stands start before jobs kept
     → Gives stands is_over left jobs kept start before now variant
 offered {L} {J} stands is_over left before now offer variant is gives = λ start jobs kept so.
-    subst (λ (o : Offer J). Gives stands is_over left jobs kept start before now o) is (gives start jobs kept so)
+    subst (λ (o : NextJob J). Gives stands is_over left jobs kept start before now o) is (gives start jobs kept so)
 
 module _ {L W J D : Type 0} (stands : L → L → List J → ℕ → Type 0) (is_over : L → Type 0) (left : L → ℕ)
     (gate : Gate W J D) {conductor : Conductor W J D} {traffic : Traffic} {entry before : L}
@@ -94,7 +103,7 @@ module _ {L W J D : Type 0} (stands : L → L → List J → ℕ → Type 0) (is
   -- ---- what came of a job was kept
 
   module _ (gives : J → D) (done : D) (conductor' : Conductor W J D) (traffic' : Traffic) (now : L)
-      (takes : Takes gives (cells_of gate) (view_of conductor) (view_of conductor') done)
+      (takes : TakesOldest gives (cells_of gate) (view_of conductor) (view_of conductor') done)
       (keeps : (start : L) (jobs : List J) (kept : ℕ) → stands start before jobs kept
       → IsDoneNext gives jobs kept done → Keeps stands is_over left jobs kept start before now)
       (waiting : traffic'.waiting ≡ traffic.waiting - 1) (over : traffic'.over ≡ traffic.over) where
@@ -230,9 +239,9 @@ module _ {L W J D : Type 0} (stands : L → L → List J → ℕ → Type 0) (is
   pub goes_on_same : (conductor' : Conductor W J D) (traffic' : Traffic) (now : L) → IsConductorOf gate conductor'
       → SameJobs (view_of conductor) (view_of conductor') → traffic' ≡ traffic → now ≡ before
       → MayGoOn stands is_over gate conductor' traffic' entry now
-  goes_on_same conductor' traffic' now mine same same_traffic same_lead =
+  goes_on_same conductor' traffic' now mine same same_traffic same_source =
       subst (λ (t : Traffic). MayGoOn stands is_over gate conductor' t entry now) (sym same_traffic)
-      (subst (MayGoOn stands is_over gate conductor' traffic entry) (sym same_lead) (record {
+      (subst (MayGoOn stands is_over gate conductor' traffic entry) (sym same_source) (record {
         mine = mine;
         running = same.stopped ∙ may.running;
         ready = may.ready;
@@ -256,7 +265,7 @@ module _ {L W J D : Type 0} (stands : L → L → List J → ℕ → Type 0) (is
     over = may.over said;
   }
 
--- ---- a round in which neither the lead kept nor gave anything
+-- ---- a round in which neither the job source kept nor gave anything
 
 module _ {L W J D : Type 0} (left : L → ℕ) (gate : Gate W J D) {first second third : Conductor W J D}
     {traffic again last : Traffic} {before mid now : L}
@@ -282,7 +291,7 @@ module _ {L W J D : Type 0} (left : L → ℕ) (gate : Gate W J D) {first second
         ap (λ (l : List J). length l) kept.same.jobs,
         kept.same.taken,
         put.no_more,
-        ap left kept.same_lead,
+        ap left kept.same_source,
         ap {B = ℕ} (λ (t : Traffic). cond t.over 0 1) put.same_traffic,
         ap {B = ℕ} (λ (t : Traffic). cond t.over 0 1) kept.same_traffic,
       )

@@ -1,3 +1,3 @@
-pub mod Crews
-pub mod Leads
+pub mod WorkerPools
+pub mod JobSources
 pub mod Rounds

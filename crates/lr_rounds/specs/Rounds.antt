@@ -6,7 +6,7 @@ use Rattle.lr_gate.specs.Seats.{cells_of, workers_of, IsConductorOf, view_of, pu
 use Rattle.lr_gate.specs.declared.gate.Conductor.{Conductor}
 use Rattle.lr_gate.specs.declared.gate.Gate.{Gate}
 use Rattle.lr_gate.specs.declared.view.View.{View}
-use Rattle.lr_rounds.specs.Leads.{HasGivenNothing, EndsWell}
+use Rattle.lr_rounds.specs.JobSources.{HasGivenNothing, EndsWell}
 use Rattle.lr_rounds.specs.declared.round.Round.{Round}
 use Rattle.lr_rounds.specs.declared.round.Round.TheVariants.{Worked, Waits, Ended}
 use Rattle.lr_rounds.specs.declared.round.Traffic.{Traffic}
@@ -14,18 +14,19 @@ use Rattle.lr_rounds.specs.declared.round.Traffic.{Traffic}
 -- ---- how long it takes
 
 -- what decreases with each round: three for each job that is to come, one for each that isn't finished, one for each
--- that wasn't taken, and one until the lead says that it is over
+-- that wasn't taken, and one until the job source says that it is over
 abbrev pub rounds_left : {L W J D : Type 0} → (L → ℕ) → Conductor W J D → Traffic → L → ℕ
 rounds_left left conductor traffic now =
     3 * left now + cond traffic.over 0 1 + unfinished_count (view_of conductor)
     + (put_count (view_of conductor) - (view_of conductor).taken)
 
--- ---- a lead that stops
+-- ---- a job source that stops
 
 -- it stopped for this cause, wherever it began
-abbrev pub Stops : {L J Cause : Type 0} → (L → L → List J → ℕ → Type 0) → (L → Cause → L → Type 0) → Cause → L → L
+abbrev pub RoundStops : {L J Cause : Type 0} → (L → L → List J → ℕ → Type 0) → (L → Cause → L → Type 0) → Cause → L → L
     → Type 0
-Stops {L} stands stopped cause entry now = (start : L) → HasGivenNothing stands start entry → stopped start cause now
+RoundStops {L} stands stopped cause entry now = (start : L) → HasGivenNothing stands start entry
+    → stopped start cause now
 
 -- ---- calls that put no job and take none
 
@@ -42,10 +43,10 @@ module _ {L W J D : Type 0} where
     pub same : SameJobs (view_of conductor) (view_of conductor')
     pub finished : (view_of conductor').finished ≡ (view_of conductor).finished
     pub same_traffic : traffic' ≡ traffic
-    pub same_lead : now ≡ before
+    pub same_source : now ≡ before
     pub alone : workers_of gate ≡ 0 → OldestWaits (view_of conductor)
 
-  -- nothing was put, since the lead is over, or jobs are in the ring
+  -- nothing was put, since the job source is over, or jobs are in the ring
   pub record PutsNone (left : L → ℕ) (conductor conductor' : Conductor W J D) (traffic traffic' : Traffic)
       (before now : L) : Type 0 where
     pub same : conductor' ≡ conductor
@@ -57,8 +58,8 @@ module _ {L W J D : Type 0} where
 
 module _ {L W J D : Type 0} (stands : L → L → List J → ℕ → Type 0) (is_over : L → Type 0) where
   module _ (gate : Gate W J D) where
-    -- A round may be made: the conductor is the one of this gate, its jobs are those that the lead gave, and those
-    -- taken are those of which it kept what came
+    -- A round may be made: the conductor is the one of this gate, its jobs are those that the job source gave, and
+    -- those taken are those of which it kept what came
     pub record MayGoOn (conductor : Conductor W J D) (traffic : Traffic) (entry now : L) : Type 0 where
       pub mine : IsConductorOf gate conductor
       pub running : (view_of conductor).stopped ≡ false
@@ -82,7 +83,7 @@ module _ {L W J D : Type 0} (stands : L → L → List J → ℕ → Type 0) (is
     pub going : MayGoOn gate conductor (record { waiting = 0; over = false }) now now
 
   module _ {Cause : Type 0} (stopped : L → Cause → L → Type 0) where
-    -- rounds were made, until all was kept or the lead stopped
+    -- rounds were made, until all was kept or the job source stopped
     pub record HasRounded (gate : Gate W J D) (conductor : Conductor W J D) (answer : Result (Unit {0}) Cause)
         (before now : L) : Type 0 where
       pub mine : IsConductorOf gate conductor
@@ -98,8 +99,8 @@ module _ {L W J D : Type 0} (stands : L → L → List J → ℕ → Type 0) (is
       pub cells : ℕ
       pub gate : Gate W J D
       pub begins : MayRound cells gate conductor now
-      pub may : (c : MutBor (Conductor W J D)) (own : MutBor W) (lead : MutBor L)
-          → MayRound cells gate c.now lead.now → pre c own lead
-      pub makes : (c : MutBor (Conductor W J D)) (own : MutBor W) (lead : MutBor L) (answer : Result (Unit {0}) Cause)
-          (c' : MutBor (Conductor W J D)) (own' : MutBor W) (lead' : MutBor L)
-          → post c own lead answer c' own' lead' → HasRounded gate c'.now answer lead.now lead'.now
+      pub may : (c : MutBor (Conductor W J D)) (own : MutBor W) (source : MutBor L)
+          → MayRound cells gate c.now source.now → pre c own source
+      pub makes : (c : MutBor (Conductor W J D)) (own : MutBor W) (source : MutBor L) (answer : Result (Unit {0}) Cause)
+          (c' : MutBor (Conductor W J D)) (own' : MutBor W) (source' : MutBor L)
+          → post c own source answer c' own' source' → HasRounded gate c'.now answer source.now source'.now

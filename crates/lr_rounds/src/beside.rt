@@ -1,13 +1,13 @@
-//! A lead is led with workers beside the caller.
+//! A job source is led with workers beside the caller.
 ghost use Rattle.std.specs.Prelude.{◌≡◌, IfOk, IfErr};
-ghost use Rattle.lr_rounds.specs.Leads.{HasGivenNothing, EndsWell, IsUnled};
+ghost use Rattle.lr_rounds.specs.JobSources.{HasGivenNothing, EndsWell, IsDriveFault};
 ghost use Rattle.lr_rounds.specs.Rounds.{MayRound, HasRounded};
 
-use crate::alone::lead_alone;
-use crate::crew::Crew;
-use crate::lead::Lead;
+use crate::alone::drive_alone;
+use crate::drive_fault::DriveFault;
+use crate::job_source::JobSource;
 use crate::round::{Round, Traffic, next_round};
-use crate::unled::Unled;
+use crate::worker_pool::WorkerPool;
 use lr_bits::take_back;
 use lr_gate::{Conductor, Gate};
 use lr_gatecore::Work;
@@ -17,23 +17,23 @@ use std::thread;
 use std::thread::Threads;
 
 /// Makes rounds until all that came of the jobs was kept and there are no more, however long the workers take.
-fn go_on<R: Wait, W: Work, L: Lead<W>>(
+fn go_on<R: Wait, W: Work, L: JobSource<W>>(
     rt: &R,
     gate: &Gate<W>,
     conductor: &mut Conductor<W>,
     own: &mut W,
     cells: u32,
-    lead: &mut L,
+    source: &mut L,
 ) -> Result<(), L::Cause>
-    requires { MayRound L.stands L.is_over cells gate.now conductor.old lead.old }
-    ensures { HasRounded L.stands L.is_over L.stopped gate.now conductor.new result lead.old lead.new }
+    requires { MayRound L.stands L.is_over cells gate.now conductor.old source.old }
+    ensures { HasRounded L.stands L.is_over L.stopped gate.now conductor.new result source.old source.new }
 {
     let mut traffic = Traffic {
         waiting: 0,
         over: false,
     };
     for _ in rt.forever() {
-        match next_round(gate, conductor, own, cells, lead, &mut traffic)? {
+        match next_round(gate, conductor, own, cells, source, &mut traffic)? {
             Round::Worked => {}
             Round::Waits => thread::yield_now(),
             Round::Ended => return Ok(()),
@@ -47,74 +47,85 @@ fn go_on<R: Wait, W: Work, L: Lead<W>>(
 /// has that proof from the function around it.
 #[derive(Drop)]
 struct Conducting<'l, L, F> {
-    lead: &'l mut L,
+    source: &'l mut L,
     make_rounds: F,
 }
 
-impl<'l, W: Work, L: Lead<W>, F> Body<W> for Conducting<'l, L, F>
+impl<'l, W: Work, L: JobSource<W>, F> Body<W> for Conducting<'l, L, F>
 where
     F: Fn(&mut Conductor<W>, &mut W, &mut L) -> Result<(), L::Cause>,
 {
     type Answer = Result<(), L::Cause>;
 
     ghost use Rattle.std.specs.Prelude.{◌≡◌, IfOk, IfErr};
-    ghost use Rattle.lr_rounds.specs.Leads.{HasGivenNothing, EndsWell};
+    ghost use Rattle.lr_rounds.specs.JobSources.{HasGivenNothing, EndsWell};
     ghost use Rattle.lr_rounds.specs.Rounds.{MayConduct};
 
-    ghost needs = { λ body conductor. MayConduct L.stands L.is_over L.stopped conductor body.lead.now
+    ghost needs = { λ body conductor. MayConduct L.stands L.is_over L.stopped conductor body.source.now
         (F.pre body.make_rounds) (F.post body.make_rounds) };
 
     ghost conducts = { λ body before after. record {
-      same : after.body.lead.ghost_name ≡ body.lead.ghost_name;
-      all : (start : L) → HasGivenNothing L.stands start body.lead.now
-          → IfOk after.answer (λ _. EndsWell L.stands L.is_over start after.body.lead.now);
-      stopped : (start : L) → HasGivenNothing L.stands start body.lead.now
-          → IfErr after.answer (λ cause. L.stopped start cause after.body.lead.now);
+      same : after.body.source.ghost_name ≡ body.source.ghost_name;
+      all : (start : L) → HasGivenNothing L.stands start body.source.now
+          → IfOk after.answer (λ _. EndsWell L.stands L.is_over start after.body.source.now);
+      stopped : (start : L) → HasGivenNothing L.stands start body.source.now
+          → IfErr after.answer (λ cause. L.stopped start cause after.body.source.now);
     } };
 
-    /// Makes rounds until the lead is over, or stops.
+    /// Makes rounds until the job source is over, or stops.
     fn conduct(
         self,
         _gate: &Gate<W>,
         conductor: &mut Conductor<W>,
         mut own: W,
     ) -> (Self, W, Result<(), L::Cause>) {
-        let Conducting { lead, make_rounds } = self;
-        let answer = make_rounds(conductor, &mut own, lead);
-        (Conducting { lead, make_rounds }, own, answer)
+        let Conducting {
+            source,
+            make_rounds,
+        } = self;
+        let answer = make_rounds(conductor, &mut own, source);
+        (
+            Conducting {
+                source,
+                make_rounds,
+            },
+            own,
+            answer,
+        )
     }
 }
 
-/// Does what `lead_alone` does, with a thread for each seat of the crew.
-pub fn lead_beside<R: Threads + Wait + Sync, W: Work + Send + Drop, L: Lead<W>>(
+/// Does what `drive_alone` does, with a thread for each seat of the pool.
+pub fn drive_beside<R: Threads + Wait + Sync, W: Work + Send + Drop, L: JobSource<W>>(
     rt: &R,
-    crew: Crew<W>,
-    lead: &mut L,
-) -> Result<(), Unled<L::Cause>>
-    requires { (start : L) × HasGivenNothing L.stands start lead.old }
-    ensures all { (start : L) → HasGivenNothing L.stands start lead.old
-        → IfOk result (λ _. EndsWell L.stands L.is_over start lead.new) }
-    ensures unled { (start : L) → HasGivenNothing L.stands start lead.old
-        → IfErr result (λ why. IsUnled L.stopped why start lead.old lead.new) }
+    pool: WorkerPool<W>,
+    source: &mut L,
+) -> Result<(), DriveFault<L::Cause>>
+    requires { (start : L) × HasGivenNothing L.stands start source.old }
+    ensures all { (start : L) → HasGivenNothing L.stands start source.old
+        → IfOk result (λ _. EndsWell L.stands L.is_over start source.new) }
+    ensures undriven { (start : L) → HasGivenNothing L.stands start source.old
+        → IfErr result (λ why. IsDriveFault L.stopped why start source.old source.new) }
 {
-    let Crew {
+    let WorkerPool {
         gate,
         conductor,
         seats,
         works,
         own,
         cells,
-    } = crew;
+    } = pool;
     let ring = &gate;
     let body = Conducting {
-        lead,
-        make_rounds: |conductor: &mut Conductor<W>, own: &mut W, lead: &mut L| -> Result<
+        source,
+        make_rounds: |conductor: &mut Conductor<W>, own: &mut W, source: &mut L| -> Result<
             (),
             L::Cause,
         >
-            requires { MayRound L.stands L.is_over cells ring.now conductor.old lead.old }
-            ensures { HasRounded L.stands L.is_over L.stopped ring.entry.now conductor.new result lead.old lead.new }
-        { go_on(rt, ring, conductor, own, cells, lead) },
+            requires { MayRound L.stands L.is_over cells ring.now conductor.old source.old }
+            ensures { HasRounded L.stands L.is_over L.stopped ring.entry.now conductor.new result source.old
+                source.new }
+        { go_on(rt, ring, conductor, own, cells, source) },
     };
     match with_pool(rt, ring, conductor, seats, works, own, body) {
         Ok(pooled) => {
@@ -130,13 +141,13 @@ pub fn lead_beside<R: Threads + Wait + Sync, W: Work + Send + Drop, L: Lead<W>>(
                 answer,
             } = conducted;
             let Conducting {
-                lead,
+                source,
                 make_rounds: _make_rounds,
             } = body;
-            take_back(lead);
+            take_back(source);
             match answer {
                 Ok(()) => Ok(()),
-                Err(cause) => Err(Unled::Stopped(cause)),
+                Err(cause) => Err(DriveFault::Stopped(cause)),
             }
         }
         Err(refused) => {
@@ -148,29 +159,29 @@ pub fn lead_beside<R: Threads + Wait + Sync, W: Work + Send + Drop, L: Lead<W>>(
                 body,
             } = refused;
             let Conducting {
-                lead,
+                source,
                 make_rounds: _make_rounds,
             } = body;
-            take_back(lead);
-            Err(Unled::NoMemory)
+            take_back(source);
+            Err(DriveFault::NoMemory)
         }
     }
 }
 
-/// Does what `lead_beside` does, by all of the crew. Where there is no seat, no thread is started.
-pub fn lead_by_all<R: Threads + Wait + Sync, W: Work + Send + Drop, L: Lead<W>>(
+/// Does what `drive_beside` does, by all of the pool. Where there is no seat, no thread is started.
+pub fn drive<R: Threads + Wait + Sync, W: Work + Send + Drop, L: JobSource<W>>(
     rt: &R,
-    crew: Crew<W>,
-    lead: &mut L,
-) -> Result<(), Unled<L::Cause>>
-    requires { (start : L) × HasGivenNothing L.stands start lead.old }
-    ensures all { (start : L) → HasGivenNothing L.stands start lead.old
-        → IfOk result (λ _. EndsWell L.stands L.is_over start lead.new) }
-    ensures unled { (start : L) → HasGivenNothing L.stands start lead.old
-        → IfErr result (λ why. IsUnled L.stopped why start lead.old lead.new) }
+    pool: WorkerPool<W>,
+    source: &mut L,
+) -> Result<(), DriveFault<L::Cause>>
+    requires { (start : L) × HasGivenNothing L.stands start source.old }
+    ensures all { (start : L) → HasGivenNothing L.stands start source.old
+        → IfOk result (λ _. EndsWell L.stands L.is_over start source.new) }
+    ensures undriven { (start : L) → HasGivenNothing L.stands start source.old
+        → IfErr result (λ why. IsDriveFault L.stopped why start source.old source.new) }
 {
-    if !crew.is_alone() {
-        return lead_beside(rt, crew, lead);
+    if !pool.is_alone() {
+        return drive_beside(rt, pool, source);
     }
-    lead_alone(crew, lead).map_err(Unled::Stopped)
+    drive_alone(pool, source).map_err(DriveFault::Stopped)
 }

@@ -1,14 +1,14 @@
 //! One round of leading jobs through a ring.
 ghost use Rattle.std.specs.Prelude.{◌≡◌, ◌≢◌, ◌<◌, ◌≤◌, false, true, IfOk, IfErr, OnOk};
 ghost use Rattle.lr_gate.specs.Seats.{cells_of, workers_of, IsConductorOf, view_of};
-ghost use Rattle.lr_rounds.specs.Rounds.{MayGoOn, Goes, Stops, KeepsNone, PutsNone, rounds_left};
+ghost use Rattle.lr_rounds.specs.Rounds.{MayGoOn, Goes, RoundStops, KeepsNone, PutsNone, rounds_left};
 ghost use Rattle.lr_rounds.specs.declared.round.Round.TheVariants.{Worked, Waits};
 
-use crate::lead::{Lead, Offer};
+use crate::job_source::{JobSource, NextJob};
 use lr_gate::{Conductor, Gate, RingFull};
 use lr_gatecore::Work;
 
-/// How many jobs are in the ring, and whether the lead said that it is over.
+/// How many jobs are in the ring, and whether the job source said that it is over.
 #[derive(Clone, Copy)]
 pub(crate) struct Traffic {
     /// How many jobs were put and not taken.
@@ -27,63 +27,63 @@ pub(crate) enum Round {
     Ended,
 }
 
-/// Lets the lead keep what came of the oldest job, if that is done. The answer is whether it was.
-fn keep_oldest<W: Work, L: Lead<W>>(
+/// Lets the job source keep what came of the oldest job, if that is done. The answer is whether it was.
+fn keep_oldest<W: Work, L: JobSource<W>>(
     gate: &Gate<W>,
     conductor: &mut Conductor<W>,
-    lead: &mut L,
+    source: &mut L,
     traffic: &mut Traffic,
 ) -> Result<bool, L::Cause>
-    requires { (entry : L) × MayGoOn L.stands L.is_over gate.now conductor.old traffic.old entry lead.old }
+    requires { (entry : L) × MayGoOn L.stands L.is_over gate.now conductor.old traffic.old entry source.old }
     ensures mine { IsConductorOf gate.now conductor.new }
     ensures running { (view_of conductor.new).stopped ≡ false }
-    ensures goes { (entry : L) → MayGoOn L.stands L.is_over gate.now conductor.old traffic.old entry lead.old
-        → IfOk result (λ _. MayGoOn L.stands L.is_over gate.now conductor.new traffic.new entry lead.new) }
-    ensures stops { (entry : L) → MayGoOn L.stands L.is_over gate.now conductor.old traffic.old entry lead.old
-        → IfErr result (λ cause. Stops L.stands L.stopped cause entry lead.new) }
+    ensures goes { (entry : L) → MayGoOn L.stands L.is_over gate.now conductor.old traffic.old entry source.old
+        → IfOk result (λ _. MayGoOn L.stands L.is_over gate.now conductor.new traffic.new entry source.new) }
+    ensures stops { (entry : L) → MayGoOn L.stands L.is_over gate.now conductor.old traffic.old entry source.old
+        → IfErr result (λ cause. RoundStops L.stands L.stopped cause entry source.new) }
     ensures fewer { IfOk result (λ did. did ≡ true
-        → rounds_left L.left conductor.new traffic.new lead.new
-        < rounds_left L.left conductor.old traffic.old lead.old) }
+        → rounds_left L.left conductor.new traffic.new source.new
+        < rounds_left L.left conductor.old traffic.old source.old) }
     ensures none { IfOk result (λ did. did ≡ false
-        → KeepsNone gate.now conductor.old conductor.new traffic.old traffic.new lead.old lead.new) }
+        → KeepsNone gate.now conductor.old conductor.new traffic.old traffic.new source.old source.new) }
 {
     let Some(done) = conductor.take(gate) else {
         return Ok(false);
     };
-    lead.keep(done)?;
+    source.keep(done)?;
     traffic.waiting -= 1;
     Ok(true)
 }
 
 /// Puts the next job, where the ring has room for it, or notes that there are no more. The answer is whether it did
 /// either.
-fn put_next<W: Work, L: Lead<W>>(
+fn put_next<W: Work, L: JobSource<W>>(
     gate: &Gate<W>,
     conductor: &mut Conductor<W>,
     cells: u32,
-    lead: &mut L,
+    source: &mut L,
     traffic: &mut Traffic,
 ) -> Result<bool, L::Cause>
-    requires going { (entry : L) × MayGoOn L.stands L.is_over gate.now conductor.old traffic.old entry lead.old }
+    requires going { (entry : L) × MayGoOn L.stands L.is_over gate.now conductor.old traffic.old entry source.old }
     requires cells { cells ≡ cells_of gate.now }
     requires some { 0 < cells }
     ensures mine { IsConductorOf gate.now conductor.new }
     ensures running { (view_of conductor.new).stopped ≡ false }
-    ensures goes { (entry : L) → MayGoOn L.stands L.is_over gate.now conductor.old traffic.old entry lead.old
-        → IfOk result (λ _. MayGoOn L.stands L.is_over gate.now conductor.new traffic.new entry lead.new) }
-    ensures stops { (entry : L) → MayGoOn L.stands L.is_over gate.now conductor.old traffic.old entry lead.old
-        → IfErr result (λ cause. Stops L.stands L.stopped cause entry lead.new) }
+    ensures goes { (entry : L) → MayGoOn L.stands L.is_over gate.now conductor.old traffic.old entry source.old
+        → IfOk result (λ _. MayGoOn L.stands L.is_over gate.now conductor.new traffic.new entry source.new) }
+    ensures stops { (entry : L) → MayGoOn L.stands L.is_over gate.now conductor.old traffic.old entry source.old
+        → IfErr result (λ cause. RoundStops L.stands L.stopped cause entry source.new) }
     ensures fewer { IfOk result (λ did. did ≡ true
-        → rounds_left L.left conductor.new traffic.new lead.new
-        < rounds_left L.left conductor.old traffic.old lead.old) }
+        → rounds_left L.left conductor.new traffic.new source.new
+        < rounds_left L.left conductor.old traffic.old source.old) }
     ensures none { IfOk result (λ did. did ≡ false
-        → PutsNone L.left conductor.old conductor.new traffic.old traffic.new lead.old lead.new) }
+        → PutsNone L.left conductor.old conductor.new traffic.old traffic.new source.old source.new) }
 {
     if traffic.over || traffic.waiting >= cells {
         return Ok(false);
     }
-    match lead.next()? {
-        Offer::Job(job) => {
+    match source.next()? {
+        NextJob::Job(job) => {
             match conductor.put(gate, job) {
                 Ok(()) => {}
                 Err(RingFull(_)) => unreachable!(),
@@ -91,71 +91,71 @@ fn put_next<W: Work, L: Lead<W>>(
             traffic.waiting += 1;
             Ok(true)
         }
-        Offer::Later => Ok(false),
-        Offer::Over => {
+        NextJob::NotYet => Ok(false),
+        NextJob::Finished => {
             traffic.over = true;
             Ok(true)
         }
     }
 }
 
-/// Puts the next job after one was kept, if the lead gives it at once. So nobody waits for a job while all that is done
-/// is kept.
-fn refill<W: Work, L: Lead<W>>(
+/// Puts the next job after one was kept, if the job source gives it at once. So nobody waits for a job while all that
+/// is done is kept.
+fn refill<W: Work, L: JobSource<W>>(
     gate: &Gate<W>,
     conductor: &mut Conductor<W>,
     cells: u32,
-    lead: &mut L,
+    source: &mut L,
     traffic: &mut Traffic,
 ) -> Result<(), L::Cause>
-    requires going { (entry : L) × MayGoOn L.stands L.is_over gate.now conductor.old traffic.old entry lead.old }
+    requires going { (entry : L) × MayGoOn L.stands L.is_over gate.now conductor.old traffic.old entry source.old }
     requires cells { cells ≡ cells_of gate.now }
     requires some { 0 < cells }
     ensures mine { IsConductorOf gate.now conductor.new }
     ensures running { (view_of conductor.new).stopped ≡ false }
-    ensures goes { (entry : L) → MayGoOn L.stands L.is_over gate.now conductor.old traffic.old entry lead.old
-        → OnOk result (MayGoOn L.stands L.is_over gate.now conductor.new traffic.new entry lead.new) }
-    ensures stops { (entry : L) → MayGoOn L.stands L.is_over gate.now conductor.old traffic.old entry lead.old
-        → IfErr result (λ cause. Stops L.stands L.stopped cause entry lead.new) }
-    ensures no_more { OnOk result (rounds_left L.left conductor.new traffic.new lead.new
-        ≤ rounds_left L.left conductor.old traffic.old lead.old) }
+    ensures goes { (entry : L) → MayGoOn L.stands L.is_over gate.now conductor.old traffic.old entry source.old
+        → OnOk result (MayGoOn L.stands L.is_over gate.now conductor.new traffic.new entry source.new) }
+    ensures stops { (entry : L) → MayGoOn L.stands L.is_over gate.now conductor.old traffic.old entry source.old
+        → IfErr result (λ cause. RoundStops L.stands L.stopped cause entry source.new) }
+    ensures no_more { OnOk result (rounds_left L.left conductor.new traffic.new source.new
+        ≤ rounds_left L.left conductor.old traffic.old source.old) }
 {
-    if !lead.gives_at_once() {
+    if !source.gives_at_once() {
         return Ok(());
     }
-    put_next(gate, conductor, cells, lead, traffic)?;
+    put_next(gate, conductor, cells, source, traffic)?;
     Ok(())
 }
 
-/// Keeps what came of a job, and puts the next one if the lead gives it at once; or else puts a job, or else does one,
-/// whichever can be done first. `cells` is how many cells the ring has.
-pub(crate) fn next_round<W: Work, L: Lead<W>>(
+/// Keeps what came of a job, and puts the next one if the job source gives it at once; or else puts a job, or else does
+/// one, whichever can be done first. `cells` is how many cells the ring has.
+pub(crate) fn next_round<W: Work, L: JobSource<W>>(
     gate: &Gate<W>,
     conductor: &mut Conductor<W>,
     own: &mut W,
     cells: u32,
-    lead: &mut L,
+    source: &mut L,
     traffic: &mut Traffic,
 ) -> Result<Round, L::Cause>
-    requires going { (entry : L) × MayGoOn L.stands L.is_over gate.now conductor.old traffic.old entry lead.old }
+    requires going { (entry : L) × MayGoOn L.stands L.is_over gate.now conductor.old traffic.old entry source.old }
     requires cells { cells ≡ cells_of gate.now }
     requires some { 0 < cells }
     ensures mine { IsConductorOf gate.now conductor.new }
     ensures running { (view_of conductor.new).stopped ≡ false }
-    ensures goes { (entry : L) → MayGoOn L.stands L.is_over gate.now conductor.old traffic.old entry lead.old
-        → IfOk result (λ round. Goes L.stands L.is_over gate.now round conductor.new traffic.new entry lead.new) }
-    ensures stops { (entry : L) → MayGoOn L.stands L.is_over gate.now conductor.old traffic.old entry lead.old
-        → IfErr result (λ cause. Stops L.stands L.stopped cause entry lead.new) }
+    ensures goes { (entry : L) → MayGoOn L.stands L.is_over gate.now conductor.old traffic.old entry source.old
+        → IfOk result (λ round. Goes L.stands L.is_over gate.now round conductor.new traffic.new entry source.new) }
+    ensures stops { (entry : L) → MayGoOn L.stands L.is_over gate.now conductor.old traffic.old entry source.old
+        → IfErr result (λ cause. RoundStops L.stands L.stopped cause entry source.new) }
     ensures fewer { IfOk result (λ round. round ≡ Worked
-        → rounds_left L.left conductor.new traffic.new lead.new
-        < rounds_left L.left conductor.old traffic.old lead.old) }
+        → rounds_left L.left conductor.new traffic.new source.new
+        < rounds_left L.left conductor.old traffic.old source.old) }
     ensures alone { workers_of gate.now ≡ 0 → IfOk result (λ round. round ≢ Waits) }
 {
-    if keep_oldest(gate, conductor, lead, traffic)? {
-        refill(gate, conductor, cells, lead, traffic)?;
+    if keep_oldest(gate, conductor, source, traffic)? {
+        refill(gate, conductor, cells, source, traffic)?;
         return Ok(Round::Worked);
     }
-    if put_next(gate, conductor, cells, lead, traffic)? {
+    if put_next(gate, conductor, cells, source, traffic)? {
         return Ok(Round::Worked);
     }
     if conductor.help(gate, own) {

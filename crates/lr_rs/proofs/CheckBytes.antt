@@ -35,7 +35,7 @@ use Rattle.lr_gf.proofs.SumLaws.{sum_of-same, sum_of-add, sum_of-skip, weight-sk
 use Rattle.lr_gf.proofs.Values.{value_as_sum}
 use Rattle.lr_rs.specs.declared.sizes.TheConstants.{CHECK_BYTES, INFORMATION_BYTES, WORD_BYTES}
 use Rattle.lr_rs.specs.Words.{word_value, IsWord, IsCodeword}
-use Rattle.lr_rs.specs.Division.{IsRemainder}
+use Rattle.lr_rs.specs.Division.{IsWordRemainder}
 use Rattle.lr_rs.proofs.Unique.{difference, same_codewords}
 use Rattle.lr_rs.proofs.Remainders.{root_at, root_at-is, codeword_from_values}
 
@@ -86,7 +86,7 @@ only_zero a b e =
     sym (xor_zero_r a) ∙ ap (bit_xor a) (sym (xor_self b)) ∙ sym (xor_assoc a b b) ∙ ap (λ z. bit_xor z b) e
     ∙ xor_self b
 
-pub encoded_is_codeword : (plain word check : List ℕ) → IsRemainder plain check → AddsCheck plain word check
+pub encoded_is_codeword : (plain word check : List ℕ) → IsWordRemainder plain check → AddsCheck plain word check
     → IsCodeword word
 encoded_is_codeword plain word check r a =
     codeword_from_values word (λ j h. only_zero (word_value word (root_at j)) (word_value plain (root_at j))

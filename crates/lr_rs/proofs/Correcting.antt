@@ -23,8 +23,7 @@ use Rattle.std.proofs.lemmas.List.{get_or-set_same, get_or-set_other}
 use Rattle.std.proofs.Math.ListN.{length-set}
 use Rattle.lr_gf.specs.Dual.{conventional_of}
 use Rattle.lr_gf.specs.Field.{value_of}
-use Rattle.lr_rs.specs.Words.{locator}
-use Rattle.lr_rs.specs.Words.{IsWord}
+use Rattle.lr_rs.specs.Words.{locator, IsWord}
 use Rattle.lr_rs.specs.RootLists.{IsRootList}
 use Rattle.lr_rs.proofs.Unique.{difference, same_words}
 use Rattle.lr_rs.specs.declared.sizes.TheConstants.{WORD_BYTES}

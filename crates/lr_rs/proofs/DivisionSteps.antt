@@ -1,6 +1,5 @@
 -- The remainder of bytes that are taken in one by one.
-use Rattle.std.proofs.Common.{◌≡◌, ◌<◌, ℕ, ◌∙◌, refl, sym, ap, subst, arith, replicate, [], ◌∷◌, ◌++◌, List}
-use Rattle.std.proofs.Common.{length}
+use Rattle.std.proofs.Common.{◌≡◌, ◌<◌, ℕ, ◌∙◌, refl, sym, ap, subst, arith, replicate, [], ◌∷◌, ◌++◌, List, length}
 use Rattle.std.proofs.Common.{bit_xor, map}
 use Rattle.std.proofs.lemmas.List.{map-append}
 use Rattle.lr_gf.specs.Field.{value_of, times}
@@ -10,7 +9,7 @@ use Rattle.lr_gf.proofs.Powers.{value-push}
 use Rattle.lr_gf.proofs.Reduction.{zero_row}
 use Rattle.lr_gf.proofs.Values.{value-zeros}
 use Rattle.lr_rs.specs.Words.{word_value}
-use Rattle.lr_rs.specs.Division.{IsDivisionStep, IsRemainder, IsRemainderOf}
+use Rattle.lr_rs.specs.Division.{IsDivisionStep, IsWordRemainder, IsRemainderOf}
 use Rattle.lr_rs.proofs.KeyEquation.{value_of_word}
 use Rattle.lr_rs.proofs.Remainders.{root_at, root_at-is, value-step, elements-step}
 use Rattle.lr_rs.specs.declared.sizes.TheConstants.{WORD_BYTES}
@@ -54,7 +53,7 @@ of_one_more bytes old new byte d e r s =
       elements = elements-step old new d small r.elements s;
     }
 
-pub of_word : (word rest : List ℕ) → length word ≡ WORD_BYTES → IsRemainderOf word rest → IsRemainder word rest
+pub of_word : (word rest : List ℕ) → length word ≡ WORD_BYTES → IsRemainderOf word rest → IsWordRemainder word rest
 of_word word rest long r = record {
   long = r.long;
   same = λ j h.

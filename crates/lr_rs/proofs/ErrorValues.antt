@@ -8,9 +8,8 @@ use Rattle.lr_gf.specs.Systems.{IsSolution}
 use Rattle.lr_gf.proofs.Laws.{commute, times-add-left, times-zero-left}
 use Rattle.lr_gf.proofs.SumLaws.{sum_of-same, sum_of-add, same_from_sum, weight-le-all}
 use Rattle.lr_gf.proofs.Vanishing.{vanishing}
-use Rattle.lr_rs.specs.Words.{locator}
+use Rattle.lr_rs.specs.Words.{locator, word_value, IsCodeword}
 use Rattle.lr_rs.proofs.Locators.{locators}
-use Rattle.lr_rs.specs.Words.{word_value, IsCodeword}
 use Rattle.lr_rs.specs.RootLists.{HasEquations, IsRootList}
 use Rattle.lr_rs.proofs.Unique.{difference, value_of_difference}
 use Rattle.lr_rs.specs.declared.sizes.TheConstants.{CHECK_BYTES, WORD_BYTES}

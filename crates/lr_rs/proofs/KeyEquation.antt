@@ -32,7 +32,7 @@ use Rattle.std.proofs.lemmas.Bool.{cases_eq, cases_lt}
 use Rattle.std.proofs.lemmas.List.{get_or-set_same, get_or-set_other, get_or-map, length-map, map-append, take_more}
 use Rattle.lr_gf.specs.Dual.{conventional_of}
 use Rattle.lr_gf.proofs.DualLaws.{conventional-lt}
-use Rattle.lr_rs.specs.Words.{word_value}
+use Rattle.lr_rs.specs.Words.{word_value, locator}
 use Rattle.lr_rs.specs.RootLists.{IsRootList}
 use Rattle.std.proofs.lemmas.List.Elements.{All-get_or}
 use Rattle.lr_gf.proofs.Roots.{roots_of_value}
@@ -43,7 +43,6 @@ use Rattle.lr_gf.proofs.Powers.{power-add, times-nonzero, value-push}
 use Rattle.lr_gf.proofs.Values.{value_as_sum}
 use Rattle.lr_gf.proofs.SumLaws.{sum_of-same, sum_of-linear, sum_of-swap, weight-le, weight-suc_zero, weight-suc_one}
 use Rattle.lr_gf.proofs.Vanishing.{vanishing}
-use Rattle.lr_rs.specs.Words.{locator}
 use Rattle.lr_rs.proofs.Locators.{locators}
 use Rattle.lr_rs.specs.declared.sizes.TheConstants.{CHECK_BYTES, WORD_BYTES}
 

@@ -52,7 +52,7 @@ use Rattle.lr_gf.proofs.Values.{value_as_sum, value-zeros}
 use Rattle.lr_gf.proofs.Vanishing.{AreNodes, power-nonzero}
 use Rattle.lr_rs.specs.declared.generator.TheConstants.{LOW_PRODUCTS, HIGH_PRODUCTS}
 use Rattle.lr_rs.specs.Words.{word_value, locator, IsCodeword}
-use Rattle.lr_rs.specs.Division.{generator_coefficient, IsDivisionStep, IsRemainder}
+use Rattle.lr_rs.specs.Division.{generator_coefficient, IsDivisionStep, IsWordRemainder}
 use Rattle.lr_rs.proofs.Locators.{locators}
 use Rattle.lr_rs.specs.declared.sizes.TheConstants.{CHECK_BYTES}
 
@@ -299,13 +299,14 @@ codeword_from_values word h = record {
       ap (λ i. word_value word (power 2 (11 * i))) e ∙ h (j - 112) (omega arith);
 }
 
-pub codeword_of_zeros : (word rest : List ℕ) → IsRemainder word rest → ((k : ℕ) → k < CHECK_BYTES → get_or rest k 0 ≡ 0)
+pub codeword_of_zeros : (word rest : List ℕ) → IsWordRemainder word rest
+    → ((k : ℕ) → k < CHECK_BYTES → get_or rest k 0 ≡ 0)
     → IsCodeword word
 unfolding root_at
 codeword_of_zeros word rest r z =
     codeword_from_values word (λ j h. sym (r.same j h) ∙ value-zeros rest 32 (root_at j) r.long z)
 
-pub zeros_of_codeword : (word rest : List ℕ) → IsRemainder word rest → IsCodeword word → (k : ℕ) → k < CHECK_BYTES
+pub zeros_of_codeword : (word rest : List ℕ) → IsWordRemainder word rest → IsCodeword word → (k : ℕ) → k < CHECK_BYTES
     → get_or rest k 0 ≡ 0
 unfolding root_at
 zeros_of_codeword word rest r code k h =

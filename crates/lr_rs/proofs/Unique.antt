@@ -37,10 +37,9 @@ use Rattle.lr_gf.proofs.SumLaws.{
   weight-suc_le,
 }
 use Rattle.lr_gf.proofs.Vanishing.{vanishing}
-use Rattle.lr_rs.specs.Words.{locator}
+use Rattle.lr_rs.specs.Words.{locator, word_value, IsCodeword, distance, IsWord, AtMostOneIsRestored}
 use Rattle.lr_rs.proofs.Locators.{locators}
 use Rattle.lr_gf.proofs.Elimination.{if_other}
-use Rattle.lr_rs.specs.Words.{word_value, IsCodeword, distance, IsWord, AtMostOneIsRestored}
 use Rattle.lr_rs.specs.declared.sizes.TheConstants.{WORD_BYTES}
 
 -- the difference of two words, out of the dual basis

@@ -32,7 +32,7 @@ pub record IsRemainderOf (bytes remainder : List ℕ) : Type 0 where
   pub elements : (k : ℕ) → slice_index remainder k < 256
 
 -- the remainder of a whole word
-pub record IsRemainder (word remainder : List ℕ) : Type 0 where
+pub record IsWordRemainder (word remainder : List ℕ) : Type 0 where
   pub long : length remainder ≡ CHECK_BYTES
   pub same : (j : ℕ) → j < CHECK_BYTES
       → value_of remainder (power 2 (11 * (112 + j))) ≡ word_value word (power 2 (11 * (112 + j)))

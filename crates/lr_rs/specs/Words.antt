@@ -41,7 +41,7 @@ unfoldable pub distance : ℕ → List ℕ → List ℕ → ℕ
 distance zero a b = 0
 distance (suc n) a b = distance n a b + (if slice_index a n == slice_index b n then 0 else 1)
 
--- how many bytes of a word may be wrong: half as many as there are check bytes (CCSDS 131.0-B, section 4.3.2)
+-- how many bytes of a word may be wrong: half as many as there are check bytes (CCSDS 131.0-B)
 abbrev pub most_errors : ℕ
 most_errors = 16
 

@@ -4,7 +4,7 @@
 ghost use Rattle.std.specs.Prelude.{◌≡◌, ◌↔◌, ℕ, ◌+◌, ◌<◌, ◌++◌, ◌∷◌, [], List, bit_xor, slice_index, length, IsTrue};
 ghost use Rattle.lr_gf.specs.Field.{times};
 ghost use Rattle.lr_rs.specs.Words.{IsCodeword, IsWord};
-ghost use Rattle.lr_rs.specs.Division.{IsDivisionStep, IsRemainder, IsRemainderOf};
+ghost use Rattle.lr_rs.specs.Division.{IsDivisionStep, IsWordRemainder, IsRemainderOf};
 
 use crate::generator::generator_products;
 use crate::sizes::{CHECK_BYTES, WORD_BYTES};
@@ -93,7 +93,7 @@ fn put_elements(lanes: u8x32, elements: &mut [Gf; CHECK_BYTES])
 
 /// Divides a word's polynomial: the remainder's coefficients, the highest first.
 pub(crate) fn remainder_of(word: &[u8; WORD_BYTES], remainder: &mut [Gf; CHECK_BYTES])
-    ensures remainder { IsRemainder word.now remainder.new }
+    ensures remainder { IsWordRemainder word.now remainder.new }
     ensures word { IsWord word.now }
 {
     let mut divided = Remainder::new();

@@ -3,7 +3,7 @@
 
 ghost use Rattle.std.specs.Prelude.{◌≡◌, ◌↔◌, IfOk, IsTrue, OnOk, OnErr, List, ℕ};
 ghost use Rattle.lr_rs.specs.Words.{IsCodeword, IsRestored, IsWord, distance};
-ghost use Rattle.lr_rs.specs.Division.{IsRemainder};
+ghost use Rattle.lr_rs.specs.Division.{IsWordRemainder};
 
 use crate::correction::{correct, distance_of};
 use crate::division::{are_zero, remainder_of};
@@ -50,7 +50,7 @@ impl RsScratch {
 /// Whether a word is a codeword; the remainder of its polynomial is written too.
 fn is_codeword(word: &[u8; WORD_BYTES], remainder: &mut [Gf; CHECK_BYTES]) -> bool
     ensures codeword { IsTrue result ↔ IsCodeword word.now }
-    ensures remainder { IsRemainder word.now remainder.new }
+    ensures remainder { IsWordRemainder word.now remainder.new }
     ensures word { IsWord word.now }
 {
     remainder_of(word, remainder);

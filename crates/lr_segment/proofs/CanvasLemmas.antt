@@ -14,12 +14,12 @@ use Rattle.lr_image.specs.Shapes.{most_pixels}
 use Rattle.lr_segment.specs.declared.rows.Place.{Place}
 use Rattle.lr_segment.specs.Rows.{IsBeside, IsCovered, IsIn, IsOverwritten}
 use Rattle.lr_segment.specs.Canvas.{
-  Adds,
+  AddsMember,
   Canvas,
   canvas,
   IsCanvas,
   Member,
-  StandsFor,
+  CanvasStandsFor,
   covered_of,
   covers,
   pixel_given_by,
@@ -36,7 +36,7 @@ replicate-map x n =
 
 pub no_members : (bits columns lines : ℕ) (pixels : List ℕ) (covered : List Bool)
     → pixels ≡ replicate (columns * lines) 0 → covered ≡ replicate (columns * lines) false
-    → StandsFor (canvas bits columns lines pixels covered) []
+    → CanvasStandsFor (canvas bits columns lines pixels covered) []
 no_members bits columns lines pixels covered are none = record {
   pixels = are ∙ replicate-map 0 (columns * lines);
   covered = none ∙ replicate-map false (columns * lines);
@@ -159,7 +159,7 @@ note_here whole k m old new false is written inside = written.beside k inside (c
 pub adds : (c : Canvas) (m : Member) (pixels : List ℕ) (covered : List Bool) → IsCanvas c
     → IsOverwritten (place_of_member c.columns m) m.picture.lines m.picture.pixels c.pixels pixels
     → IsCovered (place_of_member c.columns m) m.picture.lines c.covered covered
-    → Adds c m (canvas c.bits c.columns c.lines pixels covered)
+    → AddsMember c m (canvas c.bits c.columns c.lines pixels covered)
 adds c m pixels covered is over noted = record {
   bits = refl;
   columns = refl;
@@ -251,7 +251,7 @@ canvas_more c m pixels covered is picture depth over noted = record {
 -- all that a call of `put_lines` is to show
 pub record AddsTo (c : Canvas) (m : Member) (pixels : List ℕ) (covered : List Bool) : Type 0 where
   pub canvas_is : IsCanvas (canvas c.bits c.columns c.lines pixels covered)
-  pub adds : Adds c m (canvas c.bits c.columns c.lines pixels covered)
+  pub adds : AddsMember c m (canvas c.bits c.columns c.lines pixels covered)
   pub pixels_size : length pixels ≡ length c.pixels
   pub covered_size : length covered ≡ length c.covered
 

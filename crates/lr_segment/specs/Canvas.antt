@@ -63,7 +63,7 @@ abbrev pub uncovered_count : ℕ → ℕ → List Member → ℕ
 uncovered_count columns lines members = count_by (λ one. not one) (covered_of columns lines members)
 
 -- the canvas of these members, in their order
-pub record StandsFor (c : Canvas) (members : List Member) : Type 0 where
+pub record CanvasStandsFor (c : Canvas) (members : List Member) : Type 0 where
   pub pixels : c.pixels ≡ pixels_of c.columns c.lines members
   pub covered : c.covered ≡ covered_of c.columns c.lines members
 
@@ -101,11 +101,11 @@ abbrev pub add_fault : Canvas → Member → Option AssembleFault
 add_fault c m = place_fault c.bits c.columns c.lines m
 
 -- the member was added: whatever members the canvas stood for, it stands for them and this one
-pub record Adds (old : Canvas) (m : Member) (new : Canvas) : Type 0 where
+pub record AddsMember (old : Canvas) (m : Member) (new : Canvas) : Type 0 where
   pub bits : new.bits ≡ old.bits
   pub columns : new.columns ≡ old.columns
   pub lines : new.lines ≡ old.lines
-  pub stands : (members : List Member) → StandsFor old members → StandsFor new (members ++ m ∷ [])
+  pub stands : (members : List Member) → CanvasStandsFor old members → CanvasStandsFor new (members ++ m ∷ [])
 
 -- the image of these members, and how many of its pixels no member covers
 pub record IsAssembled (c : Canvas) (members : List Member) (picture : Picture) (count : ℕ) : Type 0 where

@@ -3,7 +3,15 @@
 ghost use Rattle.std.specs.Prelude.{◌≡◌, ◌*◌, ◌≤◌, ◌↔◌, ◌⊎◌, [], List, Some, None, IfNone, IfOk, IfErr, IsOk, OnOk};
 ghost use Rattle.std.specs.Prelude.{OnErr, count_by, not};
 ghost use Rattle.lr_image.specs.Shapes.{most_pixels};
-ghost use Rattle.lr_segment.specs.Canvas.{Adds, HasSizeOf, IsAssembled, Member, StandsFor, add_fault, member};
+ghost use Rattle.lr_segment.specs.Canvas.{
+  AddsMember,
+  HasSizeOf,
+  IsAssembled,
+  Member,
+  CanvasStandsFor,
+  add_fault,
+  member,
+};
 ghost use Rattle.lr_segment.specs.Canvas.{new_fault};
 ghost use Rattle.lr_segment.specs.declared.fault.AssembleFault.{AssembleFault as Fault};
 ghost use Rattle.lr_segment.specs.declared.fault.AssembleFault.TheVariants.{NoMemory};
@@ -37,10 +45,11 @@ impl Model for Assembly {
 }
 
 impl Assembly {
-    /// No segments yet, of an image whose size is the one that this segment names.
+    /// No segments yet, of an image whose size is the one that this segment names. Refused before memory is taken, in
+    /// this order, with `Empty` and `TooLarge`.
     pub fn new(alloc: Global, segment: &Segment, bits: u8) -> Result<Self, AssembleFault>
         requires { (1 ≤ bits) × (bits ≤ 16) }
-        ensures stands { IfOk result (λ canvas. StandsFor canvas []) }
+        ensures stands { IfOk result (λ canvas. CanvasStandsFor canvas []) }
         ensures kept { IfOk result (HasSizeOf segment.now bits) }
         ensures accepted { IfOk result (λ canvas. new_fault segment.now ≡ None) }
         ensures refused { IfErr result (λ fault. (fault ≡ NoMemory) ⊎ (new_fault segment.now ≡ Some fault)) }
@@ -66,11 +75,12 @@ impl Assembly {
         })
     }
 
-    /// Adds a segment, whose pixels replace those of earlier ones, or changes nothing. This takes no memory.
+    /// Adds a segment, whose pixels replace those of earlier ones, or changes nothing. Refused, in this order, with
+    /// `Depths` and `Outside`. This takes no memory.
     pub fn add(&mut self, image: &Image, segment: &Segment) -> Result<(), AssembleFault>
         ensures accepted { IsOk result ↔ (add_fault self.old (member image.now segment.now) ≡ None) }
         ensures refused { IfErr result (λ fault. add_fault self.old (member image.now segment.now) ≡ Some fault) }
-        ensures ok { OnOk result (Adds self.old (member image.now segment.now) self.new) }
+        ensures ok { OnOk result (AddsMember self.old (member image.now segment.now) self.new) }
         ensures err { OnErr result (self.new ≡ self.old) }
     {
         if image.bits() != self.bits {
@@ -102,7 +112,7 @@ impl Assembly {
 
     /// The whole image, and how many of its pixels no segment covers. This takes no memory.
     pub fn finish(self) -> (Image, u64)
-        ensures { (members : List Member) → StandsFor self members → IsAssembled self members result.0 result.1 }
+        ensures { (members : List Member) → CanvasStandsFor self members → IsAssembled self members result.0 result.1 }
     {
         let Assembly {
             bits,

@@ -1,7 +1,7 @@
 //! Images that come in segments, put together.
 //!
 //! An `Assembly` takes the segments of one image one after another; where two cover a place, the later one counts. It
-//! is seen as a `Canvas`, and `StandsFor` says which canvas a list of segments has.
+//! is seen as a `Canvas`, and `CanvasStandsFor` says which canvas a list of segments has.
 #![tactic(auto)]
 
 mod assembly;

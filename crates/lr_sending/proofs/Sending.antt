@@ -14,11 +14,11 @@ use Rattle.lr_causes.specs.Puts.{Puts, PutFails}
 use Rattle.lr_causes.proofs.Joining.{puts_none, puts_both, fails_after, fails_before}
 use Rattle.lr_uplink.specs.declared.uplink.Uplink.{Uplink}
 use Rattle.lr_uplink.specs.Sent.{sent}
-use Rattle.lr_uplink.specs.Standing.{History, StandsFor, with_block, with_frame}
+use Rattle.lr_uplink.specs.Standing.{History, UplinkStandsFor, with_block, with_frame}
 use Rattle.lr_uplink.proofs.Coding.{symbols-front}
 use Rattle.lr_uplink.proofs.UnderWay.{few_left, given_most}
 use Rattle.lr_sending.specs.Transmit.{block_for, blocks_for, frame_bytes}
-use Rattle.lr_sending.specs.Standing.{HasSent, IsAt, history_at, rest_bytes}
+use Rattle.lr_sending.specs.Standing.{HasSent, IsUplinkAt, history_at, rest_bytes}
 
 -- ---- bytes of frames
 
@@ -26,7 +26,7 @@ bytes-append : (x y : List ℤ) → bytes_of_symbols (x ++ y) ≡ bytes_of_symbo
 bytes-append x y = map-append (cast_unsigned w8) x y
 
 module _ (line : LineCode) (wrong : ℕ) where
-  -- frames put a front of what these frames and more put
+  -- frames put a prefix of what these frames and more put
   pub frames-front : (frames later : List (List ℕ)) → (rest : List ℕ)
       × (frame_bytes line wrong (frames ++ later) ≡ frame_bytes line wrong frames ++ rest)
   unfolding frame_bytes
@@ -60,22 +60,22 @@ module _ {O : Type 0} (out : SinkOf O) (line : LineCode) (wrong : ℕ) (files : 
 
   -- this many frames more were given, sent and put
   pub record SoSent (n : ℕ) (uplink : Uplink) (o o1 : O) : Type 0 where
-    pub at : IsAt line wrong files (given + n) uplink
+    pub at : IsUplinkAt line wrong files (given + n) uplink
     pub put : List ℕ
     pub adds : first_bytes (given + n) ≡ first_bytes given ++ put
     pub puts : Puts out put o o1
 
-  pub so_none : (uplink : Uplink) (o : O) → IsAt line wrong files given uplink → SoSent 0 uplink o o
+  pub so_none : (uplink : Uplink) (o : O) → IsUplinkAt line wrong files given uplink → SoSent 0 uplink o o
   so_none uplink o at =
       let none : given ≡ given + 0 = omega arith in
       record {
-        at = subst (λ k. IsAt line wrong files k uplink) none at;
+        at = subst (λ k. IsUplinkAt line wrong files k uplink) none at;
         put = [];
         adds = ap first_bytes (sym none) ∙ sym (append-nil (first_bytes given));
         puts = puts_none out o;
       }
 
-  most : (n : ℕ) (uplink : Uplink) → IsAt line wrong files (given + n) uplink → given + n ≤ length frames
+  most : (n : ℕ) (uplink : Uplink) → IsUplinkAt line wrong files (given + n) uplink → given + n ≤ length frames
   most n uplink at = given_most uplink.counters uplink.sending files (given + n) at.frames
 
   pub blocks_given : (n : ℕ) → n ≤ length frames → length (blocks_for wrong (take n frames)) ≡ n
@@ -97,8 +97,8 @@ module _ {O : Type 0} (out : SinkOf O) (line : LineCode) (wrong : ℕ) (files : 
       pub next_stands : (frame block : List ℕ) → frame ≡ get_or frames place [] → IsSentFor frame block
           → (later : Uplink)
           → (length history.blocks < place + 1 → IsSentFor (get_or frames (length history.blocks) []) block
-          → StandsFor later line (with_block (with_frame history) block))
-          → StandsFor later line (with_block (with_frame history) block)
+          → UplinkStandsFor later line (with_block (with_frame history) block))
+          → UplinkStandsFor later line (with_block (with_frame history) block)
       next_stands frame block is sent later call =
           let given_all : length history.blocks ≡ place = blocks_given place (omega (arith, more)) in
           call (omega (arith, given_all))
@@ -129,13 +129,13 @@ module _ {O : Type 0} (out : SinkOf O) (line : LineCode) (wrong : ℕ) (files : 
             ap (λ bs. record { files = files; given = place + 1; blocks = bs }) next_blocks
             ∙ ap (history_at wrong files) there
 
-        pub one_more : (later : Uplink) → StandsFor later line (with_block (with_frame history) block)
+        pub one_more : (later : Uplink) → UplinkStandsFor later line (with_block (with_frame history) block)
             → (bytes : List ℕ) → bytes ≡ bytes_of_symbols symbols → (o2 : O) → Puts out bytes o1 o2
             → SoSent (n + 1) later o o2
         one_more later stands bytes is o2 puts =
             let there : place + 1 ≡ given + (n + 1) = omega arith in
             record {
-              at = subst (StandsFor later line) next_history stands;
+              at = subst (UplinkStandsFor later line) next_history stands;
               put = so.put ++ bytes;
               adds =
                   ap first_bytes (sym there) ∙ next_bytes ∙ ap (λ l. l ++ bytes_of_symbols symbols) so.adds
@@ -188,7 +188,7 @@ module _ {O : Type 0} (out : SinkOf O) (line : LineCode) (wrong : ℕ) (files : 
       all_given = omega (arith, most n uplink so.at, none)
 
       pub all_sent : HasSent line wrong files uplink
-      all_sent = subst (λ k. IsAt line wrong files k uplink) all_given so.at
+      all_sent = subst (λ k. IsUplinkAt line wrong files k uplink) all_given so.at
 
       pub all_put : Puts out (rest_bytes line wrong files given) o o1
       all_put =
@@ -200,7 +200,7 @@ module _ {O : Type 0} (out : SinkOf O) (line : LineCode) (wrong : ℕ) (files : 
           subst (λ l. Puts out l o o1) (sym rest) so.puts
 
   -- the loop has more turns than there are frames
-  pub too_many : (n : ℕ) (before later : Uplink) (o o1 : O) → IsAt line wrong files given before
+  pub too_many : (n : ℕ) (before later : Uplink) (o o1 : O) → IsUplinkAt line wrong files given before
       → SoSent n later o o1 → 2 ^ 32 ≤ n → ⊥
   too_many n before later o o1 at so many =
       omega (

@@ -1,39 +1,46 @@
 -- What `transmit` put once it is done, and what a receiver makes of it.
-use Rattle.std.specs.Prelude.{◌≡◌, ◌<◌, ◌+◌, ◌-◌, ◌++◌, ℕ, Some, List, length, slice_get}
+use Rattle.std.specs.Prelude.{◌≡◌, ◌⊎◌, ◌+◌, ◌-◌, ◌++◌, ◌∷◌, ℕ, zero, suc, Some, List, []}
 use Rattle.lr_bits.specs.File.{File}
 use Rattle.lr_conv.specs.declared.line.LineCode.{LineCode}
 use Rattle.lr_frame.specs.Outcomes.{outcomes_of_symbols}
 use Rattle.lr_lock.specs.Symbols.{symbols_of}
-use Rattle.lr_shelf_format.specs.Way.{Way, IsWay}
+use Rattle.lr_shelf_format.specs.Way.{Gone, IsFound, IsWay, Sound, Way}
+use Rattle.lr_shelf_format.specs.declared.entry.Entry.{Entry}
+use Rattle.lr_shelf_format.specs.declared.stored.Stored.{Stored}
 use Rattle.lr_uplink.specs.Received.{AreFilesOf}
 use Rattle.lr_causes.specs.Outside.{Outlets, OutletsOf}
 use Rattle.lr_causes.specs.declared.cause.Cause.{Cause}
-use Rattle.lr_commands.specs.Asked.{IsSeen, Seen, Wrong, entry_at}
-use Rattle.lr_commands.specs.Files.{files_of, no_image}
+use Rattle.lr_commands.specs.Queries.{entry_at}
 use Rattle.lr_commands.specs.Read.{IsDone}
-use Rattle.lr_sending.specs.Transmit.{files_read, sent_bytes}
+use Rattle.lr_sending.specs.Transmit.{sent_bytes}
 
--- these are the files of the entries from one number up to another, without those that are gone; each one is sound
-pub record AreFilesBetween (bytes : List ℕ) (way : Way) (from to : ℕ) (files : List File) : Type 0 where
-  pub read : List Seen
-  pub all : length read ≡ to - from
-  pub stand : (i : ℕ) → i < length read → IsSeen no_image bytes (entry_at way (from + i)) (slice_get read i)
-  pub sound : (i stored computed : ℕ) → slice_get read i ≡ Some (Wrong stored computed) → ⊥
-  pub are : files ≡ files_read (files_of read)
+-- a sound file stands at the entry, and it is the first of these
+pub record FileThen (bytes : List ℕ) (entry : Entry) (Others : List File → Type 0) (files : List File) : Type 0 where
+  pub stored : Stored
+  pub found : IsFound bytes entry (Some (Sound stored))
+  pub others : List File
+  pub are_others : Others others
+  pub joined : files ≡ stored.file ∷ others
 
--- what was put is what these files are sent as, and a receiver of it finds them
-pub record IsTransmitted (line : LineCode) (from to wrong : ℕ) (bytes put : List ℕ) : Type 0 where
-  pub way : Way
-  pub is_way : IsWay bytes way
-  pub files : List File
-  pub are : AreFilesBetween bytes way from to files
-  pub sent_as : put ≡ sent_bytes line wrong files
-  pub received : AreFilesOf (outcomes_of_symbols line (symbols_of put)) files
+-- The files of this many entries, from this number on. One that is gone has none, and each other one is sound.
+abbrev pub AreFilesBetween : List ℕ → Way → (left number : ℕ) → List File → Type 0
+AreFilesBetween bytes way zero number files = files ≡ []
+AreFilesBetween bytes way (suc left) number files =
+    (IsFound bytes (entry_at way number) (Some Gone) × AreFilesBetween bytes way left (number + 1) files)
+    ⊎ FileThen bytes (entry_at way number) (AreFilesBetween bytes way left (number + 1)) files
 
--- Where the call is done, this is what it put.
 module _ {D O : Type 0} (world : OutletsOf D O) (line : LineCode) (from to wrong : ℕ) where
+  -- What was put is what some files are sent as, and a receiver of it finds them. Where the disk tells its contents,
+  -- they are those of the entries from one number up to another.
+  pub record IsTransmitted (w w' : Outlets D O) : Type 0 where
+    pub put : List ℕ
+    pub got : world.out.contents w'.out ≡ world.out.contents w.out ++ put
+    pub files : List File
+    pub sent_as : put ≡ sent_bytes line wrong files
+    pub received : AreFilesOf (outcomes_of_symbols line (symbols_of put)) files
+    pub are : world.disk.tells w.disk → (way : Way) × IsWay (world.disk.contents w.disk) way
+        × AreFilesBetween (world.disk.contents w.disk) way (to - from) from files
+
+  -- Where the call is done, over every disk, this is what it put.
   abbrev pub Transmits : Cause → Outlets D O → Outlets D O → Type 0
-  Transmits cause w w' =
-      IsDone cause → world.disk.tells w.disk → world.out.tells w.out → (put : List ℕ)
-      × (world.out.contents w'.out ≡ world.out.contents w.out ++ put)
-      × IsTransmitted line from to wrong (world.disk.contents w.disk) put
+  Transmits cause w w' = IsDone cause → world.out.tells w.out → IsTransmitted w w'

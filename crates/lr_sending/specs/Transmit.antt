@@ -11,8 +11,8 @@ use Rattle.lr_uplink.specs.Sent.{sent}
 use Rattle.lr_causes.specs.declared.cause.Refusal.{Refusal}
 use Rattle.lr_causes.specs.declared.cause.Refusal.TheVariants.{CannotSend}
 use Rattle.lr_commands.specs.declared.opened.Opened.{Opened}
-use Rattle.lr_commands.specs.Asked.{Asked}
-use Rattle.lr_commands.specs.Files.{AskedOfFiles, asked_of_files, entries_between, no_image, no_note, no_text}
+use Rattle.lr_commands.specs.Queries.{Query}
+use Rattle.lr_commands.specs.Files.{FileQuery, query_of_files, entries_between, no_image, no_note, no_text}
 
 -- the block that is sent for a frame: encoded, with this many wrong bytes in each word, and randomised
 abbrev pub block_for : ℕ → List ℕ → List ℕ
@@ -39,23 +39,23 @@ added_bytes line wrong before file =
     drop (length (sent_bytes line wrong before)) (sent_bytes line wrong (before ++ file ∷ []))
 
 -- what becomes of a file after others; none is sent on the channel of fill
-abbrev pub becomes_sent : LineCode → ℕ → List File → File → Result (List ℕ) Refusal
-becomes_sent line wrong before file =
+abbrev pub sent_entry_text : LineCode → ℕ → List File → File → Result (List ℕ) Refusal
+sent_entry_text line wrong before file =
     if file.vc == FILL_CHANNEL then Err CannotSend else Ok (added_bytes line wrong before file)
 
 -- the files that were read
 abbrev pub files_read : List Opened → List File
 files_read read = map (λ opened. opened.stored.file) read
 
-abbrev pub asked_of_transmit : (from to wrong : ℕ) → LineCode → AskedOfFiles
-asked_of_transmit from to wrong line = record {
+abbrev pub transmit_files_query : (from to wrong : ℕ) → LineCode → FileQuery
+transmit_files_query from to wrong line = record {
   range = entries_between from to;
   looks = no_image;
-  becomes = λ read n opened. becomes_sent line wrong (files_read read) opened.stored.file;
+  entry_text = λ read n opened. sent_entry_text line wrong (files_read read) opened.stored.file;
   gone = λ n. no_text;
   last = λ way read. no_text;
   tells = no_note;
 }
 
-abbrev pub transmit_asked : (from to wrong : ℕ) → LineCode → Asked
-transmit_asked from to wrong line = asked_of_files (asked_of_transmit from to wrong line)
+abbrev pub transmit_query : (from to wrong : ℕ) → LineCode → Query
+transmit_query from to wrong line = query_of_files (transmit_files_query from to wrong line)

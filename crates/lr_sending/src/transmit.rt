@@ -7,8 +7,8 @@ ghost use Rattle.lr_causes.specs.Puts.{Puts, PutFails};
 ghost use Rattle.lr_commands.specs.Runs.{RunsOver};
 ghost use Rattle.lr_commands.specs.Steps.{PutsText, TextStops};
 ghost use Rattle.lr_sending.specs.Received.{Transmits};
-ghost use Rattle.lr_sending.specs.Standing.{HasSent, IsAt, rest_bytes};
-ghost use Rattle.lr_sending.specs.Transmit.{becomes_sent, transmit_asked};
+ghost use Rattle.lr_sending.specs.Standing.{HasSent, IsUplinkAt, rest_bytes};
+ghost use Rattle.lr_sending.specs.Transmit.{sent_entry_text, transmit_query};
 
 use lr_bits::{BLOCK_BYTES, FRAME_BYTES, FRAME_SYMBOLS, MissionFile, NoMemory};
 use lr_causes::{Cause, Note, Party, Refusal, put_text};
@@ -26,13 +26,13 @@ use std::alloc::Global;
 /// takes no memory.
 fn put_frames<O: Sink>(uplink: &mut Uplink, wrong: u8, out: &mut O) -> Result<(), Cause>
     requires { wrong ≤ 16 }
-    ensures put { (line : LineCode') (files : List File) (given : ℕ) → IsAt line wrong files given uplink.old
+    ensures put { (line : LineCode') (files : List File) (given : ℕ) → IsUplinkAt line wrong files given uplink.old
         → OnOk result (Puts O.Sink (rest_bytes line wrong files given) out.old out.new) }
-    ensures sent { (line : LineCode') (files : List File) (given : ℕ) → IsAt line wrong files given uplink.old
+    ensures sent { (line : LineCode') (files : List File) (given : ℕ) → IsUplinkAt line wrong files given uplink.old
         → OnOk result (HasSent line wrong files uplink.new) }
-    ensures failed { (line : LineCode') (files : List File) (given : ℕ) → IsAt line wrong files given uplink.old
+    ensures failed { (line : LineCode') (files : List File) (given : ℕ) → IsUplinkAt line wrong files given uplink.old
         → OnErr result (PutFails O.Sink (rest_bytes line wrong files given) out.old out.new) }
-    ensures some { (line : LineCode') (files : List File) (given : ℕ) → IsAt line wrong files given uplink.old
+    ensures some { (line : LineCode') (files : List File) (given : ℕ) → IsUplinkAt line wrong files given uplink.old
         → OnErr result (0 < length (rest_bytes line wrong files given)) }
     ensures cause { IfErr result (λ cause. cause ≡ Cause.Failed Party.Output) }
 {
@@ -63,11 +63,11 @@ fn send_file<O: Sink>(
 ) -> Result<(), Cause>
     requires { wrong ≤ 16 }
     ensures puts { (line : LineCode') (files : List File) → HasSent line wrong files uplink.old
-        → OnOk result (PutsText O.Sink (becomes_sent line wrong files file) out.old out.new) }
+        → OnOk result (PutsText O.Sink (sent_entry_text line wrong files file) out.old out.new) }
     ensures sent { (line : LineCode') (files : List File) → HasSent line wrong files uplink.old
         → OnOk result (HasSent line wrong (files ++ file ∷ []) uplink.new) }
     ensures stops { (line : LineCode') (files : List File) → HasSent line wrong files uplink.old
-        → IfErr result (λ cause. TextStops O.Sink (becomes_sent line wrong files file) cause out.old out.new) }
+        → IfErr result (λ cause. TextStops O.Sink (sent_entry_text line wrong files file) cause out.old out.new) }
 {
     match uplink.load(file) {
         Ok(()) => put_frames(uplink, wrong, out),
@@ -89,11 +89,11 @@ struct TransmitRange {
 impl ReadsEntries for TransmitRange {
     ghost use Rattle.lr_commands.specs.Files.{files_of};
     ghost use Rattle.lr_sending.specs.Standing.{HasSent};
-    ghost use Rattle.lr_sending.specs.Transmit.{files_read, transmit_asked};
+    ghost use Rattle.lr_sending.specs.Transmit.{files_read, transmit_query};
 
     type Gathered = Uplink;
 
-    ghost asked = { λ s. transmit_asked s.from s.to s.wrong s.line };
+    ghost query = { λ s. transmit_query s.from s.to s.wrong s.line };
 
     ghost gathers = { λ s uplink read. HasSent s.line s.wrong (files_read (files_of read)) uplink };
 
@@ -148,7 +148,7 @@ pub fn transmit<D: Disk, O: Sink>(
     out: &mut O,
 ) -> Cause
     requires { wrong ≤ 16 }
-    ensures runs { RunsOver (outlets_of D.Disk O.Sink) (transmit_asked from to wrong line) result
+    ensures runs { RunsOver (outlets_of D.Disk O.Sink) (transmit_query from to wrong line) result
         (outlets disk.old out.old) (outlets disk.new out.new) }
     ensures sent { Transmits (outlets_of D.Disk O.Sink) line from to wrong result
         (outlets disk.old out.old) (outlets disk.new out.new) }

@@ -16,8 +16,7 @@ use Rattle.lr_vc.specs.Packets.{zones_of, pointer_of, packet_end, has_header, is
 use Rattle.lr_vc.specs.Packets.{starts_of, zones_after, agrees, is_delivered, packet_at, ends_in, place_of}
 use Rattle.lr_vc.specs.Packets.{packets_ending, packets_in, packets_of}
 use Rattle.lr_vc.proofs.Lists.{Each-map, Each-flat_map, Each_any, Each_weaker, Each-range}
-use Rattle.lr_vc.proofs.Starts.{length_field-append, length_field-behind, packet_end_is, has_header_true}
-use Rattle.lr_vc.proofs.Starts.{is_whole_true}
+use Rattle.lr_vc.proofs.Starts.{length_field-append, length_field-behind, packet_end_is, has_header_true, is_whole_true}
 use Rattle.lr_sent.specs.Carried.{TellsItsLength, IsEdge, frames_of_channel, AreCountedOn, CarryPackets}
 use Rattle.lr_sent.specs.Carried.{PacketsWereSent}
 

@@ -22,7 +22,7 @@ use Rattle.lr_bits.specs.Packet.{Packet}
 use Rattle.lr_bits.specs.declared.sizes.TheConstants.{FILL_CHANNEL, IDLE_APPLICATION, ZONE_BYTES}
 use Rattle.lr_vc.specs.Frame.{Fields, fields_of, version_of}
 use Rattle.lr_vc.specs.Packets.{packets_of}
-use Rattle.lr_vc.specs.Runs.{AreFrames}
+use Rattle.lr_vc.specs.Runs.{AreChannelFrames}
 use Rattle.lr_vc.proofs.Fitting.{packets_fit}
 use Rattle.lr_vc.proofs.Lists.{Each-map, Each_any}
 use Rattle.lr_packet.specs.declared.packet.PacketFault.{PacketFault}
@@ -40,7 +40,7 @@ use Rattle.lr_make.specs.Standing.{image_frames, text_frames}
 use Rattle.lr_make.proofs.Heads.{length-image_packet, length-text_packet}
 use Rattle.lr_make.proofs.Rounds.{frame_at-turn, frame_at-images}
 use Rattle.lr_sent.specs.Carried.{TellsItsLength, frames_of_channel, CarryPackets}
-use Rattle.lr_sent.specs.Made.{made_outcomes, room_of, room_of_files, MadeFilesFit}
+use Rattle.lr_sent.specs.Made.{made_outcomes, room_for_file, room_of_files, MadeFilesFit}
 use Rattle.lr_sent.proofs.Carrying.{packets_were_sent, packets_by_channels}
 use Rattle.lr_sent.proofs.MadeFrames.{packet_frame_reads, fill_frame_reads}
 use Rattle.lr_sent.proofs.MadePackets.{image_tells, image_long, image_not_alone, text_tells, text_long}
@@ -395,7 +395,7 @@ module _ (start : ℕ) where
             ]
       ]
 
-  all_frames : (n : ℕ) → AreFrames (made_frames n)
+  all_frames : (n : ℕ) → AreChannelFrames (made_frames n)
   all_frames n =
       All-from_recursion (λ f. length f.zone ≡ ZONE_BYTES) (made_frames n)
       (Each-map (λ f. length f.zone ≡ ZONE_BYTES) made_frame (range_with_len 0 n)
@@ -455,7 +455,7 @@ made_files_fit start wrong n front later split =
     let m = length front in
     let files = files_of_outcomes (made_outcomes start wrong m) in
     let sizes : room_of_files files ≤ sum_by (file_weight weights) files =
-    sum_by-le-sum_by room_of (file_weight weights) files (λ file. omega arith) in
+    sum_by-le-sum_by room_for_file (file_weight weights) files (λ file. omega arith) in
     subst (λ (outcomes : List Outcome). room_of_files (files_of_outcomes outcomes) ≤ ZONE_BYTES * (n + 1)) (sym is.1)
     (omega (arith, sizes, files_fit start wrong m, is.0))
 
@@ -467,7 +467,7 @@ placed_fit start wrong n front later split =
     let frames : frames_of_outcomes front ≡ made_frames start (length front) =
     ap frames_of_outcomes is.1 ∙ frames_made start wrong 0 (length front) in
     subst (λ (files : List File). room_of_files files ≤ ZONE_BYTES * (n + 1))
-    (sym (have_origins front (subst AreFrames (sym frames) (all_frames start (length front)))))
+    (sym (have_origins front (subst AreChannelFrames (sym frames) (all_frames start (length front)))))
     (made_files_fit start wrong n front later split)
 
 -- each fourth frame is of the channel of fill

@@ -30,11 +30,11 @@ abbrev pub FillIsFill : Type 0
 FillIsFill = (start k : ℕ) → k % 4 ≡ 3 → field_of (frame_at start k) 10 6 ≡ FILL_CHANNEL
 
 -- how many bytes a file has, with 2 more for each body and 39 more for itself; and of these files together
-abbrev pub room_of : File → ℕ
-room_of file = length (bytes_of file) + 2 * length file.bodies + 39
+abbrev pub room_for_file : File → ℕ
+room_for_file file = length (bytes_of file) + 2 * length file.bodies + 39
 
 abbrev pub room_of_files : List File → ℕ
-room_of_files files = sum_by room_of files
+room_of_files files = sum_by room_for_file files
 
 -- the law: for the files of some first outcomes of n frames as many bytes are enough as n + 1 zones have
 abbrev pub MadeFilesFit : Type 0

@@ -31,8 +31,8 @@ use Rattle.lr_shelf_format.specs.declared.entry.Entry.{Entry}
 use Rattle.lr_shelf_format.proofs.ItemLemmas.{length-item_bytes}
 use Rattle.lr_shelf.specs.Adding.{IsReady, StaysOutside, WithOrWithout}
 use Rattle.lr_shelf.specs.Adds.{Adds, last_gate, new_end}
-use Rattle.lr_shelf.specs.Calls.{IsCounted}
-use Rattle.lr_shelf.specs.Kept.{Kept, kept_by, kept_with}
+use Rattle.lr_shelf.specs.Calls.{IsFaultCounted}
+use Rattle.lr_shelf.specs.Kept.{KeptShelf, kept_by, kept_with}
 use Rattle.lr_shelf.specs.Shelf.{HasEitherWay, IsSettled, KeepsWay, StandsForEither}
 use Rattle.lr_shelf.specs.declared.error.ShelfError.{ShelfError}
 use Rattle.lr_shelf.specs.declared.error.ShelfError.TheVariants.{
@@ -59,14 +59,14 @@ use Rattle.lr_shelf.proofs.AddingLemmas.{
 }
 
 -- what a shelf keeps, of its parts
-abbrev pub kept_made : ℕ → List Entry → ℕ → Bool → Kept
+abbrev pub kept_made : ℕ → List Entry → ℕ → Bool → KeptShelf
 kept_made capacity entries end failed = record {
   way = record { capacity = capacity; entries = entries; end = end };
   failed = failed;
 }
 
 -- a refusal other than `Disk` leaves the count
-same_count : (A : Type 0) (n : ℕ) (error : ShelfError) → error ≢ Disk → IsCounted {A = A} n n (Err error)
+same_count : (A : Type 0) (n : ℕ) (error : ShelfError) → error ≢ Disk → IsFaultCounted {A = A} n n (Err error)
 same_count A n Disk other = absurd (other refl)
 same_count A n (NotAShelf at) other = refl
 same_count A n (NotEmpty size) other = refl
@@ -163,7 +163,7 @@ module _ {D : Type 0} (disk : DiskOf D) (item : Item) (is : IsItem item) (shelf 
       → EachImageSince disk d d' (HasEitherWay (kept_by shelf).way item)
   way_moments t keeps only =
       weaker disk.moment disk.left_since d d' _ _
-      (way_either (disk.contents d) (kept_by shelf).way keeps item is may) (bytes_moments t keeps only)
+      (way_either (disk.contents d) (kept_by shelf).way keeps item is may fits) (bytes_moments t keeps only)
 
   now_either : (capacity : ℕ) (items : List Item) → IsSettled disk capacity items shelf d → (c : List ℕ)
       → disk.may_leave d' c → StandsForEither capacity items item c
@@ -201,10 +201,13 @@ module _ {D : Type 0} (disk : DiskOf D) (item : Item) (is : IsItem item) (shelf 
         size (stands t ∙ ap (λ (l : List ℕ). 1 ∷ l) parts);
     durable = durable;
     either_way = λ t keeps.
-        inr (way_after (disk.contents d) (kept_by shelf).way keeps item is may (disk.contents d')
-        (done _ _ t (ready_way (disk.contents d) (kept_by shelf).way keeps item is may staged parts)));
+        inr (
+          way_after (disk.contents d) (kept_by shelf).way keeps item is may (disk.contents d')
+              (done _ _ t (ready_way (disk.contents d) (kept_by shelf).way keeps item is may staged parts)),
+          fits,
+        );
     way = λ t keeps.
-        subst (IsWay (disk.contents d')) (sym (ap (λ (k : Kept). k.way) one))
+        subst (IsWay (disk.contents d')) (sym (ap (λ (k : KeptShelf). k.way) one))
         (way_after (disk.contents d) (kept_by shelf).way keeps item is may (disk.contents d')
         (done _ _ t (ready_way (disk.contents d) (kept_by shelf).way keeps item is may staged parts)));
     way_any_moment = way_moments;
@@ -252,7 +255,7 @@ module _ {D : Type 0} (disk : DiskOf D) (item : Item) (is : IsItem item) (shelf 
     durable = λ t. tt;
     way = λ t keeps. tt;
     either_way = λ t keeps.
-        way_either (disk.contents d) (kept_by shelf).way keeps item is may (disk.contents d')
+        way_either (disk.contents d) (kept_by shelf).way keeps item is may fits (disk.contents d')
         (left _ _ t (ready_way (disk.contents d) (kept_by shelf).way keeps item is may staged parts));
     way_any_moment = way_moments;
     bytes_any_moment = bytes_moments;

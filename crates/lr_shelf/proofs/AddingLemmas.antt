@@ -17,7 +17,7 @@ use Rattle.lr_shelf_format.proofs.WalkLemmas.{IsPath-push, IsPath-same, IsProper
 use Rattle.lr_shelf_format.proofs.WayLemmas.{AreOf, entries_after-push, may_follow, of_walk}
 use Rattle.lr_shelf.specs.Adding.{IsReady, WithOrWithout}
 use Rattle.lr_shelf.specs.Adds.{last_gate, new_end}
-use Rattle.lr_shelf.specs.Kept.{Kept, kept_by, kept_with}
+use Rattle.lr_shelf.specs.Kept.{KeptShelf, kept_by, kept_with}
 use Rattle.lr_shelf.specs.Shelf.{HasEitherWay, IsShelfOf, StandsForEither}
 use Rattle.lr_shelf.specs.declared.shelf.Shelf.{Shelf}
 use Rattle.lr_shelf.proofs.Crash.{front_push}
@@ -147,8 +147,9 @@ module _ (capacity : ℕ) (items : List Item) (shelf : Shelf) (bytes : List ℕ)
   pub kept_after : (after : Shelf) → kept_by after ≡ kept_with item (kept_by shelf)
       → IsShelfOf capacity (items ++ item ∷ []) after
   kept_after after same = record {
-    way = ap (λ (k : Kept). k.way) same ∙ ap (way_with (head_of_item item)) kept.way ∙ way_of-push capacity items item;
-    working = ap (λ (k : Kept). k.failed) same ∙ kept.working;
+    way = ap (λ (k : KeptShelf). k.way) same ∙ ap (way_with (head_of_item item)) kept.way
+        ∙ way_of-push capacity items item;
+    working = ap (λ (k : KeptShelf). k.failed) same ∙ kept.working;
   }
 
 -- ---- over bytes whose way the shelf keeps
@@ -280,7 +281,7 @@ module _ (bytes : List ℕ) (way : Way) (has : IsWay bytes way) where
           end = omega (arith, has.end);
         }
 
-    pub way_either : (c : List ℕ) → WithOrWithout (take (way.end - 1) bytes) (item_bytes item) c
-        → HasEitherWay way item c
-    way_either c (inl shut) = inl (way_still c shut)
-    way_either c (inr shut) = inr (way_after c shut)
+    pub way_either : (way_with (head_of_item item) way).end ≤ way.capacity → (c : List ℕ)
+        → WithOrWithout (take (way.end - 1) bytes) (item_bytes item) c → HasEitherWay way item c
+    way_either fits c (inl shut) = inl (way_still c shut)
+    way_either fits c (inr shut) = inr (way_after c shut, fits)

@@ -4,14 +4,14 @@ use Rattle.lr_bits.specs.declared.refusals.Failed.{Failed}
 use Rattle.lr_disk.specs.Reads.{OnlyReads}
 use Rattle.lr_disk.specs.declared.disk.Disk.{Ghosts as DiskOf}
 use Rattle.lr_disk.proofs.Moments.{unwritten_joined}
-use Rattle.lr_shelf.specs.Calls.{IsCounted, ReadsDisk}
+use Rattle.lr_shelf.specs.Calls.{IsFaultCounted, ReadsDisk}
 use Rattle.lr_shelf.specs.declared.error.ShelfError.{ShelfError}
 use Rattle.lr_shelf.specs.declared.error.ShelfError.TheVariants.{Disk}
 
 module _ {D : Type 0} (disk : DiskOf D) where
   -- a run after which the answer is neither Ok nor `Disk`, or is Ok
   pub run_ended : {S A : Type 0} (d d' : D) (answer : S) (r : Result A ShelfError)
-      → (disk.faults d' ≡ disk.faults d → IsCounted (disk.faults d) (disk.faults d') r)
+      → (disk.faults d' ≡ disk.faults d → IsFaultCounted (disk.faults d) (disk.faults d') r)
       → OnlyReads disk d d' (Ok answer) → ReadsDisk disk d d' r
   run_ended d d' answer r counted reads = record {
     calls = record { told = reads.told; untold = reads.untold; counted = counted reads.cause.kept };
@@ -35,7 +35,7 @@ module _ {D : Type 0} (disk : DiskOf D) where
     calls = record {
       told = λ t. two.calls.told (one.told t);
       untold = λ t. one.untold (two.calls.untold t);
-      counted = subst (λ (n : ℕ). IsCounted n (disk.faults d') r) one.cause.kept two.calls.counted;
+      counted = subst (λ (n : ℕ). IsFaultCounted n (disk.faults d') r) one.cause.kept two.calls.counted;
     };
     unwritten = λ t. unwritten_joined disk d mid d' (one.unwritten t) (two.unwritten (one.told t));
     images = λ t c image. two.images (one.told t) c (one.kept t c image);

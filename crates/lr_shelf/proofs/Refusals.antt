@@ -7,7 +7,7 @@ use Rattle.lr_shelf.specs.Adds.{Adds, needed_by, new_end}
 use Rattle.lr_shelf.specs.Append.{Appends, IsAppendRefusal, item_for}
 use Rattle.lr_shelf.specs.Asked.{IsAskable, IsEntryRefusal, entry_of}
 use Rattle.lr_shelf.specs.Discards.{Discards, IsDiscardError}
-use Rattle.lr_shelf.specs.Kept.{Kept, kept_by}
+use Rattle.lr_shelf.specs.Kept.{KeptShelf, kept_by}
 use Rattle.lr_shelf.specs.declared.error.ShelfError.{ShelfError}
 use Rattle.lr_shelf.specs.declared.error.ShelfError.TheVariants.{
   Disk,
@@ -24,7 +24,7 @@ use Rattle.lr_shelf.specs.declared.shelf.Shelf.{Shelf}
 use Rattle.lr_shelf.proofs.AddingExits.{refused}
 use Rattle.lr_shelf.proofs.ItemsKept.{entry_count_is}
 
-module _ (item : Item) (kept : Kept) where
+module _ (item : Item) (kept : KeptShelf) where
   spent_append : (error : ShelfError) → IsAppendRefusal item kept error → kept.failed ≡ true → error ≡ Failed
   spent_append Disk is failed = cc (is.0, failed)
   spent_append (Capacity needed capacity) is failed = cc (is.0, failed)
@@ -49,7 +49,7 @@ module _ (item : Item) (kept : Kept) where
   full_append (Crc stored computed) is works over = absurd is
   full_append Discarded is works over = absurd is
 
-module _ (number : ℕ) (kept : Kept) where
+module _ (number : ℕ) (kept : KeptShelf) where
   spent_discard : (error : ShelfError) → IsDiscardError number kept error → kept.failed ≡ true → error ≡ Failed
   spent_discard Disk is failed = cc (is.0.working, failed)
   spent_discard (Capacity needed capacity) is failed = cc (is.0.working, failed)
@@ -100,7 +100,7 @@ module _ (number : ℕ) (kept : Kept) where
   full_discard Discarded is askable over = cc (is.2, askable.stays)
 
 -- a refusal that the shelf gives by itself
-pub entry_to_discard : (number : ℕ) (kept : Kept) (error : ShelfError) → IsEntryRefusal kept number error
+pub entry_to_discard : (number : ℕ) (kept : KeptShelf) (error : ShelfError) → IsEntryRefusal kept number error
     → IsDiscardError number kept error
 entry_to_discard number kept Disk is = absurd is
 entry_to_discard number kept (NotAShelf at) is = is
@@ -112,7 +112,7 @@ entry_to_discard number kept NoMemory is = is
 entry_to_discard number kept Failed is = is
 entry_to_discard number kept Discarded is = is
 
-pub not_disk : (number : ℕ) (kept : Kept) (error : ShelfError) → IsEntryRefusal kept number error → error ≢ Disk
+pub not_disk : (number : ℕ) (kept : KeptShelf) (error : ShelfError) → IsEntryRefusal kept number error → error ≢ Disk
 not_disk number kept error is same = absurd (subst (IsEntryRefusal kept number) same is)
 
 module _ {D : Type 0} (disk : DiskOf D) where

@@ -7,22 +7,22 @@ use Rattle.lr_disk.specs.Pending.{EachImageSince, NothingPending}
 use Rattle.lr_shelf_format.specs.Items.{Item, extent_of, head_of_item, item_bytes}
 use Rattle.lr_shelf.specs.Adding.{StaysOutside, WithOrWithout}
 use Rattle.lr_shelf.specs.Calls.{Calls}
-use Rattle.lr_shelf.specs.Kept.{Kept, kept_by, kept_with}
+use Rattle.lr_shelf.specs.Kept.{KeptShelf, kept_by, kept_with}
 use Rattle.lr_shelf.specs.Shelf.{HasEitherWay, IsSettled, KeepsWay, StandsForEither}
 use Rattle.lr_shelf.specs.declared.error.ShelfError.{ShelfError}
 use Rattle.lr_shelf.specs.declared.error.ShelfError.TheVariants.{Disk}
 use Rattle.lr_shelf.specs.declared.shelf.Shelf.{Shelf}
 
 -- where the shelf would end with the item
-abbrev pub new_end : Item → Kept → ℕ
+abbrev pub new_end : Item → KeptShelf → ℕ
 new_end item kept = kept.way.end + 1 + extent_of (head_of_item item)
 
 -- where the shelf would end with the item, as a number of 64 bits: the greatest of them where it is past that
-abbrev pub needed_by : Item → Kept → ℕ
+abbrev pub needed_by : Item → KeptShelf → ℕ
 needed_by item kept = min (new_end item kept) most_u64
 
 -- the place of the gate at its end
-abbrev pub last_gate : Kept → ℕ
+abbrev pub last_gate : KeptShelf → ℕ
 last_gate kept = kept.way.end - 1
 
 module _ {D : Type 0} (disk : DiskOf D) where

@@ -8,16 +8,16 @@ use Rattle.lr_shelf.specs.declared.error.ShelfError.{ShelfError}
 use Rattle.lr_shelf.specs.declared.error.ShelfError.TheVariants.{Disk}
 
 -- the disk's count of faults rose where the answer is `Disk`, and else it stays
-abbrev pub IsCounted : {A : Type 0} → ℕ → ℕ → Result A ShelfError → Type 0
-IsCounted before now (Ok answer) = now ≡ before
-IsCounted before now (Err Disk) = (before ≤ now) × Rose before now
-IsCounted before now (Err error) = now ≡ before
+abbrev pub IsFaultCounted : {A : Type 0} → ℕ → ℕ → Result A ShelfError → Type 0
+IsFaultCounted before now (Ok answer) = now ≡ before
+IsFaultCounted before now (Err Disk) = (before ≤ now) × Rose before now
+IsFaultCounted before now (Err error) = now ≡ before
 
 module _ {D : Type 0} (disk : DiskOf D) {A : Type 0} (d d' : D) (result : Result A ShelfError) where
   pub record Calls : Type 0 where
     pub told : disk.tells d → disk.tells d'
     pub untold : disk.tells d' → disk.tells d
-    pub counted : IsCounted (disk.faults d) (disk.faults d') result
+    pub counted : IsFaultCounted (disk.faults d) (disk.faults d') result
 
   -- a call that asks for the length or reads, and does nothing else
   pub record ReadsDisk : Type 0 where

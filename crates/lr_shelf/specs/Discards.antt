@@ -4,13 +4,13 @@ use Rattle.lr_disk.specs.declared.disk.Disk.{Ghosts as DiskOf}
 use Rattle.lr_shelf_format.specs.Items.{discard_item}
 use Rattle.lr_shelf.specs.Adds.{Adds, needed_by, new_end}
 use Rattle.lr_shelf.specs.Asked.{IsAskable, IsEntryRefusal, entry_of}
-use Rattle.lr_shelf.specs.Kept.{Kept, kept_by}
+use Rattle.lr_shelf.specs.Kept.{KeptShelf, kept_by}
 use Rattle.lr_shelf.specs.declared.error.ShelfError.{ShelfError}
 use Rattle.lr_shelf.specs.declared.error.ShelfError.TheVariants.{Disk, Capacity, NoSuchFile, Failed, Discarded}
 use Rattle.lr_shelf.specs.declared.shelf.Shelf.{Shelf}
 
 -- the refusals of `discard`, each with what it says of the shelf that it found
-abbrev pub IsDiscardError : ℕ → Kept → ShelfError → Type 0
+abbrev pub IsDiscardError : ℕ → KeptShelf → ShelfError → Type 0
 IsDiscardError number kept (Capacity needed capacity) =
     IsAskable kept number × (kept.way.capacity < new_end (discard_item number) kept)
     × (needed ≡ needed_by (discard_item number) kept) × (capacity ≡ kept.way.capacity)

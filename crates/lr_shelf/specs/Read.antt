@@ -3,12 +3,12 @@ use Rattle.std.specs.Prelude.{◌≡◌, ◌≢◌, ℕ, slice_get, Option, Some
 use Rattle.lr_disk.specs.declared.disk.Disk.{Ghosts as DiskOf}
 use Rattle.lr_shelf_format.specs.Items.{Item, item_of_stored}
 use Rattle.lr_shelf_format.specs.ShelfBytes.{entries_of}
-use Rattle.lr_shelf_format.specs.Way.{Found, Sound, Bad, HasSoundRecord, IsFound}
+use Rattle.lr_shelf_format.specs.Way.{EntryState, Sound, Bad, HasSoundRecord, IsFound}
 use Rattle.lr_shelf_format.specs.declared.entry.Entry.{Entry}
 use Rattle.lr_shelf_format.specs.declared.stored.Stored.{Stored}
 use Rattle.lr_shelf.specs.Asked.{IsAskable, IsEntryRefusal, entry_of}
 use Rattle.lr_shelf.specs.Calls.{ReadsDisk}
-use Rattle.lr_shelf.specs.Kept.{Kept, kept_by}
+use Rattle.lr_shelf.specs.Kept.{KeptShelf, kept_by}
 use Rattle.lr_shelf.specs.Shelf.{IsSettled}
 use Rattle.lr_shelf.specs.declared.error.ShelfError.{ShelfError}
 use Rattle.lr_shelf.specs.declared.error.ShelfError.TheVariants.{
@@ -24,7 +24,7 @@ use Rattle.lr_shelf.specs.declared.shelf.Shelf.{Shelf}
 
 module _ {D : Type 0} (disk : DiskOf D) (entry : Entry) (d : D) where
   -- this stands at the entry, on a disk that tells its contents
-  abbrev pub Finds : Option Found → Type 0
+  abbrev pub Finds : Option EntryState → Type 0
   Finds found = disk.tells d → IsFound (disk.contents d) entry found
 
   -- a file does
@@ -43,7 +43,7 @@ module _ {D : Type 0} (disk : DiskOf D) (entry : Entry) (d : D) where
   IsFindRefusal NoMemory = FindsSound
   IsFindRefusal error = ⊥
 
-module _ {D : Type 0} (disk : DiskOf D) (kept : Kept) (number : ℕ) (d : D) where
+module _ {D : Type 0} (disk : DiskOf D) (kept : KeptShelf) (number : ℕ) (d : D) where
   -- the refusals of `get`: those of the shelf itself, and then those of the entry that it has
   abbrev pub IsGetRefusal : ShelfError → Type 0
   IsGetRefusal Failed = IsEntryRefusal kept number Failed

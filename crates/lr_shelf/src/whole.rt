@@ -10,7 +10,7 @@ use crate::error::ShelfError;
 use crate::read::read_front;
 use lr_bits::Failed;
 use lr_disk::Disk;
-use lr_shelf_format::{Entry, OPEN_GATE, Stored, Sums, record_in, stored_in, sums_of};
+use lr_shelf_format::{Checksums, Entry, OPEN_GATE, Stored, record_in, stored_in, sums_of};
 use std::alloc::Global;
 
 /// Reads the gate of the entry and its item to the front of the buffer. False where the gate isn't open, or the item
@@ -35,7 +35,7 @@ pub(crate) fn sums_in_one<D: Disk>(
     disk: &mut D,
     buffer: &mut [u8],
     entry: Entry,
-) -> Result<Option<Sums>, Failed>
+) -> Result<Option<Checksums>, Failed>
     requires { entry.extent < length buffer.old }
     ensures reads { OnlyReads D.Disk disk.old disk.new result }
     ensures found { D.tells disk.old → IfOk result (IsExamined (D.contents disk.old) entry) }
@@ -71,7 +71,7 @@ pub(crate) fn stored_at<D: Disk>(
     let Some(head) = record_in(item) else {
         return Err(ShelfError::NotAShelf { at });
     };
-    let Sums { stored, computed } = sums_of(item);
+    let Checksums { stored, computed } = sums_of(item);
     if stored != computed {
         return Err(ShelfError::Crc { stored, computed });
     }

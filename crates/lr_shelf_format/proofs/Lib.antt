@@ -5,5 +5,7 @@ pub mod NumberLemmas
 pub mod ReadingLemmas
 pub mod RecordLemmas
 pub mod Results
+pub mod SomeEntry
+pub mod SomeWay
 pub mod WalkLemmas
 pub mod WayLemmas

@@ -42,6 +42,7 @@ use Rattle.lr_shelf_format.specs.declared.stored.Stored.{Stored}
 use Rattle.lr_shelf_format.proofs.ItemLemmas.{item_is}
 use Rattle.lr_shelf_format.proofs.HeaderLemmas.{capacity_is}
 use Rattle.lr_shelf_format.proofs.ReadingLemmas.{header_of-standing, is_one_walk}
+use Rattle.lr_shelf_format.proofs.SomeWay.{some_way}
 use Rattle.lr_shelf_format.proofs.WalkLemmas.{IsEnd, same_ends}
 
 -- ---- truth values
@@ -209,7 +210,7 @@ module _ (bytes : List ℕ) where
       ).1
 
   pub has_one_way : HasOneWay bytes
-  has_one_way = record { way = way_is; none = no_way; place = one_place }
+  has_one_way = record { way = way_is; none = no_way; place = one_place; some = some_way bytes }
 
 pub has_way : HasWay
 has_way bytes capacity items stands = record {

@@ -22,8 +22,7 @@ use Rattle.byteorder.specs.Endian.{big_bytes, big_number}
 use Rattle.lr_bits.specs.Crc.{crc_of}
 use Rattle.lr_bits.specs.File.{File, bytes_of, file_of}
 use Rattle.lr_bits.specs.declared.placed.Origin.{Origin}
-use Rattle.lr_bits.specs.declared.sizes.TheConstants.{CHANNELS, IDLE_APPLICATION}
-use Rattle.lr_bits.specs.declared.sizes.TheConstants.{TRANSPORT_HEADER_BYTES}
+use Rattle.lr_bits.specs.declared.sizes.TheConstants.{CHANNELS, IDLE_APPLICATION, TRANSPORT_HEADER_BYTES}
 use Rattle.lr_bits.specs.Sizes.{most_file_bodies, most_file_bytes}
 use Rattle.lr_shelf_format.specs.declared.record.RecordHead.{RecordHead}
 

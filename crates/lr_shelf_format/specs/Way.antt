@@ -1,7 +1,7 @@
 -- The way through the bytes of a shelf, as a list of entries, and what stands at each of them, whatever the other items
 -- hold.
 use Rattle.std.specs.Prelude.{◌≡◌, ◌≢◌, ◌⊎◌, ◌≤◌, ◌<◌, ◌+◌, ◌-◌, ℕ, zero, suc, true, false}
-use Rattle.std.specs.Prelude.{Option, Some, None, List, [], ◌∷◌, ◌++◌, length, take, drop, slice_index_or}
+use Rattle.std.specs.Prelude.{Option, Some, None, List, [], ◌∷◌, ◌++◌, length, take, drop, slice_index_or, All}
 use Rattle.lr_shelf_format.specs.Header.{HasHeader, first_gate}
 use Rattle.lr_shelf_format.specs.Items.{Holds, IsFileRecord, Item, computed_checksum, extent_of, stored_checksum}
 use Rattle.lr_shelf_format.specs.ShelfBytes.{StandsForShelf, end_of, steps_of}
@@ -104,13 +104,13 @@ pub record HasSoundRecord (bytes : List ℕ) (entry : Entry) : Type 0 where
 
 -- What an entry is found to be: a file, with its origin if its item tells one; the stored checksum and the computed
 -- one, where they differ; or gone.
-pub data Found : Type 0 where
-  Sound : (stored : Stored) → Found
-  Bad : (stored computed : ℕ) → Found
-  Gone : Found
+pub data EntryState : Type 0 where
+  Sound : (stored : Stored) → EntryState
+  Bad : (stored computed : ℕ) → EntryState
+  Gone : EntryState
 
 -- what stands at this entry; None where no Old or Add item of its extent does
-abbrev pub IsFound : List ℕ → Entry → Option Found → Type 0
+abbrev pub IsFound : List ℕ → Entry → Option EntryState → Type 0
 IsFound bytes entry None = (entry.gone ≡ false) × (HasRecord bytes entry → ⊥)
 IsFound bytes entry (Some (Sound stored)) =
     (entry.gone ≡ false) × HasSoundRecord bytes entry × Holds (item_at bytes entry) stored
@@ -121,11 +121,12 @@ IsFound bytes entry (Some Gone) = entry.gone ≡ true
 
 -- ---- laws
 
--- bytes have one way, and then no place at which they have none; or one such place
+-- bytes have one way, and then no place at which they are no shelf; or one such place
 pub record HasOneWay (bytes : List ℕ) : Type 0 where
   pub way : (way way' : Way) → IsWay bytes way → IsWay bytes way' → way ≡ way'
   pub none : (way : Way) (at : ℕ) → IsWay bytes way → IsNoShelfAt bytes at → ⊥
   pub place : (at at' : ℕ) → IsNoShelfAt bytes at → IsNoShelfAt bytes at' → at ≡ at'
+  pub some : ((way : Way) × IsWay bytes way) ⊎ ((at : ℕ) × IsNoShelfAt bytes at)
 
 -- the bytes of a shelf have the way of its items
 abbrev pub HasWay : Type 0
@@ -133,6 +134,11 @@ HasWay =
     (bytes : List ℕ) (capacity : ℕ) (items : List Item) → StandsForShelf bytes capacity items
     → IsWay bytes (way_of capacity items)
 
--- one thing stands at an entry
+-- one thing stands at an entry, at most
 abbrev pub IsFoundOnce : List ℕ → Entry → Type 0
-IsFoundOnce bytes entry = (one other : Option Found) → IsFound bytes entry one → IsFound bytes entry other → one ≡ other
+IsFoundOnce bytes entry = (one other : Option EntryState) → IsFound bytes entry one → IsFound bytes entry other
+    → one ≡ other
+
+-- Something stands at each entry, of bytes below 256.
+abbrev pub IsFoundThere : List ℕ → Entry → Type 0
+IsFoundThere bytes entry = All (λ byte. byte < 256) bytes → (found : Option EntryState) × IsFound bytes entry found

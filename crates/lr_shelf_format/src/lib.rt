@@ -31,10 +31,10 @@ pub use header::{
 };
 pub use item::{ITEM_BYTES, ItemHead, discard_of, read_item};
 pub use old::{old_header_of, old_record_of};
-pub use read::{Sums, record_in, stored_in, sum_of, sums_of};
+pub use read::{Checksums, record_in, stored_in, sum_of, sums_of};
 pub use reading::{
-    bytes_have_one_way, entry_is_found_once, shelf_has_its_way, shelf_has_one_reading,
-    shelf_is_one_walk,
+    bytes_have_one_way, entry_is_found, entry_is_found_once, shelf_has_its_way,
+    shelf_has_one_reading, shelf_is_one_walk,
 };
 pub use record::{
     ADD_FRONT_BYTES, CHECKSUM_BYTES, HEAD_BYTES, LENGTH_BYTES, OLD_FRONT_BYTES, RecordHead, extent,

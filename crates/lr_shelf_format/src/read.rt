@@ -39,7 +39,7 @@ use std::alloc::Global;
 
 /// The two checksums of an item.
 #[derive(Clone, Copy)]
-pub struct Sums {
+pub struct Checksums {
     /// The one at its end.
     pub stored: u16,
     /// The one of its bytes before that.
@@ -109,13 +109,13 @@ pub fn sum_of(pairs: &[u8], count: u32) -> Option<u64>
 }
 
 /// The checksum at the end of an item, and that of the bytes before it.
-pub fn sums_of(bytes: &[u8]) -> Sums
+pub fn sums_of(bytes: &[u8]) -> Checksums
     requires { 2 ≤ length bytes.now }
     ensures stored { result.stored ≡ stored_checksum bytes.now }
     ensures computed { result.computed ≡ computed_checksum bytes.now }
 {
     let end = bytes.len() - CHECKSUM_BYTES;
-    Sums {
+    Checksums {
         stored: BigEndian::read_u16(&bytes[end..]),
         computed: crc16(&bytes[..end]),
     }

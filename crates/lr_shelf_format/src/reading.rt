@@ -1,7 +1,7 @@
 //! Laws on the bytes of shelves. Each is the contract of a function that does nothing.
 ghost use Rattle.std.specs.Prelude.{ℕ, List};
 ghost use Rattle.lr_shelf_format.specs.ShelfBytes.{HasOneReading, IsOneWalk};
-ghost use Rattle.lr_shelf_format.specs.Way.{HasOneWay, HasWay, IsFoundOnce};
+ghost use Rattle.lr_shelf_format.specs.Way.{HasOneWay, HasWay, IsFoundOnce, IsFoundThere};
 ghost use Rattle.lr_shelf_format.specs.declared.entry.Entry.{Entry};
 
 /// That no bytes stand for two shelves.
@@ -19,12 +19,17 @@ pub fn shelf_has_its_way()
     ensures { HasWay }
 {}
 
-/// That all bytes have one way, or one place at which they are no shelf, or neither.
+/// That all bytes have one way, or one place at which they are no shelf, and not both.
 pub fn bytes_have_one_way()
     ensures { (bytes : List ℕ) → HasOneWay bytes }
 {}
 
-/// That one thing stands at an entry.
+/// That no two things stand at an entry.
 pub fn entry_is_found_once()
     ensures { (bytes : List ℕ) (entry : Entry) → IsFoundOnce bytes entry }
+{}
+
+/// That something stands at each entry.
+pub fn entry_is_found()
+    ensures { (bytes : List ℕ) (entry : Entry) → IsFoundThere bytes entry }
 {}

@@ -1,10 +1,8 @@
 -- Where few frames may wait, more may.
 use Rattle.std.proofs.Common.{
-  ◌≡◌,
   ◌≤◌,
   ◌+◌,
   ◌*◌,
-  ◌^◌,
   ◌==◌,
   if◌then◌else◌,
   ℕ,
@@ -15,17 +13,25 @@ use Rattle.std.proofs.Common.{
   Option,
   Some,
   None,
-  refl,
   arith,
+  inl,
+  inr,
+  ⊎_elim,
+  length,
 }
-use Rattle.lr_causes.specs.Outside.{Outside, World}
+use Rattle.lr_causes.specs.Outside.{Outside, World, outlets_in, world_outlets, world_pipe, pipe_in}
+use Rattle.lr_printing.specs.Decode.{decode_text, decode_due, decode_last}
+use Rattle.lr_printing.proofs.DecodeText.{fewer_due}
+use Rattle.lr_printing.proofs.Lines.{prints_fewer}
 use Rattle.lr_causes.specs.declared.cause.Cause.{Cause}
 use Rattle.lr_forms.specs.declared.forms.Input.{Input}
 use Rattle.lr_forms.specs.declared.forms.Input.TheVariants.{Symbols, Units}
-use Rattle.lr_reading.specs.Readers.{most_waiting}
-use Rattle.lr_receiving.specs.Receive.{Receives, ReceiveRun}
-use Rattle.lr_shelf.specs.Grounds.{Ground}
-use Rattle.lr_station.specs.Deeds.{IsKnownAlone, alone}
+use Rattle.lr_reading.specs.Readers.{most_waiting, most_when_asked}
+use Rattle.lr_reading.proofs.Asking.{when_too}
+use Rattle.lr_receiving.specs.Inputs.{files_of_bytes}
+use Rattle.lr_receiving.specs.Receive.{AreWorkedBut, Receives, ReceiveRun}
+use Rattle.lr_shelf.specs.InitialShelves.{InitialShelf}
+use Rattle.lr_station.specs.Effects.{IsKnownAlone, alone}
 use Rattle.lr_station.specs.Runs.{Runs}
 use Rattle.lr_words.specs.Commands.{IsInRange}
 use Rattle.lr_words.specs.declared.command.Command.{Command}
@@ -41,15 +47,32 @@ pub more_wait : (input : Input) (workers : ℕ) → 1 ≤ workers → most_waiti
 more_wait (Symbols line) workers some = four_at_least (workers == 1) workers some
 more_wait (Units form) workers some = omega arith
 
+one_at_least : (alone : Bool) (workers : ℕ) → 1 ≤ workers → 1 ≤ (if alone then 1 else 2 * workers + 2)
+one_at_least true workers some = omega arith
+one_at_least false workers some = omega (arith, some)
+
+pub more_wait_when_asked : (input : Input) (workers : ℕ) → 1 ≤ workers
+    → most_when_asked input 1 ≤ most_when_asked input workers
+more_wait_when_asked (Symbols line) workers some = one_at_least (workers == 1) workers some
+more_wait_when_asked (Units form) workers some = omega arith
+
 module _ {S D O : Type 0} {world : World S D O} {input : Input} {limit : ℕ} {cause : Cause} {w w' : Outside S D O}
-    {few many : ℕ} (le : most_waiting input few ≤ most_waiting input many) where
-  receives_within : {ground : Ground} {bytes : List ℕ} → Receives world input few ground limit bytes cause w w'
-      → Receives world input many ground limit bytes cause w w'
-  receives_within receives = record {
+    {few many : ℕ} (le : most_waiting input few ≤ most_waiting input many)
+    (le_asked : most_when_asked input few ≤ most_when_asked input many) where
+  receives_within : {initial : InitialShelf} {bytes : List ℕ} → Receives world input few initial limit bytes cause w w'
+      → Receives world input many initial limit bytes cause w w'
+  receives_within {initial} {bytes} receives = record {
     held = receives.held;
     held_untold = receives.held_untold;
     any_moment = receives.any_moment;
     timely = λ worked waiting split enough. receives.timely worked waiting split (omega (arith, le, enough));
+    in_time = when_too world.source (AreWorkedBut (world_outlets world) initial input (most_when_asked input few)
+        (files_of_bytes input bytes) (outlets_in w) (outlets_in w')) (AreWorkedBut (world_outlets world) initial input
+        (most_when_asked input many) (files_of_bytes input bytes) (outlets_in w) (outlets_in w')) bytes w.source
+        w'.source (λ given due worked waiting split enough. due worked waiting split (⊎_elim
+        (λ (all : most_when_asked input many ≤ length waiting). inl (omega (arith, le_asked, all)))
+        (λ noise. inr noise) enough))
+        receives.in_time;
     ends = receives.ends;
     complete = receives.complete;
     overfull = receives.overfull;
@@ -73,6 +96,8 @@ module _ {S D O : Type 0} {world : World S D O} {input : Input} {limit : ℕ} {c
     only_read = run.only_read;
     silent = run.silent;
     unasked = run.unasked;
+    ended = run.ended;
+    outside = run.outside;
   }
 
 -- ---- what is run on the caller's thread alone, whatever W the words give
@@ -86,6 +111,12 @@ module _ {S D O : Type 0} (world : World S D O) (cause : Cause) (w w' : Outside 
     by : (command : Command) → IsKnownAlone (Some command) → IsInRange (Some command)
         → Runs world (alone (Some command)) cause w w' → Runs world (Some command) cause w w'
     by (Downlinks line) known range run = absurd known
-    by (Intake Receive input workers most) known range run = run_within (more_wait input workers range.1.0) run
-    by (Intake Decode input workers most) known range run = run
+    by (Intake Receive input workers most) known range run = run_within (more_wait input workers range.1.0)
+        (more_wait_when_asked input workers range.1.0) run
+    by (Intake Decode input workers most) known range run = (
+      run.0,
+      prints_fewer (world_pipe world) (decode_text input) (decode_due input 1) (decode_due input workers)
+          (decode_last input) most (fewer_due input 1 workers (more_wait_when_asked input workers range.1.0))
+          (pipe_in w) (pipe_in w') cause run.1,
+    )
     by _ known range run = run

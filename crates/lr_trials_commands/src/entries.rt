@@ -1,7 +1,7 @@
 //! What the commands put and answer, on a shelf of version 1 that goes on. Its bytes are those of `reference/shelf.py`.
 use crate::shared::{
-    OLD_SHELF, discards, disk, ended_with, extracts, sink, verifies, with_byte, with_capacity,
-    with_two,
+    OLD_SHELF, discards, disk, ended_with, extracts, is_end, sink, verifies, with_byte,
+    with_capacity, with_two,
 };
 use lr_causes::{Cause, Refusal};
 use lr_disk::MemDisk;
@@ -17,13 +17,13 @@ fn extract_puts(
 ) -> Result<bool, Fail> {
     let mut out = sink(alloc)?;
     let cause = extracts(alloc, number, &mut made, &mut out);
-    Ok(ended_with(cause, &out, status, text))
+    is_end(cause, &out, status, text)
 }
 
 fn verify_puts(alloc: Global, mut made: MemDisk, status: u8, text: &str) -> Result<bool, Fail> {
     let mut out = sink(alloc)?;
     let cause = verifies(alloc, &mut made, &mut out);
-    Ok(ended_with(cause, &out, status, text.as_bytes()))
+    is_end(cause, &out, status, text.as_bytes())
 }
 
 fn discard_puts(
@@ -35,7 +35,7 @@ fn discard_puts(
 ) -> Result<bool, Fail> {
     let mut out = sink(alloc)?;
     let cause = discards(alloc, number, &mut made, &mut out);
-    Ok(ended_with(cause, &out, status, text.as_bytes()))
+    is_end(cause, &out, status, text.as_bytes())
 }
 
 /// The shelf of two files, the first of which is discarded.

@@ -1,6 +1,7 @@
 //! The lines of a header: each kind of record, and each fault.
 use lr_bits::Bytes;
 use lr_catalog::header_lines;
+use lr_trials_wanted::is_text;
 use std::alloc::Global;
 use std::test::Fail;
 
@@ -15,7 +16,7 @@ const NAVIGATION: [u8; 51] = [
 fn has_lines(alloc: Global, proper: &[u8], wanted: &str) -> Result<bool, Fail> {
     let mut text = Bytes::new(alloc);
     header_lines(alloc, proper, &mut text)?;
-    Ok(text.as_slice() == wanted.as_bytes())
+    is_text("the text", text.as_slice(), wanted.as_bytes())
 }
 
 /// A primary record of type 2 and 1,600 bits, and these records.

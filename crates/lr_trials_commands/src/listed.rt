@@ -1,6 +1,6 @@
 //! `list` and `show`, on a shelf of version 1 that goes on.
 use crate::entries::without_first;
-use crate::shared::{OLD_SHELF, disk, ended_with, lists, shows, sink, with_byte, with_two};
+use crate::shared::{OLD_SHELF, disk, is_end, lists, shows, sink, with_byte, with_two};
 use lr_disk::MemDisk;
 use std::alloc::Global;
 use std::test::Fail;
@@ -24,7 +24,7 @@ const SHOWN: &str =
 fn list_puts(alloc: Global, mut made: MemDisk, status: u8, text: &str) -> Result<bool, Fail> {
     let mut out = sink(alloc)?;
     let cause = lists(alloc, &mut made, &mut out);
-    Ok(ended_with(cause, &out, status, text.as_bytes()))
+    is_end(cause, &out, status, text.as_bytes())
 }
 
 fn show_puts(
@@ -36,7 +36,7 @@ fn show_puts(
 ) -> Result<bool, Fail> {
     let mut out = sink(alloc)?;
     let cause = shows(alloc, number, &mut made, &mut out);
-    Ok(ended_with(cause, &out, status, text.as_bytes()))
+    is_end(cause, &out, status, text.as_bytes())
 }
 
 #[test]

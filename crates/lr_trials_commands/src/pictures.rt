@@ -1,5 +1,5 @@
 //! Images that go out in several pieces.
-use crate::shared::{ended_with, with_room};
+use crate::shared::{is_end, with_room};
 use lr_bits::{Bytes, Lengths, MissionFile, NoMemory, Origin, Placed};
 use lr_causes::Cause;
 use lr_commands::export::export;
@@ -79,7 +79,7 @@ fn ends(
 ) -> Result<bool, Fail> {
     let mut out = with_room(alloc, room)?;
     let cause = exports(alloc, made, &mut out);
-    Ok(ended_with(cause, &out, status, text))
+    is_end(cause, &out, status, text)
 }
 
 /// A head and what comes after it.

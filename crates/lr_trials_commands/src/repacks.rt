@@ -1,5 +1,5 @@
 //! Images of the shelf that are coded anew.
-use crate::shared::{OLD_SHELF, discards, disk, ended_with, sink, verifies, with_room};
+use crate::shared::{OLD_SHELF, discards, disk, ended_with, is_end, sink, verifies, with_room};
 use lr_bits::{Bytes, Lengths, MissionFile, Origin, Placed};
 use lr_causes::Cause;
 use lr_commands::export::export;
@@ -50,7 +50,7 @@ fn puts(
 ) -> Result<bool, Fail> {
     let mut out = sink(alloc)?;
     let cause = repacks(alloc, number, made, &mut out);
-    Ok(ended_with(cause, &out, status, text))
+    is_end(cause, &out, status, text)
 }
 
 /// Whether the shelf has this many good files.
@@ -64,7 +64,7 @@ fn has_files(alloc: Global, made: &mut MemDisk, text: &[u8]) -> Result<bool, Fai
 fn shows_picture(alloc: Global, made: &mut MemDisk, number: u64) -> Result<bool, Fail> {
     let mut out = sink(alloc)?;
     let cause = export(alloc, number, made, &mut out);
-    Ok(ended_with(cause, &out, 0, &PICTURE))
+    is_end(cause, &out, 0, &PICTURE)
 }
 
 /// Where the file of this number came from.

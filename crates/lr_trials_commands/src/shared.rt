@@ -10,6 +10,7 @@ use lr_disk::{Disk, MemDisk};
 use lr_io::{MemSink, Sink};
 use lr_shelf::Shelf;
 use lr_shelf_format::old_header_of;
+use lr_trials_wanted::{is_status, is_text};
 use std::alloc::Global;
 use std::test::Fail;
 
@@ -90,6 +91,11 @@ pub(crate) fn with_room(alloc: Global, room: usize) -> Result<MemSink, Fail> {
 /// Whether a run ended with this status, and put this text.
 pub(crate) fn ended_with(cause: Cause, out: &MemSink, status: u8, text: &[u8]) -> bool {
     cause.status() == status && out.as_slice() == text
+}
+
+/// The same. Where it didn't, the failure says what differs.
+pub(crate) fn is_end(cause: Cause, out: &MemSink, status: u8, text: &[u8]) -> Result<bool, Fail> {
+    Ok(is_status(cause.status(), status)? && is_text("out", out.as_slice(), text)?)
 }
 
 // ---- runs over any disk and any sink

@@ -155,7 +155,7 @@ pub(crate) fn is_out(printed: &Printed, text: &str) -> bool {
     printed.out.as_slice() == text.as_bytes()
 }
 
-/// Whether `out` has a front of this text.
+/// Whether `out` has a prefix of this text.
 pub(crate) fn is_front(printed: &Printed, text: &str) -> bool {
     text.as_bytes().starts_with(printed.out.as_slice())
 }

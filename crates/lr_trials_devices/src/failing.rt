@@ -32,7 +32,7 @@ fn verdict_when_done(was_asked: bool) -> Option<bool> {
     if was_asked { Some(false) } else { None }
 }
 
-/// The call of this number fails on the disk: `out` got a front of the text, and each file whose line it has is there.
+/// The call of this number fails on the disk: `out` got a prefix of the text, and each file whose line it has is there.
 fn disk_fails(alloc: Global, job: &Job, number: u64) -> Result<Option<bool>, Trouble> {
     let mut made = disk(alloc, job.before)?;
     made.fail_at(number);

@@ -1,4 +1,4 @@
-// Bytes that are no bundle, and one that is.
+//! Bytes that are no bundle are refused, and those of one are read.
 ghost use Rattle.std.specs.Prelude.{◌≤◌, length, IfOk};
 
 use lr_bits::Bytes;

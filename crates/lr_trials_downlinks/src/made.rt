@@ -1,4 +1,4 @@
-// Bundles of test streams, and shelves in memory.
+//! Bundles of test streams, and shelves in memory.
 ghost use Rattle.std.specs.Prelude.{◌≡◌, ◌≤◌, false, length, IfOk};
 ghost use Rattle.lr_shelf.specs.Kept.{kept_by};
 

@@ -1,4 +1,4 @@
-// What comes of runs.
+//! Bundles are run, and the shelf and the receipts looked at.
 use crate::made::{Stream, bundle_of, shelf_of};
 use lr_conv::STANDARD;
 use lr_disk::MemDisk;
@@ -76,7 +76,7 @@ fn receipts_of(run: &Run, downlink: u8) -> u64 {
     place
 }
 
-/// Whether the first downlinks have so many receipts each, and the others none.
+/// Whether the first downlinks have this many receipts each, and the others none.
 fn have_receipts(run: &Run, downlinks: u8, each: u64) -> bool {
     for downlink in 0..20u8 {
         let wanted = if downlink < downlinks { each } else { 0 };
@@ -194,7 +194,7 @@ fn a_disk_that_fails_at_any_call_ends_the_run(rt: HostRuntime) -> Result<(), Fai
     Ok(())
 }
 
-/// Whether a stop inside this call of the disk leaves a shelf of at most so many files, whatever was pending.
+/// Whether a stop inside this call of the disk leaves a shelf of at most this many files, whatever was pending.
 fn leaves_a_shelf(alloc: Global, disk: &MemDisk, call: u64, most: u64) -> Result<bool, Fail> {
     let mut all = true;
     for kind in 0..3u8 {

@@ -1,4 +1,4 @@
-// `Files` over a few packets.
+//! `Files` is given a few packets.
 use lr_bits::{MissionFile, NoMemory};
 use lr_file::Files;
 use lr_packet::GoodPacket;

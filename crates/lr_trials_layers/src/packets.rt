@@ -1,4 +1,4 @@
-// `Channels` over a few frames of channel 0.
+//! `Channels` is given a few frames of channel 0.
 use lr_bits::{NO_PACKET_START, NoMemory, RawPacket, ZONE_BYTES};
 use lr_vc::{Channels, TransferFrame};
 use std::alloc::Global;

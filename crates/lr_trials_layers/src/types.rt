@@ -1,3 +1,4 @@
+//! Packets and files show their parts and keep their limits.
 use lr_bits::{Bytes, Lengths, MissionFile, NoMemory, RawPacket, crc16};
 use lr_packet::{PacketFault, check, head};
 use std::alloc::Global;

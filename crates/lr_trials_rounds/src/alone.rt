@@ -1,10 +1,10 @@
-// A roll on one thread.
+//! A roll is worked through on one thread.
 ghost use Rattle.std.specs.Prelude.{◌≡◌, ◌<◌};
 
 use crate::roll::{Refused, Roll};
 use crate::works::Same;
 use lr_bits::NoMemory;
-use lr_rounds::{Crew, lead_alone};
+use lr_rounds::{WorkerPool, drive_alone};
 use std::alloc::Global;
 use std::test::Fail;
 
@@ -12,10 +12,10 @@ use std::test::Fail;
 fn comes_back(alloc: Global, limit: u32, at_once: u32, is_eager: bool) -> Result<bool, NoMemory>
     requires { 0 < at_once }
 {
-    let crew = Crew::new(alloc, Vec::new(alloc), Same)?;
+    let pool = WorkerPool::new(alloc, Vec::new(alloc), Same)?;
     let mut roll = Roll::new(limit, at_once);
     roll.is_eager = is_eager;
-    let led = lead_alone(crew, &mut roll).is_ok();
+    let led = drive_alone(pool, &mut roll).is_ok();
     Ok(led && roll.is_complete())
 }
 
@@ -23,8 +23,8 @@ fn comes_back(alloc: Global, limit: u32, at_once: u32, is_eager: bool) -> Result
 fn stops(alloc: Global, mut roll: Roll) -> Result<Option<(Refused, u32)>, NoMemory>
     requires { (roll.given ≡ 0) × (roll.kept ≡ 0) }
 {
-    let crew = Crew::new(alloc, Vec::new(alloc), Same)?;
-    match lead_alone(crew, &mut roll) {
+    let pool = WorkerPool::new(alloc, Vec::new(alloc), Same)?;
+    match drive_alone(pool, &mut roll) {
         Ok(()) => Ok(None),
         Err(cause) => Ok(Some((cause, roll.kept))),
     }

@@ -1,10 +1,10 @@
-// A roll with workers beside the caller.
+//! A roll is worked through with workers beside the caller.
 ghost use Rattle.std.specs.Prelude.{◌≡◌, ◌≤◌, IfOk, vec_len};
 
 use crate::roll::{Refused, Roll};
 use crate::works::{Meeting, Same};
 use lr_bits::NoMemory;
-use lr_rounds::{Crew, Unled, lead_alone, lead_beside, lead_by_all};
+use lr_rounds::{DriveFault, WorkerPool, drive, drive_alone, drive_beside};
 use std::alloc::Global;
 use std::sync::atomic::AtomicBool;
 use std::sync::atomic::Ordering::SeqCst;
@@ -12,18 +12,18 @@ use std::sync::{Arc, Wait};
 use std::test::Fail;
 use std::thread::Threads;
 
-// A crew with this number of seats.
-fn crew_of(alloc: Global, seats: usize) -> Result<Crew<Same>, NoMemory>
+// A pool with this number of seats.
+fn pool_of(alloc: Global, seats: usize) -> Result<WorkerPool<Same>, NoMemory>
     requires { seats ≤ 63 }
 {
     let mut works = Vec::with_capacity(alloc, seats)?;
     for _ in 0..seats {
         works.push_reserved(Same);
     }
-    Crew::new(alloc, works, Same)
+    WorkerPool::new(alloc, works, Same)
 }
 
-// Whether all numbers come back in order, by all of a crew with this number of seats.
+// Whether all numbers come back in order, by all of a pool with this number of seats.
 fn comes_back<R: Threads + Wait + Sync>(
     rt: &R,
     alloc: Global,
@@ -32,23 +32,27 @@ fn comes_back<R: Threads + Wait + Sync>(
 ) -> Result<bool, NoMemory>
     requires { seats ≤ 63 }
 {
-    let crew = crew_of(alloc, seats)?;
+    let pool = pool_of(alloc, seats)?;
     let mut roll = Roll::new(1_000, 100);
     roll.is_eager = is_eager;
-    let led = lead_by_all(rt, crew, &mut roll).is_ok();
+    let led = drive(rt, pool, &mut roll).is_ok();
     Ok(led && roll.is_complete())
 }
 
 // Whether a roll stops at the number that it refuses to keep.
 fn stops<R: Threads + Wait + Sync>(rt: &R, alloc: Global) -> Result<bool, NoMemory> {
-    let crew = crew_of(alloc, 3)?;
+    let pool = pool_of(alloc, 3)?;
     let mut roll = Roll::new(1_000, 100);
     roll.never_kept = 500;
-    let led = lead_beside(rt, crew, &mut roll);
-    Ok(matches!(led, Err(Unled::Stopped(Refused::Keep(500)))) && roll.in_order && roll.kept == 500)
+    let led = drive_beside(rt, pool, &mut roll);
+    Ok(
+        matches!(led, Err(DriveFault::Stopped(Refused::Keep(500))))
+            && roll.in_order
+            && roll.kept == 500,
+    )
 }
 
-// What the works of a crew share.
+// What the works of a pool share.
 #[derive(Drop)]
 struct Flags {
     met: Arc<AtomicBool, Global>,
@@ -76,18 +80,18 @@ fn meets<R: Threads + Wait + Sync>(rt: &R, alloc: Global) -> Result<bool, NoMemo
     let flags = Flags::new(alloc)?;
     let mut works = Vec::with_capacity(alloc, 1)?;
     works.push_reserved(flags.work()?);
-    let crew = Crew::new(alloc, works, flags.work()?)?;
+    let pool = WorkerPool::new(alloc, works, flags.work()?)?;
     let mut roll = Roll::new(10, 10);
-    let led = lead_by_all(rt, crew, &mut roll).is_ok();
+    let led = drive(rt, pool, &mut roll).is_ok();
     Ok(led && roll.is_complete() && !flags.too_late.load(SeqCst))
 }
 
 // Whether a caller who works alone is noticed: what waits for another waits too long.
 fn is_noticed_alone(alloc: Global) -> Result<bool, NoMemory> {
     let flags = Flags::new(alloc)?;
-    let crew = Crew::new(alloc, Vec::new(alloc), flags.work()?)?;
+    let pool = WorkerPool::new(alloc, Vec::new(alloc), flags.work()?)?;
     let mut roll = Roll::new(10, 10);
-    let led = lead_alone(crew, &mut roll).is_ok();
+    let led = drive_alone(pool, &mut roll).is_ok();
     Ok(led && roll.is_complete() && flags.too_late.load(SeqCst))
 }
 

@@ -1,4 +1,4 @@
-//! Trials of the rounds that lead jobs through a ring: a lead of plain numbers, on one thread and beside workers.
+//! Trials of the rounds that lead jobs through a ring: a job source of plain numbers, on one thread and beside workers.
 #![tactic(auto)]
 
 #[cfg(test)]

@@ -1,8 +1,8 @@
-//! A lead that gives numbers and looks whether they come back in order.
+//! A job source that gives numbers and looks whether they come back in order.
 ghost use Rattle.std.specs.Prelude.{◌≤◌, ◌<◌};
 
 use lr_gatecore::Work;
-use lr_rounds::{Lead, Offer};
+use lr_rounds::{JobSource, NextJob};
 
 /// Why a roll stops: at this number, which it was to give or to keep.
 #[derive(Clone, Copy, PartialEq)]
@@ -32,7 +32,7 @@ pub struct Roll {
     ghost within: { given ≤ limit },
 }
 
-impl<W: Work<Job = u32, Done = u32>> Lead<W> for Roll {
+impl<W: Work<Job = u32, Done = u32>> JobSource<W> for Roll {
     ghost use Rattle.std.specs.Prelude.{◌≡◌, ◌-◌, length};
 
     type Cause = Refused;
@@ -45,18 +45,18 @@ impl<W: Work<Job = u32, Done = u32>> Lead<W> for Roll {
 
     ghost left = { λ now. now.limit - now.given };
 
-    fn next(&mut self) -> Result<Offer<u32>, Refused> {
+    fn next(&mut self) -> Result<NextJob<u32>, Refused> {
         if self.given == self.limit {
-            return Ok(Offer::Over);
+            return Ok(NextJob::Finished);
         }
         if self.given == self.never_given {
             return Err(Refused::Give(self.given));
         }
         if self.given - self.kept >= self.at_once {
-            return Ok(Offer::Later);
+            return Ok(NextJob::NotYet);
         }
         self.given += 1;
-        Ok(Offer::Job(self.given - 1))
+        Ok(NextJob::Job(self.given - 1))
     }
 
     fn gives_at_once(&self) -> bool {

@@ -1,4 +1,4 @@
-// `decode --input blocks` and `receive --input blocks`.
+//! `decode --input blocks` and `receive --input blocks`.
 use crate::call::{AMPLE, Input, NEVER, done_with, gives, gives_on};
 use crate::shelves::empty_shelf;
 use crate::stated::{FRAME, file_7};

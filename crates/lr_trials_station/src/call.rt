@@ -1,8 +1,9 @@
-// Calls of the station over the memory forms.
+//! The station is called over sources, disks and sinks in memory.
 use crate::short::ShortSource;
 use lr_disk::MemDisk;
 use lr_io::{MemSink, MemSource};
 use lr_station::station_alone;
+use lr_trials_wanted::{is_status, is_text};
 use std::alloc::{AllocError, Global};
 use std::test::Fail;
 
@@ -83,7 +84,7 @@ fn call(alloc: Global, disk: &mut MemDisk, input: Input<'_>, room: Room) -> Resu
     Ok(Printed { status, out, err })
 }
 
-/// Whether the call gives that outcome, over this disk.
+/// Whether the call gives that outcome, over this disk. Where it doesn't, the failure says what differs.
 pub fn gives_on(
     alloc: Global,
     disk: &mut MemDisk,
@@ -93,9 +94,9 @@ pub fn gives_on(
 ) -> Result<bool, Fail> {
     let called = call(alloc, disk, input, room)?;
     Ok(
-        called.status == wanted.status
-            && called.out.as_slice() == wanted.out.as_bytes()
-            && called.err.as_slice() == wanted.line.as_bytes(),
+        is_status(called.status, wanted.status)?
+            && is_text("out", called.out.as_slice(), wanted.out.as_bytes())?
+            && is_text("err", called.err.as_slice(), wanted.line.as_bytes())?,
     )
 }
 
@@ -111,9 +112,9 @@ pub fn ends_on(
     let text = called.out.as_slice();
     let first = text.len().saturating_sub(wanted.out.len());
     Ok(
-        called.status == wanted.status
-            && &text[first..] == wanted.out.as_bytes()
-            && called.err.as_slice() == wanted.line.as_bytes(),
+        is_status(called.status, wanted.status)?
+            && is_text("the end of out", &text[first..], wanted.out.as_bytes())?
+            && is_text("err", called.err.as_slice(), wanted.line.as_bytes())?,
     )
 }
 

@@ -1,4 +1,4 @@
-// `discard`, and the commands after it.
+//! `discard`, and the commands after it.
 use crate::call::{done_with, gives_alone, refused_with};
 use crate::shelves::{TWO_FILES, disk};
 use std::alloc::Global;

@@ -1,4 +1,4 @@
-// `frames`.
+//! `frames` prints a line for each transfer frame.
 use crate::call::{AMPLE, Input, NEVER, Outcome, Room, done_with, gives, refused_with};
 use std::alloc::Global;
 use std::test::Fail;

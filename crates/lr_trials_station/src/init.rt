@@ -1,4 +1,4 @@
-// `init`.
+//! `init` makes an empty shelf once.
 use crate::call::{Input, NEVER, Room, done_with, gives_alone, gives_on, refused_with};
 use crate::shelves::{disk, with_byte};
 use std::alloc::Global;

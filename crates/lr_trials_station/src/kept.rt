@@ -1,4 +1,4 @@
-// `verify` and `extract`, and what a stop leaves.
+//! `verify` and `extract` of a shelf that is there, and what a stop leaves.
 use crate::call::{
     AMPLE, Input, NEVER, Outcome, Room, done_with, gives_alone, gives_on, refused_with,
 };

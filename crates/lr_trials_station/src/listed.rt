@@ -1,4 +1,4 @@
-// `list` and `show`.
+//! `list` and `show` of a shelf that is there.
 use crate::call::{AMPLE, Outcome, done_with, gives_alone, gives_on, refused_with};
 use crate::shelves::{TWO_FILES, disk, empty_shelf, one_file, with_byte};
 use std::test::Fail;

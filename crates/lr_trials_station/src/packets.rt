@@ -1,4 +1,4 @@
-// `packets`.
+//! `packets` prints a line for each packet.
 use crate::call::{AMPLE, Input, NEVER, done_with, gives};
 use crate::stated::{DIGITS, FRAME, header, idle};
 use std::alloc::{AllocError, Global};

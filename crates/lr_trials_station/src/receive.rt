@@ -1,4 +1,4 @@
-// `receive --input frames`.
+//! `receive --input frames` puts files onto a shelf.
 use crate::call::{
     AMPLE, Input, NEVER, Outcome, Room, done_with, gives_alone, gives_on, refused_with,
 };

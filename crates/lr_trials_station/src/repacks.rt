@@ -1,4 +1,4 @@
-// `repack` of files that aren't coded anew.
+//! `repack` refuses files that can't be coded anew.
 use crate::call::{done_with, gives_alone, refused_with};
 use crate::shelves::{TWO_FILES, disk};
 use std::alloc::Global;

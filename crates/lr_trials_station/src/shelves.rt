@@ -1,4 +1,4 @@
-// Shelves on disks in memory.
+//! Shelves on disks in memory.
 use crate::call::{Input, NEVER, done_with, gives_alone};
 use crate::stated::file_7;
 use lr_disk::MemDisk;

@@ -1,4 +1,4 @@
-// A source in memory of which a call takes a few bytes at most.
+//! A source in memory that gives a few bytes a call.
 ghost use Rattle.std.specs.Prelude.{◌<◌, ◌≤◌};
 
 use lr_bits::Failed;

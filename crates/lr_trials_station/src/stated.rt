@@ -1,4 +1,4 @@
-// Frames and packets that are written out.
+//! Frames and packets that are written out byte by byte.
 use std::alloc::{AllocError, Global};
 
 /// The bytes of a frame.

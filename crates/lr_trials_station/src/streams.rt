@@ -1,4 +1,4 @@
-// std's readers and writers, over a real file.
+//! The readers and writers of std, over a real file.
 use lr_io::{ReadSource, Sink, Source, StdReader, StdWriter, SureSink, SureSource, WriteSink};
 use std::fs;
 use std::test::Fail;

@@ -1,4 +1,4 @@
-// Which words are read, and as which command.
+//! Which words are read, and as which command.
 use lr_conv::LineCode;
 use lr_forms::{Input, Output, UnitForm};
 use lr_words::{

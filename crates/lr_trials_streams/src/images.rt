@@ -1,4 +1,4 @@
-// `export` and `assemble`.
+//! `export` and `assemble` write images.
 use crate::made::{LINES, reading, shelf};
 use lr_bits::crc16;
 use lr_disk::MemDisk;

@@ -1,4 +1,4 @@
-// `make`, and what the other commands make of what it writes.
+//! `make`, and what the other commands make of what it writes.
 use lr_disk::MemDisk;
 use lr_trials_lock::streams::{bytes_of, leave_hits, silence};
 use lr_trials_station::call::{

@@ -1,4 +1,4 @@
-// `decode` and `receive` of symbols.
+//! `decode` and `receive` read symbols.
 use lr_conv::LineCode;
 use lr_disk::MemDisk;
 use lr_trials_lock::streams::{bytes_of, coded_frames, leave_hits, sent_symbols, silence, turn};

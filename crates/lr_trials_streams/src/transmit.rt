@@ -1,4 +1,4 @@
-// `transmit`, and what `receive` makes of its symbols.
+//! `transmit`, and what `receive` makes of its symbols.
 use crate::trial::tried_disk;
 use lr_bits::{Bytes, Lengths, MissionFile, Origin, Placed};
 use lr_disk::MemDisk;

@@ -1,4 +1,4 @@
-// `trial`, and the shelf that it leaves.
+//! `trial`, and the shelf that it leaves.
 use lr_disk::MemDisk;
 use lr_trials_station::call::{
     AMPLE, Input, NEVER, Outcome, Room, done_with, ends_on, gives_alone, gives_on, refused_with,

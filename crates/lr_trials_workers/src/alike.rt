@@ -1,4 +1,4 @@
-// Any number of workers prints and shelves the same.
+//! Any number of workers prints and shelves the same.
 use crate::calls::{call, call_alone, disk_of_calls, empty_shelf, faultless, symbols};
 use std::alloc::Global;
 use std::sync::Wait;

@@ -1,4 +1,4 @@
-// Several recordings in a bundle come onto one shelf, with a thread for each.
+//! Several recordings in a bundle come onto one shelf, with a thread for each.
 use crate::calls::{
     Given, Printed, call, call_alone, disk_of_calls, empty_shelf, faultless, symbols,
 };

@@ -1,4 +1,4 @@
-// Calls of the station with workers, and of the one without threads.
+//! The station is called with workers, and without threads.
 use lr_disk::MemDisk;
 use lr_io::{MemSink, MemSource};
 use lr_station::{station, station_alone};

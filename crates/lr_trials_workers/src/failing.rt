@@ -1,4 +1,4 @@
-// Source, disk and `out` fail while workers run: what is printed and shelved is what one thread prints and shelves.
+//! Source, disk and `out` fail while workers run: what is printed and shelved is what one thread prints and shelves.
 use crate::calls::{Given, call, call_alone, empty_shelf, faultless, shelf_of_calls, symbols};
 use lr_disk::MemDisk;
 use std::alloc::Global;

@@ -13,4 +13,6 @@ mod failing;
 #[cfg(test)]
 mod meeting;
 #[cfg(test)]
+mod noise;
+#[cfg(test)]
 mod rendering;

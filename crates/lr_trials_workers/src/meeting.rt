@@ -1,4 +1,4 @@
-// Hands that meet: each waits at its first window until as many hands as there are workers have a window.
+//! Hands meet: each waits at its first window until as many hands as there are workers have a window.
 ghost use Rattle.std.specs.Prelude.{◌≡◌};
 
 use crate::calls::{

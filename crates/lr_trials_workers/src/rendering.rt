@@ -1,4 +1,4 @@
-// `render` through the program's words: the pictures of the test stream are the same, whoever decodes their strips.
+//! `render` writes the pictures of the test stream, the same ones whoever decodes their strips.
 use crate::calls::{
     Printed, call_alone, empty_shelf, err_of, faultless, source_of, symbols, words_of,
 };

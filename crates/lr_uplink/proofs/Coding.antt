@@ -61,9 +61,9 @@ bits-more blocks block =
     (append-nil (bits_of_bytes (marked_block block)))
 
 -- more bits leave the symbols of those before them
-front_stays : (line : LineCode) (x y : List Bool) →
+prefix_stays : (line : LineCode) (x y : List Bool) →
     line_code line (x ++ y) ≡ line_code line x ++ drop (2 * length x) (line_code line (x ++ y))
-front_stays line x y =
+prefix_stays line x y =
     let more : List Bool = levels line (last_level false (levels line false x)) y in
     let all : levels line false (x ++ y) ≡ levels line false x ++ more = levels-append line false x y in
     let front = code-front line six_zeros (levels line false x) more refl in
@@ -80,10 +80,10 @@ unfolding symbols_of_blocks
 symbols-more line blocks block =
     let x : List Bool = bits_of_blocks blocks in
     let y : List Bool = bits_of_bytes (marked_block block) in
-    ap (λ z. map level (line_code line z)) (bits-more blocks block) ∙ ap (map level) (front_stays line x y)
+    ap (λ z. map level (line_code line z)) (bits-more blocks block) ∙ ap (map level) (prefix_stays line x y)
     ∙ map-append level (line_code line x) (drop (2 * length x) (line_code line (x ++ y)))
 
--- the symbols of blocks are a front of those of these blocks and more
+-- the symbols of blocks are a prefix of those of these blocks and more
 pub symbols-front : (line : LineCode) (blocks later : List (List ℕ)) → (rest : List ℤ)
     × (symbols_of_blocks line (blocks ++ later) ≡ symbols_of_blocks line blocks ++ rest)
 unfolding symbols_of_blocks
@@ -92,6 +92,6 @@ symbols-front line blocks later =
     let y : List Bool = bits_of_blocks later in
     let rest : List Bool = drop (2 * length x) (line_code line (x ++ y)) in (
       map level rest,
-      ap (λ z. map level (line_code line z)) (bits-append blocks later) ∙ ap (map level) (front_stays line x y)
+      ap (λ z. map level (line_code line z)) (bits-append blocks later) ∙ ap (map level) (prefix_stays line x y)
           ∙ map-append level (line_code line x) rest,
     )

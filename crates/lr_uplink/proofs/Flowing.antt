@@ -13,7 +13,7 @@ use Rattle.lr_bits.specs.File.{File}
 use Rattle.lr_bits.specs.Packet.{Packet}
 use Rattle.lr_bits.specs.declared.sizes.TheConstants.{CHANNELS, FILL_CHANNEL, FRAME_COUNTS, ZONE_BYTES}
 use Rattle.lr_vc.specs.Frame.{Fields, fields_of}
-use Rattle.lr_vc.specs.Runs.{AreFrames, channel_frames, runs_of}
+use Rattle.lr_vc.specs.Runs.{AreChannelFrames, channel_frames, runs_of}
 use Rattle.lr_vc.specs.Packets.{packets_of}
 use Rattle.lr_vc.specs.Standing.{open_packets, last_counter, last_run}
 use Rattle.lr_vc.specs.Steps.{follows, packets_with, open_after}
@@ -86,11 +86,11 @@ zone_stream packets t = take-append-drop ZONE_BYTES (drop (ZONE_BYTES * t) (conc
 abbrev pub open_of : ℕ → List Fields → List (List ℕ)
 open_of channel history = open_packets (last_run (runs_of (channel_frames channel history)))
 
-frames_more : (history : List Fields) (f : Fields) → length f.zone ≡ ZONE_BYTES → AreFrames history →
-    AreFrames (history ++ f ∷ [])
+frames_more : (history : List Fields) (f : Fields) → length f.zone ≡ ZONE_BYTES → AreChannelFrames history →
+    AreChannelFrames (history ++ f ∷ [])
 frames_more history f long h = All-push (λ f. length f.zone ≡ ZONE_BYTES) history f h long
 
-packets_more : (history : List Fields) (f : Fields) → AreFrames history → length f.zone ≡ ZONE_BYTES
+packets_more : (history : List Fields) (f : Fields) → AreChannelFrames history → length f.zone ≡ ZONE_BYTES
     → (f.vc ≡ FILL_CHANNEL → ⊥) →
     packets_of (history ++ f ∷ [])
     ≡ packets_of history ++ packets_with f (met (channel_frames f.vc history) f.counter)
@@ -99,7 +99,7 @@ packets_more history f frames long ne =
     packets_of-more history f (frames_more history f long frames)
     ∙ ap (λ ps. packets_of history ++ ps) (packets_at-next history f frames long ne)
 
-open_more : (history : List Fields) (f : Fields) → AreFrames history → length f.zone ≡ ZONE_BYTES →
+open_more : (history : List Fields) (f : Fields) → AreChannelFrames history → length f.zone ≡ ZONE_BYTES →
     open_of f.vc (history ++ f ∷ []) ≡ open_after f (met (channel_frames f.vc history) f.counter)
 unfolding open_after
 open_more history f frames long = open_packets-own history f frames long
@@ -127,7 +127,7 @@ record Taken (vc : ℕ) (packets : List (List ℕ)) (history later : List Fields
   split : packets ≡ done ++ rest
   found : packets_of (history ++ later) ≡ packets_of history ++ map (on vc) rest
   closed : open_of vc (history ++ later) ≡ []
-  frames : AreFrames (history ++ later)
+  frames : AreChannelFrames (history ++ later)
 
 module _ (vc counter : ℕ) (packets : List (List ℕ)) (channel : vc < FILL_CHANNEL) (tell : Each TellsItsLength packets)
     (total : ℕ) (whole : length (concat packets) ≡ ZONE_BYTES * total)
@@ -172,7 +172,7 @@ module _ (vc counter : ℕ) (packets : List (List ℕ)) (channel : vc < FILL_CHA
     ]
 
     take_frames : (n t : ℕ) (history : List Fields) (done open_now : List (List ℕ)) → t + n ≡ total →
-        AreFrames history → Stage packets done open_now (ZONE_BYTES * t) → open_of vc history ≡ open_now →
+        AreChannelFrames history → Stage packets done open_now (ZONE_BYTES * t) → open_of vc history ≡ open_now →
         met (channel_frames vc history) ((counter + t) % FRAME_COUNTS) ≡ open_now →
         Taken vc packets history (map frame (range_with_len t n)) done
     take_frames zero t history done open_now e frames stage is meets =
@@ -184,7 +184,7 @@ module _ (vc counter : ℕ) (packets : List (List ℕ)) (channel : vc < FILL_CHA
           split = all.0 ∙ sym (append-nil done);
           found = ap packets_of same ∙ sym (append-nil (packets_of history));
           closed = ap (open_of vc) same ∙ is ∙ all.1;
-          frames = subst (λ (h : List Fields). AreFrames h) (sym same) frames;
+          frames = subst (λ (h : List Fields). AreChannelFrames h) (sym same) frames;
         }
     take_frames (suc n) t history done open_now e frames stage is meets =
         let f = frame t in
@@ -224,7 +224,7 @@ module _ (vc counter : ℕ) (packets : List (List ℕ)) (channel : vc < FILL_CHA
               ∙ append_assoc (packets_of history) (map (on vc) s.ended) (map (on vc) rest.rest)
               ∙ ap (λ ps. packets_of history ++ ps) (sym (map-append (on vc) s.ended rest.rest));
           closed = ap (open_of vc) (sym joined) ∙ rest.closed;
-          frames = subst (λ (h : List Fields). AreFrames h) joined rest.frames;
+          frames = subst (λ (h : List Fields). AreChannelFrames h) joined rest.frames;
         }
 
     -- other channels stay as they are
@@ -254,7 +254,7 @@ AreClosed history = (c : ℕ) → open_of c history ≡ []
 pub record Received (history : List Fields) (later : List Fields) (packets : List Packet) : Type 0 where
   pub found : packets_of (history ++ later) ≡ packets_of history ++ packets
   pub closed : AreClosed (history ++ later)
-  pub frames : AreFrames (history ++ later)
+  pub frames : AreChannelFrames (history ++ later)
 
 map-map : (f : List ℕ → Fields) (g : ℕ → List ℕ) (ks : List ℕ) → map f (map g ks) ≡ map (λ k. f (g k)) ks
 map-map f g [] = refl
@@ -262,7 +262,7 @@ map-map f g (k ∷ ks) = ap (λ (fs : List Fields). f (g k) ∷ fs) (map-map f g
 
 file_received : (vc counter : ℕ) (packets : List (List ℕ)) (history : List Fields) → vc < FILL_CHANNEL →
     Each TellsItsLength packets → length (concat packets) ≡ ZONE_BYTES * (length (concat packets) / ZONE_BYTES) →
-    AreFrames history → AreClosed history →
+    AreChannelFrames history → AreClosed history →
     Received history (map fields_of (sent_frames_of vc counter packets)) (map (on vc) packets)
 unfolding sent_frames_of
 file_received vc counter packets history channel tell whole frames closed =
@@ -288,14 +288,14 @@ file_received vc counter packets history channel tell whole frames closed =
     })
 
 pub files_received : (before files : List File) (history : List Fields) → Each IsSendable files →
-    AreFrames history → AreClosed history →
+    AreChannelFrames history → AreClosed history →
     Received history (map fields_of (sent_after before files)) (packets_after before files)
 files_received before [] history each frames closed =
     let same : history ++ [] ≡ history = append-nil history in
     record {
       found = ap packets_of same ∙ sym (append-nil (packets_of history));
       closed = subst (λ (h : List Fields). AreClosed h) (sym same) closed;
-      frames = subst (λ (h : List Fields). AreFrames h) (sym same) frames;
+      frames = subst (λ (h : List Fields). AreChannelFrames h) (sym same) frames;
     }
 files_received before (file ∷ files) history each frames closed =
     let count = packets_before file.vc file.apid before in
@@ -314,7 +314,7 @@ files_received before (file ∷ files) history each frames closed =
           ∙ ap (λ ps. ps ++ packets_after (before ++ file ∷ []) files) one.found
           ∙ append_assoc (packets_of history) (map (on file.vc) packets) (packets_after (before ++ file ∷ []) files);
       closed = subst (λ (h : List Fields). AreClosed h) (sym joined) rest.closed;
-      frames = subst (λ (h : List Fields). AreFrames h) (sym joined) rest.frames;
+      frames = subst (λ (h : List Fields). AreChannelFrames h) (sym joined) rest.frames;
     }
 
 -- without frames there are no packets, and none is open

@@ -1,8 +1,7 @@
 -- Where bodies stand in a file, and its packets one after another.
 use Rattle.std.proofs.Common.{◌≡◌, ℕ, zero, suc, ◌+◌, ◌-◌, ◌*◌, ◌%◌, ◌<◌, ◌≤◌, false, cond, eqb, ltb, List, [], ◌∷◌}
 use Rattle.std.proofs.Common.{◌++◌, map, length, take, drop, get_or, refl, sym, ap, ◌∙◌, subst, arith, append-nil}
-use Rattle.std.proofs.Common.{length-append, length-drop, drop-drop, drop_at, drop-cons, add-one}
-use Rattle.std.proofs.Common.{Option, Some, None}
+use Rattle.std.proofs.Common.{length-append, length-drop, drop-drop, drop_at, drop-cons, add-one, Option, Some, None}
 use Rattle.std.specs.List.{AllByRecursion as Each, concat, range_with_len}
 use Rattle.std.proofs.lemmas.Bool.{cond_both}
 use Rattle.std.proofs.lemmas.List.{take_at, take-append-drop, length-take-le, get_or_append_left, get_or-append-add}

@@ -20,7 +20,7 @@ use Rattle.lr_sent.specs.Sent.{AreRestored, symbols_of_blocks}
 use Rattle.lr_sent.proofs.Receiving.{sent_is_received}
 use Rattle.lr_vc.specs.Frame.{Fields, fields_of, version_of}
 use Rattle.lr_vc.specs.Packets.{packets_of}
-use Rattle.lr_vc.specs.Runs.{AreFrames}
+use Rattle.lr_vc.specs.Runs.{AreChannelFrames}
 use Rattle.lr_uplink.specs.Packets.{file_packets}
 use Rattle.lr_uplink.specs.Received.{IsSendable, FilesAreReceived, SentFilesAreReceived}
 use Rattle.lr_uplink.specs.Sent.{
@@ -120,7 +120,7 @@ files_are_received files outcomes all are =
     ∙ files_joined [] files [] each in
     record {
       are = same;
-      placed = have_origins outcomes (subst (λ (fs : List Fields). AreFrames fs) (sym frames) r.frames) ∙ same;
+      placed = have_origins outcomes (subst (λ (fs : List Fields). AreChannelFrames fs) (sym frames) r.frames) ∙ same;
     }
 
 pub sent_files_are_received : SentFilesAreReceived

@@ -2,8 +2,7 @@
 use Rattle.std.proofs.Common.{◌≡◌, ℕ, ◌+◌, ◌*◌, ◌/◌, ◌%◌, ◌^◌, ◌<◌, ◌≤◌, ◌&&◌, Bool, true, false, cond, eqb}
 use Rattle.std.proofs.Common.{Option, Some, None, unwrap_or, List, [], ◌∷◌, ◌++◌, map, length, take, drop, get_or, set}
 use Rattle.std.proofs.Common.{refl, sym, ap, ap₂, ◌∙◌, subst, arith, append-nil, append_assoc, length-append}
-use Rattle.std.proofs.Common.{length-drop}
-use Rattle.std.proofs.Common.{drop-drop, add-zero, eq-eqb, ne_eqb, inl, inr}
+use Rattle.std.proofs.Common.{length-drop, drop-drop, add-zero, eq-eqb, ne_eqb, inl, inr}
 use Rattle.std.specs.List.{concat, range_with_len}
 use Rattle.std.proofs.lemmas.Bool.{cases_eq, cases_lt}
 use Rattle.std.proofs.lemmas.List.{get_or-append-add, get_or-set_same, get_or-set_other, take_more}
@@ -33,9 +32,8 @@ use Rattle.lr_uplink.specs.Sent.{
   packets_before,
 }
 use Rattle.lr_uplink.specs.Sent.{file_frames, sent_after, sent}
-use Rattle.lr_uplink.specs.Progress.{IsSending, CountsStandFor, IsUnderWay, IsAtRest, FramesStandFor}
-use Rattle.lr_uplink.specs.Standing.{History}
-use Rattle.lr_uplink.specs.Standing.{StandsFor}
+use Rattle.lr_uplink.specs.Progress.{IsSending, CountsStandFor, IsFileUnderWay, IsAtRest, SentFramesStandFor}
+use Rattle.lr_uplink.specs.Standing.{History, UplinkStandsFor}
 use Rattle.lr_uplink.proofs.FilePackets.{file_fills, file_length, filled_few}
 use Rattle.lr_uplink.proofs.Places.{body_there, packets_total, split_length}
 
@@ -156,7 +154,7 @@ counts_more old new files file count stands sets is = record {
 pub loaded : (counters : List ℕ) (files : List File) (given : ℕ) (file : File) (sending : Sending) (count : ℕ) →
     IsAtRest counters files given → count ≡ packets_before file.vc file.apid files % 65536 →
     IsSending sending file (count % SEQUENCE_COUNTS) (concat (file_packets (count % SEQUENCE_COUNTS) file)) →
-    IsUnderWay counters sending (files ++ file ∷ []) given
+    IsFileUnderWay counters sending (files ++ file ∷ []) given
 loaded counters files given file sending count rest is s =
     let before = packets_before file.vc file.apid files in
     let same : count % SEQUENCE_COUNTS ≡ before % SEQUENCE_COUNTS = omega (arith, is) in
@@ -178,7 +176,7 @@ loaded counters files given file sending count rest is s =
 -- ---- a file that is being sent
 
 module _ (counters : List ℕ) (sending : Sending) (files : List File) (given : ℕ)
-    (way : IsUnderWay counters sending files given) where
+    (way : IsFileUnderWay counters sending files given) where
   abbrev before : List File
   before = way.before
 
@@ -278,7 +276,7 @@ module _ (counters : List ℕ) (sending : Sending) (files : List File) (given : 
           drop-drop ZONE_BYTES (ZONE_BYTES * way.frames) (concat (file_packets (first_count % SEQUENCE_COUNTS) file))
           ∙ ap₂ (λ k ps. drop k (concat ps)) (omega arith) (packets_modulo first_count file)
 
-      pub goes_on : (behind ≡ [] → ⊥) → IsUnderWay later next files (given + 1)
+      pub goes_on : (behind ≡ [] → ⊥) → IsFileUnderWay later next files (given + 1)
       goes_on some =
           record {
             before = before;
@@ -320,13 +318,13 @@ module _ (counters : List ℕ) (sending : Sending) (files : List File) (given : 
 -- ---- what was given and what is left
 
 pub given_most : (counters : List ℕ) (o : Option Sending) (files : List File) (given : ℕ) →
-    FramesStandFor counters o files given → given ≤ length (sent files)
+    SentFramesStandFor counters o files given → given ≤ length (sent files)
 given_most counters None files given rest = omega (arith, rest.count)
 given_most counters (Some sending) files given way = omega (arith, is_left counters sending files given way)
 
 -- fewer than 2^32 frames are left
 pub few_left : (counters : List ℕ) (o : Option Sending) (files : List File) (given : ℕ) →
-    FramesStandFor counters o files given → length (sent files) < given + 2 ^ 32
+    SentFramesStandFor counters o files given → length (sent files) < given + 2 ^ 32
 few_left counters None files given rest = omega (arith, rest.count)
 few_left counters (Some sending) files given way =
     let before = way.before in
@@ -344,7 +342,7 @@ few_left counters (Some sending) files given way =
     omega (arith, total, few, size, is.few, is.most, way.count)
 
 pub rests : (counters : List ℕ) (o : Option Sending) (files : List File) (given : ℕ) →
-    FramesStandFor counters o files given → given ≡ length (sent files) → IsAtRest counters files given
+    SentFramesStandFor counters o files given → given ≡ length (sent files) → IsAtRest counters files given
 rests counters None files given rest all = rest
 rests counters (Some sending) files given way all =
     absurd (omega (arith, is_left counters sending files given way, all))
@@ -359,7 +357,7 @@ sent_for-more (f ∷ frames) [] frame block are is = absurd are
 sent_for-more (f ∷ frames) (b ∷ blocks) frame block are is = (are.0, sent_for-more frames blocks frame block are.1 is)
 
 pub block_more : (uplink : Uplink) (line : LineCode) (history : History) (block : List ℕ) →
-    StandsFor uplink line history → length history.blocks < history.given →
+    UplinkStandsFor uplink line history → length history.blocks < history.given →
     IsSentFor (get_or (sent history.files) (length history.blocks) []) block →
     AreSentFor (take (length (history.blocks ++ block ∷ [])) (sent history.files)) (history.blocks ++ block ∷ [])
 block_more uplink line history block s some is =

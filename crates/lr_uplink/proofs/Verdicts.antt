@@ -8,8 +8,7 @@ use Rattle.std.proofs.lemmas.List.{length-replicate, take_at, drop_at}
 use Rattle.byteorder.specs.Endian.{big_number}
 use Rattle.lr_bits.specs.Bits.{field_of}
 use Rattle.lr_bits.specs.Crc.{crc_of}
-use Rattle.lr_bits.specs.declared.sizes.TheConstants.{IDLE_APPLICATION, SEQUENCE_COUNTS}
-use Rattle.lr_bits.specs.declared.sizes.TheConstants.{FRAME_COUNTS}
+use Rattle.lr_bits.specs.declared.sizes.TheConstants.{IDLE_APPLICATION, SEQUENCE_COUNTS, FRAME_COUNTS}
 use Rattle.lr_bits.specs.Sizes.{most_body_bytes}
 use Rattle.lr_bits.proofs.BitsLemmas.{field_of-none, field_of-more}
 use Rattle.lr_bits.proofs.CrcLemmas.{crc_is_the_remainder}

@@ -3,8 +3,7 @@
 use Rattle.std.proofs.Common.{◌≡◌, ℕ, ◌+◌, ◌-◌, ◌*◌, ◌<◌, ◌≤◌, ◌⊎◌, ◌&&◌, true, false, List, [], ◌∷◌}
 use Rattle.std.proofs.Common.{◌++◌, map, length, take, drop, refl, sym, ap, ap₂, ◌∙◌, subst, arith, append-nil}
 use Rattle.std.proofs.Common.{append_assoc, length-append, length-drop, drop-drop, drop_at, ltb, leb, eqb, lt-ltb}
-use Rattle.std.proofs.Common.{le-ltb}
-use Rattle.std.proofs.Common.{le-leb, eq-eqb, ne_eqb, cond, inl, inr, flat_map, Some, None, unwrap_or}
+use Rattle.std.proofs.Common.{le-ltb, le-leb, eq-eqb, ne_eqb, cond, inl, inr, flat_map, Some, None, unwrap_or}
 use Rattle.std.specs.Prelude.{find}
 use Rattle.std.specs.Option.{option_map}
 use Rattle.std.specs.List.{AllByRecursion as Each, concat}

@@ -1,3 +1,4 @@
+pub mod Agreeing
 pub mod Packets
 pub mod Pieces
 pub mod Progress

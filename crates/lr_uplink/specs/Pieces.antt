@@ -5,7 +5,7 @@ use Rattle.std.specs.Int.{bytes_high_first}
 use Rattle.lr_file.specs.Standing.{AreAscending, kept_of_key}
 use Rattle.lr_uplink.specs.declared.packet.Body.{Body}
 use Rattle.lr_uplink.specs.declared.packet.Data.{Data}
-use Rattle.lr_uplink.specs.declared.packet.Data.TheVariants.{Of, Zeros}
+use Rattle.lr_uplink.specs.declared.packet.Data.TheVariants.{FileBody, Zeros}
 use Rattle.lr_uplink.specs.declared.packet.Packet.{Packet}
 
 -- a body and its checksum, where these are the file's bytes
@@ -13,7 +13,7 @@ abbrev pub body_bytes : Body → List ℕ → List ℕ
 body_bytes body bytes = take body.size (drop body.at bytes) ++ bytes_high_first 2 body.checksum
 
 abbrev pub data_bytes : Data → List ℕ → List ℕ
-data_bytes (Of body) bytes = body_bytes body bytes
+data_bytes (FileBody body) bytes = body_bytes body bytes
 data_bytes (Zeros size) bytes = replicate size 0
 
 abbrev pub packet_bytes : Packet → List ℕ → List ℕ
@@ -21,7 +21,7 @@ packet_bytes packet bytes = packet.head ++ data_bytes packet.data bytes
 
 -- how many bytes they are
 abbrev pub data_size : Data → ℕ
-data_size (Of body) = body.size + 2
+data_size (FileBody body) = body.size + 2
 data_size (Zeros size) = size
 
 abbrev pub size_of_packet : Packet → ℕ
@@ -29,7 +29,7 @@ size_of_packet packet = 6 + data_size packet.data
 
 -- where the body ends in the file's bytes
 abbrev pub data_end : Data → ℕ
-data_end (Of body) = body.at + body.size
+data_end (FileBody body) = body.at + body.size
 data_end (Zeros size) = 0
 
 abbrev pub end_of_packet : Packet → ℕ

@@ -34,7 +34,7 @@ pub record CountsStandFor (counts : List ((ℕ × ℕ) × ℕ)) (files : List Fi
   pub each : (vc apid : ℕ) → unwrap_or (kept_of_key counts vc apid) 0 ≡ packets_before vc apid files % 2 ^ 16
 
 -- a file is being sent, of which some frames were given
-pub record IsUnderWay (counters : List ℕ) (sending : Sending) (files : List File) (given : ℕ) : Type 0 where
+pub record IsFileUnderWay (counters : List ℕ) (sending : Sending) (files : List File) (given : ℕ) : Type 0 where
   pub before : List File
   pub file : File
   pub frames : ℕ
@@ -51,6 +51,6 @@ pub record IsAtRest (counters : List ℕ) (files : List File) (given : ℕ) : Ty
   pub count : given ≡ length (sent files)
   pub counted : (c : ℕ) → c < CHANNELS → slice_index counters c ≡ frames_before c files % 2 ^ 32
 
-abbrev pub FramesStandFor : List ℕ → Option Sending → List File → ℕ → Type 0
-FramesStandFor counters None files given = IsAtRest counters files given
-FramesStandFor counters (Some sending) files given = IsUnderWay counters sending files given
+abbrev pub SentFramesStandFor : List ℕ → Option Sending → List File → ℕ → Type 0
+SentFramesStandFor counters None files given = IsAtRest counters files given
+SentFramesStandFor counters (Some sending) files given = IsFileUnderWay counters sending files given

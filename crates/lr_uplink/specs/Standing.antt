@@ -1,11 +1,11 @@
--- What an uplink stands for. Callers need `History` and `StandsFor` alone, and nothing of what is in the latter.
+-- What an uplink stands for. Callers need `History` and `UplinkStandsFor` alone, and nothing of what is in the latter.
 use Rattle.std.specs.Prelude.{◌≡◌, ◌≤◌, ℕ, ◌+◌, ◌++◌, List, [], ◌∷◌, length, take, All}
 use Rattle.lr_bits.specs.File.{File}
 use Rattle.lr_conv.specs.LineEncoder as encoders
 use Rattle.lr_conv.specs.declared.line.LineCode.{LineCode}
 use Rattle.lr_sent.specs.Sent.{AreSentFor, bits_of_blocks}
 use Rattle.lr_uplink.specs.declared.uplink.Uplink.{Uplink}
-use Rattle.lr_uplink.specs.Progress.{CountsStandFor, FramesStandFor}
+use Rattle.lr_uplink.specs.Progress.{CountsStandFor, SentFramesStandFor}
 use Rattle.lr_uplink.specs.Received.{IsSendable}
 use Rattle.lr_uplink.specs.Sent.{sent}
 
@@ -31,10 +31,10 @@ with_block history block = record history { blocks = history.blocks ++ block ∷
 
 -- An uplink of this line code stands for a history: it gives the frames of the files in their order, and has sent a
 -- block for each of the first frames that it gave.
-pub record StandsFor (uplink : Uplink) (line : LineCode) (history : History) : Type 0 where
+pub record UplinkStandsFor (uplink : Uplink) (line : LineCode) (history : History) : Type 0 where
   pub files : All IsSendable history.files
   pub counts : CountsStandFor uplink.counts history.files
-  pub frames : FramesStandFor uplink.counters uplink.sending history.files history.given
+  pub frames : SentFramesStandFor uplink.counters uplink.sending history.files history.given
   pub given : length history.blocks ≤ history.given
   pub blocks : AreSentFor (take (length history.blocks) (sent history.files)) history.blocks
-  pub encoder : encoders.StandsFor uplink.encoder line (bits_of_blocks history.blocks)
+  pub encoder : encoders.LineEncoderStandsFor uplink.encoder line (bits_of_blocks history.blocks)

@@ -1,5 +1,6 @@
 //! The laws.
 
+ghost use Rattle.lr_uplink.specs.Agreeing.{ZonesAgree};
 ghost use Rattle.lr_uplink.specs.Received.{FilesAreReceived, SentFilesAreReceived};
 
 /// The files of the frames that files are sent in are these files, in their order.
@@ -11,4 +12,9 @@ pub fn files_are_received()
 /// the wrong bytes are.
 pub fn sent_files_are_received()
     ensures { SentFilesAreReceived }
+{}
+
+/// Zones and pointers of the first ones of packets are those of all packets, as the test stream has them.
+pub fn zones_agree()
+    ensures { ZonesAgree }
 {}

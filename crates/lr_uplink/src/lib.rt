@@ -10,13 +10,13 @@
 //! Blocks are made of frames, made wrong and randomised outside (`encode_block` and `derandomise` of `lr_block`).
 #![tactic(auto)]
 
-mod counts;
 mod frames;
 mod laws;
 mod packet;
+mod packet_counts;
 mod sending;
 mod symbols;
 mod uplink;
 
-pub use laws::{files_are_received, sent_files_are_received};
+pub use laws::{files_are_received, sent_files_are_received, zones_agree};
 pub use uplink::{Uplink, UplinkFault};

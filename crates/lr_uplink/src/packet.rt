@@ -27,7 +27,7 @@ pub struct Body {
 #[derive(Clone, Copy)]
 pub enum Data {
     /// A body.
-    Of(Body),
+    FileBody(Body),
     /// This many zeros.
     Zeros(u16),
 }
@@ -108,7 +108,7 @@ impl Packet {
         let body = &bytes[at..at + usize::from(size)];
         Packet {
             head: packet_head(apid, flags, count, size + 1),
-            data: Data::Of(Body {
+            data: Data::FileBody(Body {
                 at,
                 size,
                 checksum: crc16(body),
@@ -134,7 +134,7 @@ impl Packet {
         ensures few { result ≤ 65543 }
     {
         match self.data {
-            Data::Of(body) => PACKET_HEADER_BYTES + body.len(),
+            Data::FileBody(body) => PACKET_HEADER_BYTES + body.len(),
             Data::Zeros(size) => PACKET_HEADER_BYTES + usize::from(size),
         }
     }
@@ -149,7 +149,7 @@ impl Packet {
             return self.head[place];
         }
         match self.data {
-            Data::Of(body) => body.byte(bytes, place - PACKET_HEADER_BYTES),
+            Data::FileBody(body) => body.byte(bytes, place - PACKET_HEADER_BYTES),
             Data::Zeros(_) => 0,
         }
     }

@@ -3,7 +3,7 @@
 ghost use Rattle.std.specs.Prelude.{◌≡◌, ◌*◌, ◌++◌, Bool, List, length, map, drop, false};
 ghost use Rattle.lr_conv.specs.Convolution.{code};
 ghost use Rattle.lr_conv.specs.Levels.{levels, six_zeros};
-ghost use Rattle.lr_conv.specs.LineEncoder.{StandsFor};
+ghost use Rattle.lr_conv.specs.LineEncoder.{LineEncoderStandsFor};
 ghost use Rattle.lr_conv.specs.declared.line.LineCode.{LineCode as LineCode'};
 ghost use Rattle.lr_make.specs.Symbols.{bits_of_bytes, level, marked_block};
 
@@ -17,11 +17,11 @@ pub(crate) fn put_symbols(
     block: &[u8; BLOCK_BYTES],
     symbols: &mut [i8; FRAME_SYMBOLS],
 )
-    ensures symbols { (line : LineCode') (bits : List Bool) → StandsFor encoder.old line bits →
+    ensures symbols { (line : LineCode') (bits : List Bool) → LineEncoderStandsFor encoder.old line bits →
         symbols.new ≡ map level (drop (2 * length bits)
         (code line six_zeros (levels line false (bits ++ bits_of_bytes (marked_block block.now))))) }
-    ensures moves { (line : LineCode') (bits : List Bool) → StandsFor encoder.old line bits →
-        StandsFor encoder.new line (bits ++ bits_of_bytes (marked_block block.now)) }
+    ensures moves { (line : LineCode') (bits : List Bool) → LineEncoderStandsFor encoder.old line bits →
+        LineEncoderStandsFor encoder.new line (bits ++ bits_of_bytes (marked_block block.now)) }
 {
     let bytes = marked_block(block);
     for place in 0..8 * SENT_BYTES {

@@ -8,8 +8,8 @@ ghost use Rattle.lr_sent.specs.Sent.{IsSentFor, symbols_of_blocks};
 ghost use Rattle.lr_uplink.specs.Received.{AreFilesOf};
 ghost use Rattle.lr_uplink.specs.Sent.{sent};
 
-use crate::counts::Counts;
 use crate::frames::put_next;
+use crate::packet_counts::PacketCounts;
 use crate::sending::Sending;
 use crate::symbols::put_symbols;
 use lr_bits::{
@@ -39,23 +39,23 @@ pub struct Uplink {
     /// How many frames each channel has sent, modulo 2^32.
     counters: [u32; CHANNELS],
     /// How many packets each channel and application has sent, with those of the file that is being sent.
-    counts: Counts,
+    counts: PacketCounts,
     /// The file that is being sent, as long as some of it is left.
     sending: Option<Sending>,
 }
 
 impl Uplink {
-    ghost use Rattle.lr_uplink.specs.Standing.{History, IsAllGiven, StandsFor, with_block, with_file, with_frame};
+    ghost use Rattle.lr_uplink.specs.Standing.{History, IsAllGiven, UplinkStandsFor, with_block, with_file, with_frame};
 
     /// An uplink that has sent nothing. This takes no memory.
     pub fn new(alloc: Global, line: LineCode) -> Result<Uplink, NoMemory>
         ensures { IsOkAnd result (λ uplink.
-            StandsFor uplink line (record { files = []; given = 0; blocks = [] })) }
+            UplinkStandsFor uplink line (record { files = []; given = 0; blocks = [] })) }
     {
         Ok(Uplink {
             encoder: LineEncoder::new(line),
             counters: [0; CHANNELS],
-            counts: Counts::new(alloc),
+            counts: PacketCounts::new(alloc),
             sending: None,
         })
     }
@@ -64,8 +64,8 @@ impl Uplink {
     ///
     /// `Fill`: the file is of channel 63. `NoMemory`: memory was wanting.
     pub fn load(&mut self, file: MissionFile) -> Result<(), UplinkFault>
-        ensures loaded { (line : LineCode') (history : History) → StandsFor self.old line history →
-            IsAllGiven history → OnOk result (StandsFor self.new line (with_file history file)) }
+        ensures loaded { (line : LineCode') (history : History) → UplinkStandsFor self.old line history →
+            IsAllGiven history → OnOk result (UplinkStandsFor self.new line (with_file history file)) }
         ensures fill { (result ≡ Err UplinkFault.Fill) ↔ (file.vc ≡ FILL_CHANNEL) }
         ensures refused { OnErr result (self.new ≡ self.old) }
     {
@@ -89,16 +89,16 @@ impl Uplink {
 
     /// Writes the next frame of the files that were loaded. The result is whether one was left.
     pub fn next_frame(&mut self, frame: &mut [u8; FRAME_BYTES]) -> bool
-        ensures left { (line : LineCode') (history : History) → StandsFor self.old line history →
+        ensures left { (line : LineCode') (history : History) → UplinkStandsFor self.old line history →
             IsTrue result ↔ (history.given < length (sent history.files)) }
-        ensures frame { (line : LineCode') (history : History) → StandsFor self.old line history → IsTrue result →
+        ensures frame { (line : LineCode') (history : History) → UplinkStandsFor self.old line history → IsTrue result →
             frame.new ≡ slice_index_or (sent history.files) history.given [] }
-        ensures given { (line : LineCode') (history : History) → StandsFor self.old line history → IsTrue result →
-            StandsFor self.new line (with_frame history) }
+        ensures given { (line : LineCode') (history : History) → UplinkStandsFor self.old line history → IsTrue result →
+            UplinkStandsFor self.new line (with_frame history) }
 
         // Where none was left, nothing changes; and where each frame was sent, a receiver finds the files.
         ensures none { result ≡ false → (self.new ≡ self.old) × (frame.new ≡ frame.old) }
-        ensures received { (line : LineCode') (history : History) → StandsFor self.old line history →
+        ensures received { (line : LineCode') (history : History) → UplinkStandsFor self.old line history →
             result ≡ false → length history.blocks ≡ history.given →
             AreFilesOf (outcomes_of_symbols line (symbols_of_blocks line history.blocks)) history.files }
     {
@@ -119,13 +119,13 @@ impl Uplink {
     /// marker and its own, by one encoder that runs on, each 100 or -100. Without the randomiser each word of the
     /// block may differ in up to sixteen places from that of the frame's encoded block.
     pub fn symbols(&mut self, block: &[u8; BLOCK_BYTES], out: &mut [i8; FRAME_SYMBOLS])
-        ensures symbols { (line : LineCode') (history : History) → StandsFor self.old line history →
+        ensures symbols { (line : LineCode') (history : History) → UplinkStandsFor self.old line history →
             symbols_of_blocks line (history.blocks ++ block.now ∷ [])
             ≡ symbols_of_blocks line history.blocks ++ out.new }
-        ensures block { (line : LineCode') (history : History) → StandsFor self.old line history →
+        ensures block { (line : LineCode') (history : History) → UplinkStandsFor self.old line history →
             length history.blocks < history.given →
             IsSentFor (slice_index_or (sent history.files) (length history.blocks) []) block.now →
-            StandsFor self.new line (with_block history block.now) }
+            UplinkStandsFor self.new line (with_block history block.now) }
     {
         put_symbols(&mut self.encoder, block, out);
     }

@@ -1,9 +1,8 @@
 -- The packets that end in the last frame of a run, and those that are open after it.
 use Rattle.std.proofs.Common.{◌≡◌, ℕ, ◌+◌, ◌*◌, ◌<◌, ◌≤◌, Bool, true, false, cond, not, ◌&&◌, List, [], ◌∷◌, ◌++◌, map}
 use Rattle.std.proofs.Common.{length, drop, filter, flat_map, refl, sym, ap, ap₂, ◌∙◌, arith, append-nil, ltb, eqb}
-use Rattle.std.proofs.Common.{eq-eqb, ne_eqb}
+use Rattle.std.proofs.Common.{eq-eqb, ne_eqb, drop-drop, drop_at}
 use Rattle.std.proofs.lemmas.List.{map-append, drop-append-le}
-use Rattle.std.proofs.Common.{drop-drop, drop_at}
 use Rattle.std.proofs.lemmas.List.Elements.{filter-append}
 use Rattle.std.proofs.lemmas.Bool.{and_parts, and_right, cond_both}
 use Rattle.std.specs.List.{AllByRecursion as Each}

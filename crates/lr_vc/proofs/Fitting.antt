@@ -12,7 +12,7 @@ use Rattle.lr_bits.specs.Packet.{Packet}
 use Rattle.lr_bits.specs.declared.sizes.TheConstants.{FILL_CHANNEL, NO_PACKET_START, ZONE_BYTES}
 use Rattle.lr_bits.proofs.ByKeys.{sums_by_key}
 use Rattle.lr_vc.specs.Frame.{Fields}
-use Rattle.lr_vc.specs.Runs.{Run, AreFrames, channel_frames, runs_of}
+use Rattle.lr_vc.specs.Runs.{Run, AreChannelFrames, channel_frames, runs_of}
 use Rattle.lr_vc.specs.Packets.{zones_of, packet_end, is_whole, starts_of, packet_at, ends_in, packets_ending}
 use Rattle.lr_vc.specs.Packets.{packets_in, packets_at, packets_of}
 use Rattle.lr_vc.specs.Standing.{open_packets, last_counter, last_run}
@@ -211,12 +211,12 @@ unfolding packets_of channel_frames runs_of
 holds_none channel = rw open_none (record { few = omega arith; fit = omega arith })
 
 -- the first of these frames are frames
-front_frames : (history more : List Fields) → AreFrames (history ++ more) → AreFrames history
+front_frames : (history more : List Fields) → AreChannelFrames (history ++ more) → AreChannelFrames history
 front_frames history more are =
     let P : Fields → Type 0 = λ f. length f.zone ≡ ZONE_BYTES in
     All-from_recursion P history (Each_left P history more (zones_each (history ++ more) are))
 
-packets_of_channel-more : (channel : ℕ) (history : List Fields) (f : Fields) → AreFrames (history ++ f ∷ []) →
+packets_of_channel-more : (channel : ℕ) (history : List Fields) (f : Fields) → AreChannelFrames (history ++ f ∷ []) →
     packets_of_channel channel (packets_of (history ++ f ∷ [])) ≡
     packets_of_channel channel (packets_of history) ++ packets_of_channel channel
     (packets_at (history ++ f ∷ []) (length history))
@@ -226,7 +226,7 @@ packets_of_channel-more channel history f are =
     (packets_at (history ++ f ∷ []) (length history))
 
 -- one frame more of the channel, and one of any channel
-holds_own : (history : List Fields) (f : Fields) → (f.vc ≡ FILL_CHANNEL → ⊥) → AreFrames (history ++ f ∷ []) →
+holds_own : (history : List Fields) (f : Fields) → (f.vc ≡ FILL_CHANNEL → ⊥) → AreChannelFrames (history ++ f ∷ []) →
     HoldsOf f.vc history → HoldsOf f.vc (history ++ f ∷ [])
 unfolding packets_with open_after
 holds_own history f ne are h =
@@ -274,7 +274,7 @@ holds_own history f ne are h =
     }
 
 holds_more : (channel : ℕ) (history : List Fields) (f : Fields) → (channel ≡ FILL_CHANNEL → ⊥)
-    → AreFrames (history ++ f ∷ []) →
+    → AreChannelFrames (history ++ f ∷ []) →
     HoldsOf channel history → HoldsOf channel (history ++ f ∷ [])
 holds_more channel history f ne are h =
     ⊎_elim
@@ -293,12 +293,13 @@ holds_more channel history f ne are h =
     rw (packets, frames, channel_frames-other channel history f other) h)
     (cases_eq f.vc channel)
 
-holds_append : (channel : ℕ) (history more : List Fields) → (channel ≡ FILL_CHANNEL → ⊥) → AreFrames (history ++ more) →
+holds_append : (channel : ℕ) (history more : List Fields) → (channel ≡ FILL_CHANNEL → ⊥)
+    → AreChannelFrames (history ++ more) →
     HoldsOf channel history → HoldsOf channel (history ++ more)
 holds_append channel history [] ne are h = subst (HoldsOf channel) (sym (append-nil history)) h
 holds_append channel history (f ∷ fs) ne are h =
     let split : history ++ f ∷ fs ≡ (history ++ f ∷ []) ++ fs = sym (append_assoc history (f ∷ []) fs) in
-    let all : AreFrames ((history ++ f ∷ []) ++ fs) = subst AreFrames split are in
+    let all : AreChannelFrames ((history ++ f ∷ []) ++ fs) = subst AreChannelFrames split are in
     let next = holds_more channel history f ne (front_frames (history ++ f ∷ []) fs all) h in
     subst (HoldsOf channel) (sym split) (holds_append channel (history ++ f ∷ []) fs ne all next)
 
@@ -310,7 +311,7 @@ sum_by-room (f ∷ fs) =
     omega (arith, sum_by-room fs, sum_by-cons room f fs, sum_by-cons one f fs)
 
 -- all packets have at most the room of all frames
-pub packets_fit : (frames : List Fields) → AreFrames frames →
+pub packets_fit : (frames : List Fields) → AreChannelFrames frames →
     bytes_of (packets_of frames) ≤ ZONE_BYTES * count_by (λ frame. not (eqb frame.vc FILL_CHANNEL)) frames
 packets_fit frames are =
     let each : (channel : ℕ) → bytes_of (packets_of_channel channel (packets_of frames)) ≤ sum_by room

@@ -9,7 +9,7 @@ use Rattle.std.specs.List.{AllByRecursion as Each, enumerate_from}
 use Rattle.lr_bits.specs.Packet.{Packet}
 use Rattle.lr_bits.specs.declared.sizes.TheConstants.{FILL_CHANNEL, ZONE_BYTES}
 use Rattle.lr_vc.specs.Frame.{Fields}
-use Rattle.lr_vc.specs.Runs.{Run, AreFrames, channel_frames, runs_of}
+use Rattle.lr_vc.specs.Runs.{Run, AreChannelFrames, channel_frames, runs_of}
 use Rattle.lr_vc.specs.Packets.{packets_ending, packets_in, packets_at, packets_of, place_of, starts_of}
 use Rattle.lr_vc.specs.Standing.{open_packets, last_counter, last_run}
 use Rattle.lr_vc.specs.Steps.{follows, completed_packet, continued_packet, packets_inside, opened_packets}
@@ -24,7 +24,7 @@ use Rattle.lr_vc.proofs.LastRun.{flat_map-runs_last, place_of_below, packets_end
 abbrev HaveZones : List Fields → Type 0
 HaveZones frames = Each (λ f. length f.zone ≡ ZONE_BYTES) frames
 
-pub zones_each : (frames : List Fields) → AreFrames frames → HaveZones frames
+pub zones_each : (frames : List Fields) → AreChannelFrames frames → HaveZones frames
 zones_each frames h = recursion_from_All (λ f. length f.zone ≡ ZONE_BYTES) frames h
 
 enumerate_more : (history : List Fields) (f : Fields) →
@@ -184,7 +184,7 @@ pub packets_at-fill : (history : List Fields) (f : Fields) → f.vc ≡ FILL_CHA
 unfolding packets_in
 packets_at-fill history f e = packets_at-last history f ∙ rw (eq-eqb f.vc FILL_CHANNEL e) refl
 
-pub packets_at-next : (history : List Fields) (f : Fields) → AreFrames history → length f.zone ≡ ZONE_BYTES →
+pub packets_at-next : (history : List Fields) (f : Fields) → AreChannelFrames history → length f.zone ≡ ZONE_BYTES →
     (f.vc ≡ FILL_CHANNEL → ⊥) →
     packets_at (history ++ f ∷ []) (length history)
     ≡ flat_map (completed_packet f.vc f.zone f.pointer) (met (channel_frames f.vc history) f.counter)
@@ -206,7 +206,7 @@ last_counter-own history f =
     ap last_counter (channel_frames-own history f) ∙ last_counter-append (channel_frames f.vc history)
     (length history, f)
 
-pub open_packets-own : (history : List Fields) (f : Fields) → AreFrames history → length f.zone ≡ ZONE_BYTES →
+pub open_packets-own : (history : List Fields) (f : Fields) → AreChannelFrames history → length f.zone ≡ ZONE_BYTES →
     open_packets (last_run (runs_of (channel_frames f.vc (history ++ f ∷ []))))
     ≡ flat_map (continued_packet f.zone f.pointer) (met (channel_frames f.vc history) f.counter)
     ++ cond (ltb f.pointer ZONE_BYTES) (opened_packets f) []
@@ -236,7 +236,7 @@ packets_in-stay history f zones long x h =
     ap (λ ps. cond (eqb c 63) [] ps) same
 
 -- one frame more adds the packets that end in it
-pub packets_of-more : (history : List Fields) (f : Fields) → AreFrames (history ++ f ∷ []) →
+pub packets_of-more : (history : List Fields) (f : Fields) → AreChannelFrames (history ++ f ∷ []) →
     packets_of (history ++ f ∷ []) ≡ packets_of history ++ packets_at (history ++ f ∷ []) (length history)
 unfolding packets_of
 packets_of-more history f frames =
@@ -253,14 +253,14 @@ packets_of-more history f frames =
     ∙ ap₂ (λ xs ys. xs ++ ys) same (append-nil (I (length history, f)) ∙ sym (packets_at-last history f))
 
 -- the packets of the first frames come first
-pub packets_of-append : (history more : List Fields) → AreFrames (history ++ more) →
+pub packets_of-append : (history more : List Fields) → AreChannelFrames (history ++ more) →
     (later : List Packet) × (packets_of (history ++ more) ≡ packets_of history ++ later)
 packets_of-append history [] _ = ([], ap packets_of (append-nil history) ∙ sym (append-nil (packets_of history)))
 packets_of-append history (f ∷ fs) frames =
     let split : history ++ f ∷ fs ≡ (history ++ f ∷ []) ++ fs = sym (append_assoc history (f ∷ []) fs) in
-    let all : AreFrames ((history ++ f ∷ []) ++ fs) = subst AreFrames split frames in
+    let all : AreChannelFrames ((history ++ f ∷ []) ++ fs) = subst AreChannelFrames split frames in
     let P : Fields → Type 0 = λ f. length f.zone ≡ ZONE_BYTES in
-    let first : AreFrames (history ++ f ∷ []) =
+    let first : AreChannelFrames (history ++ f ∷ []) =
     All-from_recursion P (history ++ f ∷ []) (Each_left P (history ++ f ∷ []) fs
     (zones_each ((history ++ f ∷ []) ++ fs) all)) in
     let rest = packets_of-append (history ++ f ∷ []) fs all in (

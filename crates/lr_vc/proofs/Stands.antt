@@ -6,9 +6,9 @@ use Rattle.std.proofs.lemmas.Bool.{cases_eq}
 use Rattle.std.proofs.lemmas.List.Elements.{All-nil, All-push}
 use Rattle.lr_bits.specs.declared.sizes.TheConstants.{FILL_CHANNEL, ZONE_BYTES}
 use Rattle.lr_vc.specs.Frame.{Fields}
-use Rattle.lr_vc.specs.Runs.{AreFrames, channel_frames, runs_of}
+use Rattle.lr_vc.specs.Runs.{AreChannelFrames, channel_frames, runs_of}
 use Rattle.lr_vc.specs.Packets.{packets_at}
-use Rattle.lr_vc.specs.Standing.{Kept, kept_at, StandsFor, open_packets, last_run, last_counter}
+use Rattle.lr_vc.specs.Standing.{KeptChannels, kept_at, ChannelsStandFor, open_packets, last_run, last_counter}
 use Rattle.lr_vc.specs.Steps.{follows, met_by, packets_with, open_after, completed_packet, continued_packet}
 use Rattle.lr_vc.specs.Steps.{packets_inside, TakesFrame, opened_packets}
 use Rattle.lr_vc.proofs.History.{met, open_none, channel_frames-other, last_counter-own, open_packets-own}
@@ -19,11 +19,11 @@ pub at_ok : {T E P : Type 0} (r : Result T E) → is_err r ≡ false → OnOk r 
 at_ok (Ok x) _ h = h
 at_ok (Err x) e _ = absurd (true≢false e)
 
-frames_more : (history : List Fields) (f : Fields) → length f.zone ≡ ZONE_BYTES → AreFrames history →
-    AreFrames (history ++ f ∷ [])
+frames_more : (history : List Fields) (f : Fields) → length f.zone ≡ ZONE_BYTES → AreChannelFrames history →
+    AreChannelFrames (history ++ f ∷ [])
 frames_more history f long h = All-push (λ f. length f.zone ≡ ZONE_BYTES) history f h long
 
-pub stands_new : (kept : Kept) → kept.spent ≡ false → kept.channels ≡ [] → StandsFor kept []
+pub stands_new : (kept : KeptChannels) → kept.spent ≡ false → kept.channels ≡ [] → ChannelsStandFor kept []
 unfolding channel_frames runs_of
 stands_new kept unspent none =
     record {
@@ -33,9 +33,9 @@ stands_new kept unspent none =
       packets = λ channel _. ap (λ cs. option_to_list (kept_at cs channel).open_packet) none ∙ sym open_none;
     }
 
-pub stands_fill : (kept : Kept) (history : List Fields) (f : Fields) → f.vc ≡ FILL_CHANNEL
+pub stands_fill : (kept : KeptChannels) (history : List Fields) (f : Fields) → f.vc ≡ FILL_CHANNEL
     → length f.zone ≡ ZONE_BYTES →
-    StandsFor kept history → StandsFor kept (history ++ f ∷ [])
+    ChannelsStandFor kept history → ChannelsStandFor kept (history ++ f ∷ [])
 stands_fill kept history f fill long h =
     let same : (channel : ℕ) → channel < FILL_CHANNEL → channel_frames channel history ≡
     channel_frames channel (history ++ f ∷ []) =
@@ -50,15 +50,16 @@ stands_fill kept history f fill long h =
     }
 
 -- the open packets that the next frame meets are those that are kept
-met_is : (kept : Kept) (history : List Fields) (f : Fields) → f.vc < FILL_CHANNEL → StandsFor kept history →
+met_is : (kept : KeptChannels) (history : List Fields) (f : Fields) → f.vc < FILL_CHANNEL
+    → ChannelsStandFor kept history →
     met_by (kept_at kept.channels f.vc) f.counter ≡ met (channel_frames f.vc history) f.counter
 unfolding met_by
 met_is kept history f below h =
     ap₂ (λ last os. cond (follows last f.counter) os []) (h.counters f.vc below) (h.packets f.vc below)
 
-pub packets_next : (kept : Kept) (history : List Fields) (f : Fields) → f.vc < FILL_CHANNEL
+pub packets_next : (kept : KeptChannels) (history : List Fields) (f : Fields) → f.vc < FILL_CHANNEL
     → length f.zone ≡ ZONE_BYTES →
-    StandsFor kept history →
+    ChannelsStandFor kept history →
     packets_with f (met_by (kept_at kept.channels f.vc) f.counter) ≡ packets_at (history ++ f ∷ []) (length history)
 unfolding packets_with
 packets_next kept history f below long h =
@@ -66,8 +67,9 @@ packets_next kept history f below long h =
     ++ cond (ltb f.pointer ZONE_BYTES) (packets_inside f.vc f.zone f.pointer) []) (met_is kept history f below h)
     ∙ sym (packets_at-next history f h.frames long (λ e. omega arith))
 
-open_next : (kept : Kept) (history : List Fields) (f : Fields) → f.vc < FILL_CHANNEL → length f.zone ≡ ZONE_BYTES →
-    StandsFor kept history →
+open_next : (kept : KeptChannels) (history : List Fields) (f : Fields) → f.vc < FILL_CHANNEL
+    → length f.zone ≡ ZONE_BYTES →
+    ChannelsStandFor kept history →
     open_after f (met_by (kept_at kept.channels f.vc) f.counter) ≡
     open_packets (last_run (runs_of (channel_frames f.vc (history ++ f ∷ []))))
 unfolding open_after
@@ -76,12 +78,12 @@ open_next kept history f below long h =
     (met_is kept history f below h)
     ∙ sym (open_packets-own history f h.frames long)
 
-pub stands_next : (old new : Kept) (history : List Fields) (f : Fields) → f.vc < FILL_CHANNEL
+pub stands_next : (old new : KeptChannels) (history : List Fields) (f : Fields) → f.vc < FILL_CHANNEL
     → length f.zone ≡ ZONE_BYTES →
     new.spent ≡ false →
     TakesFrame (kept_at old.channels f.vc) (kept_at new.channels f.vc) f →
     ((k : ℕ) → (k ≡ f.vc → ⊥) → kept_at new.channels k ≡ kept_at old.channels k) →
-    StandsFor old history → StandsFor new (history ++ f ∷ [])
+    ChannelsStandFor old history → ChannelsStandFor new (history ++ f ∷ [])
 stands_next old new history f below long unspent own others h =
     let Counter : ℕ → Type 0 =
     λ k. (kept_at new.channels k).counter ≡ last_counter (channel_frames k (history ++ f ∷ [])) in

@@ -25,39 +25,40 @@ use Rattle.lr_bits.specs.declared.sizes.TheConstants.{NO_PACKET_START, ZONE_BYTE
 use Rattle.lr_vc.specs.declared.channel.ZoneStart.{ZoneStart}
 use Rattle.lr_vc.specs.declared.channel.ZoneStart.TheVariants.{At, Nowhere, Idle}
 use Rattle.lr_vc.specs.Packets.{has_header, is_whole, packet_at, packet_end, starts_from}
-use Rattle.lr_vc.specs.Steps.{start_of, is_nowhere, ends_at, packets_inside, starts_after, starts_unfinished}
+use Rattle.lr_vc.specs.Steps.{zone_start_of, is_nowhere, ends_at, packets_inside, starts_after, starts_unfinished}
 
 pub ends_at-pointer : (n e p : ℕ) →
-    ends_at n e (start_of p) ≡ cond (eqb e (n + ZONE_BYTES)) (eqb p NO_PACKET_START) (ltb p ZONE_BYTES && eqb e (n + p))
+    ends_at n e (zone_start_of p)
+    ≡ cond (eqb e (n + ZONE_BYTES)) (eqb p NO_PACKET_START) (ltb p ZONE_BYTES && eqb e (n + p))
 ends_at-pointer n e p = grind (arith, nat_tests)
 
-pub is_nowhere-pointer : (p : ℕ) → is_nowhere (start_of p) ≡ eqb p NO_PACKET_START
+pub is_nowhere-pointer : (p : ℕ) → is_nowhere (zone_start_of p) ≡ eqb p NO_PACKET_START
 is_nowhere-pointer p = grind (arith, nat_tests)
 
-pub at_is_inside : (p q : ℕ) → start_of p ≡ At q → p < ZONE_BYTES
+pub at_is_inside : (p q : ℕ) → zone_start_of p ≡ At q → p < ZONE_BYTES
 at_is_inside p q is = grind (arith, nat_tests)
 
-pub nowhere_is_outside : (p : ℕ) → start_of p ≡ Nowhere → ZONE_BYTES ≤ p
+pub nowhere_is_outside : (p : ℕ) → zone_start_of p ≡ Nowhere → ZONE_BYTES ≤ p
 nowhere_is_outside p is = grind (arith, nat_tests)
 
-pub idle_is_outside : (p : ℕ) → start_of p ≡ Idle → ZONE_BYTES ≤ p
+pub idle_is_outside : (p : ℕ) → zone_start_of p ≡ Idle → ZONE_BYTES ≤ p
 idle_is_outside p is = grind (arith, nat_tests)
 
 -- what `agrees` answers, in the terms of a pointer
 unfoldable pub test : ℕ → ℕ → ℕ → Bool
 test e n q = cond (eqb e (n + ZONE_BYTES)) (eqb q NO_PACKET_START) (ltb q ZONE_BYTES && eqb e (n + q))
 
-pub agrees_is : (n e p : ℕ) (start : ZoneStart) → start ≡ start_of p → ends_at n e start ≡ test e n p
+pub agrees_is : (n e p : ℕ) (start : ZoneStart) → start ≡ zone_start_of p → ends_at n e start ≡ test e n p
 unfolding test
 agrees_is n e p start is = ap (ends_at n e) is ∙ ends_at-pointer n e p
 
-pub nowhere_not : (p : ℕ) (start : ZoneStart) → start ≡ start_of p → is_nowhere start ≡ false
+pub nowhere_not : (p : ℕ) (start : ZoneStart) → start ≡ zone_start_of p → is_nowhere start ≡ false
     → (p ≡ NO_PACKET_START → ⊥)
 nowhere_not p start is isnt e =
     let t : eqb p NO_PACKET_START ≡ false = sym (ap is_nowhere is ∙ is_nowhere-pointer p)
     ∙ isnt in grind (arith, nat_tests)
 
-pub nowhere_so : (p : ℕ) (start : ZoneStart) → start ≡ start_of p → is_nowhere start ≡ true → p ≡ NO_PACKET_START
+pub nowhere_so : (p : ℕ) (start : ZoneStart) → start ≡ zone_start_of p → is_nowhere start ≡ true → p ≡ NO_PACKET_START
 nowhere_so p start is sure =
     let t : eqb p NO_PACKET_START ≡ true = sym (ap is_nowhere is ∙ is_nowhere-pointer p)
     ∙ sure in grind (arith, nat_tests)

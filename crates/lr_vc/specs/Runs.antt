@@ -10,8 +10,8 @@ abbrev pub Run : Type 0
 Run = List (ℕ × Fields)
 
 -- the packet zone of a frame has 884 bytes
-abbrev pub AreFrames : List Fields → Type 0
-AreFrames frames = All (λ f. length f.zone ≡ ZONE_BYTES) frames
+abbrev pub AreChannelFrames : List Fields → Type 0
+AreChannelFrames frames = All (λ f. length f.zone ≡ ZONE_BYTES) frames
 
 -- the counter that follows this one: counters have 24 bits
 abbrev pub next_counter : ℕ → ℕ

@@ -4,7 +4,7 @@ use Rattle.std.specs.Prelude.{drop, map, slice_index_or, ◌==◌}
 use Rattle.std.specs.Option.{option_to_list, ForSome}
 use Rattle.std.specs.List.{All, filter, list_all}
 use Rattle.lr_vc.specs.Frame.{Fields}
-use Rattle.lr_vc.specs.Runs.{Run, AreFrames, channel_frames, runs_of}
+use Rattle.lr_vc.specs.Runs.{Run, AreChannelFrames, channel_frames, runs_of}
 use Rattle.lr_vc.specs.Packets.{zones_of, pointer_of, is_whole, starts_of, zones_after}
 use Rattle.lr_bits.specs.declared.sizes.TheConstants.{FILL_CHANNEL, NO_PACKET_START}
 
@@ -14,7 +14,7 @@ pub record KeptChannel : Type 0 where
   pub open_packet : Option (List ℕ)
 
 -- and of all channels, by their numbers, with a mark once memory was wanting
-pub record Kept : Type 0 where
+pub record KeptChannels : Type 0 where
   pub spent : Bool
   pub channels : List KeptChannel
 
@@ -26,17 +26,17 @@ abbrev pub kept_at : List KeptChannel → ℕ → KeptChannel
 kept_at channels channel = slice_index_or channels channel nothing_kept
 
 -- memory was wanting in an earlier call
-abbrev pub IsSpent : Kept → Type 0
-IsSpent kept = kept.spent ≡ true
+abbrev pub AreChannelsSpent : KeptChannels → Type 0
+AreChannelsSpent kept = kept.spent ≡ true
 
 -- an open packet lacks a byte of the longest packet, of 65,542
-abbrev pub IsShort : Option (List ℕ) → Type 0
-IsShort open_packet = ForSome open_packet (λ bytes. length bytes ≤ 65541)
+abbrev pub IsShortPacket : Option (List ℕ) → Type 0
+IsShortPacket open_packet = ForSome open_packet (λ bytes. length bytes ≤ 65541)
 
 -- What is kept is small: of 63 channels at most, each with at most one open packet.
 pub record IsSmall (channels : List KeptChannel) : Type 0 where
   pub count : length channels ≤ FILL_CHANNEL
-  pub short : All (λ channel. IsShort channel.open_packet) channels
+  pub short : All (λ channel. IsShortPacket channel.open_packet) channels
 
 -- the counter of the last of these frames
 abbrev pub last_counter : List (ℕ × Fields) → Option ℕ
@@ -62,8 +62,8 @@ open_packets run = map (λ start. drop start (zones_of run)) (filter (is_open ru
 
 -- What is kept stands for this history of frames: it is, of each channel, the counter of the last frame and the open
 -- packet of the last run. So a run has at most one open packet.
-pub record StandsFor (kept : Kept) (history : List Fields) : Type 0 where
-  pub frames : AreFrames history
+pub record ChannelsStandFor (kept : KeptChannels) (history : List Fields) : Type 0 where
+  pub frames : AreChannelFrames history
   pub unspent : kept.spent ≡ false
   pub counters : (channel : ℕ) → channel < FILL_CHANNEL →
       (kept_at kept.channels channel).counter ≡ last_counter (channel_frames channel history)

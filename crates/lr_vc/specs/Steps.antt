@@ -14,8 +14,8 @@ use Rattle.lr_vc.specs.declared.channel.ZoneStart.{ZoneStart}
 use Rattle.lr_vc.specs.declared.channel.ZoneStart.TheVariants.{At, Nowhere, Idle}
 
 -- the newer list begins with the older one
-abbrev pub KeepsFront : List Packet → List Packet → Type 0
-KeepsFront old new = take (length old) new ≡ old
+abbrev pub KeepsPacketsBefore : List Packet → List Packet → Type 0
+KeepsPacketsBefore old new = take (length old) new ≡ old
 
 -- whether a counter follows the last one, if there is one
 abbrev pub follows : Option ℕ → ℕ → Bool
@@ -23,8 +23,8 @@ follows None counter = false
 follows (Some last) counter = counter == next_counter last
 
 -- what a pointer says of the first packet that starts in its zone
-abbrev pub start_of : ℕ → ZoneStart
-start_of pointer = if nat_lt pointer ZONE_BYTES then At pointer else
+abbrev pub zone_start_of : ℕ → ZoneStart
+zone_start_of pointer = if nat_lt pointer ZONE_BYTES then At pointer else
     (if pointer == NO_PACKET_START then Nowhere else Idle)
 
 abbrev pub is_nowhere : ZoneStart → Bool

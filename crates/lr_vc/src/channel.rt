@@ -4,10 +4,17 @@ ghost use Rattle.std.specs.Prelude.{◌≡◌, ◌+◌, [], IsOk, ◌<◌, ◌�
 ghost use Rattle.std.specs.Prelude.{if◌then◌else◌, ◌==◌, ◌&&◌, nat_lt};
 ghost use Rattle.std.specs.Option.{option_to_list};
 ghost use Rattle.lr_vc.specs.Reading.{fields};
-ghost use Rattle.lr_vc.specs.Standing.{IsShort, nothing_kept};
-ghost use Rattle.lr_vc.specs.Steps.{KeepsFront, KeepsNothing, TakesFrame, follows, completed_packet, continued_packet};
+ghost use Rattle.lr_vc.specs.Standing.{IsShortPacket, nothing_kept};
+ghost use Rattle.lr_vc.specs.Steps.{
+  KeepsPacketsBefore,
+  KeepsNothing,
+  TakesFrame,
+  follows,
+  completed_packet,
+  continued_packet,
+};
 ghost use Rattle.lr_vc.specs.Steps.{packets_inside, met_by, completed_packets, continued_packets, opened_packets};
-ghost use Rattle.lr_vc.specs.Steps.{packets_with, open_after, start_of, is_nowhere, ends_at};
+ghost use Rattle.lr_vc.specs.Steps.{packets_with, open_after, zone_start_of, is_nowhere, ends_at};
 
 use crate::TransferFrame;
 use crate::zone::{end_across, push_inside, whole};
@@ -51,7 +58,7 @@ impl ZoneStart {
 
 /// What this pointer says.
 fn zone_start(pointer: u16) -> ZoneStart
-    ensures { result ≡ start_of pointer }
+    ensures { result ≡ zone_start_of pointer }
 {
     let place = usize::from(pointer);
     if place < ZONE_BYTES {
@@ -93,8 +100,8 @@ fn carry(
         packets.old.items ++ completed_packet frame.now.vc frame.now.zone frame.now.pointer bytes) }
     ensures open_packet { IfOk result
         (λ o. option_to_list o ≡ continued_packet frame.now.zone frame.now.pointer bytes) }
-    ensures short { IfOk result IsShort }
-    ensures kept { KeepsFront packets.old.items packets.new.items }
+    ensures short { IfOk result IsShortPacket }
+    ensures kept { KeepsPacketsBefore packets.old.items packets.new.items }
 {
     let so_far = bytes.as_slice().len();
     let end = end_across(bytes.as_slice(), &frame.zone);
@@ -120,15 +127,15 @@ fn carry_met(
     frame: &TransferFrame,
     packets: &mut Vec<RawPacket>,
 ) -> Result<Option<Bytes>, NoMemory>
-    requires { IsShort met }
+    requires { IsShortPacket met }
     ensures succeeds { completed_packets (fields frame.now) (option_to_list met) ≡ [] →
         continued_packets (fields frame.now) (option_to_list met) ≡ [] → IsOk result }
     ensures packets { OnOk result (packets.new.items ≡
         packets.old.items ++ completed_packets (fields frame.now) (option_to_list met)) }
     ensures open_packet { IfOk result
         (λ o. option_to_list o ≡ continued_packets (fields frame.now) (option_to_list met)) }
-    ensures short { IfOk result IsShort }
-    ensures kept { KeepsFront packets.old.items packets.new.items }
+    ensures short { IfOk result IsShortPacket }
+    ensures kept { KeepsPacketsBefore packets.old.items packets.new.items }
 {
     match met {
         Some(bytes) => carry(bytes, frame, packets),
@@ -146,8 +153,8 @@ fn open_inside(
     ensures packets { OnOk result (packets.new.items ≡
         packets.old.items ++ packets_inside frame.now.vc frame.now.zone frame.now.pointer) }
     ensures open_packet { IfOk result (λ o. option_to_list o ≡ opened_packets (fields frame.now)) }
-    ensures short { IfOk result IsShort }
-    ensures kept { KeepsFront packets.old.items packets.new.items }
+    ensures short { IfOk result IsShortPacket }
+    ensures kept { KeepsPacketsBefore packets.old.items packets.new.items }
 {
     let first = usize::from(frame.pointer);
     let start = push_inside(alloc, frame.vc, &frame.zone, first, packets)?;
@@ -166,15 +173,15 @@ fn next_open(
     frame: &TransferFrame,
     packets: &mut Vec<RawPacket>,
 ) -> Result<Option<Bytes>, NoMemory>
-    requires { IsShort met }
+    requires { IsShortPacket met }
     // Where no packet ends in the frame and none is open after it, nothing is taken.
     ensures succeeds { packets_with (fields frame.now) (option_to_list met) ≡ [] →
         open_after (fields frame.now) (option_to_list met) ≡ [] → IsOk result }
     ensures packets { OnOk result (packets.new.items ≡
         packets.old.items ++ packets_with (fields frame.now) (option_to_list met)) }
     ensures open_packet { IfOk result (λ o. option_to_list o ≡ open_after (fields frame.now) (option_to_list met)) }
-    ensures short { IfOk result IsShort }
-    ensures kept { KeepsFront packets.old.items packets.new.items }
+    ensures short { IfOk result IsShortPacket }
+    ensures kept { KeepsPacketsBefore packets.old.items packets.new.items }
 {
     let carried = carry_met(met, frame, packets)?;
     match zone_start(frame.pointer) {
@@ -213,7 +220,7 @@ impl Channel {
     /// Takes out the open packet that the channel's next frame meets, which has this counter.
     fn meet(&mut self, counter: u32) -> Option<Bytes>
         ensures met { option_to_list result ≡ met_by self.old counter }
-        ensures short { IsShort self.old.open_packet → IsShort result }
+        ensures short { IsShortPacket self.old.open_packet → IsShortPacket result }
         ensures left { self.new ≡ record { counter = Some counter; open_packet = None } }
     {
         let last = self.counter;
@@ -233,13 +240,13 @@ impl Channel {
         frame: &TransferFrame,
         packets: &mut Vec<RawPacket>,
     ) -> Result<(), NoMemory>
-        requires { IsShort self.old.open_packet }
+        requires { IsShortPacket self.old.open_packet }
         ensures succeeds { KeepsNothing self.old (fields frame.now) → IsOk result }
         ensures frame { OnOk result (TakesFrame self.old self.new (fields frame.now)) }
         ensures packets { OnOk result (packets.new.items ≡
             packets.old.items ++ packets_with (fields frame.now) (met_by self.old frame.now.counter)) }
-        ensures short { IsShort self.new.open_packet }
-        ensures kept { KeepsFront packets.old.items packets.new.items }
+        ensures short { IsShortPacket self.new.open_packet }
+        ensures kept { KeepsPacketsBefore packets.old.items packets.new.items }
     {
         let met = self.meet(frame.counter);
         self.open_packet = next_open(alloc, met, frame, packets)?;

@@ -5,8 +5,8 @@ ghost use Rattle.std.specs.Prelude.{false};
 ghost use Rattle.lr_vc.specs.Frame.{Fields};
 ghost use Rattle.lr_vc.specs.Reading.{fields};
 ghost use Rattle.lr_vc.specs.Packets.{packets_at};
-ghost use Rattle.lr_vc.specs.Standing.{StandsFor, IsSpent, IsSmall, kept_at};
-ghost use Rattle.lr_vc.specs.Steps.{KeepsFront, KeepsNothing, TakesFrame, met_by, packets_with};
+ghost use Rattle.lr_vc.specs.Standing.{ChannelsStandFor, AreChannelsSpent, IsSmall, kept_at};
+ghost use Rattle.lr_vc.specs.Steps.{KeepsPacketsBefore, KeepsNothing, TakesFrame, met_by, packets_with};
 
 use crate::TransferFrame;
 use crate::channel::Channel;
@@ -49,7 +49,7 @@ fn push_to_channel(
     ensures packets { OnOk result (packets.new.items ≡ packets.old.items ++ packets_with (fields frame.now)
         (met_by (kept_at channels.old.items frame.now.vc) frame.now.counter)) }
     ensures small { IsSmall channels.new.items }
-    ensures kept { KeepsFront packets.old.items packets.new.items }
+    ensures kept { KeepsPacketsBefore packets.old.items packets.new.items }
 {
     let place = usize::from(frame.vc);
     reach(channels, place)?;
@@ -70,9 +70,9 @@ pub struct Channels {
 }
 
 impl Model for Channels {
-    ghost use Rattle.lr_vc.specs.Standing.{Kept, IsSmall};
+    ghost use Rattle.lr_vc.specs.Standing.{KeptChannels, IsSmall};
 
-    ghost Value = { Kept };
+    ghost Value = { KeptChannels };
 
     ghost view = { λ c. record { spent = c.spent; channels = c.channels.items } };
 
@@ -82,7 +82,7 @@ impl Model for Channels {
 impl Channels {
     /// No frames yet. This takes no memory.
     pub fn new(alloc: Global) -> Self
-        ensures { StandsFor result [] }
+        ensures { ChannelsStandFor result [] }
     {
         Channels {
             alloc,
@@ -99,9 +99,9 @@ impl Channels {
         frame: &TransferFrame,
         packets: &mut Vec<RawPacket>,
     ) -> Result<(), NoMemory>
-        ensures stands { (history : List Fields) → StandsFor self.old history →
-            OnOk result (StandsFor self.new (history ++ fields frame.now ∷ [])) }
-        ensures packets { (history : List Fields) → StandsFor self.old history →
+        ensures stands { (history : List Fields) → ChannelsStandFor self.old history →
+            OnOk result (ChannelsStandFor self.new (history ++ fields frame.now ∷ [])) }
+        ensures packets { (history : List Fields) → ChannelsStandFor self.old history →
             OnOk result (packets.new.items ≡ packets.old.items ++
             packets_at (history ++ fields frame.now ∷ []) (length history)) }
 
@@ -118,8 +118,8 @@ impl Channels {
         ensures few { OnOk result (length packets.new.items ≤ length packets.old.items + MOST_ENDING_PACKETS) }
 
         ensures refused { OnErr result (packets.new.items ≡ packets.old.items) }
-        ensures spends { OnErr result (IsSpent self.new) }
-        ensures stays_spent { IsSpent self.old → IsErr result × IsSpent self.new }
+        ensures spends { OnErr result (AreChannelsSpent self.new) }
+        ensures stays_spent { AreChannelsSpent self.old → IsErr result × AreChannelsSpent self.new }
         ensures small { IsSmall self.new.channels }
     {
         if self.spent {

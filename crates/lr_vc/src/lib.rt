@@ -1,4 +1,5 @@
-//! Transfer frames of 892 bytes, and the space packets in their zones (CCSDS 732.0-B, CCSDS 133.0-B).
+//! Transfer frames of 892 bytes, and the space packets in their zones (CCSDS 732.0-B, CCSDS 133.0-B). Services call
+//! such a frame a VCDU, and the standard its zone an M_PDU packet zone.
 //!
 //! A frame comes as bytes, most significant bit first, and leaves as its fields, in a type that keeps each of them
 //! within its width; the only refusal is a version that isn't 1. `Frame.frame_of` says both, by the table of fields

@@ -5,7 +5,7 @@ ghost use Rattle.std.specs.Prelude.{slice_index, if◌then◌else◌, nat_lt};
 ghost use Rattle.lr_bits.specs.Packet.{IsPacket};
 ghost use Rattle.lr_bits.specs.declared.sizes.TheConstants.{CHANNELS};
 ghost use Rattle.lr_vc.specs.Packets.{packet_end, is_whole};
-ghost use Rattle.lr_vc.specs.Steps.{KeepsFront, packets_inside, starts_unfinished};
+ghost use Rattle.lr_vc.specs.Steps.{KeepsPacketsBefore, packets_inside, starts_unfinished};
 
 use lr_bits::{Bytes, NoMemory, PACKET_HEADER_BYTES, RawPacket, SHORTEST_PACKET_BYTES, ZONE_BYTES};
 use std::alloc::Global;
@@ -81,7 +81,7 @@ pub fn push_inside(
     ensures unfinished { IfOk result (λ start.
         starts_unfinished zone.now first ≡ (if nat_lt start ZONE_BYTES then start ∷ [] else [])) }
     ensures bound { IfOk result (λ start. start ≤ ZONE_BYTES) }
-    ensures kept { KeepsFront packets.old.items packets.new.items }
+    ensures kept { KeepsPacketsBefore packets.old.items packets.new.items }
 {
     let mut start = first;
     while let Some(end) = end_inside(zone, start) {

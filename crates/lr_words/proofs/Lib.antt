@@ -1,4 +1,5 @@
 pub mod Alike
 pub mod Covered
 pub mod Digits
+pub mod OneThread
 pub mod Taken

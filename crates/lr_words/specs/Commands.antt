@@ -30,7 +30,7 @@ use Rattle.lr_forms.specs.declared.forms.Input.{Input}
 use Rattle.lr_forms.specs.declared.forms.TheConstants.{MOST_WORKERS}
 use Rattle.lr_words.specs.Arguments.{app_of_shape}
 use Rattle.lr_words.specs.Numbers.{number_given}
-use Rattle.lr_words.specs.Shapes.{shape_named, can_write}
+use Rattle.lr_words.specs.Shapes.{shape_named, can_write, runs_alone}
 use Rattle.lr_words.specs.Values.{coded_input, any_input, output_of, most_of, workers_given, line_code_given}
 use Rattle.lr_words.specs.Words.{is_taken, argument_value}
 use Rattle.lr_words.specs.declared.shape.Shape.{Shape}
@@ -163,6 +163,15 @@ abbrev pub IsNamed : List Text → Type 0
 IsNamed [] = ⊥
 IsNamed (name ∷ rest) = IsSome (shape_named name)
 
+-- whether the first word names a command that runs on one thread
+abbrev pub alone_when : Option Shape → Bool
+alone_when None = false
+alone_when (Some shape) = runs_alone shape
+
+abbrev pub runs_alone_by : List Text → Bool
+runs_alone_by [] = false
+runs_alone_by (name ∷ rest) = alone_when (shape_named name)
+
 -- whether the first word names a command that may change the shelf
 abbrev pub writes_when : Option Shape → Bool
 writes_when None = false
@@ -173,19 +182,19 @@ writes_shelf [] = false
 writes_shelf (name ∷ rest) = writes_when (shape_named name)
 
 -- this many may work on windows, the caller among them
-abbrev pub IsCrew : ℕ → Type 0
-IsCrew workers = (1 ≤ workers) × (workers ≤ MOST_WORKERS)
+abbrev pub IsWorkerCount : ℕ → Type 0
+IsWorkerCount workers = (1 ≤ workers) × (workers ≤ MOST_WORKERS)
 
 -- The numbers of a command are in their ranges.
 abbrev pub IsInRange : Option Command → Type 0
 IsInRange (Some (Init capacity)) = IsCapacity capacity
 IsInRange (Some (Frames lines most)) = most ≤ 2 ^ 48
-IsInRange (Some (Intake action input workers most)) = (most ≤ 2 ^ 48) × IsCrew workers
-IsInRange (Some (Render workers)) = IsCrew workers
+IsInRange (Some (Intake action input workers most)) = (most ≤ 2 ^ 48) × IsWorkerCount workers
+IsInRange (Some (Render workers)) = IsWorkerCount workers
 IsInRange (Some (Assemble from to apid image)) = (apid ≤ most_apid) × (image ≤ most_image)
 IsInRange (Some (Transmit from to wrong line)) = wrong ≤ most_wrong
 IsInRange (Some (Repack number block)) = (block ≡ 8) ⊎ ((block ≡ 16) ⊎ ((block ≡ 32) ⊎ (block ≡ 64)))
 IsInRange (Some (Make start frames wrong form)) = (frames ≤ most_made_frames) × (wrong ≤ most_wrong)
 IsInRange (Some (Trial start frames wrong workers)) = ((frames ≤ most_tried_frames) × (wrong ≤ most_wrong))
-    × IsCrew workers
+    × IsWorkerCount workers
 IsInRange _ = Unit {0}

@@ -45,6 +45,11 @@ shape_named name =
     else if bytes_eq name (codes "trial") then Some Tried
     else None
 
+-- whether a command whose words look like this runs on one thread: all but `downlinks`
+abbrev pub runs_alone : Shape → Bool
+runs_alone Line = false
+runs_alone _ = true
+
 -- whether a command whose words look like this may change the shelf
 abbrev pub can_write : Shape → Bool
 can_write Capacity = true

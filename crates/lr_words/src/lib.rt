@@ -18,4 +18,4 @@ mod shape;
 mod values;
 
 pub use command::{Command, FileAction, FrameLines, IntakeAction, ShelfAction};
-pub use read::{read_words, writes_shelf};
+pub use read::{read_words, runs_alone, writes_shelf};

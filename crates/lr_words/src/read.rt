@@ -1,6 +1,6 @@
 //! The command that the words give, and whether it may change the shelf.
 ghost use Rattle.std.specs.Prelude.{◌≡◌, map, Some, IfOk, IfErr, string_bytes};
-ghost use Rattle.lr_words.specs.Commands.{command_of, command_shaped, writes_shelf, IsNamed, IsInRange};
+ghost use Rattle.lr_words.specs.Commands.{command_of, command_shaped, runs_alone_by, writes_shelf, IsNamed, IsInRange};
 
 use crate::arguments::parser_of;
 use crate::command::Command;
@@ -44,7 +44,21 @@ pub fn read_words(alloc: Global, words: &[String]) -> Result<Option<Command>, No
     }
 }
 
-/// Whether the first word names a command that may change the shelf.
+/// Whether the first word names a command that runs on one thread. It takes no memory.
+pub fn runs_alone(words: &[String]) -> bool
+    ensures { result ≡ runs_alone_by (map string_bytes words.now) }
+{
+    let Some(first) = words.first() else {
+        return false;
+    };
+    match shape_of(first.as_str()) {
+        Some(shape) => shape.runs_alone(),
+        None => false,
+    }
+}
+
+/// Whether the first word names a command that may change the shelf: `init`, `receive`, `downlinks`, `trial`, `discard`
+/// or `repack`.
 pub fn writes_shelf(words: &[String]) -> bool
     ensures { result ≡ writes_shelf (map string_bytes words.now) }
 {

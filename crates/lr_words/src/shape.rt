@@ -1,6 +1,6 @@
 //! The commands by name, and what the words after each name look like.
 ghost use Rattle.std.specs.Prelude.{◌≡◌};
-ghost use Rattle.lr_words.specs.Shapes.{shape_named, can_write};
+ghost use Rattle.lr_words.specs.Shapes.{shape_named, can_write, runs_alone};
 
 use crate::command::{FileAction, FrameLines, IntakeAction, ShelfAction};
 
@@ -61,6 +61,13 @@ pub(crate) fn shape_of(name: &str) -> Option<Shape>
 }
 
 impl Shape {
+    /// Whether a command whose words look like this runs on one thread.
+    pub(crate) fn runs_alone(self) -> bool
+        ensures { result ≡ runs_alone self }
+    {
+        !matches!(self, Shape::Line)
+    }
+
     /// Whether a command whose words look like this may change the shelf.
     pub(crate) fn can_write(self) -> bool
         ensures { result ≡ can_write self }

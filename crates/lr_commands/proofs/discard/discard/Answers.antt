@@ -1,7 +1,7 @@
 use Rattle.std.proofs.Common.{rules, ◌≡◌, ℕ, List, subst}
 use Rattle.lr_catalog.specs.Discards.{discard_line}
 use Rattle.lr_causes.specs.Puts.{Puts, PutFails}
-use Rattle.lr_commands.specs.Discard.{discard_asked}
+use Rattle.lr_commands.specs.Discard.{discard_query}
 use Rattle.lr_commands.proofs.AddingRuns.{not_loaded, ready_loaded}
 use Rattle.lr_commands.proofs.Discarding.{not_begun, not_added, ok_from, told_line, cut_line, discard_once}
 use Rattle.lr_commands.proofs.discard.discard.Goals as goal
@@ -14,7 +14,7 @@ returns-in-Err g c =
 pub returns-in-Err-load : goal.returns-in-Err-load
 returns-in-Err-load g c =
     rw c.shelf_cause.ensures
-    (not_loaded g.D.Disk g.O.Sink (discard_asked c.args.number) (discard_once c.args.number) c.args.disk.now
+    (not_loaded g.D.Disk g.O.Sink (discard_query c.args.number) (discard_once c.args.number) c.args.disk.now
     c.load.new.disk c.args.out.now c.load.result c.in-Err-load.error c.load.ensures c.in-Err-load.is)
 
 pub returns-in-Err-discard : goal.returns-in-Err-discard

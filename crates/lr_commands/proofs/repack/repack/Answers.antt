@@ -2,7 +2,7 @@ use Rattle.std.proofs.Common.{ℕ, List, subst}
 use Rattle.lr_causes.specs.Puts.{Puts, PutFails}
 use Rattle.lr_shelf.specs.Kept.{kept_by}
 use Rattle.lr_commands.proofs.AddingRuns.{not_loaded, ready_got, ready_loaded}
-use Rattle.lr_commands.specs.Repack.{repack_asked}
+use Rattle.lr_commands.specs.Repack.{repack_query}
 use Rattle.lr_commands.proofs.Repacking.{cut_line, not_added, not_coded, not_read}
 use Rattle.lr_commands.proofs.Repacking.{decides_made, makes_it, ok_is, repack_once, told_line}
 use Rattle.lr_commands.proofs.repack.repack.Goals as goal
@@ -10,7 +10,7 @@ use Rattle.lr_commands.proofs.repack.repack.Goals as goal
 pub returns-in-Err : goal.returns-in-Err
 returns-in-Err g c =
     rw c.shelf_cause.ensures
-    (not_loaded g.D.Disk g.O.Sink (repack_asked c.args.number c.args.block) (repack_once c.args.number c.args.block)
+    (not_loaded g.D.Disk g.O.Sink (repack_query c.args.number c.args.block) (repack_once c.args.number c.args.block)
     c.args.disk.now c.load.new.disk c.args.out.now c.load.result c.in-Err.error c.load.ensures c.in-Err.is)
 
 pub returns-in-Err-get : goal.returns-in-Err-get

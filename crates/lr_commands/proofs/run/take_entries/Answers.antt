@@ -1,7 +1,7 @@
 use Rattle.std.proofs.Common.{◌≡◌, ◌∙◌, ◌+◌, ◌<◌, ◌^◌, sym, ap, subst, refl, arith, length, Ok, [], OnOk, IfErr}
 use Rattle.std.proofs.lemmas.Result.{err_from_is_err_and}
 use Rattle.lr_disk.proofs.Moments.{unwritten_joined, unwritten_yet}
-use Rattle.lr_shelf.specs.Kept.{Kept, kept_by}
+use Rattle.lr_shelf.specs.Kept.{KeptShelf, kept_by}
 use Rattle.lr_causes.specs.Outside.{outlets, outlets_of}
 use Rattle.lr_commands.specs.Steps.{PutsText, TextStops, TakesEntry, EntryStops}
 use Rattle.lr_commands.proofs.Texts.{on_err, on_noted, on_ok, on_sure}
@@ -11,7 +11,7 @@ use Rattle.lr_commands.proofs.run.take_entries.Goals as goal
 
 pub returns-in_default-clause-stops : goal.returns-in_default-clause-stops
 returns-in_default-clause-stops g c =
-    not_allowed g.D.Disk g.O.Sink (g.C.ReadsEntries.asked c.args.command.now) (kept_by c.args.shelf.now).way
+    not_allowed g.D.Disk g.O.Sink (g.C.ReadsEntries.query c.args.command.now) (kept_by c.args.shelf.now).way
     c.args.disk.now c.args.out.now g.met.D.Disk.only_now c.len-count.result c.len-count.ensures
     (sym c.range.ensures.is ∙ c.in_default.is)
 
@@ -22,7 +22,7 @@ loop-number-init g c = record {
   reads = λ t. unwritten_yet g.D.Disk g.met.D.Disk.only_now c.args.disk.now t;
   disk_count = refl;
   so_far =
-      so_first g.D.Disk g.O.Sink (g.C.ReadsEntries.asked c.args.command.now) (kept_by c.args.shelf.now).way
+      so_first g.D.Disk g.O.Sink (g.C.ReadsEntries.query c.args.command.now) (kept_by c.args.shelf.now).way
       c.in-Some.range c.args.disk.now c.args.out.now
       (g.C.ReadsEntries.gathers c.args.command.now c.args.gathered) c.requires.fresh;
 }
@@ -30,28 +30,28 @@ loop-number-init g c = record {
 pub entry-requires-clause-there : goal.entry-requires-clause-there
 entry-requires-clause-there g c =
     let same : length (kept_by c.loop-number.shelf).way.entries ≡ length (kept_by c.args.shelf.now).way.entries =
-    ap (λ (k : Kept). length k.way.entries) c.loop-number.invariant.kept in
+    ap (λ (k : KeptShelf). length k.way.entries) c.loop-number.invariant.kept in
     omega (arith, same, c.loop-number-test.true, c.in-Some.ensures.inside, c.len-count.ensures)
 
 pub entry-requires-clause-working : goal.entry-requires-clause-working
-entry-requires-clause-working g c = ap (λ (k : Kept). k.failed) c.loop-number.invariant.kept ∙ c.requires.working
+entry-requires-clause-working g c = ap (λ (k : KeptShelf). k.failed) c.loop-number.invariant.kept ∙ c.requires.working
 
 pub returns-in_err-entry-clause-stops : goal.returns-in_err-entry-clause-stops
 returns-in_err-entry-clause-stops g c =
     let inv = c.loop-number.invariant in
     let p = err_from_is_err_and c.from_residual.result c.from_residual.ensures.1 in
-    let asked = g.C.ReadsEntries.asked c.args.command.now in
+    let query = g.C.ReadsEntries.query c.args.command.now in
     let way = (kept_by c.args.shelf.now).way in
     let e = c.in_err-entry.ensures in
-    let allowed = ap asked.range (sym c.len-count.ensures) ∙ sym c.range.ensures.is ∙ c.in-Some.is in
+    let allowed = ap query.range (sym c.len-count.ensures) ∙ sym c.range.ensures.is ∙ c.in-Some.is in
     let stops =
     subst
-    (λ (k : Kept). EntryStops (outlets_of g.D.Disk g.O.Sink) asked k.way inv.so_far.read c.loop-number.number
+    (λ (k : KeptShelf). EntryStops (outlets_of g.D.Disk g.O.Sink) query k.way inv.so_far.read c.loop-number.number
     c.in_err-entry.field-0.0 (outlets c.loop-number.disk c.loop-number.out) (outlets c.entry.new.disk c.entry.new.out))
     inv.kept
     (e.stops inv.so_far.read inv.so_far.gathered) in
     rw (p.1, p.2)
-    (entry_stopped g.D.Disk g.O.Sink asked way c.args.disk.now c.args.out.now c.in-Some.range allowed
+    (entry_stopped g.D.Disk g.O.Sink query way c.args.disk.now c.args.out.now c.in-Some.range allowed
     (g.C.ReadsEntries.gathers c.args.command.now c.loop-number.gathered) c.loop-number.number c.loop-number.disk
     c.loop-number.out c.entry.new.out inv.so_far inv.told inv.reads inv.disk_count c.entry.new.disk
     c.loop-number-test.true e.reads.told e.reads.unwritten c.in_err-entry.field-0.0 stops
@@ -61,7 +61,7 @@ pub loop-number-preserved : goal.loop-number-preserved
 loop-number-preserved g c =
     let inv = c.loop-number.invariant in
     let e = c.in_ok-entry.ensures in
-    let asked = g.C.ReadsEntries.asked c.args.command.now in
+    let query = g.C.ReadsEntries.query c.args.command.now in
     let few : length inv.so_far.read + 1 < 2 ^ 64 = omega (arith, inv.so_far.few, c.loop-number-test.true) in
     record {
       kept = e.reads.kept ∙ inv.kept;
@@ -70,13 +70,13 @@ loop-number-preserved g c =
           (e.reads.unwritten (inv.told t));
       disk_count = e.same ∙ inv.disk_count;
       so_far =
-          so_more g.D.Disk g.O.Sink asked (kept_by c.args.shelf.now).way c.in-Some.range c.args.disk.now c.args.out.now
+          so_more g.D.Disk g.O.Sink query (kept_by c.args.shelf.now).way c.in-Some.range c.args.disk.now c.args.out.now
           (g.C.ReadsEntries.gathers c.args.command.now c.loop-number.gathered) c.loop-number.number c.loop-number.out
           c.entry.new.out inv.so_far c.loop-number-test.true c.loop-number.disk
           inv.told (λ t. (inv.reads t).contents) (g.C.ReadsEntries.gathers c.args.command.now c.entry.new.gathered)
           c.entry.new.disk
           (subst
-          (λ (k : Kept). TakesEntry (outlets_of g.D.Disk g.O.Sink) asked k.way inv.so_far.read c.loop-number.number
+          (λ (k : KeptShelf). TakesEntry (outlets_of g.D.Disk g.O.Sink) query k.way inv.so_far.read c.loop-number.number
           (g.C.ReadsEntries.gathers c.args.command.now c.entry.new.gathered)
           (outlets c.loop-number.disk c.loop-number.out) (outlets c.entry.new.disk c.entry.new.out)) inv.kept
           (e.takes inv.so_far.read few inv.so_far.gathered));
@@ -85,16 +85,16 @@ loop-number-preserved g c =
 pub returns-clause-takes : goal.returns-clause-takes
 returns-clause-takes g c =
     let inv = c.loop-number.invariant in
-    let asked = g.C.ReadsEntries.asked c.args.command.now in
+    let query = g.C.ReadsEntries.query c.args.command.now in
     let way = (kept_by c.args.shelf.now).way in
-    let allowed = ap asked.range (sym c.len-count.ensures) ∙ sym c.range.ensures.is ∙ c.in-Some.is in
+    let allowed = ap query.range (sym c.len-count.ensures) ∙ sym c.range.ensures.is ∙ c.in-Some.is in
     let takes =
     subst
-    (λ (k : Kept). OnOk c.last.result
-    (PutsText g.O.Sink (asked.last k.way inv.so_far.read) c.loop-number.out c.last.new.out)) inv.kept
+    (λ (k : KeptShelf). OnOk c.last.result
+    (PutsText g.O.Sink (query.last k.way inv.so_far.read) c.loop-number.out c.last.new.out)) inv.kept
     (c.last.ensures.takes inv.so_far.read inv.so_far.gathered) in
     on_noted c.last.result
-    (λ puts. last_taken g.D.Disk g.O.Sink asked way c.args.disk.now c.args.out.now c.in-Some.range allowed
+    (λ puts. last_taken g.D.Disk g.O.Sink query way c.args.disk.now c.args.out.now c.in-Some.range allowed
     (g.C.ReadsEntries.gathers c.args.command.now c.loop-number.gathered) c.loop-number.number c.loop-number.disk
     c.loop-number.out c.last.new.out inv.so_far inv.told inv.reads inv.disk_count
     (c.loop-number.auto.number-end c.in-Some.ensures.ordered) c.loop-number-test.false puts)
@@ -103,20 +103,20 @@ returns-clause-takes g c =
 pub returns-clause-stops : goal.returns-clause-stops
 returns-clause-stops g c =
     let inv = c.loop-number.invariant in
-    let asked = g.C.ReadsEntries.asked c.args.command.now in
+    let query = g.C.ReadsEntries.query c.args.command.now in
     let way = (kept_by c.args.shelf.now).way in
-    let allowed = ap asked.range (sym c.len-count.ensures) ∙ sym c.range.ensures.is ∙ c.in-Some.is in
+    let allowed = ap query.range (sym c.len-count.ensures) ∙ sym c.range.ensures.is ∙ c.in-Some.is in
     let stops =
     subst
-    (λ (k : Kept). IfErr c.last.result
-    (λ cause. TextStops g.O.Sink (asked.last k.way inv.so_far.read) cause c.loop-number.out c.last.new.out)) inv.kept
+    (λ (k : KeptShelf). IfErr c.last.result
+    (λ cause. TextStops g.O.Sink (query.last k.way inv.so_far.read) cause c.loop-number.out c.last.new.out)) inv.kept
     (c.last.ensures.stops inv.so_far.read inv.so_far.gathered) in
     let sure =
     subst
-    (λ (k : Kept). asked.last k.way inv.so_far.read ≡ Ok [] → IfErr c.last.result (λ _. ⊥)) inv.kept
+    (λ (k : KeptShelf). query.last k.way inv.so_far.read ≡ Ok [] → IfErr c.last.result (λ _. ⊥)) inv.kept
     (c.last.ensures.sure inv.so_far.read inv.so_far.gathered) in
     on_sure c.last.result
-    (last_stopped g.D.Disk g.O.Sink asked way c.args.disk.now c.args.out.now c.in-Some.range allowed
+    (last_stopped g.D.Disk g.O.Sink query way c.args.disk.now c.args.out.now c.in-Some.range allowed
     (g.C.ReadsEntries.gathers c.args.command.now c.loop-number.gathered) c.loop-number.number c.loop-number.disk
     c.loop-number.out c.last.new.out inv.so_far inv.told inv.reads inv.disk_count
     (c.loop-number.auto.number-end c.in-Some.ensures.ordered) c.loop-number-test.false)
@@ -126,34 +126,34 @@ pub returns-in_err-entry-clause-undone : goal.returns-in_err-entry-clause-undone
 returns-in_err-entry-clause-undone g c =
     let inv = c.loop-number.invariant in
     let p = err_from_is_err_and c.from_residual.result c.from_residual.ensures.1 in
-    let asked = g.C.ReadsEntries.asked c.args.command.now in
+    let query = g.C.ReadsEntries.query c.args.command.now in
     let e = c.in_err-entry.ensures in
     rw (p.1, p.2)
-    (entry_undone g.D.Disk g.O.Sink asked (kept_by c.loop-number.shelf).way inv.so_far.read c.loop-number.number
+    (entry_undone g.D.Disk g.O.Sink query (kept_by c.loop-number.shelf).way inv.so_far.read c.loop-number.number
     c.loop-number.disk c.entry.new.disk c.loop-number.out c.entry.new.out c.in_err-entry.field-0.0
     (e.stops inv.so_far.read inv.so_far.gathered))
 
 pub returns-clause-undone : goal.returns-clause-undone
 returns-clause-undone g c =
     let inv = c.loop-number.invariant in
-    let asked = g.C.ReadsEntries.asked c.args.command.now in
+    let query = g.C.ReadsEntries.query c.args.command.now in
     on_err c.last.result
-    (text_undone g.D.Disk g.O.Sink (asked.last (kept_by c.loop-number.shelf).way inv.so_far.read) c.loop-number.out
+    (text_undone g.D.Disk g.O.Sink (query.last (kept_by c.loop-number.shelf).way inv.so_far.read) c.loop-number.out
     c.last.new.out) (c.last.ensures.stops inv.so_far.read inv.so_far.gathered)
 
 pub returns-clause-gathers : goal.returns-clause-gathers
 returns-clause-gathers g c =
     let inv = c.loop-number.invariant in
-    let asked = g.C.ReadsEntries.asked c.args.command.now in
+    let query = g.C.ReadsEntries.query c.args.command.now in
     let way = (kept_by c.args.shelf.now).way in
-    let allowed = ap asked.range (sym c.len-count.ensures) ∙ sym c.range.ensures.is ∙ c.in-Some.is in
+    let allowed = ap query.range (sym c.len-count.ensures) ∙ sym c.range.ensures.is ∙ c.in-Some.is in
     let takes =
     subst
-    (λ (k : Kept). OnOk c.last.result
-    (PutsText g.O.Sink (asked.last k.way inv.so_far.read) c.loop-number.out c.last.new.out)) inv.kept
+    (λ (k : KeptShelf). OnOk c.last.result
+    (PutsText g.O.Sink (query.last k.way inv.so_far.read) c.loop-number.out c.last.new.out)) inv.kept
     (c.last.ensures.takes inv.so_far.read inv.so_far.gathered) in
     on_ok c.last.result
-    (λ puts. gathered_all g.D.Disk g.O.Sink asked way c.args.disk.now c.args.out.now c.in-Some.range allowed
+    (λ puts. gathered_all g.D.Disk g.O.Sink query way c.args.disk.now c.args.out.now c.in-Some.range allowed
     (g.C.ReadsEntries.gathers c.args.command.now c.loop-number.gathered) c.loop-number.number c.loop-number.disk
     c.loop-number.out c.last.new.out inv.so_far inv.told inv.reads inv.disk_count
     (c.loop-number.auto.number-end c.in-Some.ensures.ordered) c.loop-number-test.false puts

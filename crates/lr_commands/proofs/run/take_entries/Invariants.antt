@@ -11,7 +11,7 @@ invariant-loop-number g l =
       told : g.D.Disk.tells l.fn.disk → g.D.Disk.tells l.disk;
       reads : g.D.Disk.tells l.fn.disk → IsUnwritten g.D.Disk l.fn.disk l.disk;
       disk_count : g.D.Disk.faults l.disk ≡ g.D.Disk.faults l.fn.disk;
-      so_far : SoFar g.D.Disk g.O.Sink (g.C.ReadsEntries.asked l.command) (kept_by l.fn.shelf).way
+      so_far : SoFar g.D.Disk g.O.Sink (g.C.ReadsEntries.query l.command) (kept_by l.fn.shelf).way
           (record { from = l.initial.number; to = l.number-end }) l.fn.disk l.fn.out
           (g.C.ReadsEntries.gathers l.command l.gathered) l.number l.out;
     }

@@ -1,5 +1,5 @@
 use Rattle.std.proofs.Common.{◌≡◌, ◌+◌, ◌-◌, ◌≤◌, ◌<◌, length, take, min}
-use Rattle.lr_disk.specs.Disk.{Elapses, Follows, KeepsImages, Torn, Written}
+use Rattle.lr_disk.specs.Disk.{Elapses, FollowsWrite, KeepsImages, Torn, Written}
 use Rattle.lr_disk.proofs.file.write_whole.Given as goal
 
 abbrev pub invariant-loop-done : goal.invariant-loop-done
@@ -14,7 +14,7 @@ invariant-loop-done g l =
       none : file.tells old → l.done ≡ 0 → file.contents l.file ≡ file.contents old;
       some : file.tells old → 0 < l.done
           → Written l.at (take l.done l.bytes) (file.contents old) (file.contents l.file);
-      crash : file.tells old → Follows (Torn (min l.at (length (file.contents old))) (l.at + length l.bytes))
+      crash : file.tells old → FollowsWrite (Torn (min l.at (length (file.contents old))) (l.at + length l.bytes))
           (file.may_leave old) (file.may_leave l.file);
       kept : file.tells old → KeepsImages (file.may_leave old) (file.may_leave l.file);
       time : file.tells old → Elapses (file.moment old) (file.moment l.file)

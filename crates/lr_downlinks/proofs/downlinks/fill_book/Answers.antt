@@ -6,7 +6,7 @@ use Rattle.lr_downlinks.proofs.downlinks.fill_book.Goals as goal
 
 pub end_run-result-requires : goal.end_run-result-requires
 end_run-result-requires g c =
-    let members = subst (λ m. IfOk m (λ members. AreMembers g.N.Beginning.start members.items)) c.in-Ok.is
+    let members = subst (λ m. IfOk m (λ members. AreMembers g.N.RunStart.start members.items)) c.in-Ok.is
     c.requires.members in
     let size : length c.work_beside.new.members ≡ c.in-Ok.members.len =
     omega (
@@ -17,5 +17,5 @@ end_run-result-requires g c =
       c.in-Ok.members.ok.1,
       c.in-Ok.members.small,
     ) in
-    members_after g.N.Beginning.start c.work_beside.new.members c.in-Ok.members.len _ c.work_beside.ensures size
+    members_after g.N.RunStart.start c.work_beside.new.members c.in-Ok.members.len _ c.work_beside.ensures size
     c.deref.result.now c.deref.ensures.value

@@ -1,17 +1,17 @@
 use Rattle.std.proofs.Common.{◌≡◌, ◌≤◌, List}
 use Rattle.lr_conv.specs.declared.line.LineCode.{LineCode}
 use Rattle.lr_lock.specs.declared.frame.Frame.{Frame}
-use Rattle.lr_downlinks.specs.Decoding.{FeedsOn, IsFed, steps_left}
+use Rattle.lr_downlinks.specs.Decoding.{DecodesOn, IsFed, decode_steps_left}
 use Rattle.lr_downlinks.proofs.files.show_next.Given as goal
 
 abbrev pub invariant-steps : goal.invariant-steps
 invariant-steps l = record {
   feeds : (line : LineCode) (given : List Frame) → IsFed line l.stream l.fn.fed l.fn.lock given
-      → FeedsOn line l.stream l.fn.fed given l.taken l.lock;
+      → DecodesOn line l.stream l.fn.fed given l.taken l.lock;
   standing : (line : LineCode) × (given : List Frame) × IsFed line l.stream l.taken l.lock given;
   window_line : l.window.line ≡ l.lock.line;
-  fewer : steps_left l.stream l.taken l.lock ≤ steps_left l.stream l.fn.fed l.fn.lock;
+  fewer : decode_steps_left l.stream l.taken l.lock ≤ decode_steps_left l.stream l.fn.fed l.fn.lock;
 }
 
 abbrev pub decreases-steps : goal.decreases-steps
-decreases-steps l = steps_left l.stream l.taken l.lock
+decreases-steps l = decode_steps_left l.stream l.taken l.lock

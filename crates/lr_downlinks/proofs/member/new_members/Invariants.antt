@@ -8,4 +8,4 @@ abbrev pub invariant-loop-downlink : goal.invariant-loop-downlink
 invariant-loop-downlink g l =
     (length l.members.items ≡ l.downlink)
     × ((k : ℕ) (d : Member) → k < l.downlink
-    → IsMember g.N.Beginning.start k (slice_index_or l.members.items k d))
+    → IsMember g.N.RunStart.start k (slice_index_or l.members.items k d))

@@ -9,7 +9,7 @@ use Rattle.lr_downlinks.proofs.rest.append_rest.Goals as goal
 
 pub append_left-requires : goal.append_left-requires
 append_left-requires g c =
-    let start = g.N.Beginning.start in
+    let start = g.N.RunStart.start in
     let place = c.loop-member.member-index in
     let member = subst (λ m. IsMember start place m) (sym c.member-item.is)
     (c.requires.members.each place c.member-item.result c.loop-member-test.true) in
@@ -22,7 +22,7 @@ append_left-requires g c =
 
 pub loop-member-preserved : goal.loop-member-preserved
 loop-member-preserved g c =
-    let start = g.N.Beginning.start in
+    let start = g.N.RunStart.start in
     let place = c.loop-member.member-index in
     let book = c.append_left.new.book in
     let member = subst (λ m. IsMember start place m) (sym c.member-item.is)
@@ -45,12 +45,12 @@ returns-in_default g c = c.loop-member.invariant.works
 -- the disk failed
 pub returns-in-Err-Disk : goal.returns-in-Err-Disk
 returns-in-Err-Disk g c =
-    subst (λ e. IsLeftAt g.N.Beginning.start c.member-item.result.downlink c.append_left.new.book e)
+    subst (λ e. IsLeftAt g.N.RunStart.start c.member-item.result.downlink c.append_left.new.book e)
     c.in-Err-Disk.field-0-is c.in-Err-Disk.ensures.left
 
 pub returns-in-Err-Capacity : goal.returns-in-Err-Capacity
 returns-in-Err-Capacity g c =
-    let start = g.N.Beginning.start in
+    let start = g.N.RunStart.start in
     let place = c.loop-member.member-index in
     let book = c.append_left.new.book in
     let member = subst (λ m. IsMember start place m) (sym c.member-item.is)

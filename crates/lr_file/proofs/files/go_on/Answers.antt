@@ -1,7 +1,7 @@
 use Rattle.std.proofs.Common.{◌≡◌, Option, Some, None, sym, ap, ◌∙◌, subst, rules, arith}
 use Rattle.lr_packet.specs.Reading.{good}
 use Rattle.lr_file.specs.Standing.{Open, kept_of_key}
-use Rattle.lr_file.specs.Steps.{SetsKey, file_with}
+use Rattle.lr_file.specs.Steps.{SetsKey, open_file_with}
 use Rattle.lr_file.proofs.KeyLemmas.{get-kept, on_ok, written, sets_key, sets_key_again, unsets_key}
 use Rattle.lr_file.proofs.KeyLemmas.{continued_file-some, continued_file-dropped, continued_file-none}
 use Rattle.lr_file.proofs.files.go_on.Goals as goal
@@ -25,7 +25,7 @@ returns-then-is_followed_by-clause-file c =
     let new = c.get_mut.follows.lender after in
     let some = sym (get-kept old p.vc p.apid) ∙ sym c.in-Some.ensures.value in
     on_ok c.append.result
-    (λ _ (longer : after ≡ file_with file p).
+    (λ _ (longer : after ≡ open_file_with file p).
     subst (λ (file : Option Open). SetsKey old.entries new.entries p file)
     (ap Some longer ∙ sym (continued_file-some (kept_of_key old.entries p.vc p.apid) file p some
     (sym c.if-is_followed_by.ensures)))

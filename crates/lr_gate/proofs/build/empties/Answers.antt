@@ -1,6 +1,6 @@
 use Rattle.std.proofs.Common.{arith, ◌∙◌, ◌++◌, ◌∷◌, [], ap, length}
 use Rattle.std.proofs.lemmas.List.{length-replicate, replicate_more}
-use Rattle.lr_gate.specs.declared.cargo.Cargo.TheVariants.{Empty}
+use Rattle.lr_gate.specs.declared.slot_value.SlotValue.TheVariants.{Empty}
 use Rattle.lr_gate.proofs.build.empties.Goals as goal
 
 pub loop-init : goal.loop-init

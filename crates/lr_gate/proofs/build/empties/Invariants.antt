@@ -1,5 +1,5 @@
 use Rattle.std.proofs.Common.{◌≡◌, ◌≤◌, replicate, vec_capacity}
-use Rattle.lr_gate.specs.declared.cargo.Cargo.TheVariants.{Empty}
+use Rattle.lr_gate.specs.declared.slot_value.SlotValue.TheVariants.{Empty}
 use Rattle.lr_gate.proofs.build.empties.Given as goal
 
 abbrev pub invariant-loop : goal.invariant-loop

@@ -1,6 +1,6 @@
 use Rattle.std.proofs.Common.{arith, ◌≡◌, ℕ, ◌+◌, ◌-◌, sym, ap, ◌∙◌, refl, ◌∷◌}
 use Rattle.atomic_table.specs.Table.{rest}
-use Rattle.lr_gate.specs.declared.cargo.Cargo.TheVariants.{Given, Made}
+use Rattle.lr_gate.specs.declared.slot_value.SlotValue.TheVariants.{Given, Made}
 use Rattle.lr_gate.specs.Shows.{held_job}
 use Rattle.lr_gate.proofs.Lists.{same_job}
 use Rattle.lr_gate.proofs.Claims.{looks_go, claims_go, finishes_go}

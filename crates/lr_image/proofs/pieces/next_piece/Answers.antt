@@ -1,6 +1,5 @@
 use Rattle.std.proofs.Common.{◌+◌, ◌-◌, ℕ, List, length, take, drop, ap, ◌∙◌, arith, tests}
-use Rattle.lr_image.proofs.PieceLemmas.{body_inside, body_is, is_body, none_comes, passed}
-use Rattle.lr_image.proofs.PieceLemmas.{piece_comes}
+use Rattle.lr_image.proofs.PieceLemmas.{body_inside, body_is, is_body, none_comes, passed, piece_comes}
 use Rattle.lr_image.proofs.pieces.next_piece.Goals as goal
 
 pub overflow_add-body : goal.overflow_add-body

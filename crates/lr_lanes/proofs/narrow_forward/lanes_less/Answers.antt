@@ -1,6 +1,5 @@
 use Rattle.std.proofs.Common.{arith, ◌∙◌, ◌≡◌, ◌-◌, ◌≤◌, get_or}
-use Rattle.std.proofs.lemmas.Simd.{Each1-from_get_or, Each2-splat, get_or-replicate, get_or-zip2}
-use Rattle.std.proofs.lemmas.Simd.{length-zip2}
+use Rattle.std.proofs.lemmas.Simd.{Each1-from_get_or, Each2-splat, get_or-replicate, get_or-zip2, length-zip2}
 use Rattle.std.specs.Prelude.{replicate}
 use lib.Lanes.{zip2}
 use Rattle.lr_lanes.proofs.narrow_forward.lanes_less.Goals as goal

@@ -1,5 +1,4 @@
-use Rattle.std.proofs.Common.{arith, ap, ◌∙◌, ◌≡◌, ◌+◌, ◌++◌, ℕ, List, length}
-use Rattle.std.proofs.Common.{slice_index, length-append}
+use Rattle.std.proofs.Common.{arith, ap, ◌∙◌, ◌≡◌, ◌+◌, ◌++◌, ℕ, List, length, slice_index, length-append}
 use Rattle.lr_trellis.proofs.Forward.{all, from_decided}
 use Rattle.lr_lanes.proofs.Merging.{low_at, high_at, both_from}
 use Rattle.lr_lanes.proofs.Narrow.{slice_index-costs_from, costs_from, near_lanes, one_more, same_costs, base_bound}

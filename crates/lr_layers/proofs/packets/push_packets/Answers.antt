@@ -4,7 +4,7 @@ use Rattle.std.specs.Prelude.{Bool, IsOk, if◌then◌else◌}
 use Rattle.std.proofs.lemmas.List.{take_all, map-append}
 use Rattle.lr_bits.specs.declared.outcome.Outcome.{Outcome}
 use Rattle.lr_packet.specs.Verdict.{Good, good_packets}
-use Rattle.lr_file.specs.Standing.{StandsFor}
+use Rattle.lr_file.specs.Standing.{FilesStandFor}
 use Rattle.lr_layers.specs.Origins.{PlacedPacket, packet_of, at_place}
 use Rattle.lr_layers.specs.Starts.{IsNow, Joins, StartsStandFor}
 use Rattle.lr_layers.proofs.Joining.{joins_more, good_more, none_good, keeps_on}
@@ -29,7 +29,7 @@ loop-raw-preserved c =
     let starts = c.push_packet.new.starts in
     let joins =
     λ (outcomes : List Outcome) (before : List PlacedPacket)
-    (stand : StandsFor c.args.files.now (map packet_of before))
+    (stand : FilesStandFor c.args.files.now (map packet_of before))
     (begun : StartsStandFor outcomes c.args.starts.now before) (is : IsNow outcomes c.args.now).
     let a = so_far.joins outcomes before stand begun is in
     let b = step.joins outcomes (before ++ at_place place first) a.files_stand a.starts_stand is in

@@ -7,7 +7,7 @@ use mir.Val.{SFits}
 use Rattle.lr_conv.specs.declared.marker.TheConstants.{MARKER_SYMBOLS, TAIL_SYMBOLS}
 use Rattle.lr_lock.specs.Frames.{HasFewer}
 use Rattle.lr_lock.specs.Hits.{agreeing}
-use Rattle.lr_lock.specs.Planes.{Shows}
+use Rattle.lr_lock.specs.Planes.{ShowsSymbols}
 use Rattle.lr_lock.specs.declared.sizes.TheConstants.{TAIL_START}
 use Rattle.lr_lock.specs.Thresholds.{acquiring_hits}
 use Rattle.lr_lock.proofs.Sliding.{behind, first_is, hits_behind, last_is, rest, rest_size}
@@ -53,17 +53,17 @@ loop-place-preserved c =
     fewer_here tail symbols place c.told-tail (c.in_default.ensures tail
     (behind symbols place) c.masks_of-masks.ensures c.loop-place.invariant.shows) in
     let moves : (first : ℤ) (others : List ℤ) → length others ≡ (TAIL_SYMBOLS - 1) →
-    Shows c.loop-place.planes (first ∷ others) →
-    Shows c.next_planes-planes.result (others ++ next ∷ []) = simp to_z-of_z at c.next_planes-planes.ensures in
+    ShowsSymbols c.loop-place.planes (first ∷ others) →
+    ShowsSymbols c.next_planes-planes.result (others ++ next ∷ []) = simp to_z-of_z at c.next_planes-planes.ensures in
     let apart =
-    subst (λ (s : List ℤ). Shows c.loop-place.planes s)
+    subst (λ (s : List ℤ). ShowsSymbols c.loop-place.planes s)
     (first_is symbols place room) c.loop-place.invariant.shows in
     record {
       from = omega (arith, c.loop-place.invariant.from);
       within = omega arith;
       whole = λ p a b. omega arith;
       passed = passed_more tail symbols c.args.start place c.loop-place.invariant.passed few;
-      shows = subst (λ (s : List ℤ). Shows c.next_planes-planes.result s) (last_is symbols place room)
+      shows = subst (λ (s : List ℤ). ShowsSymbols c.next_planes-planes.result s) (last_is symbols place room)
           (moves (get_or symbols (place + TAIL_START) (pos 0)) (rest symbols place room)
           (rest_size symbols place room) apart);
     }

@@ -1,6 +1,6 @@
 use Rattle.std.proofs.Common.{◌+◌, refl, sym, subst, arith}
 use Rattle.lr_lock.specs.Machine.{IsSearching}
-use Rattle.lr_lock.specs.Search.{Finds}
+use Rattle.lr_lock.specs.Search.{FindsFrame}
 use Rattle.lr_lock.specs.declared.search.Found.{Found}
 use Rattle.lr_lock.proofs.Looking.{searched, found, sees_at, waits_at}
 use Rattle.lr_lock.proofs.search.search_from.Goals as goal
@@ -13,7 +13,7 @@ returns-in-Some-clause-seen c fed last h e at =
     c.first_hit-hit.ensures.passed in
     let ended = rw c.in-Some.is at c.first_hit-hit.ensures.ended in
     let locked = rw c.in-Some.is at c.first_hit-hit.ensures.locked in
-    subst (λ (s : Found). Finds c.args.tail.now fed last c.args.place c.args.needed s) (sym c.found_frame.ensures)
+    subst (λ (s : Found). FindsFrame c.args.tail.now fed last c.args.place c.args.needed s) (sym c.found_frame.ensures)
     (sees_at c.args.tail.now fed c.args.symbols.now last c.args.place _ c.args.needed _ e h
     (found c.args.tail.now fed c.args.symbols.now last c.args.place c.first_hit-hit.result.place c.in-Some.positive e h
     on (omega (arith, ended)) locked)

@@ -4,7 +4,7 @@ use Rattle.std.proofs.Common.{append_assoc, length-append, length-set}
 use Rattle.std.proofs.lemmas.List.{drop_all, take_all}
 use Rattle.lr_bits.specs.Bits.{bit_of}
 use Rattle.lr_conv.specs.Convolution.{code}
-use Rattle.lr_conv.specs.Encoder.{StandsFor}
+use Rattle.lr_conv.specs.Encoder.{EncoderStandsFor}
 use Rattle.lr_conv.specs.declared.line.TheConstants.{STANDARD}
 use Rattle.lr_make.specs.Symbols.{bits_of_bytes, level, marked_block}
 use Rattle.lr_make.proofs.Coding.{bit_is, bits_of_bytes-all, first_bits, first_bits-more, length-code, symbols_more}
@@ -16,7 +16,7 @@ loop-place-init c = record {
   code = λ past bits s.
       sym (ap (map level) (drop_all (2 * length bits) (code STANDARD past (bits ++ []))
       (omega (arith, length-code STANDARD past (bits ++ []), length-append bits []))));
-  stands = λ past bits s. subst (StandsFor c.args.encoder.now past) (sym (append-nil bits)) s;
+  stands = λ past bits s. subst (EncoderStandsFor c.args.encoder.now past) (sym (append-nil bits)) s;
 }
 
 -- a symbol is a byte with a sign
@@ -53,7 +53,7 @@ loop-place-preserved c =
           let longer : before ++ nat_eq (bit_of bytes place) 1 ∷ [] ≡ bits ++ first_bits bytes (place + 1) =
           append_assoc bits (first_bits bytes place) (nat_eq (bit_of bytes place) 1 ∷ [])
           ∙ sym (ap (λ z. bits ++ z) (first_bits-more bytes place)) in
-          subst (StandsFor c.push-first.new.self past) (ap (λ z. before ++ nat_eq z 1 ∷ []) bit ∙ longer)
+          subst (EncoderStandsFor c.push-first.new.self past) (ap (λ z. before ++ nat_eq z 1 ∷ []) bit ∙ longer)
           (c.push-first.ensures.history past before (kept.stands past bits s));
     }
 
@@ -75,4 +75,5 @@ returns-clause-moves c = λ past bits s.
     bits_of_bytes (marked_block c.args.block.now) =
     ap (first_bits c.marked_block-bytes.result) place ∙ ap (λ z. first_bits z 8192) c.marked_block-bytes.ensures
     ∙ bits_of_bytes-all (marked_block c.args.block.now) 8192 (omega (arith, c.told-block)) in
-    subst (λ z. StandsFor c.loop-place.encoder past (bits ++ z)) whole (c.loop-place.invariant.stands past bits s)
+    subst (λ z. EncoderStandsFor c.loop-place.encoder past (bits ++ z)) whole
+    (c.loop-place.invariant.stands past bits s)

@@ -1,28 +1,31 @@
-use Rattle.lr_printing.specs.Decode.{decode_text, decode_last}
+use Rattle.lr_printing.specs.Decode.{decode_text, decode_due, decode_last}
 use Rattle.lr_printing.proofs.DecodeText.{no_more_restored, decode_last_is}
 use Rattle.lr_printing.proofs.Lines.{all_put, last_stopped, printed}
 use Rattle.lr_printing.proofs.outcome_lines.decode_with.Goals as goal
 
 pub put_last-requires : goal.put_last-requires
 put_last-requires g c =
-    let all = c.in-Ok.ensures.all in
+    let all = c.in-Ok.ensures.all c.requires.leads.0 c.requires.leads.1 in
     no_more_restored g.S.Source c.args.input c.args.most c.in-Ok.sums.0 c.in-Ok.sums.1 all.0 _ _ all.1 all.2
 
 pub returns-in-Ok-put_last : goal.returns-in-Ok-put_last
-returns-in-Ok-put_last g c =
-    let all = c.in-Ok.ensures.all in
+returns-in-Ok-put_last g c workers leads =
+    let all = c.in-Ok.ensures.all workers leads in
     rw c.cause_at.ensures
-    (printed g.S.Source g.O.Sink (decode_text c.args.input) (decode_last c.args.input) c.args.most
+    (printed g.S.Source g.O.Sink (decode_text c.args.input) (decode_due c.args.input workers)
+    (decode_last c.args.input) c.args.most
     c.in-Ok.sums.0.stop _ _ _ _
-    (all_put g.S.Source g.O.Sink (decode_text c.args.input) (decode_last c.args.input) c.args.most all.0 all.1.read
+    (all_put g.S.Source g.O.Sink (decode_text c.args.input) (decode_due c.args.input workers)
+    (decode_last c.args.input) c.args.most all.0 all.1.read
     c.in-Ok.sums.0.stop all.1.reason all.3 _
     (decode_last_is g.S.Source c.args.input c.args.most c.in-Ok.sums.0 c.in-Ok.sums.1 all.0 _ _ all.1 all.2)
     c.in-Ok-put_last.ensures.put))
 
 pub returns-in-Err-put_last : goal.returns-in-Err-put_last
-returns-in-Err-put_last g c =
-    let all = c.in-Ok.ensures.all in
-    last_stopped g.S.Source g.O.Sink (decode_text c.args.input) (decode_last c.args.input) c.args.most all.0
+returns-in-Err-put_last g c workers leads =
+    let all = c.in-Ok.ensures.all workers leads in
+    last_stopped g.S.Source g.O.Sink (decode_text c.args.input) (decode_due c.args.input workers)
+    (decode_last c.args.input) c.args.most all.0
     all.1.read c.in-Ok.sums.0.stop all.1.reason all.3 _
     (decode_last_is g.S.Source c.args.input c.args.most c.in-Ok.sums.0 c.in-Ok.sums.1 all.0 _ _ all.1 all.2)
-    c.put_last.new.out _ c.in-Err-put_last.ensures.stopped
+    all.4 c.put_last.new.out _ c.in-Err-put_last.ensures.stopped

@@ -23,4 +23,5 @@ returns-clause-all g c =
     (rw c.requires.input at c.in_ok-totals.ensures) in
     let same = t.0 in
     let all = t.1 in
-    search rules
+    let put = all.3 in
+    (all.0, all.1, all.2, search rules, all.4)

@@ -3,7 +3,7 @@ use Rattle.std.specs.Result.{IsErr}
 use Rattle.lr_vc.specs.Frame.{Fields}
 use Rattle.lr_vc.specs.Reading.{fields}
 use Rattle.lr_vc.specs.Packets.{packets_at}
-use Rattle.lr_vc.specs.Standing.{StandsFor}
+use Rattle.lr_vc.specs.Standing.{ChannelsStandFor}
 use Rattle.lr_printing.specs.Packets.{frames_read}
 use Rattle.lr_printing.proofs.Adding.{added_is}
 use Rattle.lr_causes.proofs.Results.{on_ok, on_ok_both}
@@ -15,7 +15,7 @@ returns-in-Ok-clause-stands c =
     let f = fields c.in-Ok.frame in
     let frame = c.args.frame.now in
     λ frames h. on_ok c.push.result (c.push.ensures.stands (frames_read frames) h)
-    (λ stands. subst (λ (l : List Fields). StandsFor c.push.new.self l)
+    (λ stands. subst (λ (l : List Fields). ChannelsStandFor c.push.new.self l)
     (sym (frames_read-good frames frame f (sym c.in-Ok.ensures))) stands)
 
 pub returns-in-Ok-clause-packets : goal.returns-in-Ok-clause-packets
@@ -30,7 +30,7 @@ returns-in-Ok-clause-packets c =
 
 pub returns-in-Err-clause-stands : goal.returns-in-Err-clause-stands
 returns-in-Err-clause-stands c =
-    λ frames h. subst (λ (l : List Fields). StandsFor c.args.channels.now l)
+    λ frames h. subst (λ (l : List Fields). ChannelsStandFor c.args.channels.now l)
     (sym (frames_read-bad frames c.args.frame.now c.in-Err.field-0.0 (sym c.in-Err.ensures))) h
 
 pub returns-in-Err-clause-packets : goal.returns-in-Err-clause-packets

@@ -1,5 +1,5 @@
 use Rattle.std.proofs.Common.{◌≡◌, ◌≤◌, vec_len, vec_capacity}
-use Rattle.lr_reading.specs.WindowLeads.{AreOfLine}
+use Rattle.lr_reading.specs.WindowSources.{AreOfLine}
 use Rattle.lr_reading.proofs.intake.new_windows.Given as goal
 
 abbrev pub invariant-loop : goal.invariant-loop

@@ -2,7 +2,7 @@ use Rattle.std.proofs.Common.{Result, IfErr, subst}
 use Rattle.lr_shelf.specs.Load.{IsLoadRefusal}
 use Rattle.lr_shelf.specs.declared.shelf.Shelf.{Shelf}
 use Rattle.lr_shelf.specs.declared.error.ShelfError.{ShelfError}
-use Rattle.lr_reading.specs.Readers.{most_waiting}
+use Rattle.lr_reading.specs.Readers.{leeway_for}
 use Rattle.lr_receiving.proofs.Loading.{not_loaded, loaded_run}
 use Rattle.lr_causes.specs.Outside.{outside, world_of}
 use Rattle.lr_receiving.proofs.reception.receive_with.Goals as goal
@@ -20,5 +20,5 @@ pub returns-in-Ok : goal.returns-in-Ok
 returns-in-Ok g c workers leads =
     loaded_run (world_of g.S.Source g.D.Disk g.O.Sink) c.args.input workers c.args.most
     (outside c.args.source.now c.args.disk.now c.args.out.now) c.load.new.disk c.load.result
-    c.load.ensures c.in-Ok.shelf c.in-Ok.is (outside c.receive_onto.new.source
-    c.receive_onto.new.disk c.receive_onto.new.out) _ (c.receive_onto.ensures (most_waiting c.args.input workers) leads)
+    c.load.ensures g.met.D.Disk.only_now c.in-Ok.shelf c.in-Ok.is (outside c.receive_onto.new.source
+    c.receive_onto.new.disk c.receive_onto.new.out) _ (c.receive_onto.ensures (leeway_for c.args.input workers) leads)

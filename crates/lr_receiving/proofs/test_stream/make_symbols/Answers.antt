@@ -1,8 +1,7 @@
 use Rattle.std.proofs.Common.{refl, ap, ◌∙◌, arith}
 use Rattle.std.proofs.lemmas.Result.{err_from_is_err_and}
 use Rattle.lr_make.specs.Stream.{symbol_stream}
-use Rattle.lr_make.specs.Symbols.{symbols_at}
-use Rattle.lr_make.specs.Symbols.{bytes_of_symbols}
+use Rattle.lr_make.specs.Symbols.{symbols_at, bytes_of_symbols}
 use Rattle.lr_receiving.proofs.Making.{symbols_more, put_none, put_next, put_cut}
 use Rattle.lr_receiving.proofs.test_stream.make_symbols.Goals as goal
 

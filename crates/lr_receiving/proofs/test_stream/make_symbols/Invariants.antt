@@ -1,5 +1,5 @@
 use Rattle.std.proofs.Common.{◌-◌, ◌≤◌}
-use Rattle.lr_make.specs.Standing.{StandsFor}
+use Rattle.lr_make.specs.Standing.{MakerStandsFor}
 use Rattle.lr_make.specs.Stream.{symbol_stream}
 use Rattle.lr_make.specs.Symbols.{bytes_of_symbols}
 use Rattle.lr_causes.specs.Puts.{Puts}
@@ -7,7 +7,7 @@ use Rattle.lr_receiving.proofs.test_stream.make_symbols.Given as goal
 
 abbrev pub invariant-frames : goal.invariant-frames
 invariant-frames g l = record {
-  stands : StandsFor l.maker l.start l.wrong l.made;
+  stands : MakerStandsFor l.maker l.start l.wrong l.made;
   put : Puts g.O.Sink (bytes_of_symbols (symbol_stream l.start l.wrong l.made)) l.fn.out l.out;
   few : l.made ≤ l.frames;
 }

@@ -20,7 +20,7 @@ returns-clause-line g c =
     lines g.D.Disk c.args.symbols.items c.args.disk.now c.requires.empty c.load.new.disk c.load.result
     c.load.ensures _ _ most_bytes c.requires.few c.in-Ok.shelf c.in-Ok.is
     c.of-source.result c.receive_all.new.source tt c.of-source.ensures c.receive_all.new.disk c.new-lines.result
-    c.receive_all.new.out c.receive_all.new.shelf c.receive_all.result
+    c.receive_all.new.out c.requires.leads.0 c.receive_all.new.shelf c.receive_all.result
     (c.receive_all.ensures.all c.requires.leads.0 c.requires.leads.1) none_rose
 
 pub returns-clause-done : goal.returns-clause-done
@@ -28,7 +28,7 @@ returns-clause-done g c =
     all_done g.D.Disk c.args.symbols.items c.args.disk.now c.requires.empty c.load.new.disk c.load.result
     c.load.ensures _ _ most_bytes c.requires.few c.in-Ok.shelf c.in-Ok.is
     c.of-source.result c.receive_all.new.source tt c.of-source.ensures c.receive_all.new.disk c.new-lines.result
-    c.receive_all.new.out c.receive_all.new.shelf c.receive_all.result
+    c.receive_all.new.out c.requires.leads.0 c.receive_all.new.shelf c.receive_all.result
     (c.receive_all.ensures.all c.requires.leads.0 c.requires.leads.1) none_rose
 
 pub returns-clause-stopped : goal.returns-clause-stopped

@@ -3,7 +3,7 @@ use Rattle.lr_shelf_format.specs.ShelfBytes.{end_of}
 use Rattle.lr_conv.specs.declared.line.TheConstants.{STANDARD}
 use Rattle.lr_forms.specs.declared.forms.Input.TheVariants.{Symbols}
 use Rattle.lr_receiving.specs.Inputs.{files_of_bytes}
-use Rattle.lr_shelf.specs.Grounds.{with_files}
+use Rattle.lr_shelf.specs.InitialShelves.{with_files}
 use Rattle.lr_receiving.specs.Trial.{trial_capacity}
 use Rattle.lr_receiving.proofs.Fitting.{made_length, made_files_fit}
 use Rattle.lr_receiving.proofs.TrialEnding.{init_stops, filled, withdrawn}

@@ -1,9 +1,9 @@
 use Rattle.lr_rendering.proofs.Leading.{ends_well}
-use Rattle.lr_rendering.proofs.Led.{comes_to_stop, comes_to_no_memory}
+use Rattle.lr_rendering.proofs.Driven.{comes_to_stop, comes_to_no_memory}
 use Rattle.lr_rendering.proofs.run.go_by_all.Goals as goal
 
-pub lead_by_all-requires-after_bounds : goal.lead_by_all-requires-after_bounds
-lead_by_all-requires-after_bounds g c κs within = (c.args.entries.now, c.requires)
+pub drive-requires-after_bounds : goal.drive-requires-after_bounds
+drive-requires-after_bounds g c κs within = (c.args.entries.now, c.requires)
 
 pub returns-in-Ok : goal.returns-in-Ok
 returns-in-Ok g c =
@@ -12,9 +12,9 @@ returns-in-Ok g c =
 pub returns-in-Err-Stopped : goal.returns-in-Err-Stopped
 returns-in-Err-Stopped g c =
     comes_to_stop g.D.Disk g.O.Sink g.met.D.Disk.only_now c.in-Err-Stopped.field-0 c.in-Err-Stopped.cause
-    c.in-Err-Stopped.field-0-is (c.in-Err-Stopped.ensures.unled c.args.entries.now c.requires)
+    c.in-Err-Stopped.field-0-is (c.in-Err-Stopped.ensures.undriven c.args.entries.now c.requires)
 
 pub returns-in-Err-NoMemory : goal.returns-in-Err-NoMemory
 returns-in-Err-NoMemory g c =
     comes_to_no_memory g.D.Disk g.O.Sink g.met.D.Disk.only_now c.in-Err-NoMemory.field-0 c.in-Err-NoMemory.field-0-is
-    (c.in-Err-NoMemory.ensures.unled c.args.entries.now c.requires)
+    (c.in-Err-NoMemory.ensures.undriven c.args.entries.now c.requires)

@@ -5,9 +5,9 @@ use Rattle.lr_bits.specs.File.{File, proper_of}
 use Rattle.lr_headers.specs.Tiling.{Header, IsHeaderOf}
 use Rattle.lr_headers.specs.declared.fields.Structure.{Structure}
 use Rattle.lr_image.specs.Picture.{Picture}
-use Rattle.lr_rice_coder.specs.Coded.{IsBlock}
+use Rattle.lr_rice_coder.specs.Coded.{IsBlockSize}
 use Rattle.lr_rice_coder.specs.Fronts.{MakesFile, MakingFails, picture_with}
-use Rattle.lr_rice_coder.specs.Refusals.{HasFaultOrMemory}
+use Rattle.lr_rice_coder.specs.Refusals.{HasRepackFaultOrMemory}
 use Rattle.lr_rice_coder.specs.Repacked.{HaveOneImage, IsRepacked, KeepsName}
 use Rattle.lr_rice_coder.specs.declared.fault.RepackFault.{RepackFault}
 use Rattle.lr_rice_coder.proofs.NewImages.{repacked_keeps_image, repacked_keeps_name}
@@ -55,12 +55,12 @@ ok_of file block s pixels others picture header (Err fault) is makes = tt
 
 err_of : (file : File) (block : ℕ) (s : Structure) (pixels others : List ℕ) (picture : Picture) (header : Header)
     (result : Result File RepackFault) → IsReadFile file picture header s pixels others
-    → IfErr result (MakingFails (picture_with s pixels) block others) → IfErr result (HasFaultOrMemory file block)
+    → IfErr result (MakingFails (picture_with s pixels) block others) → IfErr result (HasRepackFaultOrMemory file block)
 err_of file block s pixels others picture header (Ok new) is fails = tt
 err_of file block s pixels others picture header (Err fault) is fails =
     refused file picture header s pixels others block fault is fails
 
-image_of : (file : File) (block : ℕ) (result : Result File RepackFault) → IsBlock block
+image_of : (file : File) (block : ℕ) (result : Result File RepackFault) → IsBlockSize block
     → IfOk result (IsRepacked file block) → IfOk result (HaveOneImage file)
 image_of file block (Ok new) is_block re = repacked_keeps_image file new block is_block re
 image_of file block (Err fault) is_block re = tt

@@ -5,5 +5,5 @@ abbrev pub invariant-loop : goal.invariant-loop
 invariant-loop g l = record {
   can : (goal.iterator-loop g).can_next l.iterator';
   ends : (goal.iterator-loop g).is_finite l.iterator';
-  going : MayGoOn g.L.Lead.stands g.L.Lead.is_over l.gate l.conductor l.traffic l.fn.lead l.lead;
+  going : MayGoOn g.L.JobSource.stands g.L.JobSource.is_over l.gate l.conductor l.traffic l.fn.source l.source;
 }

@@ -2,8 +2,7 @@ use Rattle.std.proofs.Common.{◌≡◌, List, ℕ, Option, IfNone, take, sym, s
 use Rattle.std.proofs.lemmas.List.{take-take}
 use Rattle.lr_shelf_format.specs.Items.{Begins, HasForm, IsFileRecord}
 use Rattle.lr_shelf_format.specs.declared.item.ItemHead.{ItemHead}
-use Rattle.lr_shelf_format.proofs.ItemLemmas.{head_is}
-use Rattle.lr_shelf_format.proofs.ItemLemmas.{Begins-twelve}
+use Rattle.lr_shelf_format.proofs.ItemLemmas.{head_is, Begins-twelve}
 use Rattle.lr_shelf_format.proofs.read.record_in.Goals as goal
 
 pub returns-in_err-head-clause-none : goal.returns-in_err-head-clause-none

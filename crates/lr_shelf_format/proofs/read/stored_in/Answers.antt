@@ -1,9 +1,8 @@
 use Rattle.std.proofs.Common.{Some, sym, subst, arith}
 use Rattle.std.proofs.lemmas.List.{get_or_default}
 use Rattle.lr_bits.specs.declared.placed.Origin.{Origin}
-use Rattle.lr_shelf_format.specs.Items.{Begins, HasForm}
+use Rattle.lr_shelf_format.specs.Items.{Begins, HasForm, Holds}
 use Rattle.lr_shelf_format.proofs.NumberLemmas.{AreBytes}
-use Rattle.lr_shelf_format.specs.Items.{Holds}
 use Rattle.lr_shelf_format.proofs.ItemLemmas.{holds_add, holds_old}
 use Rattle.lr_shelf_format.proofs.read.stored_in.Goals as goal
 

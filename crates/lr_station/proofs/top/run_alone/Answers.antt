@@ -3,7 +3,7 @@ use Rattle.lr_causes.specs.Outside.{outside, world_of}
 use Rattle.lr_words.specs.declared.command.Command.{Command}
 use Rattle.lr_words.specs.declared.command.Command.TheVariants.{OnFile, Repack}
 use Rattle.lr_words.specs.declared.command.FileAction.TheVariants.{Discard}
-use Rattle.lr_station.specs.Deeds.{alone}
+use Rattle.lr_station.specs.Effects.{alone}
 use Rattle.lr_station.specs.Runs.{Runs}
 use Rattle.lr_station.proofs.top.run_alone.Goals as goal
 

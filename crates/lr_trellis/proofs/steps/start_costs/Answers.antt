@@ -1,8 +1,7 @@
 use Rattle.std.proofs.Common.{ap, refl, ◌∙◌, ◌≡◌, ◌≢◌, ◌<◌, ℕ, Bool, true, false, cond, eqb, get_or, get_or-set_other}
-use Rattle.std.proofs.Common.{List, slice_set, subst}
+use Rattle.std.proofs.Common.{List, slice_set, subst, get_or-set_same, length}
 use Rattle.std.proofs.lemmas.Bool.{eqb-true, eqb-false}
 use Rattle.std.proofs.lemmas.List.{get_or-replicate}
-use Rattle.std.proofs.Common.{get_or-set_same, length}
 use Rattle.std.specs.Prelude.{replicate}
 use Rattle.lr_trellis.specs.Trellis.{start_state}
 use Rattle.lr_trellis.proofs.steps.start_costs.Goals as goal

@@ -1,5 +1,4 @@
-use Rattle.std.proofs.Common.{◌∙◌, ◌≤◌, ◌*◌, ap, ap₂, arith, ℕ, List, drop, take, length}
-use Rattle.std.proofs.Common.{length-drop}
+use Rattle.std.proofs.Common.{◌∙◌, ◌≤◌, ◌*◌, ap, ap₂, arith, ℕ, List, drop, take, length, length-drop}
 use Rattle.std.specs.List.{concat}
 use Rattle.lr_bits.specs.declared.sizes.TheConstants.{ZONE_BYTES}
 use Rattle.lr_make.specs.Frames.{frame_for_zone}

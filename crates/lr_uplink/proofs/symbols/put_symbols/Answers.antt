@@ -3,7 +3,7 @@ use Rattle.std.proofs.Common.{take, drop, get_or, set, w8, to_z, of_z, refl, ari
 use Rattle.std.proofs.Common.{append_assoc, length-append, length-set}
 use Rattle.std.proofs.lemmas.List.{drop_all, take_all}
 use Rattle.lr_bits.specs.Bits.{bit_of}
-use Rattle.lr_conv.specs.LineEncoder.{StandsFor}
+use Rattle.lr_conv.specs.LineEncoder.{LineEncoderStandsFor}
 use Rattle.lr_make.specs.Symbols.{bits_of_bytes, level, marked_block}
 use Rattle.lr_make.proofs.Coding.{bit_is, bits_of_bytes-all, first_bits, first_bits-more}
 use Rattle.lr_uplink.proofs.Coding.{line_code, length-line_code, symbols_more}
@@ -15,7 +15,7 @@ loop-place-init c = record {
   code = λ line bits s.
       sym (ap (map level) (drop_all (2 * length bits) (line_code line (bits ++ []))
       (omega (arith, length-line_code line (bits ++ []), length-append bits []))));
-  stands = λ line bits s. subst (StandsFor c.args.encoder.now line) (sym (append-nil bits)) s;
+  stands = λ line bits s. subst (LineEncoderStandsFor c.args.encoder.now line) (sym (append-nil bits)) s;
 }
 
 -- a symbol is a byte with a sign
@@ -52,7 +52,7 @@ loop-place-preserved c =
           let longer : before ++ nat_eq (bit_of bytes place) 1 ∷ [] ≡ bits ++ first_bits bytes (place + 1) =
           append_assoc bits (first_bits bytes place) (nat_eq (bit_of bytes place) 1 ∷ [])
           ∙ sym (ap (λ z. bits ++ z) (first_bits-more bytes place)) in
-          subst (StandsFor c.push-first.new.self line) (ap (λ z. before ++ nat_eq z 1 ∷ []) bit ∙ longer)
+          subst (LineEncoderStandsFor c.push-first.new.self line) (ap (λ z. before ++ nat_eq z 1 ∷ []) bit ∙ longer)
           (c.push-first.ensures.history line before (kept.stands line bits s));
     }
 
@@ -74,4 +74,5 @@ returns-clause-moves c = λ line bits s.
     let whole : first_bits bytes c.loop-place.place ≡ bits_of_bytes (marked_block c.args.block.now) =
     ap (first_bits bytes) place ∙ ap (λ z. first_bits z 8192) c.marked_block-bytes.ensures
     ∙ bits_of_bytes-all (marked_block c.args.block.now) 8192 (omega (arith, c.told-block)) in
-    subst (λ z. StandsFor c.loop-place.encoder line (bits ++ z)) whole (c.loop-place.invariant.stands line bits s)
+    subst (λ z. LineEncoderStandsFor c.loop-place.encoder line (bits ++ z)) whole
+    (c.loop-place.invariant.stands line bits s)

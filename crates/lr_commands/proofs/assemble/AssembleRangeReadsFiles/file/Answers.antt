@@ -1,7 +1,7 @@
 use Rattle.std.proofs.Common.{◌≡◌, Option, Ok, [], OnOk, IfErr, subst}
 use Rattle.lr_headers.specs.declared.fields.Segment.{Segment}
 use Rattle.lr_commands.specs.Assemble.{is_without, join_fate, member_of, member_with, members_of, skipped_of}
-use Rattle.lr_commands.specs.Gathered.{Gathers, IsStop, with_member, with_skipped}
+use Rattle.lr_commands.specs.Gathered.{GathersMembers, IsStop, with_member, with_skipped}
 use Rattle.lr_commands.proofs.Assembling.{can_count, gathers_more, puts_nothing, stops_here}
 use Rattle.lr_commands.proofs.Texts.{on_ok, on_err}
 use Rattle.lr_commands.proofs.assemble.AssembleRangeReadsFiles.file.Goals as goal
@@ -26,7 +26,7 @@ returns-clause-gathered g c = λ read few gathers.
     let counts = can_count s.apid s.image read few in
     on_ok c.take_file.result (gathers_more s.apid s.image read opened c.take_file.new.gathering)
     (subst
-    (λ (o : Option Segment). OnOk c.take_file.result (Gathers (with_member members (member_with o opened.image))
+    (λ (o : Option Segment). OnOk c.take_file.result (GathersMembers (with_member members (member_with o opened.image))
     (with_skipped skipped (is_without o opened.image)) c.take_file.new.gathering))
     c.in_ok-segment.ensures (c.take_file.ensures.gathered members skipped counts.0 counts.1 gathers))
 

@@ -2,7 +2,7 @@ use Rattle.std.proofs.Common.{subst, refl}
 use Rattle.lr_shelf.specs.Kept.{kept_by}
 use Rattle.lr_shelf.specs.Read.{IsGetRefusal}
 use Rattle.lr_shelf_format.specs.declared.stored.Stored.{Stored}
-use Rattle.lr_commands.specs.Files.{asked_of_files}
+use Rattle.lr_commands.specs.Files.{query_of_files}
 use Rattle.lr_commands.proofs.Filing.{
   shelf_counted,
   not_failed,
@@ -19,23 +19,23 @@ use Rattle.lr_commands.proofs.files.FilesReadsEntries.entry.Goals as goal
 
 pub returns-in-Ok-open-clause-takes : goal.returns-in-Ok-open-clause-takes
 returns-in-Ok-open-clause-takes g c = λ read few gathered.
-    let asked = g.C.ReadsFiles.asked c.args.self.now.0 in
-    let stands = opened_stands g.D.Disk (kept_by c.args.shelf.now) c.args.number c.args.disk.now asked
+    let query = g.C.ReadsFiles.query c.args.self.now.0 in
+    let stands = opened_stands g.D.Disk (kept_by c.args.shelf.now) c.args.number c.args.disk.now query
     c.in-Ok.stored c.in-Ok-open.opened c.in-Ok-open.ensures.same c.in-Ok-open.ensures.looked c.in-Ok.ensures.stored in
     on_both c.file.result
     (takes_file g.D.Disk g.O.Sink (kept_by c.args.shelf.now) c.args.number c.args.disk.now c.requires.working
-    c.requires.there asked read c.get.new.disk c.args.out.now c.file.new.out c.in-Ok-open.opened stands.0 stands.1
+    c.requires.there query read c.get.new.disk c.args.out.now c.file.new.out c.in-Ok-open.opened stands.0 stands.1
     (g.C.ReadsFiles.gathers c.args.self.now.0 c.file.new.gathered))
     (c.file.ensures.puts _ gathered) (c.file.ensures.gathered _ (fewer read few) gathered)
 
 pub returns-in-Ok-open-clause-stops : goal.returns-in-Ok-open-clause-stops
 returns-in-Ok-open-clause-stops g c = λ read gathered.
-    let asked = g.C.ReadsFiles.asked c.args.self.now.0 in
-    let stands = opened_stands g.D.Disk (kept_by c.args.shelf.now) c.args.number c.args.disk.now asked
+    let query = g.C.ReadsFiles.query c.args.self.now.0 in
+    let stands = opened_stands g.D.Disk (kept_by c.args.shelf.now) c.args.number c.args.disk.now query
     c.in-Ok.stored c.in-Ok-open.opened c.in-Ok-open.ensures.same c.in-Ok-open.ensures.looked c.in-Ok.ensures.stored in
     on_err c.file.result
     (stops_file g.D.Disk g.O.Sink (kept_by c.args.shelf.now) c.args.number c.args.disk.now c.requires.working
-    c.requires.there asked read c.get.new.disk c.args.out.now c.file.new.out c.in-Ok-open.opened stands.0 stands.1)
+    c.requires.there query read c.get.new.disk c.args.out.now c.file.new.out c.in-Ok-open.opened stands.0 stands.1)
     (c.file.ensures.stops _ gathered)
 
 pub returns-in-Discarded-clause-takes : goal.returns-in-Discarded-clause-takes
@@ -46,7 +46,7 @@ returns-in-Discarded-clause-takes g c = λ read few gathered.
     on_ok c.gone_entry.result
     (λ puts.
     takes_gone g.D.Disk g.O.Sink (kept_by c.args.shelf.now) c.args.number c.args.disk.now c.requires.working
-    c.requires.there (g.C.ReadsFiles.asked c.args.self.now.0) read c.get.new.disk c.args.out.now c.gone_entry.new.out
+    c.requires.there (g.C.ReadsFiles.query c.args.self.now.0) read c.get.new.disk c.args.out.now c.gone_entry.new.out
     gone (g.C.ReadsFiles.gathers c.args.self.now.0 c.args.gathered.now) puts gathered)
     c.gone_entry.ensures.puts
 
@@ -57,7 +57,7 @@ returns-in-Discarded-clause-stops g c = λ read gathered.
     c.in-Err.ensures.refused in
     on_err c.gone_entry.result
     (stops_gone g.D.Disk g.O.Sink (kept_by c.args.shelf.now) c.args.number c.args.disk.now c.requires.working
-    c.requires.there (g.C.ReadsFiles.asked c.args.self.now.0) read c.get.new.disk c.args.out.now c.gone_entry.new.out
+    c.requires.there (g.C.ReadsFiles.query c.args.self.now.0) read c.get.new.disk c.args.out.now c.gone_entry.new.out
     gone)
     c.gone_entry.ensures.stops
 
@@ -75,6 +75,6 @@ pub returns-in_default-clause-stops : goal.returns-in_default-clause-stops
 returns-in_default-clause-stops g c = λ read gathered.
     rw c.shelf_cause.ensures
     (get_stops g.D.Disk g.O.Sink (kept_by c.args.shelf.now) c.args.number c.args.disk.now c.requires.working
-    c.requires.there (asked_of_files (g.C.ReadsFiles.asked c.args.self.now.0)) read c.get.new.disk c.args.out.now
+    c.requires.there (query_of_files (g.C.ReadsFiles.query c.args.self.now.0)) read c.get.new.disk c.args.out.now
     c.in-Err.error
     (λ stored computed is. refl) c.in_default.not-Discarded c.in-Err.ensures.refused)

@@ -1,7 +1,7 @@
 use Rattle.std.proofs.Common.{subst}
 use Rattle.lr_shelf.specs.Kept.{kept_by}
 use Rattle.lr_shelf.specs.Read.{IsCheckRefusal}
-use Rattle.lr_commands.specs.Verify.{verify_asked}
+use Rattle.lr_commands.specs.Verify.{verify_query}
 use Rattle.lr_commands.proofs.Filing.{get_stops, not_failed, shelf_counted}
 use Rattle.lr_commands.proofs.Texts.{on_ok, on_err}
 use Rattle.lr_commands.proofs.Verifying.{
@@ -81,7 +81,7 @@ returns-in_default-clause-stops g c = λ read is.
     let error = c.in-Err.error in
     let kept = kept_by c.args.shelf.now in
     rw c.shelf_cause.ensures
-    (get_stops g.D.Disk g.O.Sink kept c.args.number c.args.disk.now c.requires.working c.requires.there verify_asked
+    (get_stops g.D.Disk g.O.Sink kept c.args.number c.args.disk.now c.requires.working c.requires.there verify_query
     read c.check.new.disk c.args.out.now error
     (λ stored computed same. absurd (c.in_default.not-Crc stored computed same))
     c.in_default.not-Discarded (check_refusal g.D.Disk kept c.args.number c.args.disk.now error

@@ -1,5 +1,5 @@
 use Rattle.std.proofs.Common.{arith, subst, sym, take, ◌∙◌}
-use Rattle.lr_disk.specs.Left.{Shows}
+use Rattle.lr_disk.specs.Left.{ShowsLeft}
 use Rattle.lr_disk.specs.Mem.{State, after_all}
 use Rattle.lr_disk.proofs.Steps.{after_more, reach_at, span_at}
 use Rattle.lr_disk.specs.declared.past.Call.TheVariants.{Kept}
@@ -17,7 +17,7 @@ pub loop-call-preserved : goal.loop-call-preserved
 loop-call-preserved c = record {
   room = c.make.ensures.room ∙ c.loop-call.invariant.room;
   shows = λ s shows.
-      subst (λ (t : State). Shows t c.make.new.self)
+      subst (λ (t : State). ShowsLeft t c.make.new.self)
       (sym (after_more c.args.log.now c.args.calls.now c.loop-call.call-index Kept s c.loop-call-test.true))
       (c.make.ensures.shows (after_all c.args.log.now (take c.loop-call.call-index c.args.calls.now) s)
       (c.loop-call.invariant.shows s shows));

@@ -19,7 +19,7 @@ found g c =
     (slice_get_read files (length files) place c.in-Some.placed.now refl (ltb-true place (length files) (sym l.0)) l.1)
 
 next_of : (g : _) (c : After-self-1 g)
-    → IsNextOf (length (g.N.Beginning.start).streams) (files_in g.N.Beginning.start) c.self.inside.order c.args.downlink
+    → IsNextOf (length (g.N.RunStart.start).streams) (files_in g.N.RunStart.start) c.self.inside.order c.args.downlink
     c.in-Some.placed.now
 next_of g c = record {
   known = c.requires.known;
@@ -31,8 +31,8 @@ next_of g c = record {
 pub invariant_of-self : goal.invariant_of-self
 invariant_of-self g c =
     rw c.is_failed_after-self-inside.ensures
-    (next_kept g.D.Disk g.met.D.Disk.leaves_contents g.met.D.Disk.counts_now g.N.Beginning.start
-    g.N.Beginning.handed c.self.inside.disk.ghost_name (record {
+    (next_kept g.D.Disk g.met.D.Disk.leaves_contents g.met.D.Disk.counts_now g.N.RunStart.start
+    g.N.RunStart.handed c.self.inside.disk.ghost_name (record {
       shelf = c.self.inside.shelf;
       disk = c.self.inside.disk.now;
       order = c.self.inside.order;

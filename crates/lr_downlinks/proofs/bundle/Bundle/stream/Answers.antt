@@ -1,6 +1,6 @@
 use Rattle.std.proofs.Common.{◌+◌, ℕ, List, [], length, sym, ap, ◌∙◌, arith}
 use Rattle.std.specs.Prelude.{slice_index, slice_index_or, slice_range}
-use Rattle.lr_downlinks.specs.Readings.{start_of}
+use Rattle.lr_downlinks.specs.Readings.{recording_start}
 use Rattle.lr_downlinks.proofs.Bundling.{stream_of}
 use Rattle.lr_downlinks.proofs.bundle.Bundle.stream.Goals as goal
 
@@ -52,6 +52,7 @@ returns-clause-value c =
     (omega (arith, c.requires, ap (λ (l : List (List ℕ)). length l) c.self.view_is)) in
     let end = slice_index c.self.inside.ends c.args.downlink in
     ap (λ (n : ℕ). slice_range c.as_slice.result.now (n + 8) end) c.start_in-start.ensures
-    ∙ ap (λ (l : List ℕ). slice_range l (start_of 1 c.self.inside.ends c.args.downlink + 8) end) c.as_slice.ensures
+    ∙ ap (λ (l : List ℕ). slice_range l (recording_start 1 c.self.inside.ends c.args.downlink + 8) end)
+    c.as_slice.ensures
     ∙ sym is.stream_is
     ∙ ap (λ (l : List (List ℕ)). slice_index_or l c.args.downlink []) c.self.view_is

@@ -2,7 +2,7 @@ use Rattle.std.proofs.Common.{rules, arith, ◌≡◌, ◌∙◌, ℕ, ◌+◌, 
 use lib.ListN.{length-replicate}
 use Rattle.atomic_table.specs.Table.{opening}
 use Rattle.lr_gate.specs.declared.view.Size.{Size}
-use Rattle.lr_gate.specs.declared.cargo.Cargo.TheVariants.{Empty}
+use Rattle.lr_gate.specs.declared.slot_value.SlotValue.TheVariants.{Empty}
 use Rattle.lr_gate.specs.Shows.{Shows}
 use Rattle.lr_gate.specs.Steps.{new_view}
 use Rattle.lr_gate.proofs.Makes.{opens, stocks_go}

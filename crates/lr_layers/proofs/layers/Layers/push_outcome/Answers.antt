@@ -5,7 +5,7 @@ use Rattle.lr_bits.specs.declared.outcome.Outcome.TheVariants.{Restored, Lost}
 use Rattle.lr_vc.specs.Reading.{fields}
 use Rattle.lr_layers.specs.Layers.{frame_in, frames_of_outcomes, is_fill}
 use Rattle.lr_layers.specs.Origins.{placed_packets}
-use Rattle.lr_layers.specs.Standing.{Kept, StandsFor, AddsFiles, numbers}
+use Rattle.lr_layers.specs.Standing.{KeptLayers, LayersStandFor, AddsFiles, numbers}
 use Rattle.lr_layers.proofs.Pushing.{fill_channel, pushed_none, pushed_frame, now_is, files_before, starts_before}
 use Rattle.lr_layers.proofs.layers.Layers.push_outcome.Goals as goal
 
@@ -13,7 +13,7 @@ pub returns-in-Lost-clause-stands : goal.returns-in-Lost-clause-stands
 returns-in-Lost-clause-stands c outcomes h =
     let i = c.self.inside in
     let n = numbers i.counts in
-    let old : Kept = record {
+    let old : KeptLayers = record {
       spent = i.spent;
       channels = i.channels;
       files = i.files;
@@ -21,20 +21,21 @@ returns-in-Lost-clause-stands c outcomes h =
       corrected = i.corrected;
       numbers = n;
     } in
-    let stood : StandsFor old outcomes = subst (λ (k : Kept). StandsFor k outcomes) (sym c.self.view_is) h in
+    let stood : LayersStandFor old outcomes =
+    subst (λ (k : KeptLayers). LayersStandFor k outcomes) (sym c.self.view_is) h in
     let files = c.args.files.now.items in
     let seen = sym c.self.view_is in
     let o = Lost c.in-Lost.field-0 in
-    let new : Kept = record old { numbers = record n { lost = n.lost + 1 } } in
+    let new : KeptLayers = record old { numbers = record n { lost = n.lost + 1 } } in
     let both = pushed_none outcomes o old new files stood refl stood.unspent refl refl refl (sym (add-zero i.corrected))
     (sym (add-zero n.restored)) refl (sym (add-zero n.bad_versions)) (sym (add-zero n.fill)) refl refl in
-    subst (λ (o : Outcome). StandsFor new (outcomes ++ o ∷ [])) (sym c.in-Lost.is) both.0
+    subst (λ (o : Outcome). LayersStandFor new (outcomes ++ o ∷ [])) (sym c.in-Lost.is) both.0
 
 pub returns-in-Lost-clause-files : goal.returns-in-Lost-clause-files
 returns-in-Lost-clause-files c outcomes h =
     let i = c.self.inside in
     let n = numbers i.counts in
-    let old : Kept = record {
+    let old : KeptLayers = record {
       spent = i.spent;
       channels = i.channels;
       files = i.files;
@@ -42,11 +43,12 @@ returns-in-Lost-clause-files c outcomes h =
       corrected = i.corrected;
       numbers = n;
     } in
-    let stood : StandsFor old outcomes = subst (λ (k : Kept). StandsFor k outcomes) (sym c.self.view_is) h in
+    let stood : LayersStandFor old outcomes =
+    subst (λ (k : KeptLayers). LayersStandFor k outcomes) (sym c.self.view_is) h in
     let files = c.args.files.now.items in
     let seen = sym c.self.view_is in
     let o = Lost c.in-Lost.field-0 in
-    let new : Kept = record old { numbers = record n { lost = n.lost + 1 } } in
+    let new : KeptLayers = record old { numbers = record n { lost = n.lost + 1 } } in
     let both = pushed_none outcomes o old new files stood refl stood.unspent refl refl refl (sym (add-zero i.corrected))
     (sym (add-zero n.restored)) refl (sym (add-zero n.bad_versions)) (sym (add-zero n.fill)) refl refl in
     subst (λ (o : Outcome). AddsFiles outcomes o files files) (sym c.in-Lost.is) both.1
@@ -55,7 +57,7 @@ pub returns-in_default-clause-stands : goal.returns-in_default-clause-stands
 returns-in_default-clause-stands c outcomes h =
     let i = c.self.inside in
     let n = numbers i.counts in
-    let old : Kept = record {
+    let old : KeptLayers = record {
       spent = i.spent;
       channels = i.channels;
       files = i.files;
@@ -63,29 +65,30 @@ returns-in_default-clause-stands c outcomes h =
       corrected = i.corrected;
       numbers = n;
     } in
-    let stood : StandsFor old outcomes = subst (λ (k : Kept). StandsFor k outcomes) (sym c.self.view_is) h in
+    let stood : LayersStandFor old outcomes =
+    subst (λ (k : KeptLayers). LayersStandFor k outcomes) (sym c.self.view_is) h in
     let files = c.args.files.now.items in
     let seen = sym c.self.view_is in
     let o = Restored c.in-Restored.corrected c.in-Restored.bytes in
     let now = c.now-now.result in
-    let after = c.now-now.ensures.after ∙ ap (λ (k : Kept). k.corrected + c.changed_bytes.result) seen
+    let after = c.now-now.ensures.after ∙ ap (λ (k : KeptLayers). k.corrected + c.changed_bytes.result) seen
     ∙ ap (λ n. i.corrected + n) c.changed_bytes.ensures.value in
-    let place = c.now-now.ensures.place ∙ ap (λ (k : Kept). k.numbers.restored + k.numbers.lost) seen in
-    let before = c.now-now.ensures.before ∙ ap (λ (k : Kept). k.corrected) seen in
+    let place = c.now-now.ensures.place ∙ ap (λ (k : KeptLayers). k.numbers.restored + k.numbers.lost) seen in
+    let before = c.now-now.ensures.before ∙ ap (λ (k : KeptLayers). k.corrected) seen in
     let r = numbers c.read_frame-read.new.counts in
     let counts = c.in_default.ensures.counts in
-    let new : Kept = record old { corrected = now.corrected; numbers = record r { restored = r.restored + 1 } } in
+    let new : KeptLayers = record old { corrected = now.corrected; numbers = record r { restored = r.restored + 1 } } in
     let both = pushed_none outcomes o old new files stood (sym c.in_default.ensures.frame) stood.unspent refl refl refl
     after
     (ap (λ k. k + 1) counts.restored) (counts.lost ∙ sym (add-zero n.lost)) counts.bad_versions counts.fill
     counts.packets counts.files in
-    subst (λ (o : Outcome). StandsFor new (outcomes ++ o ∷ [])) (sym c.in-Restored.is) both.0
+    subst (λ (o : Outcome). LayersStandFor new (outcomes ++ o ∷ [])) (sym c.in-Restored.is) both.0
 
 pub returns-in_default-clause-files : goal.returns-in_default-clause-files
 returns-in_default-clause-files c outcomes h =
     let i = c.self.inside in
     let n = numbers i.counts in
-    let old : Kept = record {
+    let old : KeptLayers = record {
       spent = i.spent;
       channels = i.channels;
       files = i.files;
@@ -93,18 +96,19 @@ returns-in_default-clause-files c outcomes h =
       corrected = i.corrected;
       numbers = n;
     } in
-    let stood : StandsFor old outcomes = subst (λ (k : Kept). StandsFor k outcomes) (sym c.self.view_is) h in
+    let stood : LayersStandFor old outcomes =
+    subst (λ (k : KeptLayers). LayersStandFor k outcomes) (sym c.self.view_is) h in
     let files = c.args.files.now.items in
     let seen = sym c.self.view_is in
     let o = Restored c.in-Restored.corrected c.in-Restored.bytes in
     let now = c.now-now.result in
-    let after = c.now-now.ensures.after ∙ ap (λ (k : Kept). k.corrected + c.changed_bytes.result) seen
+    let after = c.now-now.ensures.after ∙ ap (λ (k : KeptLayers). k.corrected + c.changed_bytes.result) seen
     ∙ ap (λ n. i.corrected + n) c.changed_bytes.ensures.value in
-    let place = c.now-now.ensures.place ∙ ap (λ (k : Kept). k.numbers.restored + k.numbers.lost) seen in
-    let before = c.now-now.ensures.before ∙ ap (λ (k : Kept). k.corrected) seen in
+    let place = c.now-now.ensures.place ∙ ap (λ (k : KeptLayers). k.numbers.restored + k.numbers.lost) seen in
+    let before = c.now-now.ensures.before ∙ ap (λ (k : KeptLayers). k.corrected) seen in
     let r = numbers c.read_frame-read.new.counts in
     let counts = c.in_default.ensures.counts in
-    let new : Kept = record old { corrected = now.corrected; numbers = record r { restored = r.restored + 1 } } in
+    let new : KeptLayers = record old { corrected = now.corrected; numbers = record r { restored = r.restored + 1 } } in
     let both = pushed_none outcomes o old new files stood (sym c.in_default.ensures.frame) stood.unspent refl refl refl
     after
     (ap (λ k. k + 1) counts.restored) (counts.lost ∙ sym (add-zero n.lost)) counts.bad_versions counts.fill
@@ -115,7 +119,7 @@ pub returns-in-Ok-clause-stands : goal.returns-in-Ok-clause-stands
 returns-in-Ok-clause-stands c outcomes h =
     let i = c.self.inside in
     let n = numbers i.counts in
-    let old : Kept = record {
+    let old : KeptLayers = record {
       spent = i.spent;
       channels = i.channels;
       files = i.files;
@@ -123,15 +127,16 @@ returns-in-Ok-clause-stands c outcomes h =
       corrected = i.corrected;
       numbers = n;
     } in
-    let stood : StandsFor old outcomes = subst (λ (k : Kept). StandsFor k outcomes) (sym c.self.view_is) h in
+    let stood : LayersStandFor old outcomes =
+    subst (λ (k : KeptLayers). LayersStandFor k outcomes) (sym c.self.view_is) h in
     let files = c.args.files.now.items in
     let seen = sym c.self.view_is in
     let o = Restored c.in-Restored.corrected c.in-Restored.bytes in
     let now = c.now-now.result in
-    let after = c.now-now.ensures.after ∙ ap (λ (k : Kept). k.corrected + c.changed_bytes.result) seen
+    let after = c.now-now.ensures.after ∙ ap (λ (k : KeptLayers). k.corrected + c.changed_bytes.result) seen
     ∙ ap (λ n. i.corrected + n) c.changed_bytes.ensures.value in
-    let place = c.now-now.ensures.place ∙ ap (λ (k : Kept). k.numbers.restored + k.numbers.lost) seen in
-    let before = c.now-now.ensures.before ∙ ap (λ (k : Kept). k.corrected) seen in
+    let place = c.now-now.ensures.place ∙ ap (λ (k : KeptLayers). k.numbers.restored + k.numbers.lost) seen in
+    let before = c.now-now.ensures.before ∙ ap (λ (k : KeptLayers). k.corrected) seen in
     let r = numbers c.read_frame-read.new.counts in
     let g = c.in-Ok.gained in
     let counts = c.in-Some.ensures.counts in
@@ -139,7 +144,7 @@ returns-in-Ok-clause-stands c outcomes h =
     after in
     let takes = c.in-Ok.ensures.takes (outcomes ++ o ∷ []) (placed_packets outcomes) (frames_of_outcomes outcomes)
     stood.channels (files_before outcomes old stood) (starts_before outcomes o old stood) at.0 in
-    let new : Kept =
+    let new : KeptLayers =
     record {
       spent = i.spent;
       channels = c.push_frame-gained.new.channels;
@@ -154,13 +159,13 @@ returns-in-Ok-clause-stands c outcomes h =
     after
     (ap (λ k. k + 1) counts.restored) (counts.lost ∙ sym (add-zero n.lost)) counts.bad_versions counts.fill
     (ap (λ k. k + g.packets) counts.packets) (ap (λ k. k + g.files) counts.files) in
-    subst (λ (o : Outcome). StandsFor new (outcomes ++ o ∷ [])) (sym c.in-Restored.is) both.0
+    subst (λ (o : Outcome). LayersStandFor new (outcomes ++ o ∷ [])) (sym c.in-Restored.is) both.0
 
 pub returns-in-Ok-clause-files : goal.returns-in-Ok-clause-files
 returns-in-Ok-clause-files c outcomes h =
     let i = c.self.inside in
     let n = numbers i.counts in
-    let old : Kept = record {
+    let old : KeptLayers = record {
       spent = i.spent;
       channels = i.channels;
       files = i.files;
@@ -168,15 +173,16 @@ returns-in-Ok-clause-files c outcomes h =
       corrected = i.corrected;
       numbers = n;
     } in
-    let stood : StandsFor old outcomes = subst (λ (k : Kept). StandsFor k outcomes) (sym c.self.view_is) h in
+    let stood : LayersStandFor old outcomes =
+    subst (λ (k : KeptLayers). LayersStandFor k outcomes) (sym c.self.view_is) h in
     let files = c.args.files.now.items in
     let seen = sym c.self.view_is in
     let o = Restored c.in-Restored.corrected c.in-Restored.bytes in
     let now = c.now-now.result in
-    let after = c.now-now.ensures.after ∙ ap (λ (k : Kept). k.corrected + c.changed_bytes.result) seen
+    let after = c.now-now.ensures.after ∙ ap (λ (k : KeptLayers). k.corrected + c.changed_bytes.result) seen
     ∙ ap (λ n. i.corrected + n) c.changed_bytes.ensures.value in
-    let place = c.now-now.ensures.place ∙ ap (λ (k : Kept). k.numbers.restored + k.numbers.lost) seen in
-    let before = c.now-now.ensures.before ∙ ap (λ (k : Kept). k.corrected) seen in
+    let place = c.now-now.ensures.place ∙ ap (λ (k : KeptLayers). k.numbers.restored + k.numbers.lost) seen in
+    let before = c.now-now.ensures.before ∙ ap (λ (k : KeptLayers). k.corrected) seen in
     let r = numbers c.read_frame-read.new.counts in
     let g = c.in-Ok.gained in
     let counts = c.in-Some.ensures.counts in
@@ -184,7 +190,7 @@ returns-in-Ok-clause-files c outcomes h =
     after in
     let takes = c.in-Ok.ensures.takes (outcomes ++ o ∷ []) (placed_packets outcomes) (frames_of_outcomes outcomes)
     stood.channels (files_before outcomes old stood) (starts_before outcomes o old stood) at.0 in
-    let new : Kept =
+    let new : KeptLayers =
     record {
       spent = i.spent;
       channels = c.push_frame-gained.new.channels;
@@ -210,7 +216,7 @@ returns-in-Err-clause-succeeds c unspent none =
 pub returns-in-Err-clause-fill : goal.returns-in-Err-clause-fill
 returns-in-Err-clause-fill c outcomes stands fill =
     let i = c.self.inside in
-    let old : Kept = record {
+    let old : KeptLayers = record {
       spent = i.spent;
       channels = i.channels;
       files = i.files;
@@ -218,7 +224,8 @@ returns-in-Err-clause-fill c outcomes stands fill =
       corrected = i.corrected;
       numbers = numbers i.counts;
     } in
-    let stood : StandsFor old outcomes = subst (λ (k : Kept). StandsFor k outcomes) (sym c.self.view_is) stands in
+    let stood : LayersStandFor old outcomes =
+    subst (λ (k : KeptLayers). LayersStandFor k outcomes) (sym c.self.view_is) stands in
     let vc = fill_channel c.in-Restored.corrected c.in-Restored.bytes (fields c.in-Some.frame)
     c.in-Some.ensures.frame (ap is_fill (sym c.in-Restored.is) ∙ fill) in
     let ok = c.push_frame-gained.ensures.fill stood.channels.unspent vc in

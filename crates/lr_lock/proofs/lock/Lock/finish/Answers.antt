@@ -1,5 +1,5 @@
 use Rattle.std.proofs.Common.{drop, sym, subst}
-use Rattle.lr_lock.specs.Standing.{LockState, StandsFor}
+use Rattle.lr_lock.specs.Standing.{LockState, LockStandsFor}
 use Rattle.lr_lock.proofs.Stepping.{stands_after_finish}
 use Rattle.lr_lock.proofs.lock.Lock.finish.Goals as goal
 
@@ -13,4 +13,4 @@ returns-clause-stands c fed given h =
       held = c.self.inside.held;
       finished = c.self.inside.finished;
     } in
-    stands_after_finish before fed given (subst (λ (l : LockState). StandsFor l fed given) (sym c.self.view_is) h)
+    stands_after_finish before fed given (subst (λ (l : LockState). LockStandsFor l fed given) (sym c.self.view_is) h)

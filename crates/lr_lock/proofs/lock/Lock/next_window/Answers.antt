@@ -5,8 +5,8 @@ use Rattle.lr_lock.specs.Frames.{last_of}
 use Rattle.lr_conv.specs.Marker.{tail_of}
 use Rattle.lr_conv.specs.declared.line.LineCode.{LineCode}
 use Rattle.lr_lock.specs.Machine.{IsAt}
-use Rattle.lr_lock.specs.Search.{FindsOrWaits, IsFrameFound, IsWaiting, Finds}
-use Rattle.lr_lock.specs.Standing.{LockState, StandsFor}
+use Rattle.lr_lock.specs.Search.{FindsOrWaits, IsFrameFound, IsWaiting, FindsFrame}
+use Rattle.lr_lock.specs.Standing.{LockState, LockStandsFor}
 use Rattle.lr_lock.specs.Steps.{Answers, GivesWindow}
 use Rattle.lr_lock.specs.Windows.{WindowView, window_of}
 use Rattle.lr_lock.specs.declared.frame.Frame.{Frame}
@@ -18,12 +18,12 @@ use Rattle.lr_lock.proofs.lock.Lock.next_window.Goals.{then-self, else-self, the
 
 pub returns-in-Some-clause-answers : goal.returns-in-Some-clause-answers
 returns-in-Some-clause-answers c fed given h =
-    let opened = subst (λ (l : LockState). StandsFor l fed given) (sym c.self.view_is) h in
+    let opened = subst (λ (l : LockState). LockStandsFor l fed given) (sym c.self.view_is) h in
     let kept = ap (λ (l : LockState). l.kept) (sym c.self.view_is) in
     let looks =
     subst (λ (t : List Bool). (f : List ℤ) (last : Option Frame) → c.self.inside.place ≤ length f →
     c.kept_symbols.result.now ≡ drop c.self.inside.place f → IsAt t f last c.self.inside.held c.self.inside.place →
-    Finds t f last c.self.inside.place c.if-self.needed c.find_next-found.result) c.marker_tail-tail.ensures
+    FindsFrame t f last c.self.inside.place c.if-self.needed c.find_next-found.result) c.marker_tail-tail.ensures
     c.find_next-found.ensures.seen in
     let sees =
     looks fed (last_of None given) opened.within (c.kept_symbols.ensures ∙ kept ∙ opened.rest) opened.stands in
@@ -91,12 +91,12 @@ returns-in-Some-clause-answers c fed given h =
 
 pub returns-after-self-2-clause-answers : goal.returns-after-self-2-clause-answers
 returns-after-self-2-clause-answers c fed given h =
-    let opened = subst (λ (l : LockState). StandsFor l fed given) (sym c.self.view_is) h in
+    let opened = subst (λ (l : LockState). LockStandsFor l fed given) (sym c.self.view_is) h in
     let kept = ap (λ (l : LockState). l.kept) (sym c.self.view_is) in
     let looks =
     subst (λ (t : List Bool). (f : List ℤ) (last : Option Frame) → c.self.inside.place ≤ length f →
     c.kept_symbols.result.now ≡ drop c.self.inside.place f → IsAt t f last c.self.inside.held c.self.inside.place →
-    Finds t f last c.self.inside.place c.if-self.needed c.find_next-found.result) c.marker_tail-tail.ensures
+    FindsFrame t f last c.self.inside.place c.if-self.needed c.find_next-found.result) c.marker_tail-tail.ensures
     c.find_next-found.ensures.seen in
     let sees =
     looks fed (last_of None given) opened.within (c.kept_symbols.ensures ∙ kept ∙ opened.rest) opened.stands in

@@ -1,5 +1,7 @@
 use Rattle.std.proofs.Common.{◌∷◌, [], arith, length-append}
 use Rattle.std.proofs.lemmas.Result.{err_from_is_err_and}
+use Rattle.lr_printing.specs.FrameLines.{frame_text, text_of_frames}
+use Rattle.lr_printing.proofs.Lines.{all_but_one}
 use Rattle.lr_printing.proofs.FramesGoOn.{text_put, text_stopped}
 use Rattle.lr_printing.proofs.frame_lines.FrameLinesConsumer.take.Goals as goal
 
@@ -10,6 +12,9 @@ returns-in_err-put_frame-clause-stops g c = λ before arrivals took.
     (record {
       same_out = took.same_out;
       stops = text_stopped g.O.Sink took c.args.arrival.now c.put_frame.new.out _ c.in_err-put_frame.ensures.stopped;
+      others = all_but_one g.O.Sink (λ l. text_of_frames l) arrivals before.out.now c.args.arrival.now
+          (frame_text c.args.self.now.frames c.args.arrival.now.outcome) c.args.self.now.out.now c.put_frame.new.out
+          took.put _ c.in_err-put_frame.ensures.stopped;
     })
 
 pub returns-clause-takes : goal.returns-clause-takes

@@ -1,5 +1,7 @@
 use Rattle.std.proofs.Common.{◌∷◌, [], arith, length-append}
 use Rattle.std.proofs.lemmas.Result.{err_from_is_err_and}
+use Rattle.lr_printing.specs.OutcomeLines.{outcome_text, text_of_outcomes}
+use Rattle.lr_printing.proofs.Lines.{all_but_one}
 use Rattle.lr_printing.proofs.DecodeText.{text_put, text_stopped, restored_more}
 use Rattle.lr_printing.proofs.outcome_lines.OutcomeLinesConsumer.take.Goals as goal
 
@@ -11,6 +13,9 @@ returns-in_err-put_outcome-clause-stops g c = λ before arrivals took.
       same_out = took.same_out;
       stops = text_stopped g.O.Sink took c.args.arrival.now c.put_outcome.new.out _
           c.in_err-put_outcome.ensures.stopped;
+      others = all_but_one g.O.Sink (λ l. text_of_outcomes l) arrivals before.out.now c.args.arrival.now
+          (outcome_text c.args.self.now.outcomes c.args.arrival.now.position c.args.arrival.now.outcome)
+          c.args.self.now.out.now c.put_outcome.new.out took.put _ c.in_err-put_outcome.ensures.stopped;
     })
 
 pub returns-clause-takes : goal.returns-clause-takes

@@ -1,5 +1,5 @@
-use Rattle.std.proofs.Common.{length, refl, sym, ap, ◌∙◌, subst, arith}
-use Rattle.lr_lock.specs.Standing.{StandsFor}
+use Rattle.std.proofs.Common.{true, ◌≡◌, length, refl, sym, ap, ◌∙◌, subst, arith}
+use Rattle.lr_lock.specs.Standing.{LockStandsFor}
 use Rattle.lr_lock.specs.Symbols.{symbols_of}
 use Rattle.lr_reading.specs.Feeding.{FeedState, FeedsOn}
 use Rattle.lr_reading.proofs.Feeding.{window_given, more_wanted, all_given, joined}
@@ -7,17 +7,21 @@ use Rattle.lr_reading.proofs.symbols.SymbolFeed.next.Goals as goal
 
 pub returns-in-Window-clause-feeds : goal.returns-in-Window-clause-feeds
 returns-in-Window-clause-feeds g c = λ line bytes given s so.
-    let on = subst (λ (n : FeedState). FeedsOn g.S.Source line bytes given n s c.steps.source) (sym c.self.view_is)
-    (c.steps.invariant.feeds line bytes given s so) in
-    window_given g.S.Source line on c.next_window.new.self c.next_window.new.window c.next_window.ensures.line
+    let on = subst (λ (n : FeedState). FeedsOn g.S.Source line (c.args.under_way ≡ true) bytes given n s
+    c.args.source.now c.steps.source)
+    (sym c.self.view_is) (c.steps.invariant.feeds line bytes given s so) in
+    window_given g.S.Source line (c.args.under_way ≡ true) on c.next_window.new.self c.next_window.new.window
+    c.next_window.ensures.line
     c.next_window.ensures.finished (c.in-Window.ensures.answers (symbols_of on.all) given on.so_far.stands)
     (c.in-Window.ensures.shorter refl)
 
 pub returns-in-End-clause-feeds : goal.returns-in-End-clause-feeds
 returns-in-End-clause-feeds g c = λ line bytes given s so.
-    let on = subst (λ (n : FeedState). FeedsOn g.S.Source line bytes given n s c.steps.source) (sym c.self.view_is)
-    (c.steps.invariant.feeds line bytes given s so) in
-    all_given g.S.Source line on c.next_window.new.self c.next_window.new.window c.next_window.ensures.line
+    let on = subst (λ (n : FeedState). FeedsOn g.S.Source line (c.args.under_way ≡ true) bytes given n s
+    c.args.source.now c.steps.source)
+    (sym c.self.view_is) (c.steps.invariant.feeds line bytes given s so) in
+    all_given g.S.Source line (c.args.under_way ≡ true) on c.next_window.new.self c.next_window.new.window
+    c.next_window.ensures.line
     c.next_window.ensures.finished (c.in-End.ensures.answers (symbols_of on.all) given on.so_far.stands)
     c.next_window.ensures.passes
 
@@ -25,15 +29,20 @@ pub steps-preserved : goal.steps-preserved
 steps-preserved g c =
     record {
       feeds = λ line bytes given s so.
-          let on = subst (λ (n : FeedState). FeedsOn g.S.Source line bytes given n s c.steps.source)
+          let on = subst (λ (n : FeedState). FeedsOn g.S.Source line (c.args.under_way ≡ true) bytes given n s
+          c.args.source.now c.steps.source)
           (sym c.self.view_is) (c.steps.invariant.feeds line bytes given s so) in
-          let wanted = more_wanted g.S.Source line on c.next_window.new.self c.next_window.new.window
+          let wanted = more_wanted g.S.Source line (c.args.under_way ≡ true) on c.next_window.new.self
+          c.next_window.new.window
           c.next_window.ensures.line c.next_window.ensures.finished
           (c.in-More.ensures.answers (symbols_of on.all) given on.so_far.stands) c.next_window.ensures.passes in
-          joined g.S.Source line (c.more.ensures.feeds line wanted.all given s wanted.so_far) wanted.same;
+          joined g.S.Source line (c.args.under_way ≡ true)
+          (c.more.ensures.feeds line wanted.all given s c.args.under_way wanted.so_far
+          (c.holds_back.ensures.calm c.if-holds_back.false)) wanted.looks
+          wanted.same;
       standing = c.more.ensures.standing (
           let wants = c.in-More.ensures.answers c.steps.invariant.standing.0 c.steps.invariant.standing.1 (
-          subst (λ (n : FeedState). StandsFor n.lock c.steps.invariant.standing.0 c.steps.invariant.standing.1)
+          subst (λ (n : FeedState). LockStandsFor n.lock c.steps.invariant.standing.0 c.steps.invariant.standing.1)
           (sym c.self.view_is) c.steps.invariant.standing.2) in
           (c.steps.invariant.standing.0, c.steps.invariant.standing.1, wants.stands));
       line = c.more.ensures.line ∙ c.next_window.ensures.line
@@ -54,3 +63,20 @@ steps-preserved g c =
 pub next_window-requires : goal.next_window-requires
 next_window-requires g c = c.steps.invariant.window_line ∙ c.requires.line ∙ sym c.steps.invariant.line
     ∙ sym (ap (λ (n : FeedState). n.lock.line) c.self.view_is)
+
+pub more-requires-clause-looked : goal.more-requires-clause-looked
+more-requires-clause-looked g c =
+    let wants = c.in-More.ensures.answers c.steps.invariant.standing.0 c.steps.invariant.standing.1
+    (subst (λ (n : FeedState). LockStandsFor n.lock c.steps.invariant.standing.0 c.steps.invariant.standing.1)
+    (sym c.self.view_is) c.steps.invariant.standing.2) in
+    omega (arith, wants.room)
+
+pub returns-then-holds_back-clause-feeds : goal.returns-then-holds_back-clause-feeds
+returns-then-holds_back-clause-feeds g c = λ line bytes given s so.
+    let on = subst (λ (n : FeedState). FeedsOn g.S.Source line (c.args.under_way ≡ true) bytes given n s
+    c.args.source.now c.steps.source) (sym c.self.view_is) (c.steps.invariant.feeds line bytes given s so) in (
+      more_wanted g.S.Source line (c.args.under_way ≡ true) on c.next_window.new.self c.next_window.new.window
+          c.next_window.ensures.line c.next_window.ensures.finished
+          (c.in-More.ensures.answers (symbols_of on.all) given on.so_far.stands) c.next_window.ensures.passes,
+      c.holds_back.ensures.waits c.if-holds_back.true,
+    )

@@ -1,4 +1,4 @@
-use Rattle.std.proofs.Common.{◌≡◌, ◌≤◌, ℕ, List}
+use Rattle.std.proofs.Common.{◌≡◌, ◌≤◌, ℕ, List, true}
 use Rattle.lr_conv.specs.declared.line.LineCode.{LineCode}
 use Rattle.lr_lock.specs.declared.frame.Frame.{Frame}
 use Rattle.lr_reading.specs.Feeding.{IsStanding, steps_left, symbols_left, FedSoFar, FeedsOn}
@@ -10,7 +10,7 @@ invariant-steps g l =
     record {
       feeds : (line : LineCode) (bytes : List ℕ) (given : List Frame) (s : _)
           → FedSoFar source line bytes given l.fn.self s l.fn.source
-          → FeedsOn source line bytes given l.self s l.source;
+          → FeedsOn source line (l.under_way ≡ true) bytes given l.self s l.fn.source l.source;
       standing : IsStanding l.self.lock;
       most : l.self.most ≡ l.fn.self.most;
       line : l.self.lock.line ≡ l.fn.self.lock.line;

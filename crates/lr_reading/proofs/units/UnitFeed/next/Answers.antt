@@ -1,18 +1,18 @@
-use Rattle.std.proofs.Common.{rules, refl, inl, ◌∙◌}
+use Rattle.std.proofs.Common.{rules, refl, ◌∙◌}
 use Rattle.lr_reading.proofs.Gathering.{joined, nothing_taken}
 use Rattle.lr_reading.proofs.units.UnitFeed.next.Goals as goal
 
 pub loop-self-init : goal.loop-self-init
 loop-self-init g c = record {
-  gathered = nothing_taken g.S.Source c.args.source.now c.args.source.now c.args.self.now (search rules)
-      (λ t. t) (λ t. refl) (inl refl);
+  gathered = nothing_taken g.S.Source g.row.N c.args.source.now c.args.self.now (search rules);
   kept = refl;
   short = search rules;
 }
 
 pub loop-self-preserved : goal.loop-self-preserved
 loop-self-preserved g c = record {
-  gathered = joined g.S.Source c.loop-self.invariant.gathered c.loop-self.invariant.kept c.in-Ok.ensures.gathered;
+  gathered = joined g.S.Source g.row.N c.loop-self.invariant.gathered c.loop-self.invariant.kept
+      c.in-Ok.ensures.gathered;
   kept = c.in-Ok.ensures.cause.kept ∙ c.loop-self.invariant.kept;
   short = c.in-Ok.ensures.short;
 }
@@ -25,8 +25,8 @@ returns-clause-gathered g c = c.loop-self.invariant.gathered
 
 pub returns-in-Ok-eq0-clause-gathered : goal.returns-in-Ok-eq0-clause-gathered
 returns-in-Ok-eq0-clause-gathered g c =
-    joined g.S.Source c.loop-self.invariant.gathered c.loop-self.invariant.kept c.take.ensures.gathered
+    joined g.S.Source g.row.N c.loop-self.invariant.gathered c.loop-self.invariant.kept c.take.ensures.gathered
 
 pub returns-in-Err-clause-gathered : goal.returns-in-Err-clause-gathered
 returns-in-Err-clause-gathered g c =
-    joined g.S.Source c.loop-self.invariant.gathered c.loop-self.invariant.kept c.take.ensures.gathered
+    joined g.S.Source g.row.N c.loop-self.invariant.gathered c.loop-self.invariant.kept c.take.ensures.gathered

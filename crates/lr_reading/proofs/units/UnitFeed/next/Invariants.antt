@@ -6,7 +6,7 @@ abbrev pub invariant-loop-self : goal.invariant-loop-self
 invariant-loop-self g l =
     let source = g.S.Source in
     record {
-      gathered : Gathers source l.fn.self l.self l.fn.source l.source;
+      gathered : Gathers source g.row.N l.fn.self l.self l.fn.source l.source;
       kept : source.faults l.source ≡ source.faults l.fn.source;
       short : length l.self.held ≤ g.row.N;
     }

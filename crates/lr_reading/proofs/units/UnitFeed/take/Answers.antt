@@ -1,5 +1,6 @@
-use Rattle.std.proofs.Common.{rules, sym, ◌≤◌, ◌+◌, ◌-◌, length}
-use Rattle.lr_reading.proofs.Asking.{asked_once}
+use Rattle.std.proofs.Common.{rules, sym, refl, [], ◌≤◌, ◌+◌, ◌-◌, length}
+use Rattle.std.proofs.lemmas.List.{length-take-le}
+use Rattle.lr_reading.proofs.Asking.{gave}
 use Rattle.lr_reading.proofs.Gathering.{none_taken, piece_taken}
 use Rattle.lr_reading.proofs.units.UnitFeed.take.Goals as goal
 
@@ -10,10 +11,11 @@ returns-clause-gathered g c =
     let filled : inside.filled ≤ length inside.buffer = search rules in
     let enough : c.in_ok-count.count ≤ length c.take.new.into = search rules in
     let few : inside.taken + c.in_ok-count.count ≤ inside.most = search rules in
-    piece_taken g.S.Source c.args.source.now c.take.new.self c.args.self.now inside.buffer c.take.new.into
+    piece_taken g.S.Source g.row.N c.args.source.now c.take.new.self c.args.self.now inside.buffer c.take.new.into
     inside.filled room c.in_ok-count.count inside.taken inside.most filled enough few
     c.in_ok-count.ensures.told c.in_ok-count.ensures.moved
-    (asked_once g.S.Source c.args.source.now c.take.new.self _ c.in_ok-count.ensures.asked) c.self.view_is
+    (gave g.S.Source c.args.source.now c.take.new.self _ _ c.in_ok-count.ensures.asked
+    (length-take-le c.in_ok-count.count c.take.new.into enough)) c.requires.room c.self.view_is
 
 pub returns-in_err-count-clause-gathered : goal.returns-in_err-count-clause-gathered
 returns-in_err-count-clause-gathered g c =
@@ -21,7 +23,8 @@ returns-in_err-count-clause-gathered g c =
     let room = inside.filled + c.if-left-room.most - inside.filled in
     let filled : inside.filled ≤ length inside.buffer = search rules in
     let few : inside.taken ≤ inside.most = search rules in
-    none_taken g.S.Source c.args.source.now c.take.new.self c.args.self.now inside.buffer c.take.new.into
+    none_taken g.S.Source g.row.N c.args.source.now c.take.new.self c.args.self.now inside.buffer c.take.new.into
     inside.filled room inside.taken inside.most filled few c.in_err-count.ensures.told
     (λ tells. sym (c.in_err-count.ensures.failed tells))
-    (asked_once g.S.Source c.args.source.now c.take.new.self _ c.in_err-count.ensures.asked) c.self.view_is
+    (gave g.S.Source c.args.source.now c.take.new.self _ [] c.in_err-count.ensures.asked refl) c.requires.room
+    c.self.view_is

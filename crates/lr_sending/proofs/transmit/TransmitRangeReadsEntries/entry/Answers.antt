@@ -9,7 +9,7 @@ use Rattle.lr_shelf.specs.Kept.{kept_by}
 use Rattle.lr_shelf.specs.Read.{IsGetRefusal}
 use Rattle.lr_shelf_format.specs.declared.stored.Stored.{Stored}
 use Rattle.lr_sending.specs.Standing.{HasSent}
-use Rattle.lr_sending.specs.Transmit.{asked_of_transmit, files_read, transmit_asked}
+use Rattle.lr_sending.specs.Transmit.{transmit_files_query, files_read, transmit_query}
 use Rattle.lr_sending.proofs.transmit.TransmitRangeReadsEntries.entry.Goals as goal
 
 -- a file at whose image no one looks
@@ -25,7 +25,7 @@ returns-in-Ok-clause-takes g c = λ read few gathered.
     on_both c.send_file.result
     (λ puts sent.
     takes_file g.D.Disk g.O.Sink (kept_by c.args.shelf.now) c.args.number c.args.disk.now c.requires.working
-    c.requires.there (asked_of_transmit s.from s.to s.wrong s.line) read c.get.new.disk c.args.out.now
+    c.requires.there (transmit_files_query s.from s.to s.wrong s.line) read c.get.new.disk c.args.out.now
     c.send_file.new.out
     opened c.in-Ok.ensures.stored tt
     (λ files. HasSent s.line s.wrong (files_read files) c.send_file.new.uplink) puts
@@ -38,7 +38,7 @@ returns-in-Ok-clause-stops g c = λ read gathered.
     let s = c.args.self.now in
     on_err c.send_file.result
     (stops_file g.D.Disk g.O.Sink (kept_by c.args.shelf.now) c.args.number c.args.disk.now c.requires.working
-    c.requires.there (asked_of_transmit s.from s.to s.wrong s.line) read c.get.new.disk c.args.out.now
+    c.requires.there (transmit_files_query s.from s.to s.wrong s.line) read c.get.new.disk c.args.out.now
     c.send_file.new.out (opened_of c.in-Ok.stored) c.in-Ok.ensures.stored tt)
     (c.send_file.ensures.stops s.line (files_read (files_of read)) gathered)
 
@@ -49,7 +49,7 @@ returns-in-Discarded-clause-takes g c = λ read few gathered.
     subst (IsGetRefusal g.D.Disk (kept_by c.args.shelf.now) c.args.number c.args.disk.now) c.in-Discarded.is
     c.in-Err.ensures.refused in
     takes_gone g.D.Disk g.O.Sink (kept_by c.args.shelf.now) c.args.number c.args.disk.now c.requires.working
-    c.requires.there (asked_of_transmit s.from s.to s.wrong s.line) read c.get.new.disk c.args.out.now c.args.out.now
+    c.requires.there (transmit_files_query s.from s.to s.wrong s.line) read c.get.new.disk c.args.out.now c.args.out.now
     gone
     (λ files. HasSent s.line s.wrong (files_read files) c.args.uplink.now)
     (record { text = []; is = refl; puts = puts_none g.O.Sink c.args.out.now }) gathered
@@ -68,5 +68,5 @@ returns-in_default-clause-stops g c = λ read gathered.
     let s = c.args.self.now in
     rw c.shelf_cause.ensures
     (get_stops g.D.Disk g.O.Sink (kept_by c.args.shelf.now) c.args.number c.args.disk.now c.requires.working
-    c.requires.there (transmit_asked s.from s.to s.wrong s.line) read c.get.new.disk c.args.out.now
+    c.requires.there (transmit_query s.from s.to s.wrong s.line) read c.get.new.disk c.args.out.now
     c.in-Err.error (λ stored computed is. refl) c.in_default.not-Discarded c.in-Err.ensures.refused)

@@ -1,5 +1,4 @@
-use Rattle.std.proofs.Common.{◌≡◌, ◌∙◌, ◌-◌, ◌*◌, ◌<◌, [], ◌++◌, length, drop, get_or, sym, ap}
-use Rattle.std.proofs.Common.{arith, suc, length-drop}
+use Rattle.std.proofs.Common.{◌≡◌, ◌∙◌, ◌-◌, ◌*◌, ◌<◌, [], ◌++◌, length, drop, get_or, sym, ap, arith, suc, length-drop}
 use Rattle.std.specs.List.{concat}
 use Rattle.lr_bits.specs.declared.sizes.TheConstants.{ZONE_BYTES}
 use Rattle.lr_uplink.specs.Packets.{file_packets}

@@ -28,5 +28,5 @@ returns c = record {
   frames = at_rest;
   given = omega arith;
   blocks = tt;
-  encoder = subst (encoders.StandsFor c.new.result c.args.line) (sym bits-none) c.new.ensures;
+  encoder = subst (encoders.LineEncoderStandsFor c.new.result c.args.line) (sym bits-none) c.new.ensures;
 }

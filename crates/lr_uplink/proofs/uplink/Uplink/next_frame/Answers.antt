@@ -6,7 +6,7 @@ use Rattle.lr_bits.specs.declared.sizes.TheConstants.{SEQUENCE_COUNTS, ZONE_BYTE
 use Rattle.lr_sent.specs.Sent.{AreSentFor}
 use Rattle.lr_uplink.specs.Sent.{sent}
 use Rattle.lr_uplink.specs.Packets.{file_packets}
-use Rattle.lr_uplink.specs.Progress.{FramesStandFor, IsAtRest, IsUnderWay}
+use Rattle.lr_uplink.specs.Progress.{SentFramesStandFor, IsAtRest, IsFileUnderWay}
 use Rattle.lr_uplink.proofs.Receiving.{sent_files_are_received}
 use Rattle.lr_uplink.proofs.UnderWay.{first_count, frame_is, goes_on, is_done, is_left, left_is, room}
 use Rattle.lr_uplink.proofs.uplink.Uplink.next_frame.Goals as goal
@@ -15,7 +15,7 @@ pub returns-in_default-clause-received : goal.returns-in_default-clause-received
 returns-in_default-clause-received c = λ line history s _ all.
     let counters = c.args.self.now.counters in
     let rest : IsAtRest counters history.files history.given =
-    subst (λ o. FramesStandFor counters o history.files history.given) (sym c.take.ensures.value ∙ c.in_default.is)
+    subst (λ o. SentFramesStandFor counters o history.files history.given) (sym c.take.ensures.value ∙ c.in_default.is)
     s.frames in
     sent_files_are_received line history.files history.blocks s.files
     (subst (λ fs. AreSentFor fs history.blocks)
@@ -25,8 +25,8 @@ pub returns-then-not-is_done-clause-left : goal.returns-then-not-is_done-clause-
 returns-then-not-is_done-clause-left c = λ line history s.
     let counters = c.args.self.now.counters in
     let sending = c.in-Some.sending in
-    let way : IsUnderWay counters sending history.files history.given =
-    subst (λ o. FramesStandFor counters o history.files history.given) (sym c.take.ensures.value ∙ c.in-Some.is)
+    let way : IsFileUnderWay counters sending history.files history.given =
+    subst (λ o. SentFramesStandFor counters o history.files history.given) (sym c.take.ensures.value ∙ c.in-Some.is)
     s.frames in
     (λ _. is_left counters sending history.files history.given way, λ _. refl)
 
@@ -34,8 +34,8 @@ pub returns-then-not-is_done-clause-frame : goal.returns-then-not-is_done-clause
 returns-then-not-is_done-clause-frame c = λ line history s _.
     let counters = c.args.self.now.counters in
     let sending = c.in-Some.sending in
-    let way : IsUnderWay counters sending history.files history.given =
-    subst (λ o. FramesStandFor counters o history.files history.given) (sym c.take.ensures.value ∙ c.in-Some.is)
+    let way : IsFileUnderWay counters sending history.files history.given =
+    subst (λ o. SentFramesStandFor counters o history.files history.given) (sym c.take.ensures.value ∙ c.in-Some.is)
     s.frames in
     let place : c.from-place.result ≡ way.file.vc =
     c.from-place.ensures ∙ c.vc.ensures.value ∙ ap (λ f. f.vc) way.left.part.same in
@@ -49,8 +49,8 @@ pub returns-then-not-is_done-clause-given : goal.returns-then-not-is_done-clause
 returns-then-not-is_done-clause-given c = λ line history s _.
     let counters = c.args.self.now.counters in
     let sending = c.in-Some.sending in
-    let way : IsUnderWay counters sending history.files history.given =
-    subst (λ o. FramesStandFor counters o history.files history.given) (sym c.take.ensures.value ∙ c.in-Some.is)
+    let way : IsFileUnderWay counters sending history.files history.given =
+    subst (λ o. SentFramesStandFor counters o history.files history.given) (sym c.take.ensures.value ∙ c.in-Some.is)
     s.frames in
     let place : c.from-place.result ≡ way.file.vc =
     c.from-place.ensures ∙ c.vc.ensures.value ∙ ap (λ f. f.vc) way.left.part.same in
@@ -63,7 +63,7 @@ returns-then-not-is_done-clause-given c = λ line history s _.
       files = s.files;
       counts = s.counts;
       frames =
-          subst (λ k. IsUnderWay (set counters k counter) c.put_next.new.sending history.files (history.given + 1))
+          subst (λ k. IsFileUnderWay (set counters k counter) c.put_next.new.sending history.files (history.given + 1))
           (sym place)
           (goes_on counters sending history.files history.given way (omega arith) counter
           (ap (λ k. (get_or counters k 0 + 1) % 2 ^ 32) place) c.put_next.new.sending moved
@@ -78,8 +78,8 @@ pub returns-else-not-is_done-clause-left : goal.returns-else-not-is_done-clause-
 returns-else-not-is_done-clause-left c = λ line history s.
     let counters = c.args.self.now.counters in
     let sending = c.in-Some.sending in
-    let way : IsUnderWay counters sending history.files history.given =
-    subst (λ o. FramesStandFor counters o history.files history.given) (sym c.take.ensures.value ∙ c.in-Some.is)
+    let way : IsFileUnderWay counters sending history.files history.given =
+    subst (λ o. SentFramesStandFor counters o history.files history.given) (sym c.take.ensures.value ∙ c.in-Some.is)
     s.frames in
     (λ _. is_left counters sending history.files history.given way, λ _. refl)
 
@@ -87,8 +87,8 @@ pub returns-else-not-is_done-clause-frame : goal.returns-else-not-is_done-clause
 returns-else-not-is_done-clause-frame c = λ line history s _.
     let counters = c.args.self.now.counters in
     let sending = c.in-Some.sending in
-    let way : IsUnderWay counters sending history.files history.given =
-    subst (λ o. FramesStandFor counters o history.files history.given) (sym c.take.ensures.value ∙ c.in-Some.is)
+    let way : IsFileUnderWay counters sending history.files history.given =
+    subst (λ o. SentFramesStandFor counters o history.files history.given) (sym c.take.ensures.value ∙ c.in-Some.is)
     s.frames in
     let place : c.from-place.result ≡ way.file.vc =
     c.from-place.ensures ∙ c.vc.ensures.value ∙ ap (λ f. f.vc) way.left.part.same in
@@ -102,8 +102,8 @@ pub returns-else-not-is_done-clause-given : goal.returns-else-not-is_done-clause
 returns-else-not-is_done-clause-given c = λ line history s _.
     let counters = c.args.self.now.counters in
     let sending = c.in-Some.sending in
-    let way : IsUnderWay counters sending history.files history.given =
-    subst (λ o. FramesStandFor counters o history.files history.given) (sym c.take.ensures.value ∙ c.in-Some.is)
+    let way : IsFileUnderWay counters sending history.files history.given =
+    subst (λ o. SentFramesStandFor counters o history.files history.given) (sym c.take.ensures.value ∙ c.in-Some.is)
     s.frames in
     let place : c.from-place.result ≡ way.file.vc =
     c.from-place.ensures ∙ c.vc.ensures.value ∙ ap (λ f. f.vc) way.left.part.same in
@@ -116,7 +116,7 @@ returns-else-not-is_done-clause-given c = λ line history s _.
       files = s.files;
       counts = s.counts;
       frames =
-          subst (λ o. FramesStandFor (set counters c.from-place.result counter) o history.files (history.given + 1))
+          subst (λ o. SentFramesStandFor (set counters c.from-place.result counter) o history.files (history.given + 1))
           (sym c.take.ensures.after)
           (subst (λ k. IsAtRest (set counters k counter) history.files (history.given + 1)) (sym place)
           (is_done counters sending history.files history.given way (omega arith) counter

@@ -1,6 +1,6 @@
 use Rattle.std.proofs.Common.{◌∙◌, ap, sym, subst, arith, ◌++◌}
 use Rattle.std.proofs.lemmas.List.{length_push}
-use Rattle.lr_conv.specs.LineEncoder.{StandsFor}
+use Rattle.lr_conv.specs.LineEncoder.{LineEncoderStandsFor}
 use Rattle.lr_sent.specs.Sent.{bits_of_blocks, symbols_of_blocks}
 use Rattle.lr_uplink.proofs.Coding.{bits-more, symbols-more}
 use Rattle.lr_uplink.proofs.UnderWay.{block_more}
@@ -20,6 +20,6 @@ returns-clause-block c = λ line history s some is. record {
   given = omega (arith, length_push history.blocks c.args.block.now, some);
   blocks = block_more c.args.self.now line history c.args.block.now s some is;
   encoder =
-      subst (StandsFor c.put_symbols.new.encoder line) (sym (bits-more history.blocks c.args.block.now))
+      subst (LineEncoderStandsFor c.put_symbols.new.encoder line) (sym (bits-more history.blocks c.args.block.now))
       (c.put_symbols.ensures.moves line (bits_of_blocks history.blocks) s.encoder);
 }

@@ -1,7 +1,7 @@
 use Rattle.std.proofs.Common.{◌≡◌, ◌<◌, ◌++◌, length, length-append, ap, ◌∙◌, sym, subst, arith, rules}
 use Rattle.lr_bits.specs.declared.sizes.TheConstants.{CHANNELS, FILL_CHANNEL, ZONE_BYTES}
 use Rattle.lr_vc.specs.Reading.{fields}
-use Rattle.lr_vc.specs.Standing.{Kept, StandsFor, kept_at}
+use Rattle.lr_vc.specs.Standing.{KeptChannels, ChannelsStandFor, kept_at}
 use Rattle.lr_vc.proofs.Lists.{append_none}
 use Rattle.lr_vc.specs.Steps.{packets_with, met_by}
 use Rattle.lr_vc.proofs.Few.{few_packets}
@@ -26,13 +26,13 @@ returns-clause-stands c =
     let fits : c.args.frame.now.vc < CHANNELS = c.args.frame.now.vc_fits in
     let below : c.args.frame.now.vc < FILL_CHANNEL = omega (arith, c.if-frame-eq-FILL_CHANNEL.false) in
     let none = sym c.is_err.ensures.value ∙ c.if-is_err.false in
-    let old : Kept = record { spent = c.self.inside.spent; channels = c.self.inside.channels.items } in
-    let new : Kept = record { spent = c.self.inside.spent; channels = c.push_to_channel.new.channels.items } in
+    let old : KeptChannels = record { spent = c.self.inside.spent; channels = c.self.inside.channels.items } in
+    let new : KeptChannels = record { spent = c.self.inside.spent; channels = c.push_to_channel.new.channels.items } in
     λ history h.
     stands_next old new history f below long c.if-self.false
     (at_ok c.push_to_channel.result none c.push_to_channel.ensures.own)
     c.push_to_channel.ensures.others
-    (subst (λ k. StandsFor k history) (sym c.self.view_is) h)
+    (subst (λ k. ChannelsStandFor k history) (sym c.self.view_is) h)
 
 pub returns-clause-packets : goal.returns-clause-packets
 returns-clause-packets c =
@@ -41,11 +41,11 @@ returns-clause-packets c =
     let fits : c.args.frame.now.vc < CHANNELS = c.args.frame.now.vc_fits in
     let below : c.args.frame.now.vc < FILL_CHANNEL = omega (arith, c.if-frame-eq-FILL_CHANNEL.false) in
     let none = sym c.is_err.ensures.value ∙ c.if-is_err.false in
-    let old : Kept = record { spent = c.self.inside.spent; channels = c.self.inside.channels.items } in
+    let old : KeptChannels = record { spent = c.self.inside.spent; channels = c.self.inside.channels.items } in
     λ history h.
     at_ok c.push_to_channel.result none c.push_to_channel.ensures.packets
     ∙ ap (λ ps. c.args.packets.now.items ++ ps) (packets_next old history f below long
-    (subst (λ k. StandsFor k history) (sym c.self.view_is) h))
+    (subst (λ k. ChannelsStandFor k history) (sym c.self.view_is) h))
 
 pub returns-clause-few : goal.returns-clause-few
 returns-clause-few c =

@@ -1,0 +1,60 @@
+//! What a test says where something else came than it wanted: both, by the line in which they differ.
+#![tactic(auto)]
+
+use std::test::Fail;
+
+/// The most bytes of a line that a failure shows.
+const SHOWN: usize = 180;
+
+fn first_difference(came: &[u8], wanted: &[u8]) -> usize {
+    let both = came.len().min(wanted.len());
+    for place in 0..both {
+        if came[place] != wanted[place] {
+            return place;
+        }
+    }
+    both
+}
+
+/// Where the line of a place begins.
+fn line_start(bytes: &[u8], place: usize) -> usize {
+    let mut start = 0;
+    for at in 0..place.min(bytes.len()) {
+        if bytes[at] == b'\n' {
+            start = at + 1;
+        }
+    }
+    start
+}
+
+/// The line that begins at a place, or its first bytes.
+fn line_at(bytes: &[u8], start: usize) -> &str {
+    let rest = &bytes[start.min(bytes.len())..];
+    let line = match rest.iter().position(|byte| *byte == b'\n') {
+        Some(end) => &rest[..end],
+        None => rest,
+    };
+    str::from_utf8(&line[..line.len().min(SHOWN)]).unwrap_or("bytes that are no text")
+}
+
+/// Whether just these bytes came. Where others did, the failure has the line in which they differ, of both.
+pub fn is_text(what: &str, came: &[u8], wanted: &[u8]) -> Result<bool, Fail> {
+    if came == wanted {
+        return Ok(true);
+    }
+    let place = first_difference(came, wanted);
+    let start = line_start(came, place);
+    let came = line_at(came, start);
+    let wanted = line_at(wanted, start);
+    Err(Fail::new(format_args!(
+        "{what} differs from byte {place} on: {came:?} came, and not {wanted:?}"
+    )))
+}
+
+/// Whether this status came. Where another one did, the failure has both.
+pub fn is_status(came: u8, wanted: u8) -> Result<bool, Fail> {
+    if came == wanted {
+        return Ok(true);
+    }
+    Err(Fail::new(format_args!("the status is {came}, and not {wanted}")))
+}
