@@ -16,7 +16,7 @@ static unsigned misses;
 
 static uint64_t after(uint64_t state) { return state * 6364136223846793005u + 1442695040888963407u; }
 
-// puts the symbols of bits behind the others, and keeps the last six bits in the state
+// puts the symbols of bits after the others, and keeps the last six bits in the state
 static size_t put(int8_t *symbols, size_t at, unsigned *state, const uint8_t *bytes, size_t count) {
     for (size_t k = 0; k < 8 * count; k++) {
         unsigned seven = 2 * *state + (bytes[k / 8] >> (7 - k % 8) & 1);

@@ -1,4 +1,4 @@
-// Two writes and two syncs an append: 42 bytes behind the end, then one byte before them.
+// Two writes and two syncs an append: 42 bytes after the end, then one byte before them.
 #define _GNU_SOURCE
 #include <fcntl.h>
 #include <stdio.h>

@@ -50,8 +50,8 @@ def rows_of(lines):
 
 
 def commands():
-    """README's commands: name, options with their values, the words, and what it does."""
-    part = text_of("README.md").split("\n## Commands\n")[1].split("\n## ")[0]
+    """The commands of FORMATS: name, options with their values, the words, and what it does."""
+    part = text_of("docs/FORMATS.md").split("\n## Commands\n")[1].split("\n## ")[0]
     values = {}
     found = []
     for call, does in rows_of([line for line in part.split("\n") if line.startswith("|")])[1:]:
@@ -137,9 +137,6 @@ def man():
     for part in paragraphs[2:]:
         if not part.startswith(("  ", MANUAL)):
             written += [".PP", *[in_line(line) for line in part.split("\n")]]
-    written.append(".SH COMMANDS")
-    for _, _, words, does in commands()[0]:
-        written += [".TP", in_line(f"`{words}`"), in_line(does)]
     # (its title and what stands before the first heading say what the page is)
     written += roff("## " + text_of("docs/FORMATS.md").split("\n## ", 1)[1])
     written += [".SH SEE ALSO", *DOCUMENTS.split("\n")]

@@ -25,7 +25,7 @@ PARTS = {
     "The shelf": [
         "crates/lr_shelf_format/specs/ShelfBytes.antt",
         "crates/lr_shelf_format/specs/Way.antt",
-        "crates/lr_shelf/specs/Grounds.antt",
+        "crates/lr_shelf/specs/InitialShelves.antt",
     ],
     "Images": ["crates/lr_image/specs/Images.antt", "crates/lr_image/specs/Pgm.antt"],
     "Sent frames": ["crates/lr_sent/specs/Sent.antt"],

@@ -517,7 +517,7 @@ held() { flock --nonblock "$1" true || echo "$1"; }
 # The top of the repository with nothing built.
 unbuilt() {
     if [ ! -d unbuilt ]; then
-        mkdir -p unbuilt/crates/lr_program
+        mkdir -p unbuilt/crates/lr_program/src
         cp "$top/lritstation" "$top/CHANGELOG.md" "$top/HANDLES" unbuilt/
         echo "lr_program:" > unbuilt/crates.txt
     fi
@@ -551,23 +551,23 @@ fake_kit() {
 #!/bin/sh
 case \$1 in
 doc) echo "$PWD/kit/START-HERE.md" ;;
-ci)
-    mkdir -p crates/lr_program/out
-    printf '#!/bin/sh\necho "v2 \$\$ \$*"\nexit 7\n' > crates/lr_program/out/lr_program
-    chmod +x crates/lr_program/out/lr_program
-    echo "rt: ok, 1 passed, 0 failed"
-    ;;
+ci) echo "rt: ok, 0 passed, 0 failed" ;;
 esac
 KIT
+    # (the usual program can be made always)
     cat > kit/bin/rattle << KIT
 #!/bin/sh
-echo "\$*" > "$PWD/kit/said"
-[ ! -e "$PWD/kit/refuses" ]
+case "\$*" in
+*--cpu=*)
+    echo "\$*" > "$PWD/kit/said"
+    [ ! -e "$PWD/kit/refuses" ]
+    ;;
+esac
 KIT
     cat > kit/bin/rattle-link << 'KIT'
 #!/bin/sh
 while [ "$1" != -o ]; do shift; done
-printf '#!/bin/sh\necho "v3 $$ $*"\nexit 7\n' > "$2"
+printf '#!/bin/sh\necho "%s $$ $*"\nexit 7\n' "${2#out/}" > "$2"
 chmod +x "$2"
 KIT
     chmod +x kit/bin/*
@@ -595,7 +595,6 @@ try_processors() {
     PATH=$PWD/kit/bin:$PATH
     rm -rf unbuilt
     wrapper=$(unbuilt)/lritstation
-    mkdir -p unbuilt/crates/lr_program/src
     sed -i "s,^loader=.*,loader=$PWD/kit/loader," "$wrapper"
     out=unbuilt/crates/lr_program/out
     loader "x86-64-v2 (supported, searched)"
@@ -628,7 +627,7 @@ try_processors() {
 # A signal while the second program is made.
 end_second() {
     rm -rf "$out" "$scratch/tmp"
-    mkdir kit/begun "$scratch/tmp"
+    mkdir -p kit/begun "$scratch/tmp" "$out"
     printf '#!/bin/sh\ntouch "%s"\nsleep %d\n' "$PWD/kit/begun/mark" "$long" > kit/bin/rattle
     is "the status after a signal there" \
         "$(TMPDIR=$scratch/tmp $python signal TERM kit/begun "$wrapper" - frames 2> err)" 143

@@ -1,6 +1,7 @@
-"""What `papers.sh` looks at; its head says what. Usage: papers.py TOP."""
+"""What `documents.sh` looks at; its head says what. Usage: documents.py TOP."""
 
 import glob
+import itertools
 import os
 import re
 import sys
@@ -17,7 +18,7 @@ OTHERS = set(
     tail head pv nc netcat systemctl enable now journalctl daemon reload install usr local bin cmp pnmsplit pnmtopng pnmfile netpbm
     libfec libaec aec valgrind Restart RestartPreventExitStatus RuntimeMaxSec ExecStart mkfifo tee losetup strace rattle kit 13f
     rt must fail plant fmt tidy check anew jiff_core jiff_fmt stage times incremental Clock Recovery Symbol Sync Costas Loop Complex
-    Real Float Char File Sink simd Lts Tie Proof""".split()
+    Real Float Char File Sink simd Lts Tie Proof lr_trials Display""".split()
 )
 
 
@@ -63,7 +64,7 @@ def stands(token):
 
 def is_defined(module, name):
     """Whether a file of specs/ with the module's name defines the name."""
-    shape = rf"(?m)(\b(record|data)\s+{re.escape(name)}\b|^\s*(abbrev |pub |unfoldable )*{re.escape(name)}\s*:)"
+    shape = rf"(?m)(\b(record|data)\s+{re.escape(name)}\b|^\s*(abbrev |pub |unfoldable )*{re.escape(name)}\s*:|^pub use .*\b{re.escape(name)}\b)"
     return any(re.search(shape, it) for it in SPECS.get(module, []))
 
 
@@ -98,21 +99,34 @@ def crates():
     return found
 
 
-def look_at_table(found):
-    for row in re.findall(r"(?m)^\| (`lr_[^|]*) \|[^|]*\| ([^|]*)\|", text_of("docs/ARCHITECTURE.md")):
-        names = re.findall(r"`(lr_\w+)`", row[0])
+def layers():
+    """The layers of crates.txt, each a heading and the crates under it."""
+    found = []
+    for block in text_of("crates.txt").split("\n\n"):
+        heads = [line[2:] for line in block.splitlines() if line.startswith("# ")]
+        names = [line.split(":")[0].split()[0] for line in block.splitlines() if line and not line.startswith("#")]
+        if names:
+            found.append((heads[-1] if heads else "", names))
+    return found
+
+
+def look_at_layers(found):
+    """In crates.txt a crate stands after those that it uses; the table of ARCHITECTURE has the same layers."""
+    above = set()
+    for _, names in layers():
         for name in names:
-            if name not in found:
-                faults.append(f"docs/ARCHITECTURE.md: the crate {name} isn't in crates.txt")
-        if len(names) == 1 and not names[0].startswith("lr_trials"):
-            told, true = set(re.findall(r"`(\w+)`", row[1])), set(found.get(names[0], []))
-            for word, which in (("names", told - true), ("doesn't name", true - told)):
-                if which:
-                    faults.append(f"docs/ARCHITECTURE.md: the row of {names[0]} {word} {' '.join(sorted(which))}")
-    tables = text_of("docs/ARCHITECTURE.md")
-    for name in found:
-        if f"`{name}`" not in tables:
-            faults.append(f"docs/ARCHITECTURE.md: no row has the crate {name}")
+            for library in found[name]:
+                if library in found and library not in above:
+                    faults.append(f"crates.txt: {name} stands before {library}, which it uses")
+            above.add(name)
+    told = []
+    for head, names in re.findall(r"(?m)^\| ([^|]*)\| (`lr_[^|]*) \|", text_of("docs/ARCHITECTURE.md")):
+        if head.strip():
+            told.append((head.strip(), []))
+        told[-1][1].extend(re.findall(r"`(lr_\w+)`", names))
+    for true, page in itertools.zip_longest(layers(), told, fillvalue=("", [])):
+        if true != page:
+            faults.append(f"docs/ARCHITECTURE.md: the layer '{true[0]}' has {' '.join(true[1])}, not '{page[0]}': {' '.join(page[1])}")
 
 
 def below(name, found, seen):
@@ -127,8 +141,8 @@ def look_at_numbers(found):
     needed = len(below("lr_program", found, {"lr_program"}))
     for document, shape, true, what in (
         ("README.md", r"proves (\d+) crates", needed, "the crates of the program"),
-        ("docs/GATE.md", r"(\d+) crates of the program", needed, "the crates of the program"),
-        ("docs/GATE.md", r"(\d+) edits", len(glob.glob("crates/*/must-fail/*.edit")), "the edits"),
+        ("docs/CI.md", r"(\d+) crates of the program", needed, "the crates of the program"),
+        ("docs/CI.md", r"(\d+) edits", len(glob.glob("crates/*/must-fail/*.edit")), "the edits"),
         ("docs/CLAIMS.md", r"(\d+) edits", len(glob.glob("crates/*/must-fail/*.edit")), "the edits"),
     ):
         for told in re.findall(shape, text_of(document) if os.path.exists(document) else ""):
@@ -150,12 +164,26 @@ def look_at_comments():
                     faults.append(f"{path}:{number + 1}: a public function without a doc comment")
 
 
+def look_at_columns():
+    """No line of a source or of prose has more than 120 columns. Tables and examples of documents may."""
+    for path in FILES:
+        if re.fullmatch(r"crates/\w+/(src|specs|proofs)/.*\.(rt|antt)", path):
+            long = [number for number, line in enumerate(text_of(path).splitlines(), 1) if len(line) > 120]
+            faults.extend(f"{path}:{number}: more than 120 columns" for number in long)
+    for document in DOCUMENTS:
+        if document != "docs/INDEX.md":
+            for number, line in enumerate(text_of(document).splitlines(), 1):
+                if len(line) > 120 and not line.startswith(("|", "    ", "<")):
+                    faults.append(f"{document}:{number}: more than 120 columns")
+
+
 for document in DOCUMENTS:
     look_at(document)
-look_at_table(crates())
+look_at_columns()
+look_at_layers(crates())
 look_at_numbers(crates())
 look_at_comments()
 for it in faults:
-    print(f"trials/papers.sh: {it}")
-print(f"trials/papers.sh: {len(DOCUMENTS)} documents, {len(faults)} faults")
+    print(f"trials/documents.sh: {it}")
+print(f"trials/documents.sh: {len(DOCUMENTS)} documents, {len(faults)} faults")
 sys.exit(1 if faults else 0)

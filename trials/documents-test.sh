@@ -1,20 +1,20 @@
 #!/bin/sh
-# Whether `papers.sh` finds what it looks for: a copy of all files is right, and the same copy with one planted fault is not, for each of some
-# faults. It says what wasn't found, and ends with 1 then. Usage: trials/papers-test.sh. Needs python3; without it nothing is tried.
+# Whether `documents.sh` finds what it looks for: a copy of all files is right, and the same copy with one planted fault is not, for each of some
+# faults. It says what wasn't found, and ends with 1 then. Usage: trials/documents-test.sh. Needs python3; without it nothing is tried.
 top=$(cd "$(dirname "$0")/.." && pwd)
-command -v python3 > /dev/null || { echo "trials/papers-test.sh: python3 is missing, so nothing was tried"; exit 0; }
+command -v python3 > /dev/null || { echo "trials/documents-test.sh: python3 is missing, so nothing was tried"; exit 0; }
 scratch=$(mktemp -d) || exit 1
 trap 'rm -rf "$scratch"' EXIT
 (cd "$top" && tar --exclude=./.git --exclude=out -cf - .) | (cd "$scratch" && tar -xf -) || exit 1
-sh "$scratch/trials/papers.sh" > "$scratch/said" || { cat "$scratch/said"; exit 1; }
+sh "$scratch/trials/documents.sh" > "$scratch/said" || { cat "$scratch/said"; exit 1; }
 faults=0
 
-# planted FILE TEXT SAID: with this text at the end of the file, papers.sh fails and says this
+# planted FILE TEXT SAID: with this text at the end of the file, documents.sh fails and says this
 planted() {
     cp "$scratch/$1" "$scratch/kept" || exit 1
     printf '%s\n' "$2" >> "$scratch/$1"
-    if sh "$scratch/trials/papers.sh" > "$scratch/said" || ! grep -qF "$3" "$scratch/said"; then
-        echo "trials/papers-test.sh: '$2' in $1 wasn't found"
+    if sh "$scratch/trials/documents.sh" > "$scratch/said" || ! grep -qF "$3" "$scratch/said"; then
+        echo "trials/documents-test.sh: '$2' in $1 wasn't found"
         exit 1
     fi
     cp "$scratch/kept" "$scratch/$1"
@@ -26,10 +26,14 @@ planted docs/CLAIMS.md "\`nobody_""calls_it\`" "nothing is called nobody_""calls
 planted docs/CLAIMS.md "\`Receive.Never""Defined\`" "is defined in no specs/Receive"
 planted README.md "\`docs/no_""such_page.md\`" "is no file here"
 planted README.md "The first run proves 1 crates." "the crates of the program are"
-planted docs/ARCHITECTURE.md "| \`lr_bits\` | bits | \`lr_io\` | |" "the row of lr_bits names lr_io"
-planted crates.txt "lr_""nowhere: lr_bits" "no row has the crate"
+planted docs/ARCHITECTURE.md "| | \`lr_bits\` | bits |" "lr_bench lr_bits"
+planted crates.txt "lr_""nowhere: lr_bits" "lr_""nowhere, not"
 planted crates/lr_bits/src/lib.rt "pub fn bare() {}" "a public function without a doc comment"
 planted crates/lr_lock/specs/Thresholds.antt "six""teen : ℕ; six""teen = 163""96" "163""96: write WINDOW_END"
 planted docs/DEFINITIONS.md "| \`crates/lr_gf/specs/Systems.antt\` | - | |" "lists crates/lr_gf/specs/Systems.antt, which doesn't belong"
 planted crates/lr_gf/specs/Dual.antt "use Rattle.lr_gf.specs.Systems.{Solves}" "lacks crates/lr_gf/specs/Systems.antt"
-echo "trials/papers-test.sh: $faults planted faults, each found"
+planted docs/INDEX.md "| \`field\` | another line | | | |" "docs/INDEX.md: has"
+planted crates/lr_gf/src/lib.rt "/// Bare.
+pub fn bare() {}" "docs/INDEX.md: lacks"
+planted README.md "$(printf '%0121d' 0)" "more than 120 columns"
+echo "trials/documents-test.sh: $faults planted faults, each found"
