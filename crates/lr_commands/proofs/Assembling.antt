@@ -1,7 +1,10 @@
 -- What is gathered of the segments of an image.
-use Rattle.std.proofs.Common.{◌≡◌, ◌<◌, ◌≤◌, ◌+◌, ℕ, Bool, true, false, cond, Option, Some, None, Result, Ok}
+use Rattle.std.proofs.Common.{◌≡◌, ◌<◌, ◌≤◌, ◌+◌, ℕ, Bool, true, false, cond, Option, Some, None, Result, Ok, Err}
 use Rattle.std.proofs.Common.{List, [], ◌∷◌, ◌++◌, length, refl, sym, ap, ◌∙◌, subst, arith, eq-eqb, ◌^◌}
+use Rattle.std.proofs.Common.{IfOk, IfErr}
+use Rattle.std.specs.Prelude.{◌≢◌}
 use Rattle.std.specs.List.{cons_option}
+use Rattle.lr_bits.specs.declared.refusals.NoMemory.{NoMemory as NoMemory''}
 use Rattle.std.proofs.lemmas.List.{append-nil}
 use Rattle.std.proofs.lemmas.List.Elements.{filter_map-append}
 use Rattle.std.proofs.lemmas.List.Sums.{count_by-le-length, sum_by-append}
@@ -30,6 +33,7 @@ use Rattle.lr_commands.specs.Assemble.{
   member_of,
   members_of,
   segment_for_image,
+  segment_read,
   skipped_of,
 }
 use Rattle.lr_commands.specs.Gathered.{GathersMembers, IsStop, with_member, with_skipped}
@@ -45,15 +49,24 @@ module _ (apid image : ℕ) (file : File) where
   other_application other = rw (ne_eqb file.apid apid other) refl
 
   module _ (same : file.apid ≡ apid) where
-    pub no_header : (fault : HeaderFault) → HasHeaderFaultOrMemory (proper_of file) fault → (fault ≡ NoMemory' → ⊥)
+    no_header : (fault : HeaderFault) → HasHeaderFaultOrMemory (proper_of file) fault → (fault ≡ NoMemory' → ⊥)
         → None ≡ segment_for_image apid image file
     unfolding segment_for_image
     no_header fault has not = rw (eq-eqb file.apid apid same, is_fault (proper_of file) fault has not) refl
 
-    pub of_header : (header : Header) → IsHeaderOf (proper_of file) header → (segment : Option Segment)
+    of_header : (header : Header) → IsHeaderOf (proper_of file) header → (segment : Option Segment)
         → segment ≡ segment_of header → if_of image segment ≡ segment_for_image apid image file
     unfolding segment_for_image
     of_header header is segment of = rw (eq-eqb file.apid apid same, header_is (proper_of file) header is, of) refl
+
+    -- by how the header was read, where memory wasn't wanting for that
+    pub segment_is : (read : Result Header HeaderFault) (given : Result (Option Segment) NoMemory'')
+        → IfOk read (IsHeaderOf (proper_of file)) → IfErr read (HasHeaderFaultOrMemory (proper_of file))
+        → IfOk given (λ segment. (segment ≡ if_of image (segment_read read)) × (read ≢ Err NoMemory'))
+        → IfOk given (λ segment. segment ≡ segment_for_image apid image file)
+    segment_is read (Err none) is has made = tt
+    segment_is (Ok header) (Ok segment) is has made = made.0 ∙ of_header header is (segment_of header) refl
+    segment_is (Err fault) (Ok segment) is has made = made.0 ∙ no_header fault has (λ e. made.1 (ap Err e))
 
 -- ---- one file more
 

@@ -1,5 +1,6 @@
 //! `assemble`: the segments of an image, put together.
-ghost use Rattle.std.specs.Prelude.{◌≡◌, ◌+◌, ◌<◌, ◌^◌, ◌∷◌, ◌++◌, ℕ, [], length, List, Ok, Some, IfErr, IfOk, OnOk};
+ghost use Rattle.std.specs.Prelude.{◌≡◌, ◌≢◌, ◌+◌, ◌<◌, ◌^◌, ◌∷◌, ◌++◌, ℕ, [], length, List, Ok, Err, Some, IfErr};
+ghost use Rattle.std.specs.Prelude.{IfOk, OnOk};
 ghost use Rattle.lr_segment.specs.Canvas.{Member, member};
 ghost use Rattle.lr_causes.specs.Outside.{outlets, outlets_of};
 ghost use Rattle.lr_commands.specs.Assemble.{
@@ -9,6 +10,7 @@ ghost use Rattle.lr_commands.specs.Assemble.{
   join_fate,
   member_with,
   segment_for_image,
+  segment_read,
 };
 ghost use Rattle.lr_commands.specs.Gathered.{GathersMembers, IsCanvasOf, IsStop, with_member, with_skipped};
 ghost use Rattle.lr_commands.specs.Runs.{RunsOver};
@@ -42,14 +44,25 @@ fn segment_in(
     if file.apid() != apid {
         return Ok(None);
     }
-    let records = match Records::read(alloc, file.proper()) {
-        Ok(records) => records,
+    segment_by(image, Records::read(alloc, file.proper()))
+}
+
+/// The segment record of a header that was read, if it names this image. One with a fault has none.
+fn segment_by(
+    image: u16,
+    read: Result<Records<'_>, HeaderFault>,
+) -> Result<Option<Segment>, NoMemory>
+    ensures segment { IfOk result (λ segment. (segment ≡ if_of image (segment_read read.entry))
+        × (read.entry ≢ Err HeaderFault.NoMemory)) }
+    ensures refused { IfErr result (λ _. read.entry ≡ Err HeaderFault.NoMemory) }
+{
+    match read {
+        Ok(records) => Ok(segment_of_image(image, records.segment())),
         Err(fault) => match fault {
-            HeaderFault::NoMemory => return Err(NoMemory),
-            _ => return Ok(None),
+            HeaderFault::NoMemory => Err(NoMemory),
+            _ => Ok(None),
         },
-    };
-    Ok(segment_of_image(image, records.segment()))
+    }
 }
 
 /// The record, if it names this image.

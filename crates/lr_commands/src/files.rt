@@ -1,5 +1,5 @@
 //! Commands that read whole files.
-ghost use Rattle.std.specs.Prelude.{◌≡◌, IfOk};
+ghost use Rattle.std.specs.Prelude.{◌≡◌, ◌≢◌, Err, IfErr, IfOk};
 ghost use Rattle.lr_image.specs.Images.{HasOutcome};
 ghost use Rattle.lr_commands.specs.Queries.{IsLooked};
 
@@ -11,14 +11,15 @@ use lr_causes::{Cause, Note};
 use lr_disk::Disk;
 use lr_image::{Image, ImageFault, image_of};
 use lr_io::Sink;
-use lr_refusals::shelf_cause;
-use lr_shelf::{Shelf, ShelfError, Stored};
+use lr_refusals::file_or_gone;
+use lr_shelf::{Shelf, Stored};
 use std::alloc::Global;
 
 /// A command that reads whole files and looks at the images of some, and is refused at one whose checksum is wrong.
 pub trait ReadsFiles {
-    ghost use Rattle.std.specs.Prelude.{◌≡◌, ◌+◌, ◌<◌, ◌≤◌, ◌^◌, ℕ, Ok, List, [], ◌∷◌, ◌++◌, length};
+    ghost use Rattle.std.specs.Prelude.{◌≡◌, ◌+◌, ◌<◌, ◌≤◌, ◌^◌, ℕ, Ok, Err, List, [], ◌∷◌, ◌++◌, length};
     ghost use Rattle.std.specs.Prelude.{IfOk, IfErr, IfSome, OnOk};
+    ghost use Rattle.lr_causes.specs.declared.cause.Refusal.{Refusal};
     ghost use Rattle.lr_shelf.specs.Kept.{kept_by};
     ghost use Rattle.lr_commands.specs.declared.opened.Opened.{Opened};
     ghost use Rattle.lr_commands.specs.Files.{FileQuery};
@@ -63,14 +64,16 @@ pub trait ReadsFiles {
         ensures stops { (read : List Opened) → gathers self.now gathered.old read → IfErr result (λ cause.
             TextStops O.Sink ((query self.now).entry_text read number opened.now) cause out.old out.new) };
 
-    /// Puts the text of an entry that is gone. Memory is taken before the text.
+    /// Puts the text of an entry that is gone. Memory is taken before the text, and none where that is refused.
     fn gone_entry<O: Sink>(&self, alloc: Global, number: u64, out: &mut O) -> Result<(), Cause>
         ensures puts { OnOk result (PutsText O.Sink ((query self.now).gone number) out.old out.new) }
         ensures stops { IfErr result (λ cause.
-            TextStops O.Sink ((query self.now).gone number) cause out.old out.new) };
+            TextStops O.Sink ((query self.now).gone number) cause out.old out.new) }
+        ensures refuses { (refusal : Refusal) → (query self.now).gone number ≡ Err refusal
+            → result ≡ Err (Cause.Refused refusal) };
 
     /// Puts the last text, and answers what is told beside it. Memory is taken before the text, and none where there
-    /// is no text.
+    /// is no text, or where that is refused.
     fn last<O: Sink>(
         &self,
         alloc: Global,
@@ -85,20 +88,28 @@ pub trait ReadsFiles {
         ensures stops { (read : List Opened) → gathers self.now gathered read → IfErr result (λ cause.
             TextStops O.Sink ((query self.now).last (kept_by shelf.now).way read) cause out.old out.new) }
         ensures sure { (read : List Opened) → gathers self.now gathered read
-            → (query self.now).last (kept_by shelf.now).way read ≡ Ok [] → IfErr result (λ _. ⊥) };
+            → (query self.now).last (kept_by shelf.now).way read ≡ Ok [] → IfErr result (λ _. ⊥) }
+        ensures refuses { (read : List Opened) (refusal : Refusal) → gathers self.now gathered read
+            → (query self.now).last (kept_by shelf.now).way read ≡ Err refusal
+            → result ≡ Err (Cause.Refused refusal) };
+}
+
+/// What was found of an image, unless memory was refused for that.
+fn outcome_by(found: Result<Image, ImageFault>) -> Result<Result<Image, ImageFault>, NoMemory>
+    ensures outcome { IfOk result (λ outcome. (outcome ≡ found) × (found ≢ Err ImageFault.NoMemory)) }
+    ensures refused { IfErr result (λ _. found ≡ Err ImageFault.NoMemory) }
+{
+    match found {
+        Err(ImageFault::NoMemory) => Err(NoMemory),
+        outcome => Ok(outcome),
+    }
 }
 
 /// The image of a file, or the first fault for which it has none.
 fn outcome_of(alloc: Global, file: &MissionFile) -> Result<Result<Image, ImageFault>, NoMemory>
     ensures { IfOk result (HasOutcome file.now) }
 {
-    match image_of(alloc, file) {
-        Ok(image) => Ok(Ok(image)),
-        Err(fault) => match fault {
-            ImageFault::NoMemory => Err(NoMemory),
-            first => Ok(Err(first)),
-        },
-    }
+    outcome_by(image_of(alloc, file))
 }
 
 /// A file, with its image or its first fault if the command looks at that.
@@ -150,15 +161,13 @@ impl<C: ReadsFiles> ReadsEntries for Files<C> {
         disk: &mut D,
         out: &mut O,
     ) -> Result<(), Cause> {
-        match shelf.get(disk, number) {
-            Ok(stored) => match open(alloc, &self.0, stored) {
+        match file_or_gone(shelf.get(disk, number)) {
+            Ok(Some(stored)) => match open(alloc, &self.0, stored) {
                 Ok(opened) => self.0.file(alloc, number, &opened, gathered, out),
                 Err(NoMemory) => Err(Cause::NoMemory),
             },
-            Err(error) => match error {
-                ShelfError::Discarded => self.0.gone_entry(alloc, number, out),
-                refused => Err(shelf_cause(refused)),
-            },
+            Ok(None) => self.0.gone_entry(alloc, number, out),
+            Err(cause) => Err(cause),
         }
     }
 

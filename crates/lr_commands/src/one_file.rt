@@ -16,8 +16,8 @@ use std::alloc::Global;
 
 /// What is put of a file, by a command that reads one.
 pub(crate) trait PutsFile {
-    ghost use Rattle.std.specs.Prelude.{◌≡◌, ℕ, Bool, List, Result, IfErr, OnOk};
-    ghost use Rattle.lr_causes.specs.declared.cause.Refusal.{Refusal};
+    ghost use Rattle.std.specs.Prelude.{◌≡◌, ℕ, Bool, List, Result, Err, IfErr, OnOk};
+    ghost use Rattle.lr_causes.specs.declared.cause.Refusal.{Refusal as Refusal'};
     ghost use Rattle.lr_commands.specs.declared.opened.Opened.{Opened};
     ghost use Rattle.lr_commands.specs.Steps.{PutsText, TextStops};
 
@@ -25,7 +25,7 @@ pub(crate) trait PutsFile {
     ghost looks: { Self → Bool };
 
     /// The text of the file of this number, or what the run is refused for.
-    ghost entry_text: { Self → ℕ → Opened → Result (List ℕ) Refusal };
+    ghost entry_text: { Self → ℕ → Opened → Result (List ℕ) Refusal' };
 
     /// Whether it looks at the image.
     fn looks(&self) -> bool
@@ -41,7 +41,10 @@ pub(crate) trait PutsFile {
     ) -> Result<(), Cause>
         ensures puts { OnOk result (PutsText O.Sink (entry_text self.now number opened.now) out.old out.new) }
         ensures stops { IfErr result (λ cause.
-            TextStops O.Sink (entry_text self.now number opened.now) cause out.old out.new) };
+            TextStops O.Sink (entry_text self.now number opened.now) cause out.old out.new) }
+        // A refusal takes no memory.
+        ensures refuses { (refusal : Refusal') → entry_text self.now number opened.now ≡ Err refusal
+            → result ≡ Err (Cause.Refused refusal) };
 }
 
 /// The file of this number, and what is put of it. A file that is gone is refused.

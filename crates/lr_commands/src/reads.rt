@@ -10,8 +10,9 @@ use std::alloc::Global;
 /// A command that reads the entries of a shelf. What it asks is given by its words alone; what it gathers of the
 /// entries is a value beside it.
 pub trait ReadsEntries {
-    ghost use Rattle.std.specs.Prelude.{◌≡◌, ◌+◌, ◌<◌, ◌≤◌, ◌^◌, ℕ, false, Ok, List, [], length};
+    ghost use Rattle.std.specs.Prelude.{◌≡◌, ◌+◌, ◌<◌, ◌≤◌, ◌^◌, ℕ, false, Ok, Err, List, [], length};
     ghost use Rattle.std.specs.Prelude.{IfOk, IfErr, IfSome, OnOk};
+    ghost use Rattle.lr_causes.specs.declared.cause.Refusal.{Refusal};
     ghost use Rattle.lr_shelf.specs.Kept.{kept_by};
     ghost use Rattle.lr_causes.specs.Outside.{outlet_counts, outlets, outlets_of};
     ghost use Rattle.lr_commands.specs.Queries.{Query, EntryView};
@@ -63,7 +64,7 @@ pub trait ReadsEntries {
             cause (outlets disk.old out.old) (outlets disk.new out.new)) };
 
     /// Puts the last text, and answers what is told beside it. Memory is taken before the text, and none where there
-    /// is no text.
+    /// is no text, or where that is refused.
     fn last<O: Sink>(
         &self,
         alloc: Global,
@@ -78,5 +79,8 @@ pub trait ReadsEntries {
         ensures stops { (read : List EntryView) → gathers self.now gathered read → IfErr result (λ cause.
             TextStops O.Sink ((query self.now).last (kept_by shelf.now).way read) cause out.old out.new) }
         ensures sure { (read : List EntryView) → gathers self.now gathered read
-            → (query self.now).last (kept_by shelf.now).way read ≡ Ok [] → IfErr result (λ _. ⊥) };
+            → (query self.now).last (kept_by shelf.now).way read ≡ Ok [] → IfErr result (λ _. ⊥) }
+        ensures refuses { (read : List EntryView) (refusal : Refusal) → gathers self.now gathered read
+            → (query self.now).last (kept_by shelf.now).way read ≡ Err refusal
+            → result ≡ Err (Cause.Refused refusal) };
 }

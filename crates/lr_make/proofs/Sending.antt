@@ -4,17 +4,16 @@ use Rattle.std.proofs.Common.{refl, sym, ap, subst, ◌∙◌, arith, add-one, l
 use Rattle.std.proofs.lemmas.List.{drop-map, drop_at, length-map, map-append}
 use Rattle.lr_bits.specs.declared.sizes.TheConstants.{BLOCK_BYTES, FRAME_SYMBOLS}
 use Rattle.lr_conv.specs.Convolution.{code}
-use Rattle.lr_conv.specs.Encoder as encoders
-use Rattle.lr_conv.specs.declared.encoder.Encoder.{Encoder}
+use Rattle.lr_conv.specs.LineEncoder.{LineEncoderStandsFor}
+use Rattle.lr_conv.specs.declared.line.LineEncoder.{LineEncoder}
 use Rattle.lr_conv.specs.declared.line.TheConstants.{STANDARD}
 use Rattle.lr_block.specs.Randomiser.{randomised_block}
 use Rattle.lr_block.proofs.Sequence.{length-randomised_block}
 use Rattle.lr_make.specs.Frames.{frame_at}
 use Rattle.lr_make.specs.Blocks.{block_at, damaged_block, encoded_block}
-use Rattle.lr_make.specs.Standing.{IsCodeOf}
 use Rattle.lr_make.specs.Symbols.{bits_of_bytes, marked_block, sent_bits, level, all_symbols, symbols_at}
 use Rattle.lr_make.specs.Stream.{frame_stream, block_stream, symbol_stream, SymbolsAreOneCode}
-use Rattle.lr_make.proofs.Coding.{bits_of_bytes-all, code-front, length-code, length-first_bits}
+use Rattle.lr_make.proofs.Coding.{bits_of_bytes-all, code-front, length-code, length-first_bits, line_code}
 
 pub block_at-is : (start wrong n made_wrong : ℕ) (frame block : List ℕ) → frame ≡ frame_at start n → made_wrong ≡ wrong
     → block ≡ randomised_block (damaged_block made_wrong (encoded_block frame)) → block ≡ block_at start wrong n
@@ -49,18 +48,18 @@ length-sent_bits start wrong (suc n) =
     )
 
 -- an encoder takes the marker and a block more
-pub stands-more : (encoder : Encoder) (past : List Bool) (start wrong n : ℕ) (block : List ℕ) →
-    block ≡ block_at start wrong n
-    → encoders.EncoderStandsFor encoder past (sent_bits start wrong n ++ bits_of_bytes (marked_block block)) →
-    encoders.EncoderStandsFor encoder past (sent_bits start wrong (n + 1))
-stands-more encoder past start wrong n block b s =
-    subst (encoders.EncoderStandsFor encoder past)
+pub stands-more : (encoder : LineEncoder) (start wrong n : ℕ) (block : List ℕ) → block ≡ block_at start wrong n
+    → LineEncoderStandsFor encoder STANDARD (sent_bits start wrong n ++ bits_of_bytes (marked_block block))
+    → LineEncoderStandsFor encoder STANDARD (sent_bits start wrong (n + 1))
+stands-more encoder start wrong n block b s =
+    subst (LineEncoderStandsFor encoder STANDARD)
     (ap (λ z. sent_bits start wrong n ++ bits_of_bytes (marked_block z)) b
     ∙ sym (sent_bits-more start wrong n)) s
 
 pub symbols_at-is : (start wrong n : ℕ) (block : List ℕ) (symbols : List ℤ) → block ≡ block_at start wrong n
-    → IsCodeOf (replicate 6 false) (sent_bits start wrong n) (bits_of_bytes (marked_block block)) symbols →
-    symbols ≡ symbols_at start wrong n
+    → symbols ≡ map level (drop (2 * length (sent_bits start wrong n)) (line_code STANDARD
+    (sent_bits start wrong n ++ bits_of_bytes (marked_block block))))
+    → symbols ≡ symbols_at start wrong n
 unfolding symbols_at
 symbols_at-is start wrong n block symbols b s =
     let bits : List Bool = sent_bits start wrong n ++ bits_of_bytes (marked_block block) in

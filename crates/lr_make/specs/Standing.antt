@@ -1,10 +1,9 @@
 -- What stands for how much of the stream. Callers need `MakerStandsFor` alone, and nothing of what is in it; only
 -- functions inside the crate speak of the rest.
-use Rattle.std.specs.Prelude.{◌≡◌, ℕ, ◌+◌, ◌-◌, ◌*◌, ◌/◌, ◌%◌, ◌^◌, ◌<◌, ◌≤◌, ◌++◌, ◌==◌, ◌&&◌, if◌then◌else◌, Bool}
-use Rattle.std.specs.Prelude.{false, ℤ, min, List, length, map, drop, replicate, slice_index}
+use Rattle.std.specs.Prelude.{◌≡◌, ℕ, ◌+◌, ◌-◌, ◌*◌, ◌/◌, ◌%◌, ◌<◌, ◌≤◌, ◌++◌, ◌==◌, ◌&&◌, if◌then◌else◌}
+use Rattle.std.specs.Prelude.{min, List, length, drop, slice_index}
 use Rattle.lr_bits.specs.declared.sizes.TheConstants.{FRAME_COUNTS, NO_PACKET_START, SEQUENCE_COUNTS, ZONE_BYTES}
-use Rattle.lr_conv.specs.Convolution.{code}
-use Rattle.lr_conv.specs.Encoder as encoders
+use Rattle.lr_conv.specs.LineEncoder as encoders
 use Rattle.lr_conv.specs.declared.line.TheConstants.{STANDARD}
 use Rattle.lr_make.specs.declared.channel.Channel.{Channel}
 use Rattle.lr_make.specs.declared.frames.Frames.{Frames}
@@ -18,7 +17,7 @@ use Rattle.lr_make.specs.Files.{image_body, image_flags, image_packet, text_pack
 use Rattle.lr_make.specs.Frames.{text_start}
 use Rattle.lr_make.specs.Packets.{head_for_body}
 use Rattle.lr_make.specs.Zones.{joined_packets, is_start}
-use Rattle.lr_make.specs.Symbols.{level, sent_bits}
+use Rattle.lr_make.specs.Symbols.{sent_bits}
 
 -- n packets of application 100 were made
 pub record ImagesStandFor (images : Images) (start n : ℕ) : Type 0 where
@@ -94,12 +93,8 @@ pub record FramesSent (frames : Frames) (start n : ℕ) : Type 0 where
   pub round : frames.round ≡ n / 4 % FRAME_COUNTS
   pub turn : frames.turn ≡ n % 4
 
--- these are the symbols that further bits add to the code of some bits
-abbrev pub IsCodeOf : List Bool → List Bool → List Bool → List ℤ → Type 0
-IsCodeOf past bits more symbols = symbols ≡ map level (drop (2 * length bits) (code STANDARD past (bits ++ more)))
-
 -- The maker has made the first n frames of the stream with this start and `wrong` wrong bytes in each word.
 pub record MakerStandsFor (maker : Maker) (start wrong n : ℕ) : Type 0 where
   pub frames : MadeFramesStandFor maker.frames start n
   pub damage : maker.wrong ≡ wrong
-  pub encoder : encoders.EncoderStandsFor maker.encoder (replicate 6 false) (sent_bits start wrong n)
+  pub encoder : encoders.LineEncoderStandsFor maker.encoder STANDARD (sent_bits start wrong n)

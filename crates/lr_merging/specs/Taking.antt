@@ -1,5 +1,5 @@
 -- What the bytes of a source are read as: the bundle of these streams, or the flaw for which they are none.
-use Rattle.std.specs.Prelude.{◌≡◌, ◌⊎◌, ◌<◌, ◌≤◌, ℕ, List, length, Err, ◌+◌}
+use Rattle.std.specs.Prelude.{◌≡◌, ◌⊎◌, ◌<◌, ◌≤◌, ℕ, List, length, Result, Ok, Err, ◌+◌}
 use Rattle.lr_causes.specs.declared.cause.Cause.{Cause}
 use Rattle.lr_causes.specs.declared.cause.Cause.TheVariants.{Failed, NoMemory, Refused}
 use Rattle.lr_causes.specs.declared.cause.Party.TheVariants.{Source}
@@ -27,6 +27,17 @@ abbrev pub flaw_of : BundleFault → BundleFlaw
 flaw_of (EndedAt at) = Ended at
 flaw_of (CountIs count) = Count count
 flaw_of (RestAt at) = Rest at
+
+-- why no bundle is read of the bytes that were taken, if the source didn't end after them
+abbrev pub unless_stopped : Stop → Result (Unit {0}) Cause
+unless_stopped End = Ok tt
+unless_stopped Limit = Err (Refused (BadBundle TooLong))
+unless_stopped Fault = Err (Failed Source)
+
+-- a bundle by how its bytes are read
+abbrev pub bundle_by : Result (List (List ℕ)) BundleFault → Result (List (List ℕ)) Cause
+bundle_by (Ok streams) = Ok streams
+bundle_by (Err fault) = Err (Refused (BadBundle (flaw_of fault)))
 
 -- bytes that are more than a bundle has at most are too long, whatever else is wrong
 abbrev pub HasFlaw : List ℕ → BundleFlaw → Type 0

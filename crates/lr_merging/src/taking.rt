@@ -1,6 +1,7 @@
 //! A bundle is taken whole.
 ghost use Rattle.std.specs.Prelude.{◌≡◌, IfOk, IfErr};
-ghost use Rattle.lr_merging.specs.Taking.{TakesBytes, TakingWantsMemory, TakesBundle, TakesNone, flaw_of};
+ghost use Rattle.lr_merging.specs.Taking.{TakesBytes, TakingWantsMemory, TakesBundle, TakesNone};
+ghost use Rattle.lr_merging.specs.Taking.{bundle_by, flaw_of, unless_stopped};
 
 use lr_bits::{Bytes, Failed, NoMemory};
 use lr_causes::{BundleFlaw, Cause, Party, Refusal};
@@ -48,19 +49,35 @@ fn flaw_of(fault: BundleFault) -> BundleFlaw
     }
 }
 
+/// Nothing where the source ended after the bytes that were taken, or the cause for which no bundle is read of them.
+fn unless_stopped(stop: Stop) -> Result<(), Cause>
+    ensures { result ≡ unless_stopped stop }
+{
+    match stop {
+        Stop::End => Ok(()),
+        Stop::Limit => Err(Cause::Refused(Refusal::BadBundle(BundleFlaw::TooLong))),
+        Stop::Fault => Err(Cause::Failed(Party::Source)),
+    }
+}
+
+/// The bundle that bytes are read as, or the cause for which they are none.
+fn bundle_by(read: Result<Bundle, BundleFault>) -> Result<Bundle, Cause>
+    ensures { result ≡ bundle_by read }
+{
+    match read {
+        Ok(bundle) => Ok(bundle),
+        Err(fault) => Err(Cause::Refused(Refusal::BadBundle(flaw_of(fault)))),
+    }
+}
+
 /// The bundle that the source gives up to its end.
 pub(crate) fn take_bundle<S: Source>(alloc: Global, source: &mut S) -> Result<Bundle, Cause>
     ensures taken { IfOk result (λ bundle. TakesBundle S.Source bundle source.old source.new) }
     ensures refused { IfErr result (λ cause. TakesNone S.Source cause source.old source.new) }
 {
     let (bytes, stop) = take_bytes(alloc, source)?;
-    match stop {
-        Stop::Fault => return Err(Cause::Failed(Party::Source)),
-        Stop::Limit => return Err(Cause::Refused(Refusal::BadBundle(BundleFlaw::TooLong))),
-        Stop::End => {}
+    if let Err(cause) = unless_stopped(stop) {
+        return Err(cause);
     }
-    match Bundle::read(bytes) {
-        Ok(bundle) => Ok(bundle),
-        Err(fault) => Err(Cause::Refused(Refusal::BadBundle(flaw_of(fault)))),
-    }
+    bundle_by(Bundle::read(bytes))
 }

@@ -9,6 +9,9 @@ use Rattle.std.proofs.Common.{
   ◌<◌,
   ◌≤◌,
   not,
+  Bool,
+  true,
+  false,
   List,
   [],
   ◌∷◌,
@@ -29,14 +32,17 @@ use Rattle.std.proofs.Common.{
   inr,
   ⊎_elim,
 }
-use Rattle.std.proofs.lemmas.Bool.{cases_lt}
-use Rattle.std.specs.Prelude.{count_by, cond}
+use Rattle.std.proofs.lemmas.Bool.{cases_lt, leb-true}
+use Rattle.std.specs.Prelude.{count_by, cond, nat_le, if◌then◌else◌}
+use Rattle.std.specs.List.{All, list_all}
 use Rattle.std.proofs.lemmas.List.{length-map, map-append, take-append-drop, take-map}
-use Rattle.std.proofs.lemmas.List.Sums.{count_by-le-length, sum_by-append, sum_by-cons}
+use Rattle.std.proofs.lemmas.List.Sums.{AllPass-from_list_all, count_by-le-length, sum_by-append, sum_by-cons}
 use Rattle.lr_bits.specs.declared.outcome.Outcome.{Outcome}
 use Rattle.lr_conv.specs.Marker.{tail_of}
 use Rattle.lr_conv.specs.declared.line.LineCode.{LineCode}
 use Rattle.lr_lock.specs.declared.frame.Frame.{Frame}
+use Rattle.lr_lock.specs.declared.sizes.TheConstants.{WINDOW_END}
+use Rattle.lr_lock.specs.Frames.{place_after_frame}
 use Rattle.lr_lock.specs.FramesOf.{frames_of}
 use Rattle.lr_lock.specs.Symbols.{symbols_of}
 use Rattle.lr_io.specs.declared.source.Source.{Ghosts as SourceOf}
@@ -56,7 +62,7 @@ use Rattle.lr_reading.specs.Arrivals.{
 use Rattle.lr_reading.specs.Inputs.{unit_bytes, outcome_of_unit, outcomes_of_bytes, bytes_left_over}
 use Rattle.lr_reading.specs.Lines.{numbered_lines}
 use Rattle.lr_reading.specs.Reading.{units_of, WhenLastAsked}
-use Rattle.lr_reading.specs.Readers.{leeway_for, most_when_asked}
+use Rattle.lr_reading.specs.Readers.{AreAllThatWait, EndsInNoise, leeway_for, most_when_asked}
 use Rattle.lr_reading.specs.Runs.{ReadsInput, TakesAll, TakesSome}
 use Rattle.lr_reading.specs.declared.arrival.Arrival.{Arrival}
 use Rattle.lr_forms.specs.declared.forms.Input.{Input}
@@ -76,6 +82,8 @@ use Rattle.lr_frame.specs.Outcomes.{outcome_in}
 use Rattle.lr_printing.specs.declared.outcome_lines.OutcomeLines.{OutcomeLines}
 use Rattle.lr_printing.specs.Decode.{
   all_but,
+  ends_in_noise,
+  windows_waiting,
   lines_of_units,
   lines_of_windows,
   decode_text,
@@ -143,25 +151,50 @@ text_due line symbols most frames =
     (take-map (arrival_in line symbols) (length frames - most) frames)
     ∙ numbered_lines-map line_of (arrival_in line symbols) 0 (all_but most frames)
 
+-- where there is noise after the last frame
+pub noise_is_there : (line : LineCode) (bytes : List ℕ) → ends_in_noise line bytes ≡ true
+    → EndsInNoise (Symbols line) bytes
+noise_is_there line bytes is = each (frames_of (tail_of line) (symbols_of bytes)) is
+  where
+    Ends : Frame → Type 0
+    Ends frame = place_after_frame frame + WINDOW_END ≤ length bytes
+
+    test : Frame → Bool
+    test frame = nat_le (place_after_frame frame + WINDOW_END) (length bytes)
+
+    each : (frames : List Frame) → list_all test frames ≡ true → All Ends frames
+    each frames all k frame within =
+        leb-true _ (length bytes) (AllPass-from_list_all test frames all k frame within)
+
+-- they are those that may wait
+may_wait : (line : LineCode) (workers : ℕ) (bytes : List ℕ) (count : ℕ) (noise : Bool)
+    → ends_in_noise line bytes ≡ noise → (if noise then 1 else most_when_asked (Symbols line) workers) ≤ count
+    → AreAllThatWait (Symbols line) (most_when_asked (Symbols line) workers) bytes count
+may_wait line workers bytes count true is enough = inr (noise_is_there line bytes is, enough)
+may_wait line workers bytes count false is enough = inl enough
+
 outcomes_due : (input : Input) (workers : ℕ) (given : List ℕ)
     → IsDue input text_of_outcomes (decode_due input workers) (most_when_asked input workers) given
 unfolding arrivals_of
 outcomes_due (Symbols line) workers given =
     let arrivals : List Arrival = arrivals_of (Symbols line) given in
-    let most : ℕ = most_when_asked (Symbols line) workers in
+    let most : ℕ = windows_waiting line workers given in
     record {
       first = all_but most arrivals;
       rest = drop (length arrivals - most) arrivals;
       split = sym (take-append-drop (length arrivals - most) arrivals);
       text_is = text_due line (symbols_of given) most (frames_of (tail_of line) (symbols_of given));
-      enough = few_left arrivals most;
+      enough = ⊎_elim
+          (λ (enough : most ≤ length (drop (length arrivals - most) arrivals)). inl (may_wait line workers given
+          (length (drop (length arrivals - most) arrivals)) (ends_in_noise line given) refl enough))
+          (λ (none : take (length arrivals - most) arrivals ≡ []). inr none) (few_left arrivals most);
     }
 outcomes_due (Units form) workers given = record {
   first = arrivals_of (Units form) given;
   rest = [];
   split = sym (append-nil (arrivals_of (Units form) given));
   text_is = text_of_all (Units form) given;
-  enough = inl (omega arith);
+  enough = inl (inl (omega arith));
 }
 
 -- where more work, fewer lines are due
@@ -173,16 +206,24 @@ windows_grow line symbols first rest =
     window_line place frame.place frame.positive (outcome_in line symbols frame) in
     (numbered_lines line_at (0 + length first) rest, numbered_lines-append line_at 0 first rest)
 
+fewer_wait : (noise : Bool) (few many : ℕ) → few ≤ many → (if noise then 1 else few) ≤ (if noise then 1 else many)
+fewer_wait true few many le = omega arith
+fewer_wait false few many le = le
+
 pub fewer_due : (input : Input) (few many : ℕ) → most_when_asked input few ≤ most_when_asked input many
     → (given : List ℕ) → (more : List ℕ) × (decode_due input few given ≡ decode_due input many given ++ more)
 fewer_due (Symbols line) few many le given =
     let symbols : List ℤ = symbols_of given in
     let frames : List Frame = frames_of (tail_of line) symbols in
-    let less : ℕ = length frames - most_when_asked (Symbols line) many in
-    let all : ℕ = length frames - most_when_asked (Symbols line) few in
+    let less : ℕ = length frames - windows_waiting line many given in
+    let all : ℕ = length frames - windows_waiting line few given in
     let front = windows_grow line symbols (take less frames) (take (all - less) (drop less frames)) in (
       front.0,
-      ap (λ (l : List Frame). lines_of_windows line symbols l) (take_on frames less all (omega (arith, le))) ∙ front.1,
+      ap (λ (l : List Frame). lines_of_windows line symbols l) (take_on frames less all (omega (
+        arith,
+        fewer_wait (ends_in_noise line given) (most_when_asked (Symbols line) few)
+            (most_when_asked (Symbols line) many) le,
+      ))) ∙ front.1,
     )
 fewer_due (Units form) few many le given = ([], sym (append-nil (decode_text (Units form) given)))
 

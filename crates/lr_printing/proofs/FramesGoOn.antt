@@ -107,7 +107,7 @@ frames_due given = record {
   rest = [];
   split = sym (append-nil (arrivals_of (Units Frames) given));
   text_is = text_of_all given;
-  enough = inl (omega arith);
+  enough = inl (inl (omega arith));
 }
 
 module _ {O : Type 0} (out : SinkOf O) where

@@ -39,6 +39,7 @@ use Rattle.lr_printing.specs.Printing.{GotFirst, Prints, PrintsAll}
 use Rattle.lr_causes.specs.Puts.{Puts, PutStops}
 use Rattle.lr_printing.specs.Progress.{LinesStop, PutsButLast, PutsSome}
 use Rattle.lr_reading.specs.Arrivals.{arrivals_of}
+use Rattle.lr_reading.specs.Readers.{AreAllThatWait}
 use Rattle.lr_reading.specs.Reading.{IsRead, EndsFor, WhenLastAsked}
 use Rattle.lr_reading.specs.Runs.{ComesFirstBut}
 use Rattle.lr_reading.specs.declared.arrival.Arrival.{Arrival}
@@ -121,14 +122,14 @@ module _ {O : Type 0} (out : SinkOf O) (text : List Arrival → List ℕ) (arriv
 
 -- ---- the lines that are due
 
--- the lines due of these bytes are those of their first arrivals: of all but the last ones, this many at most
+-- the lines due of these bytes are those of their first arrivals: of all but the last ones, those that may wait
 pub record IsDue (input : Input) (text : List Arrival → List ℕ) (due : List ℕ → List ℕ) (most : ℕ) (given : List ℕ)
     : Type 0 where
   pub first : List Arrival
   pub rest : List Arrival
   pub split : arrivals_of input given ≡ first ++ rest
   pub text_is : text first ≡ due given
-  pub enough : (most ≤ length rest) ⊎ (first ≡ [])
+  pub enough : AreAllThatWait input most given (length rest) ⊎ (first ≡ [])
 
 -- and they are the first of these
 abbrev IsFrontOf : (text : List Arrival → List ℕ) → List Arrival → List Arrival → Type 0
@@ -148,8 +149,9 @@ module _ {S : Type 0} (source : SourceOf S) (input : Input) (text : List Arrival
           → (more : List ℕ) × (text arrivals ≡ due given ++ more)
       come given taken =
           let d = is_due given in
-          let front : IsFrontOf text d.first arrivals = ⊎_elim (λ (enough : most ≤ length d.rest).
-          let later = taken d.first d.rest d.split (inl enough) in grows d.first later.0 later.1)
+          let front : IsFrontOf text d.first arrivals = ⊎_elim
+          (λ (enough : AreAllThatWait input most given (length d.rest)).
+          let later = taken d.first d.rest d.split enough in grows d.first later.0 later.1)
           (λ (none : d.first ≡ []). grows d.first arrivals (ap (λ (l : List Arrival). l ++ arrivals) (sym none)))
           d.enough in
           (front.0, front.1 ∙ ap (λ (l : List ℕ). l ++ front.0) d.text_is)
@@ -163,9 +165,9 @@ module _ {S : Type 0} (source : SourceOf S) (input : Input) (text : List Arrival
       (λ given. GotFirst out (due given) o o') bytes s s' come
     where
       among : (given : List ℕ) → ComesFirstBut input most 1 passed given → (d : IsDue input text due most given)
-          → most ≤ length d.rest → IsFrontOf text d.first arrivals
+          → AreAllThatWait input most given (length d.rest) → IsFrontOf text d.first arrivals
       among given taken d enough =
-          let later = taken d.first d.rest d.split (inl enough) in
+          let later = taken d.first d.rest d.split enough in
           let same : d.first ++ later.0 ≡ arrivals ++ late = sym later.1 ∙ parts in
           let le : length d.first ≤ length arrivals = omega (
             arith,
@@ -181,7 +183,7 @@ module _ {S : Type 0} (source : SourceOf S) (input : Input) (text : List Arrival
       come given taken tells =
           let d = is_due given in
           let front : IsFrontOf text d.first arrivals = ⊎_elim
-          (λ (enough : most ≤ length d.rest). among given taken d enough)
+          (λ (enough : AreAllThatWait input most given (length d.rest)). among given taken d enough)
           (λ (none : d.first ≡ []). grows d.first arrivals (ap (λ (l : List Arrival). l ++ arrivals) (sym none)))
           d.enough in
           let put = got tells in (

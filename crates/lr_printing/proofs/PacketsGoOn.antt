@@ -170,7 +170,7 @@ packets_due given = record {
   rest = [];
   split = sym (append-nil (arrivals_of (Units Frames) given));
   text_is = ap lines_of_packets (frames_in-all given);
-  enough = inl (omega arith);
+  enough = inl (inl (omega arith));
 }
 
 -- ---- the lines

@@ -1,5 +1,6 @@
 -- What `decode` prints of the bytes read.
-use Rattle.std.specs.Prelude.{◌-◌, ℕ, ℤ, not, List, length, take, count_by}
+use Rattle.std.specs.Prelude.{◌+◌, ◌-◌, ℕ, ℤ, Bool, not, nat_le, if◌then◌else◌, List, length, take, count_by}
+use Rattle.std.specs.List.{list_all}
 use Rattle.lr_bits.specs.declared.outcome.Outcome.{Outcome}
 use Rattle.lr_bits.specs.Outcomes.{is_restored}
 use Rattle.lr_forms.specs.declared.forms.Stop.{Stop}
@@ -8,8 +9,10 @@ use Rattle.lr_catalog.specs.Outcomes.{block_line, window_line}
 use Rattle.lr_catalog.specs.Summaries.{summary_line}
 use Rattle.lr_conv.specs.Marker.{tail_of}
 use Rattle.lr_conv.specs.declared.line.LineCode.{LineCode}
+use Rattle.lr_lock.specs.Frames.{place_after_frame}
 use Rattle.lr_lock.specs.FramesOf.{frames_of}
 use Rattle.lr_lock.specs.declared.frame.Frame.{Frame}
+use Rattle.lr_lock.specs.declared.sizes.TheConstants.{WINDOW_END}
 use Rattle.lr_lock.specs.Symbols.{symbols_of}
 use Rattle.lr_frame.specs.Outcomes.{outcome_in}
 use Rattle.lr_forms.specs.declared.forms.UnitForm.{UnitForm}
@@ -41,12 +44,23 @@ decode_text (Units form) bytes = lines_of_units form (units_of (unit_bytes form)
 abbrev pub all_but : {A : Type 0} → ℕ → List A → List A
 all_but few list = take (length list - few) list
 
+-- whether there is noise after the last frame, as `EndsInNoise` says
+abbrev pub ends_in_noise : LineCode → List ℕ → Bool
+ends_in_noise line bytes =
+    list_all (λ (frame : Frame). nat_le (place_after_frame frame + WINDOW_END) (length bytes))
+    (frames_of (tail_of line) (symbols_of bytes))
+
+-- how many windows may wait when more bytes are asked for, where this many work: one where there is noise
+abbrev pub windows_waiting : LineCode → ℕ → List ℕ → ℕ
+windows_waiting line workers bytes =
+    if ends_in_noise line bytes then 1 else most_when_asked (Symbols line) workers
+
 -- the lines that are due before more bytes are asked for, where this many work: of symbols those of all windows but the
--- last few, of blocks all
+-- last ones, those that may wait, of blocks all
 abbrev pub decode_due : Input → ℕ → List ℕ → List ℕ
 decode_due (Symbols line) workers bytes =
     lines_of_windows line (symbols_of bytes)
-    (all_but (most_when_asked (Symbols line) workers) (frames_of (tail_of line) (symbols_of bytes)))
+    (all_but (windows_waiting line workers bytes) (frames_of (tail_of line) (symbols_of bytes)))
 decode_due (Units form) workers bytes = decode_text (Units form) bytes
 
 -- how many bytes were taken, how many outcomes there are, of each kind, and how many bytes are left

@@ -1,35 +1,111 @@
 -- A source that is asked, and asked again.
-use Rattle.std.proofs.Common.{◌≡◌, ◌++◌, List, ℕ, Result, inl, inr, ⊎_elim, refl, sym, ◌∙◌, subst}
+use Rattle.std.proofs.Common.{
+  ◌≡◌,
+  ◌<◌,
+  List,
+  [],
+  ◌∷◌,
+  ◌++◌,
+  length,
+  ℕ,
+  Result,
+  Ok,
+  Err,
+  inl,
+  inr,
+  ⊎_elim,
+  refl,
+  sym,
+  ap,
+  ◌∙◌,
+  subst,
+  arith,
+  append-nil,
+}
+use Rattle.std.specs.List.{concat}
+use Rattle.std.proofs.lemmas.List.Folds.{concat-append}
 use Rattle.lr_bits.specs.declared.refusals.Failed.{Failed}
 use Rattle.lr_io.specs.declared.source.Source.{Ghosts as SourceOf}
-use Rattle.lr_reading.specs.Reading.{AsksOnce, HasGiven, LastCall, StopsAtFault, WhenLastAsked}
+use Rattle.lr_reading.specs.Reading.{
+  AsksOnce,
+  CameInPieces,
+  HasGiven,
+  HaveGiven,
+  LastCall,
+  StopsAsking,
+  WhenLastAsked,
+}
 
 module _ {S : Type 0} (source : SourceOf S) where
-  pub not_asked : (s : S) → StopsAtFault source s s
-  not_asked s = inl refl
-
-  pub asked_once : (s s' : S) (answer : Result ℕ Failed) → source.asked s answer s' → StopsAtFault source s s'
-  asked_once s s' answer asked = inr (s, answer, refl, asked)
-
   -- a call that gave this
   pub gave : (s s' : S) (answer : Result ℕ Failed) (piece : List ℕ) → source.asked s answer s' → HasGiven answer piece
       → AsksOnce source s piece s'
   gave s s' answer piece asked given = (answer, asked, given)
 
-  pub asked_piece : (s s' : S) (piece : List ℕ) → AsksOnce source s piece s' → StopsAtFault source s s'
-  asked_piece s s' piece once = asked_once s s' once.0 once.1
+  -- ---- calls that each gave some bytes
+
+  pub came_none : (s : S) → CameInPieces source [] s s
+  came_none s = ([], refl, refl)
+
+  given_on : (first second : List (List ℕ)) (s t u : S) → HaveGiven source first s t → HaveGiven source second t u
+      → HaveGiven source (first ++ second) s u
+  given_on [] second s t u none later = subst (λ (x : S). HaveGiven source second x u) none later
+  given_on (piece ∷ pieces) second s t u given later = (
+    given.0,
+    (given.1.0, given.1.1, given.1.2, given_on pieces second given.1.0 t u given.1.3 later),
+  )
+
+  -- some after others
+  pub came_on : (bytes more : List ℕ) (s t u : S) → CameInPieces source bytes s t → CameInPieces source more t u
+      → CameInPieces source (bytes ++ more) s u
+  came_on bytes more s t u first second = (
+    first.0 ++ second.0,
+    ap (λ (l : List ℕ). l ++ more) first.1 ∙ ap (λ (l : List ℕ). concat first.0 ++ l) second.1
+        ∙ sym (concat-append first.0 second.0),
+    given_on first.0 second.0 s t u first.2 second.2,
+  )
+
+  -- one call
+  came_by : (answer : Result ℕ Failed) (piece : List ℕ) (s s' : S) → source.asked s answer s'
+      → HasGiven answer piece → 0 < length piece → source.faults s' ≡ source.faults s
+      → CameInPieces source piece s s'
+  came_by (Ok count) piece s s' asked given some kept = (
+    piece ∷ [],
+    sym (append-nil piece),
+    (
+      some,
+      (s', subst (λ (k : ℕ). source.asked s (Ok k) s') (sym given) asked, kept, refl),
+    ),
+  )
+  came_by (Err failed) piece s s' asked given some kept =
+      absurd (omega (arith, some, ap (λ (l : List ℕ). length l) given))
+
+  pub came_once : (piece : List ℕ) (s s' : S) → AsksOnce source s piece s' → 0 < length piece
+      → source.faults s' ≡ source.faults s → CameInPieces source piece s s'
+  came_once piece s s' once some kept = came_by once.0 piece s s' once.1 once.2 some kept
+
+  -- none of them failed
+  all_kept : (pieces : List (List ℕ)) (s s' : S) → HaveGiven source pieces s s' → source.faults s' ≡ source.faults s
+  all_kept [] s s' none = ap source.faults none
+  all_kept (piece ∷ pieces) s s' given = all_kept pieces given.1.0 s' given.1.3 ∙ given.1.2
+
+  pub none_failed : (bytes : List ℕ) (s s' : S) → CameInPieces source bytes s s' → source.faults s' ≡ source.faults s
+  none_failed bytes s s' came = all_kept came.0 s s' came.2
+
+  -- ---- the last call
 
   -- it was the last call
   pub last_one : (IsSo : List ℕ → Type 0) (bytes piece all : List ℕ) (s t s' : S)
-      → (source.tells s → source.left s ≡ bytes ++ source.left t) → AsksOnce source t piece s' → all ≡ bytes ++ piece
-      → IsSo bytes → LastCall source IsSo all s s'
-  last_one IsSo bytes piece all s t s' moved once split so = record {
+      → (source.tells s → source.left s ≡ bytes ++ source.left t) → CameInPieces source bytes s t
+      → AsksOnce source t piece s' → all ≡ bytes ++ piece → IsSo bytes → LastCall source IsSo all s s'
+  last_one IsSo bytes piece all s t s' moved came once split so = record {
     last = t;
     given = bytes;
     piece = piece;
     split = split;
     asked = once;
     moved = moved;
+    before = came;
     so = so;
   }
 
@@ -44,6 +120,7 @@ module _ {S : Type 0} (source : SourceOf S) where
     split = last.split;
     asked = last.asked;
     moved = last.moved;
+    before = last.before;
     so = too last.given last.so;
   }
 
@@ -52,9 +129,6 @@ module _ {S : Type 0} (source : SourceOf S) where
       → WhenLastAsked source IsToo bytes s s'
   when_too IsSo IsToo bytes s s' too when = ⊎_elim (λ same. inl same) (λ last. inr (last_too IsToo too last)) when
 
-  -- asked on, where its count had not risen
-  pub query_on : (s t s' : S) → StopsAtFault source s t → source.faults t ≡ source.faults s
-      → StopsAtFault source t s' → StopsAtFault source s s'
-  query_on s t s' first kept then =
-      ⊎_elim (λ same. subst (λ (u : S). StopsAtFault source s u) (sym same) first)
-      (λ last. inr (last.0, last.1, last.2 ∙ kept, last.3)) then
+  pub stops_asking : (IsSo : List ℕ → Type 0) (bytes : List ℕ) (s s' : S) → WhenLastAsked source IsSo bytes s s'
+      → StopsAsking source bytes s s'
+  stops_asking IsSo bytes s s' = when_too IsSo (λ given. Unit {0}) bytes s s' (λ given so. tt)

@@ -11,6 +11,7 @@ use Rattle.lr_reading.specs.Intakes.{IsFreshIntake}
 use Rattle.lr_reading.specs.WindowSources.{StandsAt}
 use Rattle.lr_reading.specs.declared.arrival.Arrival.{Arrival}
 use Rattle.lr_reading.specs.declared.window_source.WindowSource.{WindowSource}
+use Rattle.lr_reading.proofs.Asking.{came_none}
 use Rattle.lr_reading.proofs.Coming.{arrivals_given-none}
 
 -- nothing is taken
@@ -25,7 +26,7 @@ fed_begun source line limit now is fresh s = record {
   told = λ t. t;
   moved = λ t. refl;
   asked = inl refl;
-  going_on = λ e. refl;
+  going_on = λ e. came_none source s;
   ended = λ e. absurd cc;
 }
 
@@ -64,7 +65,9 @@ may_begin source took most job_source fresh few ready =
           ap length fresh.fresh.stands.rest,
           ap length (drop-nil {A = ℤ} intake.feed.lock.place),
         );
+        full = λ none. absurd (omega (arith, none, fresh.some, fresh.all));
       };
+      close = tt;
       in_time = inl refl;
       taken = λ c none. none;
     }

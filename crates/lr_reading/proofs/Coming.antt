@@ -17,13 +17,7 @@ use Rattle.std.proofs.Common.{
   ◌∙◌,
   refl,
   Option,
-  Some,
   false,
-  length-drop,
-  ◌⊎◌,
-  inl,
-  inr,
-  ⊎_elim,
   None,
   append_assoc,
   subst,
@@ -36,15 +30,14 @@ use Rattle.lr_bits.specs.declared.outcome.Outcome.{Outcome}
 use Rattle.lr_conv.proofs.Tails.{tail_size}
 use Rattle.lr_conv.specs.Marker.{tail_of}
 use Rattle.lr_conv.specs.declared.line.LineCode.{LineCode}
-use Rattle.lr_lock.specs.Frames.{AreNext, AreFrames, last_of, place_after_frame}
-use Rattle.lr_lock.specs.Machine.{IsAt}
+use Rattle.lr_lock.specs.Frames.{AreNext, AreFrames}
 use Rattle.lr_lock.specs.FramesOf.{frames_of}
 use Rattle.lr_lock.specs.Standing.{LockState, LockStandsFor}
 use Rattle.lr_lock.specs.Symbols.{symbols_of}
 use Rattle.lr_lock.specs.declared.frame.Frame.{Frame}
 use Rattle.lr_bits.specs.declared.sizes.TheConstants.{FRAME_SYMBOLS}
 use Rattle.lr_lock.specs.declared.sizes.TheConstants.{WINDOW_END}
-use Rattle.lr_lock.proofs.Bytes.{symbols_of-append, length-symbols_of}
+use Rattle.lr_lock.proofs.Bytes.{symbols_of-append}
 use Rattle.lr_lock.proofs.Existing.{frames_of-are, frames_once, given_are_prefix, prefix_stays}
 use Rattle.lr_frame.specs.Outcomes.{outcome_in, outcomes_of_symbols}
 use Rattle.lr_frame.proofs.Given.{outcomes_stay}
@@ -63,6 +56,7 @@ use Rattle.lr_forms.specs.declared.forms.Input.{Input}
 use Rattle.lr_forms.specs.declared.forms.Input.TheVariants.{Symbols, Units}
 use Rattle.lr_forms.specs.declared.forms.UnitForm.{UnitForm}
 use Rattle.lr_forms.specs.declared.forms.UnitForm.TheVariants.{Blocks, Frames}
+use Rattle.lr_reading.proofs.Close.{ends_after}
 use Rattle.lr_reading.proofs.Feeding.{same_arrivals}
 use Rattle.lr_reading.proofs.Waiting.{few_in_lock}
 
@@ -172,42 +166,19 @@ one_more line bytes given lock stands line_is looked =
     (few.0, few.1, omega (arith, few.2, looked))
 
 -- where the lock doesn't search, it stands right after the last frame
-last_given : (last : Option Frame) (given : List Frame) (frame : Frame) → last_of last given ≡ Some frame
-    → ((before : List Frame) × (given ≡ before ++ frame ∷ [])) ⊎ ((given ≡ []) × (last ≡ Some frame))
-last_given last [] frame is = inr (refl, is)
-last_given last (first ∷ given) frame is = inl (⊎_elim
-    (λ (more : (before : List Frame) × (given ≡ before ++ frame ∷ [])).
-    (first ∷ more.0, ap (λ (l : List Frame). first ∷ l) more.1))
-    (λ (none : (given ≡ []) × (Some first ≡ Some frame)). let same : first ≡ frame = cc (none.1) in
-    ([], ap (λ (l : List Frame). first ∷ l) none.0 ∙ ap (λ (f : Frame). f ∷ []) same))
-    (last_given (Some first) given frame is))
-
 stands_after : (line : LineCode) (bytes : List ℕ) (given : List Frame) (lock : LockState) (held : Option Frame)
     → lock.held ≡ held → is_none held ≡ false
     → LockStandsFor lock (symbols_of bytes) given → lock.line ≡ line → length lock.kept < WINDOW_END
     → EndsInFrame line given bytes
-stands_after line bytes given lock None is some stands line_is looked = absurd cc
-stands_after line bytes given lock (Some frame) is some stands line_is looked =
-    let at : (last_of None given ≡ Some frame) × (lock.place ≡ place_after_frame frame) =
-    subst (λ (h : Option Frame). IsAt (tail_of lock.line) (symbols_of bytes) (last_of None given) h lock.place) is
-    stands.stands in
-    let last : (before : List Frame) × (given ≡ before ++ frame ∷ []) = ⊎_elim (λ more. more)
-    (λ (none : (given ≡ []) × (None ≡ Some frame)). absurd (let clash = none.1 in cc))
-    (last_given None given frame at.0) in
+stands_after line bytes given lock held is some stands line_is looked =
+    let ends = ends_after bytes given lock held is some stands in
     let come = given_are_prefix (tail_of line) (symbols_of bytes) given (tail_size line)
     (subst (λ (l : LineCode). AreNext (tail_of l) (symbols_of bytes) None given) line_is stands.frames) in
     record {
-      before = last.0;
-      frame = frame;
-      last = last.1;
-      near = omega (
-        arith,
-        at.1,
-        ap (λ (l : List ℤ). length l) stands.rest,
-        length-drop lock.place (symbols_of bytes),
-        length-symbols_of bytes,
-        looked,
-      );
+      before = ends.before;
+      frame = ends.frame;
+      last = ends.last;
+      near = omega (arith, ends.near, looked);
       others = come.0;
       come = come.1;
     }

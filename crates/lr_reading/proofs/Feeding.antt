@@ -21,34 +21,41 @@ use Rattle.std.proofs.Common.{
   subst,
   arith,
   length-append,
+  length-drop,
   append_assoc,
   append-nil,
+  None,
   Some,
   inl,
   inr,
   ⊎_elim,
 }
+use Rattle.std.specs.Prelude.{is_none}
 use Rattle.lr_bits.specs.Faults.{Rose}
 use Rattle.lr_bits.specs.declared.outcome.Outcome.{Outcome}
 use Rattle.lr_bits.specs.declared.sizes.TheConstants.{FRAME_SYMBOLS}
 use Rattle.lr_io.specs.declared.source.Source.{Ghosts as SourceOf}
 use Rattle.lr_lock.specs.declared.frame.Frame.{Frame}
-use Rattle.lr_lock.specs.Frames.{AreFrames}
+use Rattle.lr_lock.specs.Frames.{AreFrames, last_of}
 use Rattle.lr_lock.specs.Standing.{LockState, LockStandsFor}
 use Rattle.lr_lock.specs.Steps.{GivesWindow, WantsMore, HasEnded}
 use Rattle.lr_lock.specs.Symbols.{symbols_of}
+use Rattle.lr_lock.specs.Thresholds.{lock_symbols}
 use Rattle.lr_conv.specs.Marker.{tail_of}
 use Rattle.lr_conv.specs.declared.line.LineCode.{LineCode}
 use Rattle.lr_lock.specs.Windows.{WindowView, window_view}
 use Rattle.lr_lock.proofs.Bytes.{symbols_of-append, length-symbols_of}
+use Rattle.lr_lock.proofs.Stepping.{next_whole}
 use Rattle.lr_frame.specs.Outcomes.{outcome_in}
 use Rattle.lr_frame.proofs.Given.{outcomes_stay}
 use Rattle.lr_reading.specs.declared.arrival.Arrival.{Arrival}
 use Rattle.lr_reading.specs.Arrivals.{arrival_in}
 use Rattle.lr_forms.specs.declared.forms.Stop.{Stop}
 use Rattle.lr_forms.specs.declared.forms.Stop.TheVariants.{End, Limit, Fault}
-use Rattle.lr_reading.specs.Reading.{EndsFor, StopsAtFault}
-use Rattle.lr_reading.proofs.Asking.{query_on, asked_piece, last_one, last_too}
+use Rattle.lr_reading.specs.Reading.{EndsFor, StopsAsking}
+use Rattle.lr_reading.proofs.Asking.{came_on, came_once, last_one, last_too, none_failed}
+use Rattle.lr_reading.proofs.Close.{ends_after, ends_weaker}
+use Rattle.lr_reading.proofs.Waiting.{next_ahead}
 use Rattle.lr_reading.specs.Feeding.{
   FeedState,
   arrivals_given,
@@ -59,6 +66,7 @@ use Rattle.lr_reading.specs.Feeding.{
   FeedsOn,
   HasOneMore,
   MayAsk,
+  StaysNear,
   LooksFirst,
   GivesFrame,
   EndsFrames,
@@ -106,13 +114,12 @@ module _ {S : Type 0} (source : SourceOf S) (line : LineCode) where
   -- a piece is fed
   pub piece_fed : (IsUnderWay : Type 0) {bytes : List ℕ} {given : List Frame} {before now : FeedState} {s t s' : S}
       → FedSoFar source line bytes given before s t → before.lock.finished ≡ false
-      → MayAsk line IsUnderWay bytes given bytes
+      → MayAsk line IsUnderWay bytes given bytes → (IsUnderWay → is_none before.lock.held ≡ false)
       → FeedsPiece source before now t s' → FeedsOn source line IsUnderWay bytes given now s t s'
-  piece_fed IsUnderWay {bytes} {given} {before} {now} {s} {t} {s'} so unfinished one fed = record {
+  piece_fed IsUnderWay {bytes} {given} {before} {now} {s} {t} {s'} so unfinished one calm fed = record {
     all = bytes ++ fed.piece;
     so_far = record {
-      stands = subst (λ (l : List ℤ). LockStandsFor now.lock l given) (sym (symbols_of-append bytes fed.piece))
-          (fed.stands (symbols_of bytes) given so.stands);
+      stands = stands_now;
       line_is = ap (λ (l : LockState). l.line) fed.lock_is ∙ so.line_is;
       long = omega (arith, fed.taken, so.long, length-append bytes fed.piece);
       few = fed.few;
@@ -127,28 +134,47 @@ module _ {S : Type 0} (source : SourceOf S) (line : LineCode) where
       told = λ told. fed.told (so.told told);
       moved = λ told. so.moved told ∙ ap (λ (l : List ℕ). bytes ++ l) (fed.moved (so.told told))
           ∙ sym (append_assoc bytes fed.piece (source.left s'));
-      asked = query_on source s t s' so.asked (so.going_on unfinished) (asked_piece source t s' fed.piece fed.asked);
-      going_on = λ e. fed.kept ∙ so.going_on unfinished;
+      asked = inr (last_one source (λ given. Unit {0}) bytes fed.piece (bytes ++ fed.piece) s t s' so.moved
+          (so.going_on unfinished) fed.asked refl tt);
+      going_on = λ e. came_on source bytes fed.piece s t s' (so.going_on unfinished)
+          (came_once source fed.piece t s' fed.asked fed.some fed.kept);
       ended = λ e. absurd (open_still e);
     };
     looks = inr (last_one source (MayAsk line IsUnderWay bytes given) bytes fed.piece
-        (bytes ++ fed.piece) s t s' so.moved fed.asked refl one);
+        (bytes ++ fed.piece) s t s' so.moved (so.going_on unfinished) fed.asked refl one);
+    near = λ under_way. inr (ends_weaker (length now.lock.kept) lock_symbols given (bytes ++ fed.piece) fed.fits
+        (ends_after (bytes ++ fed.piece) given now.lock now.lock.held refl
+        (ap (λ (l : LockState). is_none l.held) fed.lock_is ∙ calm under_way) stands_now));
     same = arrivals_given-stay line before.lock bytes fed.piece given so.stands unfinished;
   }
     where
+      stands_now : LockStandsFor now.lock (symbols_of (bytes ++ fed.piece)) given
+      stands_now = subst (λ (l : List ℤ). LockStandsFor now.lock l given) (sym (symbols_of-append bytes fed.piece))
+          (fed.stands (symbols_of bytes) given so.stands)
+
       open_still : now.lock.finished ≡ true → ⊥
       open_still e = let is : now.lock.finished ≡ false = ap (λ (l : LockState). l.finished) fed.lock_is
           ∙ unfinished in cc
 
+  still : (bytes : List ℕ) (given : List Frame) (before : FeedState) (s t : S)
+      → FedSoFar source line bytes given before s t → before.lock.finished ≡ false
+      → source.faults t ≡ source.faults s
+  still bytes given before s t so unfinished = none_failed source bytes s t (so.going_on unfinished)
+
   reason : (stop : Stop) (bytes : List ℕ) (given : List Frame) (before : FeedState) (s t s' : S)
       → FedSoFar source line bytes given before s t → before.lock.finished ≡ false
       → FeedsNoneFor source stop before t s' → EndsFor source stop before.most bytes s s'
-  reason End bytes given before s t s' so unfinished why =
-      (omega (arith, why.0, so.long), (λ told. why.1 (so.told told)), why.2 ∙ so.going_on unfinished)
+  reason End bytes given before s t s' so unfinished why = (
+    omega (arith, why.0, so.long),
+    λ told. why.1 (so.told told),
+    why.2 ∙ still bytes given before s t so unfinished,
+  )
   reason Limit bytes given before s t s' so unfinished why =
-      (omega (arith, why.0, so.long), why.1 ∙ so.going_on unfinished)
-  reason Fault bytes given before s t s' so unfinished why =
-      (omega (arith, why.0, so.long), subst (λ k. Rose k (source.faults s')) (so.going_on unfinished) why.1)
+      (omega (arith, why.0, so.long), why.1 ∙ still bytes given before s t so unfinished)
+  reason Fault bytes given before s t s' so unfinished why = (
+    omega (arith, why.0, so.long),
+    subst (λ k. Rose k (source.faults s')) (still bytes given before s t so unfinished) why.1,
+  )
 
   -- the lock is finished
   pub none_fed : (IsUnderWay : Type 0) (stop : Stop) {bytes : List ℕ} {given : List Frame}
@@ -174,21 +200,24 @@ module _ {S : Type 0} (source : SourceOf S) (line : LineCode) where
       );
       told = λ told. fed.told (so.told told);
       moved = λ told. so.moved told ∙ ap (λ (l : List ℕ). bytes ++ l) (sym (fed.moved (so.told told)));
-      asked = query_on source s t s' so.asked (so.going_on unfinished) asked;
+      asked = asked;
       going_on = λ e. absurd cc;
       ended = λ e. subst (λ (n : FeedState). EndsFor source stop n.most bytes s s') (sym fed.same)
           (reason stop bytes given before s t s' so unfinished fed.why);
     };
     looks = looks;
+    near = λ under_way. inl refl;
     same = refl;
   }
     where
-      asked : StopsAtFault source t s'
-      asked = ⊎_elim (λ same. inl same) (λ once. asked_piece source t s' [] once) fed.asked
+      asked : StopsAsking source bytes s s'
+      asked = ⊎_elim (λ same. subst (λ (x : S). StopsAsking source bytes s x) (sym same) so.asked)
+          (λ once. inr (last_one source (λ given. Unit {0}) bytes [] bytes s t s' so.moved (so.going_on unfinished) once
+          (sym (append-nil bytes)) tt)) fed.asked
 
       looks : LooksFirst source line IsUnderWay bytes bytes given s t s'
       looks = ⊎_elim (λ same. inl (refl, same)) (λ once. inr (last_one source
-          (MayAsk line IsUnderWay bytes given) bytes [] bytes s t s' so.moved once
+          (MayAsk line IsUnderWay bytes given) bytes [] bytes s t s' so.moved (so.going_on unfinished) once
           (sym (append-nil bytes)) one)) fed.asked
 
   -- the lock steps
@@ -215,14 +244,29 @@ module _ {S : Type 0} (source : SourceOf S) (line : LineCode) where
       (seen : WindowView)
       (line_stays : later.line ≡ now.lock.line) (finished : later.finished ≡ now.lock.finished) where
     pub window_given : GivesWindow now.lock later seen (symbols_of on.all) given → length later.kept + FRAME_SYMBOLS
-        ≤ length now.lock.kept
+        ≤ length now.lock.kept → length now.lock.kept ≤ lock_symbols
         → GivesFrame source line IsUnderWay bytes given (record now { lock = later }) seen s r t
-    window_given gives shorter = record {
+    window_given gives shorter fits = record {
       all = on.all;
       frame = gives.frame;
       so_far = stepped later on.so_far gives.stands line_stays finished
           (omega (arith, shorter, length-append given (gives.frame ∷ [])));
       looks = on.looks;
+      near = on.near;
+      whole = omega (
+        arith,
+        next_whole (tail_of now.lock.line) (symbols_of on.all) (last_of None given) gives.frame gives.next,
+        length-symbols_of on.all,
+      );
+      ahead = omega (
+        arith,
+        next_ahead (tail_of now.lock.line) (symbols_of on.all) (last_of None given) now.lock.held now.lock.place
+            gives.frame on.so_far.stands.stands gives.next,
+        ap (λ (l : List ℤ). length l) on.so_far.stands.rest,
+        length-drop now.lock.place (symbols_of on.all),
+        length-symbols_of on.all,
+        fits,
+      );
       window_is = gives.window ∙ ap (λ (l : LineCode). window_view l (symbols_of on.all) gives.frame) on.so_far.line_is;
       same = on.same;
     }
@@ -233,6 +277,7 @@ module _ {S : Type 0} (source : SourceOf S) (line : LineCode) where
       all = on.all;
       so_far = stepped later on.so_far wants.stands line_stays finished (omega (arith, passes));
       looks = on.looks;
+      near = on.near;
       same = on.same;
     }
 
@@ -242,6 +287,7 @@ module _ {S : Type 0} (source : SourceOf S) (line : LineCode) where
       all = on.all;
       so_far = stepped later on.so_far ended.stands line_stays finished (omega (arith, passes));
       looks = on.looks;
+      near = on.near;
       closed = finished ∙ ended.closed;
       stop_is = refl;
       every = subst (λ (l : LineCode). AreFrames (tail_of l) (symbols_of on.all) given) on.so_far.line_is ended.all;
@@ -251,12 +297,14 @@ module _ {S : Type 0} (source : SourceOf S) (line : LineCode) where
   -- after one feeding comes another
   pub joined : (IsUnderWay : Type 0) {bytes all : List ℕ} {given : List Frame} {now : FeedState} {s r t u : S}
       → FeedsOn source line IsUnderWay all given now s t u → LooksFirst source line IsUnderWay bytes all given s r t
-      → arrivals_given line all given ≡ arrivals_given line bytes given
+      → (IsUnderWay → StaysNear bytes given all) → arrivals_given line all given ≡ arrivals_given line bytes given
       → FeedsOn source line IsUnderWay bytes given now s r u
-  joined IsUnderWay {bytes} {all} {given} {now} {s} {r} {t} {u} on first same = record {
+  joined IsUnderWay {bytes} {all} {given} {now} {s} {r} {t} {u} on first near same = record {
     all = on.all;
     so_far = on.so_far;
     looks = looks;
+    near = λ under_way. ⊎_elim (λ stays. subst (λ (l : List ℕ). StaysNear bytes given l) (sym stays) (near under_way))
+        (λ ends. inr ends) (on.near under_way);
     same = on.same ∙ same;
   }
     where
@@ -270,4 +318,10 @@ module _ {S : Type 0} (source : SourceOf S) (line : LineCode) where
 
   pub begun : (IsUnderWay : Type 0) {bytes : List ℕ} {given : List Frame} {now : FeedState} {s t : S}
       → FedSoFar source line bytes given now s t → FeedsOn source line IsUnderWay bytes given now s t t
-  begun IsUnderWay {bytes} so = record { all = bytes; so_far = so; looks = inl (refl, refl); same = refl }
+  begun IsUnderWay {bytes} so = record {
+    all = bytes;
+    so_far = so;
+    looks = inl (refl, refl);
+    near = λ under_way. inl refl;
+    same = refl;
+  }

@@ -29,8 +29,8 @@ use Rattle.std.proofs.lemmas.List.{length-take-le, take-append-le}
 use Rattle.std.proofs.Math.Seq.{take-append-add}
 use borrow.Rule.Slice.PartMut.{put_mid, post_of}
 use Rattle.lr_io.specs.declared.source.Source.{Ghosts as SourceOf}
-use Rattle.lr_reading.proofs.Asking.{query_on, asked_piece, last_one}
-use Rattle.lr_reading.specs.Gathering.{UnitState, Gathers}
+use Rattle.lr_reading.proofs.Asking.{came_none, came_on, came_once, last_one}
+use Rattle.lr_reading.specs.Gathering.{UnitState, Gathers, GathersOn}
 use Rattle.lr_reading.specs.Reading.{AsksOnce, LastCall}
 
 take-put_mid_more : (buffer piece : List ℕ) (filled room count : ℕ) → filled ≤ length buffer
@@ -71,10 +71,25 @@ module _ {S : Type 0} (source : SourceOf S) (n : ℕ) where
         few = few;
         told = told;
         moved = moved;
-        asked = asked_piece source s s' (take count into) asked;
         in_need = inr (last_one source (λ given. length (before.held ++ given) < n) [] (take count into)
-            (take count into) s s s' (λ told. refl) asked refl (omega (arith, length-append before.held [], short)));
+            (take count into) s s s' (λ told. refl) (came_none source s) asked refl
+            (omega (arith, length-append before.held [], short)));
       }
+
+  -- and it gave some bytes
+  pub piece_gathered : (s s' : S) (before : UnitState) (buffer into : List ℕ) (filled room count taken most : ℕ)
+      → filled ≤ length buffer → count ≤ length into → taken + count ≤ most
+      → (source.tells s → source.tells s') → (source.tells s → source.left s ≡ take count into ++ source.left s')
+      → AsksOnce source s (take count into) s' → length before.held < n
+      → gathered (take filled buffer) taken most ≡ before → 0 < count → source.faults s' ≡ source.faults s
+      → GathersOn source n before (gathered (take (filled + count) (put_mid filled room buffer into))
+      (taken + count) most) s s'
+  unfolding piece_taken
+  piece_gathered s s' before buffer into filled room count taken most inside enough few told moved asked short is some
+      kept = (
+        piece_taken s s' before buffer into filled room count taken most inside enough few told moved asked short is,
+        came_once source (take count into) s s' asked (omega (arith, some, length-take-le count into enough)) kept,
+      )
 
   -- the call failed, whatever was written
   pub none_taken : (s s' : S) (before : UnitState) (buffer into : List ℕ) (filled room taken most : ℕ)
@@ -91,7 +106,7 @@ module _ {S : Type 0} (source : SourceOf S) (n : ℕ) where
       moved asked short is))
 
   -- nothing was asked
-  pub nothing_taken : (s : S) (now : UnitState) → now.taken ≤ now.most → Gathers source n now now s s
+  nothing_taken : (s : S) (now : UnitState) → now.taken ≤ now.most → Gathers source n now now s s
   nothing_taken s now few = record {
     piece = [];
     held = sym (append-nil now.held);
@@ -100,14 +115,17 @@ module _ {S : Type 0} (source : SourceOf S) (n : ℕ) where
     few = few;
     told = λ t. t;
     moved = λ t. refl;
-    asked = inl refl;
     in_need = inl (refl, refl);
   }
 
+  pub none_gathered : (s : S) (now : UnitState) → now.taken ≤ now.most → GathersOn source n now now s s
+  unfolding nothing_taken
+  none_gathered s now few = (nothing_taken s now few, came_none source s)
+
   -- one piece after another
-  pub joined : {before between now : UnitState} {s t s' : S} → Gathers source n before between s t
-      → source.faults t ≡ source.faults s → Gathers source n between now t s' → Gathers source n before now s s'
-  joined {before} {between} {now} {s} {t} {s'} first kept second = record {
+  pub joined : {before between now : UnitState} {s t s' : S} → GathersOn source n before between s t
+      → Gathers source n between now t s' → Gathers source n before now s s'
+  joined {before} {between} {now} {s} {t} {s'} so_far second = record {
     piece = first.piece ++ second.piece;
     held = second.held ∙ ap (λ l. l ++ second.piece) first.held ∙ append_assoc before.held first.piece second.piece;
     taken = omega (arith, first.taken, second.taken, length-append first.piece second.piece);
@@ -116,10 +134,12 @@ module _ {S : Type 0} (source : SourceOf S) (n : ℕ) where
     told = λ tells. second.told (first.told tells);
     moved = λ tells. first.moved tells ∙ ap (λ l. first.piece ++ l) (second.moved (first.told tells))
         ∙ sym (append_assoc first.piece second.piece (source.left s'));
-    asked = query_on source s t s' first.asked kept second.asked;
     in_need = ⊎_elim no_more (λ last. inr (later last)) second.in_need;
   }
     where
+      first : Gathers source n before between s t
+      first = so_far.0
+
       no_more : (second.piece ≡ []) × (s' ≡ t) → NeedsPiece before.held (first.piece ++ second.piece) s s'
       no_more none = subst (λ (l : List ℕ). NeedsPiece before.held l s s')
           (sym (ap (λ (l : List ℕ). first.piece ++ l) none.0 ∙ append-nil first.piece))
@@ -136,7 +156,15 @@ module _ {S : Type 0} (source : SourceOf S) (n : ℕ) where
         asked = last.asked;
         moved = λ tells. first.moved tells ∙ ap (λ (l : List ℕ). first.piece ++ l) (last.moved (first.told tells))
             ∙ sym (append_assoc first.piece last.given (source.left last.last));
+        before = came_on source first.piece last.given s t last.last so_far.1 last.before;
         so = subst (λ (l : List ℕ). length l < n)
             (ap (λ (l : List ℕ). l ++ last.given) first.held ∙ append_assoc before.held first.piece last.given)
             last.so;
       }
+
+  -- and where each call gave some
+  pub joined_on : {before between now : UnitState} {s t s' : S} → GathersOn source n before between s t
+      → GathersOn source n between now t s' → GathersOn source n before now s s'
+  unfolding joined
+  joined_on {before} {between} {now} {s} {t} {s'} first second =
+      (joined first second.0, came_on source first.0.piece second.0.piece s t s' first.1 second.1)

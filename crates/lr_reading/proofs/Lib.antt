@@ -1,5 +1,6 @@
 pub mod Asking
 pub mod Beginning
+pub mod Close
 pub mod Coming
 pub mod Feeding
 pub mod Fronts

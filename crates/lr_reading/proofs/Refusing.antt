@@ -1,5 +1,5 @@
 -- Memory for reading was refused.
-use Rattle.std.proofs.Common.{ℕ, ◌<◌, List, [], ◌++◌, refl, inl, arith}
+use Rattle.std.proofs.Common.{ℕ, ◌<◌, List, [], ◌++◌, length, ap, refl, inl, arith}
 use Rattle.lr_io.specs.declared.source.Source.{Ghosts as SourceOf}
 use Rattle.lr_reading.specs.Arrivals.{arrivals_of}
 use Rattle.lr_reading.specs.Readers.{Leeway}
@@ -21,6 +21,13 @@ stops_at_once source took input limit leeway some stopped cause s now stops = re
   rest = [];
   split = no_arrivals input;
   near = some;
+  close = λ count least le ended. absurd (omega (
+    arith,
+    least,
+    le,
+    ap (λ (l : List Arrival). length l)
+        (no_arrivals input),
+  ));
   in_time = inl refl;
   stops = λ c taken. stops c [] taken;
   first = λ line is tells few calm. (arrivals_of input ([] ++ source.left s), refl);

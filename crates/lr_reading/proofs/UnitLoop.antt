@@ -29,7 +29,7 @@ use Rattle.lr_bits.specs.declared.sizes.TheConstants.{FRAME_BYTES}
 use Rattle.lr_io.specs.declared.source.Source.{Ghosts as SourceOf}
 use Rattle.lr_forms.specs.declared.forms.Stop.{Stop}
 use Rattle.lr_reading.specs.Arrivals.{arrival_of, arrivals_of_units, arrivals_of}
-use Rattle.lr_reading.specs.Gathering.{UnitState, IsShortOfOne, Gathers, GathersFor, ReadsUnits, EndsUnits}
+use Rattle.lr_reading.specs.Gathering.{UnitState, IsShortOfOne, Gathers, GathersFor, GathersOn, ReadsUnits, EndsUnits}
 use Rattle.lr_reading.specs.Inputs.{unit_bytes, outcome_of_unit}
 use Rattle.lr_reading.specs.Reading.{EndsFor, units_of}
 use Rattle.lr_reading.specs.Readers.{leeway_for}
@@ -40,7 +40,7 @@ use Rattle.lr_forms.specs.declared.forms.UnitForm.{UnitForm}
 use Rattle.lr_forms.specs.declared.forms.UnitForm.TheVariants.{Blocks, Frames}
 use Rattle.lr_reading.specs.declared.next.Next.TheVariants.{Ended}
 use Rattle.lr_reading.specs.declared.read_counts.ReadCounts.{ReadCounts}
-use Rattle.lr_reading.proofs.Asking.{when_too}
+use Rattle.lr_reading.proofs.Asking.{stops_asking, when_too}
 use Rattle.lr_reading.proofs.Coming.{
   arrivals_of_units-append,
   arrivals_of_units-none,
@@ -67,6 +67,12 @@ rest_of : (form : UnitForm) (n count rest total : ℕ) → n ≡ unit_bytes form
     → rest < n → rest ≡ total % unit_bytes form
 rest_of Blocks n count rest total is all short = omega (arith, is, all, ap (λ k. k * count) is, short)
 rest_of Frames n count rest total is all short = omega (arith, is, all, ap (λ k. k * count) is, short)
+
+-- of fewer bytes than these come fewer units
+fewer : (form : UnitForm) (n count many total : ℕ) → n ≡ unit_bytes form → count * unit_bytes form + 0 < total
+    → total ≡ n * many → count < many
+fewer Blocks n count many total is few all = omega (arith, is, few, all, ap (λ k. k * many) is)
+fewer Frames n count many total is few all = omega (arith, is, few, all, ap (λ k. k * many) is)
 
 -- this many units were read, and what comes of them was taken
 pub record UnitsTaken {S C : Type 0} (source : SourceOf S) (took : C → List Arrival → C → Type 0) (form : UnitForm)
@@ -110,10 +116,9 @@ module _ {S C : Type 0} (source : SourceOf S) (took : C → List Arrival → C �
 
   module _ {frames : ℕ} {now next : UnitState} {s t s' : S} {before after : C}
       (so : UnitsTaken source took form n limit frames now s t before after)
-      (more : Gathers source n now next t s') (whole : length next.held ≡ n) (kept : source.faults s'
-      ≡ source.faults t) where
+      (more : GathersOn source n now next t s') (whole : length next.held ≡ n) where
     reads_now : ReadsUnits source n limit so.units next s s'
-    reads_now = gathered_more source n limit so.reads more kept
+    reads_now = gathered_more source n limit so.reads more
 
     fits : n * length so.units + n ≤ limit
     fits = omega (
@@ -162,13 +167,24 @@ module _ {S C : Type 0} (source : SourceOf S) (took : C → List Arrival → C �
           told = reads_now.told;
           moved = reads_now.moved;
           few = omega (arith, reads_now.few, reads_now.taken);
-          asked = reads_now.asked;
+          asked = stops_asking source (IsShortOfOne n so.units) (concat so.units ++ next.held) s s' reads_now.in_need;
         };
         passed = arrivals_of_units form so.units ++ arrival ∷ [];
         rest = [];
         split = units_come form (concat so.units ++ next.held) (so.units ++ next.held ∷ []) units_there
             ∙ one_more ∙ sym (append-nil (arrivals_of_units form so.units ++ arrival ∷ []));
         near = omega arith;
+        close = λ count some le ended. omega (
+          arith,
+          fewer form n count (length so.units + 1) (length (concat so.units ++ next.held)) size ended (omega (
+            arith,
+            length-append (concat so.units) next.held,
+            length-concat n so.units reads_now.whole,
+            whole,
+          )),
+          length-append (arrivals_of_units form so.units) (arrival ∷ []),
+          arrivals_of_units-counted form so.units,
+        );
         in_time = when_too source (IsShortOfOne n so.units) (ComesFirstBut (Units form) 0 1
             (arrivals_of_units form so.units ++ arrival ∷ [])) (concat so.units ++ next.held) s s'
             (λ given short. came given short) reads_now.in_need;

@@ -31,9 +31,9 @@ use Rattle.lr_io.specs.declared.source.Source.{Ghosts as SourceOf}
 use Rattle.lr_forms.specs.declared.forms.Stop.{Stop}
 use Rattle.lr_forms.specs.declared.forms.Stop.TheVariants.{End, Limit, Fault}
 use Rattle.lr_reading.specs.declared.next.Next.TheVariants.{Ended}
-use Rattle.lr_reading.specs.Gathering.{UnitState, IsShortOfOne, Gathers, GathersFor, ReadsUnits, EndsUnits}
-use Rattle.lr_reading.specs.Reading.{IsRead, EndsFor, LastCall, WhenLastAsked}
-use Rattle.lr_reading.proofs.Asking.{query_on, when_too}
+use Rattle.lr_reading.specs.Gathering.{UnitState, IsShortOfOne, Gathers, GathersFor, GathersOn, ReadsUnits, EndsUnits}
+use Rattle.lr_reading.specs.Reading.{CameInPieces, IsRead, EndsFor, LastCall, WhenLastAsked}
+use Rattle.lr_reading.proofs.Asking.{came_none, came_on, none_failed, stops_asking, when_too}
 
 -- the bytes of one unit more
 pub concat-push : (units : List (List ℕ)) (unit : List ℕ) → concat (units ++ unit ∷ []) ++ [] ≡ concat units ++ unit
@@ -50,8 +50,7 @@ module _ {S : Type 0} (source : SourceOf S) (n limit : ℕ) where
     few = omega arith;
     told = λ t. t;
     moved = λ t. refl;
-    kept = refl;
-    asked = inl refl;
+    going_on = came_none source s;
     in_need = inl refl;
   }
 
@@ -84,6 +83,7 @@ module _ {S : Type 0} (source : SourceOf S) (n limit : ℕ) where
         moved = λ tells. reads.moved tells
             ∙ ap (λ (l : List ℕ). (concat units ++ before.held) ++ l) (last.moved (reads.told tells))
             ∙ sym (append_assoc (concat units ++ before.held) last.given (source.left last.last));
+        before = came_on source (concat units ++ before.held) last.given s t last.last reads.going_on last.before;
         so = record {
           first = units;
           others = [];
@@ -94,11 +94,11 @@ module _ {S : Type 0} (source : SourceOf S) (n limit : ℕ) where
         };
       }
 
-  -- more of a unit was gathered, and the source didn't fail
+  -- more of a unit was gathered, and each call gave some
   pub gathered_more : {units : List (List ℕ)} {before now : UnitState} {s t s' : S}
-      → ReadsUnits source n limit units before s t → Gathers source n before now t s'
-      → source.faults s' ≡ source.faults t → ReadsUnits source n limit units now s s'
-  gathered_more {units} {before} {now} {s} {t} {s'} reads more kept = record {
+      → ReadsUnits source n limit units before s t → GathersOn source n before now t s'
+      → ReadsUnits source n limit units now s s'
+  gathered_more {units} {before} {now} {s} {t} {s'} reads gathers = record {
     whole = reads.whole;
     taken = more.taken ∙ ap (λ k. k + length more.piece) reads.taken
         ∙ sym (length-append (concat units ++ before.held) more.piece)
@@ -110,10 +110,14 @@ module _ {S : Type 0} (source : SourceOf S) (n limit : ℕ) where
         ∙ sym (append_assoc (concat units ++ before.held) more.piece (source.left s'))
         ∙ ap (λ l. l ++ source.left s') (append_assoc (concat units) before.held more.piece
         ∙ ap (λ l. concat units ++ l) (sym more.held));
-    kept = kept ∙ reads.kept;
-    asked = query_on source s t s' reads.asked reads.kept more.asked;
+    going_on = subst (λ (l : List ℕ). CameInPieces source l s s')
+        (append_assoc (concat units) before.held more.piece ∙ ap (λ l. concat units ++ l) (sym more.held))
+        (came_on source (concat units ++ before.held) more.piece s t s' reads.going_on gathers.1);
     in_need = needed reads more;
   }
+    where
+      more : Gathers source n before now t s'
+      more = gathers.0
 
   -- a whole unit is handed on
   pub cleared : {units : List (List ℕ)} {now : UnitState} {s s' : S} → ReadsUnits source n limit units now s s'
@@ -127,8 +131,7 @@ module _ {S : Type 0} (source : SourceOf S) (n limit : ℕ) where
     few = reads.few;
     told = reads.told;
     moved = λ tells. reads.moved tells ∙ ap (λ l. l ++ source.left s') (sym (concat-push units now.held));
-    kept = reads.kept;
-    asked = reads.asked;
+    going_on = subst (λ (l : List ℕ). CameInPieces source l s s') (sym (concat-push units now.held)) reads.going_on;
     in_need = subst (λ (l : List ℕ). WhenLastAsked source (IsShortOfOne n (units ++ now.held ∷ [])) l s s')
         (sym (concat-push units now.held))
         (when_too source (IsShortOfOne n units) (IsShortOfOne n (units ++ now.held ∷ [])) (concat units ++ now.held)
@@ -166,7 +169,7 @@ module _ {S : Type 0} (source : SourceOf S) (n limit : ℕ) where
             ∙ sym (append_assoc (concat units ++ before.held) more.piece (source.left s'))
             ∙ ap (λ l. l ++ source.left s') same;
         few = few;
-        asked = query_on source s t s' reads.asked reads.kept more.asked;
+        asked = stops_asking source (IsShortOfOne n units) bytes s s' (needed reads more);
       } in
       let short : length now.held < n = short_of stop why in
       record {
@@ -185,13 +188,16 @@ module _ {S : Type 0} (source : SourceOf S) (n limit : ℕ) where
       short_of Limit w = w.0
       short_of Fault w = w.0
 
+      still : source.faults t ≡ source.faults s
+      still = none_failed source (concat units ++ before.held) s t reads.going_on
+
       reason_of : (x : Stop) → length (concat units ++ now.held) ≡ now.taken
           → GathersFor source n (Ended x) now t s' → EndsFor source x limit (concat units ++ now.held) s s'
       reason_of End all w = (
         omega (arith, all, w.1, more.most, reads.most),
         λ tells. w.2 (reads.told tells),
-        w.3 ∙ reads.kept,
+        w.3 ∙ still,
       )
-      reason_of Limit all w = (omega (arith, all, w.1, more.most, reads.most), w.2 ∙ reads.kept)
+      reason_of Limit all w = (omega (arith, all, w.1, more.most, reads.most), w.2 ∙ still)
       reason_of Fault all w =
-          (omega (arith, all, w.1, more.most, reads.most), subst (λ k. Rose k (source.faults s')) reads.kept w.2)
+          (omega (arith, all, w.1, more.most, reads.most), subst (λ k. Rose k (source.faults s')) still w.2)

@@ -59,7 +59,7 @@ found_ahead tail symbols start begin place frame e found passed =
     omega arith
 
 -- and so does the next frame
-next_ahead : (tail : List Bool) (symbols : List ℤ) (last held : Option Frame) (place : ℕ) (frame : Frame)
+pub next_ahead : (tail : List Bool) (symbols : List ℤ) (last held : Option Frame) (place : ℕ) (frame : Frame)
     → IsAt tail symbols last held place → IsNext tail symbols last frame → place ≤ frame.place
 next_ahead tail symbols None None place frame at (inl h) = absurd h
 next_ahead tail symbols None None place frame at (inr h) =

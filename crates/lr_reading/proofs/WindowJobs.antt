@@ -2,6 +2,7 @@
 use Rattle.std.proofs.Common.{
   ◌≡◌,
   ◌+◌,
+  ◌<◌,
   ℕ,
   zero,
   suc,
@@ -10,6 +11,7 @@ use Rattle.std.proofs.Common.{
   ◌∷◌,
   ◌++◌,
   length,
+  length-append,
   map,
   take,
   sym,
@@ -64,6 +66,12 @@ module _ {line : LineCode} {bytes : List ℕ} {given : List Frame} {windows : Li
         ∙ take_more arrival_of_window windows kept j at)
 
 -- ---- the windows to spare
+
+-- one that came back is spare
+pub some_spare : (front items : List WindowView) (window : WindowView) → items ≡ front ++ window ∷ []
+    → 0 < length items
+some_spare front items window is =
+    omega (arith, ap (λ (l : List WindowView). length l) is, length-append front (window ∷ []))
 
 module _ {line : LineCode} (items front : List WindowView) (window : WindowView)
     (is : items ≡ front ++ window ∷ []) (lines : AreOfLine line items) where

@@ -48,17 +48,18 @@ use Rattle.std.proofs.Math.Seq.{drop-append_seam, take-length}
 use Rattle.std.proofs.lemmas.Bool.{cases_lt}
 use Rattle.std.proofs.lemmas.List.{map-append, take-append-le, take-append-drop, length-take}
 use Rattle.std.proofs.lemmas.List.Elements.{All-drop, All-head, All-push}
-use Rattle.lr_lock.specs.Thresholds.{lock_symbols}
 use Rattle.lr_bits.specs.Faults.{Rose}
 use Rattle.lr_bits.specs.declared.outcome.Outcome.{Outcome}
 use Rattle.lr_bits.specs.declared.sizes.TheConstants.{FRAME_SYMBOLS}
+use Rattle.lr_conv.proofs.Tails.{tail_size}
 use Rattle.lr_conv.specs.Marker.{tail_of}
 use Rattle.lr_conv.specs.declared.line.LineCode.{LineCode}
 use Rattle.lr_io.specs.declared.source.Source.{Ghosts as SourceOf}
 use Rattle.lr_lock.specs.Frames.{AreNext, place_after_frame}
 use Rattle.lr_lock.specs.FramesOf.{frames_of}
 use Rattle.lr_lock.specs.declared.sizes.TheConstants.{WINDOW_END}
-use Rattle.lr_reading.specs.Readers.{AreAllThatWait, EndsInNoise}
+use Rattle.lr_lock.proofs.Existing.{given_are_prefix}
+use Rattle.lr_reading.specs.Readers.{AreAllThatWait, EndsInNoise, ahead_with, most_kept}
 use Rattle.lr_lock.specs.Symbols.{symbols_of}
 use Rattle.lr_lock.specs.Windows.{WindowView}
 use Rattle.lr_lock.specs.declared.frame.Frame.{Frame}
@@ -120,6 +121,7 @@ use Rattle.lr_reading.proofs.Coming.{
   arrivals_all,
 }
 use Rattle.lr_reading.proofs.Asking.{last_too, when_too}
+use Rattle.lr_reading.proofs.Close.{close_later, gains_close, not_ended, stays_close}
 use Rattle.lr_reading.proofs.Fronts.{take_on, front_of}
 use Rattle.lr_reading.proofs.Refusing.{stops_at_once}
 use Rattle.lr_reading.proofs.WindowJobs.{as_many, oldest_line, handed_more}
@@ -164,7 +166,7 @@ module _ {S : Type 0} (source : SourceOf S) (line : LineCode) (limit : ℕ) {byt
       → (intake' : Intake) (window : WindowView) (s' : S) → 0 < vec_len intake.spare
       → GivesFrame source line IsUnderWay bytes given intake'.feed window s t s'
       → intake'.feed.most ≡ intake.feed.most → intake'.ended ≡ None → intake'.frames ≡ intake.frames
-      → AreOfLine line intake'.spare.items → length intake'.feed.lock.kept ≤ lock_symbols - FRAME_SYMBOLS
+      → AreOfLine line intake'.spare.items → length intake'.feed.lock.kept ≤ most_kept
       → GivesMore source line limit bytes given (windows ++ window ∷ []) kept intake intake' s t s'
   gives_window IsUnderWay says intake' window s' spare gives most still frames lines short = record {
     all = gives.all;
@@ -182,10 +184,13 @@ module _ {S : Type 0} (source : SourceOf S) (line : LineCode) (limit : ℕ) {byt
       };
       over = λ stop e. absurd (let clash : None ≡ Some stop = sym still ∙ e in cc);
       short = λ e. short;
+      full = λ none. record { before = given; frame = gives.frame; last = refl; near = gives.ahead };
     };
     looks = looked IsUnderWay says gives.all s' gives.looks spare;
     rest = arrival_of_window window ∷ [];
     grown = grows;
+    close = λ first within under close. gains_close IsUnderWay first given bytes gives.all within
+        (λ some. says (under some)) gives.near gives.frame gives.whole gives.ahead close;
   }
     where
       grows : arrivals_given line gives.all (given ++ gives.frame ∷ [])
@@ -199,8 +204,9 @@ module _ {S : Type 0} (source : SourceOf S) (line : LineCode) (limit : ℕ) {byt
       → (intake' : Intake) (stop : Stop) (s' : S) → 0 < vec_len intake.spare
       → EndsFrames source line IsUnderWay stop bytes given intake'.feed s t s' → intake'.feed.most ≡ intake.feed.most
       → intake'.ended ≡ Some stop → intake'.frames ≡ intake.frames → AreOfLine line intake'.spare.items
+      → 0 < vec_len intake'.spare
       → GivesMore source line limit bytes given windows kept intake intake' s t s'
-  ends_input IsUnderWay says intake' stop s' spare ends most ended frames lines = record {
+  ends_input IsUnderWay says intake' stop s' spare ends most ended frames lines left = record {
     all = ends.all;
     every = given;
     is_given = record {
@@ -218,10 +224,13 @@ module _ {S : Type 0} (source : SourceOf S) (line : LineCode) (limit : ℕ) {byt
         every = ends.every;
       };
       short = λ e. absurd (let clash : None ≡ Some stop = sym e ∙ ended in cc);
+      full = λ none. absurd (omega (arith, none, left));
     };
     looks = looked IsUnderWay says ends.all s' ends.looks spare;
     rest = [];
     grown = ends.same ∙ sym (append-nil (arrivals_given line bytes given));
+    close = λ first within under close. stays_close IsUnderWay first given bytes ends.all
+        (λ some. says (under some)) ends.near close;
   }
 
   -- no frame was found yet
@@ -229,9 +238,9 @@ module _ {S : Type 0} (source : SourceOf S) (line : LineCode) (limit : ℕ) {byt
       → (intake' : Intake) (s' : S) → 0 < vec_len intake.spare
       → FeedsOn source line IsUnderWay bytes given intake'.feed s t s' → intake'.feed.most ≡ intake.feed.most
       → intake'.ended ≡ None → intake'.frames ≡ intake.frames → AreOfLine line intake'.spare.items
-      → length intake'.feed.lock.kept < WINDOW_END
+      → 0 < vec_len intake'.spare → length intake'.feed.lock.kept < WINDOW_END
       → GivesMore source line limit bytes given windows kept intake intake' s t s'
-  waits_more IsUnderWay says intake' s' spare on most still frames lines few = record {
+  waits_more IsUnderWay says intake' s' spare on most still frames lines left few = record {
     all = on.all;
     every = given;
     is_given = record {
@@ -245,10 +254,13 @@ module _ {S : Type 0} (source : SourceOf S) (line : LineCode) (limit : ℕ) {byt
       };
       over = λ stop e. absurd (let clash : None ≡ Some stop = sym still ∙ e in cc);
       short = λ e. omega (arith, few);
+      full = λ none. absurd (omega (arith, none, left));
     };
     looks = looked IsUnderWay says on.all s' on.looks spare;
     rest = [];
     grown = on.same ∙ sym (append-nil (arrivals_given line bytes given));
+    close = λ first within under close. stays_close IsUnderWay first given bytes on.all
+        (λ some. says (under some)) on.near close;
   }
 
   -- the input has ended before
@@ -260,6 +272,7 @@ module _ {S : Type 0} (source : SourceOf S) (line : LineCode) (limit : ℕ) {byt
     looks = inl (refl, refl);
     rest = [];
     grown = sym (append-nil (arrivals_given line bytes given));
+    close = λ first within under close. close;
   }
 
 -- there is no noise after a frame
@@ -400,6 +413,8 @@ module _ {S C : Type 0} (source : SourceOf S) (took : C → List Arrival → C �
       let arrivals = arrivals_given line at.bytes at.given in
       let more = few_more before.intake.now.ended refl in
       let split = cut n (arrivals_of (Symbols line) at.bytes) (more.0, more.1) in
+      let as_given = given_is source line limit at.is_given in
+      let frames = given_are_prefix (tail_of line) (symbols_of at.bytes) at.given (tail_size line) given_next in
       record {
         bytes = at.bytes;
         read = record {
@@ -422,6 +437,22 @@ module _ {S C : Type 0} (source : SourceOf S) (took : C → List Arrival → C �
           at.has_windows.some,
           at.same_room,
         );
+        close = λ count some le ended. ⊎_elim (λ (fewer : count < n). omega (
+          arith,
+          fewer,
+          enough,
+          length-take n arrivals,
+          as_many at.is_given.jobs,
+        )) (λ (more : n ≤ count). absurd (not_ended (vec_capacity start.intake.now.spare)
+            (vec_len before.intake.now.spare) kept count at.given frames.0 at.bytes (omega (
+              arith,
+              at.has_windows.all,
+              at.same_room,
+              as_given,
+            )) at.close at.is_given.full (omega (arith, past, enough, as_given)) (omega (arith, past, more))
+            (subst (λ (l : List Frame). All (λ (frame : Frame). place_after_frame frame
+            + ahead_with (vec_capacity start.intake.now.spare) < length at.bytes) (take count l)) frames.1 ended)
+            (drop kept at.given) refl)) (cases_lt count n);
         in_time = in_time_on n 1 (omega (arith, past)) enough;
         stops = stops;
         first = λ other symbols told few calm.
@@ -491,6 +522,8 @@ module _ {S C : Type 0} (source : SourceOf S) (took : C → List Arrival → C �
       bytes = more.all;
       given = more.every;
       is_given = more.is_given;
+      close = more.close kept (omega (arith, at.behind, given_is source line limit at.is_given))
+          (λ under_way. omega (arith, under_way, at.has_windows.all, given_is source line limit at.is_given)) at.close;
       in_time = in_time;
       taken = λ c none. subst (λ (n : C). took c (first_arrivals line more.all more.every kept) n) (sym consumer_is)
           (subst (λ (l : List Arrival). took c l before.consumer.now) (sym same) (at.taken c none));
@@ -692,7 +725,14 @@ module _ {S C : Type 0} (source : SourceOf S) (took : C → List Arrival → C �
               ap (λ (f : FeedState). length f.lock.kept) feed,
               at.is_given.short (sym ended ∙ e),
             );
+            full = λ none. absurd (omega (
+              arith,
+              none,
+              ap (λ (l : List WindowView). length l) spare,
+              length-append before.intake.now.spare.items (done.window ∷ []),
+            ));
           };
+          close = close_later kept at.given (length at.bytes) at.close;
           in_time = subst (λ (s : S). WhenLastAsked source (ComesFirstBut (Symbols line)
               (vec_capacity start.intake.now.spare) 0 (first_arrivals line at.bytes at.given (kept + 1))) at.bytes
               start.source.now s) (sym source_is) (in_time_on (kept + 1) 0 (omega arith) (omega (arith, below)));

@@ -32,6 +32,7 @@ use Rattle.lr_lock.specs.Frames.{AreFrames, place_after_frame}
 use Rattle.lr_lock.specs.FramesOf.{frames_of}
 use Rattle.lr_lock.specs.declared.sizes.TheConstants.{WINDOW_END}
 use Rattle.lr_lock.specs.Standing.{LockState, LockStandsFor}
+use Rattle.lr_lock.specs.Thresholds.{lock_symbols}
 use Rattle.lr_lock.specs.Symbols.{symbols_of}
 use Rattle.lr_lock.specs.Windows.{WindowView, window_view}
 use Rattle.lr_forms.specs.declared.forms.Input.TheVariants.{Symbols}
@@ -40,7 +41,8 @@ use Rattle.lr_forms.specs.declared.forms.Stop.TheVariants.{End, Limit, Fault}
 use Rattle.lr_reading.specs.declared.next.Found.{Found}
 use Rattle.lr_reading.specs.declared.next.Found.TheVariants.{Whole, Noise, Ended}
 use Rattle.lr_reading.specs.Arrivals.{arrival_in, arrivals_of}
-use Rattle.lr_reading.specs.Reading.{AsksOnce, LastCall, StopsAtFault, EndsFor}
+use Rattle.lr_reading.specs.Readers.{most_kept}
+use Rattle.lr_reading.specs.Reading.{AsksOnce, CameInPieces, LastCall, StopsAsking, EndsFor}
 use Rattle.lr_reading.specs.declared.arrival.Arrival.{Arrival}
 
 -- the lock, how many bytes were taken and the most that may be, and why no more are taken
@@ -87,6 +89,17 @@ pub record EndsInFrame (line : LineCode) (given : List Frame) (bytes : List ℕ)
   pub others : List Frame
   pub come : frames_of (tail_of line) (symbols_of bytes) ≡ given ++ others
 
+-- the last one of these frames ended this many symbols before the end of these bytes, at most
+pub record EndsWithin (most : ℕ) (given : List Frame) (bytes : List ℕ) : Type 0 where
+  pub before : List Frame
+  pub frame : Frame
+  pub last : given ≡ before ++ frame ∷ []
+  pub near : length bytes ≤ place_after_frame frame + most
+
+-- where more bytes were taken, they are no more than the lock holds after the last one of these frames
+abbrev pub StaysNear : List ℕ → List Frame → List ℕ → Type 0
+StaysNear bytes given all = (all ≡ bytes) ⊎ EndsWithin lock_symbols given all
+
 -- The source may be asked after some bytes: one frame more came of them than those given, at most; and where windows
 -- are under way the lock doesn't search
 abbrev pub MayAsk : LineCode → Type 0 → List ℕ → List Frame → List ℕ → Type 0
@@ -104,6 +117,7 @@ module _ {S : Type 0} (source : SourceOf S) where
     pub taken : now.taken ≡ before.taken + length piece
     pub most_stays : now.most ≡ before.most
     pub few : now.taken ≤ now.most
+    pub fits : length now.lock.kept ≤ lock_symbols
     pub told : source.tells s → source.tells s'
     pub moved : source.tells s → source.left s ≡ piece ++ source.left s'
     pub kept : source.faults s' ≡ source.faults s
@@ -139,8 +153,8 @@ module _ {S : Type 0} (source : SourceOf S) (line : LineCode) where
     pub passed : FRAME_SYMBOLS * length given + length now.lock.kept ≤ now.taken
     pub told : source.tells s → source.tells s'
     pub moved : source.tells s → source.left s ≡ bytes ++ source.left s'
-    pub asked : StopsAtFault source s s'
-    pub going_on : now.lock.finished ≡ false → source.faults s' ≡ source.faults s
+    pub asked : StopsAsking source bytes s s'
+    pub going_on : now.lock.finished ≡ false → CameInPieces source bytes s s'
     pub ended : now.lock.finished ≡ true → EndsFor source now.stop now.most bytes s s'
 
   -- after these bytes the source wasn't asked, or only once the lock had looked
@@ -154,6 +168,7 @@ module _ {S : Type 0} (source : SourceOf S) (line : LineCode) where
     pub all : List ℕ
     pub so_far : FedSoFar all given now s s'
     pub looks : LooksFirst IsUnderWay bytes all given s t s'
+    pub near : IsUnderWay → StaysNear bytes given all
     pub same : arrivals_given line all given ≡ arrivals_given line bytes given
 
   -- the next frame was given
@@ -163,6 +178,9 @@ module _ {S : Type 0} (source : SourceOf S) (line : LineCode) where
     pub frame : Frame
     pub so_far : FedSoFar all (given ++ frame ∷ []) now s s'
     pub looks : LooksFirst IsUnderWay bytes all given s t s'
+    pub near : IsUnderWay → StaysNear bytes given all
+    pub whole : place_after_frame frame ≤ length all
+    pub ahead : length all ≤ place_after_frame frame + most_kept
     pub window_is : window ≡ window_view line (symbols_of all) frame
     pub same : arrivals_given line all given ≡ arrivals_given line bytes given
 
@@ -172,6 +190,7 @@ module _ {S : Type 0} (source : SourceOf S) (line : LineCode) where
     pub all : List ℕ
     pub so_far : FedSoFar all given now s s'
     pub looks : LooksFirst IsUnderWay bytes all given s t s'
+    pub near : IsUnderWay → StaysNear bytes given all
     pub closed : now.lock.finished ≡ true
     pub stop_is : now.stop ≡ stop
     pub every : AreFrames (tail_of line) (symbols_of all) given

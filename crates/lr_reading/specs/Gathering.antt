@@ -7,7 +7,7 @@ use Rattle.lr_forms.specs.declared.forms.Stop.{Stop}
 use Rattle.lr_forms.specs.declared.forms.Stop.TheVariants.{End, Limit, Fault}
 use Rattle.lr_reading.specs.declared.next.Next.{Next}
 use Rattle.lr_reading.specs.declared.next.Next.TheVariants.{Whole, Ended}
-use Rattle.lr_reading.specs.Reading.{LastCall, WhenLastAsked, StopsAtFault, IsRead, EndsFor}
+use Rattle.lr_reading.specs.Reading.{CameInPieces, LastCall, WhenLastAsked, IsRead, EndsFor}
 
 -- the bytes of the unit so far, how many bytes were taken in all, and the most that may be
 pub record UnitState : Type 0 where
@@ -27,7 +27,7 @@ pub record IsShortOfOne (n : ℕ) (units : List (List ℕ)) (bytes : List ℕ) :
 module _ {S : Type 0} (source : SourceOf S) where
   -- why a unit of n bytes was gathered no further
   abbrev pub GathersFor : ℕ → Next → UnitState → S → S → Type 0
-  GathersFor n Whole now s s' = (length now.held ≡ n) × (source.faults s' ≡ source.faults s)
+  GathersFor n Whole now s s' = length now.held ≡ n
   GathersFor n (Ended End) now s s' =
       (length now.held < n) × (now.taken < now.most) × (source.tells s → source.left s' ≡ [])
       × (source.faults s' ≡ source.faults s)
@@ -45,9 +45,17 @@ module _ {S : Type 0} (source : SourceOf S) where
     pub few : now.taken ≤ now.most
     pub told : source.tells s → source.tells s'
     pub moved : source.tells s → source.left s ≡ piece ++ source.left s'
-    pub asked : StopsAtFault source s s'
     pub in_need : ((piece ≡ []) × (s' ≡ s))
         ⊎ LastCall source (λ given. length (before.held ++ given) < n) piece s s'
+
+  -- and each call gave some bytes
+  abbrev pub GathersOn : (n : ℕ) → UnitState → UnitState → S → S → Type 0
+  GathersOn n before now s s' = (all : Gathers n before now s s') × CameInPieces source all.piece s s'
+
+  -- so it is where the unit is whole
+  abbrev pub GathersUpTo : ℕ → Next → UnitState → UnitState → S → S → Type 0
+  GathersUpTo n Whole before now s s' = GathersOn n before now s s'
+  GathersUpTo n (Ended stop) before now s s' = Gathers n before now s s'
 
   -- these units of n bytes were read, and then what is held
   pub record ReadsUnits (n limit : ℕ) (units : List (List ℕ)) (now : UnitState) (s s' : S) : Type 0 where
@@ -57,8 +65,7 @@ module _ {S : Type 0} (source : SourceOf S) where
     pub few : now.taken ≤ limit
     pub told : source.tells s → source.tells s'
     pub moved : source.tells s → source.left s ≡ (concat units ++ now.held) ++ source.left s'
-    pub kept : source.faults s' ≡ source.faults s
-    pub asked : StopsAtFault source s s'
+    pub going_on : CameInPieces source (concat units ++ now.held) s s'
     pub in_need : WhenLastAsked source (IsShortOfOne n units) (concat units ++ now.held) s s'
 
   -- these units were read, and then a rest that is none

@@ -9,6 +9,7 @@ use Rattle.std.specs.Prelude.{
   ℕ,
   List,
   [],
+  ◌∷◌,
   ◌++◌,
   length,
   take,
@@ -18,7 +19,7 @@ use Rattle.std.specs.Prelude.{
   Ok,
   Err,
 }
-use Rattle.std.specs.List.{range_with_len}
+use Rattle.std.specs.List.{concat, range_with_len}
 use Rattle.lr_bits.specs.Faults.{Rose}
 use Rattle.lr_bits.specs.declared.refusals.Failed.{Failed}
 use Rattle.lr_io.specs.declared.source.Source.{Ghosts as SourceOf}
@@ -35,7 +36,18 @@ module _ {S : Type 0} (source : SourceOf S) where
   abbrev pub AsksOnce : S → List ℕ → S → Type 0
   AsksOnce s piece s' = (answer : Result ℕ Failed) × source.asked s answer s' × HasGiven answer piece
 
-  -- The last call on the source: some of the bytes had been given before it, of which this was so; it gave the others
+  -- calls on the source that gave these pieces, one after another: each gave some bytes, and its count didn't rise
+  abbrev pub HaveGiven : List (List ℕ) → S → S → Type 0
+  HaveGiven [] s s' = s' ≡ s
+  HaveGiven (piece ∷ pieces) s s' = (0 < length piece) × ((t : S) × source.asked s (Ok (length piece)) t
+      × (source.faults t ≡ source.faults s) × HaveGiven pieces t s')
+
+  -- these bytes came by such calls: none failed, and none found the end
+  abbrev pub CameInPieces : List ℕ → S → S → Type 0
+  CameInPieces bytes s s' = (pieces : List (List ℕ)) × (bytes ≡ concat pieces) × HaveGiven pieces s s'
+
+  -- The last call on the source: some of the bytes had been given before it, of which this was so; it gave the others.
+  -- It follows no call that failed or found the end
   pub record LastCall (IsSo : List ℕ → Type 0) (bytes : List ℕ) (s s' : S) : Type 0 where
     pub last : S
     pub given : List ℕ
@@ -43,23 +55,24 @@ module _ {S : Type 0} (source : SourceOf S) where
     pub split : bytes ≡ given ++ piece
     pub asked : AsksOnce last piece s'
     pub moved : source.tells s → source.left s ≡ given ++ source.left last
+    pub before : CameInPieces given s last
     pub so : IsSo given
 
   -- the source wasn't asked; or when it was last asked, this was so of the bytes that it had given
   abbrev pub WhenLastAsked : (List ℕ → Type 0) → List ℕ → S → S → Type 0
   WhenLastAsked IsSo bytes s s' = (s' ≡ s) ⊎ LastCall IsSo bytes s s'
 
-  -- the source wasn't asked, or its count had not risen as the last call on it began: none follows one that failed
-  abbrev pub StopsAtFault : S → S → Type 0
-  StopsAtFault s s' = (s' ≡ s)
-      ⊎ ((last : S) × (answer : Result ℕ Failed) × (source.faults last ≡ source.faults s) × source.asked last answer s')
+  -- No call followed one that had failed, or had found the end: each one but the last gave some bytes, and left the
+  -- count of failures as it was.
+  abbrev pub StopsAsking : List ℕ → S → S → Type 0
+  StopsAsking bytes s s' = WhenLastAsked (λ given. Unit {0}) bytes s s'
 
-  -- these bytes were taken, at most this many, up to the first fault
+  -- these bytes were taken, at most this many, up to the first call that gave none
   pub record IsRead (limit : ℕ) (bytes : List ℕ) (s s' : S) : Type 0 where
     pub told : source.tells s → source.tells s'
     pub moved : source.tells s → source.left s ≡ bytes ++ source.left s'
     pub few : length bytes ≤ limit
-    pub asked : StopsAtFault s s'
+    pub asked : StopsAsking bytes s s'
 
   -- why no more of them were taken: nothing was left, or the limit was reached, or the source failed
   abbrev pub EndsFor : Stop → ℕ → List ℕ → S → S → Type 0

@@ -5,7 +5,7 @@ use Rattle.lr_conv.specs.declared.line.LineCode.{LineCode}
 use Rattle.lr_io.specs.declared.source.Source.{Ghosts as SourceOf}
 use Rattle.lr_reading.specs.Arrivals.{arrivals_of}
 use Rattle.lr_reading.specs.Inputs.{bytes_left_over}
-use Rattle.lr_reading.specs.Readers.{Leeway, AreAllThatWait}
+use Rattle.lr_reading.specs.Readers.{Leeway, AreAllThatWait, HaveEnded}
 use Rattle.lr_reading.specs.Reading.{IsRead, EndsFor, WhenLastAsked}
 use Rattle.lr_reading.specs.declared.arrival.Arrival.{Arrival}
 use Rattle.lr_forms.specs.declared.forms.Input.{Input}
@@ -49,6 +49,9 @@ module _ {S C : Type 0} (source : SourceOf S) (took : C → List Arrival → C �
     pub rest : List Arrival
     pub split : arrivals_of input bytes ≡ passed ++ rest
     pub near : length rest < leeway.at_end
+    -- and it had taken all those that ended so long before the last byte
+    pub close : (count : ℕ) → 0 < count → count ≤ length (arrivals_of input bytes)
+        → HaveEnded input leeway.ahead bytes count → count < length passed
     pub in_time : WhenLastAsked source (ComesFirstBut input leeway.when_asked 1 passed) bytes s s'
     pub stops : (c : C) → took c [] before → stopped c passed cause now
     -- of symbols they are the first ones of all that the source gives, where it had not failed nor reached the limit

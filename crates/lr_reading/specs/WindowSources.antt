@@ -1,6 +1,5 @@
 -- How windows are led from a source to a consumer. No clause of a public call cites this.
 use Rattle.std.specs.Prelude.{
-  ◌-◌,
   ◌≡◌,
   ◌⊎◌,
   ◌<◌,
@@ -20,6 +19,7 @@ use Rattle.std.specs.Prelude.{
   length,
   map,
   take,
+  drop,
   vec_len,
   vec_capacity,
   IsSome,
@@ -27,11 +27,11 @@ use Rattle.std.specs.Prelude.{
 }
 use Rattle.std.specs.List.{All}
 use Rattle.lr_lock.specs.Thresholds.{lock_symbols}
-use Rattle.lr_bits.specs.declared.sizes.TheConstants.{FRAME_BYTES, FRAME_SYMBOLS}
+use Rattle.lr_bits.specs.declared.sizes.TheConstants.{FRAME_BYTES}
 use Rattle.lr_conv.specs.Marker.{tail_of}
 use Rattle.lr_conv.specs.declared.line.LineCode.{LineCode}
 use Rattle.lr_io.specs.declared.source.Source.{Ghosts as SourceOf}
-use Rattle.lr_lock.specs.Frames.{AreFrames}
+use Rattle.lr_lock.specs.Frames.{AreFrames, place_after_frame}
 use Rattle.lr_lock.specs.Symbols.{symbols_of}
 use Rattle.lr_lock.specs.Windows.{WindowView}
 use Rattle.lr_lock.specs.declared.frame.Frame.{Frame}
@@ -40,8 +40,8 @@ use Rattle.lr_forms.specs.declared.forms.Input.TheVariants.{Symbols}
 use Rattle.lr_forms.specs.declared.forms.Stop.{Stop}
 use Rattle.lr_rounds.specs.declared.job_source.NextJob.{NextJob}
 use Rattle.lr_rounds.specs.declared.job_source.NextJob.TheVariants.{Job, NotYet, Finished}
-use Rattle.lr_reading.specs.Feeding.{FeedState, symbols_left, arrivals_given, MayAsk, FedSoFar}
-use Rattle.lr_reading.specs.Readers.{Leeway}
+use Rattle.lr_reading.specs.Feeding.{FeedState, symbols_left, arrivals_given, EndsWithin, MayAsk, FedSoFar}
+use Rattle.lr_reading.specs.Readers.{Leeway, ahead_with, most_kept}
 use Rattle.lr_reading.specs.Reading.{LastCall, WhenLastAsked}
 use Rattle.lr_reading.specs.Runs.{ComesFirstBut, TakesSome, IsLed}
 use Rattle.lr_reading.specs.declared.arrival.Arrival.{Arrival}
@@ -95,7 +95,22 @@ windows_left intake = left_to_feed intake.ended intake.feed
 -- As many frames may wait as there are windows, and three more that stand whole in the lock. As the source is asked one
 -- window is spare, and one frame may lack the last symbols of its window
 abbrev pub leeway_in : Intake → Leeway
-leeway_in intake = record { at_end = vec_capacity intake.spare + 3; when_asked = vec_capacity intake.spare }
+leeway_in intake = record {
+  at_end = vec_capacity intake.spare + 3;
+  when_asked = vec_capacity intake.spare;
+  ahead = ahead_with (vec_capacity intake.spare);
+}
+
+-- where the first of these frames ends, or else this place
+abbrev pub end_before : List Frame → ℕ → ℕ
+end_before [] place = place
+end_before (frame ∷ frames) place = place_after_frame frame
+
+-- each of these frames ends, and then this place comes, no further after the one before than the lock holds symbols
+abbrev pub AreClose : List Frame → ℕ → Type 0
+AreClose [] place = Unit {0}
+AreClose (frame ∷ frames) place =
+    (end_before frames place ≤ place_after_frame frame + lock_symbols) × AreClose frames place
 
 -- ---- the input
 
@@ -108,7 +123,9 @@ module _ {S : Type 0} (source : SourceOf S) (line : LineCode) (limit : ℕ) wher
     pub jobs : HasWindowJobs line bytes given windows kept intake
     pub over : (stop : Stop) → intake.ended ≡ Some stop → IsOver line bytes given intake.feed stop
     -- three whole frames of 16,384 symbols at most stand in the lock
-    pub short : intake.ended ≡ None → length intake.feed.lock.kept ≤ lock_symbols - FRAME_SYMBOLS
+    pub short : intake.ended ≡ None → length intake.feed.lock.kept ≤ most_kept
+    -- where no window is spare, nothing was taken since the last one was given
+    pub full : vec_len intake.spare ≡ 0 → EndsWithin most_kept given bytes
 
   -- After these bytes the source wasn't asked; or only while a window was spare, and once the lock had looked
   abbrev pub LooksForSpare : List ℕ → List ℕ → List Frame → Intake → S → S → S → Type 0
@@ -126,6 +143,10 @@ module _ {S : Type 0} (source : SourceOf S) (line : LineCode) (limit : ℕ) wher
     pub looks : LooksForSpare bytes all given old s t s'
     pub rest : List Arrival
     pub grown : arrivals_given line all every ≡ arrivals_given line bytes given ++ rest
+    -- frames whose windows are under way stay close, from the first one that is
+    pub close : (first : ℕ) → first ≤ length given
+        → (first < length given → vec_len old.spare < vec_capacity old.spare)
+        → AreClose (drop first given) (length bytes) → AreClose (drop first every) (length all)
 
   -- the next window; or none while none is spare, or while some are under way; or none, as the input ended
   abbrev pub HasNextJob : NextJob WindowView → List ℕ → List Frame → List WindowView → ℕ → Intake → Intake → S → S → S
@@ -176,6 +197,7 @@ module _ {S C : Type 0} (source : SourceOf S) (took : C → List Arrival → C �
     pub given : List Frame
     pub is_given : IsGiven source start.intake.now.feed.lock.line start.intake.now.feed.most bytes given windows kept
         now.intake.now start.source.now now.source.now
+    pub close : AreClose (drop kept given) (length bytes)
     pub in_time : WhenLastAsked source (ComesFirstBut (Symbols start.intake.now.feed.lock.line)
         (vec_capacity start.intake.now.spare) 0 (first_arrivals start.intake.now.feed.lock.line bytes given kept))
         bytes start.source.now now.source.now

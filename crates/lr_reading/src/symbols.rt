@@ -1,9 +1,9 @@
 //! The symbols of the input are taken to the windows of its frames, however its reads are cut.
 ghost use Rattle.std.specs.Prelude.{◌≡◌, ◌↔◌, ◌<◌, ◌≤◌, ◌++◌, [], length, take, IfOk, OnErr};
-ghost use Rattle.lr_bits.specs.declared.sizes.TheConstants.{FRAME_SYMBOLS};
 ghost use Rattle.lr_lock.specs.Thresholds.{lock_symbols};
 ghost use Rattle.lr_bits.specs.Faults.{HasCause};
 ghost use Rattle.lr_lock.specs.declared.sizes.TheConstants.{WINDOW_END};
+ghost use Rattle.lr_reading.specs.Readers.{most_kept};
 ghost use Rattle.lr_reading.specs.Reading.{AsksOnce};
 
 use crate::next::Found;
@@ -202,7 +202,7 @@ impl SymbolFeed {
         ensures window_line { window.new.line ≡ window.old.line }
         ensures fewer { result ≡ Whole → symbols_left self.new < symbols_left self.old }
         ensures no_more { symbols_left self.new ≤ symbols_left self.old }
-        ensures short { result ≡ Whole → length self.new.lock.kept ≤ lock_symbols - FRAME_SYMBOLS }
+        ensures short { result ≡ Whole → length self.new.lock.kept ≤ most_kept }
         ensures looked { result ≡ Noise → length self.new.lock.kept < WINDOW_END }
     {
         'steps: loop {

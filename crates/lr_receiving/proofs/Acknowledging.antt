@@ -25,6 +25,7 @@ use Rattle.lr_bits.specs.declared.placed.Placed.{Placed}
 use Rattle.lr_causes.specs.Outside.{Outlets, OutletsOf}
 use Rattle.lr_forms.specs.declared.forms.Input.{Input}
 use Rattle.lr_reading.specs.Inputs.{outcomes_of_bytes}
+use Rattle.lr_reading.specs.Readers.{Leeway}
 use Rattle.lr_shelf.specs.InitialShelves.{
   InitialShelf,
   HoldsStill,
@@ -163,16 +164,17 @@ module _ {D O : Type 0} (world : OutletsOf D O) (initial : InitialShelf) where
       (still_acknowledged files [] w w' durable told)
 
   -- all is worked through
-  pub all_worked : (input : Input) (waiting : ℕ) (bytes : List ℕ) (w w' : Outlets D O)
+  pub all_worked : (input : Input) (leeway : Leeway) (bytes : List ℕ) (w w' : Outlets D O)
       → HoldsStill initial (files_of_bytes input bytes) world.disk w'.disk
       → (world.out.tells w.out → (text : List ℕ) × (world.out.contents w'.out
       ≡ world.out.contents w.out ++ (shelved_lines (next_number initial) (files_of_bytes input bytes) ++ text)))
-      → FewWait world initial input waiting bytes w w'
+      → FewWait world initial input leeway bytes w w'
   unfolding files_of_bytes
-  all_worked input waiting bytes w w' durable told = record {
+  all_worked input leeway bytes w w' durable told = record {
     worked = outcomes_of_bytes input bytes;
     late = [];
     split = sym (append-nil (outcomes_of_bytes input bytes));
     few = omega arith;
+    close = λ count le ended. le;
     acknowledged = all_acknowledged (files_of_bytes input bytes) w w' durable told;
   }

@@ -37,9 +37,6 @@ use Rattle.lr_causes.specs.declared.cause.Cause.TheVariants.{Done, Failed, NoMem
 use Rattle.lr_causes.specs.declared.cause.Party.TheVariants.{Source, Disk, Output}
 use Rattle.lr_causes.specs.declared.cause.Refusal.TheVariants.{Capacity}
 use Rattle.lr_forms.specs.declared.forms.Input.{Input}
-use Rattle.lr_reading.specs.Readers.{most_waiting, most_when_asked}
-use Rattle.lr_reading.specs.Reading.{WhenLastAsked}
-use Rattle.lr_receiving.proofs.Timely.{acknowledged_before}
 use Rattle.lr_receiving.specs.Inputs.{files_of_bytes}
 use Rattle.lr_shelf.specs.InitialShelves.{
   InitialShelf,
@@ -59,9 +56,8 @@ use Rattle.lr_shelf.specs.InitialShelves.{
 }
 use Rattle.lr_shelf.specs.Prefixes.{end_with}
 use Rattle.lr_receiving.specs.Shelving.{shelved_lines, StandsForOneFileMore}
-use Rattle.lr_causes.specs.Outside.{NoFault, World, Outside, outlets_in, world_outlets}
-use Rattle.lr_receiving.specs.Receive.{AreWorkedBut, IsWorkDone, Ends, Receives}
-use Rattle.lr_receiving.specs.Reception.{FewWait}
+use Rattle.lr_causes.specs.Outside.{NoFault, World, Outside}
+use Rattle.lr_receiving.specs.Receive.{IsWorkDone, Ends, Receives}
 use Rattle.lr_shelf.proofs.InitialShelves.{with_files-append}
 use Rattle.lr_shelf.proofs.Prefixes.{end_with-append}
 use Rattle.lr_receiving.proofs.Growing.{some}
@@ -288,20 +284,11 @@ module _ {S D O : Type 0} (world : World S D O) (input : Input) (initial : Initi
   pub receives : (cause : Cause) → LeavesPrefixes world.disk initial (files_of_bytes input bytes) w.disk w'.disk
       → Ends world input initial limit bytes cause w w'
       → (IsWorkDone cause → AllHaveRoom initial (files_of_bytes input bytes))
-      → (workers : ℕ)
-      → FewWait (world_outlets world) initial input (most_waiting input workers) bytes (outlets_in w) (outlets_in w')
-      → WhenLastAsked world.source (AreWorkedBut (world_outlets world) initial input
-      (most_when_asked input workers) (files_of_bytes input bytes) (outlets_in w) (outlets_in w')) bytes w.source
-      w'.source
-      → Receives world input workers initial limit bytes cause w w'
-  receives cause any_moment ends room workers few in_time = record {
+      → Receives world input initial limit bytes cause w w'
+  receives cause any_moment ends room = record {
     held = λ whole rest text told split put. held whole rest text told split put cause ends;
     held_untold = held_untold cause ends;
     any_moment = any_moment;
-    timely = λ worked waiting split many.
-        acknowledged_before (world_outlets world) initial input (most_waiting input workers) bytes (outlets_in w)
-        (outlets_in w') few worked waiting split many;
-    in_time = in_time;
     ends = ends;
     complete = complete cause ends;
     overfull = λ lacks. (

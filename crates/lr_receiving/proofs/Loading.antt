@@ -1,12 +1,12 @@
 -- What comes of a disk from which no shelf was loaded, and of one from which it was.
 use Rattle.std.proofs.Common.{◌≡◌, ◌⊎◌, inl, inr, false, ℕ, List, [], ◌∷◌, ◌++◌, refl, sym, ◌∙◌, ap, subst, arith}
-use Rattle.std.proofs.Common.{Result, Ok, Err, IfOk, MatchResult, OnOk, append-nil, length}
+use Rattle.std.proofs.Common.{Result, Ok, Err, IfOk, MatchResult, OnOk, append-nil, length, ⊎_elim}
 use Rattle.lr_bits.specs.declared.placed.Placed.{Placed}
 use Rattle.lr_io.specs.declared.source.Source.{Ghosts as SourceOf}
 use Rattle.lr_disk.specs.declared.disk.Disk.{Ghosts as DiskOf}
 use Rattle.lr_disk.specs.Reads.{IsUnwritten}
 use Rattle.lr_disk.specs.Pending.{EachImageSince, NothingPending}
-use Rattle.lr_disk.proofs.Moments.{weaker, stays, unwritten_yet}
+use Rattle.lr_disk.proofs.Moments.{joined, weaker, stays, unwritten_yet}
 use Rattle.lr_shelf_format.specs.Items.{Item}
 use Rattle.lr_shelf_format.specs.ShelfBytes.{StandsForShelf}
 use Rattle.lr_shelf_format.specs.Way.{IsWay, IsNoShelfAt, Way}
@@ -28,7 +28,7 @@ use Rattle.lr_causes.specs.declared.cause.Refusal.TheVariants.{NotAShelf, Capaci
 use Rattle.lr_causes.specs.Causes.{MayEndBefore}
 use Rattle.lr_refusals.specs.Errors.{cause_of}
 use Rattle.lr_causes.specs.Outside.{outlets, outside, outlets_in, world_outlets, World, Outside}
-use Rattle.lr_reading.specs.Readers.{leeway_for, most_waiting}
+use Rattle.lr_reading.specs.Readers.{Leeway, leeway_for}
 use Rattle.lr_receiving.proofs.Causing.{first_later, first_refused}
 use Rattle.lr_receiving.proofs.Changing.{no_change}
 use Rattle.lr_forms.specs.declared.forms.Input.{Input}
@@ -46,8 +46,8 @@ use Rattle.lr_shelf.specs.InitialShelves.{
   next_number,
 }
 use Rattle.lr_shelf.specs.Prefixes.{HasRoom}
-use Rattle.lr_receiving.specs.Onto.{ChangesFor}
-use Rattle.lr_receiving.specs.Shelved.{MayStop}
+use Rattle.lr_receiving.specs.Onto.{ChangesFor, ChangesImagesFor}
+use Rattle.lr_receiving.specs.Shelved.{MayStop, ShelvesSoFar}
 use Rattle.lr_receiving.specs.Receive.{
   Ends,
   Receives,
@@ -55,6 +55,7 @@ use Rattle.lr_receiving.specs.Receive.{
   IsWorkDone,
   EndsWork,
   IsUntouched,
+  PutsNoFileOff,
   ReceiveRun,
 }
 use Rattle.lr_receiving.specs.Reception.{EndsRun, FewWait}
@@ -65,6 +66,7 @@ use Rattle.lr_receiving.proofs.Headline.{receives, room_of_items}
 use Rattle.lr_receiving.proofs.ReceiveEnding.{got_none, loaded}
 use Rattle.lr_receiving.proofs.Shelving.{rose_of, same_of}
 use Rattle.lr_receiving.proofs.Taking.{no_bytes}
+use Rattle.lr_receiving.proofs.Timely.{none_put_off}
 use Rattle.lr_shelf.proofs.InitialPrefixes.{
   front_none,
   begun_items,
@@ -146,11 +148,11 @@ full_reads source input limit bytes s s' read tells empty done next rest split =
     some done next rest (sym split ∙ ap (files_of_bytes input) none ∙ no_bytes input)
 
 -- and where none were taken nothing waits
-nothing_waits : {S D O : Type 0} (world : World S D O) (initial : InitialShelf) (input : Input) (waiting : ℕ)
+nothing_waits : {S D O : Type 0} (world : World S D O) (initial : InitialShelf) (input : Input) (leeway : Leeway)
     (w w' : Outside S D O) (d : D) → HoldsStill initial [] world.disk d
-    → FewWait (world_outlets world) initial input waiting [] (outlets_in w) (outlets d w.out)
-nothing_waits world initial input waiting w w' d still =
-    all_worked (world_outlets world) initial input waiting [] (outlets_in w) (outlets d w.out)
+    → FewWait (world_outlets world) initial input leeway [] (outlets_in w) (outlets d w.out)
+nothing_waits world initial input leeway w w' d still =
+    all_worked (world_outlets world) initial input leeway [] (outlets_in w) (outlets d w.out)
     (subst (λ (l : List Placed). HoldsStill initial l world.disk d) (sym (no_bytes input)) still)
     (lines_alone (world_outlets world) initial (files_of_bytes input []) (outlets_in w) (outlets d w.out)
     (λ t. got_none world.out initial w.out t ∙ ap (λ (l : List Placed). world.out.contents w.out
@@ -164,7 +166,7 @@ module _ {S D O : Type 0} (world : World S D O)
     (input : Input) (workers limit : ℕ) (w : Outside S D O) where
   nothing_made : (initial : InitialShelf) → world.disk.tells w.disk → StandsWith initial [] (world.disk.contents w.disk)
       → NothingPending world.disk w.disk
-      → Receives world input workers initial limit [] NoMemory w w
+      → Receives world input initial limit [] NoMemory w w
   nothing_made initial told stands only =
       receives world input initial limit [] w w NoMemory
       (subst (λ (l : List Placed). LeavesPrefixes world.disk initial l w.disk w.disk) (sym (no_bytes input))
@@ -178,9 +180,7 @@ module _ {S D O : Type 0} (world : World S D O)
         durable = record { stands = stands; durable = only };
         got = got_none world.out initial w.out;
       })
-      (λ done. absurd done) workers
-      (nothing_waits world initial input (most_waiting input workers) w w w.disk
-      (record { stands = stands; durable = only })) (inl refl)
+      (λ done. absurd done)
 
   pub not_made : ReceiveRun world input workers limit NoMemory w w
   not_made = record {
@@ -196,6 +196,10 @@ module _ {S D O : Type 0} (world : World S D O)
     onto_way = λ way told is only.
         nothing_made (OfWay way (world.disk.contents w.disk)) told (begun_way way (world.disk.contents w.disk) is)
         only;
+    keeps_up = λ initial told stands only.
+        none_put_off world input workers initial [] w w w.disk
+        (nothing_waits world initial input (leeway_for input workers) w w w.disk
+        (record { stands = stands; durable = only refl })) (inl refl);
     refused = λ at is. cc (is);
     broken = λ at told no. (
       tt,
@@ -210,6 +214,9 @@ module _ {S D O : Type 0} (world : World S D O)
     ended = λ done. absurd done;
     outside = λ way told is.
         no_change way (files_of_bytes input []) (world.disk.contents w.disk) (world.disk.contents w.disk) refl;
+    outside_any_moment = λ way told is only.
+        stays world.disk only_now w.disk _ told
+        (λ c image. no_change way (files_of_bytes input []) (world.disk.contents w.disk) c (only c image));
   }
 
 -- ---- the shelf was to be loaded
@@ -230,17 +237,16 @@ module _ {S D O : Type 0} (world : World S D O) (input : Input) (workers limit :
     loading = still_left world.disk initial w.disk d1 (loads.unwritten told) stands only
 
     none : (cause : Cause) → Ends world input initial limit [] cause w read_only → (IsWorkDone cause → ⊥)
-        → Receives world input workers initial limit [] cause w read_only
+        → Receives world input initial limit [] cause w read_only
     none cause ends undone =
         receives world input initial limit [] w read_only cause
         (subst (λ (l : List Placed). LeavesPrefixes world.disk initial l w.disk d1) (sym (no_bytes input))
         (weaker world.disk.moment world.disk.left_since w.disk d1 _ _ (front_none initial) loading))
-        ends (λ done. absurd (undone done)) workers
-        (nothing_waits world initial input (most_waiting input workers) w w d1 still) (inl refl)
+        ends (λ done. absurd (undone done))
 
     nothing : (e : ShelfError) → result ≡ Err e → IsLoadRefusal world.disk w.disk e
         → ((at : ℕ) → IsNoShelfAt (world.disk.contents w.disk) at → ⊥)
-        → Receives world input workers initial limit [] (cause_of e) w read_only
+        → Receives world input initial limit [] (cause_of e) w read_only
     nothing Disk' is refusal shelf = none (Failed Disk) (record {
       done = [];
       rest = [];
@@ -259,6 +265,14 @@ module _ {S D O : Type 0} (world : World S D O) (input : Input) (workers limit :
       got = got_none world.out initial w.out;
     }) (λ done. done)
     nothing _ is refusal shelf = absurd refusal
+
+  -- nothing is written while it is loaded
+  loading_images : (way : Way) (files : List Placed) → world.disk.tells w.disk → NothingPending world.disk w.disk
+      → ChangesImagesFor world.disk way files w.disk d1
+  loading_images way files told only =
+      weaker world.disk.moment world.disk.left_since w.disk d1 _ _
+      (λ c image. no_change way files (world.disk.contents w.disk) c (only c image))
+      (loads.unwritten told).any_moment
 
   only_read : IsUntouched world w read_only
   only_read = record { only_read = loads.unwritten; source_stays = refl; out_stays = refl }
@@ -296,6 +310,10 @@ module _ {S D O : Type 0} (world : World S D O) (input : Input) (workers limit :
         nothing (OfWay way (world.disk.contents w.disk)) told (begun_way way (world.disk.contents w.disk) way_is)
         only e is refusal
         (λ at no. (has_one_way (world.disk.contents w.disk)).none way at way_is no);
+    keeps_up = λ initial told stands only.
+        none_put_off world input workers initial [] w read_only w.disk
+        (nothing_waits world initial input (leeway_for input workers) w w d1
+        (still initial told stands (only refl))) (inl refl);
     refused = λ at named. (refused e at refusal named, only_read);
     broken = λ at told no. (ended_before e at (may_refuse at result e is (loads.broken at told no)), only_read);
     full = λ needed most named. absurd (load_room world.disk w.disk e refusal needed most named);
@@ -308,6 +326,7 @@ module _ {S D O : Type 0} (world : World S D O) (input : Input) (workers limit :
     outside = λ way told is.
         no_change way (files_of_bytes input []) (world.disk.contents w.disk) (world.disk.contents d1)
         (loads.unwritten told).contents;
+    outside_any_moment = λ way told is only. loading_images way (files_of_bytes input []) told only;
   }
 
   -- it was
@@ -336,16 +355,16 @@ module _ {S D O : Type 0} (world : World S D O) (input : Input) (workers limit :
         → IsSettledOn initial [] world.disk shelf d1
         → (Ends world input initial limit run.bytes cause w w' → IsWorkDone cause
         → AllHaveRoom initial (files_of_bytes input run.bytes))
-        → Receives world input workers initial limit run.bytes cause w w'
+        → Receives world input initial limit run.bytes cause w w'
     onto initial told stands only settled room =
         let begun = loaded (world_outlets world) initial (outlets_in w) d1 shelf settled
         (loading initial told stands only) same_count in
         let all = run.ends initial (outlets_in w) begun in
-        receives world input initial limit run.bytes w w' cause all.0 all.1 (room all.1) workers all.2 all.3
+        receives world input initial limit run.bytes w w' cause all.0 all.1 (room all.1)
 
     onto_shelf : (capacity : ℕ) (items : List Item) → world.disk.tells w.disk
         → IsDurable world.disk capacity items w.disk
-        → Receives world input workers (OfItems capacity items) limit run.bytes cause w w'
+        → Receives world input (OfItems capacity items) limit run.bytes cause w w'
     onto_shelf capacity items told durable =
         onto (OfItems capacity items) told (begun_items capacity items (world.disk.contents w.disk) durable.stands)
         durable.durable
@@ -355,7 +374,7 @@ module _ {S D O : Type 0} (world : World S D O) (input : Input) (workers limit :
 
     onto_way : (way : Way) → world.disk.tells w.disk → IsWay (world.disk.contents w.disk) way
         → NothingPending world.disk w.disk
-        → Receives world input workers (OfWay way (world.disk.contents w.disk)) limit run.bytes cause w w'
+        → Receives world input (OfWay way (world.disk.contents w.disk)) limit run.bytes cause w w'
     onto_way way told way_is only =
         let begins = begun_way way (world.disk.contents w.disk) way_is in
         let same : (kept_by shelf).way ≡ way =
@@ -397,6 +416,24 @@ module _ {S D O : Type 0} (world : World S D O) (input : Input) (workers limit :
     still_after initial (Failed Source) before done ends = ends.durable
     still_after initial _ before done ends = absurd done
 
+    -- from the disk as it was loaded
+    begun_after : (initial : InitialShelf) → world.disk.tells w.disk
+        → StandsWith initial [] (world.disk.contents w.disk)
+        → ShelvesSoFar (world_outlets world) initial [] shelf (outlets d1 w.out) (outlets d1 w.out)
+    begun_after initial told stands =
+        let settled = settled_after initial told stands in
+        loaded (world_outlets world) initial (outlets d1 w.out) d1 shelf settled
+        (stays world.disk only_now d1 (StandsWith initial []) settled.told
+        (λ c left. subst (StandsWith initial []) (sym (settled.on_disk.durable c left)) settled.on_disk.stands))
+        refl
+
+    keeps_up_run : (initial : InitialShelf) → world.disk.tells w.disk
+        → StandsWith initial [] (world.disk.contents w.disk)
+        → PutsNoFileOff world input workers initial run.bytes w w'
+    keeps_up_run initial told stands =
+        let all = run.ends initial (outlets d1 w.out) (begun_after initial told stands) in
+        none_put_off world input workers initial run.bytes w w' d1 all.2 all.3
+
     ended_run : IsWorkDone cause → EndsWork world input limit run.bytes cause w w'
     ended_run done =
         let there = run.ended done in
@@ -409,12 +446,8 @@ module _ {S D O : Type 0} (world : World S D O) (input : Input) (workers limit :
               ap (λ (x : Way). length x.entries)
               ((has_one_way (world.disk.contents w.disk)).way (kept_by shelf).way way (is_way told) has);
           stand = λ initial told stands.
-              let settled = settled_after initial told stands in
-              let begun = loaded (world_outlets world) initial (outlets d1 w.out) d1 shelf settled
-              (stays world.disk only_now d1 (StandsWith initial []) settled.told
-              (λ c left. subst (StandsWith initial []) (sym (settled.on_disk.durable c left)) settled.on_disk.stands))
-              refl in
-              still_after initial cause (outside w.source d1 w.out) done (run.ends initial (outlets d1 w.out) begun).1;
+              still_after initial cause (outside w.source d1 w.out) done
+              (run.ends initial (outlets d1 w.out) (begun_after initial told stands)).1;
         }
 
     changes_run : (way : Way) → world.disk.tells w.disk → IsWay (world.disk.contents w.disk) way
@@ -426,6 +459,26 @@ module _ {S D O : Type 0} (world : World S D O) (input : Input) (workers limit :
         ((has_one_way (world.disk.contents w.disk)).way (kept_by shelf).way way (is_way told) has)
         (subst (λ (l : List ℕ). ChangesFor (kept_by shelf).way files l (world.disk.contents w'.disk))
         (loads.unwritten told).contents (run.outside (loads.calls.told told)))
+
+    images_run : (way : Way) → world.disk.tells w.disk → IsWay (world.disk.contents w.disk) way
+        → NothingPending world.disk w.disk
+        → ChangesImagesFor world.disk way (files_of_bytes input run.bytes) w.disk w'.disk
+    images_run way told has only =
+        let files = files_of_bytes input run.bytes in
+        let read = loads.unwritten told in
+        let old = world.disk.contents w.disk in
+        let loading = loading_images way files told only in
+        let same_way : (kept_by shelf).way ≡ way =
+        (has_one_way old).way (kept_by shelf).way way (is_way told) has in
+        ⊎_elim
+        (λ same. subst (λ (x : D). ChangesImagesFor world.disk way files w.disk x) (sym same) loading)
+        (λ then.
+        joined world.disk.moment world.disk.left_since w.disk d1 w'.disk _ loading
+        (weaker world.disk.moment world.disk.left_since d1 w'.disk _ _
+        (λ c changes.
+        subst (λ (x : Way). ChangesFor x files old c) same_way
+        (subst (λ (l : List ℕ). ChangesFor (kept_by shelf).way files l c) read.contents changes)) then))
+        (run.moments (loads.calls.told told) (λ c image. only c (read.images c image) ∙ sym read.contents))
 
     pub loaded_run : ReceiveRun world input workers limit cause w w'
     loaded_run = record {
@@ -440,6 +493,7 @@ module _ {S D O : Type 0} (world : World S D O) (input : Input) (workers limit :
       told_by_out = run.told_by_out;
       onto_shelf = onto_shelf;
       onto_way = onto_way;
+      keeps_up = λ initial told stands only. keeps_up_run initial told stands;
       refused = λ at named. absurd (run_kind cause run.kind at named);
       broken = λ at told no.
           absurd (subst (λ (r : Result Shelf ShelfError). MatchResult r (λ _. ⊥) (MayRefuseAt at)) is
@@ -457,4 +511,5 @@ module _ {S D O : Type 0} (world : World S D O) (input : Input) (workers limit :
       unasked = λ none failed. absurd (run.over.kind none failed);
       ended = ended_run;
       outside = changes_run;
+      outside_any_moment = images_run;
     }

@@ -1,6 +1,6 @@
 -- Files after files: what was shelved, and where shelving stopped.
 use Rattle.std.proofs.Common.{◌≡◌, ℕ, ◌+◌, ◌-◌, ◌<◌, ◌≤◌, List, [], ◌∷◌, ◌++◌, length, take, drop, get_or}
-use Rattle.std.proofs.Common.{refl, sym, ◌∙◌, ap, subst, append_assoc, append-nil, Result, Ok, Err, OnOk, IfErr}
+use Rattle.std.proofs.Common.{refl, sym, ◌∙◌, ap, subst, append_assoc, append-nil, inl, Result, Ok, Err, OnOk, IfErr}
 use Rattle.std.proofs.Common.{arith, length-append}
 use Rattle.std.proofs.lemmas.List.{drop_all, take_more, take-append-drop}
 use Rattle.lr_bits.specs.declared.outcome.Outcome.{Outcome}
@@ -19,7 +19,7 @@ use Rattle.lr_reading.specs.Arrivals.{HasWholeFrame}
 use Rattle.lr_receiving.specs.Shelved.{ShelvesSoFar, HasShelved, StopsShelving, Gains, GainsNoMore}
 use Rattle.lr_receiving.proofs.Acknowledging.{acknowledged_first, acknowledged_more}
 use Rattle.lr_receiving.proofs.Causing.{first_later}
-use Rattle.lr_receiving.proofs.Changing.{change_after, change_among, stays_after}
+use Rattle.lr_receiving.proofs.Changing.{change_after, change_among, images_after, images_among, stays_after}
 use Rattle.lr_receiving.proofs.ShelvedLines.{shelved_lines-append, shelved_lines-none}
 use Rattle.lr_receiving.proofs.WholeFrames.{with_outcome}
 use Rattle.lr_receiving.proofs.Growing.{grows_none, grows_on, stops_after, stops_before}
@@ -43,6 +43,7 @@ module _ {D O : Type 0} (world : OutletsOf D O) where
         (shelved_lines-none (length (kept_by shelf).way.entries)) ∙ append-nil (world.out.contents w.out));
     outside = λ t. outside_same ((kept_by shelf).way.end - 1) (end_with (kept_by shelf).way.end [])
         (world.disk.contents w.disk) (world.disk.contents w.disk) refl;
+    moments = λ t only. (only, inl refl);
   }
 
   module _ {xs : List Placed} {shelf shelf1 : Shelf} {w w1 : Outlets D O}
@@ -74,6 +75,13 @@ module _ {D O : Type 0} (world : OutletsOf D O) where
           stays_after (kept_by shelf).way (kept_by shelf1).way xs (world.disk.contents w.disk)
           (world.disk.contents w1.disk) (world.disk.contents w2.disk) first.grown.ends (first.outside t) ys
           (next.outside (first.told_by_disk t));
+      moments = λ t only.
+          let one = first.moments t only in
+          let two = next.moments (first.told_by_disk t) one.0 in (
+            two.0,
+            images_after world.disk (kept_by shelf).way (kept_by shelf1).way xs ys w.disk w1.disk w2.disk
+                first.grown.ends first.grown.same first.grown.room (first.outside t) one.1 two.1,
+          );
     }
 
     -- shelving stopped after files
@@ -98,6 +106,11 @@ module _ {D O : Type 0} (world : OutletsOf D O) where
           change_after (kept_by shelf).way (kept_by shelf1).way xs (world.disk.contents w.disk)
           (world.disk.contents w1.disk) (world.disk.contents w2.disk) first.grown.ends (first.outside t) ys
           first.grown.same first.grown.room (stopped.outside (first.told_by_disk t));
+      moments = λ t only.
+          let one = first.moments t only in
+          images_after world.disk (kept_by shelf).way (kept_by shelf1).way xs ys w.disk w1.disk w2.disk
+          first.grown.ends first.grown.same first.grown.room (first.outside t) one.1
+          (stopped.moments (first.told_by_disk t) one.0);
     }
 
   -- it stopped before more of them
@@ -118,6 +131,8 @@ module _ {D O : Type 0} (world : OutletsOf D O) where
     outside = λ t.
         change_among (kept_by shelf).way xs ys (world.disk.contents w.disk) (world.disk.contents w'.disk)
         (stopped.outside t);
+    moments = λ t only.
+        images_among world.disk (kept_by shelf).way xs ys w.disk w'.disk (stopped.moments t only);
   }
 
   -- ---- the files of a list, one after another

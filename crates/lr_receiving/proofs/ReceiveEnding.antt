@@ -203,6 +203,7 @@ module _ {S D O : Type 0} (world : World S D O) (input : Input) (limit : ℕ) wh
           over = over_some cause stopped.kind stopped.grown;
           ended = λ done. absurd (no_work cause stopped.kind done);
           outside = stopped.outside;
+          moments = stopped.moments;
         }
 
     module _ (leeway : Leeway) (sums : ReceiveCounts) (shelf1 : Shelf)
@@ -213,11 +214,11 @@ module _ {S D O : Type 0} (world : World S D O) (input : Input) (limit : ℕ) wh
           → (world.out.tells before.out → (text : List ℕ) × (world.out.contents o2
           ≡ world.out.contents before.out
           ++ (shelved_lines (next_number initial) (files_of_bytes input all.bytes) ++ text)))
-          → FewWait (world_outlets world) initial input leeway.at_end all.bytes before (outlets w1.disk o2)
+          → FewWait (world_outlets world) initial input leeway all.bytes before (outlets w1.disk o2)
           × WhenLastAsked world.source (AreWorkedBut (world_outlets world) initial input leeway.when_asked
           (files_of_bytes input all.bytes) before (outlets w1.disk o2)) all.bytes w.source w1.source
       none_waits initial before durable told = (
-        all_worked (world_outlets world) initial input leeway.at_end all.bytes before (outlets w1.disk o2) durable told,
+        all_worked (world_outlets world) initial input leeway all.bytes before (outlets w1.disk o2) durable told,
         all_in_time world.source input leeway.when_asked all.bytes w.source w1.source (world_outlets world) initial
             before (outlets w1.disk o2) (all_acknowledged (world_outlets world) initial
             (files_of_bytes input all.bytes) before (outlets w1.disk o2) durable told) all.in_time,
@@ -281,6 +282,7 @@ module _ {S D O : Type 0} (world : World S D O) (input : Input) (limit : ℕ) wh
             (λ is. let same : Output ≡ Disk = cc (is) in cc (same)) (λ early. absurd early);
         ended = λ done. absurd done;
         outside = changes;
+        moments = λ t only. (all.shelved.moments t only).1;
       }
 
       -- there was no memory for it
@@ -311,6 +313,7 @@ module _ {S D O : Type 0} (world : World S D O) (input : Input) (limit : ℕ) wh
         over = over_last all.shelved.grown o2 NoMemory (λ needed most is. cc (is)) (λ is. cc (is)) (λ early. same);
         ended = λ done. absurd done;
         outside = changes;
+        moments = λ t only. (all.shelved.moments t only).1;
       }
 
       -- the last line wasn't put
@@ -375,4 +378,5 @@ module _ {S D O : Type 0} (world : World S D O) (input : Input) (limit : ℕ) wh
           },
         );
         outside = changes;
+        moments = λ t only. (all.shelved.moments t only).1;
       }

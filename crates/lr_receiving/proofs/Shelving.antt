@@ -41,6 +41,7 @@ use Rattle.lr_bits.specs.Sizes.{most_u64}
 use Rattle.lr_io.specs.declared.sink.Sink.{Ghosts as SinkOf}
 use Rattle.lr_disk.specs.declared.disk.Disk.{Ghosts as DiskOf}
 use Rattle.lr_disk.specs.Pending.{EachImageSince}
+use Rattle.lr_disk.proofs.Moments.{weaker}
 use Rattle.lr_shelf_format.specs.Items.{Item}
 use Rattle.lr_shelf.specs.Adding.{StaysOutside}
 use Rattle.lr_shelf.specs.Adds.{new_end}
@@ -71,7 +72,8 @@ use Rattle.lr_shelf.specs.InitialShelves.{
   StandsWith,
   StandsWithEither,
 }
-use Rattle.lr_shelf.specs.Prefixes.{end_with}
+use Rattle.lr_shelf.specs.Prefixes.{HasRoom, end_with}
+use Rattle.lr_receiving.specs.Onto.{ChangesImagesFor}
 use Rattle.lr_receiving.specs.Shelving.{shelved_lines, StandsForOneFileMore, StopsBy, Stops}
 use Rattle.lr_receiving.specs.Shelved.{MayStop, ShelvesSoFar, HasShelved, StopsShelving, Grows, GrowsNoMore}
 use Rattle.lr_receiving.proofs.Acknowledging.{either_acknowledged, lines_alone, still_acknowledged}
@@ -389,6 +391,18 @@ outside_one placed shelf old new stays =
     omega arith in
     subst (λ (n : ℕ). StaysOutside ((kept_by shelf).way.end - 1) n old new) there stays
 
+-- the same at each moment, where there is room for it
+images_one : {D : Type 0} (disk : DiskOf D) (placed : Placed) (shelf : Shelf) (d d' : D)
+    → HasRoom (kept_by shelf).way (placed ∷ [])
+    → EachImageSince disk d d'
+    (StaysOutside ((kept_by shelf).way.end - 1) (new_end (item_for placed) (kept_by shelf)) (disk.contents d))
+    → ChangesImagesFor disk (kept_by shelf).way (placed ∷ []) d d'
+images_one disk placed shelf d d' room run =
+    weaker disk.moment disk.left_since d d' _ _
+    (λ c stays.
+    change_for (kept_by shelf).way (placed ∷ []) (disk.contents d) c room
+    (outside_one placed shelf (disk.contents d) c stays)) run
+
 -- there was no memory for its line
 pub no_line : {D O : Type 0} (world : OutletsOf D O) (files : List Placed) (shelf : Shelf) (w : Outlets D O)
     → StopsShelving world NoMemory files shelf w w
@@ -403,6 +417,7 @@ no_line world files shelf w = record {
   grown = stops_for_memory files shelf w;
   outside = λ t.
       no_change (kept_by shelf).way files (world.disk.contents w.disk) (world.disk.contents w.disk) refl;
+  moments = λ t only. inl refl;
 }
 
 module _ {D O : Type 0} (disk : DiskOf D)
@@ -450,6 +465,14 @@ module _ {D O : Type 0} (disk : DiskOf D)
             no_change (kept_by shelf).way (placed ∷ []) (disk.contents d) (disk.contents d')
             (ap disk.contents same.0))
             adds.untouched;
+        moments = λ t only. ⊎_elim
+            (λ failed.
+            let refusal : IsAppendRefusal (item_for placed) (kept_by shelf) Disk' =
+            subst (IsAppendRefusal (item_for placed) (kept_by shelf)) failed appends.refused in
+            inr (images_one disk placed shelf d d' (inr (omega (arith, refusal.1)))
+            (adds.outside_any_moment t only)))
+            (λ same. inl same.0)
+            adds.untouched;
       }
 
   -- it was
@@ -486,6 +509,12 @@ module _ {D O : Type 0} (disk : DiskOf D)
       put = λ t. put.put t ∙ ap (λ (l : List ℕ). out.contents o ++ l) one_line;
       outside = λ t.
           outside_one placed shelf (disk.contents d) (disk.contents d') (appends.adds.outside t);
+      moments = λ t only. (
+        appends.adds.durable t,
+        inr (images_one disk placed shelf d d'
+            (appended disk placed shelf shelf' d d' o (Ok number) appends number refl o').room
+            (appends.adds.outside_any_moment t only)),
+      );
     }
       where
         one_line : text ≡ shelved_lines (length (kept_by shelf).way.entries) (placed ∷ [])
@@ -542,4 +571,8 @@ module _ {D O : Type 0} (disk : DiskOf D)
           change_for (kept_by shelf).way (placed ∷ []) (disk.contents d) (disk.contents d')
           (appended disk placed shelf shelf' d d' o (Ok number) appends number refl o').room
           (outside_one placed shelf (disk.contents d) (disk.contents d') (appends.adds.outside t));
+      moments = λ t only.
+          inr (images_one disk placed shelf d d'
+          (appended disk placed shelf shelf' d d' o (Ok number) appends number refl o').room
+          (appends.adds.outside_any_moment t only));
     }

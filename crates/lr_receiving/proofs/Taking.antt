@@ -21,7 +21,9 @@ use Rattle.std.proofs.Common.{
   append_assoc,
   append-nil,
   length-append,
+  ⊎_elim,
 }
+use Rattle.std.proofs.lemmas.Bool.{cases_lt}
 use Rattle.std.proofs.lemmas.List.{length-map, map-append}
 use Rattle.lr_bits.specs.declared.outcome.Outcome.{Outcome}
 use Rattle.lr_bits.specs.declared.placed.Placed.{Placed}
@@ -38,7 +40,7 @@ use Rattle.lr_reading.specs.Arrivals.{arrivals_of, outcomes_of_arrivals}
 use Rattle.lr_reading.specs.Runs.{TakesAll, TakesSome}
 use Rattle.lr_reading.specs.declared.arrival.Arrival.{Arrival}
 use Rattle.lr_forms.specs.declared.forms.Input.{Input}
-use Rattle.lr_reading.proofs.Coming.{outcomes_are, no_arrivals}
+use Rattle.lr_reading.proofs.Coming.{outcomes_are, outcomes_counted, no_arrivals}
 use Rattle.lr_receiving.specs.declared.shelver.Shelver.{Shelver}
 use Rattle.lr_receiving.specs.declared.receive_counts.ReceiveCounts.{ReceiveCounts}
 use Rattle.lr_receiving.specs.Inputs.{files_of_bytes}
@@ -215,7 +217,7 @@ module _ {S D O : Type 0} (source : SourceOf S) (disk : DiskOf D) (out : SinkOf 
       let first = files_first input some.bytes some.passed some.rest some.split in
       let timely : (initial : InitialShelf) (start : Outlets D O)
       → ShelvesSoFar (outlets_of disk out) initial [] before.shelf.now start (lent_to before)
-      → FewWait (outlets_of disk out) initial input leeway.at_end some.bytes start (lent_to now) =
+      → FewWait (outlets_of disk out) initial input leeway some.bytes start (lent_to now) =
       λ initial start so_far. record {
         worked = outcomes_of_arrivals halted.worked;
         late = outcomes_of_arrivals (halted.late ++ some.rest);
@@ -230,6 +232,15 @@ module _ {S D O : Type 0} (source : SourceOf S) (disk : DiskOf D) (out : SinkOf 
           halted.one,
           some.near,
         );
+        close = λ count le ended. ⊎_elim (λ (none : count < 1). omega (arith, none))
+            (λ (least : 1 ≤ count). omega (
+              arith,
+              some.close count (omega (arith, least)) (omega (arith, le, outcomes_counted input some.bytes)) ended,
+              ap (λ (l : List Arrival). length l) halted.split,
+              length-append halted.worked halted.late,
+              halted.one,
+              length-map halted.worked (λ (a : Arrival). a.outcome),
+            )) (cases_lt count 1);
         acknowledged = subst (λ (l : List Placed). AreAcknowledged (outlets_of disk out) initial
             (placed_of_outcomes (outcomes_of_arrivals halted.worked)) l start (lent_to now)) (sym first.1)
             (acknowledged_more (outlets_of disk out) initial first.0 (halted.keeps initial start so_far));

@@ -21,7 +21,7 @@ use Rattle.std.proofs.Math.Seq.{take-append_seam}
 use Rattle.std.proofs.lemmas.List.{length-map, map-append, take-append-drop, take-map}
 use Rattle.lr_bits.specs.declared.outcome.Outcome.{Outcome}
 use Rattle.lr_bits.specs.declared.placed.Placed.{Placed}
-use Rattle.lr_causes.specs.Outside.{Outlets, OutletsOf}
+use Rattle.lr_causes.specs.Outside.{Outlets, OutletsOf, Outside, World, outlets, outlets_in, world_outlets}
 use Rattle.lr_forms.specs.declared.forms.Input.{Input}
 use Rattle.lr_layers.specs.Layers.{frames_of_outcomes}
 use Rattle.lr_layers.specs.Origins.{placed_of_outcomes}
@@ -29,7 +29,7 @@ use Rattle.lr_layers.proofs.GoingOn.{first_frames, go_on}
 use Rattle.lr_io.specs.declared.source.Source.{Ghosts as SourceOf}
 use Rattle.lr_reading.specs.Arrivals.{arrivals_of, outcomes_of_arrivals}
 use Rattle.lr_reading.specs.Inputs.{outcomes_of_bytes}
-use Rattle.lr_reading.specs.Readers.{AreAllThatWait}
+use Rattle.lr_reading.specs.Readers.{AreAllThatWait, HaveEnded, Leeway, leeway_for, most_when_asked}
 use Rattle.lr_reading.specs.Reading.{WhenLastAsked}
 use Rattle.lr_reading.specs.Runs.{ComesFirstBut}
 use Rattle.lr_reading.specs.declared.arrival.Arrival.{Arrival}
@@ -39,14 +39,14 @@ use Rattle.lr_reading.proofs.Fronts.{front_of}
 use Rattle.lr_shelf.specs.InitialShelves.{InitialShelf}
 use Rattle.lr_vc.specs.Runs.{AreChannelFrames}
 use Rattle.lr_receiving.specs.Inputs.{files_of_bytes}
-use Rattle.lr_receiving.specs.Receive.{AreWorkedBut}
+use Rattle.lr_receiving.specs.Receive.{AreWorkedBut, PutsNoFileOff}
 use Rattle.lr_receiving.specs.Reception.{FewWait, FilesComeFirstBut}
 use Rattle.lr_receiving.specs.Shelving.{AreAcknowledged}
 use Rattle.lr_receiving.proofs.Acknowledging.{acknowledged_first}
 use Rattle.lr_receiving.proofs.FirstFiles.{all_frames_whole, files_first}
 
-module _ {D O : Type 0} (world : OutletsOf D O) (initial : InitialShelf) (input : Input) (most : ℕ) (bytes : List ℕ)
-    (w w' : Outlets D O) (few : FewWait world initial input most bytes w w') where
+module _ {D O : Type 0} (world : OutletsOf D O) (initial : InitialShelf) (input : Input) (leeway : Leeway)
+    (bytes : List ℕ) (w w' : Outlets D O) (few : FewWait world initial input leeway bytes w w') where
   -- the first outcomes, where no more of them are worked through
   pub acknowledged_front : (worked others : List Outcome) → outcomes_of_bytes input bytes ≡ worked ++ others
       → length worked ≤ length few.worked
@@ -66,7 +66,7 @@ module _ {D O : Type 0} (world : OutletsOf D O) (initial : InitialShelf) (input 
 
   -- and where that many come after them
   pub acknowledged_before : (worked waiting : List Outcome) → outcomes_of_bytes input bytes ≡ worked ++ waiting
-      → most ≤ length waiting
+      → leeway.at_end ≤ length waiting
       → AreAcknowledged world initial (placed_of_outcomes worked) (files_of_bytes input bytes) w w'
   acknowledged_before worked waiting split many =
       acknowledged_front worked waiting split (omega (
@@ -77,6 +77,17 @@ module _ {D O : Type 0} (world : OutletsOf D O) (initial : InitialShelf) (input 
         few.few,
         many,
       ))
+
+  -- and where they have ended so long before the last byte
+  pub acknowledged_long : (worked waiting : List Outcome) → outcomes_of_bytes input bytes ≡ worked ++ waiting
+      → HaveEnded input leeway.ahead bytes (length worked)
+      → AreAcknowledged world initial (placed_of_outcomes worked) (files_of_bytes input bytes) w w'
+  acknowledged_long worked waiting split ended =
+      acknowledged_front worked waiting split (few.close (length worked) (omega (
+        arith,
+        ap length split,
+        length-append worked waiting,
+      )) ended)
 
 -- ---- when the source was last asked
 
@@ -142,8 +153,8 @@ module _ {S : Type 0} (source : SourceOf S) (input : Input) (most : ℕ) (bytes 
 
     -- and where those of all arrivals passed are, but for the last one
     module _ (passed rest done late : List Arrival) (split : arrivals_of input bytes ≡ passed ++ rest)
-        (parts : passed ≡ done ++ late) (one : length late ≤ 1) {at_end : ℕ}
-        (few : FewWait world initial input at_end bytes w w') (is : few.worked ≡ outcomes_of_arrivals done) where
+        (parts : passed ≡ done ++ late) (one : length late ≤ 1) {leeway : Leeway}
+        (few : FewWait world initial input leeway bytes w w') (is : few.worked ≡ outcomes_of_arrivals done) where
       known_before : (given : List ℕ) → ComesFirstBut input most 1 passed given
           → AreWorkedBut world initial input most (files_of_bytes input bytes) w w' given
       known_before given due worked waiting apart many =
@@ -154,7 +165,7 @@ module _ {S : Type 0} (source : SourceOf S) (input : Input) (most : ℕ) (bytes 
           outcomes_are input bytes ∙ ap outcomes_of_arrivals (split ∙ ap (λ (l : List Arrival). l ++ rest) then.1
           ∙ append_assoc at.first then.0 rest) ∙ map-append (λ (a : Arrival). a.outcome) at.first (then.0 ++ rest)
           ∙ ap (λ (l : List Outcome). l ++ outcomes_of_arrivals (then.0 ++ rest)) at.first_is in
-          acknowledged_front world initial input at_end bytes w w' few worked
+          acknowledged_front world initial input leeway bytes w w' few worked
           (outcomes_of_arrivals (then.0 ++ rest)) all (omega (
             arith,
             ap (λ (l : List Outcome). length l) at.first_is,
@@ -172,3 +183,39 @@ module _ {S : Type 0} (source : SourceOf S) (input : Input) (most : ℕ) (bytes 
           → WhenLastAsked source (AreWorkedBut world initial input most (files_of_bytes input bytes) w w') bytes s s'
       worked_in_time = when_too source (ComesFirstBut input most 1 passed)
           (AreWorkedBut world initial input most (files_of_bytes input bytes) w w') bytes s s' known_before
+
+-- ---- both
+
+-- whatever the disk was before
+module _ {S D O : Type 0} (world : World S D O) (input : Input) (workers : ℕ) (initial : InitialShelf)
+    (bytes : List ℕ) (w w' : Outside S D O) (d : D) where
+  from_there : {first files : List Placed}
+      → AreAcknowledged (world_outlets world) initial first files (outlets d w.out) (outlets_in w')
+      → AreAcknowledged (world_outlets world) initial first files (outlets_in w) (outlets_in w')
+  from_there known =
+      record { others = known.others; split = known.split; held = known.held; told = known.told }
+
+  pub none_put_off : FewWait (world_outlets world) initial input (leeway_for input workers) bytes
+      (outlets d w.out) (outlets_in w')
+      → WhenLastAsked world.source (AreWorkedBut (world_outlets world) initial input
+      (most_when_asked input workers) (files_of_bytes input bytes) (outlets d w.out) (outlets_in w')) bytes
+      w.source w'.source
+      → PutsNoFileOff world input workers initial bytes w w'
+  none_put_off few in_time =
+      let files = files_of_bytes input bytes in
+      let most = most_when_asked input workers in
+      record {
+        timely = λ worked waiting split many.
+            from_there
+            (acknowledged_before (world_outlets world) initial input (leeway_for input workers) bytes
+            (outlets d w.out) (outlets_in w') few worked waiting split many);
+        timely_in_bytes = λ worked waiting split ended.
+            from_there
+            (acknowledged_long (world_outlets world) initial input (leeway_for input workers) bytes
+            (outlets d w.out) (outlets_in w') few worked waiting split ended);
+        in_time = when_too world.source
+            (AreWorkedBut (world_outlets world) initial input most files (outlets d w.out) (outlets_in w'))
+            (AreWorkedBut (world_outlets world) initial input most files (outlets_in w) (outlets_in w')) bytes
+            w.source w'.source
+            (λ given due worked waiting split enough. from_there (due worked waiting split enough)) in_time;
+      }

@@ -8,6 +8,7 @@ use Rattle.std.proofs.Common.{
   ℕ,
   ◌≤◌,
   List,
+  length-append,
   [],
   ◌∷◌,
   length,
@@ -21,16 +22,24 @@ use Rattle.std.proofs.Common.{
   Ok,
   Err,
   IfErr,
+  OnOk,
+  OnErr,
 }
 use Rattle.lr_bits.specs.Faults.{Rose}
 use Rattle.lr_bits.specs.declared.placed.Placed.{Placed}
 use Rattle.lr_io.specs.declared.sink.Sink.{Ghosts as SinkOf}
 use Rattle.lr_disk.specs.declared.disk.Disk.{Ghosts as DiskOf}
+use Rattle.lr_disk.specs.Disk.{Cut}
 use Rattle.lr_disk.specs.Pending.{EachImageSince}
 use Rattle.lr_disk.proofs.Moments.{weaker, joined}
 use Rattle.lr_shelf_format.specs.Items.{Item}
+use Rattle.lr_shelf_format.specs.Header.{header_bytes}
 use Rattle.lr_shelf_format.specs.ShelfBytes.{StandsForShelf}
-use Rattle.lr_shelf.specs.Init.{Inits, IsBlank, IsInitRefusal, IsTaken}
+use Rattle.lr_shelf_format.proofs.HeaderLemmas.{length-header_bytes}
+use Rattle.lr_conv.specs.declared.line.TheConstants.{STANDARD}
+use Rattle.lr_forms.specs.declared.forms.Input.TheVariants.{Symbols}
+use Rattle.lr_receiving.specs.Inputs.{files_of_bytes}
+use Rattle.lr_shelf.specs.Init.{Inits, IsBlank, IsInitRefusal, IsLeftByInit, IsTaken, new_shelf}
 use Rattle.lr_shelf.specs.Shelf.{IsDurable}
 use Rattle.lr_shelf.specs.declared.error.ShelfError.{ShelfError}
 use Rattle.lr_shelf.specs.declared.error.ShelfError.TheVariants.{Disk as Disk', NotEmpty as NotEmpty'}
@@ -46,6 +55,8 @@ use Rattle.lr_shelf.specs.InitialShelves.{with_files}
 use Rattle.lr_receiving.specs.Trial.{
   trial_capacity,
   StandsForPart,
+  GotFiles,
+  IsLeftByTrial,
   IsBare,
   HoldsTrialPart,
   DiskEnds,
@@ -54,6 +65,7 @@ use Rattle.lr_receiving.specs.Trial.{
   TrialRun,
 }
 use Rattle.lr_receiving.proofs.Causing.{first_later, first_refused}
+use Rattle.lr_receiving.proofs.Changing.{change_cut}
 use Rattle.lr_receiving.proofs.Shelving.{same_of}
 use Rattle.lr_causes.specs.Outside.{outlets, outlets_of}
 
@@ -99,6 +111,8 @@ module _ {D O : Type 0} (disk : DiskOf D) (out : SinkOf O) (symbols : List ℕ) 
     init_refused : LeavesDisk disk symbols (cause_of e) d d1
     init_refused = record {
       ends = refused_ends e refusal;
+      leaves = λ told. inl (subst (λ (r : Result (Unit {0}) ShelfError). OnErr r
+          (IsLeftByInit trial_capacity (disk.contents d) (disk.contents d1))) is (inits.left told));
       taken = λ told taken.
           let t = inits.taken told taken in (refused_why (length (disk.contents d)) t.0, inr t.1);
       any_moment = λ told free only. inr
@@ -126,13 +140,16 @@ module _ {D O : Type 0} (disk : DiskOf D) (out : SinkOf O) (symbols : List ℕ) 
     -- what a crash between two moments may leave
     abbrev Leaves : D → D → Type 0
     Leaves from to =
-        EachImageSince disk from to (λ c. IsBlank trial_capacity c ⊎ StandsForPart symbols 0 c)
+        EachImageSince disk from to
+        (λ c. IsBlank trial_capacity c ⊎ GotFiles symbols (new_shelf trial_capacity) c)
 
     -- whatever comes after it
-    after : (cause : Cause) (d' : D) → DiskEnds disk symbols cause d d' → (disk.tells d → Leaves d1 d')
+    after : (cause : Cause) (d' : D) → DiskEnds disk symbols cause d d'
+        → (disk.tells d → IsLeftByTrial symbols (disk.contents d) (disk.contents d')) → (disk.tells d → Leaves d1 d')
         → LeavesDisk disk symbols cause d d'
-    after cause d' ends moments = record {
+    after cause d' ends leaves moments = record {
       ends = ends;
+      leaves = leaves;
       taken = λ told taken. absurd (not_taken told taken);
       any_moment = λ told free only.
           inr (joined disk.moment disk.left_since d d1 d' _
@@ -142,8 +159,18 @@ module _ {D O : Type 0} (disk : DiskOf D) (out : SinkOf O) (symbols : List ℕ) 
 
     module _ (d2 : D) (o2 : O) (cause2 : Cause)
         (fills : Fills (outlets_of disk out) symbols cause2 (outlets d1 o) (outlets d2 o2)) where
+      -- the bytes that `init` made got the files
+      made_so : (told : disk.tells d) (c : List ℕ) → GotFiles symbols (disk.contents d1) c
+          → GotFiles symbols (new_shelf trial_capacity) c
+      made_so told c = subst (λ (l : List ℕ). GotFiles symbols l c)
+          (subst (λ (r : Result (Unit {0}) ShelfError). OnOk r (disk.contents d1 ≡ new_shelf trial_capacity)) is
+          (inits.written told))
+
+      filled_bytes : disk.tells d → GotFiles symbols (new_shelf trial_capacity) (disk.contents d2)
+      filled_bytes told = made_so told (disk.contents d2) (fills.on_disk.got (inits.calls.told told))
+
       filled_moments : disk.tells d → Leaves d1 d2
-      filled_moments told = weaker disk.moment disk.left_since d1 d2 _ _ (λ c part. inr part)
+      filled_moments told = weaker disk.moment disk.left_since d1 d2 _ _ (λ c got. inr (made_so told c got))
           (fills.on_disk.any_moment (inits.calls.told told))
 
       -- ---- memory wasn't refused
@@ -166,7 +193,8 @@ module _ {D O : Type 0} (disk : DiskOf D) (out : SinkOf O) (symbols : List ℕ) 
       pub filled : (cause2 ≡ NoMemory → ⊥)
           → TrialRun (outlets_of disk out) symbols cause2 (outlets d o) (outlets d2 o2)
       filled other = record {
-        on_disk = after cause2 d2 (whole_ends cause2 other fills.on_disk.ends) filled_moments;
+        on_disk = after cause2 d2 (whole_ends cause2 other fills.on_disk.ends) (λ told. inr (filled_bytes told))
+            filled_moments;
         on_out = fills.on_out;
         told_by_disk = λ t. fills.on_disk.told (inits.calls.told t);
         told_by_out = fills.told_by_out;
@@ -184,27 +212,36 @@ module _ {D O : Type 0} (disk : DiskOf D) (out : SinkOf O) (symbols : List ℕ) 
 
       -- the items that stand there
       abbrev items : disk.tells d → List Item
-      items told = with_files [] (held told).contents.stands.first
+      items told = with_files [] (held told).contents.first
 
       durable : (told : disk.tells d) → IsDurable disk trial_capacity (items told) d2
-      durable told = record { stands = (held told).contents.stands.stands; durable = (held told).images }
+      durable told = record { stands = (held told).contents.stands; durable = (held told).images }
 
       stands_part : (told : disk.tells d) (c : List ℕ) → StandsForShelf c trial_capacity (items told)
           → StandsForPart symbols 0 c
       stands_part told c stands =
           let part = (held told).contents in
           record {
-            part = part.part;
-            later = part.later;
+            first = part.first;
+            rest = part.rest;
             split = part.split;
-            stands = record {
-              first = part.stands.first;
-              rest = part.stands.rest;
-              split = part.stands.split;
-              enough = part.stands.enough;
-              stands = stands;
-            };
+            enough = part.enough;
+            stands = stands;
           }
+
+      cut_part : (told : disk.tells d) (c : List ℕ) → StandsForShelf c trial_capacity (items told)
+          → Cut 20 (disk.contents d2) c → GotFiles symbols (new_shelf trial_capacity) c
+      cut_part told c stands cut = record {
+        stands = stands_part told c stands;
+        changes = change_cut trial_capacity (files_of_bytes (Symbols STANDARD) symbols) (new_shelf trial_capacity)
+            (disk.contents d2) c
+            (omega (
+              arith,
+              length-append (header_bytes 2 trial_capacity) (0 ∷ []),
+              length-header_bytes 2 trial_capacity,
+            ))
+            (filled_bytes d2 o2 NoMemory fills told).changes cut;
+      }
 
       left : (told : disk.tells d) (d' : D) → IsWithdrawn disk (items told) d'
           → IsBare disk d' ⊎ HoldsTrialPart disk symbols 1 d'
@@ -213,16 +250,11 @@ module _ {D O : Type 0} (disk : DiskOf D) (out : SinkOf O) (symbols : List ℕ) 
           let part = (held told).contents in
           inr (record {
             contents = record {
-              part = part.part;
-              later = part.later;
+              first = part.first;
+              rest = part.rest;
               split = part.split;
-              stands = record {
-                first = part.stands.first;
-                rest = part.stands.rest;
-                split = part.stands.split;
-                enough = at_least_one part.stands.first some.0;
-                stands = some.1.stands;
-              };
+              enough = at_least_one part.first some.0;
+              stands = some.1.stands;
             };
             images = some.1.durable;
           })
@@ -243,15 +275,21 @@ module _ {D O : Type 0} (disk : DiskOf D) (out : SinkOf O) (symbols : List ℕ) 
           → IsFirst cause (counts 0 (disk.faults d2) 0) (counts 0 (disk.faults d') 0)
           → (disk.tells d2 → (items : List Item) → IsDurable disk trial_capacity items d2 → cause ≡ NoMemory
           → IsWithdrawn disk items d')
+          → (disk.tells d2 → (disk.contents d' ≡ []) ⊎ (disk.contents d' ≡ disk.contents d2))
           → (disk.tells d2 → (items : List Item) → IsDurable disk trial_capacity items d2
           → LeavesBlankOrItems disk items d2 d')
           → TrialRun (outlets_of disk out) symbols cause (outlets d o) (outlets d' o2)
-      withdrawn cause d' early told' first ends moments = record {
+      withdrawn cause d' early told' first ends left_of moments = record {
         on_disk = after cause d'
             (ends_so cause d' early (λ told. ends (told_there told) (items told) (durable told)))
+            (λ told. ⊎_elim
+            (λ none. inl (inr (inl (omega (arith, ap (λ (l : List ℕ). length l) none)))))
+            (λ same. inr (subst (GotFiles symbols (new_shelf trial_capacity)) (sym same)
+            (filled_bytes d2 o2 NoMemory fills told)))
+            (left_of (told_there told)))
             (λ told. joined disk.moment disk.left_since d1 d2 d' _ (filled_moments d2 o2 NoMemory fills told)
             (weaker disk.moment disk.left_since d2 d' _ _
-            (λ c left. ⊎_elim (λ blank. inl blank) (λ stands. inr (stands_part told c stands)) left)
+            (λ c left. ⊎_elim (λ blank. inl blank) (λ there. inr (cut_part told c there.0 there.1)) left)
             (moments (told_there told) (items told) (durable told))));
         on_out = out_so cause early;
         told_by_disk = λ t. told' (told_there t);

@@ -1,6 +1,9 @@
 -- What `trial` leaves of the disk once its shelf is made, at each exit.
 use Rattle.std.proofs.Common.{
   ◌≡◌,
+  ◌⊎◌,
+  inl,
+  inr,
   ℕ,
   ◌<◌,
   ◌≤◌,
@@ -35,6 +38,7 @@ use Rattle.lr_io.specs.Pieces.{PutsPart}
 use Rattle.lr_disk.specs.declared.disk.Disk.{Ghosts as DiskOf}
 use Rattle.lr_shelf_format.specs.Items.{Item}
 use Rattle.lr_shelf_format.specs.ShelfBytes.{StandsForShelf, end_of}
+use Rattle.lr_shelf_format.specs.Way.{Way, way_of}
 use Rattle.lr_shelf.specs.Append.{item_for}
 use Rattle.lr_shelf.specs.Load.{Loads, IsLoadRefusal}
 use Rattle.lr_shelf.specs.Kept.{kept_by}
@@ -46,8 +50,8 @@ use Rattle.lr_shelf.specs.declared.error.ShelfError.TheVariants.{
   NotAShelf as NotAShelf',
   NoMemory as NoMemory',
 }
-use Rattle.lr_disk.specs.Pending.{EachImageSince}
-use Rattle.lr_disk.proofs.Moments.{weaker}
+use Rattle.lr_disk.specs.Pending.{EachImageSince, NothingPending}
+use Rattle.lr_disk.proofs.Moments.{joined, weaker}
 use Rattle.lr_forms.specs.declared.forms.Stop.{Stop}
 use Rattle.lr_forms.specs.declared.forms.Stop.TheVariants.{End, Limit, Fault}
 use Rattle.lr_causes.specs.declared.cause.Cause.{Cause}
@@ -67,14 +71,16 @@ use Rattle.lr_receiving.specs.Reception.{sums_line, PutsLast, LastStops, ReadsAl
 use Rattle.lr_shelf.specs.InitialShelves.{OfItems, HoldsStill, with_files, StandsForPrefix, LeavesPrefixes}
 use Rattle.lr_receiving.specs.Shelving.{StopsBy}
 use Rattle.lr_receiving.specs.Shelved.{MayStop, StopsTrial, ShelvesSoFar}
-use Rattle.lr_receiving.specs.Trial.{trial_capacity, StandsForPart, HoldsTrialPart, OutEnds}
+use Rattle.lr_receiving.specs.Trial.{trial_capacity, GotFiles, StandsForPart, HoldsTrialPart, OutEnds}
 use Rattle.lr_receiving.specs.Filling.{FillEnds, FillsDisk, Fills, StopsFilling}
 use Rattle.lr_receiving.proofs.Causing.{first_later, first_refused, none_rose}
 use Rattle.lr_receiving.specs.First.{IsFirst}
 use Rattle.lr_receiving.proofs.Headline.{end_of-append}
-use Rattle.lr_receiving.proofs.Taking.{no_bytes}
 use Rattle.lr_receiving.proofs.ReceiveEnding.{last_line_is, loaded}
+use Rattle.lr_shelf.proofs.InitialPrefixes.{front_more}
 use Rattle.lr_shelf.proofs.InitialShelves.{of_items, with_files-append}
+use Rattle.lr_receiving.specs.Onto.{ChangesFor, ChangesImagesFor}
+use Rattle.lr_receiving.proofs.Changing.{both_of, change_among, change_for, no_change}
 use Rattle.lr_receiving.proofs.Shelving.{same_of}
 use Rattle.lr_causes.specs.Outside.{outlets, outlets_of, outside, world_of}
 
@@ -87,22 +93,23 @@ stops_trial NoMemory s s' d d' may caused = tt
 stops_trial (Refused (Capacity needed most)) s s' d d' may caused = tt
 stops_trial _ s s' d d' may caused = absurd may
 
--- a prefix of the files of a part
-stands_for_part : (symbols part later : List ℕ) → symbols ≡ part ++ later → (bytes : List ℕ)
-    → StandsForPrefix (OfItems trial_capacity []) (files_of_bytes (Symbols STANDARD) part) 0 bytes
-    → StandsForPart symbols 0 bytes
-stands_for_part symbols part later split bytes stands =
-    record { part = part; later = later; split = split; stands = stands }
+-- a prefix of the first ones of the files
+stands_for_part : (symbols : List ℕ) (files later : List Placed)
+    → files_of_bytes (Symbols STANDARD) symbols ≡ files ++ later → (n : ℕ) (bytes : List ℕ)
+    → StandsForPrefix (OfItems trial_capacity []) files n bytes → StandsForPart symbols n bytes
+stands_for_part symbols files later split n bytes stands =
+    subst (λ (l : List Placed). StandsForPrefix (OfItems trial_capacity []) l n bytes) (sym split)
+    (front_more (OfItems trial_capacity []) files later n bytes stands)
 
 -- an empty shelf
 none_of : (symbols bytes : List ℕ) → StandsForShelf bytes trial_capacity [] → StandsForPart symbols 0 bytes
-none_of symbols bytes stands = stands_for_part symbols [] symbols refl bytes (record {
+none_of symbols bytes stands = record {
   first = [];
-  rest = [];
-  split = no_bytes (Symbols STANDARD);
+  rest = files_of_bytes (Symbols STANDARD) symbols;
+  split = refl;
   enough = omega arith;
   stands = stands;
-})
+}
 
 module _ {D : Type 0} (disk : DiskOf D) (symbols : List ℕ) (d1 : D)
     (empty : disk.tells d1 → IsDurable disk trial_capacity [] d1) where
@@ -116,10 +123,25 @@ module _ {D : Type 0} (disk : DiskOf D) (symbols : List ℕ) (d1 : D)
         (λ c image. subst (λ (l : List ℕ). StandsForShelf l trial_capacity []) (sym (durable.durable c image))
         durable.stands) (loads.unwritten told).any_moment
 
+    empty_images : (files : List Placed) → disk.tells d1
+        → ChangesImagesFor disk (way_of trial_capacity []) files d1 d2
+    empty_images files told =
+        weaker disk.moment disk.left_since d1 d2 _ _
+        (λ c image.
+        no_change (way_of trial_capacity []) files (disk.contents d1) c ((empty told).durable c image))
+        (loads.unwritten told).any_moment
+
     holds_none : disk.tells d1 → HoldsTrialPart disk symbols 0 d2
     holds_none told =
         let durable = loads.durable trial_capacity [] told (empty told) in
         record { contents = none_of symbols (disk.contents d2) durable.stands; images = durable.durable }
+
+    got_none : disk.tells d1 → GotFiles symbols (disk.contents d1) (disk.contents d2)
+    got_none told = record {
+      stands = (holds_none told).contents;
+      changes = no_change (way_of trial_capacity []) (files_of_bytes (Symbols STANDARD) symbols) (disk.contents d1)
+          (disk.contents d2) (loads.unwritten told).contents;
+    }
 
     unloaded_kind : (e : ShelfError) → IsLoadRefusal disk d1 e → StopsTrial (cause_of e)
     unloaded_kind Disk' r = tt
@@ -141,8 +163,11 @@ module _ {D : Type 0} (disk : DiskOf D) (symbols : List ℕ) (d1 : D)
       fills = record {
         told = loads.calls.told;
         ends = unloaded_ends e is r;
-        any_moment = λ told. weaker disk.moment disk.left_since d1 d2 _ _ (λ c stands. none_of symbols c stands)
-            (empty_moments told);
+        got = got_none;
+        any_moment = λ told. weaker disk.moment disk.left_since d1 d2 _ _
+            (λ c at. record { stands = none_of symbols c at.0; changes = at.1 })
+            (both_of disk.moment disk.left_since d1 d2 _ _ (empty_moments told)
+            (empty_images (files_of_bytes (Symbols STANDARD) symbols) told));
       };
       first = first_refused e result2 0 0 (disk.faults d1) (disk.faults d2) 0 is
           (λ failed. subst (λ (x : ShelfError). IsLoadRefusal disk d1 x) failed r) loads.calls.counted;
@@ -168,21 +193,69 @@ module _ {D : Type 0} (disk : DiskOf D) (symbols : List ℕ) (d1 : D)
       split_of : (bytes : List ℕ) → IsRead source limit bytes s s' → symbols ≡ bytes ++ source.left s'
       split_of bytes read = sym gives ∙ read.moved given
 
-      module _ (part : List ℕ) (split : symbols ≡ part ++ source.left s') where
-        fronts : LeavesPrefixes disk (OfItems trial_capacity []) (files_of_bytes (Symbols STANDARD) part) d1 d'
-            → EachImageSince disk d1 d' (StandsForPart symbols 0)
-        fronts = weaker disk.moment disk.left_since d1 d' _ _ (stands_for_part symbols part (source.left s') split)
+      -- the way that the shelf in memory keeps
+      way_is : disk.tells d1 → (kept_by shelf).way ≡ way_of trial_capacity []
+      way_is told = (begun told).settled.kept.way
 
-        front_of : (done rest : List Placed) → files_of_bytes (Symbols STANDARD) part ≡ done ++ rest → (c : List ℕ)
-            → StandsForShelf c trial_capacity (with_files [] done) → StandsForPart symbols 0 c
-        front_of done rest is c stands =
-            stands_for_part symbols part (source.left s') split c
-            (record { first = done; rest = rest; split = is; enough = omega arith; stands = stands })
-
-        holds_front : (done rest : List Placed) → files_of_bytes (Symbols STANDARD) part ≡ done ++ rest
+      module _ (files later : List Placed) (split : files_of_bytes (Symbols STANDARD) symbols ≡ files ++ later) where
+        holds_front : (done rest : List Placed) → files ≡ done ++ rest
             → HoldsStill (OfItems trial_capacity []) done disk d' → HoldsTrialPart disk symbols 0 d'
-        holds_front done rest is durable =
-            record { contents = front_of done rest is (disk.contents d') durable.stands; images = durable.durable }
+        holds_front done rest is durable = record {
+          contents = stands_for_part symbols files later split 0 (disk.contents d') (record {
+            first = done;
+            rest = rest;
+            split = is;
+            enough = omega arith;
+            stands = durable.stands;
+          });
+          images = durable.durable;
+        }
+
+        -- whatever bytes these are
+        got_so : (told : disk.tells d1) (c : List ℕ) → StandsForPrefix (OfItems trial_capacity []) files 0 c
+            → ChangesFor (way_of trial_capacity []) files (disk.contents d1) c → GotFiles symbols (disk.contents d1) c
+        got_so told c stands changes =
+            let way = way_of trial_capacity [] in
+            record {
+              stands = stands_for_part symbols files later split 0 c stands;
+              changes = subst (λ (l : List Placed). ChangesFor way l (disk.contents d1) c) (sym split)
+                  (change_among way files later (disk.contents d1) c changes);
+            }
+
+        -- those of the shelf in memory
+        from_loaded : (told : disk.tells d1) (c : List ℕ) → ChangesFor (kept_by shelf).way files (disk.contents d2) c
+            → ChangesFor (way_of trial_capacity []) files (disk.contents d1) c
+        from_loaded told c changes =
+            subst (λ (l : List ℕ). ChangesFor (way_of trial_capacity []) files l c) (loads.unwritten told).contents
+            (subst (λ (x : Way). ChangesFor x files (disk.contents d2) c) (way_is told) changes)
+
+        all_images : (told : disk.tells d1)
+            → (d' ≡ d2) ⊎ ChangesImagesFor disk (kept_by shelf).way files d2 d'
+            → ChangesImagesFor disk (way_of trial_capacity []) files d1 d'
+        all_images told (inl same) =
+            subst (λ (x : D). ChangesImagesFor disk (way_of trial_capacity []) files d1 x) (sym same)
+            (empty_images files told)
+        all_images told (inr run) =
+            joined disk.moment disk.left_since d1 d2 d' _ (empty_images files told)
+            (weaker disk.moment disk.left_since d2 d' _ _ (from_loaded told) run)
+
+        got_moments : (told : disk.tells d1) → LeavesPrefixes disk (OfItems trial_capacity []) files d1 d'
+            → (d' ≡ d2) ⊎ ChangesImagesFor disk (kept_by shelf).way files d2 d'
+            → EachImageSince disk d1 d' (GotFiles symbols (disk.contents d1))
+        got_moments told leaves images =
+            weaker disk.moment disk.left_since d1 d' _ _ (λ c at. got_so told c at.0 at.1)
+            (both_of disk.moment disk.left_since d1 d' _ _ leaves (all_images told images))
+
+        -- nothing is pending on the disk that was loaded
+        only_loaded : disk.tells d1 → NothingPending disk d2
+        only_loaded told = (loads.durable trial_capacity [] told (empty told)).durable
+
+        got_front : (told : disk.tells d1)
+            → StandsForPrefix (OfItems trial_capacity []) files 0 (disk.contents d')
+            → ChangesFor (kept_by shelf).way files (disk.contents d2) (disk.contents d')
+            → GotFiles symbols (disk.contents d1) (disk.contents d')
+        got_front told stands changes =
+            got_so told (disk.contents d') stands (from_loaded told (disk.contents d') changes)
 
       -- shelving stopped
       module _ (calm : Rose (source.faults s) (source.faults s') → ⊥)
@@ -193,18 +266,21 @@ module _ {D : Type 0} (disk : DiskOf D) (symbols : List ℕ) (d1 : D)
         split : symbols ≡ some.bytes ++ source.left s'
         split = split_of some.bytes some.read
 
-        abbrev files : List Placed
-        files = files_of_bytes (Symbols STANDARD) some.bytes
-
-        -- the files that were read are the first ones of all, and these fit
-        all_fit : (done rest : List Placed) (next : Placed) → some.files ≡ done ++ next ∷ rest
-            → trial_capacity < end_of (with_files [] (done ++ next ∷ [])) → ⊥
-        all_fit done rest next is over =
+        -- the files that were shelved are the first ones of all
+        come_first : (later : List Placed) × (files_of_bytes (Symbols STANDARD) symbols ≡ some.files ++ later)
+        come_first =
             let few_read : length some.bytes < limit =
             omega (arith, few, ap length split, length-append some.bytes (source.left s')) in
             let first = some.first STANDARD refl given few_read calm in
+            (first.0, ap (files_of_bytes (Symbols STANDARD)) split ∙ first.1)
+
+        -- and all of them fit
+        all_fit : (done rest : List Placed) (next : Placed) → some.files ≡ done ++ next ∷ rest
+            → trial_capacity < end_of (with_files [] (done ++ next ∷ [])) → ⊥
+        all_fit done rest next is over =
+            let first = come_first in
             let all : files_of_bytes (Symbols STANDARD) symbols ≡ (done ++ next ∷ []) ++ (rest ++ first.0) =
-            ap (files_of_bytes (Symbols STANDARD)) split ∙ first.1 ∙ ap (λ (l : List Placed). l ++ first.0) is
+            first.1 ∙ ap (λ (l : List Placed). l ++ first.0) is
             ∙ append_assoc done (next ∷ rest) first.0 ∙ sym (append_assoc done (next ∷ []) (rest ++ first.0)) in
             let whole : with_files [] (files_of_bytes (Symbols STANDARD) symbols)
             ≡ with_files [] (done ++ next ∷ []) ++ map item_for (rest ++ first.0) =
@@ -214,17 +290,16 @@ module _ {D : Type 0} (disk : DiskOf D) (symbols : List ℕ) (d1 : D)
             omega (arith, le, over, fit)
 
         stopped_ends : (c : Cause) → (disk.tells d1
-            → StopsBy (outlets_of disk out) (OfItems trial_capacity []) c files (outlets d1 o) (outlets d' o'))
-            → (disk.tells d1 → StopsBy (outlets_of disk out) (OfItems trial_capacity []) c
+            → StopsBy (outlets_of disk out) (OfItems trial_capacity []) c
             some.files (outlets d1 o) (outlets d' o')) → StopsTrial c
             → FillEnds disk symbols c d1 d'
-        stopped_ends (Failed Disk) why early kind = tt
-        stopped_ends NoMemory why early kind = λ told.
-            let w = why told in holds_front some.bytes split w.done w.rest w.split w.durable
-        stopped_ends (Refused (NotAShelf at)) why early kind = λ told. absurd (why told)
-        stopped_ends (Refused (Capacity needed most)) why early kind = λ told.
-            let w = early told in absurd (all_fit w.done w.rest w.next w.split w.over)
-        stopped_ends _ why early kind = absurd kind
+        stopped_ends (Failed Disk) why kind = tt
+        stopped_ends NoMemory why kind = λ told.
+            let w = why told in holds_front some.files come_first.0 come_first.1 w.done w.rest w.split w.durable
+        stopped_ends (Refused (NotAShelf at)) why kind = λ told. absurd (why told)
+        stopped_ends (Refused (Capacity needed most)) why kind = λ told.
+            let w = why told in absurd (all_fit w.done w.rest w.next w.split w.over)
+        stopped_ends _ why kind = absurd kind
 
         -- a sink that counts no fault
         module _ (sure : (x : O) → out.faults x ≡ 0) (works : (kept_by shelf).failed ≡ false) where
@@ -245,11 +320,16 @@ module _ {D : Type 0} (disk : DiskOf D) (symbols : List ℕ) (d1 : D)
             fills = record {
               told = λ t. some.stopped.told_by_disk (loads.calls.told t);
               ends = stopped_ends cause
-                  (λ told. (some.stopped.stops (OfItems trial_capacity []) [] (outlets d1 o) (begun told)).why)
                   (λ told. (some.early.stops (OfItems trial_capacity []) [] (outlets d1 o) (begun told)).why) kind;
+              got = λ told.
+                  got_front some.files come_first.0 come_first.1 told
+                  (some.early.keeps (OfItems trial_capacity []) [] (outlets d1 o) (begun told)).held.contents
+                  (some.early.outside (loads.calls.told told));
               any_moment = λ told.
-                  fronts some.bytes split
-                  (some.stopped.stops (OfItems trial_capacity []) [] (outlets d1 o) (begun told)).any_moment;
+                  got_moments some.files come_first.0 come_first.1 told
+                  (some.early.stops (OfItems trial_capacity []) [] (outlets d1 o) (begun told)).any_moment
+                  (some.early.moments (loads.calls.told told)
+                  (only_loaded some.files come_first.0 come_first.1 told));
             };
             first = first;
           }
@@ -288,6 +368,12 @@ module _ {D : Type 0} (disk : DiskOf D) (symbols : List ℕ) (d1 : D)
         durable told =
             let still = (so_far told).settled.on_disk in record { stands = still.stands; durable = still.durable }
 
+        abbrev all_files : List Placed
+        all_files = files_of_bytes (Symbols STANDARD) all.bytes
+
+        are_all : files_of_bytes (Symbols STANDARD) symbols ≡ all_files ++ []
+        are_all = ap (files_of_bytes (Symbols STANDARD)) (sym ended_so.1) ∙ sym (append-nil all_files)
+
         pub finished : FillsDisk disk symbols Done d1 d'
         finished = record {
           told = λ t. all.shelved.told_by_disk (loads.calls.told t);
@@ -296,7 +382,20 @@ module _ {D : Type 0} (disk : DiskOf D) (symbols : List ℕ) (d1 : D)
                 (with_files [] (files_of_bytes (Symbols STANDARD) l)) d') ended_so.1 (durable told),
             all.shelved.disk_count ∙ same_count,
           );
-          any_moment = λ told. fronts all.bytes split_all (so_far told).any_moment;
+          got = λ told.
+              got_front all_files [] are_all told
+              (record {
+                first = all_files;
+                rest = [];
+                split = sym (append-nil all_files);
+                enough = omega arith;
+                stands = (so_far told).settled.on_disk.stands;
+              })
+              (change_for (kept_by shelf).way all_files (disk.contents d2) (disk.contents d') all.shelved.grown.room
+              (all.shelved.outside (loads.calls.told told)));
+          any_moment = λ told.
+              got_moments all_files [] are_all told (so_far told).any_moment
+              (all.shelved.moments (loads.calls.told told) (only_loaded all_files [] are_all told)).1;
         }
 
       -- ---- for either answer
@@ -340,19 +439,18 @@ module _ {D O : Type 0} (disk : DiskOf D) (out : SinkOf O) (symbols : List ℕ) 
       let durable = done.ends.0 told in
       let files = files_of_bytes (Symbols STANDARD) symbols in
       record {
-        contents = stands_for_part symbols symbols [] (sym (append-nil symbols)) (disk.contents d')
-            (record {
-              first = files;
-              rest = [];
-              split = sym (append-nil files);
-              enough = omega arith;
-              stands = durable.stands;
-            });
+        contents = record {
+          first = files;
+          rest = [];
+          split = sym (append-nil files);
+          enough = omega arith;
+          stands = durable.stands;
+        };
         images = durable.durable;
       }
 
   left_by : (cause : Cause) → FillEnds disk symbols cause d d' → FillsDisk disk symbols cause d d'
-  left_by cause ends = record { told = done.told; ends = ends; any_moment = done.any_moment }
+  left_by cause ends = record { told = done.told; ends = ends; got = done.got; any_moment = done.any_moment }
 
   module _ (sums : ReceiveCounts) (line : sums_line sums ≡ receive_last (Symbols STANDARD) symbols End) where
     pub last_stops : (cause : Cause) → LastStops out sums cause o o'

@@ -43,6 +43,7 @@ use Rattle.lr_shelf_format.specs.ShelfBytes.{StandsForShelf}
 use Rattle.lr_shelf_format.specs.Walk.{IsOpen}
 use Rattle.lr_shelf_format.proofs.ReadingLemmas.{is_one_walk, length-front}
 use Rattle.lr_shelf.specs.Init.{IsBlank}
+use Rattle.lr_shelf.proofs.Initing.{Cut-refl}
 use Rattle.lr_shelf.specs.Shelf.{IsDurable}
 use Rattle.lr_receiving.specs.Filling.{IsWithdrawn, LeavesBlankOrItems}
 use Rattle.lr_receiving.specs.Trial.{trial_capacity, IsBare}
@@ -103,8 +104,11 @@ module _ (capacity : ℕ) (old c : List ℕ) (stands : StandsForShelf old capaci
         };
       }
 
-  cut_empty : IsBlank capacity c ⊎ StandsForShelf c capacity []
-  cut_empty = elim (cases_lt cut.kept 20) [ inl less ↦ inl (short less) | inr enough ↦ inr (long enough) ]
+  cut_empty : IsBlank capacity c ⊎ (StandsForShelf c capacity [] × Cut 20 old c)
+  cut_empty = elim (cases_lt cut.kept 20) [
+    | inl less ↦ inl (short less)
+    | inr enough ↦ inr (long enough, record { kept = cut.kept; enough = enough; front = cut.front })
+  ]
 
 -- ---- the whole
 
@@ -120,8 +124,12 @@ module _ {D : Type 0} (disk : DiskOf D) (items : List Item) (d mid : D)
   pub read_moments : LeavesBlankOrItems disk items d mid
   read_moments =
       weaker disk.moment disk.left_since d mid (disk.may_leave d) _
-      (λ c image. inr (subst (λ (l : List ℕ). StandsForShelf l trial_capacity items) (sym (durable.durable c image))
-      durable.stands)) unwritten.any_moment
+      (λ c image.
+      let same : c ≡ disk.contents d = durable.durable c image in
+      inr (
+        subst (λ (l : List ℕ). StandsForShelf l trial_capacity items) (sym same) durable.stands,
+        subst (Cut 20 (disk.contents d)) (sym same) (Cut-refl 20 (disk.contents d)),
+      )) unwritten.any_moment
 
   gate : ((items ≡ []) × (IsOpen (disk.contents d) 19 → ⊥)) ⊎ ((items ≢ []) × IsOpen (disk.contents d) 19)
   gate = first_gate (disk.contents d) trial_capacity items durable.stands
@@ -140,11 +148,13 @@ module _ {D : Type 0} (disk : DiskOf D) (items : List Item) (d mid : D)
     gone d' bare = inl (no_items, bare)
 
     cut_items : (c : List ℕ) → Cut 0 (disk.contents mid) c
-        → IsBlank trial_capacity c ⊎ StandsForShelf c trial_capacity items
+        → IsBlank trial_capacity c ⊎ (StandsForShelf c trial_capacity items × Cut 20 (disk.contents d) c)
     cut_items c cut =
-        subst (λ (l : List Item). IsBlank trial_capacity c ⊎ StandsForShelf c trial_capacity l) (sym no_items)
-        (cut_empty trial_capacity (disk.contents mid) c
-        (subst (λ (l : List Item). StandsForShelf (disk.contents mid) trial_capacity l) no_items still.stands) cut)
+        subst (λ (l : List Item). IsBlank trial_capacity c
+        ⊎ (StandsForShelf c trial_capacity l × Cut 20 (disk.contents d) c)) (sym no_items)
+        (cut_empty trial_capacity (disk.contents d) c
+        (subst (λ (l : List Item). StandsForShelf (disk.contents d) trial_capacity l) no_items durable.stands)
+        (subst (λ (l : List ℕ). Cut 0 l c) unwritten.contents cut))
 
     pub cleared_moments : (d' : D)
         → (NothingPending disk mid

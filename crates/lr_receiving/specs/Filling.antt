@@ -1,6 +1,7 @@
 -- How `trial` fills the shelf that it made, and takes it away again. No clause of a public call cites this.
 use Rattle.std.specs.Prelude.{◌≡◌, ◌≢◌, ◌⊎◌, ℕ, List, []}
 use Rattle.lr_disk.specs.declared.disk.Disk.{Ghosts as DiskOf}
+use Rattle.lr_disk.specs.Disk.{Cut}
 use Rattle.lr_disk.specs.Pending.{EachImageSince}
 use Rattle.lr_shelf_format.specs.Items.{Item}
 use Rattle.lr_shelf_format.specs.ShelfBytes.{StandsForShelf}
@@ -13,7 +14,14 @@ use Rattle.lr_causes.specs.Causes.{counts}
 use Rattle.lr_causes.specs.Outside.{Outlets, OutletsOf, outlet_counts}
 use Rattle.lr_receiving.specs.First.{IsFirst}
 use Rattle.lr_receiving.specs.Shelved.{StopsTrial}
-use Rattle.lr_receiving.specs.Trial.{trial_capacity, StandsForPart, IsBare, HoldsTrialPart, DiskEnds, OutEnds}
+use Rattle.lr_receiving.specs.Trial.{
+  trial_capacity,
+  GotFiles,
+  IsBare,
+  HoldsTrialPart,
+  DiskEnds,
+  OutEnds,
+}
 
 module _ {D : Type 0} (disk : DiskOf D) (symbols : List ℕ) where
   -- how it leaves the disk, for each cause that it may have: as the whole call, but at want of memory perhaps no file
@@ -26,9 +34,10 @@ module _ {D : Type 0} (disk : DiskOf D) (symbols : List ℕ) where
   pub record FillsDisk (cause : Cause) (d d' : D) : Type 0 where
     pub told : disk.tells d → disk.tells d'
     pub ends : FillEnds cause d d'
-    -- a crash at any moment leaves a shelf with some of the files
-    pub any_moment : disk.tells d
-        → EachImageSince disk d d' (StandsForPart symbols 0)
+    -- the contents at the return
+    pub got : disk.tells d → GotFiles symbols (disk.contents d) (disk.contents d')
+    -- and what a crash at any moment leaves
+    pub any_moment : disk.tells d → EachImageSince disk d d' (GotFiles symbols (disk.contents d))
 
   -- it stopped before the last line
   pub record StopsFilling (cause : Cause) (d d' : D) : Type 0 where
@@ -50,9 +59,9 @@ module _ {D : Type 0} (disk : DiskOf D) (items : List Item) where
   IsWithdrawn d = ((items ≡ []) × IsBare disk d)
       ⊎ ((items ≢ []) × IsDurable disk trial_capacity items d)
 
-  -- each image since the moment of d has at most 20 bytes, with no header or an empty shelf, or stands for these
-  -- items
+  -- Each image since the moment of d has at most 20 bytes, with no header or an empty shelf; or it has the first bytes
+  -- of d, 20 of them at least, and stands for these items.
   abbrev pub LeavesBlankOrItems : D → D → Type 0
   LeavesBlankOrItems d d' =
       EachImageSince disk d d'
-      (λ c. IsBlank trial_capacity c ⊎ StandsForShelf c trial_capacity items)
+      (λ c. IsBlank trial_capacity c ⊎ (StandsForShelf c trial_capacity items × Cut 20 (disk.contents d) c))

@@ -3,6 +3,7 @@ use Rattle.std.specs.Prelude.{◌≡◌, ◌<◌, ◌-◌, ℕ, min, List, [], �
 use Rattle.lr_bits.specs.declared.placed.Placed.{Placed}
 use Rattle.lr_bits.specs.Sizes.{most_u64}
 use Rattle.lr_disk.specs.declared.disk.Disk.{Ghosts as DiskOf}
+use Rattle.lr_disk.specs.Pending.{EachImageSince}
 use Rattle.lr_shelf_format.specs.Way.{Way, IsWay}
 use Rattle.lr_shelf.specs.Adding.{StaysOutside}
 use Rattle.lr_shelf.specs.Prefixes.{HasRoom, end_with}
@@ -29,6 +30,10 @@ pub record ChangesFor (way : Way) (files : List Placed) (old new : List ℕ) : T
   pub outside : StaysOutside (way.end - 1) (end_with way.end first) old new
 
 module _ {D : Type 0} (disk : DiskOf D) where
+  -- the same of each image since the moment of d
+  abbrev pub ChangesImagesFor : Way → List Placed → D → D → Type 0
+  ChangesImagesFor way files d d' = EachImageSince disk d d' (ChangesFor way files (disk.contents d))
+
   -- on the way that the disk has there is no room for the next file
   pub record IsFull (needed most : ℕ) (files : List Placed) (d : D) : Type 0 where
     pub way : Way

@@ -32,9 +32,9 @@ use Rattle.lr_causes.specs.Outside.{
 }
 use Rattle.lr_receiving.specs.First.{IsFirst}
 use Rattle.lr_reading.specs.Inputs.{outcomes_of_bytes, bytes_left_over}
-use Rattle.lr_reading.specs.Readers.{AreAllThatWait, most_waiting, most_when_asked}
+use Rattle.lr_reading.specs.Readers.{AreAllThatWait, HaveEnded, most_ahead, most_waiting, most_when_asked}
 use Rattle.lr_receiving.specs.Inputs.{files_of_bytes}
-use Rattle.lr_receiving.specs.Onto.{ChangesFor, IsFull, HadRoom}
+use Rattle.lr_receiving.specs.Onto.{ChangesFor, ChangesImagesFor, IsFull, HadRoom}
 use Rattle.lr_reading.specs.Reading.{IsRead, EndsFor, WhenLastAsked}
 use Rattle.lr_shelf.specs.InitialShelves.{
   InitialShelf,
@@ -151,9 +151,29 @@ AreWorkedBut world initial input most files w w' bytes =
     → AreAllThatWait input most bytes (length waiting)
     → AreAcknowledged world initial (placed_of_outcomes worked) files w w'
 
--- a run that took these bytes, where this many work on windows; what stood there before is the initial shelf
-pub record Receives {S D O : Type 0} (world : World S D O) (input : Input)
-    (workers : ℕ) (initial : InitialShelf) (limit : ℕ)
+-- no file of the bytes taken is put off, where this many work on windows; what stood there before is the initial shelf
+pub record PutsNoFileOff {S D O : Type 0} (world : World S D O) (input : Input) (workers : ℕ) (initial : InitialShelf)
+    (bytes : List ℕ) (w w' : Outside S D O) : Type 0 where
+  -- However the run ended: of the outcomes of the bytes taken all but the last few are worked through, and their files
+  -- are acknowledged. Any append may be the one that fails, so this says when a file is shelved.
+  pub timely : (worked waiting : List Outcome) → outcomes_of_bytes input bytes ≡ worked ++ waiting
+      → most_waiting input workers ≤ length waiting
+      → AreAcknowledged (world_outlets world) initial (placed_of_outcomes worked) (files_of_bytes input bytes)
+      (outlets_in w) (outlets_in w')
+  -- So are those whose frames or blocks ended so long before the last byte that was taken.
+  pub timely_in_bytes : (worked waiting : List Outcome) → outcomes_of_bytes input bytes ≡ worked ++ waiting
+      → HaveEnded input (most_ahead input workers) bytes (length worked)
+      → AreAcknowledged (world_outlets world) initial (placed_of_outcomes worked) (files_of_bytes input bytes)
+      (outlets_in w) (outlets_in w')
+  -- And no file waited for the source: of the outcomes of the bytes that it had given when it was last asked all but
+  -- the last few are worked through: one where noise came after the last frame, and no block or frame. Any append may
+  -- be the one that fails, so they were worked through before that call.
+  pub in_time : WhenLastAsked world.source (AreWorkedBut (world_outlets world) initial input
+      (most_when_asked input workers) (files_of_bytes input bytes) (outlets_in w) (outlets_in w')) bytes w.source
+      w'.source
+
+-- a run that took these bytes; what stood there before is the initial shelf
+pub record Receives {S D O : Type 0} (world : World S D O) (input : Input) (initial : InitialShelf) (limit : ℕ)
     (bytes : List ℕ) (cause : Cause) (w w' : Outside S D O) : Type 0 where
   -- the contents and each crash image hold each file whose line was put whole
   pub held : (whole rest : List Placed) (text : List ℕ) → world.out.tells w.out
@@ -164,18 +184,6 @@ pub record Receives {S D O : Type 0} (world : World S D O) (input : Input)
   pub held_untold : HoldsPrefix world.disk initial (files_of_bytes input bytes) 0 w'.disk
   -- so does every moment of the call
   pub any_moment : LeavesPrefixes world.disk initial (files_of_bytes input bytes) w.disk w'.disk
-  -- However the run ended: of the outcomes of the bytes taken all but the last few are worked through, and their files
-  -- are acknowledged. Any append may be the one that fails, so this says when a file is shelved.
-  pub timely : (worked waiting : List Outcome) → outcomes_of_bytes input bytes ≡ worked ++ waiting
-      → most_waiting input workers ≤ length waiting
-      → AreAcknowledged (world_outlets world) initial (placed_of_outcomes worked) (files_of_bytes input bytes)
-      (outlets_in w) (outlets_in w')
-  -- And no file waited for the source: of the outcomes of the bytes that it had given when it was last asked all but
-  -- the last few are worked through: one where noise came after the last frame, and no block or frame. Any append may
-  -- be the one that fails, so they were worked through before that call.
-  pub in_time : WhenLastAsked world.source (AreWorkedBut (world_outlets world) initial input
-      (most_when_asked input workers) (files_of_bytes input bytes) (outlets_in w) (outlets_in w')) bytes w.source
-      w'.source
   -- what a finished run leaves, and one that stopped early
   pub ends : Ends world input initial limit bytes cause w w'
   -- where no count rises and all files fit, the work is done or memory was refused
@@ -219,11 +227,15 @@ pub record ReceiveRun {S D O : Type 0} (world : World S D O) (input : Input)
   -- over a disk that tells its contents, stands for a shelf, and has nothing pending
   pub onto_shelf : (capacity : ℕ) (items : List Item) → world.disk.tells w.disk
       → IsDurable world.disk capacity items w.disk
-      → Receives world input workers (OfItems capacity items) limit bytes cause w w'
+      → Receives world input (OfItems capacity items) limit bytes cause w w'
   -- over one that has a way, whatever its records hold, and has nothing pending
   pub onto_way : (way : Way) → world.disk.tells w.disk → IsWay (world.disk.contents w.disk) way
       → NothingPending world.disk w.disk
-      → Receives world input workers (OfWay way (world.disk.contents w.disk)) limit bytes cause w w'
+      → Receives world input (OfWay way (world.disk.contents w.disk)) limit bytes cause w w'
+  -- no file is put off, over either; and also with something pending at the start, where a byte was taken
+  pub keeps_up : (initial : InitialShelf) → world.disk.tells w.disk
+      → StandsWith initial [] (world.disk.contents w.disk) → (bytes ≡ [] → NothingPending world.disk w.disk)
+      → PutsNoFileOff world input workers initial bytes w w'
   -- a disk on which no shelf stands is refused, exactly then
   pub refused : (at : ℕ) → cause ≡ Refused (NotAShelf at)
       → (world.disk.tells w.disk → IsNoShelfAt (world.disk.contents w.disk) at)
@@ -249,3 +261,7 @@ pub record ReceiveRun {S D O : Type 0} (world : World S D O) (input : Input)
   -- however the run ended, nothing was written but for the first ones of the files, and they fit the capacity
   pub outside : (way : Way) → world.disk.tells w.disk → IsWay (world.disk.contents w.disk) way
       → ChangesFor way (files_of_bytes input bytes) (world.disk.contents w.disk) (world.disk.contents w'.disk)
+  -- nor does a crash at any moment leave anything else, where nothing was pending
+  pub outside_any_moment : (way : Way) → world.disk.tells w.disk → IsWay (world.disk.contents w.disk) way
+      → NothingPending world.disk w.disk
+      → ChangesImagesFor world.disk way (files_of_bytes input bytes) w.disk w'.disk

@@ -4,6 +4,7 @@ use Rattle.lr_bits.specs.Faults.{Rose}
 use Rattle.lr_bits.specs.declared.outcome.Outcome.{Outcome}
 use Rattle.lr_bits.specs.declared.placed.Placed.{Placed}
 use Rattle.lr_io.specs.declared.sink.Sink.{Ghosts as SinkOf}
+use Rattle.lr_disk.specs.Pending.{NothingPending}
 use Rattle.lr_conv.specs.declared.line.LineCode.{LineCode}
 use Rattle.lr_layers.specs.Layers.{numbers_of}
 use Rattle.lr_layers.specs.Origins.{placed_of_outcomes}
@@ -26,8 +27,8 @@ use Rattle.lr_causes.specs.Outside.{Outlets, OutletsOf, Outside, World, counts_i
 use Rattle.lr_receiving.specs.First.{IsFirst}
 use Rattle.lr_shelf.specs.InitialShelves.{InitialShelf, LeavesPrefixes}
 use Rattle.lr_shelf.specs.Prefixes.{HasRoom}
-use Rattle.lr_receiving.specs.Onto.{ChangesFor, IsFullWith}
-use Rattle.lr_reading.specs.Readers.{AreAllThatWait, Leeway}
+use Rattle.lr_receiving.specs.Onto.{ChangesFor, ChangesImagesFor, IsFullWith}
+use Rattle.lr_reading.specs.Readers.{AreAllThatWait, HaveEnded, Leeway}
 use Rattle.lr_reading.specs.Reading.{IsRead, WhenLastAsked}
 use Rattle.lr_causes.specs.Puts.{Puts, PutStops}
 use Rattle.lr_receiving.specs.Receive.{counts_line, AreWorkedBut, DoesWork, IsWorkDone, Ends}
@@ -57,14 +58,16 @@ pub record EndsOver {D O : Type 0} (cause : Cause) (files : List Placed)
   pub silent : files ≡ [] → IsEarlier cause → w'.out ≡ w.out
   pub kind : files ≡ [] → cause ≡ Failed Disk → ⊥
 
--- of the outcomes of these bytes all but the last ones, this many at most, are worked through: their files are
--- acknowledged
-pub record FewWait {D O : Type 0} (world : OutletsOf D O) (initial : InitialShelf) (input : Input) (most : ℕ)
+-- of the outcomes of these bytes all but the last few are worked through, and so are all whose frames or blocks ended
+-- so long before the last byte: their files are acknowledged
+pub record FewWait {D O : Type 0} (world : OutletsOf D O) (initial : InitialShelf) (input : Input) (leeway : Leeway)
     (bytes : List ℕ) (w w' : Outlets D O) : Type 0 where
   pub worked : List Outcome
   pub late : List Outcome
   pub split : outcomes_of_bytes input bytes ≡ worked ++ late
-  pub few : length late ≤ most
+  pub few : length late ≤ leeway.at_end
+  pub close : (count : ℕ) → count ≤ length (outcomes_of_bytes input bytes)
+      → HaveEnded input leeway.ahead bytes count → count ≤ length worked
   pub acknowledged : AreAcknowledged world initial (placed_of_outcomes worked) (files_of_bytes input bytes) w w'
 
 -- the files of the outcomes of these bytes, but for the last ones, those that may wait, are the first ones of these
@@ -103,7 +106,7 @@ module _ {S D O : Type 0} (world : World S D O) (input : Input) (limit : ℕ) wh
         × (files_of_bytes input (bytes ++ world.source.left w'.source) ≡ files ++ rest)
     pub timely : (initial : InitialShelf) (before : Outlets D O)
         → ShelvesSoFar (world_outlets world) initial [] shelf before (outlets_in w)
-        → FewWait (world_outlets world) initial input leeway.at_end bytes before (outlets_in w')
+        → FewWait (world_outlets world) initial input leeway bytes before (outlets_in w')
     pub in_time : (initial : InitialShelf) (before : Outlets D O)
         → ShelvesSoFar (world_outlets world) initial [] shelf before (outlets_in w)
         → WhenLastAsked world.source (AreWorkedBut (world_outlets world) initial input leeway.when_asked
@@ -122,7 +125,7 @@ module _ {S D O : Type 0} (world : World S D O) (input : Input) (limit : ℕ) wh
         → ShelvesSoFar (world_outlets world) initial [] shelf before (outlets_in w)
         → LeavesPrefixes world.disk initial (files_of_bytes input bytes) before.disk w'.disk
         × Ends world input initial limit bytes cause (outside w.source before.disk before.out) w'
-        × FewWait (world_outlets world) initial input leeway.at_end bytes before (outlets_in w')
+        × FewWait (world_outlets world) initial input leeway bytes before (outlets_in w')
         × WhenLastAsked world.source (AreWorkedBut (world_outlets world) initial input leeway.when_asked
         (files_of_bytes input bytes) before (outlets_in w')) bytes w.source w'.source
     pub over : EndsOver cause (files_of_bytes input bytes) shelf (outlets_in w) (outlets_in w')
@@ -131,3 +134,6 @@ module _ {S D O : Type 0} (world : World S D O) (input : Input) (limit : ℕ) wh
     pub outside : world.disk.tells w.disk
         → ChangesFor (kept_by shelf).way (files_of_bytes input bytes) (world.disk.contents w.disk)
         (world.disk.contents w'.disk)
+    pub moments : world.disk.tells w.disk → NothingPending world.disk w.disk
+        → (w'.disk ≡ w.disk)
+        ⊎ ChangesImagesFor world.disk (kept_by shelf).way (files_of_bytes input bytes) w.disk w'.disk

@@ -1,7 +1,8 @@
 -- How far shelving files has come. No clause of a public call cites this.
-use Rattle.std.specs.Prelude.{◌≡◌, ◌+◌, ◌-◌, ℕ, false, List, [], ◌∷◌, ◌++◌, length}
+use Rattle.std.specs.Prelude.{◌≡◌, ◌⊎◌, ◌+◌, ◌-◌, ℕ, false, List, [], ◌∷◌, ◌++◌, length}
 use Rattle.lr_bits.specs.declared.outcome.Outcome.{Outcome}
 use Rattle.lr_bits.specs.declared.placed.Placed.{Placed}
+use Rattle.lr_disk.specs.Pending.{NothingPending}
 use Rattle.lr_layers.specs.Origins.{placed_of_outcomes}
 use Rattle.lr_shelf.specs.Kept.{kept_by}
 use Rattle.lr_shelf.specs.declared.shelf.Shelf.{Shelf}
@@ -15,7 +16,7 @@ use Rattle.lr_receiving.specs.First.{IsFirst}
 use Rattle.lr_shelf.specs.Adding.{StaysOutside}
 use Rattle.lr_shelf.specs.InitialShelves.{InitialShelf, IsSettledOn, LeavesPrefixes, next_number}
 use Rattle.lr_shelf.specs.Prefixes.{HasRoom, end_with}
-use Rattle.lr_receiving.specs.Onto.{ChangesFor, IsFullWith}
+use Rattle.lr_receiving.specs.Onto.{ChangesFor, ChangesImagesFor, IsFullWith}
 use Rattle.lr_receiving.specs.Shelving.{shelved_lines, AreAcknowledged, GotText, Stops}
 
 -- the causes for which shelving may stop, over any disk
@@ -77,6 +78,9 @@ module _ {D O : Type 0} (world : OutletsOf D O) where
     pub outside : world.disk.tells w.disk
         → StaysOutside ((kept_by shelf).way.end - 1) (end_with (kept_by shelf).way.end files)
         (world.disk.contents w.disk) (world.disk.contents w'.disk)
+    pub moments : world.disk.tells w.disk → NothingPending world.disk w.disk
+        → NothingPending world.disk w'.disk
+        × ((w'.disk ≡ w.disk) ⊎ ChangesImagesFor world.disk (kept_by shelf).way files w.disk w'.disk)
 
   -- they were not all
   pub record StopsShelving (cause : Cause) (files : List Placed) (shelf : Shelf)
@@ -98,6 +102,8 @@ module _ {D O : Type 0} (world : OutletsOf D O) where
     pub grown : GrowsNoMore cause files shelf w w'
     pub outside : world.disk.tells w.disk
         → ChangesFor (kept_by shelf).way files (world.disk.contents w.disk) (world.disk.contents w'.disk)
+    pub moments : world.disk.tells w.disk → NothingPending world.disk w.disk
+        → (w'.disk ≡ w.disk) ⊎ ChangesImagesFor world.disk (kept_by shelf).way files w.disk w'.disk
 
   -- the files that one outcome more adds were shelved
   pub record Gains (outcomes : List Outcome) (outcome : Outcome)

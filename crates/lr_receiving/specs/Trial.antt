@@ -1,5 +1,5 @@
 -- What `trial` does to the outside.
-use Rattle.std.specs.Prelude.{◌≡◌, ◌⊎◌, ◌++◌, ℕ, List, [], length}
+use Rattle.std.specs.Prelude.{◌≡◌, ◌⊎◌, ℕ, List, [], length}
 use Rattle.lr_io.specs.declared.sink.Sink.{Ghosts as SinkOf}
 use Rattle.lr_io.specs.Pieces.{PutsPart}
 use Rattle.lr_conv.specs.declared.line.TheConstants.{STANDARD}
@@ -7,7 +7,8 @@ use Rattle.lr_disk.specs.declared.disk.Disk.{Ghosts as DiskOf}
 use Rattle.lr_disk.specs.Disk.{Only}
 use Rattle.lr_disk.specs.Reads.{IsUnwritten}
 use Rattle.lr_disk.specs.Pending.{EachImageSince, NothingPending}
-use Rattle.lr_shelf.specs.Init.{IsTaken, IsBlank}
+use Rattle.lr_shelf_format.specs.Way.{way_of}
+use Rattle.lr_shelf.specs.Init.{IsTaken, IsBlank, IsLeftByInit, new_shelf}
 use Rattle.lr_shelf.specs.Shelf.{IsDurable}
 use Rattle.lr_forms.specs.declared.forms.Stop.TheVariants.{End}
 use Rattle.lr_causes.specs.declared.cause.Cause.{Cause}
@@ -19,6 +20,7 @@ use Rattle.lr_causes.specs.Causes.{IsEarlier}
 use Rattle.lr_causes.specs.Outside.{Outlets, OutletsOf, outlet_counts}
 use Rattle.lr_receiving.specs.First.{IsFirst}
 use Rattle.lr_receiving.specs.Inputs.{files_of_bytes}
+use Rattle.lr_receiving.specs.Onto.{ChangesFor}
 use Rattle.lr_receiving.specs.Receive.{receive_last}
 use Rattle.lr_shelf.specs.InitialShelves.{OfItems, StandsForPrefix, with_files}
 use Rattle.lr_receiving.specs.Shelving.{GotText}
@@ -27,14 +29,22 @@ use Rattle.lr_receiving.specs.Shelving.{GotText}
 abbrev pub trial_capacity : ℕ
 trial_capacity = 1048576
 
--- these bytes stand for a shelf of that capacity with a prefix of the files of these symbols, or of the first of them;
--- it has n of the files at least
-pub record StandsForPart (symbols : List ℕ) (n : ℕ) (bytes : List ℕ) : Type 0 where
-  pub part : List ℕ
-  pub later : List ℕ
-  pub split : symbols ≡ part ++ later
-  pub stands : StandsForPrefix (OfItems trial_capacity [])
-      (files_of_bytes (Symbols STANDARD) part) n bytes
+-- these bytes stand for a shelf of that capacity with a prefix of the files of these symbols, with n of them at least
+abbrev pub StandsForPart : List ℕ → ℕ → List ℕ → Type 0
+StandsForPart symbols n bytes =
+    StandsForPrefix (OfItems trial_capacity []) (files_of_bytes (Symbols STANDARD) symbols) n bytes
+
+-- These bytes do so, and they were an empty shelf: but for the first ones of the files, for which there is room, they
+-- are as they were.
+pub record GotFiles (symbols empty bytes : List ℕ) : Type 0 where
+  pub stands : StandsForPart symbols 0 bytes
+  pub changes : ChangesFor (way_of trial_capacity []) (files_of_bytes (Symbols STANDARD) symbols) empty bytes
+
+-- What a trial leaves of the bytes that it found: what an `init` that failed leaves of them, which may be none; or a
+-- new shelf that got files, and no byte after them.
+abbrev pub IsLeftByTrial : List ℕ → List ℕ → List ℕ → Type 0
+IsLeftByTrial symbols old bytes =
+    IsLeftByInit trial_capacity old bytes ⊎ GotFiles symbols (new_shelf trial_capacity) bytes
 
 module _ {D : Type 0} (disk : DiskOf D) where
   -- the disk has no bytes, now and after a crash
@@ -68,17 +78,19 @@ module _ {D : Type 0} (disk : DiskOf D) (symbols : List ℕ) where
 
   pub record LeavesDisk (cause : Cause) (d d' : D) : Type 0 where
     pub ends : DiskEnds cause d d'
+    -- however it ended, and whatever was pending
+    pub leaves : disk.tells d → IsLeftByTrial symbols (disk.contents d) (disk.contents d')
     -- a disk that is taken is refused, exactly then, and nothing is written
     pub taken : disk.tells d → IsTaken (disk.contents d)
         → ((cause ≡ Refused (NotEmpty (length (disk.contents d)))) ⊎ IsEarlier cause)
         × ((d' ≡ d) ⊎ IsUnwritten disk d d')
     -- otherwise a crash at any moment of the call leaves at most 20 bytes, with no header or an empty shelf, or a
-    -- shelf with some of the files
+    -- shelf with some of the files, and nothing after them
     pub any_moment : disk.tells d → (IsTaken (disk.contents d) → ⊥)
         → NothingPending disk d
         → (d' ≡ d)
         ⊎ EachImageSince disk d d' (λ c. IsBlank trial_capacity c
-        ⊎ StandsForPart symbols 0 c)
+        ⊎ GotFiles symbols (new_shelf trial_capacity) c)
 
 module _ {O : Type 0} (out : SinkOf O) (symbols : List ℕ) where
   -- what `out` got: the last line of `receive` alone, where the work is done

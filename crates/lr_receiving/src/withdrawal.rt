@@ -1,5 +1,5 @@
 //! A shelf on which nothing stands is taken away again.
-ghost use Rattle.std.specs.Prelude.{◌≡◌, ◌<◌, ◌↔◌, List, IsTrue, IfOk, OnOk, length};
+ghost use Rattle.std.specs.Prelude.{◌≡◌, ◌⊎◌, ◌<◌, ◌↔◌, [], List, IsTrue, IfOk, OnOk, length};
 ghost use Rattle.lr_disk.specs.Disk.{Cut};
 ghost use Rattle.lr_disk.specs.Reads.{IsCall, OnlyReads};
 ghost use Rattle.lr_disk.specs.Pending.{EachImageSince, NothingPending};
@@ -32,6 +32,8 @@ fn is_first_gate_open<D: Disk>(disk: &mut D) -> Result<bool, Failed>
 fn clear<D: Disk>(disk: &mut D) -> Result<(), Failed>
     ensures call { IsCall D.Disk disk.old disk.new result }
     ensures cleared { D.tells disk.old → OnOk result (IsBare D.Disk disk.new) }
+    ensures left { D.tells disk.old
+        → (D.contents disk.new ≡ []) ⊎ (D.contents disk.new ≡ D.contents disk.old) }
     ensures any_moment { D.tells disk.old → NothingPending D.Disk disk.old
         → EachImageSince D.Disk disk.old disk.new (Cut 0 (D.contents disk.old)) }
 {
@@ -45,6 +47,8 @@ fn take_away<D: Disk>(disk: &mut D) -> Result<(), Failed>
     ensures ends { D.tells disk.old → (items : List Item)
         → IsDurable D.Disk trial_capacity items disk.old
         → OnOk result (IsWithdrawn D.Disk items disk.new) }
+    ensures left { D.tells disk.old
+        → (D.contents disk.new ≡ []) ⊎ (D.contents disk.new ≡ D.contents disk.old) }
     ensures any_moment { D.tells disk.old → (items : List Item)
         → IsDurable D.Disk trial_capacity items disk.old
         → LeavesBlankOrItems D.Disk items disk.old disk.new }
@@ -65,6 +69,8 @@ pub(crate) fn withdraw<D: Disk>(disk: &mut D) -> Cause
     ensures ends { D.tells disk.old → (items : List Item)
         → IsDurable D.Disk trial_capacity items disk.old
         → result ≡ Cause.NoMemory → IsWithdrawn D.Disk items disk.new }
+    ensures left { D.tells disk.old
+        → (D.contents disk.new ≡ []) ⊎ (D.contents disk.new ≡ D.contents disk.old) }
     ensures any_moment { D.tells disk.old → (items : List Item)
         → IsDurable D.Disk trial_capacity items disk.old
         → LeavesBlankOrItems D.Disk items disk.old disk.new }

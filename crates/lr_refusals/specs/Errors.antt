@@ -1,5 +1,5 @@
 -- The cause of what a shelf, an image or an assembly of segments was refused for.
-use Rattle.std.specs.Prelude.{Option, Some, None}
+use Rattle.std.specs.Prelude.{◌≡◌, Option, Some, None, Result, Ok, Err}
 use Rattle.lr_image.specs.declared.fault.ImageFault.{ImageFault}
 use Rattle.lr_image.specs.declared.fault.ImageFault.TheVariants.{
   Headers as Headers',
@@ -78,6 +78,13 @@ cause_of (NoSuchFile' count) = Refused (NoSuchFile count)
 cause_of (Crc' stored computed) = Refused BadChecksum
 cause_of NoMemory' = NoMemory
 cause_of Discarded' = Refused Discarded
+
+-- what an entry gives, by what a shelf answers for it: its file, nothing where it is gone, or the error's cause
+abbrev pub IsFileOrGone : {A : Type 0} → Result A ShelfError → Result (Option A) Cause → Type 0
+IsFileOrGone (Ok file) given = given ≡ Ok (Some file)
+IsFileOrGone (Err error) (Ok None) = error ≡ Discarded'
+IsFileOrGone (Err error) (Ok (Some file)) = ⊥
+IsFileOrGone (Err error) (Err cause) = (error ≡ Discarded' → ⊥) × (cause ≡ cause_of error)
 
 -- why no PGM can be put:
 -- of an image; want of memory is none

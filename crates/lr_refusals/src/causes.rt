@@ -1,12 +1,12 @@
 //! The cause of each error.
 ghost use Rattle.std.specs.Prelude.{◌≡◌};
 ghost use Rattle.lr_causes.specs.Causes.{cause_of_fault};
-ghost use Rattle.lr_refusals.specs.Errors.{assembly_fault, cause_of, image_fault};
+ghost use Rattle.lr_refusals.specs.Errors.{IsFileOrGone, assembly_fault, cause_of, image_fault};
 
 use lr_causes::{Cause, ExportFault, Party, Refusal};
 use lr_image::ImageFault;
 use lr_segment::AssembleFault;
-use lr_shelf::ShelfError;
+use lr_shelf::{ShelfError, Stored};
 
 /// The cause of what a call on a shelf answers. A shelf that failed before answers as a disk that fails.
 pub fn shelf_cause(error: ShelfError) -> Cause
@@ -23,6 +23,19 @@ pub fn shelf_cause(error: ShelfError) -> Cause
         ShelfError::Crc { .. } => Cause::Refused(Refusal::BadChecksum),
         ShelfError::NoMemory => Cause::NoMemory,
         ShelfError::Discarded => Cause::Refused(Refusal::Discarded),
+    }
+}
+
+/// What an entry gives, by what the shelf answers for it: its file, nothing where it is gone, or the error's cause.
+pub fn file_or_gone(found: Result<Stored, ShelfError>) -> Result<Option<Stored>, Cause>
+    ensures { IsFileOrGone found result }
+{
+    match found {
+        Ok(stored) => Ok(Some(stored)),
+        Err(error) => match error {
+            ShelfError::Discarded => Ok(None),
+            refused => Err(shelf_cause(refused)),
+        },
     }
 }
 

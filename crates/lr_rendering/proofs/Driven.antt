@@ -2,7 +2,6 @@
 use Rattle.std.proofs.Common.{
   ◌≡◌,
   ◌<◌,
-  ◌^◌,
   List,
   ℕ,
   [],
@@ -24,6 +23,7 @@ use Rattle.lr_causes.specs.declared.cause.Cause.TheVariants.{NoMemory}
 use Rattle.lr_rounds.specs.JobSources.{EndsWell, IsDriveFault}
 use Rattle.lr_rounds.specs.declared.drive_fault.DriveFault.{DriveFault}
 use Rattle.lr_rounds.specs.declared.drive_fault.DriveFault.TheVariants.{NoMemory as Unpaid, Stopped}
+use Rattle.lr_rendering.specs.declared.sizes.TheConstants.{MOST_ENTRIES}
 use Rattle.lr_rendering.specs.Leading.{IsRenderOver, Stands, StopsFor, count_in, images_under_way}
 use Rattle.lr_rendering.specs.Driven.{RenderComesTo}
 use Rattle.lr_rendering.specs.declared.render_source.RenderSource.{RenderSource}
@@ -56,8 +56,9 @@ module _ {D O : Type 0} (disk : DiskOf D) (out : SinkOf O)
 -- nothing was read
 module _ {D O : Type 0} (disk : DiskOf D) (out : SinkOf O)
     (only_now : (x : D) (c : List ℕ) → disk.tells x → disk.left_since x (disk.moment x) c → disk.may_leave x c) where
-  pub source_ready : (source : RenderSource D O) → (kept_by source.shelf).failed ≡ false → count_in source < 2 ^ 40
-      → source.next ≡ 0 → images_under_way source ≡ [] → 0 < deque_capacity source.queue.images
+  pub source_ready : (source : RenderSource D O) → (kept_by source.shelf).failed ≡ false
+      → count_in source < MOST_ENTRIES → source.next ≡ 0 → images_under_way source ≡ []
+      → 0 < deque_capacity source.queue.images
       → source.tally ≡ record { images = 0; skipped = 0 } → source.refusal ≡ None → Stands disk out source source [] 0
   source_ready source working few next_is none room tally_is no_refusal =
       begins disk out only_now source (record { working = working; few = few }) next_is none tally_is no_refusal room

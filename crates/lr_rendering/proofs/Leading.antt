@@ -57,6 +57,7 @@ use Rattle.lr_commands.proofs.Taking.{entry_stopped, last_taken, so_first}
 use Rattle.lr_commands.proofs.Texts.{same_counts, stops_seen, text_counted}
 use Rattle.lr_rounds.specs.JobSources.{EndsWell, Gives, IsDoneNext, Keeps}
 use Rattle.lr_rounds.specs.declared.job_source.NextJob.TheVariants.{Job, NotYet, Finished}
+use Rattle.lr_rendering.specs.declared.sizes.TheConstants.{MOST_ENTRIES, MOST_STRIPS}
 use Rattle.lr_rendering.specs.Contents.{IsContent, IsRefusedAt, ReadStops}
 use Rattle.lr_rendering.specs.Leading.{
   Ahead,
@@ -302,8 +303,8 @@ module _ {D O : Type 0} (disk : DiskOf D) (out : SinkOf O) where
           ≡ jobs_left before + all_left (images_under_way now)
       left_is = omega (
         arith,
-        ap (λ (s : Shelf). 65536 * (length (kept_by s).way.entries - now.next)) same.shelf,
-        ap (λ (n : ℕ). 65536 * (count_in before - n)) same.next,
+        ap (λ (s : Shelf). MOST_STRIPS * (length (kept_by s).way.entries - now.next)) same.shelf,
+        ap (λ (n : ℕ). MOST_STRIPS * (count_in before - n)) same.next,
       )
 
       module _ (strip : StripSource)
@@ -441,7 +442,7 @@ module _ {D O : Type 0} (disk : DiskOf D) (out : SinkOf O) where
         (subst (HasStripJobs jobs kept before.next goes.ahead) (sym is) goes.has_jobs)
         (ap (λ (l : List UnderWay). length l) is)
 
-    pub few_entries : before.next ≤ count_in before → before.next < 2 ^ 40 + 1
+    pub few_entries : before.next ≤ count_in before → before.next < MOST_ENTRIES + 1
     few_entries inside = omega (arith, inside, count_is, goes.may.few)
 
     -- ---- an entry is read
@@ -977,8 +978,8 @@ module _ {D O : Type 0} (disk : DiskOf D) (out : SinkOf O) where
       omega (
         arith,
         puts.left,
-        ap (λ (s : Shelf). 65536 * (length (kept_by s).way.entries - new.next)) puts.same.shelf,
-        ap (λ (n : ℕ). 65536 * (count_in old - n)) puts.same.next,
+        ap (λ (s : Shelf). MOST_STRIPS * (length (kept_by s).way.entries - new.next)) puts.same.shelf,
+        ap (λ (n : ℕ). MOST_STRIPS * (count_in old - n)) puts.same.next,
       )
 
   module _ {start before : RenderSource D O} {jobs : List StripSource} {kept : ℕ}
@@ -1033,8 +1034,8 @@ module _ {D O : Type 0} (disk : DiskOf D) (out : SinkOf O) where
       arith,
       puts_left puts,
       left_is,
-      ap (λ (s : Shelf). 65536 * (length (kept_by s).way.entries - mid.next)) same.shelf,
-      ap (λ (n : ℕ). 65536 * (count_in before - n)) same.next,
+      ap (λ (s : Shelf). MOST_STRIPS * (length (kept_by s).way.entries - mid.next)) same.shelf,
+      ap (λ (n : ℕ). MOST_STRIPS * (count_in before - n)) same.next,
     );
     still_over = λ over. record {
       given = puts.given (given over.given);

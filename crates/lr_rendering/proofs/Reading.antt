@@ -1,4 +1,4 @@
--- Why an entry isn't read.
+-- What is read at an entry, or why nothing is.
 use Rattle.std.proofs.Common.{
   ◌≡◌,
   ◌<◌,
@@ -34,7 +34,17 @@ use Rattle.lr_shelf.specs.declared.error.ShelfError.TheVariants.{
 use Rattle.lr_refusals.specs.Errors.{cause_of}
 use Rattle.lr_causes.specs.declared.cause.Refusal.TheVariants.{NotAShelf}
 use Rattle.lr_commands.specs.Queries.{Wrong}
-use Rattle.lr_rendering.specs.Contents.{ReadStops}
+use Rattle.lr_rendering.specs.Contents.{IsContent, IsContentOf, ReadStops, ReadsFile}
+use Rattle.lr_rendering.specs.declared.content.Content.{Content}
+use Rattle.lr_rendering.specs.declared.content.Content.TheVariants.{Gone, NoImage, Image}
+
+-- what a file holds that stands there
+pub content_stands : {D : Type 0} (disk : DiskOf D) (kept : KeptShelf) (number : ℕ) (d : D) (stored : Stored)
+    → ReadsFile disk kept.way number d stored → (content : Content) → IsContentOf stored content
+    → IsContent disk kept.way number d content
+content_stands disk kept number d stored reads Gone holds = absurd holds
+content_stands disk kept number d stored reads NoImage holds = (stored, reads, holds)
+content_stands disk kept number d stored reads (Image plan) holds = (stored, reads, holds)
 
 pub content_stops : {D : Type 0} (disk : DiskOf D) (kept : KeptShelf) (number : ℕ) (d d' : D) → kept.failed ≡ false
     → number < length kept.way.entries → (error : ShelfError) → (error ≡ Discarded → ⊥)

@@ -1,10 +1,10 @@
 -- What is read at an entry of a shelf. No clause of a public call cites this.
-use Rattle.std.specs.Prelude.{◌≡◌, ℕ, Option, Some, Err, List}
+use Rattle.std.specs.Prelude.{◌≡◌, ℕ, Option, Some, Result, Ok, Err, List}
 use Rattle.lr_bits.specs.Faults.{Rose}
 use Rattle.lr_disk.specs.declared.disk.Disk.{Ghosts as DiskOf}
 use Rattle.lr_image.specs.Images.{HasImageFault}
 use Rattle.lr_image.specs.declared.fault.ImageFault.{ImageFault}
-use Rattle.lr_render.specs.Plans.{IsNewPlan}
+use Rattle.lr_render.specs.Plans.{IsNewPlan, PlanView}
 use Rattle.lr_shelf_format.specs.Way.{Way, Gone, Sound, IsFound}
 use Rattle.lr_shelf_format.specs.declared.stored.Stored.{Stored}
 use Rattle.lr_causes.specs.declared.cause.Cause.{Cause}
@@ -15,6 +15,11 @@ use Rattle.lr_commands.specs.Queries.{IsSeen, EntryView, entry_at, fate_of}
 use Rattle.lr_commands.specs.Render.{render_query}
 use Rattle.lr_rendering.specs.declared.content.Content.{Content}
 use Rattle.lr_rendering.specs.declared.content.Content.TheVariants.{Gone as AGone, NoImage, Image}
+
+-- what a file holds by its plan, or by the fault for which it has none
+abbrev pub content_by : Result PlanView ImageFault → Content
+content_by (Ok plan) = Image plan
+content_by (Err fault) = NoImage
 
 -- what this file holds
 abbrev pub IsContentOf : Stored → Content → Type 0

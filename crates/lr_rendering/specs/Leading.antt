@@ -6,7 +6,6 @@ use Rattle.std.specs.Prelude.{
   ◌+◌,
   ◌-◌,
   ◌*◌,
-  ◌^◌,
   ℕ,
   false,
   Option,
@@ -36,6 +35,7 @@ use Rattle.lr_causes.specs.Outside.{outlets, outlets_of}
 use Rattle.lr_commands.specs.Reached.{SoFar}
 use Rattle.lr_commands.specs.Render.{images_in, render_query, skipped_in}
 use Rattle.lr_commands.specs.Runs.{RunsOn}
+use Rattle.lr_rendering.specs.declared.sizes.TheConstants.{MOST_ENTRIES, MOST_STRIPS}
 use Rattle.lr_rendering.specs.Contents.{ReadsFile, FindsGone, IsRefusedAt}
 use Rattle.lr_rendering.specs.Queues.{
   AllGiven,
@@ -127,7 +127,7 @@ module _ {D O : Type 0} where
 
   -- no more strips than this are to come
   abbrev pub jobs_left : RenderSource D O → ℕ
-  jobs_left source = 65536 * (count_in source - source.next) + all_left (images_under_way source)
+  jobs_left source = MOST_STRIPS * (count_in source - source.next) + all_left (images_under_way source)
 
   -- all strips of the images under way were given, and no further entry is to be read, since all were or since a
   -- refusal waits for the images under way
@@ -184,7 +184,7 @@ module _ {D O : Type 0} (disk : DiskOf D) (out : SinkOf O) where
   -- the shelf works and has few entries
   pub record MayBeLed (source : RenderSource D O) : Type 0 where
     pub working : (kept_by source.shelf).failed ≡ false
-    pub few : count_in source < 2 ^ 40
+    pub few : count_in source < MOST_ENTRIES
 
   -- the shelf is as it was, and the disk was only read
   pub record OnlyReadsDisk (start now : RenderSource D O) : Type 0 where

@@ -12,6 +12,7 @@ mod outcome;
 mod queue;
 mod render_source;
 mod run;
+mod sizes;
 mod tally;
 mod under_way;
 

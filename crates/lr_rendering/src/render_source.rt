@@ -1,5 +1,5 @@
 //! The entries of a shelf are led through a ring, strip by strip, and their images put.
-ghost use Rattle.std.specs.Prelude.{◌≡◌, ◌<◌, ◌≤◌, ◌^◌, [], ℕ, List, IfErr, MatchBool, OnOk, Some, None};
+ghost use Rattle.std.specs.Prelude.{◌≡◌, ◌<◌, ◌≤◌, [], ℕ, List, IfErr, MatchBool, OnOk, Some, None};
 ghost use Rattle.std.specs.VecDeque.{deque_capacity, deque_len};
 ghost use Rattle.lr_render.specs.declared.strip.StripSource.{StripSource};
 ghost use Rattle.lr_causes.specs.declared.cause.Cause.TheVariants.{Refused};
@@ -12,6 +12,7 @@ ghost use Rattle.lr_rendering.specs.declared.render_source.RenderSource.{RenderS
 use crate::content::{Content, read_content};
 use crate::outcome::put_outcome;
 use crate::queue::Queue;
+use crate::sizes::MOST_ENTRIES;
 use crate::tally::Tally;
 use lr_causes::{Cause, Refusal};
 use lr_disk::Disk;
@@ -96,7 +97,7 @@ impl<'d, 'o, D: Disk, O: Sink> RenderSource<'d, 'o, D, O> {
 
     /// Takes in what the next entry holds.
     fn take_in(&mut self, content: Content)
-        requires few { self.old.next < 2 ^ 40 }
+        requires few { self.old.next < MOST_ENTRIES }
         requires counted { self.old.tally.skipped ≤ self.old.next }
         requires room { deque_len self.old.queue.images < deque_capacity self.old.queue.images }
         ensures { TakesIn content self.old self.new }

@@ -12,6 +12,7 @@ ghost use Rattle.lr_rendering.specs.Driven.{RenderComesTo, IsFreshQueue, Drives,
 
 use crate::queue::Queue;
 use crate::render_source::RenderSource;
+use crate::sizes::MOST_ENTRIES;
 use crate::tally::Tally;
 use lr_bits::{NoMemory, take_back};
 use lr_causes::{Cause, Note};
@@ -25,10 +26,6 @@ use lr_shelf::Shelf;
 use std::alloc::Global;
 use std::sync::Wait;
 use std::thread::Threads;
-
-/// A shelf whose images are put has fewer entries than this. Where it has as many, they alone take 16 TiB of memory,
-/// and it is answered as if memory were refused.
-const MOST_ENTRIES: u64 = 1_099_511_627_776;
 
 /// Who works, and room for the images under way.
 #[derive(Drop)]

@@ -1,6 +1,7 @@
 //! `transmit`: the files of some entries, as symbols.
-ghost use Rattle.std.specs.Prelude.{◌≡◌, ◌<◌, ◌≤◌, ◌++◌, ◌∷◌, [], ℕ, List, IfErr, OnErr, OnOk, length};
+ghost use Rattle.std.specs.Prelude.{◌≡◌, ◌<◌, ◌≤◌, ◌++◌, ◌∷◌, [], ℕ, List, Err, IfErr, OnErr, OnOk, length};
 ghost use Rattle.lr_bits.specs.File.{File};
+ghost use Rattle.lr_bits.specs.declared.sizes.TheConstants.{FILL_CHANNEL};
 ghost use Rattle.lr_conv.specs.declared.line.LineCode.{LineCode as LineCode'};
 ghost use Rattle.lr_causes.specs.Outside.{outlets, outlets_of};
 ghost use Rattle.lr_causes.specs.Puts.{Puts, PutFails};
@@ -17,8 +18,8 @@ use lr_conv::LineCode;
 use lr_disk::Disk;
 use lr_io::Sink;
 use lr_make::{put_block, put_bytes};
-use lr_refusals::shelf_cause;
-use lr_shelf::{Shelf, ShelfError};
+use lr_refusals::file_or_gone;
+use lr_shelf::Shelf;
 use lr_uplink::{Uplink, UplinkFault};
 use std::alloc::Global;
 
@@ -68,6 +69,8 @@ fn send_file<O: Sink>(
         → OnOk result (HasSent line wrong (files ++ file ∷ []) uplink.new) }
     ensures stops { (line : LineCode') (files : List File) → HasSent line wrong files uplink.old
         → IfErr result (λ cause. TextStops O.Sink (sent_entry_text line wrong files file) cause out.old out.new) }
+    // A file of the channel of fill is refused before memory is taken.
+    ensures channel { file.vc ≡ FILL_CHANNEL → result ≡ Err (Cause.Refused Refusal.CannotSend) }
 {
     match uplink.load(file) {
         Ok(()) => put_frames(uplink, wrong, out),
@@ -114,12 +117,10 @@ impl ReadsEntries for TransmitRange {
         disk: &mut D,
         out: &mut O,
     ) -> Result<(), Cause> {
-        match shelf.get(disk, number) {
-            Ok(stored) => send_file(uplink, stored.file, self.wrong, out),
-            Err(error) => match error {
-                ShelfError::Discarded => Ok(()),
-                refused => Err(shelf_cause(refused)),
-            },
+        match file_or_gone(shelf.get(disk, number)) {
+            Ok(Some(stored)) => send_file(uplink, stored.file, self.wrong, out),
+            Ok(None) => Ok(()),
+            Err(cause) => Err(cause),
         }
     }
 

@@ -26,10 +26,10 @@ use Rattle.lr_printing.proofs.Lines.{prints_fewer}
 use Rattle.lr_causes.specs.declared.cause.Cause.{Cause}
 use Rattle.lr_forms.specs.declared.forms.Input.{Input}
 use Rattle.lr_forms.specs.declared.forms.Input.TheVariants.{Symbols, Units}
-use Rattle.lr_reading.specs.Readers.{most_waiting, most_when_asked}
+use Rattle.lr_reading.specs.Readers.{HaveEnded, most_ahead, most_waiting, most_when_asked}
 use Rattle.lr_reading.proofs.Asking.{when_too}
 use Rattle.lr_receiving.specs.Inputs.{files_of_bytes}
-use Rattle.lr_receiving.specs.Receive.{AreWorkedBut, Receives, ReceiveRun}
+use Rattle.lr_receiving.specs.Receive.{AreWorkedBut, PutsNoFileOff, ReceiveRun}
 use Rattle.lr_shelf.specs.InitialShelves.{InitialShelf}
 use Rattle.lr_station.specs.Effects.{IsKnownAlone, alone}
 use Rattle.lr_station.specs.Runs.{Runs}
@@ -56,38 +56,47 @@ pub more_wait_when_asked : (input : Input) (workers : ℕ) → 1 ≤ workers
 more_wait_when_asked (Symbols line) workers some = one_at_least (workers == 1) workers some
 more_wait_when_asked (Units form) workers some = omega arith
 
-module _ {S D O : Type 0} {world : World S D O} {input : Input} {limit : ℕ} {cause : Cause} {w w' : Outside S D O}
-    {few many : ℕ} (le : most_waiting input few ≤ most_waiting input many)
-    (le_asked : most_when_asked input few ≤ most_when_asked input many) where
-  receives_within : {initial : InitialShelf} {bytes : List ℕ} → Receives world input few initial limit bytes cause w w'
-      → Receives world input many initial limit bytes cause w w'
-  receives_within {initial} {bytes} receives = record {
-    held = receives.held;
-    held_untold = receives.held_untold;
-    any_moment = receives.any_moment;
-    timely = λ worked waiting split enough. receives.timely worked waiting split (omega (arith, le, enough));
+pub more_ahead : (input : Input) (workers : ℕ) → 1 ≤ workers → most_ahead input 1 ≤ most_ahead input workers
+more_ahead (Symbols line) workers some = omega (arith, one_at_least (workers == 1) workers some)
+more_ahead (Units form) workers some = omega arith
+
+-- what ended so long ago ended less long ago
+ended_less : (input : Input) (few many : ℕ) (bytes : List ℕ) (count : ℕ) → few ≤ many
+    → HaveEnded input many bytes count → HaveEnded input few bytes count
+ended_less (Symbols line) few many bytes count le ended = λ k frame within. omega (arith, le, ended k frame within)
+ended_less (Units form) few many bytes count le ended = omega (arith, le, ended)
+
+module _ {S D O : Type 0} {world : World S D O} {input : Input} {w w' : Outside S D O} {few many : ℕ}
+    (le : most_waiting input few ≤ most_waiting input many)
+    (le_asked : most_when_asked input few ≤ most_when_asked input many)
+    (le_ahead : most_ahead input few ≤ most_ahead input many) where
+  fewer_wait : {initial : InitialShelf} {bytes : List ℕ} → PutsNoFileOff world input few initial bytes w w'
+      → PutsNoFileOff world input many initial bytes w w'
+  fewer_wait {initial} {bytes} keeps = record {
+    timely = λ worked waiting split enough. keeps.timely worked waiting split (omega (arith, le, enough));
+    timely_in_bytes = λ worked waiting split ended. keeps.timely_in_bytes worked waiting split
+        (ended_less input (most_ahead input few) (most_ahead input many) bytes (length worked) le_ahead ended);
     in_time = when_too world.source (AreWorkedBut (world_outlets world) initial input (most_when_asked input few)
         (files_of_bytes input bytes) (outlets_in w) (outlets_in w')) (AreWorkedBut (world_outlets world) initial input
         (most_when_asked input many) (files_of_bytes input bytes) (outlets_in w) (outlets_in w')) bytes w.source
         w'.source (λ given due worked waiting split enough. due worked waiting split (⊎_elim
         (λ (all : most_when_asked input many ≤ length waiting). inl (omega (arith, le_asked, all)))
         (λ noise. inr noise) enough))
-        receives.in_time;
-    ends = receives.ends;
-    complete = receives.complete;
-    overfull = receives.overfull;
+        keeps.in_time;
   }
 
-  pub run_within : ReceiveRun world input few limit cause w w' → ReceiveRun world input many limit cause w w'
-  run_within run = record {
+  pub run_within : {limit : ℕ} {cause : Cause} → ReceiveRun world input few limit cause w w'
+      → ReceiveRun world input many limit cause w w'
+  run_within {limit} {cause} run = record {
     causes = run.causes;
     first = run.first;
     told_by_disk = run.told_by_disk;
     told_by_out = run.told_by_out;
     bytes = run.bytes;
     read = run.read;
-    onto_shelf = λ capacity items told durable. receives_within (run.onto_shelf capacity items told durable);
-    onto_way = λ way told is only. receives_within (run.onto_way way told is only);
+    onto_shelf = run.onto_shelf;
+    onto_way = run.onto_way;
+    keeps_up = λ initial told stands only. fewer_wait (run.keeps_up initial told stands only);
     refused = run.refused;
     broken = run.broken;
     full = run.full;
@@ -98,6 +107,7 @@ module _ {S D O : Type 0} {world : World S D O} {input : Input} {limit : ℕ} {c
     unasked = run.unasked;
     ended = run.ended;
     outside = run.outside;
+    outside_any_moment = run.outside_any_moment;
   }
 
 -- ---- what is run on the caller's thread alone, whatever W the words give
@@ -112,7 +122,7 @@ module _ {S D O : Type 0} (world : World S D O) (cause : Cause) (w w' : Outside 
         → Runs world (alone (Some command)) cause w w' → Runs world (Some command) cause w w'
     by (Downlinks line) known range run = absurd known
     by (Intake Receive input workers most) known range run = run_within (more_wait input workers range.1.0)
-        (more_wait_when_asked input workers range.1.0) run
+        (more_wait_when_asked input workers range.1.0) (more_ahead input workers range.1.0) run
     by (Intake Decode input workers most) known range run = (
       run.0,
       prints_fewer (world_pipe world) (decode_text input) (decode_due input 1) (decode_due input workers)

@@ -1,57 +1,15 @@
 -- The symbols that one block more adds to those of the blocks before it.
-use Rattle.std.proofs.Common.{◌≡◌, ℕ, ◌+◌, ◌*◌, ◌<◌, ◌≤◌, Bool, false, nat_eq, ℤ, List, [], ◌∷◌, ◌++◌, length}
-use Rattle.std.proofs.Common.{take, drop, map, set, refl, sym, ap, ◌∙◌, arith, length-set, append-nil, append_assoc}
-use Rattle.std.proofs.Common.{length-append, drop_at}
-use Rattle.std.proofs.lemmas.List.{drop-append-le, map-append, take_more_set}
-use Rattle.lr_bits.specs.Bits.{bit_of}
-use Rattle.lr_bits.specs.declared.sizes.TheConstants.{FRAME_SYMBOLS}
+use Rattle.std.proofs.Common.{◌≡◌, ℕ, ◌*◌, Bool, false, ℤ, List, [], ◌∷◌, ◌++◌, length, drop, map, refl, sym, ap, ◌∙◌}
+use Rattle.std.proofs.Common.{append-nil, drop_at}
+use Rattle.std.proofs.lemmas.List.{map-append}
 use Rattle.lr_conv.specs.Convolution.{code}
 use Rattle.lr_conv.specs.Levels.{levels, six_zeros, last_level}
 use Rattle.lr_conv.specs.declared.line.LineCode.{LineCode}
-use Rattle.lr_conv.proofs.Lines.{levels-append, length-levels}
+use Rattle.lr_conv.proofs.Lines.{levels-append}
 use Rattle.lr_make.specs.Symbols.{bits_of_bytes, level, marked_block}
-use Rattle.lr_make.proofs.Coding.{code-front, first_bits, first_bits-more, length-code}
+use Rattle.lr_make.proofs.Coding.{code-front, length-line_code, line_code}
 use Rattle.lr_sent.specs.Sent.{bits_of_blocks, symbols_of_blocks}
 use Rattle.lr_sent.proofs.Splitting.{bits-append}
-
--- the symbols of bits, by an encoder that begins after six levels 0
-abbrev pub line_code : LineCode → List Bool → List Bool
-line_code line bits = code line six_zeros (levels line false bits)
-
-pub length-line_code : (line : LineCode) (bits : List Bool) → length (line_code line bits) ≡ 2 * length bits
-length-line_code line bits =
-    omega (arith, length-code line six_zeros (levels line false bits), length-levels line false bits)
-
--- one bit more, and its two symbols
-pub symbols_more : (line : LineCode) (bits : List Bool) (bytes : List ℕ) (n : ℕ) (first second : Bool)
-    (old : List ℤ) → length old ≡ FRAME_SYMBOLS → n < 8192
-    → take (2 * n) old ≡ map level (drop (2 * length bits) (line_code line (bits ++ first_bits bytes n)))
-    → line_code line ((bits ++ first_bits bytes n) ++ nat_eq (bit_of bytes n) 1 ∷ []) ≡
-    line_code line (bits ++ first_bits bytes n) ++ first ∷ second ∷ []
-    → take (2 * (n + 1)) (set (set old (2 * n) (level first)) (2 * n + 1) (level second)) ≡
-    map level (drop (2 * length bits) (line_code line (bits ++ first_bits bytes (n + 1))))
-symbols_more line bits bytes n first second old long small done pushed =
-    let u : ℤ = level first in
-    let v : ℤ = level second in
-    let before : List Bool = line_code line (bits ++ first_bits bytes n) in
-    let twice : 2 * (n + 1) ≡ 2 * n + 1 + 1 = omega arith in
-    let written : take (2 * (n + 1)) (set (set old (2 * n) u) (2 * n + 1) v) ≡ take (2 * n) old ++ u ∷ v ∷ [] =
-    ap (λ k. take k (set (set old (2 * n) u) (2 * n + 1) v)) twice
-    ∙ take_more_set (set old (2 * n) u) (2 * n + 1) v (omega (arith, length-set old (2 * n) u))
-    ∙ ap (λ z. z ++ v ∷ []) (take_more_set old (2 * n) u (omega arith))
-    ∙ append_assoc (take (2 * n) old) (u ∷ []) (v ∷ []) in
-    let longer : bits ++ first_bits bytes (n + 1) ≡ (bits ++ first_bits bytes n) ++ nat_eq (bit_of bytes n) 1 ∷ [] =
-    ap (λ z. bits ++ z) (first_bits-more bytes n) ∙ sym (append_assoc bits (first_bits bytes n)
-    (nat_eq (bit_of bytes n) 1 ∷ [])) in
-    let enough : 2 * length bits ≤ length before =
-    omega (arith, length-line_code line (bits ++ first_bits bytes n), length-append bits (first_bits bytes n)) in
-    written ∙ ap (λ z. z ++ u ∷ v ∷ []) done
-    ∙ sym (ap (λ z. map level (drop (2 * length bits) (line_code line z))) longer
-    ∙ ap (λ z. map level (drop (2 * length bits) z)) pushed
-    ∙ ap (map level) (drop-append-le (2 * length bits) before (first ∷ second ∷ []) enough)
-    ∙ map-append level (drop (2 * length bits) before) (first ∷ second ∷ []))
-
--- ---- blocks
 
 pub bits-more : (blocks : List (List ℕ)) (block : List ℕ) →
     bits_of_blocks (blocks ++ block ∷ []) ≡ bits_of_blocks blocks ++ bits_of_bytes (marked_block block)

@@ -15,7 +15,6 @@ mod laws;
 mod packet;
 mod packet_counts;
 mod sending;
-mod symbols;
 mod uplink;
 
 pub use laws::{files_are_received, sent_files_are_received, zones_agree};

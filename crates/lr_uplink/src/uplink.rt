@@ -11,12 +11,12 @@ ghost use Rattle.lr_uplink.specs.Sent.{sent};
 use crate::frames::put_next;
 use crate::packet_counts::PacketCounts;
 use crate::sending::Sending;
-use crate::symbols::put_symbols;
 use lr_bits::{
     BLOCK_BYTES, CHANNELS, FILL_CHANNEL, FRAME_BYTES, FRAME_COUNTS, FRAME_SYMBOLS, MissionFile,
     NoMemory, SEQUENCE_COUNTS,
 };
 use lr_conv::{LineCode, LineEncoder};
+use lr_make::put_symbols;
 use std::alloc::Global;
 use thiserror::Error;
 

@@ -1,47 +1,33 @@
-use Rattle.std.proofs.Common.{inl, arith, rules, subst, sym}
+use Rattle.std.proofs.Common.{◌∙◌, List, Result, ℕ, IfOk, IfErr, subst, sym}
+use Rattle.lr_causes.specs.declared.cause.Cause.{Cause}
 use Rattle.lr_forms.specs.declared.forms.Stop.{Stop}
-use Rattle.lr_merging.specs.Taking.{TakesBytes, TakesNone}
-use Rattle.lr_merging.proofs.Flaws.{has_flaw, no_bundle, no_flaw, one_bundle, one_flaw}
-use Rattle.lr_causes.specs.declared.cause.Cause.TheVariants.{Refused}
-use Rattle.lr_causes.specs.declared.cause.Refusal.TheVariants.{BadBundle}
-use Rattle.lr_causes.specs.declared.fault.BundleFlaw.{BundleFlaw}
+use Rattle.lr_merging.specs.Taking.{TakesBundle, TakesBytes, TakesNone}
+use Rattle.lr_merging.proofs.Flaws.{ended, stopped, takes_bundle, takes_none}
 use Rattle.lr_merging.proofs.taking.take_bundle.Goals as goal
-
-pub returns-in-Ok-clause-taken : goal.returns-in-Ok-clause-taken
-returns-in-Ok-clause-taken g c =
-    let bytes = c.in_ok-bytes.bytes in
-    let taken = subst (λ (stop : Stop). TakesBytes g.S.Source bytes stop c.args.source.now c.take_bytes.new.source)
-    c.in-End.is c.in_ok-bytes.ensures.taken in
-    record {
-      bytes = bytes;
-      taken = taken;
-      bundle = c.in-Ok.ensures.reading;
-      only = λ others bundle.
-          one_bundle bytes c.read.result c.read.ensures.only taken.reason.0 c.in-Ok.bundle others c.in-Ok.is bundle;
-      sound = λ flaw has.
-          no_flaw bytes c.read.result c.read.ensures.only taken.reason.0 c.in-Ok.bundle c.in-Ok.is flaw has;
-    }
 
 pub returns-in-Err-clause-refused : goal.returns-in-Err-clause-refused
 returns-in-Err-clause-refused g c =
-    let bytes = c.in_ok-bytes.bytes in
-    let taken = subst (λ (stop : Stop). TakesBytes g.S.Source bytes stop c.args.source.now c.take_bytes.new.source)
-    c.in-End.is c.in_ok-bytes.ensures.taken in
-    let only = c.read.ensures.only in
-    let short = taken.reason.0 in
-    let is = c.in-Err.is in
-    subst (λ (flaw : BundleFlaw). TakesNone g.S.Source (Refused (BadBundle flaw)) c.args.source.now
-    c.take_bytes.new.source) (sym c.flaw_of.ensures)
-    (record {
-      bytes = bytes;
-      read = taken.read;
-      stops = (
-        has_flaw bytes (omega (arith, short)) c.in-Err.fault c.in-Err.ensures.reading,
-        inl taken.reason,
-        (λ other has. one_flaw bytes c.read.result only short c.in-Err.fault is other has),
-        (λ streams bundle few. no_bundle bytes c.read.result only short c.in-Err.fault is streams bundle),
-      );
-    })
+    stopped g.S.Source c.in_ok-bytes.bytes c.args.source.now c.take_bytes.new.source c.in_ok-bytes.stop c.in-Err.cause
+    (sym c.unless_stopped.ensures ∙ c.in-Err.is) c.in_ok-bytes.ensures.taken
 
-pub returns-in-Fault-clause-refused : goal.returns-in-Fault-clause-refused
-returns-in-Fault-clause-refused g c = search (rules, arith)
+pub returns-clause-taken : goal.returns-clause-taken
+returns-clause-taken g c =
+    let bytes = c.in_ok-bytes.bytes in
+    let end = ended c.in_ok-bytes.stop c.in_default.field-0 (sym c.unless_stopped.ensures ∙ c.in_default.is) in
+    let taken = subst (λ (stop : Stop). TakesBytes g.S.Source bytes stop c.args.source.now c.take_bytes.new.source) end
+    c.in_ok-bytes.ensures.taken in
+    subst (λ (r : Result (List (List ℕ)) Cause). IfOk r (λ streams.
+    TakesBundle g.S.Source streams c.args.source.now c.take_bytes.new.source)) (sym c.bundle_by.ensures)
+    (takes_bundle g.S.Source bytes c.args.source.now c.take_bytes.new.source taken c.read.result
+    c.read.ensures.reading c.read.ensures.only)
+
+pub returns-clause-refused : goal.returns-clause-refused
+returns-clause-refused g c =
+    let bytes = c.in_ok-bytes.bytes in
+    let end = ended c.in_ok-bytes.stop c.in_default.field-0 (sym c.unless_stopped.ensures ∙ c.in_default.is) in
+    let taken = subst (λ (stop : Stop). TakesBytes g.S.Source bytes stop c.args.source.now c.take_bytes.new.source) end
+    c.in_ok-bytes.ensures.taken in
+    subst (λ (r : Result (List (List ℕ)) Cause). IfErr r (λ cause.
+    TakesNone g.S.Source cause c.args.source.now c.take_bytes.new.source)) (sym c.bundle_by.ensures)
+    (takes_none g.S.Source bytes c.args.source.now c.take_bytes.new.source taken c.read.result
+    c.read.ensures.reading c.read.ensures.only)

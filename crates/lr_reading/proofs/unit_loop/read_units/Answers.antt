@@ -20,32 +20,28 @@ returns-in-Ended-clause-all g c =
 
 pub take-requires-clause-few : goal.take-requires-clause-few
 take-requires-clause-few g c =
-    let why = c.in-Whole.ensures.reason in
     may_take g.S.Source g.C.Consumer.took c.args.form g.row.N c.args.most c.requires.size c.units.invariant
-    c.in-Whole.ensures.gathered why.0 why.1 _ c.requires.few c.requires.ready.0 c.requires.ready.1
+    c.in-Whole.ensures.gathered c.in-Whole.ensures.reason _ c.requires.few c.requires.ready.0 c.requires.ready.1
 
 pub returns-in_err-take-in-Whole-clause-some : goal.returns-in_err-take-in-Whole-clause-some
 returns-in_err-take-in-Whole-clause-some g c =
-    let why = c.in-Whole.ensures.reason in
     let p = err_from_is_err_and c.from_residual.result c.from_residual.ensures.1 in
     let is = c.unit_outcome-outcome.ensures.value ∙ ap (outcome_of_unit c.args.form) c.unit.ensures in
     rw (p.1, p.2)
     (units_stopped g.S.Source g.C.Consumer.took c.args.form g.row.N c.args.most c.requires.size c.units.invariant
-    c.in-Whole.ensures.gathered why.0 why.1 _ (ap (λ (o : Outcome). arrival_of o) is) g.C.Consumer.stopped _
-    c.take.new.self c.in_err-take-in-Whole.ensures.stops)
+    c.in-Whole.ensures.gathered c.in-Whole.ensures.reason _ (ap (λ (o : Outcome). arrival_of o) is)
+    g.C.Consumer.stopped _ c.take.new.self c.in_err-take-in-Whole.ensures.stops)
 
 pub overflow_add-frames : goal.overflow_add-frames
 overflow_add-frames g c =
-    let why = c.in-Whole.ensures.reason in
     let fits : FRAME_BYTES * (c.units.frames + 1) ≤ c.args.most =
     frames_fit g.S.Source g.C.Consumer.took c.args.form g.row.N c.args.most c.requires.size c.units.invariant
-    c.in-Whole.ensures.gathered why.0 why.1 in
+    c.in-Whole.ensures.gathered c.in-Whole.ensures.reason in
     omega (arith, fits)
 
 pub units-preserved : goal.units-preserved
 units-preserved g c =
-    let why = c.in-Whole.ensures.reason in
     let is = c.unit_outcome-outcome.ensures.value ∙ ap (outcome_of_unit c.args.form) c.unit.ensures in
     units_more g.S.Source g.C.Consumer.took c.args.form g.row.N c.args.most c.requires.size c.units.invariant
-    c.in-Whole.ensures.gathered why.0 why.1 _ (ap (λ (o : Outcome). arrival_of o) is) c.clear.new.self
+    c.in-Whole.ensures.gathered c.in-Whole.ensures.reason _ (ap (λ (o : Outcome). arrival_of o) is) c.clear.new.self
     c.clear.ensures c.take.new.self c.in_ok-take-in-Whole.ensures.takes

@@ -1,5 +1,5 @@
 use Rattle.std.proofs.Common.{◌≡◌, ◌<◌, true, inr, None, Some, refl, rules, arith, vec_len}
-use Rattle.lr_reading.proofs.WindowJobs.{spare_left, spare_again}
+use Rattle.lr_reading.proofs.WindowJobs.{some_spare, spare_left, spare_again}
 use Rattle.lr_reading.proofs.WindowLeading.{gives_window, ends_input, waits_more}
 use Rattle.lr_reading.proofs.window_source.next_window.Goals as goal
 
@@ -27,7 +27,11 @@ returns-in-Ended-clause-offers g c = λ line limit bytes given windows kept s so
       (spare_again c.args.intake.now.spare.items c.pop.new.self.items c.in-Some.window c.in-Some.ensures.items
       so.jobs.spare_lines c.push_reserved-in-Ended.new.self.items c.next.new.window
       c.push_reserved-in-Ended.ensures.items
-      c.in-Ended.ensures.window_line),
+      c.in-Ended.ensures.window_line) (omega (
+        arith,
+        some_spare c.pop.new.self.items c.push_reserved-in-Ended.new.self.items c.next.new.window
+            c.push_reserved-in-Ended.ensures.items,
+      )),
   refl,
 )
 
@@ -40,6 +44,10 @@ returns-in-Noise-clause-offers g c = λ line limit bytes given windows kept s so
           c.next.new.source (omega (arith, c.in-Some.ensures.len)) noise.0 c.in-Noise.ensures.most going refl
           (spare_again c.args.intake.now.spare.items c.pop.new.self.items c.in-Some.window c.in-Some.ensures.items
           so.jobs.spare_lines c.push_reserved.new.self.items c.next.new.window c.push_reserved.ensures.items
-          c.in-Noise.ensures.window_line) (c.in-Noise.ensures.looked refl),
+          c.in-Noise.ensures.window_line) (omega (
+            arith,
+            some_spare c.pop.new.self.items c.push_reserved.new.self.items c.next.new.window
+                c.push_reserved.ensures.items,
+          )) (c.in-Noise.ensures.looked refl),
       inr (c.is_under_way-under_way.ensures.0 noise.1),
     )

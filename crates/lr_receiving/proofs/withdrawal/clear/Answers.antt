@@ -1,4 +1,4 @@
-use Rattle.std.proofs.Common.{List, ℕ, sym, subst}
+use Rattle.std.proofs.Common.{List, ℕ, inl, sym, subst, ◌∙◌}
 use Rattle.lr_disk.specs.Disk.{Cut}
 use Rattle.lr_disk.proofs.Moments.{joined, one_call}
 use Rattle.lr_shelf.proofs.Initing.{Cut-refl}
@@ -26,3 +26,10 @@ returns-clause-any_moment g c told durable =
     (one_call disk g.met.D.Disk.only_now c.cut.new.self c.sync.new.self _ (c.cut.ensures.told told) cuts
     (λ f image. cuts f (c.sync.ensures.crash (c.cut.ensures.told told) f image))
     (c.sync.ensures.time (c.cut.ensures.told told)))
+
+pub returns-in_err-cut-clause-left : goal.returns-in_err-cut-clause-left
+returns-in_err-cut-clause-left g c told = c.in_err-cut.ensures.failed told
+
+pub returns-clause-left : goal.returns-clause-left
+returns-clause-left g c told =
+    inl (c.sync.ensures.contents (c.cut.ensures.told told) ∙ c.in_ok-cut.ensures.cut told)

@@ -1,6 +1,7 @@
+use Rattle.std.proofs.Common.{inl, inr, ⊎_elim, ◌∙◌}
 use Rattle.lr_shelf_format.proofs.Results.{on_ok}
 use Rattle.lr_receiving.specs.Trial.{trial_capacity}
-use Rattle.lr_receiving.proofs.Withdrawing.{has_gate, stays, gone, cleared_moments}
+use Rattle.lr_receiving.proofs.Withdrawing.{has_gate, stays, gone, cleared_moments, read_moments}
 use Rattle.lr_receiving.proofs.withdrawal.take_away.Goals as goal
 
 pub returns-then-branch-clause-ends : goal.returns-then-branch-clause-ends
@@ -26,3 +27,26 @@ returns-clause-any_moment g c told items durable =
     cleared_moments g.D.Disk items c.args.disk.now c.is_first_gate_open.new.disk durable (read.reads.unwritten told)
     (λ is_open. cc (c.if-branch.false, (read.gate told long).1 is_open)) c.clear.new.disk
     (c.clear.ensures.any_moment (read.reads.told told))
+
+pub returns-in_err-is_first_gate_open-clause-left : goal.returns-in_err-is_first_gate_open-clause-left
+returns-in_err-is_first_gate_open-clause-left g c told =
+    inr (c.in_err-is_first_gate_open.ensures.reads.unwritten told).contents
+
+pub returns-then-branch-clause-left : goal.returns-then-branch-clause-left
+returns-then-branch-clause-left g c told = inr (c.in_ok-is_first_gate_open.ensures.reads.unwritten told).contents
+
+pub returns-clause-left : goal.returns-clause-left
+returns-clause-left g c told =
+    let reads = c.in_ok-is_first_gate_open.ensures.reads in
+    ⊎_elim (λ none. inl none) (λ same. inr (same ∙ (reads.unwritten told).contents))
+    (c.clear.ensures.left (reads.told told))
+
+pub returns-in_err-is_first_gate_open-clause-any_moment : goal.returns-in_err-is_first_gate_open-clause-any_moment
+returns-in_err-is_first_gate_open-clause-any_moment g c told items durable =
+    read_moments g.D.Disk items c.args.disk.now c.is_first_gate_open.new.disk durable
+    (c.in_err-is_first_gate_open.ensures.reads.unwritten told)
+
+pub returns-then-branch-clause-any_moment : goal.returns-then-branch-clause-any_moment
+returns-then-branch-clause-any_moment g c told items durable =
+    read_moments g.D.Disk items c.args.disk.now c.is_first_gate_open.new.disk durable
+    (c.in_ok-is_first_gate_open.ensures.reads.unwritten told)

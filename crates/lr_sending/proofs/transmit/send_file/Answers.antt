@@ -44,3 +44,6 @@ returns-in-Ok-clause-stops g c = λ line files sends.
     (stops_file line wrong files file g.O.Sink c.args.out.now c.put_frames.new.out other)
     c.put_frames.ensures.cause (c.put_frames.ensures.failed line (files ++ file ∷ []) all loaded)
     (c.put_frames.ensures.some line (files ++ file ∷ []) all loaded)
+
+pub returns-in-Err-Fill-clause-channel : goal.returns-in-Err-Fill-clause-channel
+returns-in-Err-Fill-clause-channel g c = λ fill. refl

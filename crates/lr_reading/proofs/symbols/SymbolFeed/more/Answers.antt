@@ -8,7 +8,7 @@ pub returns-in_default-clause-feeds : goal.returns-in_default-clause-feeds
 returns-in_default-clause-feeds g c = λ line bytes given s under_way so calm.
     piece_fed g.S.Source line (under_way ≡ true) so c.requires.unfinished
     (may_ask (under_way ≡ true) line bytes given c.args.self.now.lock so.stands so.line_is c.requires.looked calm)
-    c.in_default.ensures.takes
+    calm c.in_default.ensures.takes
 
 pub returns-in-Some-clause-feeds : goal.returns-in-Some-clause-feeds
 returns-in-Some-clause-feeds g c = λ line bytes given s under_way so calm.

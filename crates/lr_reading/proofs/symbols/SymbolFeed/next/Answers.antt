@@ -1,4 +1,4 @@
-use Rattle.std.proofs.Common.{true, ◌≡◌, length, refl, sym, ap, ◌∙◌, subst, arith}
+use Rattle.std.proofs.Common.{true, ◌≡◌, length, refl, sym, ap, ◌∙◌, subst, rules, arith}
 use Rattle.lr_lock.specs.Standing.{LockStandsFor}
 use Rattle.lr_lock.specs.Symbols.{symbols_of}
 use Rattle.lr_reading.specs.Feeding.{FeedState, FeedsOn}
@@ -13,7 +13,7 @@ returns-in-Window-clause-feeds g c = λ line bytes given s so.
     window_given g.S.Source line (c.args.under_way ≡ true) on c.next_window.new.self c.next_window.new.window
     c.next_window.ensures.line
     c.next_window.ensures.finished (c.in-Window.ensures.answers (symbols_of on.all) given on.so_far.stands)
-    (c.in-Window.ensures.shorter refl)
+    (c.in-Window.ensures.shorter refl) (search rules)
 
 pub returns-in-End-clause-feeds : goal.returns-in-End-clause-feeds
 returns-in-End-clause-feeds g c = λ line bytes given s so.
@@ -38,7 +38,7 @@ steps-preserved g c =
           (c.in-More.ensures.answers (symbols_of on.all) given on.so_far.stands) c.next_window.ensures.passes in
           joined g.S.Source line (c.args.under_way ≡ true)
           (c.more.ensures.feeds line wanted.all given s c.args.under_way wanted.so_far
-          (c.holds_back.ensures.calm c.if-holds_back.false)) wanted.looks
+          (c.holds_back.ensures.calm c.if-holds_back.false)) wanted.looks wanted.near
           wanted.same;
       standing = c.more.ensures.standing (
           let wants = c.in-More.ensures.answers c.steps.invariant.standing.0 c.steps.invariant.standing.1 (

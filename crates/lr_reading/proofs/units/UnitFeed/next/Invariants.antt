@@ -1,12 +1,12 @@
 use Rattle.std.proofs.Common.{◌≡◌, ◌-◌, ◌≤◌, length}
-use Rattle.lr_reading.specs.Gathering.{Gathers}
+use Rattle.lr_reading.specs.Gathering.{GathersOn}
 use Rattle.lr_reading.proofs.units.UnitFeed.next.Given as goal
 
 abbrev pub invariant-loop-self : goal.invariant-loop-self
 invariant-loop-self g l =
     let source = g.S.Source in
     record {
-      gathered : Gathers source g.row.N l.fn.self l.self l.fn.source l.source;
+      gathered : GathersOn source g.row.N l.fn.self l.self l.fn.source l.source;
       kept : source.faults l.source ≡ source.faults l.fn.source;
       short : length l.self.held ≤ g.row.N;
     }
