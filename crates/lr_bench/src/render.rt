@@ -1,7 +1,7 @@
 //! All images of a shelf in memory, written as PGM many times over: by `render`, or by `export` of each in turn.
 
 ghost use Rattle.std.specs.Prelude.{◌≤◌};
-ghost use Rattle.lr_gatecore.specs.declared.sizes.TheConstants.{MOST_SEATS};
+ghost use Rattle.lr_gatecore.specs.declared.sizes.TheConstants.{MOST_SEATS as most_seats};
 
 use crate::export::{ROOM, coded_file, image_file, shelf_with};
 use crate::lines::{Shape, number_at, shape_of};
@@ -11,6 +11,7 @@ use crate::text::Text;
 use lr_bits::MissionFile;
 use lr_commands::export::export;
 use lr_disk::MemDisk;
+use lr_gatecore::MOST_SEATS;
 use lr_rendering::{render, render_alone};
 use std::alloc::Global;
 use std::io::Read;
@@ -27,7 +28,7 @@ struct Task {
     rounds: u32,
     images: u32,
     workers: u32,
-    ghost workers_fit: { workers ≤ MOST_SEATS },
+    ghost workers_fit: { workers ≤ most_seats },
 }
 
 /// The task that the first three words tell.
@@ -35,7 +36,7 @@ fn task_of(words: &[String]) -> Option<Task> {
     let rounds = number_at(words, 0)?;
     let images = number_at(words, 1)?;
     let workers = number_at(words, 2)?;
-    if images > MOST_IMAGES || workers > 64 {
+    if images > MOST_IMAGES || u64::from(workers) > MOST_SEATS {
         return None;
     }
     Some(Task {

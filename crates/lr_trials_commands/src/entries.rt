@@ -5,6 +5,7 @@ use crate::shared::{
 };
 use lr_causes::{Cause, Refusal};
 use lr_disk::MemDisk;
+use lr_trials_wanted::lines;
 use std::alloc::Global;
 use std::test::Fail;
 
@@ -43,7 +44,7 @@ pub(crate) fn without_first(alloc: Global) -> Result<MemDisk, Fail> {
     let mut made = with_two(alloc)?;
     let mut out = sink(alloc)?;
     let cause = discards(alloc, 0, &mut made, &mut out);
-    if ended_with(cause, &out, 0, b"discarded 0\n") && made.as_slice().len() == 141 {
+    if ended_with(cause, &out, 0, lines!(discarded 0;).as_bytes()) && made.as_slice().len() == 141 {
         Ok(made)
     } else {
         Err(Fail::from("it wasn't discarded"))
@@ -83,13 +84,26 @@ fn extract_is_refused_for_what_it_finds(rt: HostRuntime) -> Result<(), Fail> {
 #[test]
 fn verify_has_a_line_for_each_entry(rt: HostRuntime) -> Result<(), Fail> {
     let alloc = rt.alloc();
-    assert!(rt; verify_puts(alloc, with_two(alloc)?, 0, "file 0 ok\nfile 1 ok\n")?);
+    assert!(rt;
+        verify_puts(
+            alloc,
+            with_two(alloc)?,
+            0,
+            lines!(
+        file 0 ok;
+        file 1 ok;
+    )
+        )?
+    );
     assert!(rt;
         verify_puts(
             alloc,
             without_first(alloc)?,
             0,
-            "file 0 discarded\nfile 1 ok\n"
+            lines!(
+                file 0 discarded;
+                file 1 ok;
+            )
         )?
     );
     assert!(rt;
@@ -97,7 +111,7 @@ fn verify_has_a_line_for_each_entry(rt: HostRuntime) -> Result<(), Fail> {
             alloc,
             with_byte(alloc, 59, 0x8C)?,
             12,
-            "file 0 bad stored 8CCA computed 8BCA\n"
+            lines!(file 0 bad stored "8CCA" computed "8BCA";)
         )?
     );
     assert!(rt; verify_puts(alloc, with_byte(alloc, 32, 0x1B)?, 6, "")?);
@@ -110,7 +124,7 @@ fn a_file_is_discarded_once(rt: HostRuntime) -> Result<(), Fail> {
     let alloc = rt.alloc();
     assert!(rt; discard_puts(alloc, without_first(alloc)?, 0, 13, "")?);
     assert!(rt; discard_puts(alloc, without_first(alloc)?, 2, 7, "")?);
-    assert!(rt; discard_puts(alloc, without_first(alloc)?, 1, 0, "discarded 1\n")?);
+    assert!(rt; discard_puts(alloc, without_first(alloc)?, 1, 0, lines!(discarded 1;))?);
     assert!(rt; discard_puts(alloc, with_byte(alloc, 0, 0)?, 0, 6, "")?);
     Ok(())
 }
@@ -120,7 +134,7 @@ fn a_discard_needs_twelve_bytes(rt: HostRuntime) -> Result<(), Fail> {
     let alloc = rt.alloc();
     assert!(rt; needs(alloc, 73)? == 74);
     assert!(rt; discard_puts(alloc, with_capacity(alloc, 73)?, 0, 10, "")?);
-    assert!(rt; discard_puts(alloc, with_capacity(alloc, 74)?, 0, 0, "discarded 0\n")?);
+    assert!(rt; discard_puts(alloc, with_capacity(alloc, 74)?, 0, 0, lines!(discarded 0;))?);
     assert!(rt; discard_puts(alloc, with_capacity(alloc, 73)?, 1, 7, "")?);
     Ok(())
 }

@@ -1,7 +1,7 @@
 //! The lines of a header: each kind of record, and each fault.
 use lr_bits::Bytes;
 use lr_catalog::header_lines;
-use lr_trials_wanted::is_text;
+use lr_trials_wanted::{is_text, lines};
 use std::alloc::Global;
 use std::test::Fail;
 
@@ -47,28 +47,28 @@ fn images_have_their_lines(rt: HostRuntime) -> Result<(), Fail> {
         has_line(
             alloc,
             &structure,
-            "record 1 length 9 image bits 8 columns 64 lines 256 compression 2\n"
+            lines!(record 1 length 9 image bits 8 columns 64 lines 256 compression 2;)
         )?
     );
     assert!(rt;
         has_line(
             alloc,
             &NAVIGATION,
-            "record 2 length 51 navigation geos\\x00(-75.2) 20466275 -20466275 5500 -1\n"
+            lines!(record 2 length 51 navigation "geos\\x00(-75.2)" 20466275 -20466275 5500 -1;)
         )?
     );
     assert!(rt;
         has_line(
             alloc,
             &segment,
-            "record 128 length 17 segment 1 2 3 4 5 6 256\n"
+            lines!(record 128 length 17 segment 1 2 3 4 5 6 256;)
         )?
     );
     assert!(rt;
         has_line(
             alloc,
             &lossless,
-            "record 131 length 7 lossless flags 49 block 16 lines 1\n"
+            lines!(record 131 length 7 lossless flags 49 block 16 lines 1;)
         )?
     );
     Ok(())
@@ -83,7 +83,7 @@ fn a_name_of_zeros_leaves_its_space(rt: HostRuntime) -> Result<(), Fail> {
         has_line(
             rt.alloc(),
             &blank,
-            "record 2 length 51 navigation  0 0 0 0\n"
+            lines!(record 2 length 51 navigation "" 0 0 0 0;)
         )?
     );
     Ok(())
@@ -97,11 +97,11 @@ fn texts_are_escaped(rt: HostRuntime) -> Result<(), Fail> {
         has_line(
             alloc,
             &text,
-            "record 4 length 10 text A\\x5C\\x00 ~\\x7F\\xE9\n"
+            lines!(record 4 length 10 text "A\\x5C\\x00 ~\\x7F\\xE9";)
         )?
     );
-    assert!(rt; has_line(alloc, &[3, 0, 4, b'#'], "record 3 length 4 text #\n")?);
-    assert!(rt; has_line(alloc, &[6, 0, 3], "record 6 length 3 text \n")?);
+    assert!(rt; has_line(alloc, &[3, 0, 4, b'#'], lines!(record 3 length 4 text "#";))?);
+    assert!(rt; has_line(alloc, &[6, 0, 3], lines!(record 6 length 3 text "";))?);
     Ok(())
 }
 
@@ -114,21 +114,21 @@ fn stamps_and_other_records_have_their_lines(rt: HostRuntime) -> Result<(), Fail
         has_line(
             alloc,
             &late,
-            "record 5 length 10 stamp 1970-01-01T23:59:59.999Z\n"
+            lines!(record 5 length 10 stamp "1970-01-01T23:59:59.999Z";)
         )?
     );
     assert!(rt;
         has_line(
             alloc,
             &other_form,
-            "record 5 length 10 stamp form 65 days 7 milliseconds 9\n"
+            lines!(record 5 length 10 stamp form 65 days 7 milliseconds 9;)
         )?
     );
-    assert!(rt; has_line(alloc, &[7, 0, 4, 0], "record 7 length 4 key\n")?);
-    assert!(rt; has_line(alloc, &[0, 0, 3], "record 0 length 3 other\n")?);
-    assert!(rt; has_line(alloc, &[128, 0, 3], "record 128 length 3 other\n")?);
-    assert!(rt; has_line(alloc, &[131, 0, 4, 1], "record 131 length 4 other\n")?);
-    assert!(rt; has_line(alloc, &[200, 0, 3], "record 200 length 3 other\n")?);
+    assert!(rt; has_line(alloc, &[7, 0, 4, 0], lines!(record 7 length 4 key;))?);
+    assert!(rt; has_line(alloc, &[0, 0, 3], lines!(record 0 length 3 other;))?);
+    assert!(rt; has_line(alloc, &[128, 0, 3], lines!(record 128 length 3 other;))?);
+    assert!(rt; has_line(alloc, &[131, 0, 4, 1], lines!(record 131 length 4 other;))?);
+    assert!(rt; has_line(alloc, &[200, 0, 3], lines!(record 200 length 3 other;))?);
     Ok(())
 }
 
@@ -140,15 +140,15 @@ fn has_fault(alloc: Global, records: &[u8], wanted: &str) -> Result<bool, Fail> 
 #[test]
 fn a_fault_has_one_line(rt: HostRuntime) -> Result<(), Fail> {
     let alloc = rt.alloc();
-    assert!(rt; has_lines(alloc, &[0; 15], "header fault ended 15\n")?);
-    assert!(rt; has_lines(alloc, &[0; 16], "header fault not-primary\n")?);
-    assert!(rt; has_fault(alloc, &[9, 0, 3, 4, 0, 2], "header fault short 19\n")?);
-    assert!(rt; has_fault(alloc, &[9, 0, 3, 4, 0, 9], "header fault overrun 19\n")?);
+    assert!(rt; has_lines(alloc, &[0; 15], lines!(header fault ended 15;))?);
+    assert!(rt; has_lines(alloc, &[0; 16], lines!(header fault not-primary;))?);
+    assert!(rt; has_fault(alloc, &[9, 0, 3, 4, 0, 2], lines!(header fault short 19;))?);
+    assert!(rt; has_fault(alloc, &[9, 0, 3, 4, 0, 9], lines!(header fault overrun 19;))?);
     assert!(rt;
         has_fault(
             alloc,
             &[5, 0, 11, 0, 0, 0, 0, 0, 0, 0, 0],
-            "header fault length 5 11\n"
+            lines!(header fault length 5 11;)
         )?
     );
     Ok(())

@@ -2,24 +2,29 @@
 use crate::entries::without_first;
 use crate::shared::{OLD_SHELF, disk, is_end, lists, shows, sink, with_byte, with_two};
 use lr_disk::MemDisk;
+use lr_trials_wanted::lines;
 use std::alloc::Global;
 use std::test::Fail;
 
 const OLD: &str =
-    "file 0 vc 0 apid 100 counter 7 bytes 26 packets 1 declared 136 real 128 differs type 2 frames none\n";
+    lines!(file 0 vc 0 apid 100 counter 7 bytes 26 packets 1 declared 136 real 128 differs type 2 frames none;);
 
-const BOTH: &str =
-    "file 0 vc 0 apid 100 counter 7 bytes 26 packets 1 declared 136 real 128 differs type 2 frames none\n\
-     file 1 vc 0 apid 100 counter 7 bytes 26 packets 1 declared 136 real 128 differs type 2 frames 0 0 corrected 0\n\
-     files 2 used 129 capacity 200\n";
+const BOTH: &str = lines!(
+    file 0 vc 0 apid 100 counter 7 bytes 26 packets 1 declared 136 real 128 differs type 2 frames none;
+    file 1 vc 0 apid 100 counter 7 bytes 26 packets 1 declared 136 real 128 differs type 2 frames 0 0 corrected 0;
+    files 2 used 129 capacity 200;
+);
 
-const ONE_GONE: &str = "file 0 discarded\n\
-     file 1 vc 0 apid 100 counter 7 bytes 26 packets 1 declared 136 real 128 differs type 2 frames 0 0 corrected 0\n\
-     files 2 used 141 capacity 200\n";
+const ONE_GONE: &str = lines!(
+    file 0 discarded;
+    file 1 vc 0 apid 100 counter 7 bytes 26 packets 1 declared 136 real 128 differs type 2 frames 0 0 corrected 0;
+    files 2 used 141 capacity 200;
+);
 
-const SHOWN: &str =
-    "file 1 vc 0 apid 100 counter 7 bytes 26 packets 1 declared 136 real 128 differs type 2 frames 0 0 corrected 0\n\
-     record 0 length 16 primary type 2 header 16 bits 0\n";
+const SHOWN: &str = lines!(
+    file 1 vc 0 apid 100 counter 7 bytes 26 packets 1 declared 136 real 128 differs type 2 frames 0 0 corrected 0;
+    record 0 length 16 primary type 2 header 16 bits 0;
+);
 
 fn list_puts(alloc: Global, mut made: MemDisk, status: u8, text: &str) -> Result<bool, Fail> {
     let mut out = sink(alloc)?;
@@ -57,7 +62,7 @@ fn a_list_ends_where_it_is_refused(rt: HostRuntime) -> Result<(), Fail> {
             alloc,
             with_byte(alloc, 19, 0)?,
             0,
-            "files 0 used 20 capacity 200\n"
+            lines!(files 0 used 20 capacity 200;)
         )?
     );
     Ok(())
@@ -72,7 +77,7 @@ fn a_file_is_shown_with_its_header(rt: HostRuntime) -> Result<(), Fail> {
     assert!(rt; show_puts(alloc, with_byte(alloc, 58, 1)?, 0, 12, "")?);
     let old = disk(alloc, &OLD_SHELF)?;
     let mut shown = String::from_str(alloc, OLD)?;
-    shown.push_str("record 0 length 16 primary type 2 header 16 bits 0\n")?;
+    shown.push_str(lines!(record 0 length 16 primary type 2 header 16 bits 0;))?;
     assert!(rt; show_puts(alloc, old, 0, 0, shown.as_str())?);
     Ok(())
 }

@@ -8,6 +8,7 @@ use lr_disk::{Disk, MemDisk};
 use lr_io::{MemSink, Sink};
 use lr_shelf::Shelf;
 use lr_shelf_format::old_header_of;
+use lr_trials_wanted::lines;
 use std::alloc::Global;
 use std::test::Fail;
 
@@ -19,8 +20,15 @@ static IMAGE: [u8; 68] = [
     4, 5, 5, 5, 5, 5, 0x8E, 0x72, 0,
 ];
 
+const ONE_FILE: &str = lines!(file 0 ok;);
+
+const TWO_FILES: &str = lines!(
+    file 0 ok;
+    file 1 ok;
+);
+
 /// The line of a shelf on which it was coded anew in blocks of 8, and the image of both files.
-static LINE: [u8; 31] = *b"repacked 0 as 1 bytes 51 to 48\n";
+const LINE: &str = lines!(repacked 0 as 1 bytes 51 to 48;);
 
 static PICTURE: [u8; 27] =
     *b"P5\n8 2\n255\n\x05\x05\x05\x05\x05\x05\x05\x05\x05\x06\x04\x05\x05\x05\x05\x05";
@@ -46,18 +54,18 @@ fn puts(
     number: u64,
     made: &mut MemDisk,
     status: u8,
-    text: &[u8],
+    text: &str,
 ) -> Result<bool, Fail> {
     let mut out = sink(alloc)?;
     let cause = repacks(alloc, number, made, &mut out);
-    is_end(cause, &out, status, text)
+    is_end(cause, &out, status, text.as_bytes())
 }
 
 /// Whether the shelf has this many good files.
-fn has_files(alloc: Global, made: &mut MemDisk, text: &[u8]) -> Result<bool, Fail> {
+fn has_files(alloc: Global, made: &mut MemDisk, text: &str) -> Result<bool, Fail> {
     let mut out = sink(alloc)?;
     let cause = verifies(alloc, made, &mut out);
-    Ok(ended_with(cause, &out, 0, text))
+    Ok(ended_with(cause, &out, 0, text.as_bytes()))
 }
 
 /// Whether the image of the file of this number is the one.
@@ -78,17 +86,17 @@ fn origin_at(alloc: Global, made: &mut MemDisk, number: u64) -> Result<Option<Or
 fn stops_at(alloc: Global, after: u64) -> Result<bool, Fail> {
     let mut made = image_shelf(alloc, 1_000, 1_000, 0)?;
     made.fail_at(after);
-    let stopped = puts(alloc, 0, &mut made, 4, b"")?;
-    let one = has_files(alloc, &mut made, b"file 0 ok\n")?;
-    Ok(stopped && (one || has_files(alloc, &mut made, b"file 0 ok\nfile 1 ok\n")?))
+    let stopped = puts(alloc, 0, &mut made, 4, "")?;
+    let one = has_files(alloc, &mut made, ONE_FILE)?;
+    Ok(stopped && (one || has_files(alloc, &mut made, TWO_FILES)?))
 }
 
 #[test]
 fn the_new_file_has_the_image_of_the_old_one(rt: HostRuntime) -> Result<(), Fail> {
     let alloc = rt.alloc();
     let mut made = image_shelf(alloc, 1_000, 1_000, 0)?;
-    assert!(rt; puts(alloc, 0, &mut made, 0, &LINE)?);
-    assert!(rt; has_files(alloc, &mut made, b"file 0 ok\nfile 1 ok\n")?);
+    assert!(rt; puts(alloc, 0, &mut made, 0, LINE)?);
+    assert!(rt; has_files(alloc, &mut made, TWO_FILES)?);
     assert!(rt; shows_picture(alloc, &mut made, 0)? && shows_picture(alloc, &mut made, 1)?);
     Ok(())
 }
@@ -97,7 +105,7 @@ fn the_new_file_has_the_image_of_the_old_one(rt: HostRuntime) -> Result<(), Fail
 fn the_origin_stays_and_is_zero_for_an_old_file(rt: HostRuntime) -> Result<(), Fail> {
     let alloc = rt.alloc();
     let mut made = image_shelf(alloc, 1_000, 1_000, 0)?;
-    assert!(rt; puts(alloc, 0, &mut made, 0, &LINE)?);
+    assert!(rt; puts(alloc, 0, &mut made, 0, LINE)?);
     let zeros = origin_at(alloc, &mut made, 1)?.ok_or("no origin")?;
     assert!(rt; zeros.first == 0 && zeros.last == 0 && zeros.corrected == 0);
     let mut shelf = Shelf::load(alloc, &mut made)?;
@@ -108,7 +116,15 @@ fn the_origin_stays_and_is_zero_for_an_old_file(rt: HostRuntime) -> Result<(), F
         corrected: 5,
     };
     let _ = shelf.append(&mut made, &Placed { file, origin })?;
-    assert!(rt; puts(alloc, 2, &mut made, 0, b"repacked 2 as 3 bytes 51 to 48\n")?);
+    assert!(rt;
+        puts(
+            alloc,
+            2,
+            &mut made,
+            0,
+            lines!(repacked 2 as 3 bytes 51 to 48;)
+        )?
+    );
     let kept = origin_at(alloc, &mut made, 3)?.ok_or("no origin")?;
     assert!(rt; kept.first == 3 && kept.last == 4 && kept.corrected == 5);
     Ok(())
@@ -118,16 +134,16 @@ fn the_origin_stays_and_is_zero_for_an_old_file(rt: HostRuntime) -> Result<(), F
 fn what_is_refused_leaves_the_shelf(rt: HostRuntime) -> Result<(), Fail> {
     let alloc = rt.alloc();
     let mut made = image_shelf(alloc, 1_000, 1_000, 0)?;
-    assert!(rt; puts(alloc, 1, &mut made, 7, b"")?);
-    assert!(rt; puts(alloc, 0, &mut disk(alloc, b"no shelf")?, 6, b"")?);
+    assert!(rt; puts(alloc, 1, &mut made, 7, "")?);
+    assert!(rt; puts(alloc, 0, &mut disk(alloc, b"no shelf")?, 6, "")?);
     // A text is no image.
-    assert!(rt; puts(alloc, 0, &mut disk(alloc, &OLD_SHELF)?, 8, b"")?);
+    assert!(rt; puts(alloc, 0, &mut disk(alloc, &OLD_SHELF)?, 8, "")?);
     // Another byte of the image has another checksum.
-    assert!(rt; puts(alloc, 0, &mut image_shelf(alloc, 1_000, 80, 9)?, 12, b"")?);
-    assert!(rt; has_files(alloc, &mut made, b"file 0 ok\n")?);
+    assert!(rt; puts(alloc, 0, &mut image_shelf(alloc, 1_000, 80, 9)?, 12, "")?);
+    assert!(rt; has_files(alloc, &mut made, ONE_FILE)?);
     let mut out = sink(alloc)?;
     let _ = discards(alloc, 0, &mut made, &mut out);
-    assert!(rt; puts(alloc, 0, &mut made, 13, b"")?);
+    assert!(rt; puts(alloc, 0, &mut made, 13, "")?);
     Ok(())
 }
 
@@ -135,10 +151,8 @@ fn what_is_refused_leaves_the_shelf(rt: HostRuntime) -> Result<(), Fail> {
 fn the_new_file_has_to_have_room(rt: HostRuntime) -> Result<(), Fail> {
     let alloc = rt.alloc();
     let mut full = image_shelf(alloc, 179, 1_000, 0)?;
-    assert!(rt;
-        puts(alloc, 0, &mut full, 10, b"")? && has_files(alloc, &mut full, b"file 0 ok\n")?
-    );
-    assert!(rt; puts(alloc, 0, &mut image_shelf(alloc, 180, 1_000, 0)?, 0, &LINE)?);
+    assert!(rt; puts(alloc, 0, &mut full, 10, "")? && has_files(alloc, &mut full, ONE_FILE)?);
+    assert!(rt; puts(alloc, 0, &mut image_shelf(alloc, 180, 1_000, 0)?, 0, LINE)?);
     Ok(())
 }
 
@@ -164,8 +178,8 @@ fn four_bits_have_a_status_of_their_own(rt: HostRuntime) -> Result<(), Fail> {
     };
     let mut shelf = Shelf::load(alloc, &mut made)?;
     let _ = shelf.append(&mut made, &Placed { file, origin })?;
-    assert!(rt; puts(alloc, 1, &mut made, 16, b"")?);
-    assert!(rt; has_files(alloc, &mut made, b"file 0 ok\nfile 1 ok\n")?);
+    assert!(rt; puts(alloc, 1, &mut made, 16, "")?);
+    assert!(rt; has_files(alloc, &mut made, TWO_FILES)?);
     Ok(())
 }
 
@@ -176,7 +190,7 @@ fn an_output_or_a_disk_that_fails_ends_it(rt: HostRuntime) -> Result<(), Fail> {
     let mut out: MemSink = with_room(alloc, 8)?;
     let cause = repacks(alloc, 0, &mut made, &mut out);
     assert!(rt; ended_with(cause, &out, 5, b"repacked"));
-    assert!(rt; has_files(alloc, &mut made, b"file 0 ok\nfile 1 ok\n")?);
+    assert!(rt; has_files(alloc, &mut made, TWO_FILES)?);
     assert!(rt; stops_at(alloc, 0)? && stops_at(alloc, 5)? && stops_at(alloc, 6)?);
     assert!(rt; stops_at(alloc, 7)? && stops_at(alloc, 8)? && stops_at(alloc, 9)?);
     Ok(())

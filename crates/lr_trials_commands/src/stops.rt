@@ -3,16 +3,27 @@ use crate::shared::{
     OLD_SHELF, discards, disk, ended_with, extracts, sink, verifies, with_room, with_two,
 };
 use lr_disk::MemDisk;
+use lr_trials_wanted::lines;
 use std::alloc::Global;
 use std::test::Fail;
+
+const BOTH: &str = lines!(
+    file 0 ok;
+    file 1 ok;
+);
+
+const FIRST_GONE: &str = lines!(
+    file 0 discarded;
+    file 1 ok;
+);
 
 /// How many lines `verify` has for a gone entry at the front of this shelf, 0 or 1.
 fn is_discarded(alloc: Global, made: &mut MemDisk) -> Result<bool, Fail> {
     let mut out = sink(alloc)?;
     let cause = verifies(alloc, made, &mut out);
-    if ended_with(cause, &out, 0, b"file 0 discarded\nfile 1 ok\n") {
+    if ended_with(cause, &out, 0, FIRST_GONE.as_bytes()) {
         Ok(true)
-    } else if out.as_slice() == b"file 0 ok\nfile 1 ok\n".as_slice() {
+    } else if out.as_slice() == BOTH.as_bytes() {
         Ok(false)
     } else {
         Err(Fail::from("another shelf"))
@@ -51,7 +62,7 @@ fn extracts_into(alloc: Global, room: usize, status: u8) -> Result<bool, Fail> {
 #[test]
 fn the_line_comes_after_the_discard(rt: HostRuntime) -> Result<(), Fail> {
     let alloc = rt.alloc();
-    assert!(rt; discards_into(alloc, 12, 0, b"discarded 0\n")?);
+    assert!(rt; discards_into(alloc, 12, 0, lines!(discarded 0;).as_bytes())?);
     assert!(rt; discards_into(alloc, 3, 5, b"dis")?);
     assert!(rt; discards_into(alloc, 0, 5, b"")?);
     Ok(())

@@ -6,7 +6,7 @@ use lr_station::station_alone;
 use std::alloc::{AllocError, Global};
 
 /// Why a trial stopped before its end.
-#[derive(Drop)]
+#[derive(Debug, Drop)]
 pub(crate) enum Trouble {
     /// The trial itself was refused memory.
     Memory,
@@ -59,11 +59,6 @@ pub(crate) struct Printed {
     pub(crate) status: u8,
     pub(crate) out: MemSink,
     pub(crate) err: MemSink,
-}
-
-/// Whether a trial came to its end, and all was as it should be.
-pub(crate) fn holds(answer: Result<bool, Trouble>) -> bool {
-    matches!(answer, Ok(true))
 }
 
 /// These words over these frames, where nothing fails.
@@ -141,7 +136,7 @@ pub(crate) fn disk(alloc: Global, bytes: &[u8]) -> Result<MemDisk, Trouble> {
 }
 
 /// How many lines were put on `out`, without one that has no end.
-pub(crate) fn lines(printed: &Printed) -> usize {
+pub(crate) fn line_count(printed: &Printed) -> usize {
     printed
         .out
         .as_slice()

@@ -1,8 +1,10 @@
 //! Shelves that no station wrote, each refused by its cause. The checksums are those of `reference/shelf.py`.
-use crate::calls::{Trouble, disk, ends_so, holds, is_out, reading, run};
+use crate::calls::{Trouble, disk, ends_so, is_out, reading, run};
 use crate::steps::{Step, follows};
 use lr_disk::MemDisk;
+use lr_trials_wanted::lines;
 use std::alloc::Global;
+use std::test::Fail;
 
 /// The header of the capacity 1,048,576, up to the first gate.
 const HEADER: &[u8] = b"\x5ALRSHELF\x02\x00\x00\x00\x00\x00\x10\x00\x00\x8F\x12";
@@ -82,19 +84,20 @@ fn are_refused(
 }
 
 #[test]
-fn a_broken_shelf_is_named_by_its_gate(rt: HostRuntime) {
+fn a_broken_shelf_is_named_by_its_gate(rt: HostRuntime) -> Result<(), Fail> {
     let alloc = rt.alloc();
-    let first = "station: not a shelf at 19\n";
-    let second = "station: not a shelf at 86\n";
-    assert!(rt; holds(are_refused(alloc, &[], &CUT_OFF, &[], first)));
-    assert!(rt; holds(are_refused(alloc, FILE, &CUT_OFF, &[], second)));
-    assert!(rt; holds(are_refused(alloc, &[], &FIRST, CLOSED, first)));
-    assert!(rt; holds(are_refused(alloc, FILE, &AFTER_A_FILE, CLOSED, second)));
-    let third = "station: not a shelf at 98\n";
-    assert!(rt; holds(are_refused(alloc, FILE, &AFTER_A_DISCARD, CLOSED, third)));
+    let first = lines!(station: not a shelf at 19;);
+    let second = lines!(station: not a shelf at 86;);
+    assert!(rt; are_refused(alloc, &[], &CUT_OFF, &[], first)?);
+    assert!(rt; are_refused(alloc, FILE, &CUT_OFF, &[], second)?);
+    assert!(rt; are_refused(alloc, &[], &FIRST, CLOSED, first)?);
+    assert!(rt; are_refused(alloc, FILE, &AFTER_A_FILE, CLOSED, second)?);
+    let third = lines!(station: not a shelf at 98;);
+    assert!(rt; are_refused(alloc, FILE, &AFTER_A_DISCARD, CLOSED, third)?);
+    Ok(())
 }
 
-const AT_19: &str = "station: not a shelf at 19\n";
+const AT_19: &str = lines!(station: not a shelf at 19;);
 
 /// A file of 26 bytes whose only length says 25: no command reads it, and it is discarded.
 static WITHOUT_THE_FILE: [Step; 6] = [
@@ -102,11 +105,11 @@ static WITHOUT_THE_FILE: [Step; 6] = [
     (&["verify"], 6, AT_19),
     (&["show", "0"], 6, AT_19),
     (&["extract", "0"], 6, AT_19),
-    (&["discard", "0"], 0, "discarded 0\n"),
-    (&["verify"], 0, "file 0 discarded\n"),
+    (&["discard", "0"], 0, lines!(discarded 0;)),
+    (&["verify"], 0, lines!(file 0 discarded;)),
 ];
 
-fn lengths_do_not_sum(alloc: Global) -> Result<bool, Trouble> {
+fn lengths_do_not_sum(alloc: Global) -> Result<bool, Fail> {
     let mut bytes = FILE.to_vec(alloc)?;
     if let Some(length) = bytes.get_mut(38) {
         *length = 25;
@@ -142,29 +145,39 @@ fn damaged_shelf(alloc: Global, last: &[u8]) -> Result<MemDisk, Trouble> {
 /// The items are passed, and each is refused by itself.
 static PASSED: [Step; 4] = [
     (&["verify"], 6, AT_19),
-    (&["extract", "9999"], 6, "station: not a shelf at 509968\n"),
+    (
+        &["extract", "9999"],
+        6,
+        lines!(station: not a shelf at 509968;),
+    ),
     (
         &["extract", "10000"],
         7,
-        "station: no such file, count 10000\n",
+        lines!(station: no such file, count 10000;),
     ),
-    (&["discard", "9999"], 0, "discarded 9999\n"),
+    (&["discard", "9999"], 0, lines!(discarded 9999;)),
 ];
 
 /// The last one is no item, so there is no shelf.
-static BROKEN_OFF: [Step; 1] = [(&["extract", "0"], 6, "station: not a shelf at 510019\n")];
+static BROKEN_OFF: [Step; 1] = [(
+    &["extract", "0"],
+    6,
+    lines!(station: not a shelf at 510019;),
+)];
 
-fn follows_damaged(alloc: Global, last: &[u8], steps: &[Step]) -> Result<bool, Trouble> {
+fn follows_damaged(alloc: Global, last: &[u8], steps: &[Step]) -> Result<bool, Fail> {
     follows(alloc, &mut damaged_shelf(alloc, last)?, &[], steps)
 }
 
 #[test]
-fn a_file_whose_lengths_do_not_sum_is_named_by_its_gate(rt: HostRuntime) {
-    assert!(rt; holds(lengths_do_not_sum(rt.alloc())));
+fn a_file_whose_lengths_do_not_sum_is_named_by_its_gate(rt: HostRuntime) -> Result<(), Fail> {
+    assert!(rt; lengths_do_not_sum(rt.alloc())?);
+    Ok(())
 }
 
 #[test]
-fn ten_thousand_damaged_items_are_walked(rt: HostRuntime) {
-    assert!(rt; holds(follows_damaged(rt.alloc(), &[0], &PASSED)));
-    assert!(rt; holds(follows_damaged(rt.alloc(), &[1, 0x7F], &BROKEN_OFF)));
+fn ten_thousand_damaged_items_are_walked(rt: HostRuntime) -> Result<(), Fail> {
+    assert!(rt; follows_damaged(rt.alloc(), &[0], &PASSED)?);
+    assert!(rt; follows_damaged(rt.alloc(), &[1, 0x7F], &BROKEN_OFF)?);
+    Ok(())
 }

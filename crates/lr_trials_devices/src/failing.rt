@@ -1,9 +1,11 @@
 //! The disk, the source or `out` fails once, at each place in turn.
-use crate::calls::{Call, Trouble, disk, ends_so, holds, is_front, is_out, lines, reading, run};
+use crate::calls::{Call, Trouble, disk, ends_so, is_front, is_out, line_count, reading, run};
 use crate::given::{FILE_7, FILE_8, FRAMES};
 use crate::jobs::{DISCARD, INIT, Job, RECEIVE, TRIAL, progress};
 use crate::steps::follows;
+use lr_trials_wanted::lines;
 use std::alloc::Global;
+use std::test::Fail;
 
 /// A place at which no job asks any more.
 const PAST: u64 = 5_000;
@@ -43,9 +45,9 @@ fn disk_fails(alloc: Global, job: &Job, number: u64) -> Result<Option<bool>, Tro
     let mut left = disk(alloc, made.as_slice())?;
     let reached = progress(alloc, job, &mut left)?;
     Ok(Some(
-        ends_so(&printed, 4, "station: disk failed\n")
+        ends_so(&printed, 4, lines!(station: disk failed;))
             && is_front(&printed, job.text)
-            && reached.is_some_and(|place| lines(&printed) <= place),
+            && reached.is_some_and(|place| line_count(&printed) <= place),
     ))
 }
 
@@ -60,14 +62,14 @@ fn out_fails(alloc: Global, job: &Job, place: u64) -> Result<Option<bool>, Troub
         return Ok(verdict_when_done(place < put));
     }
     let wanted = if job.text.starts_with("shelved") {
-        lines(&printed).saturating_add(1).min(job.whole)
+        line_count(&printed).saturating_add(1).min(job.whole)
     } else {
         job.whole
     };
     let mut left = disk(alloc, made.as_slice())?;
     let reached = progress(alloc, job, &mut left)?;
     Ok(Some(
-        ends_so(&printed, 5, "station: output failed\n")
+        ends_so(&printed, 5, lines!(station: output failed;))
             && put == place
             && is_front(&printed, job.text)
             && reached == Some(wanted),
@@ -77,9 +79,15 @@ fn out_fails(alloc: Global, job: &Job, place: u64) -> Result<Option<bool>, Troub
 /// What `receive` prints of this many frames, up to the words of its last line.
 const LINES: [&str; 3] = [
     "symbols ",
-    "shelved 0 vc 0 apid 100 counter 7 bytes 26 packets 1\nsymbols ",
-    "shelved 0 vc 0 apid 100 counter 7 bytes 26 packets 1\n\
-shelved 1 vc 0 apid 100 counter 8 bytes 26 packets 1\nsymbols ",
+    lines!(
+        shelved 0 vc 0 apid 100 counter 7 bytes 26 packets 1;
+        "symbols "
+    ),
+    lines!(
+        shelved 0 vc 0 apid 100 counter 7 bytes 26 packets 1;
+        shelved 1 vc 0 apid 100 counter 8 bytes 26 packets 1;
+        "symbols "
+    ),
 ];
 
 /// The source fails at this place: the files of the frames before it are there, and the last line says so.
@@ -96,10 +104,10 @@ fn source_fails(alloc: Global, job: &Job, place: u64) -> Result<Option<bool>, Tr
     let reached = progress(alloc, job, &mut left)?;
     let out = printed.out.as_slice();
     Ok(Some(
-        ends_so(&printed, 3, "station: source failed\n")
+        ends_so(&printed, 3, lines!(station: source failed;))
             && out.starts_with(LINES[whole].as_bytes())
             && out.ends_with(b" stop fault\n")
-            && lines(&printed) == whole + 1
+            && line_count(&printed) == whole + 1
             && reached == Some(whole),
     ))
 }
@@ -122,36 +130,39 @@ fn ends(alloc: Global, job: &Job, device: &Device) -> Result<bool, Trouble> {
 }
 
 #[test]
-fn a_disk_that_fails_keeps_what_was_acknowledged(rt: HostRuntime) {
+fn a_disk_that_fails_keeps_what_was_acknowledged(rt: HostRuntime) -> Result<(), Fail> {
     let alloc = rt.alloc();
-    assert!(rt; holds(ends(alloc, &RECEIVE, &Device::Disk)));
-    assert!(rt; holds(ends(alloc, &INIT, &Device::Disk)));
-    assert!(rt; holds(ends(alloc, &DISCARD, &Device::Disk)));
-    assert!(rt; holds(ends(alloc, &TRIAL, &Device::Disk)));
+    assert!(rt; ends(alloc, &RECEIVE, &Device::Disk)?);
+    assert!(rt; ends(alloc, &INIT, &Device::Disk)?);
+    assert!(rt; ends(alloc, &DISCARD, &Device::Disk)?);
+    assert!(rt; ends(alloc, &TRIAL, &Device::Disk)?);
+    Ok(())
 }
 
 #[test]
-fn an_output_that_fails_takes_nothing_back(rt: HostRuntime) {
+fn an_output_that_fails_takes_nothing_back(rt: HostRuntime) -> Result<(), Fail> {
     let alloc = rt.alloc();
-    assert!(rt; holds(ends(alloc, &RECEIVE, &Device::Out)));
-    assert!(rt; holds(ends(alloc, &INIT, &Device::Out)));
-    assert!(rt; holds(ends(alloc, &DISCARD, &Device::Out)));
-    assert!(rt; holds(ends(alloc, &TRIAL, &Device::Out)));
+    assert!(rt; ends(alloc, &RECEIVE, &Device::Out)?);
+    assert!(rt; ends(alloc, &INIT, &Device::Out)?);
+    assert!(rt; ends(alloc, &DISCARD, &Device::Out)?);
+    assert!(rt; ends(alloc, &TRIAL, &Device::Out)?);
+    Ok(())
 }
 
 #[test]
-fn a_source_that_fails_leaves_the_files_of_whole_frames(rt: HostRuntime) {
-    assert!(rt; holds(ends(rt.alloc(), &RECEIVE, &Device::Source)));
+fn a_source_that_fails_leaves_the_files_of_whole_frames(rt: HostRuntime) -> Result<(), Fail> {
+    assert!(rt; ends(rt.alloc(), &RECEIVE, &Device::Source)?);
+    Ok(())
 }
 
 /// `err` takes nothing, and the shelf is one byte too small for the file.
-fn err_fails(alloc: Global) -> Result<bool, Trouble> {
+fn err_fails(alloc: Global) -> Result<bool, Fail> {
     let mut made = disk(alloc, &[])?;
     let small = follows(
         alloc,
         &mut made,
         &[],
-        &[(&["init", "86"], 0, "shelf capacity 86\n")],
+        &[(&["init", "86"], 0, lines!(shelf capacity 86;))],
     )?;
     let mut call = reading(&FRAMES, &[FILE_7]);
     call.err_room = 0;
@@ -160,6 +171,7 @@ fn err_fails(alloc: Global) -> Result<bool, Trouble> {
 }
 
 #[test]
-fn a_line_that_err_refuses_changes_no_status(rt: HostRuntime) {
-    assert!(rt; holds(err_fails(rt.alloc())));
+fn a_line_that_err_refuses_changes_no_status(rt: HostRuntime) -> Result<(), Fail> {
+    assert!(rt; err_fails(rt.alloc())?);
+    Ok(())
 }

@@ -1,9 +1,11 @@
 //! A source over a reader that fails once.
-use crate::calls::{Trouble, bytes_of, disk, ends_so, holds, is_out, reading, run_from};
+use crate::calls::{Trouble, bytes_of, disk, ends_so, is_out, reading, run_from};
 use crate::given::{EMPTY, FILE_7, FILE_8, FRAMES};
 use lr_io::{ReadSource, Source, StdReader};
+use lr_trials_wanted::lines;
 use std::alloc::Global;
 use std::io::{self, ErrorKind, Read};
+use std::test::Fail;
 
 /// Bytes that are read, of which one read fails, after this many others. It counts its reads.
 #[derive(Drop)]
@@ -62,8 +64,10 @@ fn loses_nothing(alloc: Global) -> Result<bool, Trouble> {
     Ok(first && failed && last && take(&mut source) == Some((0, 0)))
 }
 
-const ONE_FILE: &str = "shelved 0 vc 0 apid 100 counter 7 bytes 26 packets 1\n\
-symbols 892 frames 1 restored 1 lost 0 packets 1 files 1 left 0 stop fault\n";
+const ONE_FILE: &str = lines!(
+    shelved 0 vc 0 apid 100 counter 7 bytes 26 packets 1;
+    symbols 892 frames 1 restored 1 lost 0 packets 1 files 1 left 0 stop fault;
+);
 
 /// Of two frames the first is read, and then the reader fails: the station doesn't ask again.
 fn ends_the_input(alloc: Global) -> Result<bool, Trouble> {
@@ -71,14 +75,15 @@ fn ends_the_input(alloc: Global) -> Result<bool, Trouble> {
     let mut source = failing_source(bytes_of(alloc, &[FILE_7, FILE_8])?);
     let printed = run_from(alloc, &mut made, reading(&FRAMES, &[]), &mut source)?;
     Ok(
-        ends_so(&printed, 3, "station: source failed\n")
+        ends_so(&printed, 3, lines!(station: source failed;))
             && is_out(&printed, ONE_FILE)
             && reads(&source) == 2,
     )
 }
 
 #[test]
-fn a_reader_that_fails_once_loses_nothing(rt: HostRuntime) {
-    assert!(rt; holds(loses_nothing(rt.alloc())));
-    assert!(rt; holds(ends_the_input(rt.alloc())));
+fn a_reader_that_fails_once_loses_nothing(rt: HostRuntime) -> Result<(), Fail> {
+    assert!(rt; loses_nothing(rt.alloc())?);
+    assert!(rt; ends_the_input(rt.alloc())?);
+    Ok(())
 }

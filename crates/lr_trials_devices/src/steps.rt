@@ -1,7 +1,9 @@
 //! Calls one after another, and what each must print.
-use crate::calls::{Trouble, ends_so, is_out, reading, run};
+use crate::calls::{reading, run};
 use lr_disk::MemDisk;
+use lr_trials_wanted::{is_status, is_text};
 use std::alloc::Global;
+use std::test::Fail;
 
 /// The words of a call, the status that it must end with, and its text: all of `out` where the status is 0, and else
 /// the line on `err`, where nothing is on `out`.
@@ -13,7 +15,7 @@ pub(crate) fn follows(
     disk: &mut MemDisk,
     frames: &'static [&'static [u8]],
     steps: &[Step],
-) -> Result<bool, Trouble> {
+) -> Result<bool, Fail> {
     for (words, status, text) in steps {
         let printed = run(alloc, disk, reading(words, frames))?;
         let (out, line) = if *status == 0 {
@@ -21,7 +23,10 @@ pub(crate) fn follows(
         } else {
             ("", *text)
         };
-        if !ends_so(&printed, *status, line) || !is_out(&printed, out) {
+        let ended = is_status(printed.status, *status)?
+            && is_text("err", printed.err.as_slice(), line.as_bytes())?
+            && is_text("out", printed.out.as_slice(), out.as_bytes())?;
+        if !ended {
             return Ok(false);
         }
     }

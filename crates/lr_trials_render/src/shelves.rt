@@ -11,6 +11,7 @@ use lr_disk::MemDisk;
 use lr_io::MemSink;
 use lr_rendering::{render, render_alone};
 use lr_shelf::Shelf;
+use lr_trials_wanted::{is_status, is_text, lines};
 use std::alloc::Global;
 use std::sync::Wait;
 use std::test::Fail;
@@ -27,15 +28,18 @@ const FIELD_BYTES: usize = 75_000;
 struct End<'t> {
     room: usize,
     status: u8,
-    line: &'t [u8],
+    line: &'t str,
     text: &'t [u8],
 }
 
-/// Whether a run that ended for this cause, and put this, came to this end.
-fn came_to(cause: Cause, out: &MemSink, end: End<'_>) -> bool {
-    cause.status() == end.status
-        && line_for(cause).as_bytes() == end.line
-        && out.as_slice() == end.text
+/// Whether a run that ended for this cause, and put this, came to this end. Where it didn't, the failure says what
+/// differs.
+fn came_to(cause: Cause, out: &MemSink, end: End<'_>) -> Result<bool, Fail> {
+    Ok(
+        is_status(cause.status(), end.status)?
+            && is_text("err", line_for(cause).as_bytes(), end.line.as_bytes())?
+            && is_text("out", out.as_slice(), end.text)?,
+    )
 }
 
 fn sink(alloc: Global, room: usize) -> Result<MemSink, Fail> {
@@ -46,7 +50,7 @@ fn sink(alloc: Global, room: usize) -> Result<MemSink, Fail> {
 fn ends_alone(alloc: Global, disk: &mut MemDisk, end: End<'_>) -> Result<bool, Fail> {
     let mut out = sink(alloc, end.room)?;
     let cause = render_alone(alloc, disk, &mut out);
-    Ok(came_to(cause, &out, end))
+    came_to(cause, &out, end)
 }
 
 /// Whether a run by this many workers comes to this end.
@@ -61,7 +65,7 @@ fn ends_by<R: Threads + Wait + Sync>(
 {
     let mut out = sink(alloc, end.room)?;
     let cause = render(rt, alloc, workers, disk, &mut out);
-    Ok(came_to(cause, &out, end))
+    came_to(cause, &out, end)
 }
 
 /// Whether all runs come to this end, however many work.
@@ -172,7 +176,7 @@ fn an_empty_shelf_has_no_image(rt: HostRuntime) -> Result<(), Fail> {
     let end = End {
         room: ROOM,
         status: 0,
-        line: b"rendered 0 skipped 0\n",
+        line: lines!(rendered 0 skipped 0;),
         text: b"",
     };
     assert!(rt; ends(&rt, alloc, &mut disk, end)?);
@@ -186,7 +190,7 @@ fn files_without_an_image_are_skipped(rt: HostRuntime) -> Result<(), Fail> {
     let end = End {
         room: ROOM,
         status: 0,
-        line: b"rendered 1 skipped 1\n",
+        line: lines!(rendered 1 skipped 1;),
         text: LINES_OF_FIVE,
     };
     assert!(rt; ends(&rt, alloc, &mut disk, end)?);
@@ -202,7 +206,7 @@ fn gone_entries_count_for_nothing(rt: HostRuntime) -> Result<(), Fail> {
     let end = End {
         room: ROOM,
         status: 0,
-        line: b"rendered 2 skipped 3\n",
+        line: lines!(rendered 2 skipped 3;),
         text: &text,
     };
     assert!(rt; ends(&rt, alloc, &mut disk, end)?);
@@ -216,7 +220,7 @@ fn a_damaged_item_ends_the_run(rt: HostRuntime) -> Result<(), Fail> {
     let end = End {
         room: ROOM,
         status: 6,
-        line: b"station: not a shelf at 112\n",
+        line: lines!(station: not a shelf at 112;),
         text: LINES_OF_FIVE,
     };
     assert!(rt; ends(&rt, alloc, &mut disk, end)?);
@@ -230,7 +234,7 @@ fn a_wrong_checksum_ends_the_run(rt: HostRuntime) -> Result<(), Fail> {
     let end = End {
         room: ROOM,
         status: 12,
-        line: b"station: bad checksum\n",
+        line: lines!(station: bad checksum;),
         text: LINES_OF_FIVE,
     };
     assert!(rt; ends(&rt, alloc, &mut disk, end)?);
@@ -252,14 +256,14 @@ fn large_images_are_put_in_their_place(rt: HostRuntime) -> Result<(), Fail> {
     let whole = End {
         room: ROOM,
         status: 0,
-        line: b"rendered 3 skipped 1\n",
+        line: lines!(rendered 3 skipped 1;),
         text: &text,
     };
     assert!(rt; ends(&rt, alloc, &mut disk, whole)?);
     let cut = End {
         room: 1_000,
         status: 5,
-        line: b"station: output failed\n",
+        line: lines!(station: output failed;),
         text: text.get(..1_000).unwrap_or(b""),
     };
     assert!(rt; ends(&rt, alloc, &mut disk, cut)?);

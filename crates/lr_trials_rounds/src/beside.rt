@@ -4,6 +4,7 @@ ghost use Rattle.std.specs.Prelude.{◌≡◌, ◌≤◌, IfOk, vec_len};
 use crate::roll::{Refused, Roll};
 use crate::works::{Meeting, Same};
 use lr_bits::NoMemory;
+use lr_gatecore::MOST_HANDS;
 use lr_rounds::{DriveFault, WorkerPool, drive, drive_alone, drive_beside};
 use std::alloc::Global;
 use std::sync::atomic::AtomicBool;
@@ -14,7 +15,7 @@ use std::thread::Threads;
 
 // A pool with this number of seats.
 fn pool_of(alloc: Global, seats: usize) -> Result<WorkerPool<Same>, NoMemory>
-    requires { seats ≤ 63 }
+    requires { seats ≤ MOST_HANDS }
 {
     let mut works = Vec::with_capacity(alloc, seats)?;
     for _ in 0..seats {
@@ -30,7 +31,7 @@ fn comes_back<R: Threads + Wait + Sync>(
     seats: usize,
     is_eager: bool,
 ) -> Result<bool, NoMemory>
-    requires { seats ≤ 63 }
+    requires { seats ≤ MOST_HANDS }
 {
     let pool = pool_of(alloc, seats)?;
     let mut roll = Roll::new(1_000, 100);
@@ -101,7 +102,7 @@ fn any_number_of_seats_leads_alike(rt: HostRuntime) -> Result<(), Fail> {
     assert!(rt; comes_back(&rt, alloc, 0, true)?);
     assert!(rt; comes_back(&rt, alloc, 1, true)?);
     assert!(rt; comes_back(&rt, alloc, 3, true)?);
-    assert!(rt; comes_back(&rt, alloc, 63, true)?);
+    assert!(rt; comes_back(&rt, alloc, MOST_HANDS as usize, true)?);
     assert!(rt; comes_back(&rt, alloc, 3, false)?);
     Ok(())
 }

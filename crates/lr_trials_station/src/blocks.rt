@@ -3,31 +3,45 @@ use crate::call::{AMPLE, Input, NEVER, done_with, gives, gives_on};
 use crate::shelves::empty_shelf;
 use crate::stated::{FRAME, file_7};
 use lr_block::{derandomise, encode_block};
+use lr_trials_wanted::lines;
 use std::alloc::Global;
 use std::test::Fail;
 
 const BLOCK: usize = 1020;
 
-const RESTORED: &str = "block 0 restored 0 0 0 0\n\
-symbols 1020 frames 1 restored 1 lost 0 left 0 stop end\n";
+const RESTORED: &str = lines!(
+    block 0 restored 0 0 0 0;
+    symbols 1020 frames 1 restored 1 lost 0 left 0 stop end;
+);
 
-const LOST: &str = "block 0 lost 0\n\
-symbols 1020 frames 1 restored 0 lost 1 left 0 stop end\n";
+const LOST: &str = lines!(
+    block 0 lost 0;
+    symbols 1020 frames 1 restored 0 lost 1 left 0 stop end;
+);
 
-const CUT_SHORT: &str = "block 0 restored 0 0 0 0\n\
-symbols 1025 frames 1 restored 1 lost 0 left 5 stop end\n";
+const CUT_SHORT: &str = lines!(
+    block 0 restored 0 0 0 0;
+    symbols 1025 frames 1 restored 1 lost 0 left 5 stop end;
+);
 
-const BOTH: &str = "block 0 lost 0\n\
-block 1 restored 0 0 0 0\n\
-symbols 2040 frames 2 restored 1 lost 1 left 0 stop end\n";
+const BOTH: &str = lines!(
+    block 0 lost 0;
+    block 1 restored 0 0 0 0;
+    symbols 2040 frames 2 restored 1 lost 1 left 0 stop end;
+);
 
-const ONE_FILE: &str = "shelved 0 vc 0 apid 100 counter 7 bytes 26 packets 1\n\
-symbols 1020 frames 1 restored 1 lost 0 packets 1 files 1 left 0 stop end\n";
+const ONE_FILE: &str = lines!(
+    shelved 0 vc 0 apid 100 counter 7 bytes 26 packets 1;
+    symbols 1020 frames 1 restored 1 lost 0 packets 1 files 1 left 0 stop end;
+);
 
-const NO_FILE: &str = "symbols 1020 frames 1 restored 0 lost 1 packets 0 files 0 left 0 stop end\n";
+const NO_FILE: &str =
+    lines!(symbols 1020 frames 1 restored 0 lost 1 packets 0 files 0 left 0 stop end;);
 
-const AFTER_LOST: &str = "shelved 0 vc 0 apid 100 counter 7 bytes 26 packets 1\n\
-symbols 2040 frames 2 restored 1 lost 1 packets 1 files 1 left 0 stop end\n";
+const AFTER_LOST: &str = lines!(
+    shelved 0 vc 0 apid 100 counter 7 bytes 26 packets 1;
+    symbols 2040 frames 2 restored 1 lost 1 packets 1 files 1 left 0 stop end;
+);
 
 // The bytes 40, which are a block of four codewords, as they are sent.
 fn sent_block() -> [u8; BLOCK] {

@@ -1,15 +1,23 @@
 //! `frames` prints a line for each transfer frame.
 use crate::call::{AMPLE, Input, NEVER, Outcome, Room, done_with, gives, refused_with};
+use lr_trials_wanted::lines;
 use std::alloc::Global;
 use std::test::Fail;
 
-const GOOD: &str =
-    "frame 0 vc 0 counter 4210752 spacecraft 1 replay 0 pointer 64\nframes 1 left 1 stop end\n";
+const GOOD: &str = lines!(
+    frame 0 vc 0 counter 4210752 spacecraft 1 replay 0 pointer 64;
+    frames 1 left 1 stop end;
+);
 
-const ZEROS: &str = "frame 0 version 0 refused\nframes 1 left 0 stop end\n";
+const ZEROS: &str = lines!(
+    frame 0 version 0 refused;
+    frames 1 left 0 stop end;
+);
 
-const FILL: &str =
-    "frame 0 vc 63 counter 8355711 spacecraft 253 replay 0 pointer 1919\nframes 1 left 0 stop end\n";
+const FILL: &str = lines!(
+    frame 0 vc 63 counter 8355711 spacecraft 253 replay 0 pointer 1919;
+    frames 1 left 0 stop end;
+);
 
 fn frames(
     alloc: Global,
@@ -39,7 +47,7 @@ fn each_frame_has_its_line_however_the_reads_are_cut(rt: HostRuntime) -> Result<
         assert!(rt; prints(alloc, 0x40, 893, reads, GOOD)?);
         assert!(rt; prints(alloc, 0, 892, reads, ZEROS)?);
         assert!(rt; prints(alloc, 0x7f, 892, reads, FILL)?);
-        assert!(rt; prints(alloc, 0, 0, reads, "frames 0 left 0 stop end\n")?);
+        assert!(rt; prints(alloc, 0, 0, reads, lines!(frames 0 left 0 stop end;))?);
     }
     Ok(())
 }
@@ -47,9 +55,9 @@ fn each_frame_has_its_line_however_the_reads_are_cut(rt: HostRuntime) -> Result<
 #[test]
 fn a_source_that_fails_ends_the_input(rt: HostRuntime) -> Result<(), Fail> {
     let wanted = Outcome {
-        out: "frames 0 left 400 stop fault\n",
+        out: lines!(frames 0 left 400 stop fault;),
         status: 3,
-        line: "station: source failed\n",
+        line: lines!(station: source failed;),
     };
     assert!(rt; frames(rt.alloc(), 0x40, 893, 893, 400, wanted)?);
     Ok(())
@@ -65,7 +73,7 @@ fn output_fails(alloc: Global, bytes: usize, fault: u64, out: &str) -> Result<bo
     let wanted = Outcome {
         out,
         status: 5,
-        line: "station: output failed\n",
+        line: lines!(station: output failed;),
     };
     gives(alloc, input, Room { bytes, fault }, wanted)
 }
@@ -74,7 +82,17 @@ fn output_fails(alloc: Global, bytes: usize, fault: u64, out: &str) -> Result<bo
 fn an_output_that_fails_got_a_front(rt: HostRuntime) -> Result<(), Fail> {
     let alloc = rt.alloc();
     assert!(rt; output_fails(alloc, 500, 8, "frame 0 ")?);
-    assert!(rt; output_fails(alloc, 30, NEVER, "frame 0 version 0 refused\nfram")?);
+    assert!(rt;
+        output_fails(
+            alloc,
+            30,
+            NEVER,
+            lines!(
+        frame 0 version 0 refused;
+        "fram"
+    )
+        )?
+    );
     Ok(())
 }
 
@@ -85,7 +103,7 @@ fn is_refused(alloc: Global, words: &[&str]) -> Result<bool, Fail> {
         reads: 892,
         fault: NEVER,
     };
-    let wanted = refused_with(2, "station: usage: SHELF COMMAND [WORDS]\n");
+    let wanted = refused_with(2, lines!(station: usage: SHELF COMMAND [WORDS];));
     gives(alloc, input, AMPLE, wanted)
 }
 

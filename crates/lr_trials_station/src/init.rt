@@ -1,6 +1,7 @@
 //! `init` makes an empty shelf once.
 use crate::call::{Input, NEVER, Room, done_with, gives_alone, gives_on, refused_with};
 use crate::shelves::{disk, with_byte};
+use lr_trials_wanted::lines;
 use std::alloc::Global;
 use std::test::Fail;
 
@@ -13,9 +14,14 @@ static HEADER_100: [u8; 20] = [
 fn makes(alloc: Global, bytes: &[u8], capacity: &str) -> Result<bool, Fail> {
     let mut shelf = disk(alloc, bytes)?;
     let words = ["init", capacity];
-    let made = gives_alone(alloc, &mut shelf, &words, done_with("shelf capacity 100\n"))?;
+    let made = gives_alone(
+        alloc,
+        &mut shelf,
+        &words,
+        done_with(lines!(shelf capacity 100;)),
+    )?;
     let stands = shelf.as_slice() == HEADER_100.as_slice();
-    let wanted = refused_with(11, "station: not empty, length 20\n");
+    let wanted = refused_with(11, lines!(station: not empty, length 20;));
     let again = gives_alone(alloc, &mut shelf, &words, wanted)?;
     Ok(made && stands && again && shelf.as_slice() == HEADER_100.as_slice())
 }
@@ -24,7 +30,7 @@ fn makes(alloc: Global, bytes: &[u8], capacity: &str) -> Result<bool, Fail> {
 fn refuses_two_files(alloc: Global, gate: u8) -> Result<bool, Fail> {
     let mut shelf = with_byte(alloc, 86, gate)?;
     let before = shelf.as_slice().to_vec(alloc)?;
-    let wanted = refused_with(11, "station: not empty, length 154\n");
+    let wanted = refused_with(11, lines!(station: not empty, length 154;));
     let refuses = gives_alone(alloc, &mut shelf, &["init", "100"], wanted)?;
     Ok(refuses && shelf.as_slice() == before.as_slice())
 }
@@ -42,7 +48,7 @@ fn output_fails(alloc: Global) -> Result<bool, Fail> {
         bytes: 500,
         fault: 0,
     };
-    let wanted = refused_with(5, "station: output failed\n");
+    let wanted = refused_with(5, lines!(station: output failed;));
     let fails = gives_on(alloc, &mut shelf, input, room, wanted)?;
     Ok(fails && shelf.as_slice() == HEADER_100.as_slice())
 }

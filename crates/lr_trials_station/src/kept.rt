@@ -4,14 +4,24 @@ use crate::call::{
 };
 use crate::shelves::{FRAMES, TWO_FILES, disk, disk_of_calls, one_file, with_byte};
 use crate::stated::{file_8, two_files};
+use lr_trials_wanted::lines;
 use std::alloc::Global;
 use std::test::Fail;
 
-const BOTH: &str = "file 0 ok\nfile 1 ok\n";
+const BOTH: &str = lines!(
+    file 0 ok;
+    file 1 ok;
+);
 
-const FIRST_BAD: &str = "file 0 bad stored 3B39 computed 5DAA\nfile 1 ok\n";
+const FIRST_BAD: &str = lines!(
+    file 0 bad stored "3B39" computed "5DAA";
+    file 1 ok;
+);
 
-const SECOND_BAD: &str = "file 0 ok\nfile 1 bad stored DE9E computed B80D\n";
+const SECOND_BAD: &str = lines!(
+    file 0 ok;
+    file 1 bad stored "DE9E" computed "B80D";
+);
 
 /// An empty shelf of the capacity 1,000.
 static EMPTY: [u8; 20] = [
@@ -31,7 +41,7 @@ static ONE_BY_ONE: [u8; 154] = [
 /// The file after the transport header: two header records and eight zeros.
 const PROPER: &str = "\0\0\x10\x02\0\0\0\x10\0\0\0\0\0\0\0\0";
 
-const LINE_7: &str = "shelved 0 vc 0 apid 100 counter 7 bytes 26 packets 1\n";
+const LINE_7: &str = lines!(shelved 0 vc 0 apid 100 counter 7 bytes 26 packets 1;);
 
 // One content byte of a record is changed, at this place.
 fn verifies(alloc: Global, place: usize, out: &str) -> Result<bool, Fail> {
@@ -39,7 +49,7 @@ fn verifies(alloc: Global, place: usize, out: &str) -> Result<bool, Fail> {
     let wanted = Outcome {
         out,
         status: 12,
-        line: "station: bad checksum\n",
+        line: lines!(station: bad checksum;),
     };
     gives_alone(alloc, &mut shelf, &["verify"], wanted)
 }
@@ -63,8 +73,8 @@ fn each_checksum_has_its_line(rt: HostRuntime) -> Result<(), Fail> {
 #[test]
 fn a_sound_file_is_extracted(rt: HostRuntime) -> Result<(), Fail> {
     let alloc = rt.alloc();
-    let bad = refused_with(12, "station: bad checksum\n");
-    let missing = refused_with(7, "station: no such file, count 2\n");
+    let bad = refused_with(12, lines!(station: bad checksum;));
+    let missing = refused_with(7, lines!(station: no such file, count 2;));
     assert!(rt; extracts(alloc, 135, "0", done_with(PROPER))?);
     assert!(rt; extracts(alloc, 135, "1", bad)?);
     assert!(rt; extracts(alloc, 68, "0", bad)?);
@@ -88,20 +98,22 @@ fn is_no_shelf(alloc: Global, bytes: &[u8], line: &str) -> Result<bool, Fail> {
 fn an_open_end_is_no_shelf(alloc: Global) -> Result<bool, Fail> {
     let mut bytes = TWO_FILES;
     bytes[19] = 1;
-    is_no_shelf(alloc, &bytes[..20], "station: not a shelf at 19\n")
+    is_no_shelf(alloc, &bytes[..20], lines!(station: not a shelf at 19;))
 }
 
 #[test]
 fn without_a_shelf_nothing_is_done(rt: HostRuntime) -> Result<(), Fail> {
     let alloc = rt.alloc();
-    assert!(rt; is_no_shelf(alloc, &[], "station: not a shelf at 0\n")?);
-    assert!(rt; is_no_shelf(alloc, &TWO_FILES[..19], "station: not a shelf at 0\n")?);
+    assert!(rt; is_no_shelf(alloc, &[], lines!(station: not a shelf at 0;))?);
+    assert!(rt; is_no_shelf(alloc, &TWO_FILES[..19], lines!(station: not a shelf at 0;))?);
     assert!(rt; an_open_end_is_no_shelf(alloc)?);
     Ok(())
 }
 
-const NEXT: &str = "shelved 1 vc 0 apid 100 counter 8 bytes 26 packets 1\n\
-symbols 892 frames 1 restored 1 lost 0 packets 1 files 1 left 0 stop end\n";
+const NEXT: &str = lines!(
+    shelved 1 vc 0 apid 100 counter 8 bytes 26 packets 1;
+    symbols 892 frames 1 restored 1 lost 0 packets 1 files 1 left 0 stop end;
+);
 
 // The second file is received once more.
 fn next_file(alloc: Global) -> Result<Input<'static>, Fail> {
@@ -116,7 +128,12 @@ fn next_file(alloc: Global) -> Result<Input<'static>, Fail> {
 // A stop in the write that opens the second gate left 7F there. The next file stands in the place of the second.
 fn a_stop_leaves_no_file(alloc: Global) -> Result<bool, Fail> {
     let mut shelf = with_byte(alloc, 86, 0x7F)?;
-    let without = gives_alone(alloc, &mut shelf, &["verify"], done_with("file 0 ok\n"))?;
+    let without = gives_alone(
+        alloc,
+        &mut shelf,
+        &["verify"],
+        done_with(lines!(file 0 ok;)),
+    )?;
     let added = gives_on(alloc, &mut shelf, next_file(alloc)?, AMPLE, done_with(NEXT))?;
     Ok(without && added && shelf.as_slice() == ONE_BY_ONE.as_slice())
 }
@@ -140,7 +157,7 @@ fn disk_fails(alloc: Global, calls: u64, out: &str, verified: &str) -> Result<bo
     let wanted = Outcome {
         out,
         status: 4,
-        line: "station: disk failed\n",
+        line: lines!(station: disk failed;),
     };
     let fails = gives_on(alloc, &mut shelf, input, AMPLE, wanted)?;
     let mut again = disk(alloc, shelf.as_slice())?;
@@ -151,7 +168,7 @@ fn disk_fails(alloc: Global, calls: u64, out: &str, verified: &str) -> Result<bo
 // These words alone, over a disk that allows no call.
 fn no_call_succeeds(alloc: Global, words: &[&str]) -> Result<bool, Fail> {
     let mut shelf = disk_of_calls(alloc, &TWO_FILES, 0)?;
-    let wanted = refused_with(4, "station: disk failed\n");
+    let wanted = refused_with(4, lines!(station: disk failed;));
     gives_alone(alloc, &mut shelf, words, wanted)
 }
 
@@ -163,7 +180,7 @@ fn a_disk_that_fails_ends_the_call(rt: HostRuntime) -> Result<(), Fail> {
     assert!(rt; no_call_succeeds(alloc, &["verify"])?);
     assert!(rt; disk_fails(alloc, 3, "", "")?);
     assert!(rt; disk_fails(alloc, 5, "", "")?);
-    assert!(rt; disk_fails(alloc, 9, LINE_7, "file 0 ok\n")?);
+    assert!(rt; disk_fails(alloc, 9, LINE_7, lines!(file 0 ok;))?);
     Ok(())
 }
 
@@ -181,9 +198,12 @@ fn output_fails(alloc: Global) -> Result<bool, Fail> {
         fault: 15,
     };
     let wanted = Outcome {
-        out: "file 0 ok\nfile ",
+        out: lines!(
+            file 0 ok;
+            "file "
+        ),
         status: 5,
-        line: "station: output failed\n",
+        line: lines!(station: output failed;),
     };
     gives_on(alloc, &mut shelf, input, room, wanted)
 }

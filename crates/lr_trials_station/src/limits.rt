@@ -2,17 +2,21 @@
 
 use crate::call::{AMPLE, Input, NEVER, done_with, gives, gives_on};
 use crate::shelves::empty_shelf;
+use lr_trials_wanted::lines;
 use std::alloc::Global;
 use std::test::Fail;
 
-const ONE: &str =
-    "frame 0 vc 0 counter 4210752 spacecraft 1 replay 0 pointer 64\nframes 1 left 0 stop limit\n";
+const ONE: &str = lines!(
+    frame 0 vc 0 counter 4210752 spacecraft 1 replay 0 pointer 64;
+    frames 1 left 0 stop limit;
+);
 
-const PART: &str = "frames 0 left 891 stop limit\n";
+const PART: &str = lines!(frames 0 left 891 stop limit;);
 
-const NONE: &str = "frames 0 left 0 stop limit\n";
+const NONE: &str = lines!(frames 0 left 0 stop limit;);
 
-const NOTHING: &str = "symbols 0 frames 0 restored 0 lost 0 packets 0 files 0 left 0 stop limit\n";
+const NOTHING: &str =
+    lines!(symbols 0 frames 0 restored 0 lost 0 packets 0 files 0 left 0 stop limit;);
 
 /// Whether these words print this of 893 bytes of 40 hex, from a source that fails at this place.
 fn prints(alloc: Global, words: &[&str], fault: u64, out: &str) -> Result<bool, Fail> {

@@ -1,37 +1,43 @@
 //! `list` and `show` of a shelf that is there.
 use crate::call::{AMPLE, Outcome, done_with, gives_alone, gives_on, refused_with};
 use crate::shelves::{TWO_FILES, disk, empty_shelf, one_file, with_byte};
+use lr_trials_wanted::lines;
 use std::test::Fail;
 
-const FILE_7: &str = "file 0 vc 0 apid 100 counter 7 bytes 26 packets 1 \
-    declared 136 real 128 differs type 2 frames 0 0 corrected 0\n";
+const FILE_7: &str = lines!(
+    file 0 vc 0 apid 100 counter 7 bytes 26 packets 1 declared 136 real 128 differs type 2 frames 0 0 corrected 0;
+);
 
-const SHELF_OF_ONE: &str = "file 0 vc 0 apid 100 counter 7 bytes 26 packets 1 \
-    declared 136 real 128 differs type 2 frames 0 0 corrected 0\n\
-    files 1 used 87 capacity 1000\n";
+const SHELF_OF_ONE: &str = lines!(
+    file 0 vc 0 apid 100 counter 7 bytes 26 packets 1 declared 136 real 128 differs type 2 frames 0 0 corrected 0;
+    files 1 used 87 capacity 1000;
+);
 
-const SHOWN: &str = "file 0 vc 0 apid 100 counter 7 bytes 26 packets 1 \
-    declared 136 real 128 differs type 2 frames 0 0 corrected 0\n\
-    record 0 length 16 primary type 2 header 16 bits 0\n";
+const SHOWN: &str = lines!(
+    file 0 vc 0 apid 100 counter 7 bytes 26 packets 1 declared 136 real 128 differs type 2 frames 0 0 corrected 0;
+    record 0 length 16 primary type 2 header 16 bits 0;
+);
 
-const RECEIVED: &str = "shelved 0 vc 0 apid 100 counter 7 bytes 26 packets 1\n\
-    symbols 892 frames 1 restored 1 lost 0 packets 1 files 1 left 0 stop end\n";
+const RECEIVED: &str = lines!(
+    shelved 0 vc 0 apid 100 counter 7 bytes 26 packets 1;
+    symbols 892 frames 1 restored 1 lost 0 packets 1 files 1 left 0 stop end;
+);
 
 #[test]
 fn an_empty_shelf_has_a_last_line_alone(rt: HostRuntime) -> Result<(), Fail> {
     let alloc = rt.alloc();
     let mut made = disk(alloc, &[])?;
-    let wanted = done_with("shelf capacity 100\n");
+    let wanted = done_with(lines!(shelf capacity 100;));
     assert!(rt; gives_alone(alloc, &mut made, &["init", "100"], wanted)?);
     assert!(rt;
         gives_alone(
             alloc,
             &mut made,
             &["list"],
-            done_with("files 0 used 20 capacity 100\n")
+            done_with(lines!(files 0 used 20 capacity 100;))
         )?
     );
-    let none = refused_with(7, "station: no such file, count 0\n");
+    let none = refused_with(7, lines!(station: no such file, count 0;));
     assert!(rt; gives_alone(alloc, &mut made, &["show", "0"], none)?);
     Ok(())
 }
@@ -57,7 +63,7 @@ fn a_received_file_is_listed_and_shown(rt: HostRuntime) -> Result<(), Fail> {
 #[test]
 fn a_wrong_checksum_ends_the_list_alone(rt: HostRuntime) -> Result<(), Fail> {
     let alloc = rt.alloc();
-    let bad = "station: bad checksum\n";
+    let bad = lines!(station: bad checksum;);
     let mut made = with_byte(alloc, 135, 0xA5)?;
     let wanted = Outcome {
         out: FILE_7,
@@ -79,10 +85,10 @@ fn a_discarded_file_is_listed_and_not_shown(rt: HostRuntime) -> Result<(), Fail>
             alloc,
             &mut made,
             &["discard", "1"],
-            done_with("discarded 1\n")
+            done_with(lines!(discarded 1;))
         )?
     );
-    let gone = refused_with(13, "station: discarded\n");
+    let gone = refused_with(13, lines!(station: discarded;));
     assert!(rt; gives_alone(alloc, &mut made, &["show", "1"], gone)?);
     Ok(())
 }

@@ -1,29 +1,39 @@
 //! `packets` prints a line for each packet.
 use crate::call::{AMPLE, Input, NEVER, done_with, gives};
 use crate::stated::{DIGITS, FRAME, header, idle};
+use lr_trials_wanted::lines;
 use std::alloc::{AllocError, Global};
 use std::test::Fail;
 
-const BOTH: &str = "packet 0 vc 0 apid 100 flags 3 count 0 length 11 ok\n\
-packet 1 vc 0 apid 2047 flags 3 count 0 length 861 fault idle\n\
-frames 1 packets 2 good 1 left 0 stop end\n";
+const BOTH: &str = lines!(
+    packet 0 vc 0 apid 100 flags 3 count 0 length 11 ok;
+    packet 1 vc 0 apid 2047 flags 3 count 0 length 861 fault idle;
+    frames 1 packets 2 good 1 left 0 stop end;
+);
 
-const DAMAGED: &str =
-    "packet 0 vc 0 apid 100 flags 3 count 0 length 11 fault crc stored 29B0 computed 29B1\n\
-packet 1 vc 0 apid 2047 flags 3 count 0 length 861 fault idle\n\
-frames 1 packets 2 good 0 left 0 stop end\n";
+const DAMAGED: &str = lines!(
+    packet 0 vc 0 apid 100 flags 3 count 0 length 11 fault crc stored "29B0" computed "29B1";
+    packet 1 vc 0 apid 2047 flags 3 count 0 length 861 fault idle;
+    frames 1 packets 2 good 0 left 0 stop end;
+);
 
-const ACROSS: &str = "packet 0 vc 0 apid 2047 flags 3 count 0 length 875 fault idle\n\
-packet 1 vc 0 apid 100 flags 3 count 0 length 11 ok\n\
-packet 2 vc 0 apid 2047 flags 3 count 0 length 864 fault idle\n\
-frames 2 packets 3 good 1 left 0 stop end\n";
+const ACROSS: &str = lines!(
+    packet 0 vc 0 apid 2047 flags 3 count 0 length 875 fault idle;
+    packet 1 vc 0 apid 100 flags 3 count 0 length 11 ok;
+    packet 2 vc 0 apid 2047 flags 3 count 0 length 864 fault idle;
+    frames 2 packets 3 good 1 left 0 stop end;
+);
 
-const BROKEN: &str = "packet 0 vc 0 apid 2047 flags 3 count 0 length 875 fault idle\n\
-packet 1 vc 0 apid 2047 flags 3 count 0 length 864 fault idle\n\
-frames 2 packets 2 good 0 left 0 stop end\n";
+const BROKEN: &str = lines!(
+    packet 0 vc 0 apid 2047 flags 3 count 0 length 875 fault idle;
+    packet 1 vc 0 apid 2047 flags 3 count 0 length 864 fault idle;
+    frames 2 packets 2 good 0 left 0 stop end;
+);
 
-const ENDED: &str = "packet 0 vc 0 apid 2047 flags 3 count 0 length 875 fault idle\n\
-frames 2 packets 1 good 0 left 0 stop end\n";
+const ENDED: &str = lines!(
+    packet 0 vc 0 apid 2047 flags 3 count 0 length 875 fault idle;
+    frames 2 packets 1 good 0 left 0 stop end;
+);
 
 fn prints(alloc: Global, bytes: Vec<u8>, reads: usize, out: &str) -> Result<bool, Fail> {
     let input = Input {

@@ -4,31 +4,46 @@ use crate::call::{
 };
 use crate::shelves::{FRAMES, TWO_FILES, disk, empty_shelf, one_file};
 use crate::stated::{DIGITS, FRAME, file_7, header, idle, packet, two_files};
+use lr_trials_wanted::lines;
 use std::alloc::{AllocError, Global};
 use std::test::Fail;
 
-const NOTHING: &str = "symbols 0 frames 0 restored 0 lost 0 packets 0 files 0 left 0 stop end\n";
+const NOTHING: &str =
+    lines!(symbols 0 frames 0 restored 0 lost 0 packets 0 files 0 left 0 stop end;);
 
-const NO_FILE: &str = "symbols 892 frames 1 restored 1 lost 0 packets 1 files 0 left 0 stop end\n";
+const NO_FILE: &str =
+    lines!(symbols 892 frames 1 restored 1 lost 0 packets 1 files 0 left 0 stop end;);
 
-const ONE_FILE: &str = "shelved 0 vc 0 apid 100 counter 7 bytes 26 packets 1\n\
-symbols 892 frames 1 restored 1 lost 0 packets 1 files 1 left 0 stop end\n";
+const ONE_FILE: &str = lines!(
+    shelved 0 vc 0 apid 100 counter 7 bytes 26 packets 1;
+    symbols 892 frames 1 restored 1 lost 0 packets 1 files 1 left 0 stop end;
+);
 
-const BOTH_FILES: &str = "shelved 0 vc 0 apid 100 counter 7 bytes 26 packets 1\n\
-shelved 1 vc 0 apid 100 counter 8 bytes 26 packets 1\n\
-symbols 1784 frames 2 restored 2 lost 0 packets 2 files 2 left 0 stop end\n";
+const BOTH_FILES: &str = lines!(
+    shelved 0 vc 0 apid 100 counter 7 bytes 26 packets 1;
+    shelved 1 vc 0 apid 100 counter 8 bytes 26 packets 1;
+    symbols 1784 frames 2 restored 2 lost 0 packets 2 files 2 left 0 stop end;
+);
 
-const CUT_SHORT: &str = "shelved 0 vc 0 apid 100 counter 7 bytes 26 packets 1\n\
-symbols 900 frames 1 restored 1 lost 0 packets 1 files 1 left 8 stop end\n";
+const CUT_SHORT: &str = lines!(
+    shelved 0 vc 0 apid 100 counter 7 bytes 26 packets 1;
+    symbols 900 frames 1 restored 1 lost 0 packets 1 files 1 left 8 stop end;
+);
 
-const AFTER_DAMAGE: &str = "shelved 0 vc 0 apid 100 counter 9 bytes 12 packets 2\n\
-symbols 1784 frames 2 restored 2 lost 0 packets 5 files 1 left 0 stop end\n";
+const AFTER_DAMAGE: &str = lines!(
+    shelved 0 vc 0 apid 100 counter 9 bytes 12 packets 2;
+    symbols 1784 frames 2 restored 2 lost 0 packets 5 files 1 left 0 stop end;
+);
 
-const FAILED: &str = "shelved 0 vc 0 apid 100 counter 7 bytes 26 packets 1\n\
-symbols 892 frames 1 restored 1 lost 0 packets 1 files 1 left 0 stop fault\n";
+const FAILED: &str = lines!(
+    shelved 0 vc 0 apid 100 counter 7 bytes 26 packets 1;
+    symbols 892 frames 1 restored 1 lost 0 packets 1 files 1 left 0 stop fault;
+);
 
-const FAILED_LATER: &str = "shelved 0 vc 0 apid 100 counter 7 bytes 26 packets 1\n\
-symbols 900 frames 1 restored 1 lost 0 packets 1 files 1 left 8 stop fault\n";
+const FAILED_LATER: &str = lines!(
+    shelved 0 vc 0 apid 100 counter 7 bytes 26 packets 1;
+    symbols 900 frames 1 restored 1 lost 0 packets 1 files 1 left 8 stop fault;
+);
 
 // The checksums of the two bodies of the damaged file.
 const BEGIN: [u8; 2] = [0x31, 0xD4];
@@ -164,7 +179,7 @@ fn fits(alloc: Global) -> Result<bool, Fail> {
         alloc,
         &mut shelf,
         &["init", "87"],
-        done_with("shelf capacity 87\n"),
+        done_with(lines!(shelf capacity 87;)),
     )?;
     let received = gives_on(
         alloc,
@@ -183,10 +198,10 @@ fn fits_not(alloc: Global) -> Result<bool, Fail> {
         alloc,
         &mut shelf,
         &["init", "86"],
-        done_with("shelf capacity 86\n"),
+        done_with(lines!(shelf capacity 86;)),
     )?;
     let before = shelf.as_slice().to_vec(alloc)?;
-    let wanted = refused_with(10, "station: capacity: needs 87 of 86\n");
+    let wanted = refused_with(10, lines!(station: capacity: needs 87 of 86;));
     let refuses = gives_on(alloc, &mut shelf, one_file(alloc)?, AMPLE, wanted)?;
     Ok(made && refuses && shelf.as_slice() == before.as_slice())
 }
@@ -211,10 +226,15 @@ fn source_fails(alloc: Global, fault: u64, out: &str) -> Result<bool, Fail> {
     let wanted = Outcome {
         out,
         status: 3,
-        line: "station: source failed\n",
+        line: lines!(station: source failed;),
     };
     let ended = gives_on(alloc, &mut shelf, input, AMPLE, wanted)?;
-    let stands = gives_alone(alloc, &mut shelf, &["verify"], done_with("file 0 ok\n"))?;
+    let stands = gives_alone(
+        alloc,
+        &mut shelf,
+        &["verify"],
+        done_with(lines!(file 0 ok;)),
+    )?;
     Ok(ended && stands)
 }
 
@@ -232,14 +252,19 @@ fn output_fails(alloc: Global) -> Result<bool, Fail> {
     let wanted = Outcome {
         out: "shelved 0 ",
         status: 5,
-        line: "station: output failed\n",
+        line: lines!(station: output failed;),
     };
     let room = Room {
         bytes: 10,
         fault: NEVER,
     };
     let ended = gives_on(alloc, &mut shelf, one_file(alloc)?, room, wanted)?;
-    let stands = gives_alone(alloc, &mut shelf, &["verify"], done_with("file 0 ok\n"))?;
+    let stands = gives_alone(
+        alloc,
+        &mut shelf,
+        &["verify"],
+        done_with(lines!(file 0 ok;)),
+    )?;
     Ok(ended && stands)
 }
 

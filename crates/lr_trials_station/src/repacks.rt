@@ -1,10 +1,14 @@
 //! `repack` refuses files that can't be coded anew.
 use crate::call::{done_with, gives_alone, refused_with};
 use crate::shelves::{TWO_FILES, disk};
+use lr_trials_wanted::lines;
 use std::alloc::Global;
 use std::test::Fail;
 
-const LEFT: &str = "file 0 ok\nfile 1 ok\n";
+const LEFT: &str = lines!(
+    file 0 ok;
+    file 1 ok;
+);
 
 // What these words give over a shelf of two texts, which stays as it is.
 fn gives(alloc: Global, words: &[&str], status: u8, line: &str) -> Result<bool, Fail> {
@@ -17,9 +21,9 @@ fn gives(alloc: Global, words: &[&str], status: u8, line: &str) -> Result<bool, 
 #[test]
 fn a_text_is_not_coded(rt: HostRuntime) -> Result<(), Fail> {
     let alloc = rt.alloc();
-    let text = "station: cannot export: not-image\n";
+    let text = lines!(station: cannot export: "not-image";);
     assert!(rt; gives(alloc, &["repack", "0", "8"], 8, text)?);
-    let usage = "station: usage: SHELF COMMAND [WORDS]\n";
+    let usage = lines!(station: usage: SHELF COMMAND [WORDS];);
     assert!(rt; gives(alloc, &["repack", "0", "10"], 2, usage)?);
     Ok(())
 }

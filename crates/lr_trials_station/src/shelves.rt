@@ -2,6 +2,7 @@
 use crate::call::{Input, NEVER, done_with, gives_alone};
 use crate::stated::file_7;
 use lr_disk::MemDisk;
+use lr_trials_wanted::lines;
 use std::alloc::Global;
 use std::test::Fail;
 
@@ -39,7 +40,7 @@ pub fn empty_shelf(alloc: Global) -> Result<MemDisk, Fail> {
         alloc,
         &mut made,
         &["init", "1000"],
-        done_with("shelf capacity 1000\n"),
+        done_with(lines!(shelf capacity 1000;)),
     )? {
         Ok(made)
     } else {

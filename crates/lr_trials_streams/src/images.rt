@@ -7,6 +7,7 @@ use lr_trials_station::call::{
 };
 use lr_trials_station::shelves::{FRAMES, TWO_FILES, disk, empty_shelf, with_byte};
 use lr_trials_station::stated::{FRAME, header, idle};
+use lr_trials_wanted::{is_text, lines};
 use std::alloc::Global;
 use std::test::Fail;
 
@@ -102,7 +103,7 @@ fn shelf_of(alloc: Global, first: &[&[u8]], second: &[&[u8]]) -> Result<MemDisk,
 fn exports(alloc: Global, bodies: &[&[u8]], wanted: &[u8]) -> Result<bool, Fail> {
     let mut made = shelf_of(alloc, bodies, &[])?;
     let image = written_on(alloc, &mut made, &["export", "0"], 500)?;
-    Ok(image.as_slice() == wanted)
+    is_text("the image", image.as_slice(), wanted)
 }
 
 // Whether the file of these bodies is refused, with this line.
@@ -113,15 +114,15 @@ fn refuses(alloc: Global, bodies: &[&[u8]], line: &str) -> Result<bool, Fail> {
 
 // Places of the coded image's first body, other bytes there, and the line of the fault.
 const FAULTS: [(usize, u8, &str); 9] = [
-    (10, 1, "station: cannot export: headers\n"),
-    (13, 2, "station: cannot export: not-image\n"),
-    (26, 9, "station: cannot export: no-structure\n"),
-    (34, 2, "station: cannot export: compression\n"),
-    (29, 4, "station: cannot export: depth\n"),
-    (31, 0, "station: cannot export: empty\n"),
-    (39, 17, "station: cannot export: flags\n"),
-    (40, 7, "station: cannot export: block-size\n"),
-    (41, 0, "station: cannot export: lines-per-packet\n"),
+    (10, 1, lines!(station: cannot export: "headers";)),
+    (13, 2, lines!(station: cannot export: "not-image";)),
+    (26, 9, lines!(station: cannot export: "no-structure";)),
+    (34, 2, lines!(station: cannot export: "compression";)),
+    (29, 4, lines!(station: cannot export: "depth";)),
+    (31, 0, lines!(station: cannot export: "empty";)),
+    (39, 17, lines!(station: cannot export: "flags";)),
+    (40, 7, lines!(station: cannot export: "block-size";)),
+    (41, 0, lines!(station: cannot export: "lines-per-packet";)),
 ];
 
 // The first of these lines with which the image isn't refused.
@@ -181,14 +182,20 @@ fn each_fault_of_a_header_has_its_word(rt: HostRuntime) -> Result<(), Fail> {
 fn faults_of_the_data_field_and_of_a_key(rt: HostRuntime) -> Result<(), Fail> {
     let alloc = rt.alloc();
     let hidden = with(&KEYED, 46, 1);
-    let encrypted = "station: cannot export: encrypted\n";
+    let encrypted = lines!(station: cannot export: "encrypted";);
     assert!(rt; refuses(alloc, &[&hidden, &FIRST, &SECOND], encrypted)?);
-    let rice = "station: cannot export: rice\n";
+    let rice = lines!(station: cannot export: "rice";);
     assert!(rt; refuses(alloc, &[&CODED, &FIRST, &SECOND[..2]], rice)?);
-    let short = "station: cannot export: short\n";
+    let short = lines!(station: cannot export: "short";);
     assert!(rt; refuses(alloc, &[&CODED, &FIRST], short)?);
     let large = with(&with(&CODED, 30, 0xFF), 32, 0xFF);
-    assert!(rt; refuses(alloc, &[&large], "station: cannot export: too-large\n")?);
+    assert!(rt;
+        refuses(
+            alloc,
+            &[&large],
+            lines!(station: cannot export: "too-large";)
+        )?
+    );
     Ok(())
 }
 
@@ -207,9 +214,9 @@ fn an_image_of_the_test_stream_is_exported(rt: HostRuntime) -> Result<(), Fail> 
     assert!(rt; image.len() == 4_109 && file.len() == 4_121);
     assert!(rt; image.starts_with(b"P5\n64 64\n255\n"));
     assert!(rt; &image[13..] == &file[25..]);
-    let none = refused_with(8, "station: cannot export: not-image\n");
+    let none = refused_with(8, lines!(station: cannot export: "not-image";));
     assert!(rt; gives_alone(alloc, &mut made, &["export", "0"], none)?);
-    let beyond = refused_with(7, "station: no such file, count 63\n");
+    let beyond = refused_with(7, lines!(station: no such file, count 63;));
     assert!(rt; gives_alone(alloc, &mut made, &["export", "63"], beyond)?);
     Ok(())
 }
@@ -218,7 +225,7 @@ fn an_image_of_the_test_stream_is_exported(rt: HostRuntime) -> Result<(), Fail> 
 fn files_that_are_not_there_are_not_exported(rt: HostRuntime) -> Result<(), Fail> {
     let alloc = rt.alloc();
     let mut bad = with_byte(alloc, 135, 0xA5)?;
-    let wrong = refused_with(12, "station: bad checksum\n");
+    let wrong = refused_with(12, lines!(station: bad checksum;));
     assert!(rt; gives_alone(alloc, &mut bad, &["export", "1"], wrong)?);
     assert!(rt; gives_alone(alloc, &mut bad, &["assemble", "0", "2", "7", "1"], wrong)?);
     let mut gone = disk(alloc, &TWO_FILES)?;
@@ -227,10 +234,10 @@ fn files_that_are_not_there_are_not_exported(rt: HostRuntime) -> Result<(), Fail
             alloc,
             &mut gone,
             &["discard", "1"],
-            done_with("discarded 1\n")
+            done_with(lines!(discarded 1;))
         )?
     );
-    let discarded = refused_with(13, "station: discarded\n");
+    let discarded = refused_with(13, lines!(station: discarded;));
     assert!(rt; gives_alone(alloc, &mut gone, &["export", "1"], discarded)?);
     Ok(())
 }
@@ -266,11 +273,11 @@ const REFUSED: [([&str; 5], u8, &str); 7] = [
     (["assemble", "0", "2", "100", "65536"], 2, USAGE),
 ];
 
-const NO_SEGMENT: &str = "station: cannot export: no-segment\n";
+const NO_SEGMENT: &str = lines!(station: cannot export: "no-segment";);
 
-const TWO: &str = "station: no such file, count 2\n";
+const TWO: &str = lines!(station: no such file, count 2;);
 
-const USAGE: &str = "station: usage: SHELF COMMAND [WORDS]\n";
+const USAGE: &str = lines!(station: usage: SHELF COMMAND [WORDS];);
 
 // Whether each of these is refused so.
 fn refuses_each(alloc: Global, made: &mut MemDisk) -> Result<bool, Fail> {
@@ -288,7 +295,7 @@ fn segments_are_put_together(rt: HostRuntime) -> Result<(), Fail> {
     let mut made = two_segments(alloc, &at_column_1(), &[9])?;
     let two = assembled_as(
         "P5\n2 2\n255\n\u{1}\u{9}\0\0",
-        "assembled 2 skipped 0 uncovered 2\n",
+        lines!(assembled 2 skipped 0 uncovered 2;),
     );
     assert!(rt; gives_alone(alloc, &mut made, &ALL_OF_1, two)?);
     assert!(rt; refuses_each(alloc, &mut made)?);
@@ -303,7 +310,7 @@ fn segments_without_an_image_are_skipped_and_gone_ones_left_out(
     let mut made = two_segments(alloc, &with(&at_column_1(), 34, 2), &[9])?;
     let one = assembled_as(
         "P5\n2 2\n255\n\u{1}\u{2}\0\0",
-        "assembled 1 skipped 1 uncovered 2\n",
+        lines!(assembled 1 skipped 1 uncovered 2;),
     );
     assert!(rt; gives_alone(alloc, &mut made, &ALL_OF_1, one)?);
     let mut gone = two_segments(alloc, &at_column_1(), &[9])?;
@@ -312,12 +319,12 @@ fn segments_without_an_image_are_skipped_and_gone_ones_left_out(
             alloc,
             &mut gone,
             &["discard", "0"],
-            done_with("discarded 0\n")
+            done_with(lines!(discarded 0;))
         )?
     );
     let other = assembled_as(
         "P5\n2 2\n255\n\0\u{9}\0\0",
-        "assembled 1 skipped 0 uncovered 3\n",
+        lines!(assembled 1 skipped 0 uncovered 3;),
     );
     assert!(rt; gives_alone(alloc, &mut gone, &ALL_OF_1, other)?);
     Ok(())
@@ -338,14 +345,14 @@ fn refuses_first(alloc: Global, first: &[u8], line: &str) -> Result<bool, Fail> 
 #[test]
 fn segments_that_do_not_fit_are_refused(rt: HostRuntime) -> Result<(), Fail> {
     let alloc = rt.alloc();
-    let depths = "station: cannot export: depths\n";
+    let depths = lines!(station: cannot export: "depths";);
     assert!(rt; refuses_second(alloc, &with(&at_column_1(), 29, 16), depths)?);
-    let outside = "station: cannot export: outside\n";
+    let outside = lines!(station: cannot export: "outside";);
     assert!(rt; refuses_second(alloc, &with(&at_column_1(), 43, 2), outside)?);
     assert!(rt; refuses_first(alloc, &with(&SEGMENT, 43, 1), outside)?);
-    let empty = "station: cannot export: empty\n";
+    let empty = lines!(station: cannot export: "empty";);
     assert!(rt; refuses_first(alloc, &with(&SEGMENT, 49, 0), empty)?);
     let large = with(&with(&SEGMENT, 48, 0xFF), 50, 0xFF);
-    assert!(rt; refuses_first(alloc, &large, "station: cannot export: too-large\n")?);
+    assert!(rt; refuses_first(alloc, &large, lines!(station: cannot export: "too-large";))?);
     Ok(())
 }

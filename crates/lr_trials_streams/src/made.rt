@@ -5,6 +5,7 @@ use lr_trials_station::call::{
     AMPLE, Input, NEVER, Outcome, Room, done_with, ends_on, gives, gives_alone, gives_on,
     refused_with, written_bytes,
 };
+use lr_trials_wanted::lines;
 use std::alloc::Global;
 use std::test::Fail;
 
@@ -12,40 +13,51 @@ const FRAME: usize = 16_384;
 
 const ALL: usize = 1_048_576;
 
-const PLAIN: &str = "window 0 at 0 polarity + restored 0 0 0 0\n\
-symbols 16384 frames 1 restored 1 lost 0 left 0 stop end\n";
+const PLAIN: &str = lines!(
+    window 0 at 0 polarity + restored 0 0 0 0;
+    symbols 16384 frames 1 restored 1 lost 0 left 0 stop end;
+);
 
-const WRONG: &str = "window 0 at 0 polarity + restored 16 16 16 16\n\
-symbols 16384 frames 1 restored 1 lost 0 left 0 stop end\n";
+const WRONG: &str = lines!(
+    window 0 at 0 polarity + restored 16 16 16 16;
+    symbols 16384 frames 1 restored 1 lost 0 left 0 stop end;
+);
 
-const BLOCK: &str = "block 0 restored 3 3 3 3\n\
-symbols 1020 frames 1 restored 1 lost 0 left 0 stop end\n";
+const BLOCK: &str = lines!(
+    block 0 restored 3 3 3 3;
+    symbols 1020 frames 1 restored 1 lost 0 left 0 stop end;
+);
 
-const ONE_FRAME: &str = "frame 0 vc 0 counter 0 spacecraft 7 replay 0 pointer 0\n\
-frames 1 left 0 stop end\n";
+const ONE_FRAME: &str = lines!(
+    frame 0 vc 0 counter 0 spacecraft 7 replay 0 pointer 0;
+    frames 1 left 0 stop end;
+);
 
-const ONE: &str = "symbols 16384 frames 1 restored 1 lost 0 packets 12 files 0 left 0 stop end\n";
+const ONE: &str =
+    lines!(symbols 16384 frames 1 restored 1 lost 0 packets 12 files 0 left 0 stop end;);
 
-const SHORT: &str = "symbols 16383 frames 0 restored 0 lost 0 packets 0 files 0 left 0 stop end\n";
+const SHORT: &str =
+    lines!(symbols 16383 frames 0 restored 0 lost 0 packets 0 files 0 left 0 stop end;);
 
-const LONG: &str = "symbols 16396 frames 1 restored 1 lost 0 packets 12 files 0 left 0 stop end\n";
+const LONG: &str =
+    lines!(symbols 16396 frames 1 restored 1 lost 0 packets 12 files 0 left 0 stop end;);
 
 const EIGHT: &str =
-    "symbols 131072 frames 8 restored 8 lost 0 packets 56 files 7 left 0 stop end\n";
+    lines!(symbols 131072 frames 8 restored 8 lost 0 packets 56 files 7 left 0 stop end;);
 
 const SEVEN: &str =
-    "symbols 131072 frames 7 restored 7 lost 0 packets 42 files 7 left 0 stop end\n";
+    lines!(symbols 131072 frames 7 restored 7 lost 0 packets 42 files 7 left 0 stop end;);
 
 const AFTER: &str =
-    "symbols 1049276 frames 64 restored 64 lost 0 packets 452 files 63 left 0 stop end\n";
+    lines!(symbols 1049276 frames 64 restored 64 lost 0 packets 452 files 63 left 0 stop end;);
 
 const DAMAGED: &str =
-    "symbols 1048576 frames 64 restored 64 lost 0 packets 452 files 63 left 0 stop end\n";
+    lines!(symbols 1048576 frames 64 restored 64 lost 0 packets 452 files 63 left 0 stop end;);
 
 const FAILED: &str =
-    "symbols 131072 frames 8 restored 8 lost 0 packets 56 files 7 left 0 stop fault\n";
+    lines!(symbols 131072 frames 8 restored 8 lost 0 packets 56 files 7 left 0 stop fault;);
 
-const LAST: &str = "shelved 61 vc 5 apid 200 counter 55 bytes 237 packets 1\n";
+const LAST: &str = lines!(shelved 61 vc 5 apid 200 counter 55 bytes 237 packets 1;);
 
 // An `out` for the lines of all files.
 pub(crate) const LINES: Room = Room {
@@ -64,7 +76,7 @@ fn shelf_of(alloc: Global, capacity: &str, line: &str) -> Result<MemDisk, Fail> 
 }
 
 pub(crate) fn shelf(alloc: Global) -> Result<MemDisk, Fail> {
-    shelf_of(alloc, "65536", "shelf capacity 65536\n")
+    shelf_of(alloc, "65536", lines!(shelf capacity 65536;))
 }
 
 pub(crate) fn reading<'a>(words: &'a [&'a str], bytes: Vec<u8>, reads: usize) -> Input<'a> {
@@ -164,15 +176,17 @@ fn files_are_shelved_however_the_reads_are_cut(rt: HostRuntime) -> Result<(), Fa
 }
 
 // The file with the image of 64 lines, and its header.
-const IMAGE: &str = "file 7 vc 0 apid 100 counter 0 bytes 4131 packets 65 \
-    declared 32968 real 32968 same type 0 frames 0 9 corrected 0\n\
-    record 0 length 16 primary type 0 header 25 bits 32768\n\
-    record 1 length 9 image bits 8 columns 64 lines 64 compression 0\n";
+const IMAGE: &str = lines!(
+    file 7 vc 0 apid 100 counter 0 bytes 4131 packets 65 declared 32968 real 32968 same type 0 frames 0 9 corrected 0;
+    record 0 length 16 primary type 0 header 25 bits 32768;
+    record 1 length 9 image bits 8 columns 64 lines 64 compression 0;
+);
 
 // The last lines of the list.
-const LAST_LISTED: &str = "file 62 vc 5 apid 200 counter 56 bytes 237 packets 1 \
-    declared 1816 real 1816 same type 2 frames 62 62 corrected 0\n\
-    files 63 used 41666 capacity 65536\n";
+const LAST_LISTED: &str = lines!(
+    file 62 vc 5 apid 200 counter 56 bytes 237 packets 1 declared 1816 real 1816 same type 2 frames 62 62 corrected 0;
+    files 63 used 41666 capacity 65536;
+);
 
 #[test]
 fn shelved_files_are_listed_and_shown(rt: HostRuntime) -> Result<(), Fail> {
@@ -184,7 +198,7 @@ fn shelved_files_are_listed_and_shown(rt: HostRuntime) -> Result<(), Fail> {
     let listing = reading(&["list"], Vec::new(alloc), 1);
     assert!(rt; ends_on(alloc, &mut disk, listing, LINES, done_with(LAST_LISTED))?);
     assert!(rt; gives_alone(alloc, &mut disk, &["show", "7"], done_with(IMAGE))?);
-    let none = refused_with(7, "station: no such file, count 63\n");
+    let none = refused_with(7, lines!(station: no such file, count 63;));
     assert!(rt; gives_alone(alloc, &mut disk, &["show", "63"], none)?);
     Ok(())
 }
@@ -193,14 +207,14 @@ fn shelved_files_are_listed_and_shown(rt: HostRuntime) -> Result<(), Fail> {
 fn all_files_fit_or_the_last_one_does_not(rt: HostRuntime) -> Result<(), Fail> {
     let alloc = rt.alloc();
     let bytes = after_silence(alloc)?;
-    let mut whole = shelf_of(alloc, "41666", "shelf capacity 41666\n")?;
+    let mut whole = shelf_of(alloc, "41666", lines!(shelf capacity 41666;))?;
     let input = reading(&["receive"], bytes.as_slice().to_vec(alloc)?, 4_096);
     assert!(rt; ends_on(alloc, &mut whole, input, LINES, done_with(AFTER))?);
-    let mut less = shelf_of(alloc, "41665", "shelf capacity 41665\n")?;
+    let mut less = shelf_of(alloc, "41665", lines!(shelf capacity 41665;))?;
     let wanted = Outcome {
         out: LAST,
         status: 10,
-        line: "station: capacity: needs 41666 of 41665\n",
+        line: lines!(station: capacity: needs 41666 of 41665;),
     };
     assert!(rt;
         ends_on(
@@ -211,7 +225,7 @@ fn all_files_fit_or_the_last_one_does_not(rt: HostRuntime) -> Result<(), Fail> {
             wanted
         )?
     );
-    let none = refused_with(7, "station: no such file, count 62\n");
+    let none = refused_with(7, lines!(station: no such file, count 62;));
     assert!(rt; gives_alone(alloc, &mut less, &["extract", "62"], none)?);
     Ok(())
 }
@@ -229,10 +243,10 @@ fn a_source_fails_after_eight_frames(rt: HostRuntime) -> Result<(), Fail> {
     let wanted = Outcome {
         out: FAILED,
         status: 3,
-        line: "station: source failed\n",
+        line: lines!(station: source failed;),
     };
     assert!(rt; ends_on(alloc, &mut disk, input, LINES, wanted)?);
-    let none = refused_with(7, "station: no such file, count 7\n");
+    let none = refused_with(7, lines!(station: no such file, count 7;));
     assert!(rt; gives_alone(alloc, &mut disk, &["extract", "7"], none)?);
     Ok(())
 }
@@ -250,7 +264,7 @@ fn an_output_that_fails_got_a_front_of_the_stream(rt: HostRuntime) -> Result<(),
         Vec::new(alloc),
         1,
     );
-    let wanted = refused_with(5, "station: output failed\n");
+    let wanted = refused_with(5, lines!(station: output failed;));
     assert!(rt; gives_on(alloc, &mut disk, input, room, wanted)?);
     Ok(())
 }
@@ -259,7 +273,7 @@ fn an_output_that_fails_got_a_front_of_the_stream(rt: HostRuntime) -> Result<(),
 fn other_streams_are_refused(rt: HostRuntime) -> Result<(), Fail> {
     let alloc = rt.alloc();
     let mut disk = MemDisk::of(alloc, Vec::new(alloc), 0, 0)?;
-    let usage = refused_with(2, "station: usage: SHELF COMMAND [WORDS]\n");
+    let usage = refused_with(2, lines!(station: usage: SHELF COMMAND [WORDS];));
     let words: [&[&str]; 6] = [
         &["make", "1", "0", "0"],
         &["make", "1", "65537", "0"],

@@ -8,16 +8,19 @@ use lr_trials_station::call::{
     written_on,
 };
 use lr_trials_station::shelves::{TWO_FILES, disk, empty_shelf, with_byte};
+use lr_trials_wanted::lines;
 use std::alloc::Global;
 use std::test::Fail;
 
 const FRAME_SYMBOLS: usize = 16_384;
 
-const ONE_FILE: &str = "shelved 0 vc 0 apid 100 counter 7 bytes 26 packets 1\n\
-symbols 16384 frames 1 restored 1 lost 0 packets 1 files 1 left 0 stop end\n";
+const ONE_FILE: &str = lines!(
+    shelved 0 vc 0 apid 100 counter 7 bytes 26 packets 1;
+    symbols 16384 frames 1 restored 1 lost 0 packets 1 files 1 left 0 stop end;
+);
 
 const LONG_FILE: &str =
-    "symbols 32768 frames 2 restored 2 lost 0 packets 1 files 1 left 0 stop end\n";
+    lines!(symbols 32768 frames 2 restored 2 lost 0 packets 1 files 1 left 0 stop end;);
 
 // An `out` for as many symbols as these trials put.
 const MOST_SYMBOLS: usize = 40 * FRAME_SYMBOLS;
@@ -97,7 +100,7 @@ fn files_of_a_trial_are_sent_under_another_line_code(rt: HostRuntime) -> Result<
     let words = ["transmit", "7", "9", "16", line, marks, g2, plain];
     let symbols = written_on(alloc, &mut shelf, &words, MOST_SYMBOLS)?;
     let mut other = disk(alloc, &[])?;
-    let made = done_with("shelf capacity 9000\n");
+    let made = done_with(lines!(shelf capacity 9000;));
     assert!(rt; gives_alone(alloc, &mut other, &["init", "9000"], made)?);
     let receive = ["receive", line, marks, g2, plain];
     let input = receiving(&receive, symbols);
@@ -115,7 +118,7 @@ fn files_of_a_trial_are_sent_under_another_line_code(rt: HostRuntime) -> Result<
 fn a_file_of_the_channel_of_fill_is_refused(rt: HostRuntime) -> Result<(), Fail> {
     let alloc = rt.alloc();
     let mut shelf = shelf_of_body(alloc, 63, 26)?;
-    let wanted = refused_with(15, "station: cannot send: fill\n");
+    let wanted = refused_with(15, lines!(station: cannot send: fill;));
     assert!(rt; gives_alone(alloc, &mut shelf, &["transmit", "0", "1", "0"], wanted)?);
     Ok(())
 }
@@ -129,17 +132,17 @@ fn gone_files_are_left_out_and_bad_ones_refused(rt: HostRuntime) -> Result<(), F
             alloc,
             &mut shelf,
             &["discard", "0"],
-            done_with("discarded 0\n")
+            done_with(lines!(discarded 0;))
         )?
     );
     let words = ["transmit", "0", "2", "0"];
     let symbols = written_on(alloc, &mut shelf, &words, MOST_SYMBOLS)?;
     assert!(rt; symbols.len() == FRAME_SYMBOLS);
     let mut bad = with_byte(alloc, 70, 1)?;
-    let sum = refused_with(12, "station: bad checksum\n");
+    let sum = refused_with(12, lines!(station: bad checksum;));
     assert!(rt; gives_alone(alloc, &mut bad, &words, sum)?);
     let three = ["transmit", "0", "3", "0"];
-    let count = refused_with(7, "station: no such file, count 2\n");
+    let count = refused_with(7, lines!(station: no such file, count 2;));
     assert!(rt; gives_alone(alloc, &mut shelf, &three, count)?);
     Ok(())
 }
@@ -156,7 +159,7 @@ fn an_output_that_fails_got_a_front_of_the_symbols(rt: HostRuntime) -> Result<()
     let wanted = Outcome {
         out: "",
         status: 5,
-        line: "station: output failed\n",
+        line: lines!(station: output failed;),
     };
     let input = receiving(&words, Vec::new(alloc));
     assert!(rt; gives_on(alloc, &mut shelf, input, room, wanted)?);
@@ -167,7 +170,7 @@ fn an_output_that_fails_got_a_front_of_the_symbols(rt: HostRuntime) -> Result<()
 fn other_words_of_transmit_are_refused(rt: HostRuntime) -> Result<(), Fail> {
     let alloc = rt.alloc();
     let mut shelf = disk(alloc, &TWO_FILES)?;
-    let usage = refused_with(2, "station: usage: SHELF COMMAND [WORDS]\n");
+    let usage = refused_with(2, lines!(station: usage: SHELF COMMAND [WORDS];));
     let words: [&[&str]; 4] = [
         &["transmit", "0", "1"],
         &["transmit", "0", "1", "17"],

@@ -5,6 +5,7 @@ use lr_trials_station::call::{
     written_bytes, written_on,
 };
 use lr_trials_station::shelves::disk_of_calls;
+use lr_trials_wanted::lines;
 use std::alloc::Global;
 use std::test::Fail;
 
@@ -13,13 +14,13 @@ const ALL: usize = 1_048_576;
 const TRIAL: [&str; 4] = ["trial", "1", "64", "0"];
 
 const LINE: &str =
-    "symbols 1048576 frames 64 restored 64 lost 0 packets 452 files 63 left 0 stop end\n";
+    lines!(symbols 1048576 frames 64 restored 64 lost 0 packets 452 files 63 left 0 stop end;);
 
 // 512 frames of channel 0 have 452,608 bytes of packets: 97 files of 4,651, the next one's first packet of 43, and 19
 // of 72 after it. 256 frames of channel 5 have 226,304: 923 packets of 245. So 6,305 + 20 + 923 packets, and 97 +
 // 923 files.
 const LONG_LINE: &str =
-    "symbols 16777216 frames 1024 restored 1024 lost 0 packets 7248 files 1020 left 0 stop end\n";
+    lines!(symbols 16777216 frames 1024 restored 1024 lost 0 packets 7248 files 1020 left 0 stop end;);
 
 // The contents of the shelf with those 63 files: 20 bytes of the empty shelf, and for each file a gate of one byte, an
 // item of 38 bytes, two for each packet, and its own bytes. 57 texts of 237 bytes in one packet are 278 each, 15,846
@@ -29,7 +30,7 @@ const SHELF: usize = 41_666;
 // The same with 923 texts and 97 images: 20 + 256,594 + 417,100.
 const LONG_SHELF: usize = 673_714;
 
-const NOT_EMPTY: &str = "station: not empty, length 41666\n";
+const NOT_EMPTY: &str = lines!(station: not empty, length 41666;);
 
 // The text of the first file, after the ten bytes of its transport header.
 const TEXT: usize = 227;
@@ -58,7 +59,7 @@ pub fn tried_disk(alloc: Global) -> Result<MemDisk, Fail> {
 // The disk that `init` and `receive` leave, of the same stream.
 fn received_disk(alloc: Global) -> Result<MemDisk, Fail> {
     let mut disk = empty(alloc, 100_000)?;
-    let line = done_with("shelf capacity 1048576\n");
+    let line = done_with(lines!(shelf capacity 1048576;));
     let made = gives_alone(alloc, &mut disk, &["init", "1048576"], line)?;
     let input = Input {
         words: &["receive"],
@@ -126,7 +127,7 @@ fn a_second_trial_is_refused(rt: HostRuntime) -> Result<(), Fail> {
 fn other_trials_are_refused(rt: HostRuntime) -> Result<(), Fail> {
     let alloc = rt.alloc();
     let mut disk = disk_of_calls(alloc, &[], 0)?;
-    let usage = refused_with(2, "station: usage: SHELF COMMAND [WORDS]\n");
+    let usage = refused_with(2, lines!(station: usage: SHELF COMMAND [WORDS];));
     let words: [&[&str]; 5] = [
         &["trial", "1", "1025", "0"],
         &["trial", "1", "0", "0"],
@@ -160,7 +161,7 @@ fn a_line_that_fails_leaves_the_whole_shelf(rt: HostRuntime) -> Result<(), Fail>
     let wanted = Outcome {
         out: "symbols 10",
         status: 5,
-        line: "station: output failed\n",
+        line: lines!(station: output failed;),
     };
     let input = reading(Vec::new(alloc), NEVER);
     assert!(rt; gives_on(alloc, &mut disk, input, room, wanted)?);
@@ -172,7 +173,7 @@ fn a_line_that_fails_leaves_the_whole_shelf(rt: HostRuntime) -> Result<(), Fail>
 fn a_disk_that_fails_ends_the_trial(rt: HostRuntime) -> Result<(), Fail> {
     let alloc = rt.alloc();
     let mut disk = disk_of_calls(alloc, &[], 0)?;
-    let wanted = refused_with(4, "station: disk failed\n");
+    let wanted = refused_with(4, lines!(station: disk failed;));
     assert!(rt; gives_alone(alloc, &mut disk, &TRIAL, wanted)?);
     Ok(())
 }

@@ -1,5 +1,7 @@
-//! What a test says where something else came than it wanted: both, by the line in which they differ.
+//! What tests want: the printed lines by name, and what a test says where something else came than it wanted.
 #![tactic(auto)]
+
+mod texts;
 
 use std::test::Fail;
 

@@ -2,6 +2,7 @@
 use crate::calls::{
     Given, Printed, call, call_alone, disk_of_calls, empty_shelf, faultless, symbols,
 };
+use lr_trials_wanted::{is_status, is_text, lines};
 use std::alloc::Global;
 use std::sync::Wait;
 use std::test::Fail;
@@ -26,10 +27,13 @@ fn two_streams(alloc: Global, first: &str, second: &str, frames: usize) -> Resul
     bundle_of(alloc, &vec![in alloc; one, other]?)
 }
 
-fn ends_with(printed: &Printed, status: u8, out: &str, line: &str) -> bool {
-    printed.status == status
-        && printed.out.as_slice() == out.as_bytes()
-        && printed.err.as_slice() == line.as_bytes()
+// Whether the call printed this. Where it didn't, the failure says what differs.
+fn ends_with(printed: &Printed, status: u8, out: &str, line: &str) -> Result<bool, Fail> {
+    Ok(
+        is_status(printed.status, status)?
+            && is_text("out", printed.out.as_slice(), out.as_bytes())?
+            && is_text("err", printed.err.as_slice(), line.as_bytes())?,
+    )
 }
 
 // The numbers of receipts, which stand in the order of downlinks and places, seven of each.
@@ -61,7 +65,7 @@ fn two_recordings_come_onto_one_shelf(rt: HostRuntime) -> Result<(), Fail> {
     let mut disk = empty_shelf(alloc)?;
     let printed = call(&rt, alloc, &faultless(WORDS, &bytes, 65_536), &mut disk)?;
     assert!(rt; printed.status == 0);
-    let last = "downlinks 2 symbols 262144 files 14\n";
+    let last = lines!(downlinks 2 symbols 262144 files 14;);
     assert!(rt; printed.out.as_slice().ends_with(last.as_bytes()));
     let text = String::from_utf8(printed.out.as_slice().to_vec(alloc)?);
     let Ok(text) = text else {
@@ -83,25 +87,25 @@ fn is_flawed<R: Threads + Wait + Sync>(
     let untouched = empty_shelf(alloc)?;
     let mut disk = empty_shelf(alloc)?;
     let printed = call(rt, alloc, &faultless(WORDS, bytes, 3), &mut disk)?;
-    Ok(ends_with(&printed, 14, "", line) && disk.as_slice() == untouched.as_slice())
+    Ok(ends_with(&printed, 14, "", line)? && disk.as_slice() == untouched.as_slice())
 }
 
 #[test]
 fn bytes_that_are_no_bundle_are_refused(rt: HostRuntime) -> Result<(), Fail> {
     let alloc = rt.alloc();
-    assert!(rt; is_flawed(&rt, alloc, &[], "station: bad bundle: ended 0\n")?);
-    assert!(rt; is_flawed(&rt, alloc, &[0], "station: bad bundle: count 0\n")?);
-    assert!(rt; is_flawed(&rt, alloc, &[17, 1], "station: bad bundle: count 17\n")?);
+    assert!(rt; is_flawed(&rt, alloc, &[], lines!(station: bad bundle: ended 0;))?);
+    assert!(rt; is_flawed(&rt, alloc, &[0], lines!(station: bad bundle: count 0;))?);
+    assert!(rt; is_flawed(&rt, alloc, &[17, 1], lines!(station: bad bundle: count 17;))?);
     assert!(rt;
         is_flawed(
             &rt,
             alloc,
             &[1, 0, 0, 0, 0],
-            "station: bad bundle: ended 5\n"
+            lines!(station: bad bundle: ended 5;)
         )?
     );
     let rest = [1, 0, 0, 0, 0, 0, 0, 0, 0, 0];
-    assert!(rt; is_flawed(&rt, alloc, &rest, "station: bad bundle: rest 9\n")?);
+    assert!(rt; is_flawed(&rt, alloc, &rest, lines!(station: bad bundle: rest 9;))?);
     Ok(())
 }
 
@@ -115,7 +119,7 @@ fn recordings_may_have_no_symbols(rt: HostRuntime) -> Result<(), Fail> {
     let bytes = bundle_of(alloc, &empty)?;
     let mut disk = empty_shelf(alloc)?;
     let printed = call(&rt, alloc, &faultless(WORDS, &bytes, 1), &mut disk)?;
-    assert!(rt; ends_with(&printed, 0, "downlinks 16 symbols 0 files 0\n", ""));
+    assert!(rt; ends_with(&printed, 0, lines!(downlinks 16 symbols 0 files 0;), "")?);
     Ok(())
 }
 
@@ -124,8 +128,8 @@ fn one_thread_knows_no_downlinks(rt: HostRuntime) -> Result<(), Fail> {
     let alloc = rt.alloc();
     let mut disk = empty_shelf(alloc)?;
     let printed = call_alone(alloc, &faultless(WORDS, &[0], 1), &mut disk)?;
-    let line = "station: usage: SHELF COMMAND [WORDS]\n";
-    assert!(rt; ends_with(&printed, 2, "", line));
+    let line = lines!(station: usage: SHELF COMMAND [WORDS];);
+    assert!(rt; ends_with(&printed, 2, "", line)?);
     Ok(())
 }
 
@@ -141,7 +145,7 @@ fn a_source_that_fails_shelves_nothing(rt: HostRuntime) -> Result<(), Fail> {
         };
         let mut disk = empty_shelf(alloc)?;
         let printed = call(&rt, alloc, &fails, &mut disk)?;
-        assert!(rt; ends_with(&printed, 3, "", "station: source failed\n"));
+        assert!(rt; ends_with(&printed, 3, "", lines!(station: source failed;))?);
         assert!(rt; disk.as_slice() == untouched.as_slice());
     }
     Ok(())

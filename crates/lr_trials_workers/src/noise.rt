@@ -105,7 +105,7 @@ fn lines_put<R: Threads + Wait + Sync>(
     alloc: Global,
     words: &str,
 ) -> Result<(u32, u32), Fail> {
-    let mut bytes = symbols(alloc, "make 1 16 0", 0, 16)?;
+    let mut bytes = symbols(alloc, "make 1 64 0", 0, 64)?;
     let quiet = bytes.len() + PIECES_HEARD as usize * 65_536;
     for _ in 0..6 * 65_536 {
         bytes.push(0)?;
@@ -143,15 +143,22 @@ fn lines_put<R: Threads + Wait + Sync>(
 }
 
 #[test]
+fn with_one_hand_no_file_waits_for_noise(rt: HostRuntime) -> Result<(), Fail> {
+    let (seen, all) = lines_put(&rt, rt.alloc(), "receive --workers 1")?;
+    assert!(rt; seen == 63 && all == 63);
+    Ok(())
+}
+
+#[test]
 fn with_two_hands_no_file_waits_for_noise(rt: HostRuntime) -> Result<(), Fail> {
     let (seen, all) = lines_put(&rt, rt.alloc(), "receive --workers 2")?;
-    assert!(rt; seen == all && all > 0);
+    assert!(rt; seen == 63 && all == 63);
     Ok(())
 }
 
 #[test]
 fn with_eight_hands_no_file_waits_for_noise(rt: HostRuntime) -> Result<(), Fail> {
     let (seen, all) = lines_put(&rt, rt.alloc(), "receive --workers 8")?;
-    assert!(rt; seen == all && all > 0);
+    assert!(rt; seen == 63 && all == 63);
     Ok(())
 }
