@@ -197,6 +197,7 @@ def main():
     kept = text_of(PAGE).splitlines() if os.path.exists(PAGE) else []
     wanted = page.splitlines()
     if kept == wanted:
+        print(f"trials/index.py: {sum(line.startswith('| `') for line in wanted)} calls, 0 faults")
         return 0
     for line in sorted(set(kept) ^ set(wanted)):
         print(f"{PAGE}: {'lacks' if line in set(wanted) else 'has'} {line[:100]}")
