@@ -8,7 +8,7 @@ use lr_commands::export::export;
 use lr_disk::MemDisk;
 use lr_io::MemSink;
 use lr_shelf::Shelf;
-use lr_trials_lines::windows::next_state;
+use lr_trials_coding::windows::next_state;
 use std::alloc::Global;
 use std::io::Read;
 

@@ -9,8 +9,8 @@ use lr_conv::STANDARD;
 use lr_frame::{FrameDone, FrameWork};
 use lr_gatecore::Work;
 use lr_lock::{Lock, Step, Window};
-use lr_trials_lines::windows::next_state;
-use lr_trials_lock::streams::coded_frames;
+use lr_trials_coding::streams::coded_frames;
+use lr_trials_coding::windows::next_state;
 use std::alloc::Global;
 
 /// The symbols of two frames, which are fed at once.

@@ -9,7 +9,7 @@ use lr_bits::{BLOCK_BYTES, NoMemory, WINDOW_SYMBOLS};
 use lr_conv::LineCode;
 use lr_lanes::{LaneScratch, nearest_lanes, nearest_narrow_lanes};
 use lr_trellis::{TrellisScratch, nearest};
-use lr_trials_lines::windows::drawn_window;
+use lr_trials_coding::windows::drawn_window;
 use std::alloc::Global;
 
 /// How many windows are drawn, from 1, 2 and so on; the rounds go through them again and again.

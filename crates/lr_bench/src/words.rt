@@ -2,7 +2,7 @@
 
 use crate::sums::sum_with;
 use lr_rs::{RsScratch, encode, restore};
-use lr_trials_lines::windows::next_state;
+use lr_trials_coding::windows::next_state;
 use std::alloc::{AllocError, Global};
 use std::io;
 

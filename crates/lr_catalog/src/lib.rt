@@ -25,4 +25,4 @@ pub use outcomes::{block_line, window_line};
 pub use packets::packet_line;
 pub use records::{header_lines, record_line};
 pub use repacks::repack_line;
-pub use summary::{Summary, summary_line};
+pub use summary::{DecodeSums, ReceiveSums, Summary, summary_line};

@@ -1,4 +1,5 @@
 pub mod Causes
+pub mod Counts
 pub mod Faults
 pub mod Kinds
 pub mod Outside

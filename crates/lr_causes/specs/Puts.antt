@@ -18,12 +18,14 @@ module _ {O : Type 0} (out : SinkOf O) where
   -- the text was put
   pub record Puts (text : List ℕ) (o o' : O) : Type 0 where
     pub told : out.tells o → out.tells o'
+    pub untold : out.tells o' → out.tells o
     pub put : out.tells o → out.contents o' ≡ out.contents o ++ text
     pub kept : out.faults o' ≡ out.faults o
 
   -- a prefix of the text was put that isn't all of it
   pub record PutFails (text : List ℕ) (o o' : O) : Type 0 where
     pub told : out.tells o → out.tells o'
+    pub untold : out.tells o' → out.tells o
     pub part : out.tells o → PutsPart text (out.contents o) (out.contents o')
     pub rose : Rose (out.faults o) (out.faults o')
 

@@ -24,7 +24,7 @@ use Rattle.lr_shelf.specs.declared.error.ShelfError.TheVariants.{
   Discarded as Discarded',
 }
 use Rattle.lr_catalog.specs.Discards.{discard_line}
-use Rattle.lr_causes.specs.declared.cause.Party.TheVariants.{Disk, Output}
+use Rattle.lr_causes.specs.declared.cause.Party.TheVariants.{Output}
 use Rattle.lr_causes.specs.declared.cause.Refusal.{Refusal}
 use Rattle.lr_causes.specs.declared.cause.Refusal.TheVariants.{NoSuchFile, Capacity, Discarded}
 use Rattle.lr_causes.specs.declared.cause.Cause.{Cause}
@@ -35,8 +35,10 @@ use Rattle.lr_causes.specs.Puts.{Puts, PutFails}
 use Rattle.lr_commands.specs.Adding.{Addition, Fits, MayEndAdding, RunsAdding, way_added}
 use Rattle.lr_commands.specs.Queries.{entry_at}
 use Rattle.lr_commands.specs.Discard.{DecidesDiscard, MayGo, discard_addition, discard_query}
-use Rattle.lr_commands.proofs.AddingRuns.{IsReady, cut_run, done_run, earlier_run, failed_run, full_run, refused_run}
-use Rattle.lr_commands.proofs.AddingRuns.{count_still, told_through, unwritten_still, way_read}
+use Rattle.lr_commands.proofs.AddingRuns.{IsReady}
+use Rattle.lr_commands.proofs.AddingEnds.{cut_run, done_run, earlier_run, failed_run, full_run, refused_run}
+use Rattle.lr_commands.proofs.AddingRuns.{count_still, told_through, untold_through, unwritten_still, way_read}
+use Rattle.lr_commands.proofs.Texts.{quiet_counts}
 
 -- ---- one decision
 
@@ -73,8 +75,8 @@ module _ {D O : Type 0} (disk : DiskOf D) (out : SinkOf O) (number : ℕ) where
       ((x : D) (c : List ℕ) → disk.tells x → disk.left_since x (disk.moment x) c → disk.may_leave x c)
       → (d : D) (o : O) → RunsDiscard NoMemory d d o o
   not_begun only_now d o =
-      earlier_run disk out (discard_query number) (discard_once number) d d o (λ t. t)
-      (unwritten_yet disk only_now d) NoMemory tt refl
+      earlier_run disk out (discard_query number) (discard_once number) d d o (λ t. t) (λ t. t)
+      (unwritten_yet disk only_now d) NoMemory tt (quiet_counts disk out NoMemory d d o o tt refl refl)
 
   module _ (d d1 d2 : D) (o : O) (shelf shelf2 : Shelf) (ready : IsReady disk d d1 shelf)
       (answer : Result (Unit {0}) ShelfError) (discards : Discards disk number shelf shelf2 d1 d2 answer) where
@@ -93,6 +95,7 @@ module _ {D O : Type 0} (disk : DiskOf D) (out : SinkOf O) (number : ℕ) where
     refused_by error refusal may is not_disk is_decided =
         refused_run disk out (discard_query number) (discard_once number) d d2 o
         (told_through disk d d1 d2 shelf shelf2 (discard_item number) ready answer discards.adds)
+        (untold_through disk d d1 d2 shelf shelf2 (discard_item number) ready answer discards.adds)
         (unwritten_still disk d d1 d2 shelf shelf2 (discard_item number) ready answer discards.adds error is not_disk)
         refusal may
         (count_still disk d d1 d2 shelf shelf2 (discard_item number) ready answer discards.adds error is not_disk)

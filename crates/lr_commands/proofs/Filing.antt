@@ -49,9 +49,9 @@ use Rattle.lr_commands.specs.declared.opened.Opened.{Opened}
 use Rattle.lr_commands.specs.Queries.{Query, IsLooked, EntryView, Whole, Wrong, Absent}
 use Rattle.lr_refusals.specs.Errors.{cause_of}
 use Rattle.lr_commands.specs.Files.{FileQuery, query_of_files, files_of}
-use Rattle.lr_commands.specs.Runs.{Counted}
+use Rattle.lr_causes.specs.Counts.{CountsTell, NoneBesides}
 use Rattle.lr_commands.specs.Steps.{PutsText, TextStops, TakesEntry, EntryStops}
-use Rattle.lr_commands.proofs.Texts.{same_counts, stops_seen}
+use Rattle.lr_commands.proofs.Texts.{disk_counts, quiet_counts, stops_seen}
 
 pub files_of-whole : (read : List EntryView) (opened : Opened)
     → files_of (read ++ Whole opened ∷ []) ≡ files_of read ++ opened ∷ []
@@ -92,17 +92,24 @@ module _ {D O : Type 0} (disk : DiskOf D) (out : SinkOf O) where
   -- a call on a shelf that works was refused, and `out` was left alone
   pub shelf_counted : (A : Type 0) (d d' : D) (o : O) (error : ShelfError) → (error ≡ Failed' → ⊥)
       → IsFaultCounted {A = A} (disk.faults d) (disk.faults d') (Err error)
-      → Counted (cause_of error) (outlet_counts (outlets_of disk out) (outlets d o))
+      → CountsTell NoneBesides (cause_of error) (outlet_counts (outlets_of disk out) (outlets d o))
       (outlet_counts (outlets_of disk out) (outlets d' o))
-  shelf_counted A d d' o Disk' works counted = (counted.1, refl, refl)
-  shelf_counted A d d' o (NotAShelf' at) works counted = same_counts disk out d d' o o counted refl
-  shelf_counted A d d' o (NotEmpty' size) works counted = same_counts disk out d d' o o counted refl
-  shelf_counted A d d' o (Capacity' needed most) works counted = same_counts disk out d d' o o counted refl
-  shelf_counted A d d' o (NoSuchFile' count) works counted = same_counts disk out d d' o o counted refl
-  shelf_counted A d d' o (Crc' stored computed) works counted = same_counts disk out d d' o o counted refl
-  shelf_counted A d d' o NoMemory' works counted = same_counts disk out d d' o o counted refl
+  shelf_counted A d d' o Disk' works counted = disk_counts disk out d d' o o counted.1 refl
+  shelf_counted A d d' o (NotAShelf' at) works counted =
+      quiet_counts disk out (cause_of (NotAShelf' at)) d d' o o tt counted refl
+  shelf_counted A d d' o (NotEmpty' size) works counted =
+      quiet_counts disk out (cause_of (NotEmpty' size)) d d' o o tt counted refl
+  shelf_counted A d d' o (Capacity' needed most) works counted =
+      quiet_counts disk out (cause_of (Capacity' needed most)) d d' o o tt counted refl
+  shelf_counted A d d' o (NoSuchFile' count) works counted =
+      quiet_counts disk out (cause_of (NoSuchFile' count)) d d' o o tt counted refl
+  shelf_counted A d d' o (Crc' stored computed) works counted =
+      quiet_counts disk out (cause_of (Crc' stored computed)) d d' o o tt counted refl
+  shelf_counted A d d' o NoMemory' works counted =
+      quiet_counts disk out (cause_of NoMemory') d d' o o tt counted refl
   shelf_counted A d d' o Failed' works counted = absurd (works refl)
-  shelf_counted A d d' o Discarded' works counted = same_counts disk out d d' o o counted refl
+  shelf_counted A d d' o Discarded' works counted =
+      quiet_counts disk out (cause_of Discarded') d d' o o tt counted refl
 
 module _ {D O : Type 0} (disk : DiskOf D) (out : SinkOf O) (kept : KeptShelf) (number : ℕ) (d : D)
     (works : kept.failed ≡ false) (there : number < length kept.way.entries) where

@@ -1,4 +1,5 @@
 pub mod AddingRuns
+pub mod AddingEnds
 pub mod Answering
 pub mod Assembling
 pub mod Discarding

@@ -49,6 +49,7 @@ use Rattle.lr_shelf.specs.declared.error.ShelfError.TheVariants.{
   Discarded as Discarded',
 }
 use Rattle.lr_causes.specs.declared.cause.Party.TheVariants.{Source, Disk, Output}
+use Rattle.lr_causes.specs.declared.cause.Refusal.TheVariants.{NotAShelf}
 use Rattle.lr_causes.specs.declared.cause.Cause.{Cause}
 use Rattle.lr_causes.specs.declared.cause.Cause.TheVariants.{Done, DoneWith, Usage, Failed, NoMemory, Refused}
 use Rattle.lr_causes.specs.declared.note.Note.{Note}
@@ -63,10 +64,10 @@ use Rattle.lr_commands.specs.Queries.{
   refused_answer,
 }
 use Rattle.lr_causes.specs.Causes.{FaultCounts}
+use Rattle.lr_causes.specs.Counts.{CountsTell, NoneBesides}
 use Rattle.lr_causes.specs.Outside.{outlet_counts, outlets, outlets_of}
 use Rattle.lr_refusals.specs.Errors.{cause_of}
 use Rattle.lr_commands.specs.Runs.{
-  Counted,
   PutsFirst,
   Got,
   Precedes,
@@ -77,7 +78,7 @@ use Rattle.lr_commands.specs.Runs.{
   cause_for,
 }
 use Rattle.lr_commands.proofs.Answering.{answer_is, begun_front}
-use Rattle.lr_commands.proofs.Texts.{same_counts}
+use Rattle.lr_commands.proofs.Texts.{disk_counts, quiet_counts, same_counts}
 
 -- a text that goes on after some byte isn't empty
 some_after : (text one rest whole : List ℕ) → whole ≡ (text ++ one) ++ rest → 0 < length one → 0 < length whole
@@ -147,9 +148,11 @@ module _ {D O : Type 0} (disk : DiskOf D) (out : SinkOf O) (query : Query) where
       → RunsReading (outlets_of disk out) query (IsAnswer query) (IsBegun query) NoMemory (outlets d o) (outlets d o)
   not_started only_now d o = record {
     may = tt;
-    counted = refl;
+    counted = quiet_counts disk out NoMemory d d o o tt refl refl;
     told = λ t. t;
+    untold = λ t. t;
     told_by_out = λ t. t;
+    untold_by_out = λ t. t;
     reads = unwritten_yet disk only_now d;
     got = λ t. nothing_yet (disk.contents d) o;
     untouched = λ one cuts. refl;
@@ -168,18 +171,23 @@ module _ {D O : Type 0} (disk : DiskOf D) (out : SinkOf O) (query : Query) where
         (outlets d1 o)
     not_loaded Disk' is refusal = record {
       may = tt;
-      counted = ((counted_load Disk' is).1, refl, refl);
+      counted = disk_counts disk out d d1 o o (counted_load Disk' is).1 refl;
       told = loads.calls.told;
+      untold = loads.calls.untold;
       told_by_out = λ t. t;
+      untold_by_out = λ t. t;
       reads = loads.unwritten;
       got = λ t. nothing (disk.contents d) o;
       untouched = λ one cuts. refl;
     }
     not_loaded (NotAShelf' at) is refusal = record {
       may = at_place at refl;
-      counted = same_counts disk out d d1 o o (counted_load (NotAShelf' at) is) refl;
+      counted =
+          quiet_counts disk out (Refused (NotAShelf at)) d d1 o o tt (counted_load (NotAShelf' at) is) refl;
       told = loads.calls.told;
+      untold = loads.calls.untold;
       told_by_out = λ t. t;
+      untold_by_out = λ t. t;
       reads = loads.unwritten;
       got = λ t. record {
         first = record {
@@ -199,9 +207,11 @@ module _ {D O : Type 0} (disk : DiskOf D) (out : SinkOf O) (query : Query) where
     not_loaded (Crc' stored computed) is refusal = absurd refusal
     not_loaded NoMemory' is refusal = record {
       may = tt;
-      counted = same_counts disk out d d1 o o (counted_load NoMemory' is) refl;
+      counted = quiet_counts disk out NoMemory d d1 o o tt (counted_load NoMemory' is) refl;
       told = loads.calls.told;
+      untold = loads.calls.untold;
       told_by_out = λ t. t;
+      untold_by_out = λ t. t;
       reads = loads.unwritten;
       got = λ t. nothing_yet (disk.contents d) o;
       untouched = λ one cuts. refl;
@@ -292,10 +302,14 @@ module _ {D O : Type 0} (disk : DiskOf D) (out : SinkOf O) (query : Query) where
           → RunsReading (outlets_of disk out) query (IsAnswer query) (IsBegun query) cause (outlets d o) (outlets d2 o')
       loaded d2 o' cause runs = record {
         may = runs.may;
-        counted = subst (λ (c : FaultCounts). Counted cause c (outlet_counts (outlets_of disk out) (outlets d2 o')))
+        counted = subst
+            (λ (c : FaultCounts). CountsTell NoneBesides cause c
+            (outlet_counts (outlets_of disk out) (outlets d2 o')))
             (same_counts disk out d d1 o o counted_ok refl) runs.counted;
         told = λ t. runs.told (loads.calls.told t);
+        untold = λ t. loads.calls.untold (runs.untold t);
         told_by_out = runs.told_by_out;
+        untold_by_out = runs.untold_by_out;
         reads = λ t. unwritten_joined disk d d1 d2 (loads.unwritten t) (runs.reads (loads.calls.told t));
         got = λ t.
             got_all t cause o'

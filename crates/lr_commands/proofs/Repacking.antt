@@ -1,6 +1,6 @@
 -- What `repack N BLOCK` decides, and what it does by what its calls answered.
 use Rattle.std.proofs.Common.{◌≡◌, ◌<◌, inl, inr, ℕ, Option, Some, None, Result, Ok, Err, List}
-use Rattle.std.proofs.Common.{IfOk, OnOk, length, refl, arith, ap, ◌∙◌, sym, subst}
+use Rattle.std.proofs.Common.{IfOk, IfErr, OnOk, length, refl, arith, ap, ◌∙◌, sym, subst}
 use Rattle.std.specs.Prelude.{option_map}
 use Rattle.std.proofs.lemmas.Bool.{cases_lt}
 use Rattle.lr_disk.specs.Reads.{IsUnwritten}
@@ -17,7 +17,7 @@ use Rattle.lr_catalog.specs.Repacks.{repack_line}
 use Rattle.lr_rice_coder.specs.Repacked.{IsRepacked}
 use Rattle.lr_rice_coder.specs.declared.fault.RepackFault.{RepackFault}
 use Rattle.lr_rice_coder.specs.declared.fault.RepackFault.TheVariants as fault
-use Rattle.lr_rice_coder.specs.Refusals.{HasRepackFault}
+use Rattle.lr_rice_coder.specs.Refusals.{HasRepackFault, HasRepackFaultOrMemory}
 use Rattle.lr_rice_coder.proofs.OneRepack.{repacks_are_one}
 use Rattle.lr_shelf.specs.Append.{Appends, IsAppendRefusal, item_for}
 use Rattle.lr_shelf.specs.Asked.{IsAskable}
@@ -53,6 +53,7 @@ use Rattle.lr_causes.specs.Outside.{outlet_counts, outlets, outlets_of}
 use Rattle.lr_commands.specs.Adding.{Addition, Fits, MayEndAdding, RunsAdding, way_added}
 use Rattle.lr_commands.specs.Queries.{entry_at}
 use Rattle.lr_commands.specs.Repack.{
+  coded_by,
   DecidesCoded,
   DecidesFound,
   DecidesRepack,
@@ -65,11 +66,30 @@ use Rattle.lr_commands.specs.Repack.{
   repack_refusal,
 }
 use Rattle.lr_commands.specs.declared.repack.Repacked.{Repacked}
-use Rattle.lr_commands.specs.Runs.{Counted}
-use Rattle.lr_commands.proofs.AddingRuns.{IsReady, earlier_run, refused_run, told_got, unwritten_got}
-use Rattle.lr_commands.proofs.AddingRuns.{cut_run, done_run, failed_run, full_run, no_memory_run}
+use Rattle.lr_causes.specs.Counts.{CountsTell, NoneBesides}
+use Rattle.lr_commands.proofs.AddingRuns.{IsReady, told_got, untold_got, unwritten_got}
+use Rattle.lr_commands.proofs.AddingEnds.{earlier_run, refused_run}
+use Rattle.lr_commands.proofs.AddingEnds.{cut_run, done_run, failed_run, full_run, no_memory_run}
 use Rattle.lr_commands.proofs.Filing.{shelf_counted}
-use Rattle.lr_commands.proofs.Texts.{same_counts}
+use Rattle.lr_commands.proofs.Texts.{quiet_counts, same_counts}
+
+-- where a file isn't coded anew, the cause is that of the fault
+not_repacked : (block : ℕ) (stored : Stored) (coding : RepackFault)
+    → HasRepackFaultOrMemory stored.file block coding
+    → IsNotRepacked block stored (refusal_cause (repack_refusal coding))
+not_repacked block stored (fault.Image cause) has = inr (fault.Image cause, has, refl)
+not_repacked block stored (fault.Depth bits) has = inr (fault.Depth bits, has, refl)
+not_repacked block stored (fault.Line line) has = inr (fault.Line line, has, refl)
+not_repacked block stored (fault.Header size) has = inr (fault.Header size, has, refl)
+not_repacked block stored (fault.File size) has = inr (fault.File size, has, refl)
+not_repacked block stored fault.NoMemory has = inl refl
+
+pub coded_wrong : (block : ℕ) (stored : Stored) (answer : Result File RepackFault) (cause : Cause)
+    → coded_by answer ≡ Err cause → IfErr answer (HasRepackFaultOrMemory stored.file block)
+    → IsNotRepacked block stored cause
+coded_wrong block stored (Ok new) cause is has = absurd (cc is)
+coded_wrong block stored (Err coding) cause is has =
+    subst (IsNotRepacked block stored) (cc is) (not_repacked block stored coding has)
 
 -- ---- one decision
 
@@ -141,6 +161,9 @@ module _ {D O : Type 0} (disk : DiskOf D) (out : SinkOf O) (number block : ℕ) 
     told_to : disk.tells d → disk.tells d2
     told_to = told_got disk d d1 d2 old new number result ready gets
 
+    untold_to : disk.tells d2 → disk.tells d
+    untold_to = untold_got disk d d1 d2 old new number result ready gets
+
     unwritten_to : disk.tells d → IsUnwritten disk d d2
     unwritten_to = unwritten_got disk d d1 d2 old new number result ready gets
 
@@ -166,7 +189,7 @@ module _ {D O : Type 0} (disk : DiskOf D) (out : SinkOf O) (number block : ℕ) 
         → RunsRepack (Refused refusal) d d2 o o
     decided_run refusal may count decided =
         refused_run disk out (repack_query number block) (repack_once number block) d d2 o told_to
-        unwritten_to refusal may (count ∙ ready.count)
+        untold_to unwritten_to refusal may (count ∙ ready.count)
         (λ t. inr (there, way_here t, inl (decided t)))
 
     -- the entry wasn't read
@@ -174,8 +197,10 @@ module _ {D O : Type 0} (disk : DiskOf D) (out : SinkOf O) (number block : ℕ) 
         → RunsRepack (cause_of error) d d2 o o
     not_read Disk' is refusal =
         earlier_run disk out (repack_query number block) (repack_once number block) d d2 o told_to
-        unwritten_to (Failed Disk) tt
-        (subst (λ (c : FaultCounts). Counted (Failed Disk) c (outlet_counts (outlets_of disk out) (outlets d2 o)))
+        untold_to unwritten_to (Failed Disk) tt
+        (subst
+        (λ (c : FaultCounts). CountsTell NoneBesides (Failed Disk) c
+        (outlet_counts (outlets_of disk out) (outlets d2 o)))
         (same_counts disk out d d1 o o ready.count refl)
         (shelf_counted disk out Stored d1 d2 o Disk' (λ same. cc (same)) (counted_at Disk' is)))
     not_read (NotAShelf' at) is refusal =
@@ -205,8 +230,8 @@ module _ {D O : Type 0} (disk : DiskOf D) (out : SinkOf O) (number block : ℕ) 
         ))
     not_read NoMemory' is refusal =
         earlier_run disk out (repack_query number block) (repack_once number block) d d2 o told_to
-        unwritten_to NoMemory tt
-        (same_counts disk out d d2 o o (counted_at NoMemory' is ∙ ready.count) refl)
+        untold_to unwritten_to NoMemory tt
+        (quiet_counts disk out NoMemory d d2 o o tt (counted_at NoMemory' is ∙ ready.count) refl)
     not_read Failed' is refusal =
         let works = ready.works in
         cc (works, refusal)
@@ -242,7 +267,8 @@ module _ {D O : Type 0} (disk : DiskOf D) (out : SinkOf O) (number block : ℕ) 
           → RunsRepack (refusal_cause named) d d2 o o
       refuses_with fault has None names may =
           earlier_run disk out (repack_query number block) (repack_once number block) d
-          d2 o told_to unwritten_to NoMemory tt (same_counts disk out d d2 o o (count_read ∙ ready.count) refl)
+          d2 o told_to untold_to unwritten_to NoMemory tt
+          (quiet_counts disk out NoMemory d d2 o o tt (count_read ∙ ready.count) refl)
       refuses_with fault has (Some refusal) names may =
           decided_run refusal (may refusal refl) count_read
           (λ t. inr (inside, (Some (Sound stored), sound_here t, (Err fault, has, (refusal, names, refl)))))
@@ -251,7 +277,8 @@ module _ {D O : Type 0} (disk : DiskOf D) (out : SinkOf O) (number block : ℕ) 
       not_coded cause (inl none) =
           subst (λ (c : Cause). RunsRepack c d d2 o o) (sym none)
           (earlier_run disk out (repack_query number block) (repack_once number block) d
-          d2 o told_to unwritten_to NoMemory tt (same_counts disk out d d2 o o (count_read ∙ ready.count) refl))
+          d2 o told_to untold_to unwritten_to NoMemory tt
+          (quiet_counts disk out NoMemory d d2 o o tt (count_read ∙ ready.count) refl))
       not_coded cause (inr refused) =
           subst (λ (c : Cause). RunsRepack c d d2 o o) (sym refused.2)
           (refuses_with refused.0 refused.1 (repack_refusal refused.0) refl (may_refuse number block refused.0))

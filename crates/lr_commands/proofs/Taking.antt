@@ -59,8 +59,9 @@ use Rattle.lr_commands.specs.Queries.{
   BegunBy,
 }
 use Rattle.lr_causes.specs.Causes.{FaultCounts, done_with}
+use Rattle.lr_causes.specs.Counts.{CountsTell, NoneBesides}
 use Rattle.lr_causes.specs.Outside.{outlet_counts, outlets, outlets_of}
-use Rattle.lr_commands.specs.Runs.{Counted, Got, IsDoneWith, PutsAll, PutsFirst, PutsRefused, PutsCut, RunsOn, by_count}
+use Rattle.lr_commands.specs.Runs.{Got, IsDoneWith, PutsAll, PutsFirst, PutsRefused, PutsCut, RunsOn, by_count}
 use Rattle.lr_commands.specs.Steps.{PutsText, CutsText, TextStops, TakesEntry, EntryStops}
 use Rattle.lr_commands.specs.Read.{HasGathered, IsDone}
 use Rattle.lr_commands.proofs.Reading.{none_seen, one_more_seen, concat-push}
@@ -73,13 +74,16 @@ use Rattle.lr_commands.proofs.Answering.{
   ends_here,
 }
 use Rattle.lr_commands.proofs.Texts.{
+  quiet_counts,
   same_counts,
   text_counted,
   last_may,
   entry_may,
   entry_untouched,
   entry_told,
+  entry_untold,
   text_told,
+  text_untold,
 }
 
 module _ {D O : Type 0} (disk : DiskOf D) (out : SinkOf O) (query : Query) (way : Way) (range : Range) (d : D)
@@ -92,7 +96,12 @@ module _ {D O : Type 0} (disk : DiskOf D) (out : SinkOf O) (query : Query) (way 
     gathered = fresh;
     few = omega arith;
     after = omega arith;
-    puts = record { told = λ t. t; put = λ t. sym (append-nil (out.contents o)); kept = refl };
+    puts = record {
+      told = λ t. t;
+      untold = λ t. t;
+      put = λ t. sym (append-nil (out.contents o));
+      kept = refl;
+    };
     untouched = λ same. refl;
     reaches = λ t. reaches_first query (disk.contents d) way range.from;
     texts = [];
@@ -163,6 +172,7 @@ module _ {D O : Type 0} (disk : DiskOf D) (out : SinkOf O) (query : Query) (way 
         after = omega (arith, so.after);
         puts = record {
           told = λ t. takes.puts.puts.told (so.puts.told t);
+          untold = λ t. so.puts.untold (takes.puts.puts.untold t);
           put = λ t.
               takes.puts.puts.put (so.puts.told t) ∙ ap (λ (l : List ℕ). l ++ takes.puts.text) (so.puts.put t)
               ∙ append_assoc (out.contents o) so.text takes.puts.text;
@@ -295,9 +305,11 @@ module _ {D O : Type 0} (disk : DiskOf D) (out : SinkOf O) (query : Query) (way 
       → RunsOn (outlets_of disk out) query way (Refused (NoSuchFile count)) (outlets d o) (outlets d o)
   not_allowed only_now count count_is none = record {
     may = by_count count none refl;
-    counted = refl;
+    counted = quiet_counts disk out (Refused (NoSuchFile count)) d d o o tt refl refl;
     told = λ t. t;
+    untold = λ t. t;
     told_by_out = λ t. t;
+    untold_by_out = λ t. t;
     reads = unwritten_yet disk only_now d;
     got = λ t. record {
       first = record {
@@ -320,25 +332,31 @@ module _ {D O : Type 0} (disk : DiskOf D) (out : SinkOf O) (query : Query) (way 
   module _ (range : Range) (allowed : query.range (length way.entries) ≡ Some range)
       (gathers : List EntryView → Type 0) (number : ℕ) (d1 : D) (o1 o2 : O)
       (so : SoFar disk out query way range d o gathers number o1) (told : disk.tells d → disk.tells d1)
-      (reads : disk.tells d → IsUnwritten disk d d1) (count : disk.faults d1 ≡ disk.faults d) where
+      (untold : disk.tells d1 → disk.tells d) (reads : disk.tells d → IsUnwritten disk d d1)
+      (count : disk.faults d1 ≡ disk.faults d) where
     same_here : outlet_counts (outlets_of disk out) (outlets d1 o1) ≡ outlet_counts (outlets_of disk out) (outlets d o)
     same_here = same_counts disk out d d1 o o1 count so.puts.kept
 
     -- an entry was not taken
     pub entry_stopped : (d2 : D) → number < range.to → (disk.tells d1 → disk.tells d2)
-        → (disk.tells d1 → IsUnwritten disk d1 d2) → (cause : Cause)
+        → (disk.tells d2 → disk.tells d1) → (disk.tells d1 → IsUnwritten disk d1 d2) → (cause : Cause)
         → EntryStops (outlets_of disk out) query way so.read number cause (outlets d1 o1) (outlets d2 o2)
-        → Counted cause (outlet_counts (outlets_of disk out) (outlets d1 o1))
+        → CountsTell NoneBesides cause (outlet_counts (outlets_of disk out) (outlets d1 o1))
         (outlet_counts (outlets_of disk out) (outlets d2 o2))
         → RunsOn (outlets_of disk out) query way cause (outlets d o) (outlets d2 o2)
-    entry_stopped d2 more told2 unwritten cause stops counted = record {
+    entry_stopped d2 more told2 untold2 unwritten cause stops counted = record {
       may = entry_may disk out query way so.read number d1 d2 o1 o2 cause stops;
       counted =
-          subst (λ (c : FaultCounts). Counted cause c (outlet_counts (outlets_of disk out) (outlets d2 o2))) same_here
+          subst
+          (λ (c : FaultCounts). CountsTell NoneBesides cause c
+          (outlet_counts (outlets_of disk out) (outlets d2 o2))) same_here
           counted;
       told = λ t. told2 (told t);
+      untold = λ t. untold (untold2 t);
       told_by_out = λ t.
           entry_told disk out query way so.read number d1 d2 o1 o2 cause stops (so.puts.told t);
+      untold_by_out = λ t.
+          so.puts.untold (entry_untold disk out query way so.read number d1 d2 o1 o2 cause stops t);
       reads = λ t. unwritten_joined disk d d1 d2 (reads t) (unwritten (told t));
       got = λ t.
           entry_got disk out query way range d o gathers number o1 o2 so more d1 told (λ t'. (reads t').contents)
@@ -351,10 +369,6 @@ module _ {D O : Type 0} (disk : DiskOf D) (out : SinkOf O) (query : Query) (way 
     -- the last text was put, and this is told beside it
     module _ (inside : number ≤ range.to) (all : range.to ≤ number)
         (puts : PutsText out (query.last way so.read) o1 o2) where
-      counts_stay : outlet_counts (outlets_of disk out) (outlets d1 o2)
-          ≡ outlet_counts (outlets_of disk out) (outlets d o)
-      counts_stay = same_counts disk out d d1 o o2 count (puts.puts.kept ∙ so.puts.kept)
-
       put_so : (t : disk.tells d) → (noted : Option Note) → noted ≡ query.tells so.read
           → PutsAll out (AnswersOn query (disk.contents d) way) (BegunBy query (disk.contents d) way) noted o o2
       put_so t noted is =
@@ -371,18 +385,22 @@ module _ {D O : Type 0} (disk : DiskOf D) (out : SinkOf O) (query : Query) (way 
           → RunsOn (outlets_of disk out) query way (done_with note) (outlets d o) (outlets d1 o2)
       last_taken None is = record {
         may = done_with_so None is;
-        counted = counts_stay;
+        counted = quiet_counts disk out Done d d1 o o2 tt count (puts.puts.kept ∙ so.puts.kept);
         told = told;
+        untold = untold;
         told_by_out = λ t. puts.puts.told (so.puts.told t);
+        untold_by_out = λ t. so.puts.untold (puts.puts.untold t);
         reads = reads;
         got = λ t. put_so t None is;
         untouched = λ one cuts. absurd cuts;
       }
       last_taken (Some note) is = record {
         may = done_with_so (Some note) is;
-        counted = counts_stay;
+        counted = quiet_counts disk out (DoneWith note) d d1 o o2 tt count (puts.puts.kept ∙ so.puts.kept);
         told = told;
+        untold = untold;
         told_by_out = λ t. puts.puts.told (so.puts.told t);
+        untold_by_out = λ t. so.puts.untold (puts.puts.untold t);
         reads = reads;
         got = λ t. put_so t (Some note) is;
         untouched = λ one cuts. absurd cuts;
@@ -417,11 +435,15 @@ module _ {D O : Type 0} (disk : DiskOf D) (out : SinkOf O) (query : Query) (way 
         → RunsOn (outlets_of disk out) query way cause (outlets d o) (outlets d1 o2)
     last_stopped inside all cause stops some = record {
       may = last_may disk out query way so.read o1 o2 cause stops;
-      counted = subst (λ (c : FaultCounts). Counted cause c (outlet_counts (outlets_of disk out) (outlets d1 o2)))
+      counted = subst
+          (λ (c : FaultCounts). CountsTell NoneBesides cause c
+          (outlet_counts (outlets_of disk out) (outlets d1 o2)))
           same_here
           (text_counted disk out (query.last way so.read) d1 d1 o1 o2 refl cause stops);
       told = told;
+      untold = untold;
       told_by_out = λ t. text_told disk out (query.last way so.read) o1 o2 cause stops (so.puts.told t);
+      untold_by_out = λ t. so.puts.untold (text_untold disk out (query.last way so.read) o1 o2 cause stops t);
       reads = reads;
       got = λ t. last_got disk out query way range d o gathers number o1 o2 so inside all allowed t cause stops;
       untouched = λ one cuts. absurd (some (one.nothing_last way so.read));

@@ -2,8 +2,12 @@
 use Rattle.std.proofs.Common.{◌≡◌, ℕ, Option, Some, None, Result, Ok, Err, IfErr, IfOk, OnErr, OnOk, List, refl, sym}
 use Rattle.std.proofs.Common.{ap, subst, ◌∙◌}
 use Rattle.lr_io.specs.declared.sink.Sink.{Ghosts as SinkOf}
+use Rattle.lr_bits.specs.Faults.{Rose}
 use Rattle.lr_disk.specs.declared.disk.Disk.{Ghosts as DiskOf}
 use Rattle.lr_shelf_format.specs.Way.{Way}
+use Rattle.lr_causes.specs.Causes.{IsCaused}
+use Rattle.lr_causes.specs.Counts.{CountsTell, NoneBesides}
+use Rattle.lr_causes.proofs.Counting.{disk_alone, all_stay, out_alone}
 use Rattle.lr_causes.specs.Outside.{outlet_counts, outlets, outlets_of}
 use Rattle.lr_causes.specs.declared.cause.Party.TheVariants.{Source, Disk, Output}
 use Rattle.lr_causes.specs.declared.cause.Refusal.{Refusal}
@@ -12,7 +16,7 @@ use Rattle.lr_causes.specs.declared.cause.Cause.{Cause}
 use Rattle.lr_causes.specs.declared.cause.Cause.TheVariants.{Done, DoneWith, Usage, Failed, NoMemory, Refused}
 use Rattle.lr_commands.specs.Queries.{Query, IsSeen, EntryView, entry_at, fate_of}
 use Rattle.lr_commands.proofs.Answering.{err_is}
-use Rattle.lr_commands.specs.Runs.{Counted, CutsNothing, MayCause, MayRefuse, at_place, at_entry, at_end}
+use Rattle.lr_commands.specs.Runs.{CutsNothing, MayCause, MayRefuse, at_place, at_entry, at_end}
 use Rattle.lr_commands.specs.Steps.{TextStops, EntryStops}
 
 pub on_both : {T E A B C : Type 0} (r : Result T E) → (A → B → C) → OnOk r A → OnOk r B → OnOk r C
@@ -54,19 +58,47 @@ module _ {D O : Type 0} (disk : DiskOf D) (out : SinkOf O) where
       ap (λ (n : ℕ). record { source = 0; disk = n; output = out.faults o1 }) first
       ∙ ap (λ (n : ℕ). record { source = 0; disk = disk.faults d; output = n }) second
 
+  -- nobody failed
+  pub quiet_counts : (cause : Cause) (d d1 : D) (o o1 : O)
+      → IsCaused cause (outlet_counts (outlets_of disk out) (outlets d o))
+      (outlet_counts (outlets_of disk out) (outlets d1 o1))
+      → disk.faults d1 ≡ disk.faults d → out.faults o1 ≡ out.faults o
+      → CountsTell NoneBesides cause (outlet_counts (outlets_of disk out) (outlets d o))
+      (outlet_counts (outlets_of disk out) (outlets d1 o1))
+  quiet_counts cause d d1 o o1 named first second =
+      all_stay NoneBesides cause (outlet_counts (outlets_of disk out) (outlets d o))
+      (outlet_counts (outlets_of disk out) (outlets d1 o1)) named (same_counts d d1 o o1 first second)
+
+  -- the disk alone
+  pub disk_counts : (d d1 : D) (o o1 : O) → Rose (disk.faults d) (disk.faults d1) → out.faults o1 ≡ out.faults o
+      → CountsTell NoneBesides (Failed Disk) (outlet_counts (outlets_of disk out) (outlets d o))
+      (outlet_counts (outlets_of disk out) (outlets d1 o1))
+  disk_counts d d1 o o1 rose second =
+      disk_alone (outlet_counts (outlets_of disk out) (outlets d o))
+      (outlet_counts (outlets_of disk out) (outlets d1 o1)) rose refl second
+
+  -- `out` alone
+  pub out_counts : (d d1 : D) (o o1 : O) → Rose (out.faults o) (out.faults o1) → disk.faults d1 ≡ disk.faults d
+      → CountsTell NoneBesides (Failed Output) (outlet_counts (outlets_of disk out) (outlets d o))
+      (outlet_counts (outlets_of disk out) (outlets d1 o1))
+  out_counts d d1 o o1 rose first =
+      out_alone (outlet_counts (outlets_of disk out) (outlets d o))
+      (outlet_counts (outlets_of disk out) (outlets d1 o1)) rose refl first
+
   -- where a text was not put, nobody failed but `out`
   module _ (fate : Result (List ℕ) Refusal) (d d' : D) (o o' : O) (same : disk.faults d' ≡ disk.faults d) where
     pub text_counted : (cause : Cause) → TextStops out fate cause o o'
-        → Counted cause (outlet_counts (outlets_of disk out) (outlets d o))
+        → CountsTell NoneBesides cause (outlet_counts (outlets_of disk out) (outlets d o))
         (outlet_counts (outlets_of disk out) (outlets d' o'))
     text_counted Done stops = absurd stops
     text_counted (DoneWith note) stops = absurd stops
     text_counted Usage stops = absurd stops
     text_counted (Failed Source) stops = absurd stops
     text_counted (Failed Disk) stops = absurd stops
-    text_counted (Failed Output) stops = (stops.fails.rose, refl, same)
-    text_counted NoMemory stops = same_counts d d' o o' same (ap out.faults stops)
-    text_counted (Refused refusal) stops = same_counts d d' o o' same (ap out.faults stops.1)
+    text_counted (Failed Output) stops = out_counts d d' o o' stops.fails.rose same
+    text_counted NoMemory stops = quiet_counts NoMemory d d' o o' tt same (ap out.faults stops)
+    text_counted (Refused refusal) stops =
+        quiet_counts (Refused refusal) d d' o o' tt same (ap out.faults stops.1)
 
   -- a sink still tells what it holds
   pub text_told : (fate : Result (List ℕ) Refusal) (o o' : O) (cause : Cause) → TextStops out fate cause o o'
@@ -75,6 +107,14 @@ module _ {D O : Type 0} (disk : DiskOf D) (out : SinkOf O) where
   text_told fate o o' NoMemory stops t = subst (λ (x : O). out.tells x) (sym stops) t
   text_told fate o o' (Refused refusal) stops t = subst (λ (x : O). out.tells x) (sym stops.1) t
   text_told fate o o' _ stops t = absurd stops
+
+  -- and one that doesn't tell it after didn't before
+  pub text_untold : (fate : Result (List ℕ) Refusal) (o o' : O) (cause : Cause) → TextStops out fate cause o o'
+      → out.tells o' → out.tells o
+  text_untold fate o o' (Failed Output) stops t = stops.fails.untold t
+  text_untold fate o o' NoMemory stops t = subst (λ (x : O). out.tells x) stops t
+  text_untold fate o o' (Refused refusal) stops t = subst (λ (x : O). out.tells x) stops.1 t
+  text_untold fate o o' _ stops t = absurd stops
 
   pub last_may : (query : Query) (way : Way) (read : List EntryView) (o o' : O) (cause : Cause)
       → TextStops out (query.last way read) cause o o' → MayCause query cause
@@ -131,6 +171,18 @@ module _ {D O : Type 0} (disk : DiskOf D) (out : SinkOf O) where
     entry_told (DoneWith note) stops t = absurd stops.stops
     entry_told Usage stops t = absurd stops.stops
     entry_told (Failed Source) stops t = absurd stops.stops
+
+    pub entry_untold : (cause : Cause)
+        → EntryStops (outlets_of disk out) query way read number cause (outlets d o) (outlets d' o') → out.tells o'
+        → out.tells o
+    entry_untold (Failed Disk) stops t = subst (λ (x : O). out.tells x) stops t
+    entry_untold (Failed Output) stops t = stops.stops.fails.untold t
+    entry_untold NoMemory stops t = subst (λ (x : O). out.tells x) stops t
+    entry_untold (Refused refusal) stops t = subst (λ (x : O). out.tells x) stops.stops.1 t
+    entry_untold Done stops t = absurd stops.stops
+    entry_untold (DoneWith note) stops t = absurd stops.stops
+    entry_untold Usage stops t = absurd stops.stops
+    entry_untold (Failed Source) stops t = absurd stops.stops
 
     -- what stands there is known, and its text was not put
     pub stops_seen : (seen : Option EntryView)

@@ -11,13 +11,13 @@ use Rattle.lr_shelf.specs.Adding.{StaysOutside, WithOrWithout}
 use Rattle.lr_shelf.specs.Shelf.{HasEitherWay, IsDurable, StandsForEither}
 use Rattle.lr_causes.specs.declared.cause.Party.TheVariants.{Disk, Output}
 use Rattle.lr_causes.specs.declared.cause.Refusal.{Refusal}
-use Rattle.lr_causes.specs.declared.cause.Refusal.TheVariants.{NotAShelf, Capacity, NotEmpty}
+use Rattle.lr_causes.specs.declared.cause.Refusal.TheVariants.{NotAShelf, Capacity}
 use Rattle.lr_causes.specs.declared.cause.Cause.{Cause}
 use Rattle.lr_causes.specs.declared.cause.Cause.TheVariants.{Done, Failed, NoMemory, Refused}
 use Rattle.lr_causes.specs.Causes.{IsEarlier}
+use Rattle.lr_causes.specs.Counts.{CountsTell, NoneBesides}
 use Rattle.lr_causes.specs.Outside.{Outlets, OutletsOf, outlet_counts}
 use Rattle.lr_causes.specs.Puts.{Puts, PutFails}
-use Rattle.lr_commands.specs.Runs.{Counted}
 
 -- an item that is added, and the text that tells it then
 pub record Addition : Type 0 where
@@ -168,9 +168,12 @@ module _ {D O : Type 0} (world : OutletsOf D O) (query : AdditionQuery) where
 
   pub record RunsAdding (cause : Cause) (w w' : Outlets D O) : Type 0 where
     pub may : MayEndAdding query cause
-    pub counted : Counted cause (outlet_counts world w) (outlet_counts world w')
+    -- no party failed but the one that the cause names
+    pub counted : CountsTell NoneBesides cause (outlet_counts world w) (outlet_counts world w')
     pub told : world.disk.tells w.disk → world.disk.tells w'.disk
+    pub untold : world.disk.tells w'.disk → world.disk.tells w.disk
     pub told_by_out : world.out.tells w.out → world.out.tells w'.out
+    pub untold_by_out : world.out.tells w'.out → world.out.tells w.out
     pub leaves : LeavesAdding cause w w'
     -- a refusal comes exactly where it stands, unless the disk failed or memory was refused; the item is added exactly
     -- where none stands

@@ -97,6 +97,11 @@ abbrev pub refusal_cause : Option Refusal → Cause
 refusal_cause None = NoMemory
 refusal_cause (Some refusal) = Refused refusal
 
+-- what is answered for a file by what came of its coding: the file, or the fault's cause
+abbrev pub coded_by : Result File RepackFault → Result File Cause
+coded_by (Ok new) = Ok new
+coded_by (Err fault) = Err (refusal_cause (repack_refusal fault))
+
 -- the file was coded anew, and its line composed
 pub record IsRepackOf (number place block : ℕ) (stored : Stored) (made : Repacked) : Type 0 where
   pub repacked : IsRepacked stored.file block made.placed.file

@@ -1,10 +1,9 @@
 -- What a command that reads entries does to `out` and to the disk, for each cause.
 use Rattle.std.specs.Prelude.{◌≡◌, ◌⊎◌, ◌<◌, ◌+◌, ℕ, Option, Some, None, Ok, Err, List, ◌++◌, length}
-use Rattle.lr_bits.specs.Faults.{Rose}
 use Rattle.lr_io.specs.declared.sink.Sink.{Ghosts as SinkOf}
 use Rattle.lr_io.specs.Pieces.{PutsPart}
 use Rattle.lr_disk.specs.Reads.{IsUnwritten}
-use Rattle.lr_causes.specs.declared.cause.Party.TheVariants.{Source, Disk, Output}
+use Rattle.lr_causes.specs.declared.cause.Party.TheVariants.{Disk, Output}
 use Rattle.lr_causes.specs.declared.cause.Refusal.{Refusal}
 use Rattle.lr_causes.specs.declared.cause.Refusal.TheVariants.{NotAShelf, NoSuchFile}
 use Rattle.lr_causes.specs.declared.cause.Cause.{Cause}
@@ -23,7 +22,8 @@ use Rattle.lr_commands.specs.Queries.{
   done_answer,
   refused_answer,
 }
-use Rattle.lr_causes.specs.Causes.{FaultCounts, done_with}
+use Rattle.lr_causes.specs.Causes.{done_with}
+use Rattle.lr_causes.specs.Counts.{CountsTell, NoneBesides}
 use Rattle.lr_causes.specs.Outside.{Outlets, OutletsOf, outlet_counts}
 
 -- what a command may be refused for, over any disk: no shelf or no item at a place, a count by which a number isn't
@@ -52,16 +52,6 @@ MayCause query (Failed Output) = Unit {0}
 MayCause query NoMemory = Unit {0}
 MayCause query (Refused refusal) = MayRefuse query refusal
 MayCause query _ = ⊥
-
--- the count of the party that a cause names rose, and all other counts stay
-abbrev pub Counted : Cause → FaultCounts → FaultCounts → Type 0
-Counted (Failed Source) before now =
-    Rose before.source now.source × (now.disk ≡ before.disk) × (now.output ≡ before.output)
-Counted (Failed Disk) before now =
-    Rose before.disk now.disk × (now.source ≡ before.source) × (now.output ≡ before.output)
-Counted (Failed Output) before now =
-    Rose before.output now.output × (now.source ≡ before.source) × (now.disk ≡ before.disk)
-Counted cause before now = now ≡ before
 
 -- the cause of a run that puts an answer
 abbrev pub cause_for : Option Refusal → Option Note → Cause
@@ -130,10 +120,13 @@ module _ {D O : Type 0} (world : OutletsOf D O) where
       (MayBegin : List ℕ → (passed left : ℕ) → List ℕ → Type 0)
       (cause : Cause) (w w' : Outlets D O) : Type 0 where
     pub may : MayCause query cause
-    pub counted : Counted cause (outlet_counts world w) (outlet_counts world w')
+    -- no party failed but the one that the cause names
+    pub counted : CountsTell NoneBesides cause (outlet_counts world w) (outlet_counts world w')
     -- nothing on the disk changes
     pub told : world.disk.tells w.disk → world.disk.tells w'.disk
+    pub untold : world.disk.tells w'.disk → world.disk.tells w.disk
     pub told_by_out : world.out.tells w.out → world.out.tells w'.out
+    pub untold_by_out : world.out.tells w'.out → world.out.tells w.out
     pub reads : world.disk.tells w.disk → IsUnwritten world.disk w.disk w'.disk
     -- `out` got what the bytes answer; a refusal comes only where it is that of the answer, with its values
     pub got : world.disk.tells w.disk

@@ -62,4 +62,5 @@ module _ {D O : Type 0} (world : OutletsOf D O) (query : Query) (way : Way) (rea
 pub record ReadsOnly {D : Type 0} (disk : DiskOf D) (shelf shelf' : Shelf) (d d' : D) : Type 0 where
   pub kept : kept_by shelf' ≡ kept_by shelf
   pub told : disk.tells d → disk.tells d'
+  pub untold : disk.tells d' → disk.tells d
   pub unwritten : disk.tells d → IsUnwritten disk d d'

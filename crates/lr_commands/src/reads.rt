@@ -16,7 +16,7 @@ pub trait ReadsEntries {
     ghost use Rattle.lr_shelf.specs.Kept.{kept_by};
     ghost use Rattle.lr_causes.specs.Outside.{outlet_counts, outlets, outlets_of};
     ghost use Rattle.lr_commands.specs.Queries.{Query, EntryView};
-    ghost use Rattle.lr_commands.specs.Runs.{Counted};
+    ghost use Rattle.lr_causes.specs.Counts.{CountsTell, NoneBesides};
     ghost use Rattle.lr_commands.specs.Steps.{PutsText, ReadsOnly, TextStops, TakesEntry, EntryStops};
 
     /// What it gathers of the entries.
@@ -53,7 +53,7 @@ pub trait ReadsEntries {
         ensures reads { ReadsOnly D.Disk shelf.old shelf.new disk.old disk.new }
         ensures same { OnOk result (D.faults disk.new ≡ D.faults disk.old) }
         ensures counted { (read : List EntryView) → gathers self.now gathered.old read → IfErr result (λ cause.
-            Counted cause (outlet_counts (outlets_of D.Disk O.Sink) (outlets disk.old out.old))
+            CountsTell NoneBesides cause (outlet_counts (outlets_of D.Disk O.Sink) (outlets disk.old out.old))
             (outlet_counts (outlets_of D.Disk O.Sink) (outlets disk.new out.new))) }
         ensures takes { (read : List EntryView) → length read + 1 < 2 ^ 64 → gathers self.now gathered.old read
             → OnOk result (TakesEntry (outlets_of D.Disk O.Sink) (query self.now)

@@ -4,9 +4,9 @@ ghost use Rattle.lr_rice_coder.specs.Coded.{IsBlockSize};
 ghost use Rattle.lr_causes.specs.Outside.{outlets, outlets_of};
 ghost use Rattle.lr_commands.specs.Adding.{RunsAdding};
 ghost use Rattle.lr_commands.specs.Repack.{IsNotRepacked, IsRepackOf, origin_kept};
-ghost use Rattle.lr_commands.specs.Repack.{refusal_cause, repack_query, repack_refusal};
+ghost use Rattle.lr_commands.specs.Repack.{coded_by, refusal_cause, repack_query, repack_refusal};
 
-use lr_bits::{Bytes, Origin, Placed};
+use lr_bits::{Bytes, MissionFile, Origin, Placed};
 use lr_catalog::repack_line;
 use lr_causes::{Cause, CodingFault, Refusal, put_text};
 use lr_disk::Disk;
@@ -51,6 +51,16 @@ fn coding_cause(fault: RepackFault) -> Cause
     }
 }
 
+/// The file that was coded anew, or the cause of its fault. So want of memory comes of that coding's alone.
+fn coded(answer: Result<MissionFile, RepackFault>) -> Result<MissionFile, Cause>
+    ensures { result ≡ coded_by answer }
+{
+    match answer {
+        Ok(file) => Ok(file),
+        Err(fault) => Err(coding_cause(fault)),
+    }
+}
+
 /// A file of the shelf, coded anew, and the line that the new one has the number `place`. The old one is let go.
 fn code_stored(
     alloc: Global,
@@ -63,9 +73,9 @@ fn code_stored(
     ensures ok { IfOk result (IsRepackOf number place block stored) }
     ensures err { IfErr result (IsNotRepacked block stored) }
 {
-    let file = match lr_rice_coder::repack(alloc, &stored.file, block) {
+    let file = match coded(lr_rice_coder::repack(alloc, &stored.file, block)) {
         Ok(file) => file,
-        Err(fault) => return Err(coding_cause(fault)),
+        Err(cause) => return Err(cause),
     };
     let before = stored.file.bytes().len() as u64;
     let after = file.bytes().len() as u64;

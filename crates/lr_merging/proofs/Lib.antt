@@ -1,4 +1,5 @@
 pub mod Flaws
 pub mod Merging
+pub mod Untaken
 pub mod Numbers
 pub mod Taken

@@ -1,6 +1,6 @@
 -- What a whole run comes to, by what was loaded, what was taken, and how the files were merged.
-use Rattle.std.proofs.Common.{◌≡◌, ◌<◌, ◌-◌, ◌⊎◌, inl, inr, ⊎_elim, ℕ, List, [], ◌∷◌, ◌++◌, length}
-use Rattle.std.proofs.Common.{refl, sym, ◌∙◌, ap, subst, arith, Result, Err, IfErr, MatchResult}
+use Rattle.std.proofs.Common.{◌≡◌, ◌-◌, ◌⊎◌, inl, inr, ⊎_elim, ℕ, List, [], ◌∷◌, ◌++◌, length}
+use Rattle.std.proofs.Common.{refl, sym, ◌∙◌, ap, subst}
 use Rattle.lr_bits.specs.declared.placed.Placed.{Placed}
 use Rattle.lr_bits.specs.Faults.{Rose}
 use Rattle.lr_conv.specs.declared.line.LineCode.{LineCode}
@@ -11,35 +11,26 @@ use Rattle.lr_disk.specs.declared.disk.Disk.{Ghosts as DiskOf}
 use Rattle.lr_disk.specs.Pending.{EachImageSince, NothingPending}
 use Rattle.lr_disk.proofs.Moments.{joined, weaker}
 use Rattle.lr_shelf_format.specs.Items.{Item}
-use Rattle.lr_shelf_format.specs.Way.{IsNoShelfAt, IsWay, Way}
+use Rattle.lr_shelf_format.specs.Way.{IsWay, Way}
 use Rattle.lr_shelf_format.proofs.WayLemmas.{has_one_way}
 use Rattle.lr_shelf.specs.Adding.{StaysOutside}
 use Rattle.lr_shelf.specs.Adds.{last_gate}
 use Rattle.lr_shelf.specs.Append.{item_for}
-use Rattle.lr_shelf.specs.Calls.{IsFaultCounted}
 use Rattle.lr_shelf.specs.Prefixes.{way_with_files}
 use Rattle.lr_shelf.specs.InitialShelves.{InitialShelf, OfItems, OfWay, IsSettledOn, LeavesPrefixes, StandsWith}
 use Rattle.lr_shelf.specs.Kept.{kept_by}
-use Rattle.lr_shelf.specs.Load.{IsLoadRefusal, Loads, MayRefuseAt}
 use Rattle.lr_shelf.specs.Shelf.{HasEitherWay, IsDurable}
 use Rattle.lr_shelf.specs.declared.shelf.Shelf.{Shelf}
-use Rattle.lr_shelf.specs.declared.error.ShelfError.{ShelfError}
-use Rattle.lr_shelf.specs.declared.error.ShelfError.TheVariants.{
-  Disk as Disk',
-  NotAShelf as NotAShelf',
-  NoMemory as NoMemory',
-}
 use Rattle.lr_shelf.proofs.InitialPrefixes.{begun_items, begun_way, front_none, fronts_of_more, settled_on_items}
 use Rattle.lr_shelf.proofs.InitialPrefixes.{still_holds, still_left}
-use Rattle.lr_causes.specs.Causes.{MayEndBefore, FaultCounts, IsCaused, counts}
-use Rattle.lr_refusals.specs.Errors.{cause_of}
-use Rattle.lr_causes.specs.declared.fault.BundleFlaw.{BundleFlaw}
+use Rattle.lr_causes.specs.Causes.{IsCaused, counts}
+use Rattle.lr_causes.specs.Counts.{CountsTell}
+use Rattle.lr_causes.proofs.Counting.{counts_tell}
 use Rattle.lr_causes.specs.declared.cause.Cause.{Cause}
 use Rattle.lr_causes.specs.declared.cause.Cause.TheVariants.{Done, Failed, NoMemory, Refused}
-use Rattle.lr_causes.specs.declared.cause.Party.TheVariants.{Source, Disk, Output}
-use Rattle.lr_causes.specs.declared.cause.Refusal.TheVariants.{NotAShelf, Capacity as IsFull, BadBundle}
+use Rattle.lr_causes.specs.declared.cause.Party.TheVariants.{Disk, Output}
+use Rattle.lr_causes.specs.declared.cause.Refusal.TheVariants.{Capacity as IsFull}
 use Rattle.lr_commands.proofs.AddingRuns.{IsReady, way_read}
-use Rattle.lr_downlinks.specs.Bundles.{IsBundle}
 use Rattle.lr_downlinks.specs.Merge.{IsWhole, merge}
 use Rattle.lr_downlinks.specs.Room.{AllFit}
 use Rattle.lr_downlinks.specs.Runs.{MergeEnds, MergesOver, NextDoesNotFitBy}
@@ -48,14 +39,13 @@ use Rattle.lr_downlinks.specs.Streams.{files_of_downlink}
 use Rattle.lr_downlinks.specs.declared.run.Run.{Run}
 use Rattle.lr_downlinks.specs.declared.run.RunEnd.{RunEnd}
 use Rattle.lr_downlinks.specs.declared.run.RunEnd.TheVariants.{All, Disk as DiskFails, NoMemory as NoneLeft, Capacity}
-use Rattle.lr_merging.specs.Downlinks.{AddsAllOn, AddsMerged, AreCounted, BreaksMerging, BreaksOn, DownlinksRun}
+use Rattle.lr_merging.specs.Downlinks.{AddsAllOn, AddsMerged, BreaksMerging, BreaksOn, DownlinksRun, OutBesides}
 use Rattle.lr_merging.specs.Downlinks.{EndsMerging, GotReceipts}
-use Rattle.lr_causes.specs.Outside.{NoFault, outside, world_of, World, Outside}
-use Rattle.lr_merging.specs.Downlinks.{IsBefore, LeavesAllAlone, LeavesAlone, LeavesMerged, Merges}
+use Rattle.lr_causes.specs.Outside.{outside, world_of, World, Outside}
+use Rattle.lr_merging.specs.Downlinks.{LeavesMerged, Merges}
 use Rattle.lr_merging.specs.Lines.{receipt_lines, last_line}
-use Rattle.lr_merging.specs.Taking.{AreAllTaken, HasFlaw, StopsTaking, TakesBundle, TakesNone, most_taken}
+use Rattle.lr_merging.specs.Taking.{TakesBundle}
 use Rattle.lr_merging.specs.Told.{TellsAll, TellsEnd, TellsSome}
-use Rattle.lr_reading.specs.Reading.{IsRead}
 
 -- ---- the disk, since the shelf was loaded from it
 
@@ -212,18 +202,29 @@ module _ {S D O : Type 0} (source : SourceOf S) (disk : DiskOf D) (out : SinkOf 
   pub record IsFinished (cause : Cause) : Type 0 where
     pub leaves : LeavesMerged disk (length streams) (files_of_downlink line streams) order d d' cause
     pub got : GotReceipts out cause (receipt_lines base order (length streams)) (last_line streams order) o o'
-    pub counted : AreCounted cause (counts (source.faults s) (disk.faults d) (out.faults o))
+    pub counted : CountsTell OutBesides cause (counts (source.faults s) (disk.faults d) (out.faults o))
         (counts (source.faults s') (disk.faults d') (out.faults o'))
     pub told : out.tells o → out.tells o'
+    pub untold : out.tells o' → out.tells o
 
-  same_all : disk.faults d' ≡ disk.faults d → out.faults o' ≡ out.faults o
-      → counts (source.faults s') (disk.faults d') (out.faults o')
-      ≡ counts (source.faults s) (disk.faults d) (out.faults o)
-  same_all same_disk same_out = rw (same_source, same_disk, same_out) refl
+  -- by the counts of the disk and of `out`
+  counts_are : (cause : Cause) → IsCaused cause (counts (source.faults s) (disk.faults d) (out.faults o))
+      (counts (source.faults s') (disk.faults d') (out.faults o'))
+      → ((cause ≡ Failed Disk → ⊥) → (OutBesides cause Disk → ⊥) → disk.faults d' ≡ disk.faults d)
+      → ((cause ≡ Failed Output → ⊥) → (OutBesides cause Output → ⊥) → out.faults o' ≡ out.faults o)
+      → CountsTell OutBesides cause (counts (source.faults s) (disk.faults d) (out.faults o))
+      (counts (source.faults s') (disk.faults d') (out.faults o'))
+  counts_are cause named same_disk same_out =
+      counts_tell OutBesides cause (counts (source.faults s) (disk.faults d) (out.faults o))
+      (counts (source.faults s') (disk.faults d') (out.faults o')) named (λ not none. same_source) same_disk same_out
 
   told_some : TellsSome out streams base order o o' → out.tells o → out.tells o'
   told_some (inl puts) = puts.told
   told_some (inr fails) = fails.told
+
+  untold_some : TellsSome out streams base order o o' → out.tells o' → out.tells o
+  untold_some (inl puts) = puts.untold
+  untold_some (inr fails) = fails.untold
 
   finish_all : (cause : Cause)
       → HasAppended disk shelf d1 (merge (files_of_downlink line streams) order) d'
@@ -235,8 +236,9 @@ module _ {S D O : Type 0} (source : SourceOf S) (disk : DiskOf D) (out : SinkOf 
       ends.1,
     );
     got = tells;
-    counted = same_all (ends.0.count ∙ ready.count) tells.kept;
+    counted = counts_are Done tt (λ not none. ends.0.count ∙ ready.count) (λ not none. tells.kept);
     told = tells.told;
+    untold = tells.untold;
   }
   finish_all (Failed Output) ends tells = record {
     leaves = (
@@ -244,8 +246,10 @@ module _ {S D O : Type 0} (source : SourceOf S) (disk : DiskOf D) (out : SinkOf 
       ends.1,
     );
     got = tells;
-    counted = (tells.rose, same_source, ends.0.count ∙ ready.count);
+    counted =
+        counts_are (Failed Output) tells.rose (λ not none. ends.0.count ∙ ready.count) (λ not none. absurd (not refl));
     told = tells.told;
+    untold = tells.untold;
   }
   finish_all _ ends tells = absurd tells
 
@@ -257,15 +261,18 @@ module _ {S D O : Type 0} (source : SourceOf S) (disk : DiskOf D) (out : SinkOf 
       subst IsFinished (sym tells.0) (record {
         leaves = broken_in disk (length streams) (files_of_downlink line streams) order shelf d d1 d' ready ends;
         got = tells.1;
-        counted = (subst (λ n. Rose n (disk.faults d')) ready.count ends.appended.rose, same_source);
+        counted = counts_are (Failed Disk) (subst (λ n. Rose n (disk.faults d')) ready.count ends.appended.rose)
+            (λ not none. absurd (not refl)) (λ not none. absurd (none tt));
         told = told_some tells.1;
+        untold = untold_some tells.1;
       })
   finished NoneLeft cause ends tells =
       subst IsFinished (sym tells.0) (record {
         leaves = added disk (length streams) (files_of_downlink line streams) order shelf d d1 d' ready ends;
         got = tells.1;
-        counted = (same_source, ends.count ∙ ready.count);
+        counted = counts_are NoMemory tt (λ not none. ends.count ∙ ready.count) (λ not none. absurd (none tt));
         told = told_some tells.1;
+        untold = untold_some tells.1;
       })
   finished (Capacity needed capacity) cause ends tells =
       subst IsFinished (sym tells.0) (record {
@@ -276,8 +283,10 @@ module _ {S D O : Type 0} (source : SourceOf S) (disk : DiskOf D) (out : SinkOf 
               ends.1,
         );
         got = tells.1;
-        counted = (same_source, ends.0.count ∙ ready.count);
+        counted = counts_are (Refused (IsFull needed capacity)) tt (λ not none. ends.0.count ∙ ready.count)
+            (λ not none. absurd (none tt));
         told = told_some tells.1;
+        untold = untold_some tells.1;
       })
 
   pub told_since : (result : RunEnd)
@@ -287,6 +296,14 @@ module _ {S D O : Type 0} (source : SourceOf S) (disk : DiskOf D) (out : SinkOf 
   told_since DiskFails ends t = ends.appended.told (ready.told t)
   told_since NoneLeft ends t = ends.told (ready.told t)
   told_since (Capacity needed capacity) ends t = ends.0.told (ready.told t)
+
+  pub untold_since : (result : RunEnd)
+      → MergeEnds (length streams) (files_of_downlink line streams) order disk result shelf d1 d' → disk.tells d'
+      → disk.tells d
+  untold_since All ends t = ready.untold (ends.0.untold t)
+  untold_since DiskFails ends t = ready.untold (ends.appended.untold t)
+  untold_since NoneLeft ends t = ready.untold (ends.untold t)
+  untold_since (Capacity needed capacity) ends t = ready.untold (ends.0.untold t)
 
   -- the disk failed exactly where the run says so
   pub disk_failed : (result : RunEnd) (cause : Cause) → TellsEnd out streams result base order cause o o'
@@ -372,7 +389,12 @@ module _ {S D O : Type 0} (source : SourceOf S) (disk : DiskOf D) (out : SinkOf 
         told_since source disk out line s s' d d1 d' o o' shelf ready streams same_count
         run.base run.order run.result
         over.ends;
+    untold_by_disk =
+        untold_since source disk out line s s' d d1 d' o o' shelf ready streams same_count
+        run.base run.order run.result
+        over.ends;
     told_by_out = done_with.told;
+    untold_by_out = done_with.untold;
     bytes = taken.bytes;
     read = taken.taken.read;
     ends = to_ends (world_of source disk out) line taken.bytes (outside s d o) (outside s' d' o')
@@ -391,119 +413,3 @@ module _ {S D O : Type 0} (source : SourceOf S) (disk : DiskOf D) (out : SinkOf 
         cause tells no_fault.of_out
         (over.complete (λ rose. no_fault.of_disk (subst (λ n. Rose n (disk.faults d')) ready.count rose)) fits);
   }
-
--- ---- no bundle was taken
-
-module _ {S D O : Type 0} (source : SourceOf S) (disk : DiskOf D) (out : SinkOf O) (line : LineCode)
-    (s s' : S) (d d1 : D) (o : O) (shelf : Shelf) (ready : IsReady disk d d1 shelf) where
-  left_alone : LeavesAlone (world_of source disk out) (outside s d o) (outside s' d1 o)
-  left_alone = record { only_read = ready.unwritten; out_stays = refl }
-
-  module _ (bytes : List ℕ) (read : IsRead source most_taken bytes s s') where
-    -- where counts and end are told
-    stopped : (cause : Cause) → AreCounted cause (counts (source.faults s) (disk.faults d) (out.faults o))
-        (counts (source.faults s') (disk.faults d1) (out.faults o))
-        → EndsMerging (world_of source disk out) line bytes cause (outside s d o) (outside s' d1 o)
-        → ((flaw : BundleFlaw) → HasFlaw bytes flaw → (cause ≡ Refused (BadBundle flaw)) ⊎ IsBefore cause)
-        → (NoFault (world_of source disk out) (outside s d o) (outside s' d1 o) → (streams : List (List ℕ))
-        → IsBundle bytes streams
-        → length bytes < most_taken → (cause ≡ Done) ⊎ (cause ≡ NoMemory))
-        → DownlinksRun (world_of source disk out) line cause (outside s d o) (outside s' d1 o)
-    stopped cause counted ends flaws whole = record {
-      counted = counted;
-      told_by_disk = ready.told;
-      told_by_out = λ t. t;
-      bytes = bytes;
-      read = read;
-      ends = ends;
-      broken = λ at t no.
-          absurd ((has_one_way (disk.contents d)).none (kept_by shelf).way at
-          (way_read disk d d1 shelf ready t) no);
-      flawed = λ flaw all has. flaws flaw has;
-      complete = λ no_fault streams bundle few way t is fit. whole no_fault streams bundle few;
-    }
-
-    same_source : AreAllTaken source bytes s s' → source.faults s' ≡ source.faults s
-    same_source (inl ended) = ended.2
-    same_source (inr full) = full.1
-
-    stops_taking : (cause : Cause) → StopsTaking source cause bytes s s'
-        → DownlinksRun (world_of source disk out) line cause (outside s d o) (outside s' d1 o)
-    stops_taking (Failed Source) stops =
-        stopped (Failed Source) (stops.1, ready.count, refl) (left_alone, stops) (λ flaw has. inr tt)
-        (λ no_fault streams bundle few. absurd (no_fault.of_source stops.1))
-    stops_taking NoMemory stops =
-        stopped NoMemory (stops, ready.count) (inl left_alone) (λ flaw has. inr tt)
-        (λ no_fault streams bundle few. inr refl)
-    stops_taking (Refused (BadBundle flaw)) stops =
-        stopped (Refused (BadBundle flaw)) (rw (same_source stops.1, ready.count) refl)
-        (left_alone, stops.0, stops.1)
-        (λ other has. inl (ap (λ (f : BundleFlaw). Refused (BadBundle f)) (sym (stops.2 other has))))
-        (λ no_fault streams bundle few. absurd (stops.3 streams bundle few))
-    stops_taking _ stops = absurd stops
-
-  pub not_taken : (cause : Cause) → TakesNone source cause s s'
-      → DownlinksRun (world_of source disk out) line cause (outside s d o) (outside s' d1 o)
-  not_taken cause none = stops_taking none.bytes none.read cause none.stops
-
--- ---- no shelf was loaded
-
-module _ {S D O : Type 0} (source : SourceOf S) (disk : DiskOf D) (out : SinkOf O) (line : LineCode)
-    (s : S) (d d1 : D) (o : O) (result : Result Shelf ShelfError) (loads : Loads disk d d1 result) where
-  untouched : LeavesAllAlone (world_of source disk out) (outside s d o) (outside s d1 o)
-  untouched = record {
-    alone = record { only_read = loads.unwritten; out_stays = refl };
-    source_stays = refl;
-  }
-
-  before_all : (cause : Cause) → AreCounted cause (counts (source.faults s) (disk.faults d) (out.faults o))
-      (counts (source.faults s) (disk.faults d1) (out.faults o))
-      → EndsMerging (world_of source disk out) line [] cause (outside s d o) (outside s d1 o)
-      → ((at : ℕ) → disk.tells d → IsNoShelfAt (disk.contents d) at → MayEndBefore at cause) → IsBefore cause
-      → (NoFault (world_of source disk out) (outside s d o) (outside s d1 o) → (way : Way)
-      → disk.tells d → IsWay (disk.contents d) way
-      → (cause ≡ Done) ⊎ (cause ≡ NoMemory))
-      → DownlinksRun (world_of source disk out) line cause (outside s d o) (outside s d1 o)
-  before_all cause counted ends places before whole = record {
-    counted = counted;
-    told_by_disk = loads.calls.told;
-    told_by_out = λ t. t;
-    bytes = [];
-    read = record { told = λ t. t; moved = λ t. refl; few = omega arith; asked = inl refl };
-    ends = ends;
-    broken = λ at t no. (places at t no, untouched);
-    flawed = λ flaw all has. inr before;
-    complete = λ no_fault streams bundle few way t is fit. whole no_fault way t is;
-  }
-
-  by_error : (error : ShelfError) → IsFaultCounted {A = Shelf} (disk.faults d) (disk.faults d1) (Err error)
-      → IsLoadRefusal disk d error
-      → ((at : ℕ) → disk.tells d → IsNoShelfAt (disk.contents d) at → MayRefuseAt at error)
-      → DownlinksRun (world_of source disk out) line (cause_of error) (outside s d o) (outside s d1 o)
-  by_error Disk' counted refusal places =
-      before_all (Failed Disk) (counted.1, refl) (inl untouched) (λ at t no. tt) tt
-      (λ no_fault way t is. absurd (no_fault.of_disk counted.1))
-  by_error (NotAShelf' at) counted refusal places =
-      before_all (Refused (NotAShelf at)) (rw counted refl) (untouched, refusal) places tt
-      (λ no_fault way t is. absurd ((has_one_way (disk.contents d)).none way at is (refusal t)))
-  by_error NoMemory' counted refusal places =
-      before_all NoMemory (refl, counted) (inl untouched.alone) (λ at t no. tt) tt (λ no_fault way t is. inr refl)
-  by_error _ counted refusal places = absurd refusal
-
-  pub not_loaded : (error : ShelfError) → result ≡ Err error
-      → DownlinksRun (world_of source disk out) line (cause_of error) (outside s d o) (outside s d1 o)
-  not_loaded error is =
-      by_error error
-      (subst (λ (r : Result Shelf ShelfError). IsFaultCounted (disk.faults d) (disk.faults d1) r) is
-      loads.calls.counted)
-      (subst (λ (r : Result Shelf ShelfError). IfErr r (IsLoadRefusal disk d)) is loads.refused)
-      (λ at t no.
-      subst (λ (r : Result Shelf ShelfError). MatchResult r (λ _. ⊥) (MayRefuseAt at)) is (loads.broken at t no))
-
--- ---- a cause names a party only where its count rose
-
-pub is_caused : (cause : Cause) (before now : FaultCounts) → AreCounted cause before now → IsCaused cause before now
-is_caused (Failed Source) before now counted = counted.0
-is_caused (Failed Disk) before now counted = counted.0
-is_caused (Failed Output) before now counted = counted.0
-is_caused _ before now counted = tt

@@ -11,25 +11,36 @@ module _ {S : Type 0} (source : SourceOf S) where
   -- these bytes were taken, and the source hasn't failed
   pub record HasTaken (bytes : List ℕ) (s s' : S) : Type 0 where
     pub told : source.tells s → source.tells s'
+    pub untold : source.tells s' → source.tells s
     pub moved : source.tells s → source.left s ≡ bytes ++ source.left s'
     pub count : source.faults s' ≡ source.faults s
     pub asked : StopsAsking source bytes s s'
     pub came : CameInPieces source bytes s s'
 
   pub took_none : (s : S) → HasTaken [] s s
-  took_none s = record { told = λ t. t; moved = λ t. refl; count = refl; asked = inl refl; came = came_none source s }
+  took_none s = record {
+    told = λ t. t;
+    untold = λ t. t;
+    moved = λ t. refl;
+    count = refl;
+    asked = inl refl;
+    came = came_none source s;
+  }
 
   pub is_read : (bytes : List ℕ) (s s' : S) → HasTaken bytes s s' → length bytes ≤ most_taken
       → IsRead source most_taken bytes s s'
-  is_read bytes s s' so few = record { told = so.told; moved = so.moved; few = few; asked = so.asked }
+  is_read bytes s s' so few =
+      record { told = so.told; untold = so.untold; moved = so.moved; few = few; asked = so.asked }
 
   module _ (bytes piece : List ℕ) (s s1 s2 : S) (so : HasTaken bytes s s1) (told : source.tells s1 → source.tells s2)
-      (answer : Result ℕ Failed) (asked : source.asked s1 answer s2) (given : HasGiven answer piece) where
+      (untold : source.tells s2 → source.tells s1) (answer : Result ℕ Failed) (asked : source.asked s1 answer s2)
+      (given : HasGiven answer piece) where
     -- a piece more
     pub took_more : (source.tells s1 → source.left s1 ≡ piece ++ source.left s2)
         → source.faults s2 ≡ source.faults s1 → 0 < length piece → HasTaken (bytes ++ piece) s s2
     took_more moved same some = record {
       told = λ t. told (so.told t);
+      untold = λ t. so.untold (untold t);
       moved = λ t. so.moved t ∙ ap (λ (l : List ℕ). bytes ++ l) (moved (so.told t))
           ∙ sym (append_assoc bytes piece (source.left s2));
       count = same ∙ so.count;
@@ -44,6 +55,7 @@ module _ {S : Type 0} (source : SourceOf S) where
         → IsRead source most_taken bytes s s2
     took_last empty same few = record {
       told = λ t. told (so.told t);
+      untold = λ t. so.untold (untold t);
       moved = λ t. so.moved t ∙ ap (λ (l : List ℕ). bytes ++ l) (sym (same (so.told t)));
       few = few;
       asked = inr (last_one source (λ _. Unit {0}) bytes [] bytes s s1 s2 so.moved so.came

@@ -1,7 +1,6 @@
 -- What `downlinks` does to the outside.
 use Rattle.std.specs.Prelude.{◌≡◌, ◌⊎◌, ◌<◌, ◌+◌, ◌-◌, ℕ, List, [], ◌∷◌, ◌++◌, length, slice_get, Some}
 use Rattle.lr_bits.specs.declared.placed.Placed.{Placed}
-use Rattle.lr_bits.specs.Faults.{Rose}
 use Rattle.lr_io.specs.declared.sink.Sink.{Ghosts as SinkOf}
 use Rattle.lr_disk.specs.Reads.{IsUnwritten}
 use Rattle.lr_disk.specs.declared.disk.Disk.{Ghosts as DiskOf}
@@ -13,12 +12,14 @@ use Rattle.lr_shelf.specs.Adding.{StaysOutside}
 use Rattle.lr_shelf.specs.Append.{item_for}
 use Rattle.lr_shelf.specs.Shelf.{HasEitherWay, IsDurable}
 use Rattle.lr_forms.specs.declared.forms.Stop.TheVariants.{End, Fault}
-use Rattle.lr_causes.specs.Causes.{FaultCounts, MayEndBefore}
+use Rattle.lr_causes.specs.Causes.{MayEndBefore}
+use Rattle.lr_causes.specs.Counts.{CountsTell}
 use Rattle.lr_causes.specs.Outside.{NoFault, Outside, World, counts_in}
 use Rattle.lr_causes.specs.Puts.{Puts, PutFails}
 use Rattle.lr_causes.specs.declared.fault.BundleFlaw.{BundleFlaw}
 use Rattle.lr_causes.specs.declared.cause.Cause.{Cause}
 use Rattle.lr_causes.specs.declared.cause.Cause.TheVariants.{Done, Failed, NoMemory, Refused}
+use Rattle.lr_causes.specs.declared.cause.Party.{Party}
 use Rattle.lr_causes.specs.declared.cause.Party.TheVariants.{Source, Disk, Output}
 use Rattle.lr_causes.specs.declared.cause.Refusal.TheVariants.{NotAShelf, Capacity, BadBundle}
 use Rattle.lr_downlinks.specs.Bundles.{IsBundle}
@@ -33,18 +34,13 @@ use Rattle.lr_merging.specs.Lines.{receipt_lines, last_line}
 use Rattle.lr_merging.specs.Taking.{AreAllTaken, HasFlaw, most_taken}
 use Rattle.lr_reading.specs.Reading.{IsRead, EndsFor}
 
--- The counts for each cause. The first event decides, but for this: after the files were put onto the shelf, `out`
--- may fail in the receipts, and the cause stays.
-abbrev pub AreCounted : Cause → FaultCounts → FaultCounts → Type 0
-AreCounted (Failed Source) before now =
-    Rose before.source now.source × (now.disk ≡ before.disk) × (now.output ≡ before.output)
-AreCounted (Failed Disk) before now = Rose before.disk now.disk × (now.source ≡ before.source)
-AreCounted (Failed Output) before now =
-    Rose before.output now.output × (now.source ≡ before.source) × (now.disk ≡ before.disk)
-AreCounted NoMemory before now = (now.source ≡ before.source) × (now.disk ≡ before.disk)
-AreCounted (Refused (Capacity needed capacity)) before now =
-    (now.source ≡ before.source) × (now.disk ≡ before.disk)
-AreCounted cause before now = now ≡ before
+-- The first event decides, but for this: after the files were put onto the shelf, `out` may fail in the receipts, and
+-- the cause stays.
+abbrev pub OutBesides : Cause → Party → Type 0
+OutBesides (Failed Disk) Output = Unit {0}
+OutBesides NoMemory Output = Unit {0}
+OutBesides (Refused (Capacity needed capacity)) Output = Unit {0}
+OutBesides cause party = ⊥
 
 -- the causes that come before a bundle is there: the same at any place, and that the source failed
 abbrev pub IsBefore : Cause → Type 0
@@ -196,9 +192,11 @@ module _ {S D O : Type 0} (world : World S D O) where
 -- the whole call, over every disk
 pub record DownlinksRun {S D O : Type 0} (world : World S D O) (line : LineCode)
     (cause : Cause) (w w' : Outside S D O) : Type 0 where
-  pub counted : AreCounted cause (counts_in world w) (counts_in world w')
+  pub counted : CountsTell OutBesides cause (counts_in world w) (counts_in world w')
   pub told_by_disk : world.disk.tells w.disk → world.disk.tells w'.disk
+  pub untold_by_disk : world.disk.tells w'.disk → world.disk.tells w.disk
   pub told_by_out : world.out.tells w.out → world.out.tells w'.out
+  pub untold_by_out : world.out.tells w'.out → world.out.tells w.out
   -- these bytes were taken
   pub bytes : List ℕ
   pub read : IsRead world.source most_taken bytes w.source w'.source

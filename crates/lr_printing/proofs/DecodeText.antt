@@ -63,7 +63,7 @@ use Rattle.lr_reading.specs.Inputs.{unit_bytes, outcome_of_unit, outcomes_of_byt
 use Rattle.lr_reading.specs.Lines.{numbered_lines}
 use Rattle.lr_reading.specs.Reading.{units_of, WhenLastAsked}
 use Rattle.lr_reading.specs.Readers.{AreAllThatWait, EndsInNoise, leeway_for, most_when_asked}
-use Rattle.lr_reading.specs.Runs.{ReadsInput, TakesAll, TakesSome}
+use Rattle.lr_reading.specs.Runs.{ReadsInput, TakesAll, TakesSome, course_of, lent}
 use Rattle.lr_reading.specs.declared.arrival.Arrival.{Arrival}
 use Rattle.lr_forms.specs.declared.forms.Input.{Input}
 use Rattle.lr_forms.specs.declared.forms.Input.TheVariants.{Symbols, Units}
@@ -90,6 +90,7 @@ use Rattle.lr_printing.specs.Decode.{
   decode_due,
   decode_last,
   decode_count,
+  sums_of,
 }
 use Rattle.lr_printing.specs.DecodeTaken.{OutcomesTook, OutcomesStopped}
 use Rattle.lr_printing.specs.OutcomeLines.{outcome_text, text_of_outcomes}
@@ -273,24 +274,31 @@ module _ {S : Type 0} (source : SourceOf S) (input : Input) (limit : ℕ) (total
     count_by-le-length is_restored (outcomes_of_bytes input bytes),
   )
 
+  abbrev told : (symbols frames restored lost left : ℕ) → List ℕ
+  told symbols frames restored' lost left = summary_line (Decode (record {
+    symbols = symbols;
+    frames = frames;
+    restored = restored';
+    lost = lost;
+    left = left;
+  })) totals.stop
+
   -- the last line tells what was counted
-  pub decode_last_is : decode_last input bytes totals.stop ≡ summary_line (Decode totals.symbols totals.frames
-      restored (totals.frames - restored) totals.left) totals.stop
+  pub decode_last_is : decode_last input bytes totals.stop
+      ≡ summary_line (Decode (sums_of totals restored)) totals.stop
   unfolding decode_count
   decode_last_is =
       let outcomes = outcomes_of_bytes input bytes in
       let lost : count_by (λ o. not (is_restored o)) (outcomes_of_bytes input bytes) ≡ totals.frames - restored =
       omega (arith, both_kinds (outcomes_of_bytes input bytes), frames_are, restored_is) in
-      ap (λ k. summary_line (Decode k (length outcomes) (count_by is_restored outcomes)
-      (count_by (λ o. not (is_restored o)) outcomes) (bytes_left_over input bytes)) totals.stop) (sym ends.symbols)
-      ∙ ap (λ k. summary_line (Decode totals.symbols k (count_by is_restored outcomes)
-      (count_by (λ o. not (is_restored o)) outcomes) (bytes_left_over input bytes)) totals.stop) frames_are
-      ∙ ap (λ k. summary_line (Decode totals.symbols totals.frames k
-      (count_by (λ o. not (is_restored o)) outcomes) (bytes_left_over input bytes)) totals.stop) (sym restored_is)
-      ∙ ap (λ k. summary_line (Decode totals.symbols totals.frames restored k (bytes_left_over input bytes))
-      totals.stop) lost
-      ∙ ap (λ k. summary_line (Decode totals.symbols totals.frames restored (totals.frames - restored) k)
-      totals.stop) (sym ends.left)
+      ap (λ k. told k (length outcomes) (count_by is_restored outcomes)
+      (count_by (λ o. not (is_restored o)) outcomes) (bytes_left_over input bytes)) (sym ends.symbols)
+      ∙ ap (λ k. told totals.symbols k (count_by is_restored outcomes)
+      (count_by (λ o. not (is_restored o)) outcomes) (bytes_left_over input bytes)) frames_are
+      ∙ ap (λ k. told totals.symbols totals.frames k
+      (count_by (λ o. not (is_restored o)) outcomes) (bytes_left_over input bytes)) (sym restored_is)
+      ∙ ap (λ k. told totals.symbols totals.frames restored k (bytes_left_over input bytes)) lost
+      ∙ ap (λ k. told totals.symbols totals.frames restored (totals.frames - restored) k) (sym ends.left)
 
 -- ---- the lines
 
@@ -331,7 +339,8 @@ module _ {O : Type 0} (out : SinkOf O) where
       (none : before.outcomes ≡ 0) (none_restored : before.restored ≡ 0) where
     -- all outcomes were taken
     pub outcomes_put : (workers : ℕ) {totals : ReadCounts}
-        → TakesAll source (OutcomesTook out) input limit (leeway_for input workers) totals s s' before now
+        → TakesAll (course_of source (OutcomesTook out) input limit (leeway_for input workers)) totals (lent s before)
+        (lent s' now)
         → (now.out.ghost_name ≡ before.out.ghost_name) × ((bytes : List ℕ)
         × ReadsInput source input limit totals bytes s s'
         × (now.restored ≡ count_by is_restored (outcomes_of_bytes input bytes))
@@ -357,8 +366,8 @@ module _ {O : Type 0} (out : SinkOf O) where
 
     -- they were not
     pub outcomes_stopped : (workers : ℕ) (cause : Cause)
-        → TakesSome source (OutcomesTook out) input limit (leeway_for input workers) (OutcomesStopped out) cause s s'
-        before now
+        → TakesSome (course_of source (OutcomesTook out) input limit (leeway_for input workers)) (OutcomesStopped out)
+        cause (lent s before) (lent s' now)
         → (now.out.ghost_name ≡ before.out.ghost_name)
         × Prints (pipe_of source out) (decode_text input) (decode_due input workers) (decode_last input) limit cause
         (pipe s before.out.now) (pipe s' now.out.now)

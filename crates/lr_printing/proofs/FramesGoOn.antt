@@ -34,7 +34,7 @@ use Rattle.lr_reading.specs.Inputs.{outcome_of_unit}
 use Rattle.lr_reading.specs.Lines.{numbered_lines}
 use Rattle.lr_reading.specs.Reading.{unit_of, units_of, WhenLastAsked}
 use Rattle.lr_reading.specs.Readers.{leeway_for}
-use Rattle.lr_reading.specs.Runs.{ReadsInput, TakesAll, TakesSome}
+use Rattle.lr_reading.specs.Runs.{ReadsInput, TakesAll, TakesSome, course_of, lent}
 use Rattle.lr_reading.specs.declared.arrival.Arrival.{Arrival}
 use Rattle.lr_forms.specs.declared.forms.Input.TheVariants.{Units}
 use Rattle.lr_forms.specs.declared.forms.UnitForm.TheVariants.{Frames}
@@ -140,7 +140,8 @@ module _ {O : Type 0} (out : SinkOf O) where
       (none : before.frames ≡ 0) where
     -- all frames were taken
     pub frames_put : {totals : ReadCounts}
-        → TakesAll source (FramesTook out) (Units Frames) limit (leeway_for (Units Frames) 1) totals s s' before now
+        → TakesAll (course_of source (FramesTook out) (Units Frames) limit (leeway_for (Units Frames) 1)) totals
+        (lent s before) (lent s' now)
         → (now.out.ghost_name ≡ before.out.ghost_name) × ((bytes : List ℕ)
         × ReadsInput source (Units Frames) limit totals bytes s s'
         × Puts out (frames_text bytes) before.out.now now.out.now
@@ -163,8 +164,8 @@ module _ {O : Type 0} (out : SinkOf O) where
 
     -- they were not
     pub frames_stopped : (cause : Cause)
-        → TakesSome source (FramesTook out) (Units Frames) limit (leeway_for (Units Frames) 1) (FramesStopped out)
-        cause s s' before now
+        → TakesSome (course_of source (FramesTook out) (Units Frames) limit (leeway_for (Units Frames) 1))
+        (FramesStopped out) cause (lent s before) (lent s' now)
         → (now.out.ghost_name ≡ before.out.ghost_name)
         × Prints (pipe_of source out) frames_text frames_text frames_last limit cause (pipe s before.out.now)
         (pipe s' now.out.now)

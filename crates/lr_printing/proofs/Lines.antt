@@ -51,6 +51,7 @@ pub lines_stop : {O : Type 0} (out : SinkOf O) (front line : List ℕ) (o p o' :
     → (cause : Cause) → PutStops out line cause p o' → LinesStop out (front ++ line) cause o o'
 lines_stop out front line o p o' put (Failed Output) stop = record {
   told = λ tells. stop.told (put.told tells);
+  untold = λ tells. put.untold (stop.untold tells);
   part = λ tells.
       let cut = stop.part (put.told tells) in
       record {
@@ -64,6 +65,7 @@ lines_stop out front line o p o' put (Failed Output) stop = record {
 }
 lines_stop out front line o p o' put NoMemory stop = record {
   told = λ tells. subst (λ x. out.tells x) (sym stop) (put.told tells);
+  untold = λ tells. put.untold (subst (λ x. out.tells x) stop tells);
   front = λ tells. record { front = front; rest = line; split = refl; put = ap out.contents stop ∙ put.put tells };
   kept = ap out.faults stop ∙ put.kept;
 }
@@ -86,6 +88,7 @@ module _ {O : Type 0} (out : SinkOf O) (text : List Arrival → List ℕ) (arriv
   pub none_stopped : (o' : O) → Puts out (text arrivals) o o' → PutsSome out (text arrivals) o o'
   none_stopped o' put = record {
     told = put.told;
+    untold = put.untold;
     front = λ tells. record {
       front = text arrivals;
       rest = [];
@@ -207,8 +210,9 @@ module _ {S O : Type 0} (source : SourceOf S) (out : SinkOf O) (lines due : List
   pub none_read : (s : S) (o : O) → Prints (pipe_of source out) lines due last limit NoMemory (pipe s o) (pipe s o)
   none_read s o = record {
     bytes = [];
-    read = record { told = λ t. t; moved = λ t. refl; few = omega arith; asked = inl refl };
+    read = record { told = λ t. t; untold = λ t. t; moved = λ t. refl; few = omega arith; asked = inl refl };
     told = λ t. t;
+    untold = λ t. t;
     front = λ t. record { front = []; rest = lines []; split = refl; put = sym (append-nil (out.contents o)) };
     in_time = inl refl;
     out_count = refl;
@@ -223,6 +227,7 @@ module _ {S O : Type 0} (source : SourceOf S) (out : SinkOf O) (lines due : List
     bytes = bytes;
     read = read;
     told = stop.told;
+    untold = stop.untold;
     part = λ tells.
         let cut = stop.part tells in
         record {
@@ -240,6 +245,7 @@ module _ {S O : Type 0} (source : SourceOf S) (out : SinkOf O) (lines due : List
     bytes = bytes;
     read = read;
     told = stop.told;
+    untold = stop.untold;
     front = λ tells.
         let some = stop.front tells in
         record {
@@ -264,6 +270,7 @@ module _ {S O : Type 0} (source : SourceOf S) (out : SinkOf O) (lines due : List
       read = read;
       reason = reason;
       told = (puts_both out _ _ _ _ _ put more).told;
+      untold = (puts_both out _ _ _ _ _ put more).untold;
       put = λ tells. (puts_both out _ _ _ _ _ put more).put tells
           ∙ ap (λ l. out.contents o ++ (lines bytes ++ l)) (sym is);
       out_count = more.kept ∙ put.kept;
@@ -279,6 +286,7 @@ module _ {S O : Type 0} (source : SourceOf S) (out : SinkOf O) (lines due : List
       read = read;
       reason = reason;
       told = λ tells. failed.told (put.told tells);
+      untold = λ tells. put.untold (failed.untold tells);
       part = λ tells.
           let cut = failed.part (put.told tells) in
           record {
@@ -294,6 +302,7 @@ module _ {S O : Type 0} (source : SourceOf S) (out : SinkOf O) (lines due : List
       bytes = bytes;
       read = read;
       told = λ tells. subst (λ x. out.tells x) (sym same) (put.told tells);
+      untold = λ tells. put.untold (subst (λ x. out.tells x) same tells);
       front = λ tells. record {
         front = lines bytes;
         rest = [];
@@ -332,6 +341,7 @@ module _ {S O : Type 0} (world : PipeOf S O) (lines due fewer : List ℕ → Lis
     read = all.read;
     reason = all.reason;
     told = all.told;
+    untold = all.untold;
     put = all.put;
     out_count = all.out_count;
   })
@@ -340,6 +350,7 @@ module _ {S O : Type 0} (world : PipeOf S O) (lines due fewer : List ℕ → Lis
     read = all.read;
     reason = all.reason;
     told = all.told;
+    untold = all.untold;
     put = all.put;
     out_count = all.out_count;
   })
@@ -348,6 +359,7 @@ module _ {S O : Type 0} (world : PipeOf S O) (lines due fewer : List ℕ → Lis
     read = all.read;
     reason = all.reason;
     told = all.told;
+    untold = all.untold;
     put = all.put;
     out_count = all.out_count;
   }
@@ -355,6 +367,7 @@ module _ {S O : Type 0} (world : PipeOf S O) (lines due fewer : List ℕ → Lis
     bytes = cut.bytes;
     read = cut.read;
     told = cut.told;
+    untold = cut.untold;
     part = cut.part;
     in_time = fewer_put cut.bytes cut.in_time;
     rose = cut.rose;
@@ -365,6 +378,7 @@ module _ {S O : Type 0} (world : PipeOf S O) (lines due fewer : List ℕ → Lis
     read = cut.read;
     reason = cut.reason;
     told = cut.told;
+    untold = cut.untold;
     part = cut.part;
     rose = cut.rose;
   })
@@ -372,6 +386,7 @@ module _ {S O : Type 0} (world : PipeOf S O) (lines due fewer : List ℕ → Lis
     bytes = stops.bytes;
     read = stops.read;
     told = stops.told;
+    untold = stops.untold;
     front = stops.front;
     in_time = fewer_put stops.bytes stops.in_time;
     out_count = stops.out_count;

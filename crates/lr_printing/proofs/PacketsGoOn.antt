@@ -49,7 +49,7 @@ use Rattle.lr_causes.specs.Puts.{Puts, PutStops}
 use Rattle.lr_reading.specs.Arrivals.{arrivals_of, arrivals_of_units}
 use Rattle.lr_reading.specs.Reading.{units_of, WhenLastAsked}
 use Rattle.lr_reading.specs.Readers.{leeway_for}
-use Rattle.lr_reading.specs.Runs.{ReadsInput, TakesAll, TakesSome}
+use Rattle.lr_reading.specs.Runs.{ReadsInput, TakesAll, TakesSome, course_of, lent}
 use Rattle.lr_reading.specs.declared.arrival.Arrival.{Arrival}
 use Rattle.lr_forms.specs.declared.forms.Input.TheVariants.{Units}
 use Rattle.lr_forms.specs.declared.forms.UnitForm.TheVariants.{Frames}
@@ -263,7 +263,8 @@ module _ {O : Type 0} (out : SinkOf O) where
       (begun : PacketsTook out before [] before) where
     -- all frames were taken
     pub all_packets : {totals : ReadCounts}
-        → TakesAll source (PacketsTook out) (Units Frames) limit (leeway_for (Units Frames) 1) totals s s' before now
+        → TakesAll (course_of source (PacketsTook out) (Units Frames) limit (leeway_for (Units Frames) 1)) totals
+        (lent s before) (lent s' now)
         → (now.out.ghost_name ≡ before.out.ghost_name) × ((bytes : List ℕ)
         × ReadsInput source (Units Frames) limit totals bytes s s'
         × IsPacketCount now.counted (units_of FRAME_BYTES bytes)
@@ -290,8 +291,8 @@ module _ {O : Type 0} (out : SinkOf O) where
 
     -- they were not
     pub some_packets : (cause : Cause)
-        → TakesSome source (PacketsTook out) (Units Frames) limit (leeway_for (Units Frames) 1) (PacketsStopped out)
-        cause s s' before now
+        → TakesSome (course_of source (PacketsTook out) (Units Frames) limit (leeway_for (Units Frames) 1))
+        (PacketsStopped out) cause (lent s before) (lent s' now)
         → (now.out.ghost_name ≡ before.out.ghost_name)
         × Prints (pipe_of source out) packets_text packets_text packets_last limit cause (pipe s before.out.now)
         (pipe s' now.out.now)

@@ -4,6 +4,7 @@ use Rattle.std.specs.List.{list_all}
 use Rattle.lr_bits.specs.declared.outcome.Outcome.{Outcome}
 use Rattle.lr_bits.specs.Outcomes.{is_restored}
 use Rattle.lr_forms.specs.declared.forms.Stop.{Stop}
+use Rattle.lr_catalog.specs.declared.summary.DecodeSums.{DecodeSums}
 use Rattle.lr_catalog.specs.declared.summary.Summary.TheVariants.{Decode}
 use Rattle.lr_catalog.specs.Outcomes.{block_line, window_line}
 use Rattle.lr_catalog.specs.Summaries.{summary_line}
@@ -22,6 +23,7 @@ use Rattle.lr_reading.specs.Inputs.{unit_bytes, outcome_of_unit, outcomes_of_byt
 use Rattle.lr_reading.specs.Lines.{numbered_lines}
 use Rattle.lr_reading.specs.Readers.{most_when_asked}
 use Rattle.lr_reading.specs.Reading.{units_of}
+use Rattle.lr_reading.specs.declared.read_counts.ReadCounts.{ReadCounts}
 
 -- the lines of these blocks, each numbered by its place
 unfoldable pub lines_of_units : UnitForm → List (List ℕ) → List ℕ
@@ -63,11 +65,26 @@ decode_due (Symbols line) workers bytes =
     (all_but (windows_waiting line workers bytes) (frames_of (tail_of line) (symbols_of bytes)))
 decode_due (Units form) workers bytes = decode_text (Units form) bytes
 
+-- what the last line tells, where this many of the frames or blocks read were restored
+abbrev pub sums_of : ReadCounts → ℕ → DecodeSums
+sums_of totals restored = record {
+  symbols = totals.symbols;
+  frames = totals.frames;
+  restored = restored;
+  lost = totals.frames - restored;
+  left = totals.left;
+}
+
 -- how many bytes were taken, how many outcomes there are, of each kind, and how many bytes are left
 unfoldable pub decode_count : List Outcome → ℕ → ℕ → Stop → List ℕ
 decode_count outcomes symbols left stop =
-    summary_line (Decode symbols (length outcomes) (count_by is_restored outcomes)
-    (count_by (λ o. not (is_restored o)) outcomes) left) stop
+    summary_line (Decode (record {
+      symbols = symbols;
+      frames = length outcomes;
+      restored = count_by is_restored outcomes;
+      lost = count_by (λ o. not (is_restored o)) outcomes;
+      left = left;
+    })) stop
 
 abbrev pub decode_last : Input → List ℕ → Stop → List ℕ
 decode_last input bytes stop =

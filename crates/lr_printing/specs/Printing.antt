@@ -26,6 +26,7 @@ module _ {S O : Type 0} (world : PipeOf S O) (lines due : List ℕ → List ℕ)
     pub read : IsRead world.source limit bytes w.source w'.source
     pub reason : EndsFor world.source stop limit bytes w.source w'.source
     pub told : world.out.tells w.out → world.out.tells w'.out
+    pub untold : world.out.tells w'.out → world.out.tells w.out
     pub put : world.out.tells w.out
         → world.out.contents w'.out ≡ world.out.contents w.out ++ (lines bytes ++ last bytes stop)
     pub out_count : world.out.faults w'.out ≡ world.out.faults w.out
@@ -36,6 +37,7 @@ module _ {S O : Type 0} (world : PipeOf S O) (lines due : List ℕ → List ℕ)
     pub bytes : List ℕ
     pub read : IsRead world.source limit bytes w.source w'.source
     pub told : world.out.tells w.out → world.out.tells w'.out
+    pub untold : world.out.tells w'.out → world.out.tells w.out
     pub part : world.out.tells w.out
         → PutsPart (lines bytes) (world.out.contents w.out) (world.out.contents w'.out)
     pub in_time : WhenLastAsked world.source (λ given. GotFirst world.out (due given) w.out w'.out) bytes w.source
@@ -49,6 +51,7 @@ module _ {S O : Type 0} (world : PipeOf S O) (lines due : List ℕ → List ℕ)
     pub read : IsRead world.source limit bytes w.source w'.source
     pub reason : EndsFor world.source stop limit bytes w.source w'.source
     pub told : world.out.tells w.out → world.out.tells w'.out
+    pub untold : world.out.tells w'.out → world.out.tells w.out
     pub part : world.out.tells w.out
         → PutsPart (last bytes stop) (world.out.contents w.out ++ lines bytes)
         (world.out.contents w'.out)
@@ -60,6 +63,7 @@ module _ {S O : Type 0} (world : PipeOf S O) (lines due : List ℕ → List ℕ)
     pub bytes : List ℕ
     pub read : IsRead world.source limit bytes w.source w'.source
     pub told : world.out.tells w.out → world.out.tells w'.out
+    pub untold : world.out.tells w'.out → world.out.tells w.out
     pub front : world.out.tells w.out
         → PutsPrefix (lines bytes) (world.out.contents w.out) (world.out.contents w'.out)
     pub in_time : WhenLastAsked world.source (λ given. GotFirst world.out (due given) w.out w'.out) bytes w.source

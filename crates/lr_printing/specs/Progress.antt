@@ -20,6 +20,7 @@ module _ {O : Type 0} (out : SinkOf O) where
   -- a prefix of the text was put
   pub record PutsSome (text : List ℕ) (o o' : O) : Type 0 where
     pub told : out.tells o → out.tells o'
+    pub untold : out.tells o' → out.tells o
     pub front : out.tells o → PutsPrefix text (out.contents o) (out.contents o')
     pub kept : out.faults o' ≡ out.faults o
 

@@ -6,8 +6,8 @@ ghost use Rattle.lr_reading.specs.Inputs.{outcomes_of_bytes};
 ghost use Rattle.lr_reading.specs.Leading.{MayLead, Leads};
 ghost use Rattle.lr_reading.specs.Readers.{leeway_for};
 ghost use Rattle.lr_reading.specs.Reading.{WhenLastAsked};
-ghost use Rattle.lr_reading.specs.Runs.{ReadsInput, IsLed};
-ghost use Rattle.lr_printing.specs.Decode.{decode_text, decode_due, decode_last};
+ghost use Rattle.lr_reading.specs.Runs.{ReadsInput, IsLed, course_of, lent};
+ghost use Rattle.lr_printing.specs.Decode.{decode_text, decode_due, decode_last, sums_of};
 ghost use Rattle.lr_printing.specs.DecodeTaken.{OutcomesTook, OutcomesStopped};
 ghost use Rattle.lr_printing.specs.OutcomeLines.{outcome_text};
 ghost use Rattle.lr_printing.specs.Printing.{Prints};
@@ -15,7 +15,7 @@ ghost use Rattle.lr_causes.specs.Outside.{pipe, pipe_of};
 ghost use Rattle.lr_causes.specs.Puts.{Puts, PutStops};
 
 use lr_bits::{Bytes, NoMemory, Outcome};
-use lr_catalog::{Summary, block_line, summary_line, window_line};
+use lr_catalog::{DecodeSums, Summary, block_line, summary_line, window_line};
 use lr_causes::{Cause, cause_at, put_text};
 use lr_forms::{Input, MOST_WORKERS};
 use lr_frame::{FrameWork, Hand};
@@ -118,8 +118,8 @@ fn put_each_outcome<
     read: F,
 ) -> Result<(ReadCounts, u64), Cause>
     requires ready { MayLead (F.pre read) (OutcomesTook O.Sink) }
-    ensures all { (workers : ℕ) → Leads (F.post read) S.Source (OutcomesTook O.Sink)
-        (OutcomesStopped O.Sink) input most (leeway_for input workers)
+    ensures all { (workers : ℕ) → Leads (F.post read)
+        (course_of S.Source (OutcomesTook O.Sink) input most (leeway_for input workers)) (OutcomesStopped O.Sink)
         → IfOk result (λ sums. (bytes : List ℕ)
         × ReadsInput S.Source input most sums.0 bytes source.old source.new
         × (sums.1 ≡ count_by is_restored (outcomes_of_bytes input bytes))
@@ -127,8 +127,8 @@ fn put_each_outcome<
         × WhenLastAsked S.Source
         (λ given. (more : List ℕ) × (decode_text input bytes ≡ decode_due input workers given ++ more))
         bytes source.old source.new) }
-    ensures stopped { (workers : ℕ) → Leads (F.post read) S.Source (OutcomesTook O.Sink)
-        (OutcomesStopped O.Sink) input most (leeway_for input workers)
+    ensures stopped { (workers : ℕ) → Leads (F.post read)
+        (course_of S.Source (OutcomesTook O.Sink) input most (leeway_for input workers)) (OutcomesStopped O.Sink)
         → IfErr result (λ cause. Prints (pipe_of S.Source O.Sink) (decode_text input) (decode_due input workers)
         (decode_last input) most cause (pipe source.old out.old) (pipe source.new out.new)) }
 {
@@ -151,21 +151,18 @@ fn put_last<O: Sink>(
 ) -> Result<(), Cause>
     requires { restored ≤ totals.now.frames }
     ensures put { IfOk result (λ _. Puts O.Sink
-        (summary_line (Summary.Decode totals.now.symbols totals.now.frames restored
-        (totals.now.frames - restored) totals.now.left) totals.now.stop) out.old out.new) }
-    ensures stopped { IfErr result
-        (λ cause. PutStops O.Sink (summary_line
-        (Summary.Decode totals.now.symbols totals.now.frames restored
-        (totals.now.frames - restored) totals.now.left) totals.now.stop) cause out.old out.new) }
+        (summary_line (Summary.Decode (sums_of totals.now restored)) totals.now.stop) out.old out.new) }
+    ensures stopped { IfErr result (λ cause. PutStops O.Sink
+        (summary_line (Summary.Decode (sums_of totals.now restored)) totals.now.stop) cause out.old out.new) }
 {
     let mut line = Bytes::new(alloc);
-    let summary = Summary::Decode {
+    let summary = Summary::Decode(DecodeSums {
         symbols: totals.symbols,
         frames: totals.frames,
         restored,
         lost: totals.frames - restored,
         left: totals.left,
-    };
+    });
     summary_line(alloc, &summary, totals.stop, &mut line)?;
     put_text(line.as_slice(), out)
 }
@@ -177,10 +174,10 @@ fn decode_with<
     F: FnOnce(&mut S, &mut OutcomeLines<'_, O>) -> Result<ReadCounts, Cause>,
 >(alloc: Global, input: Input, most: u64, source: &mut S, out: &mut O, read: F) -> Cause
     requires ready { MayLead (F.pre read) (OutcomesTook O.Sink) }
-    requires leads { (workers : ℕ) × Leads (F.post read) S.Source (OutcomesTook O.Sink)
-        (OutcomesStopped O.Sink) input most (leeway_for input workers) }
-    ensures { (workers : ℕ) → Leads (F.post read) S.Source (OutcomesTook O.Sink)
-        (OutcomesStopped O.Sink) input most (leeway_for input workers)
+    requires leads { (workers : ℕ) × Leads (F.post read)
+        (course_of S.Source (OutcomesTook O.Sink) input most (leeway_for input workers)) (OutcomesStopped O.Sink) }
+    ensures { (workers : ℕ) → Leads (F.post read)
+        (course_of S.Source (OutcomesTook O.Sink) input most (leeway_for input workers)) (OutcomesStopped O.Sink)
         → Prints (pipe_of S.Source O.Sink) (decode_text input) (decode_due input workers) (decode_last input) most
         result (pipe source.old out.old) (pipe source.new out.new) }
 {
@@ -220,9 +217,9 @@ pub fn decode_alone<S: Source, O: Sink>(
         |source, lines| -> Result<ReadCounts, Cause>
             requires { ((reader.workers ≡ 1) × (reader.most ≤ 2 ^ 48))
                 × ((first : _) × OutcomesTook O.Sink first [] lines.old) }
-            ensures { IsLed S.Source (OutcomesTook O.Sink) reader.input reader.most
-                (leeway_for reader.input reader.workers)
-                (OutcomesStopped O.Sink) result source.old source.new lines.old lines.new }
+            ensures { IsLed (course_of S.Source (OutcomesTook O.Sink) reader.input reader.most
+                (leeway_for reader.input reader.workers)) (OutcomesStopped O.Sink) result
+                (lent source.old lines.old) (lent source.new lines.new) }
         { reader.read_alone(source, lines) },
     )
 }
@@ -256,9 +253,9 @@ pub fn decode<R: Threads + Wait + Sync, H: Hand, S: Source, O: Sink>(
         |source, lines| -> Result<ReadCounts, Cause>
             requires { (reader.most ≤ 2 ^ 48) × ((first : _)
                 × OutcomesTook O.Sink first [] lines.old) }
-            ensures { IsLed S.Source (OutcomesTook O.Sink) reader.input reader.most
-                (leeway_for reader.input reader.workers)
-                (OutcomesStopped O.Sink) result source.old source.new lines.old lines.new }
+            ensures { IsLed (course_of S.Source (OutcomesTook O.Sink) reader.input reader.most
+                (leeway_for reader.input reader.workers)) (OutcomesStopped O.Sink) result
+                (lent source.old lines.old) (lent source.new lines.new) }
         { reader.read(rt, source, lines) },
     )
 }

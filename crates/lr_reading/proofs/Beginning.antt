@@ -6,8 +6,9 @@ use Rattle.lr_conv.specs.declared.line.LineCode.{LineCode}
 use Rattle.lr_io.specs.declared.source.Source.{Ghosts as SourceOf}
 use Rattle.lr_lock.specs.Windows.{WindowView}
 use Rattle.lr_rounds.specs.JobSources.{HasGivenNothing}
-use Rattle.lr_reading.specs.Feeding.{FeedState, IsFreshFeed, FedSoFar}
+use Rattle.lr_reading.specs.Feeding.{FeedState, IsFreshFeed, FedSoFar, symbols_from, taken_since}
 use Rattle.lr_reading.specs.Intakes.{IsFreshIntake}
+use Rattle.lr_reading.specs.Reading.{at_source}
 use Rattle.lr_reading.specs.WindowSources.{StandsAt}
 use Rattle.lr_reading.specs.declared.arrival.Arrival.{Arrival}
 use Rattle.lr_reading.specs.declared.window_source.WindowSource.{WindowSource}
@@ -16,7 +17,8 @@ use Rattle.lr_reading.proofs.Coming.{arrivals_given-none}
 
 -- nothing is taken
 fed_begun : {S : Type 0} (source : SourceOf S) (line : LineCode) (limit : ℕ) (now : FeedState)
-    → now.lock.line ≡ line → IsFreshFeed limit now → (s : S) → FedSoFar source line [] [] now s s
+    → now.lock.line ≡ line → IsFreshFeed limit now → (s : S) → FedSoFar (symbols_from source line)
+    (taken_since s [] []) (at_source now s)
 fed_begun source line limit now is fresh s = record {
   stands = fresh.stands;
   line_is = is;
@@ -24,6 +26,7 @@ fed_begun source line limit now is fresh s = record {
   few = omega (arith, fresh.taken);
   passed = omega (arith, fresh.taken, ap length fresh.stands.rest, ap length (drop-nil {A = ℤ} now.lock.place));
   told = λ t. t;
+  untold = λ t. t;
   moved = λ t. refl;
   asked = inl refl;
   going_on = λ e. came_none source s;

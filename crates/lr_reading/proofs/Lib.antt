@@ -6,8 +6,9 @@ pub mod Feeding
 pub mod Fronts
 pub mod Gathering
 pub mod WindowJobs
+pub mod WindowGiving
 pub mod WindowLeading
-pub mod Led
+pub mod WindowLed
 pub mod Numbered
 pub mod Outcomes
 pub mod Refusing

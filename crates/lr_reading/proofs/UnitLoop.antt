@@ -29,11 +29,12 @@ use Rattle.lr_bits.specs.declared.sizes.TheConstants.{FRAME_BYTES}
 use Rattle.lr_io.specs.declared.source.Source.{Ghosts as SourceOf}
 use Rattle.lr_forms.specs.declared.forms.Stop.{Stop}
 use Rattle.lr_reading.specs.Arrivals.{arrival_of, arrivals_of_units, arrivals_of}
-use Rattle.lr_reading.specs.Gathering.{UnitState, IsShortOfOne, Gathers, GathersFor, GathersOn, ReadsUnits, EndsUnits}
+use Rattle.lr_reading.specs.Gathering.{UnitSizes, UnitState, IsShortOfOne, Gathers, GathersFor, GathersOn}
+use Rattle.lr_reading.specs.Gathering.{ReadsUnits, EndsUnits}
 use Rattle.lr_reading.specs.Inputs.{unit_bytes, outcome_of_unit}
-use Rattle.lr_reading.specs.Reading.{EndsFor, units_of}
+use Rattle.lr_reading.specs.Reading.{EndsFor, at_source, units_of}
 use Rattle.lr_reading.specs.Readers.{leeway_for}
-use Rattle.lr_reading.specs.Runs.{ComesFirstBut, TakesAll, TakesSome}
+use Rattle.lr_reading.specs.Runs.{ComesFirstBut, TakesAll, TakesSome, course_of, lent}
 use Rattle.lr_reading.specs.declared.arrival.Arrival.{Arrival}
 use Rattle.lr_forms.specs.declared.forms.Input.TheVariants.{Units}
 use Rattle.lr_forms.specs.declared.forms.UnitForm.{UnitForm}
@@ -80,11 +81,14 @@ pub record UnitsTaken {S C : Type 0} (source : SourceOf S) (took : C → List Ar
   pub units : List (List ℕ)
   pub count : frames ≡ length units
   pub empty : now.held ≡ []
-  pub reads : ReadsUnits source n limit units now s s'
+  pub reads : ReadsUnits source (record { unit = n; limit = limit }) units s (at_source now s')
   pub taken : (c : C) → took c [] before → took c (arrivals_of_units form units) after
 
 module _ {S C : Type 0} (source : SourceOf S) (took : C → List Arrival → C → Type 0) (form : UnitForm) (n limit : ℕ)
     (size : n ≡ unit_bytes form) where
+  abbrev sizes : UnitSizes
+  sizes = record { unit = n; limit = limit }
+
   -- nothing is read
   pub units_begun : (now : UnitState) → now ≡ record { held = []; taken = 0; most = limit } → (s : S) (before : C)
       → UnitsTaken source took form n limit 0 now s s before before
@@ -92,7 +96,7 @@ module _ {S C : Type 0} (source : SourceOf S) (took : C → List Arrival → C �
     units = [];
     count = refl;
     empty = ap (λ (u : UnitState). u.held) fresh;
-    reads = subst (λ (u : UnitState). ReadsUnits source n limit [] u s s) (sym fresh) (begun source n limit s);
+    reads = subst (λ (u : UnitState). ReadsUnits source sizes [] s (at_source u s)) (sym fresh) (begun source sizes s);
     taken = λ c none. subst (λ (l : List Arrival). took c l before) (sym (arrivals_of_units-none form)) none;
   }
 
@@ -116,9 +120,9 @@ module _ {S C : Type 0} (source : SourceOf S) (took : C → List Arrival → C �
 
   module _ {frames : ℕ} {now next : UnitState} {s t s' : S} {before after : C}
       (so : UnitsTaken source took form n limit frames now s t before after)
-      (more : GathersOn source n now next t s') (whole : length next.held ≡ n) where
-    reads_now : ReadsUnits source n limit so.units next s s'
-    reads_now = gathered_more source n limit so.reads more
+      (more : GathersOn source n (at_source now t) (at_source next s')) (whole : length next.held ≡ n) where
+    reads_now : ReadsUnits source sizes so.units s (at_source next s')
+    reads_now = gathered_more source sizes so.reads more
 
     fits : n * length so.units + n ≤ limit
     fits = omega (
@@ -160,11 +164,13 @@ module _ {S C : Type 0} (source : SourceOf S) (took : C → List Arrival → C �
       pub units_stopped : {Cause : Type 0} (stopped : C → List Arrival → Cause → C → Type 0) (cause : Cause) (now' : C)
           → ((c : C) (arrivals : List Arrival) → took c arrivals after
           → stopped c (arrivals ++ arrival ∷ []) cause now')
-          → TakesSome source took (Units form) limit (leeway_for (Units form) 1) stopped cause s s' before now'
+          → TakesSome (course_of source took (Units form) limit (leeway_for (Units form) 1)) stopped cause
+          (lent s before) (lent s' now')
       units_stopped {Cause} stopped cause now' stops = record {
         bytes = concat so.units ++ next.held;
         read = record {
           told = reads_now.told;
+          untold = reads_now.untold;
           moved = reads_now.moved;
           few = omega (arith, reads_now.few, reads_now.taken);
           asked = stops_asking source (IsShortOfOne n so.units) (concat so.units ++ next.held) s s' reads_now.in_need;
@@ -211,8 +217,8 @@ module _ {S C : Type 0} (source : SourceOf S) (took : C → List Arrival → C �
         units = so.units ++ next.held ∷ [];
         count = omega (arith, so.count, length-append so.units (next.held ∷ []));
         empty = ap (λ (u : UnitState). u.held) is_empty;
-        reads = subst (λ (u : UnitState). ReadsUnits source n limit (so.units ++ next.held ∷ []) u s s')
-            (sym is_empty) (cleared source n limit reads_now whole);
+        reads = subst (λ (u : UnitState). ReadsUnits source sizes (so.units ++ next.held ∷ []) s (at_source u s'))
+            (sym is_empty) (cleared source sizes reads_now whole);
         taken = λ c none.
             subst (λ (l : List Arrival). took c l now') (sym one_more)
             (takes c (arrivals_of_units form so.units) (so.taken c none));
@@ -220,9 +226,10 @@ module _ {S C : Type 0} (source : SourceOf S) (took : C → List Arrival → C �
 
   module _ {frames : ℕ} {now next : UnitState} {s t s' : S} {before after : C}
       (so : UnitsTaken source took form n limit frames now s t before after)
-      (stop : Stop) (more : Gathers source n now next t s') (why : GathersFor source n (Ended stop) next t s') where
-    end : EndsUnits source n limit so.units (length next.held) stop s s'
-    end = ended source n limit stop so.reads more why
+      (stop : Stop) (more : Gathers source n (at_source now t) (at_source next s'))
+      (why : GathersFor source n (Ended stop) t (at_source next s')) where
+    end : EndsUnits source sizes so.units (length next.held) stop s s'
+    end = ended source sizes so.reads more stop why
 
     come : arrivals_of (Units form) (concat so.units ++ end.held) ≡ arrivals_of_units form so.units
     come =
@@ -249,7 +256,8 @@ module _ {S C : Type 0} (source : SourceOf S) (took : C → List Arrival → C �
     -- the units ended
     pub units_ended : (totals : ReadCounts) → totals.stop ≡ stop → totals.symbols ≡ next.taken → totals.frames ≡ frames
         → totals.left ≡ length next.held
-        → TakesAll source took (Units form) limit (leeway_for (Units form) 1) totals s s' before after
+        → TakesAll (course_of source took (Units form) limit (leeway_for (Units form) 1)) totals (lent s before)
+        (lent s' after)
     units_ended totals stops symbols frames_is left = record {
       bytes = concat so.units ++ end.held;
       ends = record {

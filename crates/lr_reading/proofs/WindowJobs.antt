@@ -27,10 +27,8 @@ use Rattle.std.proofs.lemmas.List.{length-map}
 use Rattle.std.proofs.lemmas.List.Elements.{All-head, All-tail, All-push}
 use Rattle.lr_conv.specs.declared.line.LineCode.{LineCode}
 use Rattle.lr_lock.specs.Windows.{WindowView}
-use Rattle.lr_lock.specs.declared.frame.Frame.{Frame}
 use Rattle.lr_gate.proofs.Seats.{All-last, All-front}
-use Rattle.lr_reading.specs.Feeding.{arrivals_given}
-use Rattle.lr_reading.specs.WindowSources.{arrival_of_window, AreOfLine, HasWindowJobs, first_arrivals}
+use Rattle.lr_reading.specs.WindowSources.{arrival_of_window, AreOfLine, HasWindowJobs}
 use Rattle.lr_reading.specs.declared.arrival.Arrival.{Arrival}
 use Rattle.lr_reading.specs.declared.intake.Intake.{Intake}
 
@@ -46,10 +44,10 @@ take_more f [] n x e = absurd (some-ne-none x (sym e))
 take_more {X} {Y} f (y ∷ ys) zero x e = ap (λ (z : X). f z ∷ []) (some-injective y x e)
 take_more {X} {Y} f (y ∷ ys) (suc n) x e = ap (λ (l : List Y). f y ∷ l) (take_more f ys n x e)
 
-module _ {line : LineCode} {bytes : List ℕ} {given : List Frame} {windows : List WindowView} {kept : ℕ}
-    {intake : Intake} (jobs : HasWindowJobs line bytes given windows kept intake) where
+module _ {line : LineCode} {arrivals : List Arrival} {windows : List WindowView} {kept : ℕ} {intake : Intake}
+    (jobs : HasWindowJobs line arrivals windows kept intake) where
   -- there is an arrival for each window
-  pub as_many : length (arrivals_given line bytes given) ≡ length windows
+  pub as_many : length arrivals ≡ length windows
   as_many = ap (λ (l : List Arrival). length l) (sym jobs.jobs) ∙ length-map windows arrival_of_window
 
   module _ (j : WindowView) (at : get_elem? windows kept ≡ some j) where
@@ -58,8 +56,7 @@ module _ {line : LineCode} {bytes : List ℕ} {given : List Frame} {windows : Li
     oldest_line = at_all (λ (w : WindowView). w.line ≡ line) windows kept j jobs.job_lines at
 
     -- what becomes of it is the next arrival
-    pub handed_more : first_arrivals line bytes given (kept + 1)
-        ≡ first_arrivals line bytes given kept ++ arrival_of_window j ∷ []
+    pub handed_more : take (kept + 1) arrivals ≡ take kept arrivals ++ arrival_of_window j ∷ []
     handed_more = subst (λ (l : List Arrival). take (kept + 1) l ≡ take kept l ++ arrival_of_window j ∷ [])
         jobs.jobs (ap (λ (k : ℕ). take k (map arrival_of_window windows))
         (let e : kept + 1 ≡ suc kept = omega arith in e)

@@ -42,7 +42,7 @@ use Rattle.lr_reading.specs.declared.next.Found.{Found}
 use Rattle.lr_reading.specs.declared.next.Found.TheVariants.{Whole, Noise, Ended}
 use Rattle.lr_reading.specs.Arrivals.{arrival_in, arrivals_of}
 use Rattle.lr_reading.specs.Readers.{most_kept}
-use Rattle.lr_reading.specs.Reading.{AsksOnce, CameInPieces, LastCall, StopsAsking, EndsFor}
+use Rattle.lr_reading.specs.Reading.{AsksOnce, CameInPieces, LastCall, AtSource, StopsAsking, EndsFor}
 use Rattle.lr_reading.specs.declared.arrival.Arrival.{Arrival}
 
 -- the lock, how many bytes were taken and the most that may be, and why no more are taken
@@ -106,22 +106,41 @@ abbrev pub MayAsk : LineCode → Type 0 → List ℕ → List Frame → List ℕ
 MayAsk line IsUnderWay bytes given some = HasOneMore line (arrivals_given line bytes given) some
     × (IsUnderWay → EndsInFrame line given some)
 
+-- a source of symbols: what is said of it, and the line code of what it gives
+pub record SymbolSource (S : Type 0) : Type 1 where
+  pub source : SourceOf S
+  pub line : LineCode
+
+abbrev pub symbols_from : {S : Type 0} → SourceOf S → LineCode → SymbolSource S
+symbols_from source line = record { source = source; line = line }
+
+-- the bytes that were taken since the source was the first one, and the frames that were given of them
+pub record Taken (S : Type 0) : Type 0 where
+  pub first : S
+  pub bytes : List ℕ
+  pub given : List Frame
+
+abbrev pub taken_since : {S : Type 0} → S → List ℕ → List Frame → Taken S
+taken_since first bytes given = record { first = first; bytes = bytes; given = given }
+
 module _ {S : Type 0} (source : SourceOf S) where
   -- a piece of the source was fed
-  pub record FeedsPiece (before now : FeedState) (s s' : S) : Type 0 where
+  pub record FeedsPiece (before now : AtSource FeedState S) : Type 0 where
     pub piece : List ℕ
     pub some : 0 < length piece
-    pub lock_is : now.lock ≡ record before.lock { kept = before.lock.kept ++ symbols_of piece }
-    pub stands : (fed : List ℤ) (given : List Frame) → LockStandsFor before.lock fed given
-        → LockStandsFor now.lock (fed ++ symbols_of piece) given
-    pub taken : now.taken ≡ before.taken + length piece
-    pub most_stays : now.most ≡ before.most
-    pub few : now.taken ≤ now.most
-    pub fits : length now.lock.kept ≤ lock_symbols
-    pub told : source.tells s → source.tells s'
-    pub moved : source.tells s → source.left s ≡ piece ++ source.left s'
-    pub kept : source.faults s' ≡ source.faults s
-    pub asked : AsksOnce source s piece s'
+    pub lock_is : now.state.lock
+        ≡ record (before.state.lock) { kept = before.state.lock.kept ++ symbols_of piece }
+    pub stands : (fed : List ℤ) (given : List Frame) → LockStandsFor before.state.lock fed given
+        → LockStandsFor now.state.lock (fed ++ symbols_of piece) given
+    pub taken : now.state.taken ≡ before.state.taken + length piece
+    pub most_stays : now.state.most ≡ before.state.most
+    pub few : now.state.taken ≤ now.state.most
+    pub fits : length now.state.lock.kept ≤ lock_symbols
+    pub told : source.tells before.source → source.tells now.source
+    pub untold : source.tells now.source → source.tells before.source
+    pub moved : source.tells before.source → source.left before.source ≡ piece ++ source.left now.source
+    pub kept : source.faults now.source ≡ source.faults before.source
+    pub asked : AsksOnce source before.source piece now.source
 
   -- why nothing was fed
   abbrev pub FeedsNoneFor : Stop → FeedState → S → S → Type 0
@@ -131,72 +150,80 @@ module _ {S : Type 0} (source : SourceOf S) where
   FeedsNoneFor Fault before s s' = (before.taken < before.most) × Rose (source.faults s) (source.faults s')
 
   -- nothing was fed
-  pub record FeedsNone (stop : Stop) (before now : FeedState) (s s' : S) : Type 0 where
-    pub same : now ≡ before
-    pub told : source.tells s → source.tells s'
-    pub moved : source.tells s → source.left s' ≡ source.left s
-    pub why : FeedsNoneFor stop before s s'
-    pub asked : (s' ≡ s) ⊎ AsksOnce source s [] s'
+  pub record FeedsNone (stop : Stop) (before now : AtSource FeedState S) : Type 0 where
+    pub same : now.state ≡ before.state
+    pub told : source.tells before.source → source.tells now.source
+    pub untold : source.tells now.source → source.tells before.source
+    pub moved : source.tells before.source → source.left now.source ≡ source.left before.source
+    pub why : FeedsNoneFor stop before.state before.source now.source
+    pub asked : (now.source ≡ before.source) ⊎ AsksOnce source before.source [] now.source
 
-  abbrev pub FeedsOrStops : Option Stop → FeedState → FeedState → S → S → Type 0
-  FeedsOrStops None before now s s' = FeedsPiece before now s s'
-  FeedsOrStops (Some stop) before now s s' = FeedsNone stop before now s s'
+  abbrev pub FeedsOrStops : Option Stop → AtSource FeedState S → AtSource FeedState S → Type 0
+  FeedsOrStops None before now = FeedsPiece before now
+  FeedsOrStops (Some stop) before now = FeedsNone stop before now
 
--- symbols of this line code
-module _ {S : Type 0} (source : SourceOf S) (line : LineCode) where
+module _ {S : Type 0} (symbols : SymbolSource S) where
   -- these bytes were taken, and these frames given of them
-  pub record FedSoFar (bytes : List ℕ) (given : List Frame) (now : FeedState) (s s' : S) : Type 0 where
-    pub stands : LockStandsFor now.lock (symbols_of bytes) given
-    pub line_is : now.lock.line ≡ line
-    pub long : now.taken ≡ length bytes
-    pub few : now.taken ≤ now.most
-    pub passed : FRAME_SYMBOLS * length given + length now.lock.kept ≤ now.taken
-    pub told : source.tells s → source.tells s'
-    pub moved : source.tells s → source.left s ≡ bytes ++ source.left s'
-    pub asked : StopsAsking source bytes s s'
-    pub going_on : now.lock.finished ≡ false → CameInPieces source bytes s s'
-    pub ended : now.lock.finished ≡ true → EndsFor source now.stop now.most bytes s s'
+  pub record FedSoFar (so_far : Taken S) (now : AtSource FeedState S) : Type 0 where
+    pub stands : LockStandsFor now.state.lock (symbols_of so_far.bytes) so_far.given
+    pub line_is : now.state.lock.line ≡ symbols.line
+    pub long : now.state.taken ≡ length so_far.bytes
+    pub few : now.state.taken ≤ now.state.most
+    pub passed : FRAME_SYMBOLS * length so_far.given + length now.state.lock.kept ≤ now.state.taken
+    pub told : symbols.source.tells so_far.first → symbols.source.tells now.source
+    pub untold : symbols.source.tells now.source → symbols.source.tells so_far.first
+    pub moved : symbols.source.tells so_far.first
+        → symbols.source.left so_far.first ≡ so_far.bytes ++ symbols.source.left now.source
+    pub asked : StopsAsking symbols.source so_far.bytes so_far.first now.source
+    pub going_on : now.state.lock.finished ≡ false
+        → CameInPieces symbols.source so_far.bytes so_far.first now.source
+    pub ended : now.state.lock.finished ≡ true
+        → EndsFor symbols.source now.state.stop now.state.most so_far.bytes so_far.first now.source
 
   -- after these bytes the source wasn't asked, or only once the lock had looked
-  abbrev pub LooksFirst : Type 0 → List ℕ → List ℕ → List Frame → S → S → S → Type 0
-  LooksFirst IsUnderWay bytes all given s t s' =
-      ((all ≡ bytes) × (s' ≡ t)) ⊎ LastCall source (MayAsk line IsUnderWay bytes given) all s s'
+  abbrev pub LooksFirst : Type 0 → AtSource (Taken S) S → List ℕ → S → Type 0
+  LooksFirst IsUnderWay before all s' =
+      ((all ≡ before.state.bytes) × (s' ≡ before.source))
+      ⊎ LastCall symbols.source (MayAsk symbols.line IsUnderWay before.state.bytes before.state.given) all
+      before.state.first s'
 
   -- more bytes were taken; what comes of the frames given stays
-  pub record FeedsOn (IsUnderWay : Type 0) (bytes : List ℕ) (given : List Frame) (now : FeedState) (s t s' : S)
-      : Type 0 where
+  pub record FeedsOn (IsUnderWay : Type 0) (before : AtSource (Taken S) S) (now : AtSource FeedState S) : Type 0 where
     pub all : List ℕ
-    pub so_far : FedSoFar all given now s s'
-    pub looks : LooksFirst IsUnderWay bytes all given s t s'
-    pub near : IsUnderWay → StaysNear bytes given all
-    pub same : arrivals_given line all given ≡ arrivals_given line bytes given
+    pub so_far : FedSoFar (taken_since before.state.first all before.state.given) now
+    pub looks : LooksFirst IsUnderWay before all now.source
+    pub near : IsUnderWay → StaysNear before.state.bytes before.state.given all
+    pub same : arrivals_given symbols.line all before.state.given
+        ≡ arrivals_given symbols.line before.state.bytes before.state.given
 
   -- the next frame was given
-  pub record GivesFrame (IsUnderWay : Type 0) (bytes : List ℕ) (given : List Frame) (now : FeedState)
-      (window : WindowView) (s t s' : S) : Type 0 where
+  pub record GivesFrame (IsUnderWay : Type 0) (before : AtSource (Taken S) S) (window : WindowView)
+      (now : AtSource FeedState S) : Type 0 where
     pub all : List ℕ
     pub frame : Frame
-    pub so_far : FedSoFar all (given ++ frame ∷ []) now s s'
-    pub looks : LooksFirst IsUnderWay bytes all given s t s'
-    pub near : IsUnderWay → StaysNear bytes given all
+    pub so_far : FedSoFar (taken_since before.state.first all (before.state.given ++ frame ∷ [])) now
+    pub looks : LooksFirst IsUnderWay before all now.source
+    pub near : IsUnderWay → StaysNear before.state.bytes before.state.given all
     pub whole : place_after_frame frame ≤ length all
     pub ahead : length all ≤ place_after_frame frame + most_kept
-    pub window_is : window ≡ window_view line (symbols_of all) frame
-    pub same : arrivals_given line all given ≡ arrivals_given line bytes given
+    pub window_is : window ≡ window_view symbols.line (symbols_of all) frame
+    pub same : arrivals_given symbols.line all before.state.given
+        ≡ arrivals_given symbols.line before.state.bytes before.state.given
 
   -- there is none: all frames were given
-  pub record EndsFrames (IsUnderWay : Type 0) (stop : Stop) (bytes : List ℕ) (given : List Frame) (now : FeedState)
-      (s t s' : S) : Type 0 where
+  pub record EndsFrames (IsUnderWay : Type 0) (stop : Stop) (before : AtSource (Taken S) S) (now : AtSource FeedState S)
+      : Type 0 where
     pub all : List ℕ
-    pub so_far : FedSoFar all given now s s'
-    pub looks : LooksFirst IsUnderWay bytes all given s t s'
-    pub near : IsUnderWay → StaysNear bytes given all
-    pub closed : now.lock.finished ≡ true
-    pub stop_is : now.stop ≡ stop
-    pub every : AreFrames (tail_of line) (symbols_of all) given
-    pub same : arrivals_given line all given ≡ arrivals_given line bytes given
+    pub so_far : FedSoFar (taken_since before.state.first all before.state.given) now
+    pub looks : LooksFirst IsUnderWay before all now.source
+    pub near : IsUnderWay → StaysNear before.state.bytes before.state.given all
+    pub closed : now.state.lock.finished ≡ true
+    pub stop_is : now.state.stop ≡ stop
+    pub every : AreFrames (tail_of symbols.line) (symbols_of all) before.state.given
+    pub same : arrivals_given symbols.line all before.state.given
+        ≡ arrivals_given symbols.line before.state.bytes before.state.given
 
-  abbrev pub Feeds : Type 0 → Found → List ℕ → List Frame → FeedState → WindowView → S → S → S → Type 0
-  Feeds IsUnderWay Whole bytes given now window s t s' = GivesFrame IsUnderWay bytes given now window s t s'
-  Feeds IsUnderWay Noise bytes given now window s t s' = FeedsOn IsUnderWay bytes given now s t s' × IsUnderWay
-  Feeds IsUnderWay (Ended stop) bytes given now window s t s' = EndsFrames IsUnderWay stop bytes given now s t s'
+  abbrev pub Feeds : Type 0 → Found → AtSource (Taken S) S → WindowView → AtSource FeedState S → Type 0
+  Feeds IsUnderWay Whole before window now = GivesFrame IsUnderWay before window now
+  Feeds IsUnderWay Noise before window now = FeedsOn IsUnderWay before now × IsUnderWay
+  Feeds IsUnderWay (Ended stop) before window now = EndsFrames IsUnderWay stop before now

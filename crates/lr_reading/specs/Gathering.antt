@@ -7,7 +7,7 @@ use Rattle.lr_forms.specs.declared.forms.Stop.{Stop}
 use Rattle.lr_forms.specs.declared.forms.Stop.TheVariants.{End, Limit, Fault}
 use Rattle.lr_reading.specs.declared.next.Next.{Next}
 use Rattle.lr_reading.specs.declared.next.Next.TheVariants.{Whole, Ended}
-use Rattle.lr_reading.specs.Reading.{CameInPieces, LastCall, WhenLastAsked, IsRead, EndsFor}
+use Rattle.lr_reading.specs.Reading.{CameInPieces, LastCall, AtSource, WhenLastAsked, IsRead, EndsFor}
 
 -- the bytes of the unit so far, how many bytes were taken in all, and the most that may be
 pub record UnitState : Type 0 where
@@ -24,56 +24,66 @@ pub record IsShortOfOne (n : ℕ) (units : List (List ℕ)) (bytes : List ℕ) :
   pub short : length begun < n
   pub is : bytes ≡ concat first ++ begun
 
+-- how many bytes a unit has, and how many are taken at most
+pub record UnitSizes : Type 0 where
+  pub unit : ℕ
+  pub limit : ℕ
+
 module _ {S : Type 0} (source : SourceOf S) where
   -- why a unit of n bytes was gathered no further
-  abbrev pub GathersFor : ℕ → Next → UnitState → S → S → Type 0
-  GathersFor n Whole now s s' = length now.held ≡ n
-  GathersFor n (Ended End) now s s' =
-      (length now.held < n) × (now.taken < now.most) × (source.tells s → source.left s' ≡ [])
-      × (source.faults s' ≡ source.faults s)
-  GathersFor n (Ended Limit) now s s' =
-      (length now.held < n) × (now.taken ≡ now.most) × (source.faults s' ≡ source.faults s)
-  GathersFor n (Ended Fault) now s s' =
-      (length now.held < n) × (now.taken < now.most) × Rose (source.faults s) (source.faults s')
+  abbrev pub GathersFor : ℕ → Next → S → AtSource UnitState S → Type 0
+  GathersFor n Whole s now = length now.state.held ≡ n
+  GathersFor n (Ended End) s now =
+      (length now.state.held < n) × (now.state.taken < now.state.most)
+      × (source.tells s → source.left now.source ≡ []) × (source.faults now.source ≡ source.faults s)
+  GathersFor n (Ended Limit) s now =
+      (length now.state.held < n) × (now.state.taken ≡ now.state.most)
+      × (source.faults now.source ≡ source.faults s)
+  GathersFor n (Ended Fault) s now =
+      (length now.state.held < n) × (now.state.taken < now.state.most)
+      × Rose (source.faults s) (source.faults now.source)
 
   -- a piece of the source stands after what was held; the source was only asked while a unit of n bytes wasn't whole
-  pub record Gathers (n : ℕ) (before now : UnitState) (s s' : S) : Type 0 where
+  pub record Gathers (n : ℕ) (before now : AtSource UnitState S) : Type 0 where
     pub piece : List ℕ
-    pub held : now.held ≡ before.held ++ piece
-    pub taken : now.taken ≡ before.taken + length piece
-    pub most : now.most ≡ before.most
-    pub few : now.taken ≤ now.most
-    pub told : source.tells s → source.tells s'
-    pub moved : source.tells s → source.left s ≡ piece ++ source.left s'
-    pub in_need : ((piece ≡ []) × (s' ≡ s))
-        ⊎ LastCall source (λ given. length (before.held ++ given) < n) piece s s'
+    pub held : now.state.held ≡ before.state.held ++ piece
+    pub taken : now.state.taken ≡ before.state.taken + length piece
+    pub most : now.state.most ≡ before.state.most
+    pub few : now.state.taken ≤ now.state.most
+    pub told : source.tells before.source → source.tells now.source
+    pub untold : source.tells now.source → source.tells before.source
+    pub moved : source.tells before.source → source.left before.source ≡ piece ++ source.left now.source
+    pub in_need : ((piece ≡ []) × (now.source ≡ before.source))
+        ⊎ LastCall source (λ given. length (before.state.held ++ given) < n) piece before.source now.source
 
   -- and each call gave some bytes
-  abbrev pub GathersOn : (n : ℕ) → UnitState → UnitState → S → S → Type 0
-  GathersOn n before now s s' = (all : Gathers n before now s s') × CameInPieces source all.piece s s'
+  abbrev pub GathersOn : (n : ℕ) → AtSource UnitState S → AtSource UnitState S → Type 0
+  GathersOn n before now =
+      (all : Gathers n before now) × CameInPieces source all.piece before.source now.source
 
   -- so it is where the unit is whole
-  abbrev pub GathersUpTo : ℕ → Next → UnitState → UnitState → S → S → Type 0
-  GathersUpTo n Whole before now s s' = GathersOn n before now s s'
-  GathersUpTo n (Ended stop) before now s s' = Gathers n before now s s'
+  abbrev pub GathersUpTo : ℕ → Next → AtSource UnitState S → AtSource UnitState S → Type 0
+  GathersUpTo n Whole before now = GathersOn n before now
+  GathersUpTo n (Ended stop) before now = Gathers n before now
 
-  -- these units of n bytes were read, and then what is held
-  pub record ReadsUnits (n limit : ℕ) (units : List (List ℕ)) (now : UnitState) (s s' : S) : Type 0 where
-    pub whole : All (λ unit. length unit ≡ n) units
-    pub taken : now.taken ≡ length (concat units ++ now.held)
-    pub most : now.most ≡ limit
-    pub few : now.taken ≤ limit
-    pub told : source.tells s → source.tells s'
-    pub moved : source.tells s → source.left s ≡ (concat units ++ now.held) ++ source.left s'
-    pub going_on : CameInPieces source (concat units ++ now.held) s s'
-    pub in_need : WhenLastAsked source (IsShortOfOne n units) (concat units ++ now.held) s s'
+  -- since the source was s these units were read, and then what is held
+  pub record ReadsUnits (sizes : UnitSizes) (units : List (List ℕ)) (s : S) (now : AtSource UnitState S) : Type 0 where
+    pub whole : All (λ unit. length unit ≡ sizes.unit) units
+    pub taken : now.state.taken ≡ length (concat units ++ now.state.held)
+    pub most : now.state.most ≡ sizes.limit
+    pub few : now.state.taken ≤ sizes.limit
+    pub told : source.tells s → source.tells now.source
+    pub untold : source.tells now.source → source.tells s
+    pub moved : source.tells s → source.left s ≡ (concat units ++ now.state.held) ++ source.left now.source
+    pub going_on : CameInPieces source (concat units ++ now.state.held) s now.source
+    pub in_need : WhenLastAsked source (IsShortOfOne sizes.unit units) (concat units ++ now.state.held) s now.source
 
   -- these units were read, and then a rest that is none
-  pub record EndsUnits (n limit : ℕ) (units : List (List ℕ)) (rest : ℕ) (stop : Stop) (s s' : S) : Type 0 where
+  pub record EndsUnits (sizes : UnitSizes) (units : List (List ℕ)) (rest : ℕ) (stop : Stop) (s s' : S) : Type 0 where
     pub held : List ℕ
     pub long : length held ≡ rest
-    pub short : length held < n
-    pub whole : All (λ unit. length unit ≡ n) units
-    pub read : IsRead source limit (concat units ++ held) s s'
-    pub in_need : WhenLastAsked source (IsShortOfOne n units) (concat units ++ held) s s'
-    pub reason : EndsFor source stop limit (concat units ++ held) s s'
+    pub short : length held < sizes.unit
+    pub whole : All (λ unit. length unit ≡ sizes.unit) units
+    pub read : IsRead source sizes.limit (concat units ++ held) s s'
+    pub in_need : WhenLastAsked source (IsShortOfOne sizes.unit units) (concat units ++ held) s s'
+    pub reason : EndsFor source stop sizes.limit (concat units ++ held) s s'

@@ -31,6 +31,14 @@ abbrev pub HasGiven : Result ℕ Failed → List ℕ → Type 0
 HasGiven (Ok count) piece = length piece ≡ count
 HasGiven (Err failed) piece = piece ≡ []
 
+-- what takes the bytes of a source, and the source, at some moment
+pub record AtSource (X S : Type 0) : Type 0 where
+  pub state : X
+  pub source : S
+
+abbrev pub at_source : {X S : Type 0} → X → S → AtSource X S
+at_source x s = record { state = x; source = s }
+
 module _ {S : Type 0} (source : SourceOf S) where
   -- the source was asked once, and gave these bytes
   abbrev pub AsksOnce : S → List ℕ → S → Type 0
@@ -70,6 +78,7 @@ module _ {S : Type 0} (source : SourceOf S) where
   -- these bytes were taken, at most this many, up to the first call that gave none
   pub record IsRead (limit : ℕ) (bytes : List ℕ) (s s' : S) : Type 0 where
     pub told : source.tells s → source.tells s'
+    pub untold : source.tells s' → source.tells s
     pub moved : source.tells s → source.left s ≡ bytes ++ source.left s'
     pub few : length bytes ≤ limit
     pub asked : StopsAsking bytes s s'

@@ -29,38 +29,65 @@ ComesFirstBut input most after arrivals given =
     → AreAllThatWait input most given (length waiting)
     → (later : List Arrival) × (arrivals ≡ worked ++ later) × (after ≤ length later)
 
--- The source, what a consumer says of the arrivals that it took, the form of the input, and the most bytes.
-module _ {S C : Type 0} (source : SourceOf S) (took : C → List Arrival → C → Type 0) (input : Input) (limit : ℕ) where
+-- What is led: what is said of the source, what the consumer says of the arrivals that it took, the form of the input,
+-- the most bytes, and how few arrivals may wait
+pub record Course (S C : Type 0) : Type 1 where
+  pub source : SourceOf S
+  pub took : C → List Arrival → C → Type 0
+  pub input : Input
+  pub limit : ℕ
+  pub leeway : Leeway
+
+-- the source and the consumer that a call is lent, at some moment
+pub record Lent (S C : Type 0) : Type 0 where
+  pub source : S
+  pub consumer : C
+
+module _ {S C : Type 0} where
+  abbrev pub course_of : SourceOf S → (C → List Arrival → C → Type 0) → Input → ℕ → Leeway → Course S C
+  course_of source took input limit leeway =
+      record { source = source; took = took; input = input; limit = limit; leeway = leeway }
+
+  abbrev pub lent : S → C → Lent S C
+  lent s c = record { source = s; consumer = c }
+
+module _ {S C : Type 0} (course : Course S C) where
   -- the input ended, and all that comes of it was taken
-  pub record TakesAll (leeway : Leeway) (totals : ReadCounts) (s s' : S) (before now : C) : Type 0 where
+  pub record TakesAll (totals : ReadCounts) (before now : Lent S C) : Type 0 where
     pub bytes : List ℕ
-    pub ends : ReadsInput source input limit totals bytes s s'
-    pub in_time : WhenLastAsked source (ComesFirstBut input leeway.when_asked 0 (arrivals_of input bytes)) bytes s s'
-    pub taken : (c : C) → took c [] before → took c (arrivals_of input bytes) now
+    pub ends : ReadsInput course.source course.input course.limit totals bytes before.source now.source
+    pub in_time : WhenLastAsked course.source
+        (ComesFirstBut course.input course.leeway.when_asked 0 (arrivals_of course.input bytes)) bytes
+        before.source now.source
+    pub taken : (c : C) → course.took c [] before.consumer
+        → course.took c (arrivals_of course.input bytes) now.consumer
 
   -- The consumer stopped at the last one of these arrivals, which are the first ones of the bytes read. The source was
   -- read no further ahead than that this one, and those after it, are few. When it was last asked, all but a few of
   -- what had come of the bytes that it had given were taken, before the consumer stopped.
-  pub record TakesSome {Cause : Type 0} (leeway : Leeway) (stopped : C → List Arrival → Cause → C → Type 0)
-      (cause : Cause) (s s' : S) (before now : C) : Type 0 where
+  pub record TakesSome {Cause : Type 0} (stopped : C → List Arrival → Cause → C → Type 0) (cause : Cause)
+      (before now : Lent S C) : Type 0 where
     pub bytes : List ℕ
-    pub read : IsRead source limit bytes s s'
+    pub read : IsRead course.source course.limit bytes before.source now.source
     pub passed : List Arrival
     pub rest : List Arrival
-    pub split : arrivals_of input bytes ≡ passed ++ rest
-    pub near : length rest < leeway.at_end
+    pub split : arrivals_of course.input bytes ≡ passed ++ rest
+    pub near : length rest < course.leeway.at_end
     -- and it had taken all those that ended so long before the last byte
-    pub close : (count : ℕ) → 0 < count → count ≤ length (arrivals_of input bytes)
-        → HaveEnded input leeway.ahead bytes count → count < length passed
-    pub in_time : WhenLastAsked source (ComesFirstBut input leeway.when_asked 1 passed) bytes s s'
-    pub stops : (c : C) → took c [] before → stopped c passed cause now
+    pub close : (count : ℕ) → 0 < count → count ≤ length (arrivals_of course.input bytes)
+        → HaveEnded course.input course.leeway.ahead bytes count → count < length passed
+    pub in_time : WhenLastAsked course.source (ComesFirstBut course.input course.leeway.when_asked 1 passed) bytes
+        before.source now.source
+    pub stops : (c : C) → course.took c [] before.consumer → stopped c passed cause now.consumer
     -- of symbols they are the first ones of all that the source gives, where it had not failed nor reached the limit
-    pub first : (line : LineCode) → input ≡ Symbols line → source.tells s → length bytes < limit
-        → (Rose (source.faults s) (source.faults s') → ⊥)
-        → (later : List Arrival) × (arrivals_of input (bytes ++ source.left s') ≡ passed ++ later)
+    pub first : (line : LineCode) → course.input ≡ Symbols line → course.source.tells before.source
+        → length bytes < course.limit
+        → (Rose (course.source.faults before.source) (course.source.faults now.source) → ⊥)
+        → (later : List Arrival)
+        × (arrivals_of course.input (bytes ++ course.source.left now.source) ≡ passed ++ later)
 
   -- how far it was led, whoever led it
-  abbrev pub IsLed : {Cause : Type 0} → Leeway → (C → List Arrival → Cause → C → Type 0) → Result ReadCounts Cause
-      → S → S → C → C → Type 0
-  IsLed leeway stopped (Ok totals) s s' before now = TakesAll leeway totals s s' before now
-  IsLed leeway stopped (Err cause) s s' before now = TakesSome leeway stopped cause s s' before now
+  module _ {Cause : Type 0} (stopped : C → List Arrival → Cause → C → Type 0) where
+    abbrev pub IsLed : Result ReadCounts Cause → Lent S C → Lent S C → Type 0
+    IsLed (Ok totals) before now = TakesAll totals before now
+    IsLed (Err cause) before now = TakesSome stopped cause before now

@@ -40,10 +40,21 @@ use Rattle.lr_forms.specs.declared.forms.Input.TheVariants.{Symbols}
 use Rattle.lr_forms.specs.declared.forms.Stop.{Stop}
 use Rattle.lr_rounds.specs.declared.job_source.NextJob.{NextJob}
 use Rattle.lr_rounds.specs.declared.job_source.NextJob.TheVariants.{Job, NotYet, Finished}
-use Rattle.lr_reading.specs.Feeding.{FeedState, symbols_left, arrivals_given, EndsWithin, MayAsk, FedSoFar}
+use Rattle.lr_reading.specs.Feeding.{
+  FeedState,
+  SymbolSource,
+  Taken,
+  symbols_from,
+  symbols_left,
+  taken_since,
+  arrivals_given,
+  EndsWithin,
+  MayAsk,
+  FedSoFar,
+}
 use Rattle.lr_reading.specs.Readers.{Leeway, ahead_with, most_kept}
-use Rattle.lr_reading.specs.Reading.{LastCall, WhenLastAsked}
-use Rattle.lr_reading.specs.Runs.{ComesFirstBut, TakesSome, IsLed}
+use Rattle.lr_reading.specs.Reading.{LastCall, AtSource, WhenLastAsked, at_source}
+use Rattle.lr_reading.specs.Runs.{ComesFirstBut, Course, Lent, TakesSome, IsLed, course_of, lent}
 use Rattle.lr_reading.specs.declared.arrival.Arrival.{Arrival}
 use Rattle.lr_reading.specs.declared.intake.Intake.{Intake}
 use Rattle.lr_reading.specs.declared.read_counts.ReadCounts.{ReadCounts}
@@ -65,10 +76,10 @@ pub record HasWindows (given kept : ℕ) (intake : Intake) : Type 0 where
   pub some : 0 < vec_capacity intake.spare
   pub all : vec_len intake.spare + given ≡ vec_capacity intake.spare + kept
 
--- these are the windows of these frames of the bytes, and all windows are of this line code
-pub record HasWindowJobs (line : LineCode) (bytes : List ℕ) (given : List Frame) (windows : List WindowView) (kept : ℕ)
+-- these arrivals are what becomes of the windows, and all windows are of this line code
+pub record HasWindowJobs (line : LineCode) (arrivals : List Arrival) (windows : List WindowView) (kept : ℕ)
     (intake : Intake) : Type 0 where
-  pub jobs : map arrival_of_window windows ≡ arrivals_given line bytes given
+  pub jobs : map arrival_of_window windows ≡ arrivals
   pub job_lines : AreOfLine line windows
   pub spare_lines : AreOfLine line intake.spare.items
   pub count : intake.frames ≡ kept
@@ -114,50 +125,61 @@ AreClose (frame ∷ frames) place =
 
 -- ---- the input
 
-module _ {S : Type 0} (source : SourceOf S) (line : LineCode) (limit : ℕ) where
-  -- these bytes were taken, these windows of frames of them given, and what became of the first ones kept
-  pub record IsGiven (bytes : List ℕ) (given : List Frame) (windows : List WindowView) (kept : ℕ) (intake : Intake)
-      (s s' : S) : Type 0 where
-    pub feeds : FedSoFar source line bytes given intake.feed s s'
-    pub limit_is : intake.feed.most ≡ limit
-    pub jobs : HasWindowJobs line bytes given windows kept intake
-    pub over : (stop : Stop) → intake.ended ≡ Some stop → IsOver line bytes given intake.feed stop
-    -- three whole frames of 16,384 symbols at most stand in the lock
-    pub short : intake.ended ≡ None → length intake.feed.lock.kept ≤ most_kept
-    -- where no window is spare, nothing was taken since the last one was given
-    pub full : vec_len intake.spare ≡ 0 → EndsWithin most_kept given bytes
+-- what was taken, the windows that were given of its frames, and of how many of these it was kept what became
+pub record Progress (S : Type 0) : Type 0 where
+  pub taken : Taken S
+  pub windows : List WindowView
+  pub kept : ℕ
 
+abbrev pub progress : {S : Type 0} → Taken S → List WindowView → ℕ → Progress S
+progress taken windows kept = record { taken = taken; windows = windows; kept = kept }
+
+module _ {S : Type 0} (symbols : SymbolSource S) where
   -- After these bytes the source wasn't asked; or only while a window was spare, and once the lock had looked
-  abbrev pub LooksForSpare : List ℕ → List ℕ → List Frame → Intake → S → S → S → Type 0
-  LooksForSpare bytes all given old s t s' =
-      ((all ≡ bytes) × (s' ≡ t))
-      ⊎ ((0 < vec_len old.spare) × LastCall source
-      (MayAsk line (vec_len old.spare < vec_capacity old.spare) bytes given) all s s')
+  abbrev pub LooksForSpare : Taken S → List ℕ → AtSource Intake S → S → Type 0
+  LooksForSpare taken all old s' =
+      ((all ≡ taken.bytes) × (s' ≡ old.source))
+      ⊎ ((0 < vec_len old.state.spare) × LastCall symbols.source
+      (MayAsk symbols.line (vec_len old.state.spare < vec_capacity old.state.spare) taken.bytes taken.given) all
+      taken.first s')
 
-  -- more bytes were taken, and these windows are given now; what comes of the earlier ones stays
-  pub record GivesMore (bytes : List ℕ) (given : List Frame) (windows : List WindowView) (kept : ℕ)
-      (old new : Intake) (s t s' : S) : Type 0 where
-    pub all : List ℕ
-    pub every : List Frame
-    pub is_given : IsGiven all every windows kept new s s'
-    pub looks : LooksForSpare bytes all given old s t s'
-    pub rest : List Arrival
-    pub grown : arrivals_given line all every ≡ arrivals_given line bytes given ++ rest
-    -- frames whose windows are under way stay close, from the first one that is
-    pub close : (first : ℕ) → first ≤ length given
-        → (first < length given → vec_len old.spare < vec_capacity old.spare)
-        → AreClose (drop first given) (length bytes) → AreClose (drop first every) (length all)
+  module _ (limit : ℕ) where
+    -- these bytes were taken, these windows of frames of them given, and what became of the first ones kept
+    pub record IsGiven (so_far : Progress S) (now : AtSource Intake S) : Type 0 where
+      pub feeds : FedSoFar symbols so_far.taken (at_source now.state.feed now.source)
+      pub limit_is : now.state.feed.most ≡ limit
+      pub jobs : HasWindowJobs symbols.line (arrivals_given symbols.line so_far.taken.bytes so_far.taken.given)
+          so_far.windows so_far.kept now.state
+      pub over : (stop : Stop) → now.state.ended ≡ Some stop
+          → IsOver symbols.line so_far.taken.bytes so_far.taken.given now.state.feed stop
+      -- three whole frames of 16,384 symbols at most stand in the lock
+      pub short : now.state.ended ≡ None → length now.state.feed.lock.kept ≤ most_kept
+      -- where no window is spare, nothing was taken since the last one was given
+      pub full : vec_len now.state.spare ≡ 0 → EndsWithin most_kept so_far.taken.given so_far.taken.bytes
 
-  -- the next window; or none while none is spare, or while some are under way; or none, as the input ended
-  abbrev pub HasNextJob : NextJob WindowView → List ℕ → List Frame → List WindowView → ℕ → Intake → Intake → S → S → S
-      → Type 0
-  HasNextJob (Job window) bytes given windows kept old new s s' s'' =
-      GivesMore bytes given (windows ++ window ∷ []) kept old new s s' s''
-  HasNextJob NotYet bytes given windows kept old new s s' s'' =
-      GivesMore bytes given windows kept old new s s' s''
-      × ((vec_len old.spare ≡ 0) ⊎ (vec_len old.spare < vec_capacity old.spare))
-  HasNextJob Finished bytes given windows kept old new s s' s'' =
-      GivesMore bytes given windows kept old new s s' s'' × IsSome new.ended
+    -- more bytes were taken, and these windows are given now; what comes of the earlier ones stays
+    pub record GivesMore (so_far : Progress S) (old new : AtSource Intake S) : Type 0 where
+      pub all : List ℕ
+      pub every : List Frame
+      pub is_given : IsGiven (progress (taken_since so_far.taken.first all every) so_far.windows so_far.kept) new
+      pub looks : LooksForSpare so_far.taken all old new.source
+      pub rest : List Arrival
+      pub grown : arrivals_given symbols.line all every
+          ≡ arrivals_given symbols.line so_far.taken.bytes so_far.taken.given ++ rest
+      -- frames whose windows are under way stay close, from the first one that is
+      pub close : (first : ℕ) → first ≤ length so_far.taken.given
+          → (first < length so_far.taken.given → vec_len old.state.spare < vec_capacity old.state.spare)
+          → AreClose (drop first so_far.taken.given) (length so_far.taken.bytes)
+          → AreClose (drop first every) (length all)
+
+    -- the next window; or none while none is spare, or while some are under way; or none, as the input ended
+    abbrev pub HasNextJob : NextJob WindowView → Progress S → AtSource Intake S → AtSource Intake S → Type 0
+    HasNextJob (Job window) so_far old new =
+        GivesMore (progress so_far.taken (so_far.windows ++ window ∷ []) so_far.kept) old new
+    HasNextJob NotYet so_far old new =
+        GivesMore so_far old new
+        × ((vec_len old.state.spare ≡ 0) ⊎ (vec_len old.state.spare < vec_capacity old.state.spare))
+    HasNextJob Finished so_far old new = GivesMore so_far old new × IsSome new.state.ended
 
 -- how many windows are spare now, where one was given, and that fewer are left
 abbrev pub LeavesFewer : NextJob WindowView → Intake → Intake → Type 0
@@ -180,6 +202,15 @@ module _ {C : Type 0} (took : C → List Arrival → C → Type 0) where
 
 -- ---- both
 
+-- what a job source is led through, from its first one on
+abbrev pub course_from : {S C : Type 0} → SourceOf S → (C → List Arrival → C → Type 0) → WindowSource S C → Course S C
+course_from source took start = course_of source took (Symbols start.intake.now.feed.lock.line)
+    start.intake.now.feed.most (leeway_in start.intake.now)
+
+-- what it was lent
+abbrev pub lent_in : {S C : Type 0} → WindowSource S C → Lent S C
+lent_in now = lent now.source.now now.consumer.now
+
 module _ {S C : Type 0} (source : SourceOf S) (took : C → List Arrival → C → Type 0) where
   -- The job source was the first one and has given these windows, and the consumer took what became of the first `kept`
   -- of them. It may take what comes of `most` bytes
@@ -195,8 +226,8 @@ module _ {S C : Type 0} (source : SourceOf S) (took : C → List Arrival → C �
     pub behind : kept ≤ length windows
     pub bytes : List ℕ
     pub given : List Frame
-    pub is_given : IsGiven source start.intake.now.feed.lock.line start.intake.now.feed.most bytes given windows kept
-        now.intake.now start.source.now now.source.now
+    pub is_given : IsGiven (symbols_from source start.intake.now.feed.lock.line) start.intake.now.feed.most
+        (progress (taken_since start.source.now bytes given) windows kept) (at_source now.intake.now now.source.now)
     pub close : AreClose (drop kept given) (length bytes)
     pub in_time : WhenLastAsked source (ComesFirstBut (Symbols start.intake.now.feed.lock.line)
         (vec_capacity start.intake.now.spare) 0 (first_arrivals start.intake.now.feed.lock.line bytes given kept))
@@ -210,13 +241,11 @@ module _ {S C : Type 0} (source : SourceOf S) (took : C → List Arrival → C �
     pub same_intake : now.intake.ghost_name ≡ start.intake.ghost_name
     pub same_source : now.source.ghost_name ≡ start.source.ghost_name
     pub same_consumer : now.consumer.ghost_name ≡ start.consumer.ghost_name
-    pub some : TakesSome source took (Symbols start.intake.now.feed.lock.line) start.intake.now.feed.most
-        (leeway_in start.intake.now) stopped cause start.source.now now.source.now start.consumer.now now.consumer.now
+    pub some : TakesSome (course_from source took start) stopped cause (lent_in start) (lent_in now)
 
   -- the job source was the first one. It was led to the end of the input, or to where the consumer stopped
   pub record ComesTo {Cause : Type 0} (stopped : C → List Arrival → Cause → C → Type 0)
       (came : Result ReadCounts Cause) (start now : WindowSource S C) : Type 0 where
     pub same_source : now.source.ghost_name ≡ start.source.ghost_name
     pub same_consumer : now.consumer.ghost_name ≡ start.consumer.ghost_name
-    pub led : IsLed source took (Symbols start.intake.now.feed.lock.line) start.intake.now.feed.most
-        (leeway_in start.intake.now) stopped came start.source.now now.source.now start.consumer.now now.consumer.now
+    pub led : IsLed (course_from source took start) stopped came (lent_in start) (lent_in now)

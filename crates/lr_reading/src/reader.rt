@@ -45,7 +45,7 @@ impl<H: Hand> Reader<H> {
     ghost use Rattle.std.specs.Prelude.{◌≡◌, ◌≤◌, [], IfOk};
     ghost use Rattle.lr_reading.specs.Inputs.{MayTake};
     ghost use Rattle.lr_reading.specs.Readers.{shared_by, leeway_for};
-    ghost use Rattle.lr_reading.specs.Runs.{IsLed};
+    ghost use Rattle.lr_reading.specs.Runs.{IsLed, course_of, lent};
 
     /// All memory that reading this input takes. At most `most` bytes will be taken. This many work on windows, the
     /// caller among them; each has a hand that is made with these tools.
@@ -87,8 +87,8 @@ impl<H: Hand> Reader<H> {
         requires alone { self.workers ≡ 1 }
         requires few { self.most ≤ C.most }
         requires ready { (c : C) × C.took c [] consumer.old }
-        ensures { IsLed S.Source C.took self.input self.most (leeway_for self.input self.workers) C.stopped result
-            source.old source.new consumer.old consumer.new }
+        ensures { IsLed (course_of S.Source C.took self.input self.most (leeway_for self.input self.workers))
+            C.stopped result (lent source.old consumer.old) (lent source.new consumer.new) }
     {
         let Reader {
             parts,
@@ -111,8 +111,8 @@ impl<H: Hand> Reader<H> {
     ) -> Result<ReadCounts, C::Cause>
         requires few { self.most ≤ C.most }
         requires ready { (c : C) × C.took c [] consumer.old }
-        ensures { IsLed S.Source C.took self.input self.most (leeway_for self.input self.workers) C.stopped result
-            source.old source.new consumer.old consumer.new }
+        ensures { IsLed (course_of S.Source C.took self.input self.most (leeway_for self.input self.workers))
+            C.stopped result (lent source.old consumer.old) (lent source.new consumer.new) }
     {
         let Reader {
             parts,

@@ -37,6 +37,7 @@ fn take_within<S: Source>(source: &mut S, into: &mut [u8], size: usize) -> Resul
     ensures cause { HasCause (S.faults source.old) (S.faults source.new) result }
     ensures within { IfOk result (λ n. n ≤ size) }
     ensures told { S.tells source.old → S.tells source.new }
+    ensures untold { S.tells source.new → S.tells source.old }
     ensures moved { S.tells source.old → IfOk result (λ n. S.left source.old ≡ take n into.new ++ S.left source.new) }
     ensures ended { S.tells source.old → IfOk result (λ n. (n ≡ 0) ↔ (S.left source.old ≡ [])) }
     ensures failed { S.tells source.old → OnErr result (S.left source.new ≡ S.left source.old) }
@@ -79,9 +80,7 @@ impl SymbolFeed {
       ◌+◌,
       ◌-◌,
       ◌^◌,
-      List,
       Bool,
-      ℕ,
       false,
       true,
       is_none,
@@ -89,7 +88,7 @@ impl SymbolFeed {
       length,
       cond,
     };
-    ghost use Rattle.lr_lock.specs.declared.frame.Frame.{Frame};
+    ghost use Rattle.lr_reading.specs.Reading.{at_source};
     ghost use Rattle.lr_reading.specs.Feeding.{
       IsFreshFeed,
       IsStanding,
@@ -99,6 +98,8 @@ impl SymbolFeed {
       FedSoFar,
       FeedsOn,
       Feeds,
+      Taken,
+      symbols_from,
     };
     ghost use Rattle.lr_reading.specs.declared.next.Found.TheVariants.{Whole, Noise};
 
@@ -130,7 +131,7 @@ impl SymbolFeed {
     fn take<S: Source>(&mut self, source: &mut S) -> Option<Stop>
         requires unfinished { self.old.lock.finished ≡ false }
         requires room { length self.old.lock.kept < lock_symbols }
-        ensures takes { FeedsOrStops S.Source result self.old self.new source.old source.new }
+        ensures takes { FeedsOrStops S.Source result (at_source self.old source.old) (at_source self.new source.new) }
     {
         let left = self.most - self.taken;
         if left == 0 {
@@ -160,10 +161,11 @@ impl SymbolFeed {
     fn more<S: Source>(&mut self, source: &mut S)
         requires unfinished { self.old.lock.finished ≡ false }
         requires looked { length self.old.lock.kept < WINDOW_END }
-        ensures feeds { (line : LineCode) (bytes : List ℕ) (given : List Frame) (s : _) (under_way : Bool)
-            → FedSoFar S.Source line bytes given self.old s source.old
+        ensures feeds { (line : LineCode) (so_far : Taken _) (under_way : Bool)
+            → FedSoFar (symbols_from S.Source line) so_far (at_source self.old source.old)
             → (under_way ≡ true → is_none self.old.lock.held ≡ false)
-            → FeedsOn S.Source line (under_way ≡ true) bytes given self.new s source.old source.new }
+            → FeedsOn (symbols_from S.Source line) (under_way ≡ true) (at_source so_far source.old)
+            (at_source self.new source.new) }
         ensures standing { IsStanding self.old.lock → IsStanding self.new.lock }
         ensures most { self.new.most ≡ self.old.most }
         ensures line { self.new.lock.line ≡ self.old.lock.line }
@@ -193,9 +195,10 @@ impl SymbolFeed {
     ) -> Found
         requires standing { IsStanding self.old.lock }
         requires line { window.old.line ≡ self.old.lock.line }
-        ensures feeds { (line : LineCode) (bytes : List ℕ) (given : List Frame) (s : _)
-            → FedSoFar S.Source line bytes given self.old s source.old
-            → Feeds S.Source line (under_way ≡ true) result bytes given self.new window.new s source.old source.new }
+        ensures feeds { (line : LineCode) (so_far : Taken _)
+            → FedSoFar (symbols_from S.Source line) so_far (at_source self.old source.old)
+            → Feeds (symbols_from S.Source line) (under_way ≡ true) result (at_source so_far source.old) window.new
+            (at_source self.new source.new) }
         ensures standing { IsStanding self.new.lock }
         ensures most { self.new.most ≡ self.old.most }
         ensures line { self.new.lock.line ≡ self.old.lock.line }

@@ -2,7 +2,7 @@
 ghost use Rattle.std.specs.Prelude.{◌≡◌, ◌≤◌, [], IfOk, IfErr};
 ghost use Rattle.lr_reading.specs.Inputs.{unit_bytes};
 ghost use Rattle.lr_reading.specs.Readers.{leeway_for};
-ghost use Rattle.lr_reading.specs.Runs.{TakesAll, TakesSome};
+ghost use Rattle.lr_reading.specs.Runs.{TakesAll, TakesSome, course_of, lent};
 ghost use Rattle.lr_forms.specs.declared.forms.Input.TheVariants.{Units};
 
 use crate::arrival::Arrival;
@@ -26,10 +26,12 @@ pub(crate) fn read_units<const N: usize, S: Source, C: Consumer>(
     requires size { N ≡ unit_bytes form }
     requires few { most ≤ C.most }
     requires ready { (c : C) × C.took c [] consumer.old }
-    ensures all { IfOk result (λ totals. TakesAll S.Source C.took (Units form) most (leeway_for (Units form) 1)
-        totals source.old source.new consumer.old consumer.new) }
-    ensures some { IfErr result (λ cause. TakesSome S.Source C.took (Units form) most (leeway_for (Units form) 1)
-        C.stopped cause source.old source.new consumer.old consumer.new) }
+    ensures all { IfOk result
+        (λ totals. TakesAll (course_of S.Source C.took (Units form) most (leeway_for (Units form) 1)) totals
+        (lent source.old consumer.old) (lent source.new consumer.new)) }
+    ensures some { IfErr result
+        (λ cause. TakesSome (course_of S.Source C.took (Units form) most (leeway_for (Units form) 1)) C.stopped cause
+        (lent source.old consumer.old) (lent source.new consumer.new)) }
 {
     let mut units = UnitFeed::<N>::new(most);
     let mut scratch = RsScratch::new();
@@ -67,10 +69,12 @@ pub(crate) fn read_form<S: Source, C: Consumer>(
 ) -> Result<ReadCounts, C::Cause>
     requires few { most ≤ C.most }
     requires ready { (c : C) × C.took c [] consumer.old }
-    ensures all { IfOk result (λ totals. TakesAll S.Source C.took (Units form) most (leeway_for (Units form) 1)
-        totals source.old source.new consumer.old consumer.new) }
-    ensures some { IfErr result (λ cause. TakesSome S.Source C.took (Units form) most (leeway_for (Units form) 1)
-        C.stopped cause source.old source.new consumer.old consumer.new) }
+    ensures all { IfOk result
+        (λ totals. TakesAll (course_of S.Source C.took (Units form) most (leeway_for (Units form) 1)) totals
+        (lent source.old consumer.old) (lent source.new consumer.new)) }
+    ensures some { IfErr result
+        (λ cause. TakesSome (course_of S.Source C.took (Units form) most (leeway_for (Units form) 1)) C.stopped cause
+        (lent source.old consumer.old) (lent source.new consumer.new)) }
 {
     match form {
         UnitForm::Blocks => read_units::<BLOCK_BYTES, S, C>(form, most, source, consumer),

@@ -31,6 +31,7 @@ impl<const N: usize> UnitFeed<N> {
     ghost use Rattle.std.specs.Prelude.{◌≡◌, ◌<◌, ◌≤◌, ◌+◌, ◌↔◌, [], length, IsTrue, IfOk, OnErr};
     ghost use Rattle.lr_bits.specs.Faults.{HasCause};
     ghost use Rattle.lr_reading.specs.Gathering.{Gathers, GathersFor, GathersOn, GathersUpTo};
+    ghost use Rattle.lr_reading.specs.Reading.{at_source};
 
     /// Nothing is held, and at most `most` bytes will be taken.
     pub(crate) fn new(most: u64) -> Self
@@ -92,8 +93,9 @@ impl<const N: usize> UnitFeed<N> {
         requires room { length self.old.held < N }
         requires more { self.old.taken < self.old.most }
         ensures cause { HasCause (S.faults source.old) (S.faults source.new) result }
-        ensures gathered { Gathers S.Source N self.old self.new source.old source.new }
-        ensures went_on { IfOk result (λ n. 0 < n → GathersOn S.Source N self.old self.new source.old source.new) }
+        ensures gathered { Gathers S.Source N (at_source self.old source.old) (at_source self.new source.new) }
+        ensures went_on { IfOk result
+            (λ n. 0 < n → GathersOn S.Source N (at_source self.old source.old) (at_source self.new source.new)) }
         ensures count { IfOk result (λ n. self.new.taken ≡ self.old.taken + n) }
         ensures ended { IfOk result (λ n. n ≡ 0 → S.tells source.old → S.left source.new ≡ []) }
         ensures failed { OnErr result (self.new ≡ self.old) }
@@ -116,8 +118,9 @@ impl<const N: usize> UnitFeed<N> {
 
     /// Takes bytes until the unit is whole, or no more are to be had.
     pub(crate) fn next<S: Source>(&mut self, source: &mut S) -> Next
-        ensures gathered { GathersUpTo S.Source N result self.old self.new source.old source.new }
-        ensures reason { GathersFor S.Source N result self.new source.old source.new }
+        ensures gathered { GathersUpTo S.Source N result (at_source self.old source.old)
+            (at_source self.new source.new) }
+        ensures reason { GathersFor S.Source N result source.old (at_source self.new source.new) }
     {
         // So the proof sees how many bytes the unit holds.
         let _ = &self.buffer;

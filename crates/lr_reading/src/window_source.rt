@@ -2,9 +2,16 @@
 ghost use Rattle.std.specs.Prelude.{◌≡◌, ◌<◌, ◌+◌, ◌^◌, ◌++◌, ◌∷◌, [], ℕ, List, OnOk, IfErr, vec_len, vec_capacity};
 ghost use Rattle.lr_conv.specs.declared.line.LineCode.{LineCode};
 ghost use Rattle.lr_frame.specs.Hands.{done_of};
-ghost use Rattle.lr_lock.specs.declared.frame.Frame.{Frame};
-ghost use Rattle.lr_lock.specs.Windows.{WindowView};
-ghost use Rattle.lr_reading.specs.WindowSources.{arrival_of_window, IsGiven, HasNextJob, LeavesFewer, MayHandOver};
+ghost use Rattle.lr_reading.specs.Feeding.{symbols_from};
+ghost use Rattle.lr_reading.specs.Reading.{at_source};
+ghost use Rattle.lr_reading.specs.WindowSources.{
+  Progress,
+  arrival_of_window,
+  IsGiven,
+  HasNextJob,
+  LeavesFewer,
+  MayHandOver,
+};
 ghost use Rattle.lr_reading.specs.declared.arrival.Arrival.{Arrival};
 
 use crate::arrival::{Arrival, Position};
@@ -38,13 +45,12 @@ fn position_of(window: &Window) -> Position
 /// Fills a spare window with the next frame, or ends the input. While the lock searches, it asks the source only once
 /// no window is under way.
 fn next_window<S: Source>(intake: &mut Intake, source: &mut S) -> NextJob<Window>
-    requires { (line : LineCode) × (limit : ℕ) × (bytes : List ℕ) × (given : List Frame)
-        × (windows : List WindowView) × (kept : ℕ) × (s : _)
-        × IsGiven S.Source line limit bytes given windows kept intake.old s source.old }
-    ensures offers { (line : LineCode) (limit : ℕ) (bytes : List ℕ) (given : List Frame)
-        (windows : List WindowView) (kept : ℕ) (s : _)
-        → IsGiven S.Source line limit bytes given windows kept intake.old s source.old
-        → HasNextJob S.Source line limit result bytes given windows kept intake.old intake.new s source.old source.new }
+    requires { (line : LineCode) × (limit : ℕ) × (so_far : Progress _)
+        × IsGiven (symbols_from S.Source line) limit so_far (at_source intake.old source.old) }
+    ensures offers { (line : LineCode) (limit : ℕ) (so_far : Progress _)
+        → IsGiven (symbols_from S.Source line) limit so_far (at_source intake.old source.old)
+        → HasNextJob (symbols_from S.Source line) limit result so_far (at_source intake.old source.old)
+        (at_source intake.new source.new) }
     ensures less { LeavesFewer result intake.old intake.new }
 {
     if intake.ended.is_some() {
@@ -105,7 +111,7 @@ impl<'i, 's, 'c, H: Hand, S: Source, C: Consumer> JobSource<Hired<H>>
     for WindowSource<'i, 's, 'c, S, C> {
     type Cause = C::Cause;
 
-    ghost use Rattle.std.specs.Prelude.{IsSome};
+    ghost use Rattle.std.specs.Prelude.{IsSome, false};
     ghost use Rattle.lr_reading.specs.WindowSources.{StandsAt, StopsAt, windows_left};
 
     ghost stands = { λ start now windows kept. StandsAt S.Source C.took C.most start now windows kept };
@@ -115,6 +121,8 @@ impl<'i, 's, 'c, H: Hand, S: Source, C: Consumer> JobSource<Hired<H>>
     ghost is_over = { λ now. IsSome now.intake.now.ended };
 
     ghost left = { λ now. windows_left now.intake.now };
+
+    ghost at_once = { λ now. false };
 
     fn next(&mut self) -> Result<NextJob<Window>, C::Cause> {
         Ok(next_window(self.intake, self.source))

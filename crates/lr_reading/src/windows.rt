@@ -1,7 +1,7 @@
 //! Windows into a consumer, by one or by many.
 ghost use Rattle.std.specs.Prelude.{◌≡◌, ◌≤◌, [], Some, IsSome};
 ghost use Rattle.lr_reading.specs.Intakes.{IsFreshIntake};
-ghost use Rattle.lr_reading.specs.Runs.{IsLed};
+ghost use Rattle.lr_reading.specs.Runs.{IsLed, course_of, lent};
 ghost use Rattle.lr_reading.specs.WindowSources.{ComesTo, leeway_in};
 ghost use Rattle.lr_forms.specs.declared.forms.Input.TheVariants.{Symbols};
 
@@ -78,9 +78,9 @@ pub(crate) fn read_windows<H: Hand, S: Source, C: Consumer>(
     requires alone { symbol_parts.pool.seats ≡ 0 }
     requires few { symbol_parts.intake.feed.most ≤ C.most }
     requires ready { (c : C) × C.took c [] consumer.old }
-    ensures { IsLed S.Source C.took (Symbols symbol_parts.intake.feed.lock.line) symbol_parts.intake.feed.most
-        (leeway_in symbol_parts.intake)
-        C.stopped result source.old source.new consumer.old consumer.new }
+    ensures { IsLed (course_of S.Source C.took (Symbols symbol_parts.intake.feed.lock.line)
+        symbol_parts.intake.feed.most (leeway_in symbol_parts.intake)) C.stopped result
+        (lent source.old consumer.old) (lent source.new consumer.new) }
 {
     let SymbolParts { mut intake, pool } = symbol_parts;
     let mut job_source = WindowSource {
@@ -101,9 +101,9 @@ pub(crate) fn read_by_all<R: Threads + Wait + Sync, H: Hand, S: Source, C: Consu
     requires fresh { IsFreshIntake symbol_parts.intake.feed.most symbol_parts.intake }
     requires few { symbol_parts.intake.feed.most ≤ C.most }
     requires ready { (c : C) × C.took c [] consumer.old }
-    ensures { IsLed S.Source C.took (Symbols symbol_parts.intake.feed.lock.line) symbol_parts.intake.feed.most
-        (leeway_in symbol_parts.intake)
-        C.stopped result source.old source.new consumer.old consumer.new }
+    ensures { IsLed (course_of S.Source C.took (Symbols symbol_parts.intake.feed.lock.line)
+        symbol_parts.intake.feed.most (leeway_in symbol_parts.intake)) C.stopped result
+        (lent source.old consumer.old) (lent source.new consumer.new) }
 {
     let SymbolParts { mut intake, pool } = symbol_parts;
     let mut job_source = WindowSource {

@@ -44,7 +44,6 @@ use Rattle.lr_shelf.specs.InitialShelves.{
   OfWay,
   AllHaveRoom,
   HoldsStill,
-  SomeLackRoom,
   StandsWith,
   capacity_of,
   end_with_files,
@@ -56,8 +55,10 @@ use Rattle.lr_shelf.specs.InitialShelves.{
 }
 use Rattle.lr_shelf.specs.Prefixes.{end_with}
 use Rattle.lr_receiving.specs.Shelving.{shelved_lines, StandsForOneFileMore}
-use Rattle.lr_causes.specs.Outside.{NoFault, World, Outside}
-use Rattle.lr_receiving.specs.Receive.{IsWorkDone, Ends, Receives}
+use Rattle.lr_causes.specs.Outside.{NoFault, World, Outside, counts_in}
+use Rattle.lr_causes.specs.Counts.{CountsTell}
+use Rattle.lr_receiving.specs.First.{SourceBesides}
+use Rattle.lr_receiving.specs.Receive.{Ends, Receives}
 use Rattle.lr_shelf.proofs.InitialShelves.{with_files-append}
 use Rattle.lr_shelf.proofs.Prefixes.{end_with-append}
 use Rattle.lr_receiving.proofs.Growing.{some}
@@ -116,11 +117,6 @@ lacks_room (OfWay way old) done next rest over (inr fits) =
     ap (end_with way.end) (sym (append_assoc done (next ∷ []) rest))
     ∙ end_with-append way.end (done ++ next ∷ []) rest in
     omega (arith, all, fits, over)
-
-not_both : (initial : InitialShelf) (files : List Placed) → AllHaveRoom initial files → SomeLackRoom initial files → ⊥
-not_both (OfItems capacity items) files fits over = omega (arith, fits, over)
-not_both (OfWay way old) files (inl none) lacks = lacks.0 none
-not_both (OfWay way old) files (inr fits) lacks = omega (arith, fits, lacks.1)
 
 -- a text that went out whole
 no_longer : (old new got a b : List ℕ) → new ≡ old ++ got → new ≡ old ++ (a ++ b) → length a ≤ length got
@@ -244,66 +240,26 @@ module _ {S D O : Type 0} (world : World S D O) (input : Input) (initial : Initi
         e.split enough e.durable
     held _ e = absurd e
 
-  held_untold : (cause : Cause) → Ends world input initial limit bytes cause w w'
-      → HoldsPrefix world.disk initial (files_of_bytes input bytes) 0 w'.disk
-  held_untold Done (inl e) = every 0 (omega arith) e.durable
-  held_untold Done (inr e) = every 0 (omega arith) e.durable
-  held_untold (Failed Source) e = every 0 (omega arith) e.durable
-  held_untold (Failed Disk) e = record {
-    contents = front_of world.disk initial (files_of_bytes input bytes) w'.disk e.done e.rest
-        0 (world.disk.contents w'.disk)
-        e.split (omega arith) e.contents;
-    images = λ c image. front_of world.disk initial (files_of_bytes input bytes) w'.disk e.done e.rest 0 c e.split
-        (omega arith) (e.images c image);
-  }
-  held_untold (Failed Output) (inl e) =
-      holds world.disk initial (files_of_bytes input bytes) w'.disk (e.done ++ e.last ∷ []) e.rest 0 e.split
-      (omega arith) e.durable
-  held_untold (Failed Output) (inr e) = every 0 (omega arith) e.durable
-  held_untold NoMemory e = holds world.disk initial (files_of_bytes input bytes) w'.disk e.done e.rest 0 e.split
-      (omega arith) e.durable
-  held_untold (Refused (Capacity needed most)) e =
-      holds world.disk initial (files_of_bytes input bytes) w'.disk e.done (e.next ∷ e.rest) 0 e.split
-      (omega arith) e.durable
-  held_untold _ e = absurd e
-
   complete : (cause : Cause) → Ends world input initial limit bytes cause w w'
-      → NoFault world w w'
+      → CountsTell SourceBesides cause (counts_in world w) (counts_in world w') → NoFault world w w'
       → AllHaveRoom initial (files_of_bytes input bytes)
       → (cause ≡ Done) ⊎ (cause ≡ NoMemory)
-  complete Done e quiet fits = inl refl
-  complete (Failed Source) e quiet fits = absurd (quiet.of_source e.reason.1)
-  complete (Failed Disk) e quiet fits = absurd (quiet.of_disk e.rose)
-  complete (Failed Output) (inl e) quiet fits = absurd (quiet.of_out e.rose)
-  complete (Failed Output) (inr e) quiet fits = absurd (quiet.of_out e.rose)
-  complete NoMemory e quiet fits = inr refl
-  complete (Refused (Capacity needed most)) e quiet fits =
+  complete Done e first quiet fits = inl refl
+  complete (Failed Source) e first quiet fits = absurd (quiet.of_source first.named)
+  complete (Failed Disk) e first quiet fits = absurd (quiet.of_disk first.named)
+  complete (Failed Output) e first quiet fits = absurd (quiet.of_out first.named)
+  complete NoMemory e first quiet fits = inr refl
+  complete (Refused (Capacity needed most)) e first quiet fits =
       absurd (lacks_room initial e.done e.next e.rest e.over (subst (AllHaveRoom initial) e.split fits))
-  complete _ e quiet fits = absurd e
+  complete _ e first quiet fits = absurd e
 
   pub receives : (cause : Cause) → LeavesPrefixes world.disk initial (files_of_bytes input bytes) w.disk w'.disk
       → Ends world input initial limit bytes cause w w'
-      → (IsWorkDone cause → AllHaveRoom initial (files_of_bytes input bytes))
+      → CountsTell SourceBesides cause (counts_in world w) (counts_in world w')
       → Receives world input initial limit bytes cause w w'
-  receives cause any_moment ends room = record {
+  receives cause any_moment ends first = record {
     held = λ whole rest text told split put. held whole rest text told split put cause ends;
-    held_untold = held_untold cause ends;
     any_moment = any_moment;
     ends = ends;
-    complete = complete cause ends;
-    overfull = λ lacks. (
-      λ is. not_both initial (files_of_bytes input bytes) (room (subst IsWorkDone (sym is) tt)) lacks,
-      λ is. not_both initial (files_of_bytes input bytes) (room (subst IsWorkDone (sym is) tt)) lacks,
-    );
+    complete = complete cause ends first;
   }
-
--- over a shelf of items: where the work is done, what stands there fits
-pub room_of_items : {S D O : Type 0} (world : World S D O) (input : Input) (capacity : ℕ) (items : List Item)
-    (limit : ℕ) (bytes : List ℕ) (w w' : Outside S D O) (cause : Cause)
-    → Ends world input (OfItems capacity items) limit bytes cause w w' → IsWorkDone cause
-    → AllHaveRoom (OfItems capacity items) (files_of_bytes input bytes)
-room_of_items world input capacity items limit bytes w w' Done (inl e) done = e.durable.stands.fits
-room_of_items world input capacity items limit bytes w w' Done (inr e) done = e.durable.stands.fits
-room_of_items world input capacity items limit bytes w w' (Failed Source) e done =
-    e.durable.stands.fits
-room_of_items world input capacity items limit bytes w w' _ e done = absurd done

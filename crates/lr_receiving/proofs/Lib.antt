@@ -6,14 +6,17 @@ pub mod Fitting
 pub mod Growing
 pub mod Headline
 pub mod Loading
+pub mod Unloaded
 pub mod Making
 pub mod Pieces
 pub mod ReceiveEnding
 pub mod ShelvedLines
 pub mod Shelving
+pub mod ShelvingOne
 pub mod Taking
 pub mod Timely
 pub mod TrialEnding
 pub mod Trying
+pub mod Tried
 pub mod WholeFrames
 pub mod Withdrawing

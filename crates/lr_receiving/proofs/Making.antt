@@ -64,6 +64,7 @@ module _ (text item : ℕ → List ℕ) (grows : (n : ℕ) → text (n + 1) ≡ 
     pub put_none : text 0 ≡ [] → (o : O) → Puts out (text 0) o o
     put_none none o = record {
       told = λ t. t;
+      untold = λ t. t;
       put =
           λ t. sym (ap (λ l. out.contents o ++ l) none ∙ append-nil (out.contents o));
       kept = refl;
@@ -85,6 +86,7 @@ module _ (text item : ℕ → List ℕ) (grows : (n : ℕ) → text (n + 1) ≡ 
         ∙ ap (λ (l : List ℕ). text n ++ l) (sym is)) ∙ append_assoc (text n) bytes all.0 in
         record {
           told = λ tells. fails.told (before.told tells);
+          untold = λ tells. before.untold (fails.untold tells);
           part = λ tells.
               let cut = fails.part (before.told tells) in
               record {
@@ -114,10 +116,10 @@ module _ {O : Type 0} (out : SinkOf O) (text : List ℕ) (o o' : O) where
       → OnErr r (PutFails out text o o') → IfErr r (λ c. c ≡ Failed Output)
       → OnOk r (cause ≡ Done) → IfErr r (λ c. cause ≡ c) → MakeEnds out text cause o o'
   make_ends (Ok u) cause put failed only done stopped =
-      subst (λ (c : Cause). MakeEnds out text c o o') (sym done) (put.put, put.kept, put.told)
+      subst (λ (c : Cause). MakeEnds out text c o o') (sym done) (put.put, put.kept, put.told, put.untold)
   make_ends (Err c) cause put failed only done stopped =
       subst (λ (x : Cause). MakeEnds out text x o o') (sym (stopped ∙ only))
-      (failed.part, failed.told)
+      (failed.part, failed.told, failed.untold)
 
   pub make_caused : (r : Result (Unit {0}) Cause) (cause : Cause) → OnErr r (PutFails out text o o')
       → IfErr r (λ c. c ≡ Failed Output)

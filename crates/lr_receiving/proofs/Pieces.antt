@@ -23,7 +23,8 @@ use Rattle.lr_receiving.proofs.Changing.{change_after, change_among, images_afte
 use Rattle.lr_receiving.proofs.ShelvedLines.{shelved_lines-append, shelved_lines-none}
 use Rattle.lr_receiving.proofs.WholeFrames.{with_outcome}
 use Rattle.lr_receiving.proofs.Growing.{grows_none, grows_on, stops_after, stops_before}
-use Rattle.lr_receiving.proofs.Shelving.{no_line, stops_more}
+use Rattle.lr_receiving.proofs.Shelving.{stops_more}
+use Rattle.lr_receiving.proofs.ShelvingOne.{no_line}
 use Rattle.lr_causes.specs.Outside.{Outlets, OutletsOf}
 
 module _ {D O : Type 0} (world : OutletsOf D O) where
@@ -31,7 +32,9 @@ module _ {D O : Type 0} (world : OutletsOf D O) where
   pub shelved_none : (shelf : Shelf) (w : Outlets D O) → HasShelved world [] shelf shelf w w
   shelved_none shelf w = record {
     told_by_disk = λ t. t;
+    untold_by_disk = λ t. t;
     told_by_out = λ t. t;
+    untold_by_out = λ t. t;
     working = λ works. works;
     disk_count = refl;
     out_count = refl;
@@ -53,7 +56,9 @@ module _ {D O : Type 0} (world : OutletsOf D O) where
         → HasShelved world ys shelf1 shelf2 w1 w2 → HasShelved world (xs ++ ys) shelf shelf2 w w2
     shelved_on {ys} {shelf2} {w2} next = record {
       told_by_disk = λ t. next.told_by_disk (first.told_by_disk t);
+      untold_by_disk = λ t. first.untold_by_disk (next.untold_by_disk t);
       told_by_out = λ t. next.told_by_out (first.told_by_out t);
+      untold_by_out = λ t. first.untold_by_out (next.untold_by_out t);
       working = λ works. next.working (first.working works);
       disk_count = next.disk_count ∙ first.disk_count;
       out_count = next.out_count ∙ first.out_count;
@@ -90,7 +95,9 @@ module _ {D O : Type 0} (world : OutletsOf D O) where
     stopped_after {cause} {ys} {w2} stopped = record {
       kind = stopped.kind;
       told_by_disk = λ t. stopped.told_by_disk (first.told_by_disk t);
+      untold_by_disk = λ t. first.untold_by_disk (stopped.untold_by_disk t);
       told_by_out = λ t. stopped.told_by_out (first.told_by_out t);
+      untold_by_out = λ t. first.untold_by_out (stopped.untold_by_out t);
       first = λ works. first_later cause 0 0 (world.disk.faults w.disk) (world.disk.faults w1.disk)
           (world.disk.faults w2.disk) (world.out.faults w.out) (world.out.faults w1.out)
           (world.out.faults w2.out) first.disk_count first.out_count (stopped.first (first.working works));
@@ -119,7 +126,9 @@ module _ {D O : Type 0} (world : OutletsOf D O) where
   stopped_before {cause} {xs} ys {shelf} {w} {w'} stopped = record {
     kind = stopped.kind;
     told_by_disk = stopped.told_by_disk;
+    untold_by_disk = stopped.untold_by_disk;
     told_by_out = stopped.told_by_out;
+    untold_by_out = stopped.untold_by_out;
     first = stopped.first;
     stops = λ initial done before so_far.
         subst (λ (l : List Placed). Stops world initial cause l before w') (append_assoc done xs ys)

@@ -67,7 +67,7 @@ use Rattle.lr_receiving.specs.Reception.{
 }
 use Rattle.lr_receiving.proofs.Acknowledging.{all_acknowledged, all_worked, lines_alone}
 use Rattle.lr_receiving.proofs.Timely.{all_in_time}
-use Rattle.lr_receiving.proofs.Causing.{first_beside, first_done, first_end}
+use Rattle.lr_receiving.proofs.Causing.{first_beside, first_done, first_end, first_out, first_stays}
 use Rattle.lr_receiving.proofs.Changing.{change_for}
 use Rattle.lr_receiving.specs.Onto.{ChangesFor}
 use Rattle.lr_receiving.proofs.ShelvedLines.{shelved_lines-none}
@@ -105,7 +105,12 @@ pub loaded : {D O : Type 0} (world : OutletsOf D O) (initial : InitialShelf) (w 
 loaded world initial w d1 shelf settled run count = record {
   settled = settled;
   any_moment = weaker world.disk.moment world.disk.left_since w.disk d1 _ _ (front_none initial) run;
-  put = record { told = λ t. t; put = λ t. got_none world.out initial w.out t; kept = refl };
+  put = record {
+    told = λ t. t;
+    untold = λ t. t;
+    put = λ t. got_none world.out initial w.out t;
+    kept = refl;
+  };
   disk_count = count;
 }
 
@@ -188,7 +193,9 @@ module _ {S D O : Type 0} (world : World S D O) (input : Input) (limit : ℕ) wh
           read = some.read;
           kind = inl stopped.kind;
           told_by_disk = stopped.told_by_disk;
+          untold_by_disk = stopped.untold_by_disk;
           told_by_out = stopped.told_by_out;
+          untold_by_out = stopped.untold_by_out;
           first = λ works. first_beside cause (world.source.faults w.source)
               (world.source.faults w1.source) (world.disk.faults w.disk) (world.disk.faults w1.disk)
               (world.out.faults w.out) (world.out.faults w1.out) stopped.kind (stopped.first works);
@@ -243,11 +250,13 @@ module _ {S D O : Type 0} (world : World S D O) (input : Input) (limit : ℕ) wh
         read = all.ends.read;
         kind = inl tt;
         told_by_disk = all.shelved.told_by_disk;
+        untold_by_disk = all.shelved.untold_by_disk;
         told_by_out = λ t. fails.told (all.shelved.told_by_out t);
-        first = λ works. (
-          subst (λ (k : ℕ). Rose k (world.out.faults o2)) all.shelved.out_count fails.rose,
-          all.shelved.disk_count,
-        );
+        untold_by_out = λ t. all.shelved.untold_by_out (fails.untold t);
+        first = λ works. first_out (world.source.faults w.source) (world.source.faults w1.source)
+            (world.disk.faults w.disk) (world.disk.faults w1.disk) (world.out.faults w.out) (world.out.faults o2)
+            (subst (λ (k : ℕ). Rose k (world.out.faults o2)) all.shelved.out_count fails.rose)
+            all.shelved.disk_count;
         ends = λ initial before begun.
             let so_far = all.shelved.shelved initial [] before begun in
             let none = none_waits initial before so_far.settled.on_disk
@@ -272,7 +281,6 @@ module _ {S D O : Type 0} (world : World S D O) (input : Input) (limit : ℕ) wh
                       shorter = omega (arith, cut.shorter, ap length line_is);
                       put = cut.put ∙ ap (λ (l : List ℕ). l ++ cut.part) (so_far.put.put t);
                     };
-                rose = subst (λ (k : ℕ). Rose k (world.out.faults o2)) so_far.put.kept fails.rose;
               }),
               none.0,
               none.1,
@@ -292,8 +300,12 @@ module _ {S D O : Type 0} (world : World S D O) (input : Input) (limit : ℕ) wh
         read = all.ends.read;
         kind = inl tt;
         told_by_disk = all.shelved.told_by_disk;
+        untold_by_disk = all.shelved.untold_by_disk;
         told_by_out = λ t. subst world.out.tells (sym same) (all.shelved.told_by_out t);
-        first = λ works. (all.shelved.disk_count, ap world.out.faults same ∙ all.shelved.out_count);
+        untold_by_out = λ t. all.shelved.untold_by_out (subst world.out.tells same t);
+        first = λ works. first_stays NoMemory (world.source.faults w.source) (world.source.faults w1.source)
+            (world.disk.faults w.disk) (world.disk.faults w1.disk) (world.out.faults w.out) (world.out.faults o2) tt tt
+            all.shelved.disk_count (ap world.out.faults same ∙ all.shelved.out_count);
         ends = λ initial before begun.
             let so_far = all.shelved.shelved initial [] before begun in
             let none = none_waits initial before so_far.settled.on_disk
@@ -331,7 +343,9 @@ module _ {S D O : Type 0} (world : World S D O) (input : Input) (limit : ℕ) wh
         read = all.ends.read;
         kind = inr (work_at sums.totals.stop);
         told_by_disk = all.shelved.told_by_disk;
+        untold_by_disk = all.shelved.untold_by_disk;
         told_by_out = λ t. put.told (all.shelved.told_by_out t);
+        untold_by_out = λ t. all.shelved.untold_by_out (put.untold t);
         first = λ works. first_done sums.totals.stop (world.source.faults w.source)
             (world.source.faults w1.source) (world.disk.faults w.disk)
             (world.disk.faults w1.disk) (world.out.faults w.out) (world.out.faults o2)
@@ -358,8 +372,6 @@ module _ {S D O : Type 0} (world : World S D O) (input : Input) (limit : ℕ) wh
                         (sums_line sums)
                         ∙ ap (λ (l : List ℕ). world.out.contents before.out
                         ++ (shelved_lines (next_number initial) files ++ l)) line_is;
-                    disk_count = so_far.disk_count;
-                    out_count = put.kept ∙ so_far.put.kept;
                   }),
               none.0,
               none.1,

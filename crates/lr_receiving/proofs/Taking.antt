@@ -37,7 +37,7 @@ use Rattle.lr_layers.specs.Standing.{LayersStandFor, numbers}
 use Rattle.lr_causes.specs.declared.cause.Cause.{Cause}
 use Rattle.lr_causes.specs.declared.cause.Cause.TheVariants.{NoMemory}
 use Rattle.lr_reading.specs.Arrivals.{arrivals_of, outcomes_of_arrivals}
-use Rattle.lr_reading.specs.Runs.{TakesAll, TakesSome}
+use Rattle.lr_reading.specs.Runs.{TakesAll, TakesSome, course_of, lent}
 use Rattle.lr_reading.specs.declared.arrival.Arrival.{Arrival}
 use Rattle.lr_forms.specs.declared.forms.Input.{Input}
 use Rattle.lr_reading.proofs.Coming.{outcomes_are, outcomes_counted, no_arrivals}
@@ -53,7 +53,7 @@ use Rattle.lr_receiving.proofs.FirstFiles.{files_first}
 use Rattle.lr_receiving.proofs.Timely.{all_come_first, worked_in_time}
 use Rattle.lr_receiving.proofs.Acknowledging.{acknowledged_more}
 use Rattle.lr_receiving.proofs.Pieces.{shelved_none, shelved_on, stopped_after, stopped_before}
-use Rattle.lr_receiving.proofs.Shelving.{no_line}
+use Rattle.lr_receiving.proofs.ShelvingOne.{no_line}
 use Rattle.lr_causes.specs.Outside.{Outlets, outlets_of, outside, world_of}
 use Rattle.lr_reading.specs.Readers.{Leeway}
 use Rattle.lr_shelf.specs.InitialShelves.{InitialShelf}
@@ -190,7 +190,7 @@ module _ {S D O : Type 0} (source : SourceOf S) (disk : DiskOf D) (out : SinkOf 
     {s s' : S} {before now : Shelver D O} (begun : ShelverTook disk out before [] before) where
   -- all files were shelved
   pub received_all : (leeway : Leeway) (sums : ReceiveCounts)
-      → TakesAll source (ShelverTook disk out) input limit leeway sums.totals s s' before now
+      → TakesAll (course_of source (ShelverTook disk out) input limit leeway) sums.totals (lent s before) (lent s' now)
       → sums.counts ≡ now.counts
       → ReadsAll (world_of source disk out) input limit leeway sums before.shelf.now now.shelf.now
       (outside s before.disk.now before.out.now) (outside s' now.disk.now now.out.now)
@@ -208,7 +208,8 @@ module _ {S D O : Type 0} (source : SourceOf S) (disk : DiskOf D) (out : SinkOf 
 
   -- they were not
   pub received_some : (leeway : Leeway) (cause : Cause)
-      → TakesSome source (ShelverTook disk out) input limit leeway (ShelverStopped disk out) cause s s' before now
+      → TakesSome (course_of source (ShelverTook disk out) input limit leeway) (ShelverStopped disk out) cause
+      (lent s before) (lent s' now)
       → ReadsSome (world_of source disk out) input limit leeway cause before.shelf.now
       (outside s before.disk.now before.out.now) (outside s' now.disk.now now.out.now)
   received_some leeway cause some =

@@ -50,7 +50,8 @@ use Rattle.lr_causes.specs.declared.cause.Refusal.TheVariants.{NotAShelf, Capaci
 use Rattle.lr_causes.specs.Causes.{IsEarlier, counts}
 use Rattle.lr_refusals.specs.Errors.{cause_of}
 use Rattle.lr_receiving.specs.Filling.{FillEnds, Fills, IsWithdrawn, LeavesBlankOrItems}
-use Rattle.lr_receiving.specs.First.{IsFirst}
+use Rattle.lr_causes.specs.Counts.{CountsTell}
+use Rattle.lr_receiving.specs.First.{SourceBesides}
 use Rattle.lr_shelf.specs.InitialShelves.{with_files}
 use Rattle.lr_receiving.specs.Trial.{
   trial_capacity,
@@ -64,9 +65,9 @@ use Rattle.lr_receiving.specs.Trial.{
   OutEnds,
   TrialRun,
 }
-use Rattle.lr_receiving.proofs.Causing.{first_later, first_refused}
+use Rattle.lr_receiving.proofs.Causing.{first_disk, first_later, first_refused, first_stays}
 use Rattle.lr_receiving.proofs.Changing.{change_cut}
-use Rattle.lr_receiving.proofs.Shelving.{same_of}
+use Rattle.lr_receiving.proofs.ShelvingOne.{same_of}
 use Rattle.lr_causes.specs.Outside.{outlets, outlets_of}
 
 -- files whose items are not none
@@ -76,10 +77,12 @@ at_least_one (file ∷ files) some = omega arith
 
 -- after memory was refused: the disk is cleaned up, or fails in that
 first_after : (cause : Cause) (d d2 d' o o' : ℕ) → IsEarlier cause → d2 ≡ d → o' ≡ o
-    → IsFirst cause (counts 0 d2 0) (counts 0 d' 0) → IsFirst cause (counts 0 d o) (counts 0 d' o')
+    → CountsTell SourceBesides cause (counts 0 d2 0) (counts 0 d' 0)
+    → CountsTell SourceBesides cause (counts 0 d o) (counts 0 d' o')
 first_after (Failed Disk) d d2 d' o o' early same_disk same_out first =
-    (subst (λ (k : ℕ). Rose k d') same_disk first.0, same_out)
-first_after NoMemory d d2 d' o o' early same_disk same_out first = (first.0 ∙ same_disk, same_out)
+    first_disk 0 0 d d' o o' (subst (λ (k : ℕ). Rose k d') same_disk first.named) same_out
+first_after NoMemory d d2 d' o o' early same_disk same_out first =
+    first_stays NoMemory 0 0 d d' o o' tt tt (first.others Disk (λ is. cc (is)) (λ b. b) ∙ same_disk) same_out
 first_after _ d d2 d' o o' early same_disk same_out first = absurd early
 
 module _ {D O : Type 0} (disk : DiskOf D) (out : SinkOf O) (symbols : List ℕ) (d d1 : D) (o : O)
@@ -124,7 +127,9 @@ module _ {D O : Type 0} (disk : DiskOf D) (out : SinkOf O) (symbols : List ℕ) 
       on_disk = init_refused;
       on_out = refused_out e refusal;
       told_by_disk = inits.calls.told;
+      untold_by_disk = inits.calls.untold;
       told_by_out = λ t. t;
+      untold_by_out = λ t. t;
       first = first_refused e result 0 0 (disk.faults d) (disk.faults d1) (out.faults o) is
           (λ failed. subst (λ (x : ShelfError). IsInitRefusal disk d x) failed refusal) inits.calls.counted;
     }
@@ -184,7 +189,7 @@ module _ {D O : Type 0} (disk : DiskOf D) (out : SinkOf O) (symbols : List ℕ) 
       whole_ends (Refused (Capacity needed most)) other ends = λ told. ends (inits.calls.told told)
       whole_ends _ other ends = absurd ends
 
-      pub filled_first : IsFirst cause2 (counts 0 (disk.faults d) (out.faults o))
+      pub filled_first : CountsTell SourceBesides cause2 (counts 0 (disk.faults d) (out.faults o))
           (counts 0 (disk.faults d2) (out.faults o2))
       filled_first =
           first_later cause2 0 0 (disk.faults d) (disk.faults d1) (disk.faults d2) (out.faults o) (out.faults o)
@@ -197,7 +202,9 @@ module _ {D O : Type 0} (disk : DiskOf D) (out : SinkOf O) (symbols : List ℕ) 
             filled_moments;
         on_out = fills.on_out;
         told_by_disk = λ t. fills.on_disk.told (inits.calls.told t);
+        untold_by_disk = λ t. inits.calls.untold (fills.on_disk.untold t);
         told_by_out = fills.told_by_out;
+        untold_by_out = fills.untold_by_out;
         first = filled_first;
       }
 
@@ -272,14 +279,15 @@ module _ {D O : Type 0} (disk : DiskOf D) (out : SinkOf O) (symbols : List ℕ) 
       out_so _ early = absurd early
 
       pub withdrawn : (cause : Cause) (d' : D) → IsEarlier cause → (disk.tells d2 → disk.tells d')
-          → IsFirst cause (counts 0 (disk.faults d2) 0) (counts 0 (disk.faults d') 0)
+          → (disk.tells d' → disk.tells d2)
+          → CountsTell SourceBesides cause (counts 0 (disk.faults d2) 0) (counts 0 (disk.faults d') 0)
           → (disk.tells d2 → (items : List Item) → IsDurable disk trial_capacity items d2 → cause ≡ NoMemory
           → IsWithdrawn disk items d')
           → (disk.tells d2 → (disk.contents d' ≡ []) ⊎ (disk.contents d' ≡ disk.contents d2))
           → (disk.tells d2 → (items : List Item) → IsDurable disk trial_capacity items d2
           → LeavesBlankOrItems disk items d2 d')
           → TrialRun (outlets_of disk out) symbols cause (outlets d o) (outlets d' o2)
-      withdrawn cause d' early told' first ends left_of moments = record {
+      withdrawn cause d' early told' untold' first ends left_of moments = record {
         on_disk = after cause d'
             (ends_so cause d' early (λ told. ends (told_there told) (items told) (durable told)))
             (λ told. ⊎_elim
@@ -293,8 +301,11 @@ module _ {D O : Type 0} (disk : DiskOf D) (out : SinkOf O) (symbols : List ℕ) 
             (moments (told_there told) (items told) (durable told))));
         on_out = out_so cause early;
         told_by_disk = λ t. told' (told_there t);
+        untold_by_disk = λ t. inits.calls.untold (fills.on_disk.untold (untold' t));
         told_by_out = fills.told_by_out;
+        untold_by_out = fills.untold_by_out;
         first = first_after cause (disk.faults d) (disk.faults d2) (disk.faults d') (out.faults o)
             (out.faults o2) early
-            (fills.first.0 ∙ same_count) fills.first.1 first;
+            (fills.first.others Disk (λ is. cc (is)) (λ b. b) ∙ same_count)
+            (fills.first.others Output (λ is. cc (is)) (λ b. b)) first;
       }

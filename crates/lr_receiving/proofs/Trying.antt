@@ -34,7 +34,6 @@ use Rattle.lr_bits.specs.Faults.{Rose}
 use Rattle.lr_bits.specs.declared.placed.Placed.{Placed}
 use Rattle.lr_io.specs.declared.source.Source.{Ghosts as SourceOf}
 use Rattle.lr_io.specs.declared.sink.Sink.{Ghosts as SinkOf}
-use Rattle.lr_io.specs.Pieces.{PutsPart}
 use Rattle.lr_disk.specs.declared.disk.Disk.{Ghosts as DiskOf}
 use Rattle.lr_shelf_format.specs.Items.{Item}
 use Rattle.lr_shelf_format.specs.ShelfBytes.{StandsForShelf, end_of}
@@ -56,7 +55,7 @@ use Rattle.lr_forms.specs.declared.forms.Stop.{Stop}
 use Rattle.lr_forms.specs.declared.forms.Stop.TheVariants.{End, Limit, Fault}
 use Rattle.lr_causes.specs.declared.cause.Cause.{Cause}
 use Rattle.lr_causes.specs.declared.cause.Cause.TheVariants.{Done, Failed, NoMemory, Refused}
-use Rattle.lr_causes.specs.declared.cause.Party.TheVariants.{Source, Disk, Output}
+use Rattle.lr_causes.specs.declared.cause.Party.TheVariants.{Disk, Output}
 use Rattle.lr_causes.specs.declared.cause.Refusal.TheVariants.{NotAShelf, Capacity}
 use Rattle.lr_reading.specs.Readers.{Leeway}
 use Rattle.lr_receiving.specs.declared.receive_counts.ReceiveCounts.{ReceiveCounts}
@@ -67,28 +66,29 @@ use Rattle.lr_refusals.specs.Errors.{cause_of}
 use Rattle.lr_receiving.specs.Inputs.{files_of_bytes}
 use Rattle.lr_reading.specs.Reading.{IsRead, EndsFor}
 use Rattle.lr_receiving.specs.Receive.{receive_last}
-use Rattle.lr_receiving.specs.Reception.{sums_line, PutsLast, LastStops, ReadsAll, ReadsSome}
+use Rattle.lr_receiving.specs.Reception.{sums_line, ReadsAll, ReadsSome}
 use Rattle.lr_shelf.specs.InitialShelves.{OfItems, HoldsStill, with_files, StandsForPrefix, LeavesPrefixes}
 use Rattle.lr_receiving.specs.Shelving.{StopsBy}
 use Rattle.lr_receiving.specs.Shelved.{MayStop, StopsTrial, ShelvesSoFar}
-use Rattle.lr_receiving.specs.Trial.{trial_capacity, GotFiles, StandsForPart, HoldsTrialPart, OutEnds}
-use Rattle.lr_receiving.specs.Filling.{FillEnds, FillsDisk, Fills, StopsFilling}
+use Rattle.lr_receiving.specs.Trial.{trial_capacity, GotFiles, StandsForPart, HoldsTrialPart}
+use Rattle.lr_receiving.specs.Filling.{FillEnds, FillsDisk, StopsFilling}
 use Rattle.lr_receiving.proofs.Causing.{first_later, first_refused, none_rose}
-use Rattle.lr_receiving.specs.First.{IsFirst}
+use Rattle.lr_causes.specs.Counts.{CountsTell}
+use Rattle.lr_receiving.specs.First.{SourceBesides}
 use Rattle.lr_receiving.proofs.Headline.{end_of-append}
 use Rattle.lr_receiving.proofs.ReceiveEnding.{last_line_is, loaded}
 use Rattle.lr_shelf.proofs.InitialPrefixes.{front_more}
 use Rattle.lr_shelf.proofs.InitialShelves.{of_items, with_files-append}
 use Rattle.lr_receiving.specs.Onto.{ChangesFor, ChangesImagesFor}
 use Rattle.lr_receiving.proofs.Changing.{both_of, change_among, change_for, no_change}
-use Rattle.lr_receiving.proofs.Shelving.{same_of}
+use Rattle.lr_receiving.proofs.ShelvingOne.{same_of}
 use Rattle.lr_causes.specs.Outside.{outlets, outlets_of, outside, world_of}
 
 -- a sink that counts no fault doesn't stop it
-pub stops_trial : (cause : Cause) (s s' d d' : ℕ) → MayStop cause → IsFirst cause (counts s d 0) (counts s' d' 0)
-    → StopsTrial cause
+pub stops_trial : (cause : Cause) (s s' d d' : ℕ) → MayStop cause
+    → CountsTell SourceBesides cause (counts s d 0) (counts s' d' 0) → StopsTrial cause
 stops_trial (Failed Disk) s s' d d' may caused = tt
-stops_trial (Failed Output) s s' d d' may caused = absurd (none_rose caused.0)
+stops_trial (Failed Output) s s' d d' may caused = absurd (none_rose caused.named)
 stops_trial NoMemory s s' d d' may caused = tt
 stops_trial (Refused (Capacity needed most)) s s' d d' may caused = tt
 stops_trial _ s s' d d' may caused = absurd may
@@ -162,6 +162,7 @@ module _ {D : Type 0} (disk : DiskOf D) (symbols : List ℕ) (d1 : D)
       kind = unloaded_kind e r;
       fills = record {
         told = loads.calls.told;
+        untold = loads.calls.untold;
         ends = unloaded_ends e is r;
         got = got_none;
         any_moment = λ told. weaker disk.moment disk.left_since d1 d2 _ _
@@ -303,13 +304,14 @@ module _ {D : Type 0} (disk : DiskOf D) (symbols : List ℕ) (d1 : D)
 
         -- a sink that counts no fault
         module _ (sure : (x : O) → out.faults x ≡ 0) (works : (kept_by shelf).failed ≡ false) where
-          first : IsFirst cause (counts 0 (disk.faults d1) 0) (counts 0 (disk.faults d') 0)
+          abbrev between : ℕ → ℕ → Type 0
+          between o1 o2 = CountsTell SourceBesides cause (counts 0 (disk.faults d2) o1) (counts 0 (disk.faults d') o2)
+
+          first : CountsTell SourceBesides cause (counts 0 (disk.faults d1) 0) (counts 0 (disk.faults d') 0)
           first =
               first_later cause 0 0 (disk.faults d1) (disk.faults d2) (disk.faults d') 0 0 0 same_count refl
-              (subst (λ (k : ℕ). IsFirst cause (counts 0 (disk.faults d2) 0) (counts 0 (disk.faults d') k))
-              (sure o')
-              (subst (λ (k : ℕ). IsFirst cause (counts 0 (disk.faults d2) k)
-              (counts 0 (disk.faults d') (out.faults o'))) (sure o) (some.stopped.first works)))
+              (subst (between 0) (sure o')
+              (subst (λ (k : ℕ). between k (out.faults o')) (sure o) (some.stopped.first works)))
 
           kind : StopsTrial cause
           kind = stops_trial cause 0 0 (disk.faults d1) (disk.faults d') some.stopped.kind first
@@ -319,6 +321,7 @@ module _ {D : Type 0} (disk : DiskOf D) (symbols : List ℕ) (d1 : D)
             kind = kind;
             fills = record {
               told = λ t. some.stopped.told_by_disk (loads.calls.told t);
+              untold = λ t. loads.calls.untold (some.stopped.untold_by_disk t);
               ends = stopped_ends cause
                   (λ told. (some.early.stops (OfItems trial_capacity []) [] (outlets d1 o) (begun told)).why) kind;
               got = λ told.
@@ -377,6 +380,7 @@ module _ {D : Type 0} (disk : DiskOf D) (symbols : List ℕ) (d1 : D)
         pub finished : FillsDisk disk symbols Done d1 d'
         finished = record {
           told = λ t. all.shelved.told_by_disk (loads.calls.told t);
+          untold = λ t. loads.calls.untold (all.shelved.untold_by_disk t);
           ends = (
             λ told. subst (λ (l : List ℕ). IsDurable disk trial_capacity
                 (with_files [] (files_of_bytes (Symbols STANDARD) l)) d') ended_so.1 (durable told),
@@ -432,78 +436,3 @@ module _ {D : Type 0} (disk : DiskOf D) (symbols : List ℕ) (d1 : D)
           (subst (λ (r : Result Shelf ShelfError). IfOk r (λ x. (kept_by x).failed ≡ false)) is2 loads.working)
 
 -- the last line wasn't put, after all was shelved
-module _ {D O : Type 0} (disk : DiskOf D) (out : SinkOf O) (symbols : List ℕ) (d d' : D) (o o' : O)
-    (done : FillsDisk disk symbols Done d d') where
-  all_held : disk.tells d → HoldsTrialPart disk symbols 0 d'
-  all_held told =
-      let durable = done.ends.0 told in
-      let files = files_of_bytes (Symbols STANDARD) symbols in
-      record {
-        contents = record {
-          first = files;
-          rest = [];
-          split = sym (append-nil files);
-          enough = omega arith;
-          stands = durable.stands;
-        };
-        images = durable.durable;
-      }
-
-  left_by : (cause : Cause) → FillEnds disk symbols cause d d' → FillsDisk disk symbols cause d d'
-  left_by cause ends = record { told = done.told; ends = ends; got = done.got; any_moment = done.any_moment }
-
-  module _ (sums : ReceiveCounts) (line : sums_line sums ≡ receive_last (Symbols STANDARD) symbols End) where
-    pub last_stops : (cause : Cause) → LastStops out sums cause o o'
-        → Fills (outlets_of disk out) symbols cause (outlets d o) (outlets d' o')
-    last_stops (Failed Output) stops = record {
-      on_disk = left_by (Failed Output) done.ends.0;
-      on_out = λ told. subst (λ (l : List ℕ). PutsPart l (out.contents o) (out.contents o')) line (stops.part told);
-      told_by_out = stops.told;
-      first = (stops.rose, done.ends.1);
-    }
-    last_stops NoMemory stops = record {
-      on_disk = left_by NoMemory all_held;
-      on_out = stops;
-      told_by_out = λ t. subst out.tells (sym stops) t;
-      first = (done.ends.1, ap out.faults stops);
-    }
-    last_stops _ stops = absurd stops
-
-    -- it was
-    pub last_put : PutsLast out sums o o' → Fills (outlets_of disk out) symbols Done (outlets d o) (outlets d' o')
-    last_put puts = record {
-      on_disk = done;
-      on_out = (
-        λ told. subst (λ (l : List ℕ). out.contents o' ≡ out.contents o ++ l) line (puts.put told),
-        puts.kept,
-      );
-      told_by_out = puts.told;
-      first = (refl, done.ends.1, puts.kept);
-    }
-
--- it wasn't composed, since the trial stopped before
-module _ {D O : Type 0} (disk : DiskOf D) (out : SinkOf O) (symbols : List ℕ) (d d' : D) (o : O) where
-  silent : (cause : Cause) → StopsTrial cause → OutEnds out symbols cause o o
-  silent Done stops = absurd stops
-  silent (Failed Source) stops = absurd stops
-  silent (Failed Output) stops = absurd stops
-  silent (Failed Disk) stops = refl
-  silent _ stops = refl
-
-  beside_out : (cause : Cause) → StopsTrial cause
-      → IsFirst cause (counts 0 (disk.faults d) 0) (counts 0 (disk.faults d') 0)
-      → IsFirst cause (counts 0 (disk.faults d) (out.faults o)) (counts 0 (disk.faults d') (out.faults o))
-  beside_out Done stops first = absurd stops
-  beside_out (Failed Source) stops first = absurd stops
-  beside_out (Failed Output) stops first = absurd stops
-  beside_out (Failed Disk) stops first = (first.0, refl)
-  beside_out _ stops first = (first.0, refl)
-
-  pub stream_stops : (cause : Cause) → StopsFilling disk symbols cause d d'
-      → Fills (outlets_of disk out) symbols cause (outlets d o) (outlets d' o)
-  stream_stops cause stops = record {
-    on_disk = stops.fills;
-    on_out = silent cause stops.kind;
-    told_by_out = λ t. t;
-    first = beside_out cause stops.kind stops.first;
-  }

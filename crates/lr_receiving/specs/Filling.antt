@@ -12,7 +12,8 @@ use Rattle.lr_causes.specs.declared.cause.Cause.TheVariants.{NoMemory, Refused}
 use Rattle.lr_causes.specs.declared.cause.Refusal.TheVariants.{NotEmpty}
 use Rattle.lr_causes.specs.Causes.{counts}
 use Rattle.lr_causes.specs.Outside.{Outlets, OutletsOf, outlet_counts}
-use Rattle.lr_receiving.specs.First.{IsFirst}
+use Rattle.lr_causes.specs.Counts.{CountsTell}
+use Rattle.lr_receiving.specs.First.{SourceBesides}
 use Rattle.lr_receiving.specs.Shelved.{StopsTrial}
 use Rattle.lr_receiving.specs.Trial.{
   trial_capacity,
@@ -33,6 +34,7 @@ module _ {D : Type 0} (disk : DiskOf D) (symbols : List ℕ) where
 
   pub record FillsDisk (cause : Cause) (d d' : D) : Type 0 where
     pub told : disk.tells d → disk.tells d'
+    pub untold : disk.tells d' → disk.tells d
     pub ends : FillEnds cause d d'
     -- the contents at the return
     pub got : disk.tells d → GotFiles symbols (disk.contents d) (disk.contents d')
@@ -43,7 +45,7 @@ module _ {D : Type 0} (disk : DiskOf D) (symbols : List ℕ) where
   pub record StopsFilling (cause : Cause) (d d' : D) : Type 0 where
     pub kind : StopsTrial cause
     pub fills : FillsDisk cause d d'
-    pub first : IsFirst cause (counts 0 (disk.faults d) 0) (counts 0 (disk.faults d') 0)
+    pub first : CountsTell SourceBesides cause (counts 0 (disk.faults d) 0) (counts 0 (disk.faults d') 0)
 
 module _ {D O : Type 0} (world : OutletsOf D O) (symbols : List ℕ) where
   -- what filling the shelf does, from the first read of the disk to the last line
@@ -51,7 +53,8 @@ module _ {D O : Type 0} (world : OutletsOf D O) (symbols : List ℕ) where
     pub on_disk : FillsDisk world.disk symbols cause w.disk w'.disk
     pub on_out : OutEnds world.out symbols cause w.out w'.out
     pub told_by_out : world.out.tells w.out → world.out.tells w'.out
-    pub first : IsFirst cause (outlet_counts world w) (outlet_counts world w')
+    pub untold_by_out : world.out.tells w'.out → world.out.tells w.out
+    pub first : CountsTell SourceBesides cause (outlet_counts world w) (outlet_counts world w')
 
 module _ {D : Type 0} (disk : DiskOf D) (items : List Item) where
   -- a shelf of no items was taken away, and one of some items stayed

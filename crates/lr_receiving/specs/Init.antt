@@ -14,7 +14,8 @@ use Rattle.lr_causes.specs.declared.cause.Party.TheVariants.{Disk, Output}
 use Rattle.lr_causes.specs.declared.cause.Refusal.TheVariants.{NotEmpty}
 use Rattle.lr_causes.specs.Causes.{IsEarlier}
 use Rattle.lr_causes.specs.Outside.{Outlets, OutletsOf, outlet_counts}
-use Rattle.lr_receiving.specs.First.{IsFirst}
+use Rattle.lr_causes.specs.Counts.{CountsTell}
+use Rattle.lr_receiving.specs.First.{SourceBesides}
 
 -- the line of a shelf that was made
 unfoldable pub capacity_line : ℕ → List ℕ
@@ -51,7 +52,7 @@ module _ {D O : Type 0} (world : OutletsOf D O) (capacity : ℕ) where
   pub record InitRun (cause : Cause) (w w' : Outlets D O) : Type 0 where
     pub ends : InitEnds cause w w'
     -- the first event decides
-    pub first : IsFirst cause (outlet_counts world w) (outlet_counts world w')
+    pub first : CountsTell SourceBesides cause (outlet_counts world w) (outlet_counts world w')
     -- a disk that is taken is refused, exactly then, and nothing is written
     pub taken : world.disk.tells w.disk → IsTaken (world.disk.contents w.disk)
         → ((cause ≡ Refused (NotEmpty (length (world.disk.contents w.disk)))) ⊎ IsEarlier cause)

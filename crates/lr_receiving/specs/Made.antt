@@ -22,8 +22,8 @@ module _ {O : Type 0} (out : SinkOf O) (bytes : List ℕ) where
   abbrev pub MakeEnds : Cause → O → O → Type 0
   MakeEnds Done o o' =
       (out.tells o → out.contents o' ≡ out.contents o ++ bytes) × (out.faults o' ≡ out.faults o)
-      × (out.tells o → out.tells o')
+      × (out.tells o → out.tells o') × (out.tells o' → out.tells o)
   MakeEnds (Failed Output) o o' =
       (out.tells o → PutsPart bytes (out.contents o) (out.contents o'))
-      × (out.tells o → out.tells o')
+      × (out.tells o → out.tells o') × (out.tells o' → out.tells o)
   MakeEnds _ o o' = ⊥

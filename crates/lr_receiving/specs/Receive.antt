@@ -2,7 +2,6 @@
 use Rattle.std.specs.Prelude.{◌≡◌, ◌⊎◌, ◌≤◌, ℕ, List, [], ◌++◌, length}
 use Rattle.lr_bits.specs.declared.outcome.Outcome.{Outcome}
 use Rattle.lr_bits.specs.declared.placed.Placed.{Placed}
-use Rattle.lr_bits.specs.Faults.{Rose}
 use Rattle.lr_disk.specs.Reads.{IsUnwritten}
 use Rattle.lr_disk.specs.Pending.{NothingPending}
 use Rattle.lr_layers.specs.Layers.{CountsView, numbers_of}
@@ -30,7 +29,8 @@ use Rattle.lr_causes.specs.Outside.{
   outlets_in,
   world_outlets,
 }
-use Rattle.lr_receiving.specs.First.{IsFirst}
+use Rattle.lr_causes.specs.Counts.{CountsTell}
+use Rattle.lr_receiving.specs.First.{SourceBesides}
 use Rattle.lr_reading.specs.Inputs.{outcomes_of_bytes, bytes_left_over}
 use Rattle.lr_reading.specs.Readers.{AreAllThatWait, HaveEnded, most_ahead, most_waiting, most_when_asked}
 use Rattle.lr_receiving.specs.Inputs.{files_of_bytes}
@@ -44,7 +44,6 @@ use Rattle.lr_shelf.specs.InitialShelves.{
   HoldsPrefix,
   HoldsStill,
   LeavesPrefixes,
-  SomeLackRoom,
   StandsWith,
   next_number,
 }
@@ -63,8 +62,15 @@ use Rattle.lr_receiving.specs.Shelving.{
 -- bytes are left
 abbrev pub counts_line : ℕ → ℕ → CountsView → ℕ → Stop → List ℕ
 counts_line symbols frames numbers left stop =
-    summary_line (Receive symbols frames numbers.restored numbers.lost
-    numbers.packets numbers.files left) stop
+    summary_line (Receive (record {
+      symbols = symbols;
+      frames = frames;
+      restored = numbers.restored;
+      lost = numbers.lost;
+      packets = numbers.packets;
+      files = numbers.files;
+      left = left;
+    })) stop
 
 -- the last line of outcomes
 unfoldable pub receive_count : List Outcome → ℕ → ℕ → Stop → List ℕ
@@ -110,8 +116,6 @@ module _ {S D O : Type 0} (world : World S D O) where
           (shelved_lines (next_number initial) (files_of_bytes input bytes)
           ++ receive_last input bytes stop)
           w.out w'.out
-      pub disk_count : world.disk.faults w'.disk ≡ world.disk.faults w.disk
-      pub out_count : world.out.faults w'.out ≡ world.out.faults w.out
 
     -- `out` failed in the last line
     pub record SummaryStops (w w' : Outside S D O) : Type 0 where
@@ -120,7 +124,6 @@ module _ {S D O : Type 0} (world : World S D O) where
       pub durable : HoldsStill initial (files_of_bytes input bytes) world.disk w'.disk
       pub part : GotPart world.out (shelved_lines (next_number initial) (files_of_bytes input bytes))
           (receive_last input bytes stop) w.out w'.out
-      pub rose : Rose (world.out.faults w.out) (world.out.faults w'.out)
 
     -- how a run ends, for each cause that it may have
     abbrev pub Ends : Cause → Outside S D O → Outside S D O → Type 0
@@ -181,17 +184,13 @@ pub record Receives {S D O : Type 0} (world : World S D O) (input : Input) (init
       → world.out.contents w'.out
       ≡ world.out.contents w.out ++ (shelved_lines (next_number initial) whole ++ text)
       → HoldsPrefix world.disk initial (files_of_bytes input bytes) (length whole) w'.disk
-  pub held_untold : HoldsPrefix world.disk initial (files_of_bytes input bytes) 0 w'.disk
-  -- so does every moment of the call
+  -- a stop at any moment of the call leaves what was there and a prefix of the files
   pub any_moment : LeavesPrefixes world.disk initial (files_of_bytes input bytes) w.disk w'.disk
   -- what a finished run leaves, and one that stopped early
   pub ends : Ends world input initial limit bytes cause w w'
   -- where no count rises and all files fit, the work is done or memory was refused
   pub complete : NoFault world w w' → AllHaveRoom initial (files_of_bytes input bytes)
       → (cause ≡ Done) ⊎ (cause ≡ NoMemory)
-  -- where they don't all fit, the work isn't done
-  pub overfull : SomeLackRoom initial (files_of_bytes input bytes)
-      → (cause ≡ Done → ⊥) × (cause ≡ Failed Source → ⊥)
 
 -- The work is done, over every disk, whatever it tells and whatever is pending on it.
 pub record EndsWork {S D O : Type 0} (world : World S D O) (input : Input) (limit : ℕ) (bytes : List ℕ) (cause : Cause)
@@ -218,9 +217,11 @@ pub record ReceiveRun {S D O : Type 0} (world : World S D O) (input : Input)
     (workers limit : ℕ) (cause : Cause) (w w' : Outside S D O) : Type 0 where
   pub causes : IsReceiveCause cause
   -- the first event decides
-  pub first : IsFirst cause (counts_in world w) (counts_in world w')
+  pub first : CountsTell SourceBesides cause (counts_in world w) (counts_in world w')
   pub told_by_disk : world.disk.tells w.disk → world.disk.tells w'.disk
+  pub untold_by_disk : world.disk.tells w'.disk → world.disk.tells w.disk
   pub told_by_out : world.out.tells w.out → world.out.tells w'.out
+  pub untold_by_out : world.out.tells w'.out → world.out.tells w.out
   -- these bytes were taken
   pub bytes : List ℕ
   pub read : IsRead world.source limit bytes w.source w'.source

@@ -24,7 +24,8 @@ use Rattle.lr_reading.specs.Runs.{ReadsInput}
 use Rattle.lr_receiving.specs.Inputs.{files_of_bytes}
 use Rattle.lr_causes.specs.Causes.{IsEarlier, cause_at}
 use Rattle.lr_causes.specs.Outside.{Outlets, OutletsOf, Outside, World, counts_in, outlets_in, outside, world_outlets}
-use Rattle.lr_receiving.specs.First.{IsFirst}
+use Rattle.lr_causes.specs.Counts.{CountsTell}
+use Rattle.lr_receiving.specs.First.{SourceBesides}
 use Rattle.lr_shelf.specs.InitialShelves.{InitialShelf, LeavesPrefixes}
 use Rattle.lr_shelf.specs.Prefixes.{HasRoom}
 use Rattle.lr_receiving.specs.Onto.{ChangesFor, ChangesImagesFor, IsFullWith}
@@ -118,9 +119,11 @@ module _ {S D O : Type 0} (world : World S D O) (input : Input) (limit : ℕ) wh
     pub read : IsRead world.source limit bytes w.source w'.source
     pub kind : MayStop cause ⊎ IsWorkDone cause
     pub told_by_disk : world.disk.tells w.disk → world.disk.tells w'.disk
+    pub untold_by_disk : world.disk.tells w'.disk → world.disk.tells w.disk
     pub told_by_out : world.out.tells w.out → world.out.tells w'.out
+    pub untold_by_out : world.out.tells w'.out → world.out.tells w.out
     pub first : (kept_by shelf).failed ≡ false
-        → IsFirst cause (counts_in world w) (counts_in world w')
+        → CountsTell SourceBesides cause (counts_in world w) (counts_in world w')
     pub ends : (initial : InitialShelf) (before : Outlets D O)
         → ShelvesSoFar (world_outlets world) initial [] shelf before (outlets_in w)
         → LeavesPrefixes world.disk initial (files_of_bytes input bytes) before.disk w'.disk

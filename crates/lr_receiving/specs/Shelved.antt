@@ -12,7 +12,8 @@ use Rattle.lr_causes.specs.declared.cause.Party.TheVariants.{Disk, Output}
 use Rattle.lr_causes.specs.declared.cause.Refusal.TheVariants.{NotAShelf, Capacity}
 use Rattle.lr_causes.specs.Outside.{Outlets, OutletsOf, outlet_counts}
 use Rattle.lr_causes.specs.Puts.{Puts}
-use Rattle.lr_receiving.specs.First.{IsFirst}
+use Rattle.lr_causes.specs.Counts.{CountsTell}
+use Rattle.lr_receiving.specs.First.{SourceBesides}
 use Rattle.lr_shelf.specs.Adding.{StaysOutside}
 use Rattle.lr_shelf.specs.InitialShelves.{InitialShelf, IsSettledOn, LeavesPrefixes, next_number}
 use Rattle.lr_shelf.specs.Prefixes.{HasRoom, end_with}
@@ -63,7 +64,9 @@ module _ {D O : Type 0} (world : OutletsOf D O) where
   pub record HasShelved (files : List Placed) (shelf shelf' : Shelf)
       (w w' : Outlets D O) : Type 0 where
     pub told_by_disk : world.disk.tells w.disk → world.disk.tells w'.disk
+    pub untold_by_disk : world.disk.tells w'.disk → world.disk.tells w.disk
     pub told_by_out : world.out.tells w.out → world.out.tells w'.out
+    pub untold_by_out : world.out.tells w'.out → world.out.tells w.out
     pub working : (kept_by shelf).failed ≡ false → (kept_by shelf').failed ≡ false
     pub disk_count : world.disk.faults w'.disk ≡ world.disk.faults w.disk
     pub out_count : world.out.faults w'.out ≡ world.out.faults w.out
@@ -87,9 +90,11 @@ module _ {D O : Type 0} (world : OutletsOf D O) where
       (w w' : Outlets D O) : Type 0 where
     pub kind : MayStop cause
     pub told_by_disk : world.disk.tells w.disk → world.disk.tells w'.disk
+    pub untold_by_disk : world.disk.tells w'.disk → world.disk.tells w.disk
     pub told_by_out : world.out.tells w.out → world.out.tells w'.out
+    pub untold_by_out : world.out.tells w'.out → world.out.tells w.out
     pub first : (kept_by shelf).failed ≡ false
-        → IsFirst cause (outlet_counts world w) (outlet_counts world w')
+        → CountsTell SourceBesides cause (outlet_counts world w) (outlet_counts world w')
     -- after others, on any initial shelf
     pub stops : (initial : InitialShelf) (done : List Placed) (before : Outlets D O)
         → ShelvesSoFar initial done shelf before w

@@ -1,7 +1,6 @@
 -- Files that come onto a shelf, one after another.
 use Rattle.std.specs.Prelude.{◌≡◌, ◌⊎◌, ◌<◌, ◌+◌, ℕ, List, [], ◌∷◌, ◌++◌, length}
 use Rattle.lr_bits.specs.declared.placed.Placed.{Placed}
-use Rattle.lr_bits.specs.Faults.{Rose}
 use Rattle.lr_io.specs.declared.sink.Sink.{Ghosts as SinkOf}
 use Rattle.lr_io.specs.Pieces.{PutsPart}
 use Rattle.lr_catalog.specs.Files.{shelved_line}
@@ -64,7 +63,6 @@ module _ {D O : Type 0} (world : OutletsOf D O) (initial : InitialShelf) where
     pub images : (c : List ℕ) → world.disk.may_leave w'.disk c
         → StandsForOneFileMore initial done rest c
     pub got : GotText world.out (shelved_lines (next_number initial) done) w.out w'.out
-    pub rose : Rose (world.disk.faults w.disk) (world.disk.faults w'.disk)
 
   -- memory was refused: these files are acknowledged, and they alone stand there
   pub record MemoryStops (files : List Placed) (w w' : Outlets D O) : Type 0 where
@@ -95,7 +93,6 @@ module _ {D O : Type 0} (world : OutletsOf D O) (initial : InitialShelf) where
     pub durable : HoldsStill initial (done ++ last ∷ []) world.disk w'.disk
     pub part : GotPart world.out (shelved_lines (next_number initial) done)
         (shelved_line (next_number initial + length done) last.file) w.out w'.out
-    pub rose : Rose (world.out.faults w.out) (world.out.faults w'.out)
 
   -- how shelving these files stops, for each cause that may stop it
   abbrev pub StopsBy : Cause → List Placed → Outlets D O → Outlets D O → Type 0

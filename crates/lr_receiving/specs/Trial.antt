@@ -18,7 +18,8 @@ use Rattle.lr_causes.specs.declared.cause.Refusal.TheVariants.{NotAShelf, Capaci
 use Rattle.lr_forms.specs.declared.forms.Input.TheVariants.{Symbols}
 use Rattle.lr_causes.specs.Causes.{IsEarlier}
 use Rattle.lr_causes.specs.Outside.{Outlets, OutletsOf, outlet_counts}
-use Rattle.lr_receiving.specs.First.{IsFirst}
+use Rattle.lr_causes.specs.Counts.{CountsTell}
+use Rattle.lr_receiving.specs.First.{SourceBesides}
 use Rattle.lr_receiving.specs.Inputs.{files_of_bytes}
 use Rattle.lr_receiving.specs.Onto.{ChangesFor}
 use Rattle.lr_receiving.specs.Receive.{receive_last}
@@ -107,6 +108,8 @@ module _ {D O : Type 0} (world : OutletsOf D O) (symbols : List ℕ) where
     pub on_disk : LeavesDisk world.disk symbols cause w.disk w'.disk
     pub on_out : OutEnds world.out symbols cause w.out w'.out
     pub told_by_disk : world.disk.tells w.disk → world.disk.tells w'.disk
+    pub untold_by_disk : world.disk.tells w'.disk → world.disk.tells w.disk
     pub told_by_out : world.out.tells w.out → world.out.tells w'.out
+    pub untold_by_out : world.out.tells w'.out → world.out.tells w.out
     -- the first event decides, but a disk that fails as the shelf is taken away is told instead of want of memory
-    pub first : IsFirst cause (outlet_counts world w) (outlet_counts world w')
+    pub first : CountsTell SourceBesides cause (outlet_counts world w) (outlet_counts world w')

@@ -25,7 +25,9 @@ pub fn init<D: Disk, O: Sink>(alloc: Global, capacity: u64, disk: &mut D, out: &
     ensures cause { IsCaused result (counts 0 (D.faults disk.old) (O.faults out.old))
         (counts 0 (D.faults disk.new) (O.faults out.new)) }
     ensures told_by_disk { D.tells disk.old → D.tells disk.new }
+    ensures untold_by_disk { D.tells disk.new → D.tells disk.old }
     ensures told_by_out { O.tells out.old → O.tells out.new }
+    ensures untold_by_out { O.tells out.new → O.tells out.old }
     ensures run { InitRun (outlets_of D.Disk O.Sink) capacity result
         (outlets disk.old out.old) (outlets disk.new out.new) }
 {

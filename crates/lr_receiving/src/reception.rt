@@ -3,7 +3,7 @@ ghost use Rattle.std.specs.Prelude.{◌≡◌, ◌≤◌, ◌^◌, ℕ, [], IfOk
 ghost use Rattle.lr_causes.specs.Outside.{outside, world_of};
 ghost use Rattle.lr_reading.specs.Leading.{MayLead, Leads};
 ghost use Rattle.lr_reading.specs.Readers.{Leeway, leeway_for};
-ghost use Rattle.lr_reading.specs.Runs.{IsLed};
+ghost use Rattle.lr_reading.specs.Runs.{IsLed, course_of, lent};
 ghost use Rattle.lr_receiving.specs.Receive.{ReceiveRun};
 ghost use Rattle.lr_receiving.specs.Reception.{ReadsAll, ReadsSome, EndsRun, PutsLast, LastStops};
 ghost use Rattle.lr_receiving.specs.ShelverTaken.{ShelverTook, ShelverStopped};
@@ -11,7 +11,7 @@ ghost use Rattle.lr_receiving.specs.ShelverTaken.{ShelverTook, ShelverStopped};
 use crate::receive_counts::ReceiveCounts;
 use crate::shelver::Shelver;
 use lr_bits::{Bytes, NoMemory};
-use lr_catalog::{Summary, summary_line};
+use lr_catalog::{ReceiveSums, Summary, summary_line};
 use lr_causes::{Cause, cause_at, put_text};
 use lr_disk::Disk;
 use lr_forms::{Input, MOST_WORKERS};
@@ -42,12 +42,12 @@ pub(crate) fn receive_all<
     read: F,
 ) -> Result<ReceiveCounts, Cause>
     requires ready { MayLead (F.pre read) (ShelverTook D.Disk O.Sink) }
-    ensures all { (leeway : Leeway) → Leads (F.post read) S.Source (ShelverTook D.Disk O.Sink)
-        (ShelverStopped D.Disk O.Sink) input most leeway
+    ensures all { (leeway : Leeway) → Leads (F.post read)
+        (course_of S.Source (ShelverTook D.Disk O.Sink) input most leeway) (ShelverStopped D.Disk O.Sink)
         → IfOk result (λ sums. ReadsAll (world_of S.Source D.Disk O.Sink) input most leeway sums shelf.old shelf.new
         (outside source.old disk.old out.old) (outside source.new disk.new out.new)) }
-    ensures some { (leeway : Leeway) → Leads (F.post read) S.Source (ShelverTook D.Disk O.Sink)
-        (ShelverStopped D.Disk O.Sink) input most leeway
+    ensures some { (leeway : Leeway) → Leads (F.post read)
+        (course_of S.Source (ShelverTook D.Disk O.Sink) input most leeway) (ShelverStopped D.Disk O.Sink)
         → IfErr result
         (λ cause. ReadsSome (world_of S.Source D.Disk O.Sink) input most leeway cause shelf.old
         (outside source.old disk.old out.old) (outside source.new disk.new out.new)) }
@@ -77,11 +77,12 @@ pub(crate) fn put_last<O: Sink>(
     out: &mut O,
 ) -> Result<(), Cause>
     ensures told { O.tells out.old → O.tells out.new }
+    ensures untold { O.tells out.new → O.tells out.old }
     ensures put { IfOk result (λ _. PutsLast O.Sink sums.now out.old out.new) }
     ensures stopped { IfErr result (λ cause. LastStops O.Sink sums.now cause out.old out.new) }
 {
     let mut line = Bytes::new(alloc);
-    let summary = Summary::Receive {
+    let summary = Summary::Receive(ReceiveSums {
         symbols: sums.totals.symbols,
         frames: sums.totals.frames,
         restored: sums.counts.restored,
@@ -89,7 +90,7 @@ pub(crate) fn put_last<O: Sink>(
         packets: sums.counts.packets,
         files: sums.counts.files,
         left: sums.totals.left,
-    };
+    });
     summary_line(alloc, &summary, sums.totals.stop, &mut line)?;
     put_text(line.as_slice(), out)
 }
@@ -111,8 +112,8 @@ fn receive_onto<
     read: F,
 ) -> Cause
     requires ready { MayLead (F.pre read) (ShelverTook D.Disk O.Sink) }
-    ensures { (leeway : Leeway) → Leads (F.post read) S.Source (ShelverTook D.Disk O.Sink)
-        (ShelverStopped D.Disk O.Sink) input most leeway
+    ensures { (leeway : Leeway) → Leads (F.post read)
+        (course_of S.Source (ShelverTook D.Disk O.Sink) input most leeway) (ShelverStopped D.Disk O.Sink)
         → EndsRun (world_of S.Source D.Disk O.Sink) input most leeway result
         shelf.old (outside source.old disk.old out.old) (outside source.new disk.new out.new) }
 {
@@ -143,8 +144,9 @@ fn receive_with<
     read: F,
 ) -> Cause
     requires ready { MayLead (F.pre read) (ShelverTook D.Disk O.Sink) }
-    ensures { (workers : ℕ) → Leads (F.post read) S.Source (ShelverTook D.Disk O.Sink)
-        (ShelverStopped D.Disk O.Sink) input most (leeway_for input workers)
+    ensures { (workers : ℕ) → Leads (F.post read)
+        (course_of S.Source (ShelverTook D.Disk O.Sink) input most (leeway_for input workers))
+        (ShelverStopped D.Disk O.Sink)
         → ReceiveRun (world_of S.Source D.Disk O.Sink) input workers most result
         (outside source.old disk.old out.old) (outside source.new disk.new out.new) }
 {
@@ -182,9 +184,9 @@ pub fn receive_alone<S: Source, D: Disk, O: Sink>(
         |source, shelver| -> Result<ReadCounts, Cause>
             requires { ((reader.workers ≡ 1) × (reader.most ≤ 2 ^ 48))
                 × ((first : _) × ShelverTook D.Disk O.Sink first [] shelver.old) }
-            ensures { IsLed S.Source (ShelverTook D.Disk O.Sink) reader.input reader.most
-                (leeway_for reader.input reader.workers) (ShelverStopped D.Disk O.Sink) result source.old source.new
-                shelver.old shelver.new }
+            ensures { IsLed (course_of S.Source (ShelverTook D.Disk O.Sink) reader.input reader.most
+                (leeway_for reader.input reader.workers)) (ShelverStopped D.Disk O.Sink) result
+                (lent source.old shelver.old) (lent source.new shelver.new) }
         { reader.read_alone(source, shelver) },
     )
 }
@@ -221,9 +223,9 @@ pub fn receive<R: Threads + Wait + Sync, H: Hand, S: Source, D: Disk, O: Sink>(
         |source, shelver| -> Result<ReadCounts, Cause>
             requires { (reader.most ≤ 2 ^ 48) × ((first : _)
                 × ShelverTook D.Disk O.Sink first [] shelver.old) }
-            ensures { IsLed S.Source (ShelverTook D.Disk O.Sink) reader.input reader.most
-                (leeway_for reader.input reader.workers) (ShelverStopped D.Disk O.Sink) result source.old source.new
-                shelver.old shelver.new }
+            ensures { IsLed (course_of S.Source (ShelverTook D.Disk O.Sink) reader.input reader.most
+                (leeway_for reader.input reader.workers)) (ShelverStopped D.Disk O.Sink) result
+                (lent source.old shelver.old) (lent source.new shelver.new) }
         { reader.read(rt, source, shelver) },
     )
 }

@@ -15,7 +15,7 @@ ghost use Rattle.lr_receiving.specs.Receive.{receive_last};
 ghost use Rattle.lr_receiving.specs.Reception.{sums_line};
 ghost use Rattle.lr_reading.specs.Leading.{MayLead, Leads};
 ghost use Rattle.lr_reading.specs.Readers.{Leeway, leeway_for};
-ghost use Rattle.lr_reading.specs.Runs.{IsLed};
+ghost use Rattle.lr_reading.specs.Runs.{IsLed, course_of, lent};
 ghost use Rattle.lr_receiving.specs.ShelverTaken.{ShelverTook, ShelverStopped};
 ghost use Rattle.lr_receiving.specs.Sure.{sure_source, sure_sink};
 ghost use Rattle.lr_receiving.specs.Trial.{trial_capacity, TrialRun};
@@ -74,8 +74,9 @@ fn shelve_stream<
     F: FnOnce(&mut SureSource, &mut Shelver<'_, D, SureSink>) -> Result<ReadCounts, Cause>,
 >(alloc: Global, symbols: Vec<u8>, disk: &mut D, read: F) -> Result<ReceiveCounts, Cause>
     requires ready { MayLead (F.pre read) (ShelverTook D.Disk sure_sink) }
-    requires leads { (leeway : Leeway) × Leads (F.post read) sure_source (ShelverTook D.Disk sure_sink)
-        (ShelverStopped D.Disk sure_sink) (Symbols standard) most_bytes leeway }
+    requires leads { (leeway : Leeway) × Leads (F.post read)
+        (course_of sure_source (ShelverTook D.Disk sure_sink) (Symbols standard) most_bytes leeway)
+        (ShelverStopped D.Disk sure_sink) }
     requires few { length symbols.items < most_bytes }
     requires fit { end_of (with_files [] (files_of_bytes (Symbols standard) symbols.items))
         ≤ trial_capacity }
@@ -112,8 +113,9 @@ fn fill<
     F: FnOnce(&mut SureSource, &mut Shelver<'_, D, SureSink>) -> Result<ReadCounts, Cause>,
 >(alloc: Global, symbols: Vec<u8>, disk: &mut D, out: &mut O, read: F) -> Cause
     requires ready { MayLead (F.pre read) (ShelverTook D.Disk sure_sink) }
-    requires leads { (leeway : Leeway) × Leads (F.post read) sure_source (ShelverTook D.Disk sure_sink)
-        (ShelverStopped D.Disk sure_sink) (Symbols standard) most_bytes leeway }
+    requires leads { (leeway : Leeway) × Leads (F.post read)
+        (course_of sure_source (ShelverTook D.Disk sure_sink) (Symbols standard) most_bytes leeway)
+        (ShelverStopped D.Disk sure_sink) }
     requires few { length symbols.items < most_bytes }
     requires fit { end_of (with_files [] (files_of_bytes (Symbols standard) symbols.items))
         ≤ trial_capacity }
@@ -141,8 +143,9 @@ fn trial_with<
     requires few { frames ≤ 1024 }
     requires wrong { wrong ≤ 16 }
     requires ready { MayLead (F.pre read) (ShelverTook D.Disk sure_sink) }
-    requires leads { (leeway : Leeway) × Leads (F.post read) sure_source (ShelverTook D.Disk sure_sink)
-        (ShelverStopped D.Disk sure_sink) (Symbols standard) most_bytes leeway }
+    requires leads { (leeway : Leeway) × Leads (F.post read)
+        (course_of sure_source (ShelverTook D.Disk sure_sink) (Symbols standard) most_bytes leeway)
+        (ShelverStopped D.Disk sure_sink) }
     ensures { TrialRun (outlets_of D.Disk O.Sink) (made_bytes Output.Symbols start wrong frames)
         result (outlets disk.old out.old) (outlets disk.new out.new) }
 {
@@ -191,10 +194,9 @@ pub fn trial_alone<D: Disk, O: Sink>(
         |source, shelver| -> Result<ReadCounts, Cause>
             requires { ((reader.workers ≡ 1) × (reader.most ≤ 2 ^ 48))
                 × ((first : _) × ShelverTook D.Disk sure_sink first [] shelver.old) }
-            ensures { IsLed sure_source (ShelverTook D.Disk sure_sink) reader.input reader.most
-                (leeway_for reader.input reader.workers)
-                (ShelverStopped D.Disk sure_sink) result source.old source.new
-                shelver.old shelver.new }
+            ensures { IsLed (course_of sure_source (ShelverTook D.Disk sure_sink) reader.input reader.most
+                (leeway_for reader.input reader.workers)) (ShelverStopped D.Disk sure_sink) result
+                (lent source.old shelver.old) (lent source.new shelver.new) }
         { reader.read_alone(source, shelver) },
     )
 }
@@ -232,10 +234,9 @@ pub fn trial<R: Threads + Wait + Sync, H: Hand, D: Disk, O: Sink>(
         |source, shelver| -> Result<ReadCounts, Cause>
             requires { (reader.most ≤ 2 ^ 48) × ((first : _)
                 × ShelverTook D.Disk sure_sink first [] shelver.old) }
-            ensures { IsLed sure_source (ShelverTook D.Disk sure_sink) reader.input reader.most
-                (leeway_for reader.input reader.workers)
-                (ShelverStopped D.Disk sure_sink) result source.old source.new
-                shelver.old shelver.new }
+            ensures { IsLed (course_of sure_source (ShelverTook D.Disk sure_sink) reader.input reader.most
+                (leeway_for reader.input reader.workers)) (ShelverStopped D.Disk sure_sink) result
+                (lent source.old shelver.old) (lent source.new shelver.new) }
         { reader.read(rt, source, shelver) },
     )
 }

@@ -9,7 +9,8 @@ ghost use Rattle.lr_shelf_format.specs.Walk.{IsOpen};
 ghost use Rattle.lr_shelf.specs.Shelf.{IsDurable};
 ghost use Rattle.lr_causes.specs.Causes.{IsEarlier, counts};
 ghost use Rattle.lr_receiving.specs.Filling.{IsWithdrawn, LeavesBlankOrItems};
-ghost use Rattle.lr_receiving.specs.First.{IsFirst};
+ghost use Rattle.lr_causes.specs.Counts.{CountsTell};
+ghost use Rattle.lr_receiving.specs.First.{SourceBesides};
 ghost use Rattle.lr_receiving.specs.Trial.{trial_capacity, IsBare};
 
 use lr_bits::Failed;
@@ -63,9 +64,10 @@ fn take_away<D: Disk>(disk: &mut D) -> Result<(), Failed>
 /// takes no memory.
 pub(crate) fn withdraw<D: Disk>(disk: &mut D) -> Cause
     ensures kind { IsEarlier result }
-    ensures first { IsFirst result (counts 0 (D.faults disk.old) 0)
+    ensures first { CountsTell SourceBesides result (counts 0 (D.faults disk.old) 0)
         (counts 0 (D.faults disk.new) 0) }
     ensures told { D.tells disk.old → D.tells disk.new }
+    ensures untold { D.tells disk.new → D.tells disk.old }
     ensures ends { D.tells disk.old → (items : List Item)
         → IsDurable D.Disk trial_capacity items disk.old
         → result ≡ Cause.NoMemory → IsWithdrawn D.Disk items disk.new }

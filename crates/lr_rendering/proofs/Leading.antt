@@ -51,10 +51,11 @@ use Rattle.lr_causes.specs.Outside.{outlet_counts, outlets, outlets_of}
 use Rattle.lr_commands.specs.Reached.{SoFar}
 use Rattle.lr_commands.specs.Files.{files_of}
 use Rattle.lr_commands.specs.Render.{image_text, images_in, render_query, skipped_in}
-use Rattle.lr_commands.specs.Runs.{Counted, RunsOn}
+use Rattle.lr_causes.specs.Counts.{CountsTell, NoneBesides}
+use Rattle.lr_commands.specs.Runs.{RunsOn}
 use Rattle.lr_commands.specs.Steps.{EntryStops, ReadsOnly}
 use Rattle.lr_commands.proofs.Taking.{entry_stopped, last_taken, so_first}
-use Rattle.lr_commands.proofs.Texts.{same_counts, stops_seen, text_counted}
+use Rattle.lr_commands.proofs.Texts.{disk_counts, quiet_counts, stops_seen, text_counted}
 use Rattle.lr_rounds.specs.JobSources.{EndsWell, Gives, IsDoneNext, Keeps}
 use Rattle.lr_rounds.specs.declared.job_source.NextJob.TheVariants.{Job, NotYet, Finished}
 use Rattle.lr_rendering.specs.declared.sizes.TheConstants.{MOST_ENTRIES, MOST_STRIPS}
@@ -251,6 +252,7 @@ module _ {D O : Type 0} (disk : DiskOf D) (out : SinkOf O) where
     reads_on now disk_is shelf_is = record {
       kept = ap kept_by shelf_is ∙ goes.reads.kept;
       told = λ t. subst (λ (r : _). disk.tells r.now) (sym disk_is) (goes.reads.told t);
+      untold = λ t. goes.reads.untold (subst (λ (r : _). disk.tells r.now) disk_is t);
       unwritten = λ t. subst (λ (r : _). IsUnwritten disk d r.now) (sym disk_is) (goes.reads.unwritten t);
       faults = ap (λ (r : _). disk.faults r.now) disk_is ∙ goes.reads.faults;
     }
@@ -465,6 +467,7 @@ module _ {D O : Type 0} (disk : DiskOf D) (out : SinkOf O) where
       reads_more = record {
         kept = only.kept ∙ goes.reads.kept;
         told = λ t. only.told (goes.reads.told t);
+        untold = λ t. goes.reads.untold (only.untold t);
         unwritten = λ t. unwritten_joined disk d before.disk.now now.disk.now (goes.reads.unwritten t)
             (only.unwritten (goes.reads.told t));
         faults = faults_are ∙ goes.reads.faults;
@@ -689,22 +692,24 @@ module _ {D O : Type 0} (disk : DiskOf D) (out : SinkOf O) where
     stops_with : (now : RenderSource D O) → now.disk.ghost_name ≡ before.disk.ghost_name
         → now.out.ghost_name ≡ before.out.ghost_name
         → (disk.tells start.disk.now → disk.tells now.disk.now)
+        → (disk.tells now.disk.now → disk.tells start.disk.now)
         → (disk.tells start.disk.now → IsUnwritten disk start.disk.now now.disk.now)
         → (ahead : List Ahead) (tally : Tally) (number : ℕ) (o1 : O) → number < count_in start
         → (so : Settles disk out start ahead tally number o1) → (cause : Cause)
         → EntryStops (outlets_of disk out) render_query (way_in start) so.read number cause (outlets start.disk.now o1)
         (outlets now.disk.now now.out.now)
-        → Counted cause (outlet_counts (outlets_of disk out) (outlets start.disk.now o1))
+        → CountsTell NoneBesides cause (outlet_counts (outlets_of disk out) (outlets start.disk.now o1))
         (outlet_counts (outlets_of disk out) (outlets now.disk.now now.out.now))
         → StopsFor disk out start cause now
-    stops_with now disk_name out_name told unwritten ahead tally number o1 there so cause stops counted = record {
-      same_disk = disk_name ∙ goes.same_disk;
-      same_out = out_name ∙ goes.same_out;
-      runs = entry_stopped disk out render_query (way_in start) start.disk.now start.out.now
-          (record { from = 0; to = count_in start }) refl (IsTally ahead tally) number start.disk.now o1 now.out.now
-          so (λ t. t) (unwritten_yet disk only_now start.disk.now) refl now.disk.now there told unwritten cause stops
-          counted;
-    }
+    stops_with now disk_name out_name told untold unwritten ahead tally number o1 there so cause stops counted
+        = record {
+          same_disk = disk_name ∙ goes.same_disk;
+          same_out = out_name ∙ goes.same_out;
+          runs = entry_stopped disk out render_query (way_in start) start.disk.now start.out.now
+              (record { from = 0; to = count_in start }) refl (IsTally ahead tally) number start.disk.now o1 now.out.now
+              so (λ t. t) (λ t. t) (unwritten_yet disk only_now start.disk.now) refl now.disk.now there told untold
+              unwritten cause stops counted;
+        }
 
     -- memory was refused where an image is under way
     pub memory_stops : (now : RenderSource D O) → now.disk ≡ before.disk → now.out ≡ before.out
@@ -712,9 +717,9 @@ module _ {D O : Type 0} (disk : DiskOf D) (out : SinkOf O) where
     memory_stops now disk_is out_is shelf_is some =
         let reads = reads_on goes now disk_is shelf_is in
         stops_with now (ap (λ (r : _). r.ghost_name) disk_is) (ap (λ (r : _). r.ghost_name) out_is) reads.told
-        reads.unwritten goes.ahead before.tally goes.settled before.out.now (settled_less goes some) goes.settles
-        NoMemory (ap (λ (r : _). r.now) out_is)
-        (same_counts disk out start.disk.now now.disk.now before.out.now now.out.now reads.faults
+        reads.untold reads.unwritten goes.ahead before.tally goes.settled before.out.now (settled_less goes some)
+        goes.settles NoMemory (ap (λ (r : _). r.now) out_is)
+        (quiet_counts disk out NoMemory start.disk.now now.disk.now before.out.now now.out.now tt reads.faults
         (ap (λ (r : _). out.faults r.now) out_is))
 
     -- an image wasn't put
@@ -727,7 +732,7 @@ module _ {D O : Type 0} (disk : DiskOf D) (out : SinkOf O) where
         let reads = reads_on goes now disk_is shelf_is in
         let opened = opened_with first.stored stops.outcome in
         let fate = Ok (image_text (Some stops.outcome)) in
-        stops_with now (ap (λ (r : _). r.ghost_name) disk_is) out_name reads.told reads.unwritten
+        stops_with now (ap (λ (r : _). r.ghost_name) disk_is) out_name reads.told reads.untold reads.unwritten
         (Pending first.stored ∷ first.rest) before.tally first.number before.out.now
         (first_there goes plan mid same takes) first.settles cause
         (stops_seen disk out render_query (way_in start) first.settles.read first.number start.disk.now
@@ -745,6 +750,7 @@ module _ {D O : Type 0} (disk : DiskOf D) (out : SinkOf O) where
         → StopsFor disk out start cause now
     read_stops now disk_name out_is only there cause other stops =
         stops_with now disk_name (ap (λ (r : _). r.ghost_name) out_is) (λ t. only.told (goes.reads.told t))
+        (λ t. goes.reads.untold (only.untold t))
         (λ t. unwritten_joined disk start.disk.now before.disk.now now.disk.now (goes.reads.unwritten t)
         (only.unwritten (goes.reads.told t)))
         goes.ahead before.tally goes.settled before.out.now (omega (arith, goes.reached, there)) goes.settles cause
@@ -768,21 +774,19 @@ module _ {D O : Type 0} (disk : DiskOf D) (out : SinkOf O) where
 
         counted : (cause : Cause) → ((refusal : Refusal) → cause ≡ Refused refusal → ⊥)
             → ReadStops disk (way_in before) before.next cause before.disk.now now.disk.now
-            → Counted cause (outlet_counts (outlets_of disk out) (outlets start.disk.now before.out.now))
+            → CountsTell NoneBesides cause (outlet_counts (outlets_of disk out) (outlets start.disk.now before.out.now))
             (outlet_counts (outlets_of disk out) (outlets now.disk.now now.out.now))
         counted Done other stops = absurd stops
         counted (DoneWith note) other stops = absurd stops
         counted Usage other stops = absurd stops
         counted (Failed Source) other stops = absurd stops
-        counted (Failed Disk) other stops = (
-          subst (λ (n : ℕ). Rose n (disk.faults now.disk.now)) goes.reads.faults stops,
-          refl,
-          ap out.faults still,
-        )
+        counted (Failed Disk) other stops =
+            disk_counts disk out start.disk.now now.disk.now before.out.now now.out.now
+            (subst (λ (n : ℕ). Rose n (disk.faults now.disk.now)) goes.reads.faults stops) (ap out.faults still)
         counted (Failed Output) other stops = absurd stops
         counted NoMemory other stops =
-            same_counts disk out start.disk.now now.disk.now before.out.now now.out.now (stops ∙ goes.reads.faults)
-            (ap out.faults still)
+            quiet_counts disk out NoMemory start.disk.now now.disk.now before.out.now now.out.now tt
+            (stops ∙ goes.reads.faults) (ap out.faults still)
         counted (Refused refusal) other stops = absurd (other refusal refl)
 
     -- ---- nothing is under way
@@ -799,10 +803,11 @@ module _ {D O : Type 0} (disk : DiskOf D) (out : SinkOf O) where
         let waits : MayWait disk (way_in start) start.disk.now (count_in start) before.next (Some refusal) =
         subst (MayWait disk (way_in start) start.disk.now (count_in start) before.next) is goes.refusal in
         let so = settles_all none in
-        stops_with before refl refl goes.reads.told goes.reads.unwritten [] before.tally before.next before.out.now
-        waits.0 so (Refused refusal)
+        stops_with before refl refl goes.reads.told goes.reads.untold goes.reads.unwritten [] before.tally before.next
+        before.out.now waits.0 so (Refused refusal)
         (record { seen = waits.1.seen; stands = waits.1.stands; stops = (waits.1.fate so.read, refl) })
-        (same_counts disk out start.disk.now before.disk.now before.out.now before.out.now goes.reads.faults refl)
+        (quiet_counts disk out (Refused refusal) start.disk.now before.disk.now before.out.now before.out.now tt
+        goes.reads.faults refl)
 
     -- ---- all was put
 
@@ -817,12 +822,18 @@ module _ {D O : Type 0} (disk : DiskOf D) (out : SinkOf O) where
         omega (arith, so.gathered.skipped) in
         last_taken disk out render_query (way_in start) start.disk.now start.out.now
         (record { from = 0; to = count_in start }) refl (IsTally [] before.tally) before.next before.disk.now
-        before.out.now before.out.now so goes.reads.told goes.reads.unwritten goes.reads.faults goes.inside
+        before.out.now before.out.now so goes.reads.told goes.reads.untold goes.reads.unwritten goes.reads.faults
+        goes.inside
         (subst (λ (n : ℕ). n ≤ before.next) (count_is goes) all)
         (record {
           text = [];
           is = refl;
-          puts = record { told = λ t. t; put = λ t. sym (append-nil (out.contents before.out.now)); kept = refl };
+          puts = record {
+            told = λ t. t;
+            untold = λ t. t;
+            put = λ t. sym (append-nil (out.contents before.out.now));
+            kept = refl;
+          };
         })
         (Some (Rendered before.tally.images before.tally.skipped))
         (ap (λ (n : ℕ). Some (Rendered n before.tally.skipped)) images
@@ -864,6 +875,7 @@ module _ {D O : Type 0} (disk : DiskOf D) (out : SinkOf O) where
       reads = record {
         kept = refl;
         told = λ t. t;
+        untold = λ t. t;
         unwritten = unwritten_yet disk only_now source.disk.now;
         faults = refl;
       };
@@ -903,9 +915,11 @@ module _ {D O : Type 0} (disk : DiskOf D) (out : SinkOf O) where
       → RunsOn (outlets_of disk out) render_query over NoMemory (outlets d o) (outlets d o)
   nothing_put only_now over d o = record {
     may = tt;
-    counted = refl;
+    counted = quiet_counts disk out NoMemory d d o o tt refl refl;
     told = λ t. t;
+    untold = λ t. t;
     told_by_out = λ t. t;
+    untold_by_out = λ t. t;
     reads = unwritten_yet disk only_now d;
     got = λ t. record {
       passed = 0;

@@ -137,7 +137,8 @@ module _ {D O : Type 0} (disk : DiskOf D) (out : SinkOf O) (start : RenderSource
   d = start.disk.now
 
   nothing_put : (o : O) → Puts out [] o o
-  nothing_put o = record { told = λ t. t; put = λ t. sym (append-nil (out.contents o)); kept = refl }
+  nothing_put o =
+      record { told = λ t. t; untold = λ t. t; put = λ t. sym (append-nil (out.contents o)); kept = refl }
 
   module _ (number : ℕ) (more : number < count_in start) (o : O) where
     vacant : (rest : List Ahead) (tally : Tally) → Settles disk out start (Vacant ∷ rest) tally number o

@@ -190,6 +190,7 @@ module _ {D O : Type 0} (disk : DiskOf D) (out : SinkOf O) where
   pub record OnlyReadsDisk (start now : RenderSource D O) : Type 0 where
     pub kept : kept_by now.shelf ≡ kept_by start.shelf
     pub told : disk.tells start.disk.now → disk.tells now.disk.now
+    pub untold : disk.tells now.disk.now → disk.tells start.disk.now
     pub unwritten : disk.tells start.disk.now → IsUnwritten disk start.disk.now now.disk.now
     pub faults : disk.faults now.disk.now ≡ disk.faults start.disk.now
 

@@ -127,6 +127,7 @@ impl<'d, 'o, D: Disk, O: Sink> RenderSource<'d, 'o, D, O> {
 impl<'d, 'o, D: Disk, O: Sink> JobSource<RenderWork> for RenderSource<'d, 'o, D, O> {
     type Cause = Cause;
 
+    ghost use Rattle.std.specs.Prelude.{true};
     ghost use Rattle.lr_rendering.specs.Leading.{IsRenderOver, StopsFor, jobs_left};
 
     ghost stands = { λ start now jobs kept. Stands D.Disk O.Sink start now jobs kept };
@@ -136,6 +137,8 @@ impl<'d, 'o, D: Disk, O: Sink> JobSource<RenderWork> for RenderSource<'d, 'o, D,
     ghost is_over = { λ now. IsRenderOver now };
 
     ghost left = { λ now. jobs_left now };
+
+    ghost at_once = { λ now. true };
 
     fn next(&mut self) -> Result<NextJob<Strip>, Cause> {
         'entries: loop {

@@ -2,7 +2,16 @@
 use Rattle.std.specs.Prelude.{◌≡◌, ◌<◌, ◌≤◌, ◌+◌, ◌-◌, ◌*◌, ◌⊎◌, ℕ, true, false, List, cond, Result, IfOk, IfErr}
 use denote.Ref.{MutBor}
 use Rattle.lr_gate.specs.Left.{unfinished_count}
-use Rattle.lr_gate.specs.Seats.{cells_of, workers_of, IsConductorOf, view_of, put_count, OldestWaits}
+use Rattle.lr_gate.specs.Seats.{
+  cells_of,
+  workers_of,
+  IsConductorOf,
+  view_of,
+  put_count,
+  OldestWaits,
+  TakesNothing,
+}
+use Rattle.lr_gate.specs.Steps.{after_put}
 use Rattle.lr_gate.specs.declared.gate.Conductor.{Conductor}
 use Rattle.lr_gate.specs.declared.gate.Gate.{Gate}
 use Rattle.lr_gate.specs.declared.view.View.{View}
@@ -36,6 +45,25 @@ pub record SameJobs {J : Type 0} (v w : View J) : Type 0 where
   pub taken : w.taken ≡ v.taken
   pub stopped : w.stopped ≡ v.stopped
 
+module _ {J : Type 0} where
+  -- a job was put, or none
+  abbrev pub PutsOneOrNone : View J → View J → Type 0
+  PutsOneOrNone v w = (w ≡ v) ⊎ ((job : J) × (w ≡ after_put v job))
+
+  -- what came of the oldest job was taken
+  pub record TakesOne (v w : View J) : Type 0 where
+    pub jobs : w.jobs ≡ v.jobs
+    pub taken : w.taken ≡ v.taken + 1
+
+  -- No job was put before what is done was taken: the ring of n cells was looked into, and its oldest job wasn't done
+  abbrev pub LooksFirst : ℕ → View J → View J → Type 0
+  LooksFirst n v w = (looked : View J) × TakesNothing n v looked × PutsOneOrNone looked w
+
+  -- A round put no job; or it looked first; or it put one as it took what came of one, for a job source that wants that
+  abbrev pub PutsLast : ℕ → (WantsAtOnce : Type 0) → View J → View J → Type 0
+  PutsLast n WantsAtOnce v w =
+      (w.jobs ≡ v.jobs) ⊎ (LooksFirst n v w ⊎ (WantsAtOnce × (w.taken ≡ v.taken + 1)))
+
 module _ {L W J D : Type 0} where
   -- nothing was kept, since the oldest job isn't done
   pub record KeepsNone (gate : Gate W J D) (conductor conductor' : Conductor W J D) (traffic traffic' : Traffic)
@@ -44,6 +72,7 @@ module _ {L W J D : Type 0} where
     pub finished : (view_of conductor').finished ≡ (view_of conductor).finished
     pub same_traffic : traffic' ≡ traffic
     pub same_source : now ≡ before
+    pub looked : TakesNothing (cells_of gate) (view_of conductor) (view_of conductor')
     pub alone : workers_of gate ≡ 0 → OldestWaits (view_of conductor)
 
   -- nothing was put, since the job source is over, or jobs are in the ring

@@ -16,7 +16,7 @@ pub enum NextJob<J> {
 /// Gives jobs for the work `W`, and keeps what comes of them, in the order in which it gave them. It may go from one
 /// piece of work to the next: its jobs are one list. After an `Err` it isn't asked again.
 pub trait JobSource<W: Work> {
-    ghost use Rattle.std.specs.Prelude.{ℕ, List, ◌+◌, OnOk, IfOk, IfErr};
+    ghost use Rattle.std.specs.Prelude.{◌≡◌, ℕ, Bool, List, ◌+◌, OnOk, IfOk, IfErr};
     ghost use Rattle.lr_rounds.specs.JobSources.{MayGive, Gives, MayKeep, IsDoneNext, Keeps};
 
     /// Why it stops before it is over.
@@ -34,6 +34,9 @@ pub trait JobSource<W: Work> {
     /// How many more jobs it gives at most.
     ghost left: { Self → ℕ };
 
+    /// Whether it wants a job put as soon as one is kept.
+    ghost at_once: { Self → Bool };
+
     /// The next job, if it has one.
     fn next(&mut self) -> Result<NextJob<W::Job>, Self::Cause>
         requires { MayGive stands self.old }
@@ -44,7 +47,8 @@ pub trait JobSource<W: Work> {
 
     /// Whether a job is put as soon as one is kept. A job source that waits for something outside to give one doesn't
     /// want that: all that is done is kept first.
-    fn gives_at_once(&self) -> bool;
+    fn gives_at_once(&self) -> bool
+        ensures { result ≡ at_once self.now };
 
     /// Keeps what came of the next job, the oldest one of which that wasn't kept.
     fn keep(&mut self, done: W::Done) -> Result<(), Self::Cause>

@@ -1,7 +1,17 @@
 //! One round of leading jobs through a ring.
-ghost use Rattle.std.specs.Prelude.{◌≡◌, ◌≢◌, ◌<◌, ◌≤◌, false, true, IfOk, IfErr, OnOk};
+ghost use Rattle.std.specs.Prelude.{◌≡◌, ◌≢◌, ◌<◌, ◌≤◌, ◌⊎◌, false, true, IfOk, IfErr, OnOk};
 ghost use Rattle.lr_gate.specs.Seats.{cells_of, workers_of, IsConductorOf, view_of};
-ghost use Rattle.lr_rounds.specs.Rounds.{MayGoOn, Goes, RoundStops, KeepsNone, PutsNone, rounds_left};
+ghost use Rattle.lr_rounds.specs.Rounds.{
+  MayGoOn,
+  Goes,
+  RoundStops,
+  KeepsNone,
+  PutsNone,
+  PutsOneOrNone,
+  PutsLast,
+  TakesOne,
+  rounds_left,
+};
 ghost use Rattle.lr_rounds.specs.declared.round.Round.TheVariants.{Worked, Waits};
 
 use crate::job_source::{JobSource, NextJob};
@@ -44,6 +54,7 @@ fn keep_oldest<W: Work, L: JobSource<W>>(
     ensures fewer { IfOk result (λ did. did ≡ true
         → rounds_left L.left conductor.new traffic.new source.new
         < rounds_left L.left conductor.old traffic.old source.old) }
+    ensures one { IfOk result (λ did. did ≡ true → TakesOne (view_of conductor.old) (view_of conductor.new)) }
     ensures none { IfOk result (λ did. did ≡ false
         → KeepsNone gate.now conductor.old conductor.new traffic.old traffic.new source.old source.new) }
 {
@@ -76,6 +87,7 @@ fn put_next<W: Work, L: JobSource<W>>(
     ensures fewer { IfOk result (λ did. did ≡ true
         → rounds_left L.left conductor.new traffic.new source.new
         < rounds_left L.left conductor.old traffic.old source.old) }
+    ensures one { OnOk result (PutsOneOrNone (view_of conductor.old) (view_of conductor.new)) }
     ensures none { IfOk result (λ did. did ≡ false
         → PutsNone L.left conductor.old conductor.new traffic.old traffic.new source.old source.new) }
 {
@@ -117,6 +129,8 @@ fn refill<W: Work, L: JobSource<W>>(
         → OnOk result (MayGoOn L.stands L.is_over gate.now conductor.new traffic.new entry source.new) }
     ensures stops { (entry : L) → MayGoOn L.stands L.is_over gate.now conductor.old traffic.old entry source.old
         → IfErr result (λ cause. RoundStops L.stands L.stopped cause entry source.new) }
+    ensures one { OnOk result (PutsOneOrNone (view_of conductor.old) (view_of conductor.new)) }
+    ensures unasked { OnOk result ((L.at_once source.old ≡ true) ⊎ (conductor.new ≡ conductor.old)) }
     ensures no_more { OnOk result (rounds_left L.left conductor.new traffic.new source.new
         ≤ rounds_left L.left conductor.old traffic.old source.old) }
 {
@@ -149,6 +163,8 @@ pub(crate) fn next_round<W: Work, L: JobSource<W>>(
     ensures fewer { IfOk result (λ round. round ≡ Worked
         → rounds_left L.left conductor.new traffic.new source.new
         < rounds_left L.left conductor.old traffic.old source.old) }
+    ensures puts_last { OnOk result (PutsLast cells ((wanting : L) × (L.at_once wanting ≡ true))
+        (view_of conductor.old) (view_of conductor.new)) }
     ensures alone { workers_of gate.now ≡ 0 → IfOk result (λ round. round ≢ Waits) }
 {
     if keep_oldest(gate, conductor, source, traffic)? {

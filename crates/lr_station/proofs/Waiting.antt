@@ -91,7 +91,9 @@ module _ {S D O : Type 0} {world : World S D O} {input : Input} {w w' : Outside 
     causes = run.causes;
     first = run.first;
     told_by_disk = run.told_by_disk;
+    untold_by_disk = run.untold_by_disk;
     told_by_out = run.told_by_out;
+    untold_by_out = run.untold_by_out;
     bytes = run.bytes;
     read = run.read;
     onto_shelf = run.onto_shelf;

@@ -1,17 +1,25 @@
-//! Tests of the commands, over their public calls alone.
+//! Trials of the commands on a shelf's entries, and of images in strips, over the public calls alone.
 #![tactic(auto)]
 
+#[cfg(test)]
+mod claims;
 #[cfg(test)]
 mod entries;
 #[cfg(test)]
 mod headers;
 #[cfg(test)]
+mod image_files;
+#[cfg(test)]
 mod listed;
 #[cfg(test)]
 mod pictures;
+#[cfg(test)]
+mod rendered;
 #[cfg(test)]
 mod repacks;
 #[cfg(test)]
 mod shared;
 #[cfg(test)]
 mod stops;
+#[cfg(test)]
+mod strips;

@@ -1,6 +1,9 @@
 //! Images of the shelf that are coded anew.
-use crate::shared::{OLD_SHELF, discards, disk, ended_with, is_end, sink, verifies, with_room};
-use lr_bits::{Bytes, Lengths, MissionFile, Origin, Placed};
+use crate::image_files::file_of;
+use crate::shared::{
+    OLD_SHELF, add, discards, disk, ended_with, is_end, sink, verifies, with_room,
+};
+use lr_bits::{Origin, Placed};
 use lr_causes::Cause;
 use lr_commands::export::export;
 use lr_commands::repack::repack;
@@ -91,68 +94,118 @@ fn stops_at(alloc: Global, after: u64) -> Result<bool, Fail> {
     Ok(stopped && (one || has_files(alloc, &mut made, TWO_FILES)?))
 }
 
-#[test]
-fn the_new_file_has_the_image_of_the_old_one(rt: HostRuntime) -> Result<(), Fail> {
-    let alloc = rt.alloc();
+/// Whether a second file with the image of the first one is added.
+fn image_is_coded_anew(alloc: Global) -> Result<bool, Fail> {
     let mut made = image_shelf(alloc, 1_000, 1_000, 0)?;
-    assert!(rt; puts(alloc, 0, &mut made, 0, LINE)?);
-    assert!(rt; has_files(alloc, &mut made, TWO_FILES)?);
-    assert!(rt; shows_picture(alloc, &mut made, 0)? && shows_picture(alloc, &mut made, 1)?);
-    Ok(())
+    Ok(
+        puts(alloc, 0, &mut made, 0, LINE)?
+            && has_files(alloc, &mut made, TWO_FILES)?
+            && shows_picture(alloc, &mut made, 0)?
+            && shows_picture(alloc, &mut made, 1)?,
+    )
 }
 
 #[test]
-fn the_origin_stays_and_is_zero_for_an_old_file(rt: HostRuntime) -> Result<(), Fail> {
-    let alloc = rt.alloc();
-    let mut made = image_shelf(alloc, 1_000, 1_000, 0)?;
-    assert!(rt; puts(alloc, 0, &mut made, 0, LINE)?);
-    let zeros = origin_at(alloc, &mut made, 1)?.ok_or("no origin")?;
-    assert!(rt; zeros.first == 0 && zeros.last == 0 && zeros.corrected == 0);
-    let mut shelf = Shelf::load(alloc, &mut made)?;
-    let file = shelf.get(&mut made, 0)?.file;
+fn the_new_file_has_the_image_of_the_old_one(rt: HostRuntime) -> Result<(), Fail> {
+    assert!(rt; image_is_coded_anew(rt.alloc())?);
+    Ok(())
+}
+
+/// Whether the file of this number came from these outcomes, with this many changed bytes.
+fn came_from(
+    alloc: Global,
+    made: &mut MemDisk,
+    number: u64,
+    wanted: (u64, u64, u64),
+) -> Result<bool, Fail> {
+    Ok(match origin_at(alloc, made, number)? {
+        Some(origin) => {
+            origin.first == wanted.0 && origin.last == wanted.1 && origin.corrected == wanted.2
+        }
+        None => false,
+    })
+}
+
+/// Adds the image once more, of the outcomes 3 and 4 with 5 changed bytes.
+fn add_again(alloc: Global, made: &mut MemDisk) -> Result<(), Fail> {
+    let mut shelf = Shelf::load(alloc, made)?;
+    let file = shelf.get(made, 0)?.file;
     let origin = Origin {
         first: 3,
         last: 4,
         corrected: 5,
     };
-    let _ = shelf.append(&mut made, &Placed { file, origin })?;
-    assert!(rt;
-        puts(
-            alloc,
-            2,
-            &mut made,
-            0,
-            lines!(repacked 2 as 3 bytes 51 to 48;)
-        )?
-    );
-    let kept = origin_at(alloc, &mut made, 3)?.ok_or("no origin")?;
-    assert!(rt; kept.first == 3 && kept.last == 4 && kept.corrected == 5);
+    shelf.append(made, &Placed { file, origin })?;
     Ok(())
+}
+
+fn origin_stays(alloc: Global) -> Result<bool, Fail> {
+    let mut made = image_shelf(alloc, 1_000, 1_000, 0)?;
+    let old = puts(alloc, 0, &mut made, 0, LINE)? && came_from(alloc, &mut made, 1, (0, 0, 0))?;
+    add_again(alloc, &mut made)?;
+    let line = lines!(repacked 2 as 3 bytes 51 to 48;);
+    let new = puts(alloc, 2, &mut made, 0, line)? && came_from(alloc, &mut made, 3, (3, 4, 5))?;
+    Ok(old && new)
+}
+
+#[test]
+fn the_origin_stays_and_is_zero_for_an_old_file(rt: HostRuntime) -> Result<(), Fail> {
+    assert!(rt; origin_stays(rt.alloc())?);
+    Ok(())
+}
+
+/// Whether a run over these bytes is refused with this status.
+fn is_refused(alloc: Global, bytes: &[u8], status: u8) -> Result<bool, Fail> {
+    puts(alloc, 0, &mut disk(alloc, bytes)?, status, "")
+}
+
+/// Whether a number that isn't there and a discarded one are refused, and the shelf stays.
+fn missing_is_refused(alloc: Global) -> Result<bool, Fail> {
+    let mut made = image_shelf(alloc, 1_000, 1_000, 0)?;
+    let missing = puts(alloc, 1, &mut made, 7, "")? && has_files(alloc, &mut made, ONE_FILE)?;
+    let _ = discards(alloc, 0, &mut made, &mut sink(alloc)?);
+    Ok(missing && puts(alloc, 0, &mut made, 13, "")?)
 }
 
 #[test]
 fn what_is_refused_leaves_the_shelf(rt: HostRuntime) -> Result<(), Fail> {
     let alloc = rt.alloc();
-    let mut made = image_shelf(alloc, 1_000, 1_000, 0)?;
-    assert!(rt; puts(alloc, 1, &mut made, 7, "")?);
-    assert!(rt; puts(alloc, 0, &mut disk(alloc, b"no shelf")?, 6, "")?);
+    assert!(rt; is_refused(alloc, b"no shelf", 6)?);
     // A text is no image.
-    assert!(rt; puts(alloc, 0, &mut disk(alloc, &OLD_SHELF)?, 8, "")?);
+    assert!(rt; is_refused(alloc, &OLD_SHELF, 8)?);
     // Another byte of the image has another checksum.
-    assert!(rt; puts(alloc, 0, &mut image_shelf(alloc, 1_000, 80, 9)?, 12, "")?);
-    assert!(rt; has_files(alloc, &mut made, ONE_FILE)?);
-    let mut out = sink(alloc)?;
-    let _ = discards(alloc, 0, &mut made, &mut out);
-    assert!(rt; puts(alloc, 0, &mut made, 13, "")?);
+    assert!(rt; puts_with(alloc, 1_000, 80, 12, "")?);
+    assert!(rt; missing_is_refused(alloc)?);
     Ok(())
+}
+
+/// Whether a run on a shelf of this capacity, with another byte at a place, ends with this status and puts this text.
+fn puts_with(
+    alloc: Global,
+    capacity: u64,
+    place: usize,
+    status: u8,
+    text: &str,
+) -> Result<bool, Fail> {
+    puts(
+        alloc,
+        0,
+        &mut image_shelf(alloc, capacity, place, 9)?,
+        status,
+        text,
+    )
+}
+
+/// Whether a shelf that is too small for the new file stays as it is.
+fn small_shelf_stays(alloc: Global) -> Result<bool, Fail> {
+    let mut full = image_shelf(alloc, 179, 1_000, 0)?;
+    Ok(puts(alloc, 0, &mut full, 10, "")? && has_files(alloc, &mut full, ONE_FILE)?)
 }
 
 #[test]
 fn the_new_file_has_to_have_room(rt: HostRuntime) -> Result<(), Fail> {
-    let alloc = rt.alloc();
-    let mut full = image_shelf(alloc, 179, 1_000, 0)?;
-    assert!(rt; puts(alloc, 0, &mut full, 10, "")? && has_files(alloc, &mut full, ONE_FILE)?);
-    assert!(rt; puts(alloc, 0, &mut image_shelf(alloc, 180, 1_000, 0)?, 0, LINE)?);
+    assert!(rt; small_shelf_stays(rt.alloc())?);
+    assert!(rt; puts_with(rt.alloc(), 180, 1_000, 0, LINE)?);
     Ok(())
 }
 
@@ -162,36 +215,35 @@ static NIBBLES: [u8; 36] = [
     0, 2, 0x01, 0x00, 0x09, 4, 0, 2, 0, 1, 0, 0x12,
 ];
 
-#[test]
-fn four_bits_have_a_status_of_their_own(rt: HostRuntime) -> Result<(), Fail> {
-    let alloc = rt.alloc();
+/// Whether an image of 4 bits is refused with a status of its own.
+fn four_bits_are_refused(alloc: Global) -> Result<bool, Fail> {
     let mut made = image_shelf(alloc, 1_000, 1_000, 0)?;
-    let mut lengths = Lengths::new(alloc);
-    let mut bytes = Bytes::new(alloc);
-    lengths.push(36)?;
-    bytes.extend(&NIBBLES)?;
-    let file = MissionFile::build(0, 100, lengths, bytes).ok_or("no file")?;
-    let origin = Origin {
-        first: 0,
-        last: 0,
-        corrected: 0,
-    };
-    let mut shelf = Shelf::load(alloc, &mut made)?;
-    let _ = shelf.append(&mut made, &Placed { file, origin })?;
-    assert!(rt; puts(alloc, 1, &mut made, 16, "")?);
-    assert!(rt; has_files(alloc, &mut made, TWO_FILES)?);
-    Ok(())
+    add(alloc, &mut made, file_of(alloc, &[&NIBBLES])?)?;
+    Ok(puts(alloc, 1, &mut made, 16, "")? && has_files(alloc, &mut made, TWO_FILES)?)
 }
 
 #[test]
-fn an_output_or_a_disk_that_fails_ends_it(rt: HostRuntime) -> Result<(), Fail> {
-    let alloc = rt.alloc();
+fn four_bits_have_a_status_of_their_own(rt: HostRuntime) -> Result<(), Fail> {
+    assert!(rt; four_bits_are_refused(rt.alloc())?);
+    Ok(())
+}
+
+/// Whether an output that fails ends it in its line, and both files are there.
+fn output_ends_it(alloc: Global) -> Result<bool, Fail> {
     let mut made = image_shelf(alloc, 1_000, 1_000, 0)?;
     let mut out: MemSink = with_room(alloc, 8)?;
     let cause = repacks(alloc, 0, &mut made, &mut out);
-    assert!(rt; ended_with(cause, &out, 5, b"repacked"));
-    assert!(rt; has_files(alloc, &mut made, TWO_FILES)?);
-    assert!(rt; stops_at(alloc, 0)? && stops_at(alloc, 5)? && stops_at(alloc, 6)?);
-    assert!(rt; stops_at(alloc, 7)? && stops_at(alloc, 8)? && stops_at(alloc, 9)?);
+    Ok(ended_with(cause, &out, 5, b"repacked") && has_files(alloc, &mut made, TWO_FILES)?)
+}
+
+/// Calls of the disk that fail, each in a run of its own.
+static FAILING: [u64; 6] = [0, 5, 6, 7, 8, 9];
+
+#[test]
+fn an_output_or_a_disk_that_fails_ends_it(rt: HostRuntime) -> Result<(), Fail> {
+    assert!(rt; output_ends_it(rt.alloc())?);
+    for call in &FAILING {
+        assert!(rt; stops_at(rt.alloc(), *call)?, "call {call}");
+    }
     Ok(())
 }

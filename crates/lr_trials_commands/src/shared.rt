@@ -59,23 +59,22 @@ fn file_of(alloc: Global) -> Result<MissionFile, Fail> {
     Ok(MissionFile::build(0, 100, lengths, bytes).ok_or("no file")?)
 }
 
-/// The same, received again in the outcome 0.
-fn again(alloc: Global) -> Result<Placed, Fail> {
-    let file = file_of(alloc)?;
+/// Adds a file, which came with the outcome 0.
+pub(crate) fn add(alloc: Global, made: &mut MemDisk, file: MissionFile) -> Result<(), Fail> {
     let origin = Origin {
         first: 0,
         last: 0,
         corrected: 0,
     };
-    Ok(Placed { file, origin })
+    let mut shelf = Shelf::load(alloc, made)?;
+    shelf.append(made, &Placed { file, origin })?;
+    Ok(())
 }
 
 /// The old shelf, on which its file was received again. It ends at 129.
 pub(crate) fn with_two(alloc: Global) -> Result<MemDisk, Fail> {
-    let placed = again(alloc)?;
     let mut made = disk(alloc, &OLD_SHELF)?;
-    let mut shelf = Shelf::load(alloc, &mut made)?;
-    shelf.append(&mut made, &placed)?;
+    add(alloc, &mut made, file_of(alloc)?)?;
     Ok(made)
 }
 

@@ -49,28 +49,11 @@ fn fails(alloc: Global, proper: &[u8], wanted: HeaderFault) -> bool {
     }
 }
 
-/// The primary record with the last byte of another header length, and what comes after it.
-fn with_length(length: u8, rest: &[u8; 3]) -> [u8; 19] {
-    let mut bytes = [0; 19];
-    bytes[..16].copy_from_slice(&PRIMARY);
-    bytes[7] = length;
-    bytes[16..].copy_from_slice(rest);
-    bytes
-}
-
 /// Whether the stamp is written as this text.
 fn is_written(alloc: Global, stamp: Stamp, wanted: &[u8]) -> Result<bool, NoMemory> {
     let mut text = Bytes::new(alloc);
     stamp_text(alloc, &stamp, &mut text)?;
     Ok(*text.as_slice() == *wanted)
-}
-
-fn stamp(form: u8, days: u16, milliseconds: u32) -> Stamp {
-    Stamp {
-        form,
-        days,
-        milliseconds,
-    }
 }
 
 #[test]
@@ -84,24 +67,48 @@ fn a_header_of_the_primary_record_alone(rt: HostRuntime) -> Result<(), Fail> {
     Ok(())
 }
 
+/// Bytes, and the first fault of the header in them.
+struct Faulty(&'static [u8], HeaderFault);
+
+static FAULTY: [Faulty; 7] = [
+    Faulty(
+        &[0, 0, 16, 2, 0xFF, 0xFF, 0xFF, 0xFF, 0, 0, 0, 0, 0, 0, 0, 0],
+        HeaderFault::Ended { at: 16 },
+    ),
+    Faulty(
+        &[0, 0, 16, 2, 0, 0, 0, 16, 0, 0, 0, 0, 0, 0, 0],
+        HeaderFault::Ended { at: 15 },
+    ),
+    Faulty(
+        &[0, 0, 16, 2, 0, 0, 0, 15, 0, 0, 0, 0, 0, 0, 0, 0],
+        HeaderFault::Overrun { at: 0 },
+    ),
+    // Two bytes are left; a record is too short, and one too long.
+    Faulty(
+        &[0, 0, 16, 2, 0, 0, 0, 18, 0, 0, 0, 0, 0, 0, 0, 0, 4, 0],
+        HeaderFault::Overrun { at: 16 },
+    ),
+    Faulty(
+        &[0, 0, 16, 2, 0, 0, 0, 19, 0, 0, 0, 0, 0, 0, 0, 0, 4, 0, 2],
+        HeaderFault::ShortRecord { at: 16 },
+    ),
+    Faulty(
+        &[0, 0, 16, 2, 0, 0, 0, 19, 0, 0, 0, 0, 0, 0, 0, 0, 4, 0, 4],
+        HeaderFault::Overrun { at: 16 },
+    ),
+    Faulty(
+        &[1, 0, 16, 2, 0, 0, 0, 16, 0, 0, 0, 0, 0, 0, 0, 0],
+        HeaderFault::NotPrimary,
+    ),
+];
+
 #[test]
 fn the_first_fault_is_named(rt: HostRuntime) -> Result<(), Fail> {
-    let alloc = rt.alloc();
-    let mut long = PRIMARY;
-    long[4..8].copy_from_slice(&[0xFF; 4]);
-    assert!(rt; fails(alloc, &long, HeaderFault::Ended { at: 16 }));
-    assert!(rt; fails(alloc, &PRIMARY[..15], HeaderFault::Ended { at: 15 }));
-    let short = with_length(15, &[0; 3]);
-    assert!(rt; fails(alloc, &short[..16], HeaderFault::Overrun { at: 0 }));
-    let two_left = with_length(18, &[0x04, 0x00, 0]);
-    assert!(rt; fails(alloc, &two_left[..18], HeaderFault::Overrun { at: 16 }));
-    let too_short = with_length(19, &[0x04, 0x00, 0x02]);
-    assert!(rt; fails(alloc, &too_short, HeaderFault::ShortRecord { at: 16 }));
-    let too_long = with_length(19, &[0x04, 0x00, 0x04]);
-    assert!(rt; fails(alloc, &too_long, HeaderFault::Overrun { at: 16 }));
-    let mut other = PRIMARY;
-    other[0] = 1;
-    assert!(rt; fails(alloc, &other, HeaderFault::NotPrimary));
+    for Faulty(bytes, fault) in &FAULTY {
+        if !fails(rt.alloc(), bytes, *fault) {
+            return Err(Fail::new(format_args!("{bytes:?} have another fault, or none")));
+        }
+    }
     Ok(())
 }
 
@@ -126,22 +133,29 @@ fn own_stamp(alloc: Global) -> Result<Stamp, Fail> {
     Ok(records.stamp().ok_or("no stamp")?)
 }
 
+/// The form, the days and the milliseconds of a stamp, and its text.
+struct Written(u8, u16, u32, &'static [u8]);
+
+static WRITTEN: [Written; 5] = [
+    Written(0x40, 0, 3_723_004, b"1958-01-01T01:02:03.004Z"),
+    Written(0x40, 789, 0, b"1960-02-29T00:00:00.000Z"),
+    Written(0x40, 65_535, 0, b"2137-06-06T00:00:00.000Z"),
+    Written(0x40, 7, 86_400_000, b"form 64 days 7 milliseconds 86400000"),
+    Written(0x41, 7, 0, b"form 65 days 7 milliseconds 0"),
+];
+
 #[test]
 fn stamps_are_written(rt: HostRuntime) -> Result<(), Fail> {
     let alloc = rt.alloc();
     assert!(rt; is_written(alloc, own_stamp(alloc)?, b"1970-01-01T23:59:59.999Z")?);
-    assert!(rt;
-        is_written(
-            alloc,
-            stamp(0x40, 0, 3_723_004),
-            b"1958-01-01T01:02:03.004Z"
-        )?
-    );
-    assert!(rt; is_written(alloc, stamp(0x40, 789, 0), b"1960-02-29T00:00:00.000Z")?);
-    assert!(rt; is_written(alloc, stamp(0x40, 65_535, 0), b"2137-06-06T00:00:00.000Z")?);
-    let late = stamp(0x40, 7, 86_400_000);
-    assert!(rt; is_written(alloc, late, b"form 64 days 7 milliseconds 86400000")?);
-    assert!(rt; is_written(alloc, stamp(0x41, 7, 0), b"form 65 days 7 milliseconds 0")?);
+    for Written(form, days, milliseconds, text) in &WRITTEN {
+        let stamp = Stamp {
+            form: *form,
+            days: *days,
+            milliseconds: *milliseconds,
+        };
+        assert!(rt; is_written(alloc, stamp, text)?, "after {days} days");
+    }
     Ok(())
 }
 

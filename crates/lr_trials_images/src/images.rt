@@ -1,51 +1,111 @@
 //! Images of files, the faults of files that have none, and their PGM.
 
 use lr_bits::{Bytes, Lengths, MissionFile, NoMemory};
+use lr_headers::HeaderFault;
 use lr_image::{Image, ImageFault, image_of, pgm_head, pgm_line};
+use lr_rice::RiceFault;
 use std::alloc::Global;
 use std::test::Fail;
 
+/// A body of a file.
+#[derive(Clone, Copy)]
+pub(crate) enum Body {
+    Bytes(&'static [u8]),
+    /// The header of the coded image, with another byte at a place.
+    Coded(usize, u8),
+    /// The header of an image that isn't compressed, of so many bits, columns and lines.
+    Plain(u8, u16, u16),
+    /// The header of a coded image of 8 columns: its lines, how many samples a block has, and how many lines a piece.
+    Header(u8, u8, u8),
+}
+
+/// What becomes of a file: a PGM, or a fault.
+#[derive(Clone, Copy)]
+pub(crate) enum Wanted {
+    Picture(&'static [u8]),
+    Fault(ImageFault),
+}
+
+/// The bodies of a file, and what becomes of it.
+pub(crate) struct Case(pub(crate) &'static [Body], pub(crate) Wanted);
+
 /// Ten bytes of transport header, then the header of an image of 8 columns and 2 lines, coded without loss.
-pub(crate) static CODED: [u8; 42] = [
-    0, 1, 0, 0, 0, 0, 0, 0, 1, 48, 0x00, 0x00, 0x10, 0x00, 0x00, 0x00, 0x00, 0x20, 0, 0, 0, 0, 0,
-    0, 0, 48, 0x01, 0x00, 0x09, 8, 0, 8, 0, 2, 1, 0x83, 0x00, 0x07, 0x00, 49, 8, 1,
+const CODED_BYTES: [u8; 42] = [
+    0, 1, 0, 0, 0, 0, 0, 0, 1, 48, 0, 0, 16, 0, 0, 0, 0, 32, 0, 0, 0, 0, 0, 0, 0, 48, 1, 0, 9, 8,
+    0, 8, 0, 2, 1, 0x83, 0, 7, 0, 49, 8, 1,
 ];
+
+pub(crate) const CODED: Body = Body::Bytes(&CODED_BYTES);
 
 /// The same with a key record.
-pub(crate) static KEYED: [u8; 47] = [
-    0, 1, 0, 0, 0, 0, 0, 0, 1, 48, 0x00, 0x00, 0x10, 0x00, 0x00, 0x00, 0x00, 0x25, 0, 0, 0, 0, 0,
-    0, 0, 48, 0x01, 0x00, 0x09, 8, 0, 8, 0, 2, 1, 0x83, 0x00, 0x07, 0x00, 49, 8, 1, 0x07, 0x00,
-    0x05, 0, 0,
-];
-
-/// The header of an image of 2 columns and 1 line, of 12 bits and not compressed, and its data field.
-pub(crate) static PLAIN: [u8; 38] = [
-    0, 1, 0, 0, 0, 0, 0, 0, 0, 224, 0x00, 0x00, 0x10, 0x00, 0x00, 0x00, 0x00, 0x19, 0, 0, 0, 0, 0,
-    0, 0, 24, 0x01, 0x00, 0x09, 12, 0, 2, 0, 1, 0, 0xAB, 0xC1, 0x23,
-];
+const KEYED: Body = Body::Bytes(&[
+    0, 1, 0, 0, 0, 0, 0, 0, 1, 48, 0, 0, 16, 0, 0, 0, 0, 37, 0, 0, 0, 0, 0, 0, 0, 48, 1, 0, 9, 8,
+    0, 8, 0, 2, 1, 0x83, 0, 7, 0, 49, 8, 1, 7, 0, 5, 0, 0,
+]);
 
 /// A coded line of eight pixels of 5, and one of 5 6 4 5 5 5 5 5.
-pub(crate) static FIRST: [u8; 2] = [0x00, 0x58];
+pub(crate) const FIRST: Body = Body::Bytes(&[0x00, 0x58]);
 
-pub(crate) static SECOND: [u8; 4] = [0x40, 0xAA, 0xFA, 0x00];
+pub(crate) const SECOND: Body = Body::Bytes(&[0x40, 0xAA, 0xFA, 0x00]);
 
 /// Their image.
-pub(crate) const LINES_OF_FIVE: &[u8] =
-    b"P5\n8 2\n255\n\x05\x05\x05\x05\x05\x05\x05\x05\x05\x06\x04\x05\x05\x05\x05\x05";
+pub(crate) const LINES_OF_FIVE: Wanted = Wanted::Picture(
+    b"P5\n8 2\n255\n\x05\x05\x05\x05\x05\x05\x05\x05\x05\x06\x04\x05\x05\x05\x05\x05",
+);
 
-fn put_body(lengths: &mut Lengths, bytes: &mut Bytes, body: &[u8]) -> Result<(), NoMemory> {
+/// The header of an image that isn't compressed.
+fn plain(bits: u8, columns: u16, lines: u16) -> [u8; 35] {
+    let [column, columns] = columns.to_be_bytes();
+    let [line, lines] = lines.to_be_bytes();
+    [
+        0, 1, 0, 0, 0, 0, 0, 0, 0, 224, 0x00, 0x00, 0x10, 0x00, 0x00, 0x00, 0x00, 0x19, 0, 0, 0, 0,
+        0, 0, 0, 24, 0x01, 0x00, 0x09, bits, column, columns, line, lines, 0,
+    ]
+}
+
+/// The header of a coded image of 8 columns.
+fn coded_header(lines: u8, block: u8, each: u8) -> [u8; 42] {
+    let mut header = CODED_BYTES;
+    header[33] = lines;
+    header[40] = block;
+    header[41] = each;
+    header
+}
+
+fn with_byte(place: usize, byte: u8) -> [u8; 42] {
+    let mut header = CODED_BYTES;
+    if place < header.len() {
+        header[place] = byte;
+    }
+    header
+}
+
+fn put_bytes(lengths: &mut Lengths, bytes: &mut Bytes, body: &[u8]) -> Result<(), NoMemory> {
     lengths.push(u16::try_from(body.len()).unwrap_or(0))?;
     bytes.extend(body)
 }
 
+fn put_body(lengths: &mut Lengths, bytes: &mut Bytes, body: Body) -> Result<(), NoMemory> {
+    match body {
+        Body::Bytes(body) => put_bytes(lengths, bytes, body),
+        Body::Coded(place, byte) => put_bytes(lengths, bytes, &with_byte(place, byte)),
+        Body::Plain(bits, columns, lines) => {
+            put_bytes(lengths, bytes, &plain(bits, columns, lines))
+        }
+        Body::Header(lines, block, each) => {
+            put_bytes(lengths, bytes, &coded_header(lines, block, each))
+        }
+    }
+}
+
 /// The file of these bodies.
-fn file_of(alloc: Global, bodies: &[&[u8]]) -> Result<MissionFile, Fail> {
+fn file_of(alloc: Global, bodies: &[Body]) -> Result<Option<MissionFile>, NoMemory> {
     let mut lengths = Lengths::new(alloc);
     let mut bytes = Bytes::new(alloc);
     for body in bodies {
-        put_body(&mut lengths, &mut bytes, body)?;
+        put_body(&mut lengths, &mut bytes, *body)?;
     }
-    Ok(MissionFile::build(0, 100, lengths, bytes).ok_or("no file")?)
+    Ok(MissionFile::build(0, 100, lengths, bytes))
 }
 
 fn pgm_of(alloc: Global, image: &Image) -> Result<Bytes, NoMemory> {
@@ -55,15 +115,6 @@ fn pgm_of(alloc: Global, image: &Image) -> Result<Bytes, NoMemory> {
         pgm_line(alloc, image, line, &mut out)?;
     }
     Ok(out)
-}
-
-/// Whether the file of these bodies has an image of this PGM.
-pub(crate) fn shows(alloc: Global, bodies: &[&[u8]], wanted: &[u8]) -> Result<bool, Fail> {
-    let file = file_of(alloc, bodies)?;
-    match image_of(alloc, &file) {
-        Ok(image) => Ok(*pgm_of(alloc, &image)?.as_slice() == *wanted),
-        Err(_) => Ok(false),
-    }
 }
 
 /// A number for each fault, and what the fault says.
@@ -86,93 +137,180 @@ fn told(fault: ImageFault) -> (u8, u64) {
     }
 }
 
-fn is_same(found: ImageFault, wanted: ImageFault) -> bool {
-    let (kind, value) = told(found);
-    let (other, expected) = told(wanted);
-    kind == other && value == expected
-}
-
-/// Whether the file of these bodies has no image, and this fault.
-pub(crate) fn fails(alloc: Global, bodies: &[&[u8]], wanted: ImageFault) -> Result<bool, Fail> {
-    let file = file_of(alloc, bodies)?;
-    Ok(match image_of(alloc, &file) {
-        Ok(_) => false,
-        Err(fault) => is_same(fault, wanted),
-    })
-}
-
-/// Whether the coded image, with another byte at this place of its first body, has this fault.
-fn fails_with(alloc: Global, place: usize, byte: u8, wanted: ImageFault) -> Result<bool, Fail> {
-    let mut header = CODED;
-    if place < header.len() {
-        header[place] = byte;
+fn is_wanted(
+    alloc: Global,
+    outcome: Result<Image, ImageFault>,
+    wanted: Wanted,
+) -> Result<bool, NoMemory> {
+    match (outcome, wanted) {
+        (Ok(image), Wanted::Picture(picture)) => {
+            Ok(*pgm_of(alloc, &image)?.as_slice() == *picture)
+        }
+        (Err(fault), Wanted::Fault(other)) => Ok(told(fault) == told(other)),
+        _ => Ok(false),
     }
-    fails(alloc, &[&header, &FIRST, &SECOND], wanted)
 }
+
+fn holds(alloc: Global, case: &Case) -> Result<bool, NoMemory> {
+    match file_of(alloc, case.0)? {
+        Some(file) => is_wanted(alloc, image_of(alloc, &file), case.1),
+        None => Ok(false),
+    }
+}
+
+/// That each file has the image or the fault that it must.
+pub(crate) fn hold(alloc: Global, cases: &[Case]) -> Result<(), Fail> {
+    for (place, case) in cases.iter().enumerate() {
+        if !holds(alloc, case)? {
+            return Err(Fail::new(format_args!("case {place} has another image or fault")));
+        }
+    }
+    Ok(())
+}
+
+static PACKET_BY_PACKET: [Case; 2] = [
+    Case(&[CODED, FIRST, SECOND], LINES_OF_FIVE),
+    // A key of zeros hides nothing.
+    Case(&[KEYED, FIRST, SECOND], LINES_OF_FIVE),
+];
+
+static HEADER_FAULTS: [Case; 10] = [
+    Case(
+        &[Body::Coded(13, 2), FIRST, SECOND],
+        Wanted::Fault(ImageFault::NotImage { kind: 2 }),
+    ),
+    Case(
+        &[Body::Coded(26, 9), FIRST, SECOND],
+        Wanted::Fault(ImageFault::NoStructure),
+    ),
+    Case(
+        &[Body::Coded(34, 2), FIRST, SECOND],
+        Wanted::Fault(ImageFault::Compression { value: 2 }),
+    ),
+    Case(
+        &[Body::Coded(35, 9), FIRST, SECOND],
+        Wanted::Fault(ImageFault::Compression { value: 1 }),
+    ),
+    Case(
+        &[Body::Coded(29, 4), FIRST, SECOND],
+        Wanted::Fault(ImageFault::Depth { bits: 4 }),
+    ),
+    Case(
+        &[Body::Coded(29, 17), FIRST, SECOND],
+        Wanted::Fault(ImageFault::Depth { bits: 17 }),
+    ),
+    Case(
+        &[Body::Coded(31, 0), FIRST, SECOND],
+        Wanted::Fault(ImageFault::Empty),
+    ),
+    Case(
+        &[Body::Coded(39, 17), FIRST, SECOND],
+        Wanted::Fault(ImageFault::Flags { flags: 17 }),
+    ),
+    Case(
+        &[Body::Coded(40, 7), FIRST, SECOND],
+        Wanted::Fault(ImageFault::BlockSize { block: 7 }),
+    ),
+    Case(
+        &[Body::Coded(41, 0), FIRST, SECOND],
+        Wanted::Fault(ImageFault::LinesPerPacket),
+    ),
+];
+
+/// Too many pixels, and wrong flags.
+const LARGE: Body = Body::Bytes(&[
+    0, 1, 0, 0, 0, 0, 0, 0, 1, 48, 0, 0, 16, 0, 0, 0, 0, 32, 0, 0, 0, 0, 0, 0, 0, 48, 1, 0, 9, 8,
+    0xFF, 8, 0xFF, 2, 1, 0x83, 0, 7, 0, 0, 8, 1,
+]);
+
+/// A key that hides the data, and another compression.
+const ENCRYPTED: Body = Body::Bytes(&[
+    0, 1, 0, 0, 0, 0, 0, 0, 1, 48, 0, 0, 16, 0, 0, 0, 0, 37, 0, 0, 0, 0, 0, 0, 0, 48, 1, 0, 9, 8,
+    0, 8, 0, 2, 2, 0x83, 0, 7, 0, 49, 8, 1, 7, 0, 5, 0, 1,
+]);
+
+static ORDER: [Case; 3] = [
+    Case(
+        &[LARGE],
+        Wanted::Fault(ImageFault::TooLarge {
+            pixels: 0xFF08 * 0xFF02,
+        }),
+    ),
+    Case(
+        &[ENCRYPTED, FIRST, SECOND],
+        Wanted::Fault(ImageFault::Encrypted),
+    ),
+    Case(
+        &[Body::Coded(10, 1), FIRST],
+        Wanted::Fault(ImageFault::Headers(HeaderFault::NotPrimary)),
+    ),
+];
+
+/// The first piece stands in the header's body.
+const JOINED: Body = Body::Bytes(&[
+    0, 1, 0, 0, 0, 0, 0, 0, 1, 48, 0, 0, 16, 0, 0, 0, 0, 32, 0, 0, 0, 0, 0, 0, 0, 48, 1, 0, 9, 8,
+    0, 8, 0, 2, 1, 0x83, 0, 7, 0, 49, 8, 1, 0, 88,
+]);
+
+const NOTHING: Body = Body::Bytes(&[]);
+
+/// One body is empty.
+static PIECES: [Case; 3] = [
+    Case(&[JOINED, NOTHING, SECOND], LINES_OF_FIVE),
+    Case(
+        &[JOINED, NOTHING],
+        Wanted::Fault(ImageFault::Short { pixels: 8 }),
+    ),
+    Case(
+        &[JOINED, NOTHING, Body::Bytes(&[0x40, 0xAA])],
+        Wanted::Fault(ImageFault::Rice {
+            piece: 1,
+            fault: RiceFault::Ended { line: 0 },
+        }),
+    ),
+];
+
+/// The header of an image of 2 columns and 1 line, of 12 bits and not compressed, and its data field.
+const PLAIN: Body = Body::Bytes(&[
+    0, 1, 0, 0, 0, 0, 0, 0, 0, 0xE0, 0, 0, 16, 0, 0, 0, 0, 25, 0, 0, 0, 0, 0, 0, 0, 24, 1, 0, 9,
+    12, 0, 2, 0, 1, 0, 0xAB, 0xC1, 35,
+]);
+
+/// The same without the last byte.
+const PLAIN_CUT: Body = Body::Bytes(&[
+    0, 1, 0, 0, 0, 0, 0, 0, 0, 0xE0, 0, 0, 16, 0, 0, 0, 0, 25, 0, 0, 0, 0, 0, 0, 0, 24, 1, 0, 9,
+    12, 0, 2, 0, 1, 0, 0xAB, 0xC1,
+]);
+
+static TWELVE_BITS: [Case; 2] = [
+    Case(
+        &[PLAIN],
+        Wanted::Picture(b"P5\n2 1\n4095\n\x0A\xBC\x01\x23"),
+    ),
+    Case(&[PLAIN_CUT], Wanted::Fault(ImageFault::Short { pixels: 1 })),
+];
 
 #[test]
 fn coded_lines_are_read_packet_by_packet(rt: HostRuntime) -> Result<(), Fail> {
-    assert!(rt; shows(rt.alloc(), &[&CODED, &FIRST, &SECOND], LINES_OF_FIVE)?);
-    // A key of zeros hides nothing.
-    assert!(rt; shows(rt.alloc(), &[&KEYED, &FIRST, &SECOND], LINES_OF_FIVE)?);
-    Ok(())
+    hold(rt.alloc(), &PACKET_BY_PACKET)
 }
 
 #[test]
 fn each_fault_of_a_header_is_named(rt: HostRuntime) -> Result<(), Fail> {
-    let alloc = rt.alloc();
-    assert!(rt; fails_with(alloc, 13, 2, ImageFault::NotImage { kind: 2 })?);
-    assert!(rt; fails_with(alloc, 26, 9, ImageFault::NoStructure)?);
-    assert!(rt; fails_with(alloc, 34, 2, ImageFault::Compression { value: 2 })?);
-    assert!(rt; fails_with(alloc, 35, 9, ImageFault::Compression { value: 1 })?);
-    assert!(rt; fails_with(alloc, 29, 4, ImageFault::Depth { bits: 4 })?);
-    assert!(rt; fails_with(alloc, 29, 17, ImageFault::Depth { bits: 17 })?);
-    assert!(rt; fails_with(alloc, 31, 0, ImageFault::Empty)?);
-    assert!(rt; fails_with(alloc, 39, 17, ImageFault::Flags { flags: 17 })?);
-    assert!(rt; fails_with(alloc, 40, 7, ImageFault::BlockSize { block: 7 })?);
-    assert!(rt; fails_with(alloc, 41, 0, ImageFault::LinesPerPacket)?);
-    Ok(())
+    hold(rt.alloc(), &HEADER_FAULTS)
 }
 
 #[test]
 fn the_order_of_faults(rt: HostRuntime) -> Result<(), Fail> {
-    let alloc = rt.alloc();
-    let mut large = CODED;
-    large[30] = 0xFF;
-    large[32] = 0xFF;
-    large[39] = 0;
-    let pixels = 0xFF08 * 0xFF02;
-    assert!(rt; fails(alloc, &[&large], ImageFault::TooLarge { pixels })?);
-    let mut encrypted = KEYED;
-    encrypted[46] = 1;
-    encrypted[34] = 2;
-    assert!(rt; fails(alloc, &[&encrypted, &FIRST, &SECOND], ImageFault::Encrypted)?);
-    let mut header = CODED;
-    header[10] = 1;
-    let fault = ImageFault::Headers(lr_headers::HeaderFault::NotPrimary);
-    assert!(rt; fails(alloc, &[&header, &FIRST], fault)?);
-    Ok(())
+    hold(rt.alloc(), &ORDER)
 }
 
 #[test]
 fn the_pieces_of_the_data_field_count(rt: HostRuntime) -> Result<(), Fail> {
-    // The first piece stands in the header's body, and one body is empty.
-    let alloc = rt.alloc();
-    let mut joined = [0; 44];
-    joined[..42].copy_from_slice(&CODED);
-    joined[42..].copy_from_slice(&FIRST);
-    assert!(rt; shows(alloc, &[&joined, &[], &SECOND], LINES_OF_FIVE)?);
-    assert!(rt; fails(alloc, &[&joined, &[]], ImageFault::Short { pixels: 8 })?);
-    let fault = lr_rice::RiceFault::Ended { line: 0 };
-    let rice = ImageFault::Rice { piece: 1, fault };
-    assert!(rt; fails(alloc, &[&joined, &[], &SECOND[..2]], rice)?);
-    Ok(())
+    hold(rt.alloc(), &PIECES)
 }
 
 #[test]
 fn pixels_of_twelve_bits_take_two_bytes(rt: HostRuntime) -> Result<(), Fail> {
-    let alloc = rt.alloc();
-    assert!(rt; shows(alloc, &[&PLAIN], b"P5\n2 1\n4095\n\x0A\xBC\x01\x23")?);
-    assert!(rt; fails(alloc, &[&PLAIN[..37]], ImageFault::Short { pixels: 1 })?);
-    Ok(())
+    hold(rt.alloc(), &TWELVE_BITS)
 }

@@ -1,4 +1,5 @@
-//! Trials of coded lines, of headers, images and their segments, over the public calls alone.
+//! Trials of coded lines, of headers, images and their segments, and of files that are coded anew, over the public
+//! calls alone.
 #![tactic(auto)]
 
 #[cfg(test)]
@@ -9,5 +10,9 @@ mod images;
 mod lines;
 #[cfg(test)]
 mod pictures;
+#[cfg(test)]
+mod recoded_files;
+#[cfg(test)]
+mod recoded_lines;
 #[cfg(test)]
 mod segments;

@@ -13,36 +13,18 @@ static FILE: [u8; 26] = [
 
 static DIGITS: [u8; 10] = [0x31, 0x32, 0x33, 0x34, 0x35, 0x36, 0x37, 0x38, 0x39, 0x30];
 
-/// A packet whose body is the digits from one place up to another.
+/// A packet: its channel, application, flags and count, and its body: the digits from one place up to another.
 #[derive(Clone, Copy)]
-struct Piece {
-    vc: u8,
-    apid: u16,
-    flags: u8,
-    count: u16,
-    from: usize,
-    to: usize,
-}
-
-/// A packet of channel 0 and application 100.
-fn sent_piece(flags: u8, count: u16, from: usize, to: usize) -> Piece {
-    Piece {
-        vc: 0,
-        apid: 100,
-        flags,
-        count,
-        from,
-        to,
-    }
-}
+struct Piece(u8, u16, u8, u16, usize, usize);
 
 fn packet(piece: Piece) -> GoodPacket<'static> {
+    let Piece(vc, apid, flags, count, from, to) = piece;
     GoodPacket {
-        vc: piece.vc % 64,
-        apid: piece.apid % 2047,
-        flags: piece.flags % 4,
-        count: piece.count % 16_384,
-        body: DIGITS.get(piece.from..piece.to).unwrap_or(&[]),
+        vc: vc % 64,
+        apid: apid % 2047,
+        flags: flags % 4,
+        count: count % 16_384,
+        body: DIGITS.get(from..to).unwrap_or(&[]),
     }
 }
 
@@ -65,19 +47,33 @@ fn is_of(file: &MissionFile, vc: u8, apid: u16, lengths: &[u16]) -> bool {
         && file.bytes() == DIGITS.as_slice()
 }
 
-/// Whether the packets make up one file of channel 0 and application 100 with these lengths.
-fn make_one(alloc: Global, packets: &[Piece], lengths: &[u16]) -> Result<bool, NoMemory> {
-    let files = files_of(alloc, packets)?;
-    Ok(
-        files.len() == 1
-            && files
-                .first()
-                .is_some_and(|file| is_of(file, 0, 100, lengths)),
-    )
+/// A file: its channel and its application, and the lengths of its bodies.
+struct Found(u8, u16, &'static [u16]);
+
+/// Packets, and the files that they make up.
+struct Case(&'static [Piece], &'static [Found]);
+
+fn are_found(files: &[MissionFile], wanted: &[Found]) -> bool {
+    files.len() == wanted.len()
+        && files
+            .iter()
+            .zip(wanted)
+            .all(|(file, found)| is_of(file, found.0, found.1, found.2))
 }
 
-fn make_none(alloc: Global, packets: &[Piece]) -> Result<bool, NoMemory> {
-    Ok(files_of(alloc, packets)?.is_empty())
+fn holds(alloc: Global, case: &Case) -> Result<bool, NoMemory> {
+    let files = files_of(alloc, case.0)?;
+    Ok(are_found(&files, case.1))
+}
+
+/// That the packets of each case make up their files.
+fn hold(alloc: Global, cases: &[Case]) -> Result<(), Fail> {
+    for (place, case) in cases.iter().enumerate() {
+        if !holds(alloc, case)? {
+            return Err(Fail::new(format_args!("case {place} makes up other files")));
+        }
+    }
+    Ok(())
 }
 
 /// A file of one packet, with its header.
@@ -102,115 +98,130 @@ fn single(alloc: Global) -> Result<bool, NoMemory> {
     )
 }
 
-/// Two keys whose packets interleave: the file of the second ends first.
-fn are_interleaved(alloc: Global, vc: u8, apid: u16) -> Result<bool, NoMemory> {
-    let other = |flags, count, from, to| Piece {
-        vc,
-        apid,
-        flags,
-        count,
-        from,
-        to,
-    };
-    let files = files_of(
-        alloc,
+static ONE_PACKET: [Case; 2] = [
+    Case(&[Piece(0, 100, 3, 9, 0, 10)], &[Found(0, 100, &[10])]),
+    Case(&[Piece(0, 100, 3, 9, 0, 9)], &[]),
+];
+
+static SEVERAL: [Case; 2] = [
+    Case(
         &[
-            sent_piece(1, 5, 0, 4),
-            other(1, 8, 0, 3),
-            sent_piece(0, 6, 4, 6),
-            other(2, 9, 3, 10),
-            sent_piece(2, 7, 6, 10),
+            Piece(0, 100, 1, 4, 0, 5),
+            Piece(0, 100, 0, 5, 5, 5),
+            Piece(0, 100, 0, 6, 5, 8),
+            Piece(0, 100, 2, 7, 8, 10),
         ],
-    )?;
-    Ok(
-        files.len() == 2
-            && files
-                .first()
-                .is_some_and(|file| is_of(file, vc, apid, &[3, 7]))
-            && files
-                .last()
-                .is_some_and(|file| is_of(file, 0, 100, &[4, 2, 4])),
-    )
-}
+        &[Found(0, 100, &[5, 0, 3, 2])],
+    ),
+    Case(
+        &[
+            Piece(0, 100, 1, 4, 0, 3),
+            Piece(0, 100, 0, 5, 3, 6),
+            Piece(0, 100, 2, 6, 6, 9),
+        ],
+        &[],
+    ),
+];
+
+static COUNTS: [Case; 2] = [
+    Case(
+        &[
+            Piece(0, 100, 1, 16_382, 0, 2),
+            Piece(0, 100, 0, 16_383, 2, 4),
+            Piece(0, 100, 2, 0, 4, 10),
+        ],
+        &[Found(0, 100, &[2, 2, 6])],
+    ),
+    Case(
+        &[
+            Piece(0, 100, 1, 4, 0, 5),
+            Piece(0, 100, 0, 5, 5, 6),
+            Piece(0, 100, 2, 7, 8, 10),
+            Piece(0, 100, 1, 8, 0, 6),
+            Piece(0, 100, 2, 9, 6, 10),
+        ],
+        &[Found(0, 100, &[6, 4])],
+    ),
+];
+
+static ANEW: [Case; 2] = [
+    Case(
+        &[
+            Piece(0, 100, 1, 1, 0, 3),
+            Piece(0, 100, 1, 2, 0, 5),
+            Piece(0, 100, 2, 3, 5, 10),
+        ],
+        &[Found(0, 100, &[5, 5])],
+    ),
+    Case(
+        &[
+            Piece(0, 100, 1, 1, 0, 5),
+            Piece(0, 100, 3, 2, 0, 10),
+            Piece(0, 100, 2, 3, 5, 10),
+        ],
+        &[Found(0, 100, &[10])],
+    ),
+];
+
+static WITHOUT_A_FIRST: [Case; 2] = [
+    Case(&[Piece(0, 100, 2, 1, 0, 10)], &[]),
+    Case(
+        &[Piece(0, 100, 0, 1, 0, 5), Piece(0, 100, 2, 2, 5, 10)],
+        &[],
+    ),
+];
+
+/// Two keys whose packets interleave: the file of the second ends first.
+static INTERLEAVED: [Case; 2] = [
+    Case(
+        &[
+            Piece(0, 100, 1, 5, 0, 4),
+            Piece(1, 100, 1, 8, 0, 3),
+            Piece(0, 100, 0, 6, 4, 6),
+            Piece(1, 100, 2, 9, 3, 10),
+            Piece(0, 100, 2, 7, 6, 10),
+        ],
+        &[Found(1, 100, &[3, 7]), Found(0, 100, &[4, 2, 4])],
+    ),
+    Case(
+        &[
+            Piece(0, 100, 1, 5, 0, 4),
+            Piece(0, 101, 1, 8, 0, 3),
+            Piece(0, 100, 0, 6, 4, 6),
+            Piece(0, 101, 2, 9, 3, 10),
+            Piece(0, 100, 2, 7, 6, 10),
+        ],
+        &[Found(0, 101, &[3, 7]), Found(0, 100, &[4, 2, 4])],
+    ),
+];
 
 #[test]
 fn one_packet_is_a_file(rt: HostRuntime) -> Result<(), Fail> {
-    let alloc = rt.alloc();
-    assert!(rt; single(alloc)?);
-    assert!(rt; make_one(alloc, &[sent_piece(3, 9, 0, 10)], &[10])?);
-    assert!(rt; make_none(alloc, &[sent_piece(3, 9, 0, 9)])?);
-    Ok(())
+    assert!(rt; single(rt.alloc())?);
+    hold(rt.alloc(), &ONE_PACKET)
 }
 
 #[test]
 fn several_packets_are_a_file(rt: HostRuntime) -> Result<(), Fail> {
-    let alloc = rt.alloc();
-    let four = [
-        sent_piece(1, 4, 0, 5),
-        sent_piece(0, 5, 5, 5),
-        sent_piece(0, 6, 5, 8),
-        sent_piece(2, 7, 8, 10),
-    ];
-    assert!(rt; make_one(alloc, &four, &[5, 0, 3, 2])?);
-    let nine = [
-        sent_piece(1, 4, 0, 3),
-        sent_piece(0, 5, 3, 6),
-        sent_piece(2, 6, 6, 9),
-    ];
-    assert!(rt; make_none(alloc, &nine)?);
-    Ok(())
+    hold(rt.alloc(), &SEVERAL)
 }
 
 #[test]
 fn counts_follow_one_another(rt: HostRuntime) -> Result<(), Fail> {
-    let alloc = rt.alloc();
-    let wrapped = [
-        sent_piece(1, 16_382, 0, 2),
-        sent_piece(0, 16_383, 2, 4),
-        sent_piece(2, 0, 4, 10),
-    ];
-    assert!(rt; make_one(alloc, &wrapped, &[2, 2, 6])?);
-    let jumped = [
-        sent_piece(1, 4, 0, 5),
-        sent_piece(0, 5, 5, 6),
-        sent_piece(2, 7, 8, 10),
-        sent_piece(1, 8, 0, 6),
-        sent_piece(2, 9, 6, 10),
-    ];
-    assert!(rt; make_one(alloc, &jumped, &[6, 4])?);
-    Ok(())
+    hold(rt.alloc(), &COUNTS)
 }
 
 #[test]
 fn a_first_packet_begins_anew(rt: HostRuntime) -> Result<(), Fail> {
-    let alloc = rt.alloc();
-    let twice = [
-        sent_piece(1, 1, 0, 3),
-        sent_piece(1, 2, 0, 5),
-        sent_piece(2, 3, 5, 10),
-    ];
-    assert!(rt; make_one(alloc, &twice, &[5, 5])?);
-    let inside = [
-        sent_piece(1, 1, 0, 5),
-        sent_piece(3, 2, 0, 10),
-        sent_piece(2, 3, 5, 10),
-    ];
-    assert!(rt; make_one(alloc, &inside, &[10])?);
-    Ok(())
+    hold(rt.alloc(), &ANEW)
 }
 
 #[test]
 fn without_a_first_packet_there_is_no_file(rt: HostRuntime) -> Result<(), Fail> {
-    let alloc = rt.alloc();
-    assert!(rt; make_none(alloc, &[sent_piece(2, 1, 0, 10)])?);
-    assert!(rt; make_none(alloc, &[sent_piece(0, 1, 0, 5), sent_piece(2, 2, 5, 10)])?);
-    Ok(())
+    hold(rt.alloc(), &WITHOUT_A_FIRST)
 }
 
 #[test]
 fn channels_and_applications_are_apart(rt: HostRuntime) -> Result<(), Fail> {
-    let alloc = rt.alloc();
-    assert!(rt; are_interleaved(alloc, 1, 100)?);
-    assert!(rt; are_interleaved(alloc, 0, 101)?);
-    Ok(())
+    hold(rt.alloc(), &INTERLEAVED)
 }

@@ -18,6 +18,8 @@ mod shared;
 #[cfg(test)]
 mod stops;
 #[cfg(test)]
+mod tables;
+#[cfg(test)]
 mod versions;
 #[cfg(test)]
 mod writers;

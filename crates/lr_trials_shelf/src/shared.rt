@@ -172,10 +172,6 @@ pub(crate) fn is_number(answer: Result<u64, ShelfError>, number: u64) -> bool {
     matches!(answer, Ok(n) if n == number)
 }
 
-pub(crate) fn is_gone<T: Drop>(answer: Result<T, ShelfError>) -> bool {
-    matches!(answer, Err(ShelfError::Discarded))
-}
-
 pub(crate) fn is_disk<T: Drop>(answer: Result<T, ShelfError>) -> bool {
     matches!(answer, Err(ShelfError::Disk))
 }
@@ -186,14 +182,6 @@ pub(crate) fn is_failed<T: Drop>(answer: Result<T, ShelfError>) -> bool {
 
 pub(crate) fn is_past<T: Drop>(answer: Result<T, ShelfError>, files: u64) -> bool {
     matches!(answer, Err(ShelfError::NoSuchFile { count }) if count == files)
-}
-
-pub(crate) fn is_full<T: Drop>(answer: Result<T, ShelfError>, end: u64, most: u64) -> bool {
-    matches!(answer, Err(ShelfError::Capacity { needed, capacity }) if needed == end && capacity == most)
-}
-
-pub(crate) fn is_crc<T: Drop>(answer: Result<T, ShelfError>, stands: u16, right: u16) -> bool {
-    matches!(answer, Err(ShelfError::Crc { stored, computed }) if stored == stands && computed == right)
 }
 
 pub(crate) fn is_no_shelf<T: Drop>(answer: Result<T, ShelfError>, place: u64) -> bool {

@@ -3,6 +3,7 @@ use crate::shared::{
     add_first, add_second, append, check, discard, disk, empty, get, holds_first, holds_two, init,
     is_at, is_disk, is_failed, is_not_empty, load, second,
 };
+use crate::tables::{Answer, Case, Start, Step, Which, hold};
 use lr_bits::Placed;
 use lr_disk::{Disk, MemDisk};
 use lr_shelf::Shelf;
@@ -117,19 +118,20 @@ fn a_load_is_tried_again(alloc: Global, call: u64) -> Result<bool, Fail> {
 }
 
 /// A read fails, and then none does.
-fn a_read_is_tried_again(alloc: Global) -> Result<bool, Fail> {
-    let mut made = with_first(alloc)?;
-    let mut shelf = load(alloc, &mut made)?;
-    made.fail_at(0);
-    let failed = is_disk(check(&mut shelf, &mut made, 0));
-    made.fail_at(0);
-    Ok(
-        failed
-            && is_disk(get(&mut shelf, &mut made, 0))
-            && check(&mut shelf, &mut made, 0).is_ok()
-            && get(&mut shelf, &mut made, 0).is_ok(),
-    )
-}
+static READ_AGAIN: [Case; 1] = [Case(
+    Start::Empty(1000),
+    Answer::Done,
+    &[
+        Step::Append(Which::First, Answer::Number(0)),
+        Step::Load,
+        Step::Fails,
+        Step::Check(0, Answer::Disk),
+        Step::Fails,
+        Step::Get(0, Answer::Disk),
+        Step::Check(0, Answer::Done),
+        Step::Get(0, Answer::Done),
+    ],
+)];
 
 #[test]
 fn an_append_makes_four_calls(rt: HostRuntime) -> Result<(), Fail> {
@@ -139,9 +141,12 @@ fn an_append_makes_four_calls(rt: HostRuntime) -> Result<(), Fail> {
 
 #[test]
 fn a_stop_leaves_the_files_before_or_one_more(rt: HostRuntime) -> Result<(), Fail> {
-    assert!(rt; stops_are_harmless(rt.alloc(), 0)?);
-    assert!(rt; stops_are_harmless(rt.alloc(), 1)?);
-    assert!(rt; stops_are_harmless(rt.alloc(), 2)?);
+    for kind in 0..3u8 {
+        assert!(rt;
+            stops_are_harmless(rt.alloc(), kind)?,
+            "a stop of kind {kind}"
+        );
+    }
     Ok(())
 }
 
@@ -153,19 +158,22 @@ fn a_stop_in_the_write_of_a_gate_leaves_no_file(rt: HostRuntime) -> Result<(), F
 
 #[test]
 fn a_shelf_that_met_a_fault_has_failed(rt: HostRuntime) -> Result<(), Fail> {
-    assert!(rt; a_fault_spoils_the_shelf(rt.alloc(), 0)?);
-    assert!(rt; a_fault_spoils_the_shelf(rt.alloc(), 1)?);
-    assert!(rt; a_fault_spoils_the_shelf(rt.alloc(), 2)?);
-    assert!(rt; a_fault_spoils_the_shelf(rt.alloc(), 3)?);
+    for call in 0..4u64 {
+        assert!(rt;
+            a_fault_spoils_the_shelf(rt.alloc(), call)?,
+            "a fault in call {call}"
+        );
+    }
     Ok(())
 }
 
 #[test]
 fn what_only_reads_is_tried_again(rt: HostRuntime) -> Result<(), Fail> {
-    assert!(rt; a_load_is_tried_again(rt.alloc(), 0)?);
-    assert!(rt; a_load_is_tried_again(rt.alloc(), 1)?);
-    assert!(rt; a_load_is_tried_again(rt.alloc(), 2)?);
-    assert!(rt; a_load_is_tried_again(rt.alloc(), 3)?);
-    assert!(rt; a_read_is_tried_again(rt.alloc())?);
-    Ok(())
+    for call in 0..4u64 {
+        assert!(rt;
+            a_load_is_tried_again(rt.alloc(), call)?,
+            "a fault in call {call}"
+        );
+    }
+    hold(rt.alloc(), &READ_AGAIN)
 }

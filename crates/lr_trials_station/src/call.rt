@@ -68,13 +68,18 @@ fn owned_words(alloc: Global, words: &[&str]) -> Result<Vec<String>, AllocError>
 
 /// What came of a call.
 #[derive(Drop)]
-struct Printed {
-    status: u8,
-    out: MemSink,
-    err: MemSink,
+pub(crate) struct Printed {
+    pub(crate) status: u8,
+    pub(crate) out: MemSink,
+    pub(crate) err: MemSink,
 }
 
-fn call(alloc: Global, disk: &mut MemDisk, input: Input<'_>, room: Room) -> Result<Printed, Fail> {
+pub(crate) fn call(
+    alloc: Global,
+    disk: &mut MemDisk,
+    input: Input<'_>,
+    room: Room,
+) -> Result<Printed, Fail> {
     let words = owned_words(alloc, input.words)?;
     let bytes = MemSource::of(input.bytes, Vec::new(alloc), vec![in alloc; input.fault]?);
     let mut source = ShortSource::of(bytes, input.reads);

@@ -1,38 +1,74 @@
 //! `discard`, and the commands after it.
-use crate::call::{done_with, gives_alone, refused_with};
-use crate::shelves::{TWO_FILES, disk};
+use crate::sessions::{Left, OVER, QUIET, Run, Session, hold};
+use crate::shelves::TWO_FILES;
 use lr_trials_wanted::lines;
-use std::alloc::Global;
 use std::test::Fail;
 
-const LEFT: &str = lines!(
-    file 0 discarded;
-    file 1 ok;
-);
+const DISCARDED: Run = Run {
+    words: &["discard", "0"],
+    out: lines!(discarded 0;),
+    ..QUIET
+};
 
-// The first of two files is discarded, and what these words give then.
-fn gives_after(alloc: Global, words: &[&str], status: u8, line: &str) -> Result<bool, Fail> {
-    let mut shelf = disk(alloc, &TWO_FILES)?;
-    let wanted = done_with(lines!(discarded 0;));
-    let discarded = gives_alone(alloc, &mut shelf, &["discard", "0"], wanted)?;
-    let after = gives_alone(alloc, &mut shelf, words, refused_with(status, line))?;
-    let verified = gives_alone(alloc, &mut shelf, &["verify"], done_with(LEFT))?;
-    Ok(discarded && after && verified && shelf.as_slice().len() == TWO_FILES.len() + 12)
-}
+const GONE: Run = Run {
+    status: 13,
+    line: lines!(station: discarded;),
+    ..QUIET
+};
+
+const LEFT: Run = Run {
+    words: &["verify"],
+    out: lines!(
+        file 0 discarded;
+        file 1 ok;
+    ),
+    left: Left::Length(TWO_FILES.len() + 12),
+    ..QUIET
+};
+
+/// The first of two files is discarded, and what other words give then.
+static AFTER_IT: [Session; 3] = [
+    Session {
+        disk: &TWO_FILES,
+        runs: &[
+            DISCARDED,
+            Run {
+                words: &["extract", "0"],
+                ..GONE
+            },
+            LEFT,
+        ],
+        ..OVER
+    },
+    Session {
+        disk: &TWO_FILES,
+        runs: &[
+            DISCARDED,
+            Run {
+                words: &["discard", "0"],
+                ..GONE
+            },
+            LEFT,
+        ],
+        ..OVER
+    },
+    Session {
+        disk: &TWO_FILES,
+        runs: &[
+            DISCARDED,
+            Run {
+                words: &["discard", "2"],
+                status: 7,
+                line: lines!(station: no such file, count 2;),
+                ..QUIET
+            },
+            LEFT,
+        ],
+        ..OVER
+    },
+];
 
 #[test]
 fn a_discarded_file_is_refused(rt: HostRuntime) -> Result<(), Fail> {
-    let alloc = rt.alloc();
-    let gone = lines!(station: discarded;);
-    assert!(rt; gives_after(alloc, &["extract", "0"], 13, gone)?);
-    assert!(rt; gives_after(alloc, &["discard", "0"], 13, gone)?);
-    assert!(rt;
-        gives_after(
-            alloc,
-            &["discard", "2"],
-            7,
-            lines!(station: no such file, count 2;)
-        )?
-    );
-    Ok(())
+    hold(rt.alloc(), &AFTER_IT)
 }

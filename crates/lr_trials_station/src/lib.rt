@@ -1,5 +1,5 @@
 //! Trials of the station: calls of `station` over sources, disks and sinks in memory, and over real files. `call`,
-//! `shelves`, `short` and `stated` are what other crates of trials share.
+//! `sessions`, `shelves`, `short` and `stated` are what other crates of trials share.
 #![tactic(auto)]
 
 #[cfg(test)]
@@ -23,6 +23,7 @@ mod packets;
 mod receive;
 #[cfg(test)]
 mod repacks;
+pub mod sessions;
 pub mod shelves;
 pub mod short;
 pub mod stated;

@@ -1,9 +1,7 @@
 //! How many bytes are taken, where a word says so.
-
-use crate::call::{AMPLE, Input, NEVER, done_with, gives, gives_on};
-use crate::shelves::empty_shelf;
+use crate::sessions::{OVER, Piece, QUIET, Run, Session, hold};
+use crate::shelves::MADE;
 use lr_trials_wanted::lines;
-use std::alloc::Global;
 use std::test::Fail;
 
 const ONE: &str = lines!(
@@ -11,47 +9,93 @@ const ONE: &str = lines!(
     frames 1 left 0 stop limit;
 );
 
-const PART: &str = lines!(frames 0 left 891 stop limit;);
+/// 893 bytes of 40 hex are there.
+const FULL: Run = Run {
+    input: &[Piece::Same(893, 0x40)],
+    ..QUIET
+};
 
-const NONE: &str = lines!(frames 0 left 0 stop limit;);
+/// No call on the disk would succeed.
+static LIMITS: [Session; 1] = [Session {
+    allowed: 0,
+    reads: &[893],
+    runs: &[
+        Run {
+            words: &["frames", "--symbols", "892"],
+            out: ONE,
+            ..FULL
+        },
+        Run {
+            words: &["frames", "--symbols=891"],
+            out: lines!(frames 0 left 891 stop limit;),
+            ..FULL
+        },
+        // A source that was asked would fail.
+        Run {
+            words: &["frames", "--symbols", "892"],
+            fault: 892,
+            out: ONE,
+            ..FULL
+        },
+        Run {
+            words: &["frames", "--symbols", "0"],
+            fault: 0,
+            out: lines!(frames 0 left 0 stop limit;),
+            ..FULL
+        },
+    ],
+    ..OVER
+}];
 
-const NOTHING: &str =
-    lines!(symbols 0 frames 0 restored 0 lost 0 packets 0 files 0 left 0 stop limit;);
+/// Nothing is received, and the source isn't asked.
+const NOTHING: Run = Run {
+    fault: 0,
+    out: lines!(symbols 0 frames 0 restored 0 lost 0 packets 0 files 0 left 0 stop limit;),
+    ..FULL
+};
 
-/// Whether these words print this of 893 bytes of 40 hex, from a source that fails at this place.
-fn prints(alloc: Global, words: &[&str], fault: u64, out: &str) -> Result<bool, Fail> {
-    let input = Input {
-        words,
-        bytes: vec![in alloc; 0x40; 893]?,
-        reads: 893,
-        fault,
-    };
-    gives(alloc, input, AMPLE, done_with(out))
-}
+static FORMS: [Session; 3] = [
+    Session {
+        reads: &[893],
+        runs: &[
+            MADE,
+            Run {
+                words: &["receive", "--symbols", "0", "--input", "symbols"],
+                ..NOTHING
+            },
+        ],
+        ..OVER
+    },
+    Session {
+        reads: &[893],
+        runs: &[
+            MADE,
+            Run {
+                words: &["receive", "--symbols", "0", "--input", "blocks"],
+                ..NOTHING
+            },
+        ],
+        ..OVER
+    },
+    Session {
+        reads: &[893],
+        runs: &[
+            MADE,
+            Run {
+                words: &["receive", "--symbols", "0", "--input", "frames"],
+                ..NOTHING
+            },
+        ],
+        ..OVER
+    },
+];
 
 #[test]
 fn no_more_bytes_are_taken_than_the_words_say(rt: HostRuntime) -> Result<(), Fail> {
-    let alloc = rt.alloc();
-    assert!(rt; prints(alloc, &["frames", "--symbols", "892"], NEVER, ONE)?);
-    assert!(rt; prints(alloc, &["frames", "--symbols=891"], NEVER, PART)?);
-    // A source that was asked would fail.
-    assert!(rt; prints(alloc, &["frames", "--symbols", "892"], 892, ONE)?);
-    assert!(rt; prints(alloc, &["frames", "--symbols", "0"], 0, NONE)?);
-    Ok(())
+    hold(rt.alloc(), &LIMITS)
 }
 
 #[test]
 fn a_limit_of_nothing_shelves_nothing(rt: HostRuntime) -> Result<(), Fail> {
-    let alloc = rt.alloc();
-    for form in ["symbols", "blocks", "frames"] {
-        let mut shelf = empty_shelf(alloc)?;
-        let input = Input {
-            words: &["receive", "--symbols", "0", "--input", form],
-            bytes: vec![in alloc; 0x40; 893]?,
-            reads: 893,
-            fault: 0,
-        };
-        assert!(rt; gives_on(alloc, &mut shelf, input, AMPLE, done_with(NOTHING))?);
-    }
-    Ok(())
+    hold(rt.alloc(), &FORMS)
 }

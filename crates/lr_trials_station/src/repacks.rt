@@ -1,29 +1,50 @@
 //! `repack` refuses files that can't be coded anew.
-use crate::call::{done_with, gives_alone, refused_with};
-use crate::shelves::{TWO_FILES, disk};
+use crate::sessions::{Left, OVER, QUIET, Run, Session, hold};
+use crate::shelves::TWO_FILES;
 use lr_trials_wanted::lines;
-use std::alloc::Global;
 use std::test::Fail;
 
-const LEFT: &str = lines!(
-    file 0 ok;
-    file 1 ok;
-);
+const LEFT: Run = Run {
+    words: &["verify"],
+    out: lines!(
+        file 0 ok;
+        file 1 ok;
+    ),
+    left: Left::Length(TWO_FILES.len()),
+    ..QUIET
+};
 
-// What these words give over a shelf of two texts, which stays as it is.
-fn gives(alloc: Global, words: &[&str], status: u8, line: &str) -> Result<bool, Fail> {
-    let mut shelf = disk(alloc, &TWO_FILES)?;
-    let refused = gives_alone(alloc, &mut shelf, words, refused_with(status, line))?;
-    let verified = gives_alone(alloc, &mut shelf, &["verify"], done_with(LEFT))?;
-    Ok(refused && verified && shelf.as_slice().len() == TWO_FILES.len())
-}
+/// Over a shelf of two texts, which stays as it is.
+static REFUSED: [Session; 2] = [
+    Session {
+        disk: &TWO_FILES,
+        runs: &[
+            Run {
+                words: &["repack", "0", "8"],
+                status: 8,
+                line: lines!(station: cannot export: "not-image";),
+                ..QUIET
+            },
+            LEFT,
+        ],
+        ..OVER
+    },
+    Session {
+        disk: &TWO_FILES,
+        runs: &[
+            Run {
+                words: &["repack", "0", "10"],
+                status: 2,
+                line: lines!(station: usage: SHELF COMMAND [WORDS];),
+                ..QUIET
+            },
+            LEFT,
+        ],
+        ..OVER
+    },
+];
 
 #[test]
 fn a_text_is_not_coded(rt: HostRuntime) -> Result<(), Fail> {
-    let alloc = rt.alloc();
-    let text = lines!(station: cannot export: "not-image";);
-    assert!(rt; gives(alloc, &["repack", "0", "8"], 8, text)?);
-    let usage = lines!(station: usage: SHELF COMMAND [WORDS];);
-    assert!(rt; gives(alloc, &["repack", "0", "10"], 2, usage)?);
-    Ok(())
+    hold(rt.alloc(), &REFUSED)
 }

@@ -1,13 +1,14 @@
 //! Shelves on disks in memory.
-use crate::call::{Input, NEVER, done_with, gives_alone};
-use crate::stated::file_7;
+use crate::call::{done_with, gives_alone};
+use crate::sessions::{Piece, QUIET, Run};
+use crate::stated::FILE_7;
 use lr_disk::MemDisk;
 use lr_trials_wanted::lines;
 use std::alloc::Global;
 use std::test::Fail;
 
 /// A shelf of the capacity 1,000 with the files 7 and 8, from the frames 0 and 1. The gates are at 19, 86 and 153.
-pub static TWO_FILES: [u8; 154] = [
+pub const TWO_FILES: [u8; 154] = [
     0x5A, 0x4C, 0x52, 0x53, 0x48, 0x45, 0x4C, 0x46, 2, 0, 0, 0, 0, 0, 0, 3, 0xE8, 0xE5, 4, 1, 0x80,
     0, 0, 0x64, 0, 0, 0, 1, 0, 0, 0, 0x1A, 0, 0, 0, 0, 0, 0, 0, 0, 0, 0, 0, 0, 0, 0, 0, 0, 0, 0, 0,
     0, 0, 0, 0, 0, 0, 0x1A, 0, 7, 0, 0, 0, 0, 0, 0, 0, 0x88, 0, 0, 0x10, 2, 0, 0, 0, 0x10, 0, 0, 0,
@@ -18,6 +19,24 @@ pub static TWO_FILES: [u8; 154] = [
 
 /// The words to receive frames.
 pub const FRAMES: [&str; 3] = ["receive", "--input", "frames"];
+
+/// An empty shelf of the capacity 1,000 is made.
+pub const MADE: Run = Run {
+    words: &["init", "1000"],
+    out: lines!(shelf capacity 1000;),
+    ..QUIET
+};
+
+/// The frame of one file is received.
+pub const RECEIVED_7: Run = Run {
+    words: &FRAMES,
+    input: &[Piece::Frame(FILE_7)],
+    out: lines!(
+        shelved 0 vc 0 apid 100 counter 7 bytes 26 packets 1;
+        symbols 892 frames 1 restored 1 lost 0 packets 1 files 1 left 0 stop end;
+    ),
+    ..QUIET
+};
 
 /// A disk of these bytes that allows this many calls.
 pub fn disk_of_calls(alloc: Global, bytes: &[u8], calls: u64) -> Result<MemDisk, Fail> {
@@ -55,14 +74,4 @@ pub fn with_byte(alloc: Global, place: usize, byte: u8) -> Result<MemDisk, Fail>
         *one = byte;
     }
     disk(alloc, &bytes)
-}
-
-/// What a call reads to receive the frame of one file.
-pub fn one_file(alloc: Global) -> Result<Input<'static>, Fail> {
-    Ok(Input {
-        words: &FRAMES,
-        bytes: file_7(alloc)?,
-        reads: 892,
-        fault: NEVER,
-    })
 }

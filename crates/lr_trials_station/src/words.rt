@@ -7,110 +7,156 @@ use lr_words::{
 use std::alloc::{AllocError, Global};
 use std::test::Fail;
 
-/// Words with a space between them, and the command that they give.
-const READ: [(&str, &str); 56] = [
-    ("init 100", "init 100"),
-    ("init -- 100", "init 100"),
-    ("init 00000000000000000100", "init 100"),
-    ("init 20", "init 20"),
-    ("init 1099511627776", "init 1099511627776"),
-    ("downlinks", "downlinks nrz-l inverted"),
-    ("downlinks --", "downlinks nrz-l inverted"),
-    ("downlinks --g2=plain --line nrz-m", "downlinks nrz-m plain"),
-    ("extract -- 0", "extract 0"),
-    ("extract 0 --", "extract 0"),
+/// Words with a space between them, and the names and the numbers of the command that they give.
+static READ: [(&str, &[&str], &[u64]); 56] = [
+    ("init 100", &["init"], &[100]),
+    ("init -- 100", &["init"], &[100]),
+    ("init 00000000000000000100", &["init"], &[100]),
+    ("init 20", &["init"], &[20]),
+    ("init 1099511627776", &["init"], &[1099511627776]),
+    ("downlinks", &["downlinks", "nrz-l", "inverted"], &[]),
+    ("downlinks --", &["downlinks", "nrz-l", "inverted"], &[]),
+    (
+        "downlinks --g2=plain --line nrz-m",
+        &["downlinks", "nrz-m", "plain"],
+        &[],
+    ),
+    ("extract -- 0", &["extract"], &[0]),
+    ("extract 0 --", &["extract"], &[0]),
     (
         "extract 18446744073709551615",
-        "extract 18446744073709551615",
+        &["extract"],
+        &[18446744073709551615],
     ),
-    ("discard 7", "discard 7"),
-    ("repack 7 16", "repack 7 16"),
-    ("repack -- 0 08", "repack 0 8"),
-    ("list", "list"),
-    ("list --", "list"),
-    ("show 7", "show 7"),
-    ("export -- 07", "export 7"),
-    ("render", "render by 1"),
-    ("render --", "render by 1"),
-    ("render --workers=64", "render by 64"),
-    ("assemble 0 2 -- 100 1", "assemble 0 2 100 1"),
+    ("discard 7", &["discard"], &[7]),
+    ("repack 7 16", &["repack"], &[7, 16]),
+    ("repack -- 0 08", &["repack"], &[0, 8]),
+    ("list", &["list"], &[]),
+    ("list --", &["list"], &[]),
+    ("show 7", &["show"], &[7]),
+    ("export -- 07", &["export"], &[7]),
+    ("render", &["render"], &[1]),
+    ("render --", &["render"], &[1]),
+    ("render --workers=64", &["render"], &[64]),
+    ("assemble 0 2 -- 100 1", &["assemble"], &[0, 2, 100, 1]),
     (
         "assemble 18446744073709551615 00 2046 65535",
-        "assemble 18446744073709551615 0 2046 65535",
+        &["assemble"],
+        &[18446744073709551615, 0, 2046, 65535],
     ),
-    ("transmit 0 2 16 --g2=plain", "transmit 0 2 16 nrz-l plain"),
+    (
+        "transmit 0 2 16 --g2=plain",
+        &["transmit", "nrz-l", "plain"],
+        &[0, 2, 16],
+    ),
     (
         "transmit --line nrz-m 9 9 0",
-        "transmit 9 9 0 nrz-m inverted",
+        &["transmit", "nrz-m", "inverted"],
+        &[9, 9, 0],
     ),
-    ("show -- 00", "show 0"),
-    ("verify", "verify"),
-    ("verify --", "verify"),
-    ("frames", "frames 1099511627776"),
-    ("frames --", "frames 1099511627776"),
-    ("frames --symbols 5 --", "frames 5"),
-    ("frames --symbols=5", "frames 5"),
-    ("frames --symbols 5", "frames 5"),
-    ("frames --symbols 1099511627776", "frames 1099511627776"),
-    ("packets", "packets 1099511627776"),
-    ("packets --symbols 0", "packets 0"),
-    ("decode", "decode symbols nrz-l inverted 1099511627776 by 1"),
+    ("show -- 00", &["show"], &[0]),
+    ("verify", &["verify"], &[]),
+    ("verify --", &["verify"], &[]),
+    ("frames", &["frames"], &[1099511627776]),
+    ("frames --", &["frames"], &[1099511627776]),
+    ("frames --symbols 5 --", &["frames"], &[5]),
+    ("frames --symbols=5", &["frames"], &[5]),
+    ("frames --symbols 5", &["frames"], &[5]),
+    (
+        "frames --symbols 1099511627776",
+        &["frames"],
+        &[1099511627776],
+    ),
+    ("packets", &["packets"], &[1099511627776]),
+    ("packets --symbols 0", &["packets"], &[0]),
+    (
+        "decode",
+        &["decode", "symbols", "nrz-l", "inverted"],
+        &[1099511627776, 1],
+    ),
     (
         "decode --symbols=0 --workers=1 --input=blocks",
-        "decode blocks 0 by 1",
+        &["decode", "blocks"],
+        &[0, 1],
     ),
     (
         "decode --input=blocks --symbols=0 --workers=1",
-        "decode blocks 0 by 1",
+        &["decode", "blocks"],
+        &[0, 1],
     ),
     (
         "decode --line nrz-m --symbols 9",
-        "decode symbols nrz-m inverted 9 by 1",
+        &["decode", "symbols", "nrz-m", "inverted"],
+        &[9, 1],
     ),
     (
         "decode --g2=plain --symbols 9",
-        "decode symbols nrz-l plain 9 by 1",
+        &["decode", "symbols", "nrz-l", "plain"],
+        &[9, 1],
     ),
     (
         "decode --g2 plain --line nrz-m --symbols 9",
-        "decode symbols nrz-m plain 9 by 1",
+        &["decode", "symbols", "nrz-m", "plain"],
+        &[9, 1],
     ),
     (
         "receive",
-        "receive symbols nrz-l inverted 1099511627776 by 1",
+        &["receive", "symbols", "nrz-l", "inverted"],
+        &[1099511627776, 1],
     ),
     (
         "receive --input frames --line nrz-m --g2 plain --symbols 1",
-        "receive frames 1 by 1",
+        &["receive", "frames"],
+        &[1, 1],
     ),
     (
         "receive --g2 inverted --line nrz-l --workers 1 --symbols 1",
-        "receive symbols nrz-l inverted 1 by 1",
+        &["receive", "symbols", "nrz-l", "inverted"],
+        &[1, 1],
     ),
     (
         "decode --workers 64 --symbols 9",
-        "decode symbols nrz-l inverted 9 by 64",
+        &["decode", "symbols", "nrz-l", "inverted"],
+        &[9, 64],
     ),
     (
         "receive --input blocks --workers 2",
-        "receive blocks 1099511627776 by 2",
+        &["receive", "blocks"],
+        &[1099511627776, 2],
     ),
-    ("make 1 2 3", "make 1 2 3 symbols"),
-    ("make --output blocks 1 2 3", "make 1 2 3 blocks"),
-    ("make 1 --output=blocks 2 -- 3", "make 1 2 3 blocks"),
-    ("make 1 2 3 --output frames", "make 1 2 3 frames"),
+    ("make 1 2 3", &["make", "symbols"], &[1, 2, 3]),
+    (
+        "make --output blocks 1 2 3",
+        &["make", "blocks"],
+        &[1, 2, 3],
+    ),
+    (
+        "make 1 --output=blocks 2 -- 3",
+        &["make", "blocks"],
+        &[1, 2, 3],
+    ),
+    (
+        "make 1 2 3 --output frames",
+        &["make", "frames"],
+        &[1, 2, 3],
+    ),
     (
         "make 18446744073709551615 65536 16",
-        "make 18446744073709551615 65536 16 symbols",
+        &["make", "symbols"],
+        &[18446744073709551615, 65536, 16],
     ),
-    ("trial 0 1 0", "trial 0 1 0 by 1"),
-    ("trial 9 1024 16", "trial 9 1024 16 by 1"),
-    ("trial 9 --workers 08 1024 16", "trial 9 1024 16 by 8"),
-    ("trial 9 --workers 1 1024 16", "trial 9 1024 16 by 1"),
+    ("trial 0 1 0", &["trial"], &[0, 1, 0, 1]),
+    ("trial 9 1024 16", &["trial"], &[9, 1024, 16, 1]),
+    (
+        "trial 9 --workers 08 1024 16",
+        &["trial"],
+        &[9, 1024, 16, 8],
+    ),
+    ("trial 9 --workers 1 1024 16", &["trial"], &[9, 1024, 16, 1]),
 ];
 
 /// Words of which the arguments don't fit the command.
-const WRONG_ARGUMENTS: [&str; 43] = [
+static WRONG_ARGUMENTS: [&str; 43] = [
     "",
     " ",
     "init",
@@ -157,7 +203,7 @@ const WRONG_ARGUMENTS: [&str; 43] = [
 ];
 
 /// Words of which an option is named or used in a wrong way.
-const WRONG_OPTIONS: [&str; 23] = [
+static WRONG_OPTIONS: [&str; 23] = [
     "frames --symbols",
     "frames --symbols --symbols",
     "frames --symbols --help",
@@ -184,7 +230,7 @@ const WRONG_OPTIONS: [&str; 23] = [
 ];
 
 /// Words that ask for help, or name no command.
-const NO_COMMAND: [&str; 22] = [
+static NO_COMMAND: [&str; 22] = [
     "--help",
     "-h",
     "help",
@@ -210,7 +256,7 @@ const NO_COMMAND: [&str; 22] = [
 ];
 
 /// Words of which a value is none.
-const WRONG_VALUES: [&str; 58] = [
+static WRONG_VALUES: [&str; 58] = [
     "downlinks --line plain",
     "repack 0 10",
     "repack 0 0",
@@ -323,75 +369,105 @@ fn g2_name(line: LineCode) -> &'static str {
     if line.inverted { "inverted" } else { "plain" }
 }
 
-fn input_text(
-    alloc: Global,
-    name: &str,
-    input: Input,
-    workers: u32,
-    most: u64,
-) -> Result<String, AllocError> {
-    match input {
-        Input::Symbols(line) => {
-            let code = line_name(line);
-            let g2 = g2_name(line);
-            format!(in alloc; "{name} symbols {code} {g2} {most} by {workers}")
-        }
-        Input::Units(form) => {
-            let units = unit_name(form);
-            format!(in alloc; "{name} {units} {most} by {workers}")
-        }
+/// The names and the numbers of a command, those that it hasn't being "" and 0.
+#[derive(Clone, Copy)]
+struct Told {
+    names: [&'static str; 4],
+    numbers: [u64; 4],
+}
+
+fn told_input(name: &'static str, input: Input, workers: u32, most: u64) -> Told {
+    let names = match input {
+        Input::Symbols(line) => [name, "symbols", line_name(line), g2_name(line)],
+        Input::Units(form) => [name, unit_name(form), "", ""],
+    };
+    Told {
+        names,
+        numbers: [most, u64::from(workers), 0, 0],
     }
 }
 
-/// The command with all its values.
-fn text_of(alloc: Global, command: Command) -> Result<String, AllocError> {
+fn told_plain(name: &'static str, numbers: [u64; 4]) -> Told {
+    Told {
+        names: [name, "", "", ""],
+        numbers,
+    }
+}
+
+fn told_of_line(name: &'static str, line: LineCode, numbers: [u64; 4]) -> Told {
+    Told {
+        names: [name, line_name(line), g2_name(line), ""],
+        numbers,
+    }
+}
+
+/// What a command says.
+fn told_of(command: Command) -> Told {
     match command {
-        Command::Init { capacity } => format!(in alloc; "init {capacity}"),
-        Command::Frames { lines, most } => format!(in alloc; "{} {most}", lines_name(lines)),
+        Command::Init { capacity } => told_plain("init", [capacity, 0, 0, 0]),
+        Command::Frames { lines, most } => told_plain(lines_name(lines), [most, 0, 0, 0]),
         Command::Intake {
             action,
             input,
             workers,
             most,
-        } => input_text(alloc, intake_name(action), input, workers, most),
-        Command::Downlinks { line } => {
-            let code = line_name(line);
-            let g2 = g2_name(line);
-            format!(in alloc; "downlinks {code} {g2}")
-        }
-        Command::OnShelf(action) => String::from_str(alloc, shelf_name(action)),
-        Command::OnFile(action, number) => format!(in alloc; "{} {number}", file_name(action)),
-        Command::Render { workers } => format!(in alloc; "render by {workers}"),
+        } => told_input(intake_name(action), input, workers, most),
+        Command::Downlinks { line } => told_of_line("downlinks", line, [0; 4]),
+        Command::OnShelf(action) => told_plain(shelf_name(action), [0; 4]),
+        Command::OnFile(action, number) => told_plain(file_name(action), [number, 0, 0, 0]),
+        Command::Render { workers } => told_plain("render", [u64::from(workers), 0, 0, 0]),
         Command::Assemble {
             from,
             to,
             apid,
             image,
-        } => format!(in alloc; "assemble {from} {to} {apid} {image}"),
+        } => told_plain("assemble", [from, to, u64::from(apid), u64::from(image)]),
         Command::Transmit {
             from,
             to,
             wrong,
             line,
-        } => {
-            let code = line_name(line);
-            let g2 = g2_name(line);
-            format!(in alloc; "transmit {from} {to} {wrong} {code} {g2}")
+        } => told_of_line("transmit", line, [from, to, u64::from(wrong), 0]),
+        Command::Repack { number, block } => {
+            told_plain("repack", [number, u64::from(block), 0, 0])
         }
-        Command::Repack { number, block } => format!(in alloc; "repack {number} {block}"),
         Command::Make {
             start,
             frames,
             wrong,
             form,
-        } => format!(in alloc; "make {start} {frames} {wrong} {}", output_name(form)),
+        } => Told {
+            names: ["make", output_name(form), "", ""],
+            numbers: [start, frames, u64::from(wrong), 0],
+        },
         Command::Trial {
             start,
             frames,
             wrong,
             workers,
-        } => format!(in alloc; "trial {start} {frames} {wrong} by {workers}"),
+        } => told_plain(
+            "trial",
+            [start, frames, u64::from(wrong), u64::from(workers)],
+        ),
     }
+}
+
+/// Whether these are the names and the numbers.
+fn is_told(told: Told, names: &[&str], numbers: &[u64]) -> bool {
+    let Told {
+        names: own_names,
+        numbers: own_numbers,
+    } = told;
+    for place in 0..4usize {
+        let name = own_names[place];
+        let number = own_numbers[place];
+        if name != names.get(place).copied().unwrap_or("")
+            || number != numbers.get(place).copied().unwrap_or(0)
+        {
+            return false;
+        }
+    }
+    true
 }
 
 fn words_of(alloc: Global, line: &str) -> Result<Vec<String>, AllocError> {
@@ -409,10 +485,9 @@ fn spaced_number(alloc: Global) -> Result<Vec<String>, AllocError> {
     Ok(words)
 }
 
-fn gives(alloc: Global, line: &str, wanted: &str) -> Result<bool, Fail> {
-    let words = words_of(alloc, line)?;
-    match read_words(alloc, &words)? {
-        Some(command) => Ok(text_of(alloc, command)?.as_str() == wanted),
+fn gives(alloc: Global, line: &str, names: &[&str], numbers: &[u64]) -> Result<bool, Fail> {
+    match read_words(alloc, &words_of(alloc, line)?)? {
+        Some(command) => Ok(is_told(told_of(command), names, numbers)),
         None => Ok(false),
     }
 }
@@ -421,43 +496,76 @@ fn is_refused(alloc: Global, words: &[String]) -> Result<bool, Fail> {
     Ok(read_words(alloc, words)?.is_none())
 }
 
-/// The first line that isn't read as is wanted.
-fn first_misread(alloc: Global) -> Result<&'static str, Fail> {
-    for (line, wanted) in READ {
-        if !gives(alloc, line, wanted)? {
-            return Ok(line);
-        }
-    }
-    Ok("none")
+fn is_refused_line(alloc: Global, line: &str) -> Result<bool, Fail> {
+    is_refused(alloc, &words_of(alloc, line)?)
 }
 
-/// The first line that gives a command.
-fn first_taken(alloc: Global, lines: &[&'static str]) -> Result<&'static str, Fail> {
-    for line in lines {
-        if !is_refused(alloc, &words_of(alloc, line)?)? {
-            return Ok(line);
+/// That each line is read as is wanted.
+fn are_read(alloc: Global) -> Result<(), Fail> {
+    for (line, names, numbers) in &READ {
+        if !gives(alloc, line, names, numbers)? {
+            return Err(Fail::new(format_args!("{line:?} isn't read as is wanted")));
         }
     }
-    Ok("none")
+    Ok(())
+}
+
+/// That no line gives a command.
+fn are_refused(alloc: Global, lines: &[&str]) -> Result<(), Fail> {
+    for line in lines {
+        if !is_refused_line(alloc, line)? {
+            return Err(Fail::new(format_args!("{line:?} gives a command")));
+        }
+    }
+    Ok(())
 }
 
 fn may_write(alloc: Global, line: &str) -> Result<bool, Fail> {
     Ok(writes_shelf(&words_of(alloc, line)?))
 }
 
+/// First words of commands that may write.
+static WRITES: [&str; 5] = ["init 20", "receive", "trial", "discard x", "repack"];
+
+/// And those of words that may not.
+static READS: [&str; 9] = [
+    "",
+    "frames",
+    "extract 0",
+    "export 0",
+    "render",
+    "assemble",
+    "make init",
+    "Init",
+    "init5",
+];
+
+/// That all of these lines may write, or none.
+fn all_may(alloc: Global, lines: &[&str], wanted: bool) -> Result<(), Fail> {
+    for line in lines {
+        if may_write(alloc, line)? != wanted {
+            return Err(Fail::new(format_args!("{line:?}: whether it may write isn't {wanted}")));
+        }
+    }
+    Ok(())
+}
+
 #[test]
 fn words_are_read_in_any_order_that_says_the_same(rt: HostRuntime) -> Result<(), Fail> {
-    assert_eq!(rt; first_misread(rt.alloc())?, "none");
-    Ok(())
+    are_read(rt.alloc())
 }
 
 #[test]
 fn words_that_give_no_command_are_refused(rt: HostRuntime) -> Result<(), Fail> {
     let alloc = rt.alloc();
-    assert_eq!(rt; first_taken(alloc, &WRONG_ARGUMENTS)?, "none");
-    assert_eq!(rt; first_taken(alloc, &WRONG_OPTIONS)?, "none");
-    assert_eq!(rt; first_taken(alloc, &NO_COMMAND)?, "none");
-    assert_eq!(rt; first_taken(alloc, &WRONG_VALUES)?, "none");
+    for lines in [
+        WRONG_ARGUMENTS.as_slice(),
+        WRONG_OPTIONS.as_slice(),
+        NO_COMMAND.as_slice(),
+        WRONG_VALUES.as_slice(),
+    ] {
+        are_refused(alloc, lines)?;
+    }
     assert!(rt; is_refused(alloc, &Vec::new(alloc))?);
     assert!(rt; is_refused(alloc, &spaced_number(alloc)?)?);
     Ok(())
@@ -466,22 +574,8 @@ fn words_that_give_no_command_are_refused(rt: HostRuntime) -> Result<(), Fail> {
 #[test]
 fn the_first_word_says_whether_the_shelf_may_change(rt: HostRuntime) -> Result<(), Fail> {
     let alloc = rt.alloc();
-    for line in ["init 20", "receive", "trial", "discard x", "repack"] {
-        assert!(rt; may_write(alloc, line)?);
-    }
-    for line in [
-        "",
-        "frames",
-        "extract 0",
-        "export 0",
-        "render",
-        "assemble",
-        "make init",
-        "Init",
-        "init5",
-    ] {
-        assert!(rt; !may_write(alloc, line)?);
-    }
+    all_may(alloc, &WRITES, true)?;
+    all_may(alloc, &READS, false)?;
     assert!(rt; !writes_shelf(&Vec::new(alloc)));
     Ok(())
 }

@@ -1,7 +1,7 @@
 //! `decode` and `receive` read symbols.
 use lr_conv::LineCode;
 use lr_disk::MemDisk;
-use lr_trials_lock::streams::{bytes_of, coded_frames, leave_hits, sent_symbols, silence, turn};
+use lr_trials_coding::streams::{bytes_of, coded_frames, leave_hits, sent_symbols, silence, turn};
 use lr_trials_station::call::{AMPLE, Input, NEVER, Outcome, done_with, ends_on, gives, gives_on};
 use lr_trials_station::shelves::empty_shelf;
 use lr_trials_wanted::lines;

@@ -1,13 +1,14 @@
 //! `transmit`, and what `receive` makes of its symbols.
+use crate::made::USAGE;
 use crate::trial::tried_disk;
 use lr_bits::{Bytes, Lengths, MissionFile, Origin, Placed};
 use lr_disk::MemDisk;
 use lr_shelf::Shelf;
 use lr_trials_station::call::{
-    AMPLE, Input, NEVER, Outcome, Room, done_with, ends_on, gives_alone, gives_on, refused_with,
-    written_on,
+    AMPLE, Input, NEVER, Room, done_with, ends_on, gives_alone, gives_on, refused_with, written_on,
 };
-use lr_trials_station::shelves::{TWO_FILES, disk, empty_shelf, with_byte};
+use lr_trials_station::sessions::{OVER, QUIET, Run, Session, hold, hold_on};
+use lr_trials_station::shelves::{TWO_FILES, disk, empty_shelf};
 use lr_trials_wanted::lines;
 use std::alloc::Global;
 use std::test::Fail;
@@ -77,108 +78,189 @@ fn shelf_of_body(alloc: Global, vc: u8, size: u16) -> Result<MemDisk, Fail> {
     Ok(made)
 }
 
-#[test]
-fn an_idle_packet_goes_on_in_the_next_frame(rt: HostRuntime) -> Result<(), Fail> {
-    let alloc = rt.alloc();
+// Whether the symbols of that file are two frames, of which one file is received.
+fn long_file_is_received(alloc: Global) -> Result<bool, Fail> {
     let mut shelf = shelf_of_body(alloc, 0, 873)?;
-    let words = ["transmit", "0", "1", "0"];
-    let symbols = written_on(alloc, &mut shelf, &words, MOST_SYMBOLS)?;
-    assert!(rt; symbols.len() == 2 * FRAME_SYMBOLS);
+    let symbols = written_on(
+        alloc,
+        &mut shelf,
+        &["transmit", "0", "1", "0"],
+        MOST_SYMBOLS,
+    )?;
+    let two_frames = symbols.len() == 2 * FRAME_SYMBOLS;
     let mut other = empty_shelf(alloc)?;
     let input = receiving(&["receive"], symbols);
-    assert!(rt; ends_on(alloc, &mut other, input, AMPLE, done_with(LONG_FILE))?);
+    Ok(ends_on(alloc, &mut other, input, AMPLE, done_with(LONG_FILE))? && two_frames)
+}
+
+#[test]
+fn an_idle_packet_goes_on_in_the_next_frame(rt: HostRuntime) -> Result<(), Fail> {
+    assert!(rt; long_file_is_received(rt.alloc())?);
     Ok(())
 }
 
 const PLAIN_MARKS: [&str; 4] = ["--line", "nrz-m", "--g2", "plain"];
 
-#[test]
-fn files_of_a_trial_are_sent_under_another_line_code(rt: HostRuntime) -> Result<(), Fail> {
-    let alloc = rt.alloc();
-    let mut shelf = tried_disk(alloc)?;
+/// A shelf for two of these files.
+const SMALL: Run = Run {
+    words: &["init", "9000"],
+    out: lines!(shelf capacity 9000;),
+    ..QUIET
+};
+
+// A shelf that received two files of this one, which are sent under another line code.
+fn sent_again(alloc: Global, shelf: &mut MemDisk) -> Result<MemDisk, Fail> {
     let [line, marks, g2, plain] = PLAIN_MARKS;
     let words = ["transmit", "7", "9", "16", line, marks, g2, plain];
-    let symbols = written_on(alloc, &mut shelf, &words, MOST_SYMBOLS)?;
+    let symbols = written_on(alloc, shelf, &words, MOST_SYMBOLS)?;
     let mut other = disk(alloc, &[])?;
-    let made = done_with(lines!(shelf capacity 9000;));
-    assert!(rt; gives_alone(alloc, &mut other, &["init", "9000"], made)?);
+    hold_on(alloc, &mut other, &[SMALL], 0)?;
     let receive = ["receive", line, marks, g2, plain];
     let input = receiving(&receive, symbols);
     let two = done_with("lost 0 packets 66 files 2 left 0 stop end\n");
-    assert!(rt; ends_on(alloc, &mut other, input, AMPLE, two)?);
-    for (sent, received) in [("7", "0"), ("8", "1")] {
-        let before = written_on(alloc, &mut shelf, &["extract", sent], 5_000)?;
-        let after = written_on(alloc, &mut other, &["extract", received], 5_000)?;
-        assert!(rt; before == after);
+    if ends_on(alloc, &mut other, input, AMPLE, two)? {
+        Ok(other)
+    } else {
+        Err(Fail::from("nothing was received"))
     }
+}
+
+// Whether the file of this number on the one shelf is that of another number on the other.
+fn are_same(
+    alloc: Global,
+    shelf: &mut MemDisk,
+    sent: &str,
+    other: &mut MemDisk,
+    received: &str,
+) -> Result<bool, Fail> {
+    let before = written_on(alloc, shelf, &["extract", sent], 5_000)?;
+    let after = written_on(alloc, other, &["extract", received], 5_000)?;
+    Ok(before.as_slice() == after.as_slice())
+}
+
+fn two_files_come_again(alloc: Global) -> Result<bool, Fail> {
+    let mut shelf = tried_disk(alloc)?;
+    let mut other = sent_again(alloc, &mut shelf)?;
+    Ok(
+        are_same(alloc, &mut shelf, "7", &mut other, "0")?
+            && are_same(alloc, &mut shelf, "8", &mut other, "1")?,
+    )
+}
+
+#[test]
+fn files_of_a_trial_are_sent_under_another_line_code(rt: HostRuntime) -> Result<(), Fail> {
+    assert!(rt; two_files_come_again(rt.alloc())?);
     Ok(())
+}
+
+fn fill_is_refused(alloc: Global) -> Result<bool, Fail> {
+    let mut shelf = shelf_of_body(alloc, 63, 26)?;
+    let wanted = refused_with(15, lines!(station: cannot send: fill;));
+    gives_alone(alloc, &mut shelf, &["transmit", "0", "1", "0"], wanted)
 }
 
 #[test]
 fn a_file_of_the_channel_of_fill_is_refused(rt: HostRuntime) -> Result<(), Fail> {
-    let alloc = rt.alloc();
-    let mut shelf = shelf_of_body(alloc, 63, 26)?;
-    let wanted = refused_with(15, lines!(station: cannot send: fill;));
-    assert!(rt; gives_alone(alloc, &mut shelf, &["transmit", "0", "1", "0"], wanted)?);
+    assert!(rt; fill_is_refused(rt.alloc())?);
     Ok(())
+}
+
+const DISCARDED: Run = Run {
+    words: &["discard", "0"],
+    out: lines!(discarded 0;),
+    ..QUIET
+};
+
+const BOTH: [&str; 4] = ["transmit", "0", "2", "0"];
+
+/// The checksum of a file is wrong, or there are fewer files than that.
+static NOT_SENT: [Session; 2] = [
+    Session {
+        byte: Some((70, 1)),
+        runs: &[Run {
+            words: &BOTH,
+            status: 12,
+            line: lines!(station: bad checksum;),
+            ..QUIET
+        }],
+        ..TWO
+    },
+    Session {
+        runs: &[
+            DISCARDED,
+            Run {
+                words: &["transmit", "0", "3", "0"],
+                status: 7,
+                line: lines!(station: no such file, count 2;),
+                ..QUIET
+            },
+        ],
+        ..TWO
+    },
+];
+
+// How many symbols are sent of two files, of which the first is gone.
+fn symbols_of_the_second(alloc: Global) -> Result<usize, Fail> {
+    let mut shelf = disk(alloc, &TWO_FILES)?;
+    hold_on(alloc, &mut shelf, &[DISCARDED], 2)?;
+    Ok(written_on(alloc, &mut shelf, &BOTH, MOST_SYMBOLS)?.len())
 }
 
 #[test]
 fn gone_files_are_left_out_and_bad_ones_refused(rt: HostRuntime) -> Result<(), Fail> {
     let alloc = rt.alloc();
-    let mut shelf = disk(alloc, &TWO_FILES)?;
-    assert!(rt;
-        gives_alone(
-            alloc,
-            &mut shelf,
-            &["discard", "0"],
-            done_with(lines!(discarded 0;))
-        )?
-    );
-    let words = ["transmit", "0", "2", "0"];
-    let symbols = written_on(alloc, &mut shelf, &words, MOST_SYMBOLS)?;
-    assert!(rt; symbols.len() == FRAME_SYMBOLS);
-    let mut bad = with_byte(alloc, 70, 1)?;
-    let sum = refused_with(12, lines!(station: bad checksum;));
-    assert!(rt; gives_alone(alloc, &mut bad, &words, sum)?);
-    let three = ["transmit", "0", "3", "0"];
-    let count = refused_with(7, lines!(station: no such file, count 2;));
-    assert!(rt; gives_alone(alloc, &mut shelf, &three, count)?);
+    hold(alloc, &NOT_SENT)?;
+    assert!(rt; symbols_of_the_second(alloc)? == FRAME_SYMBOLS);
     Ok(())
 }
 
-#[test]
-fn an_output_that_fails_got_a_front_of_the_symbols(rt: HostRuntime) -> Result<(), Fail> {
-    let alloc = rt.alloc();
-    let mut shelf = disk(alloc, &TWO_FILES)?;
-    let words = ["transmit", "0", "1", "0"];
-    let room = Room {
-        bytes: 0,
-        fault: NEVER,
-    };
-    let wanted = Outcome {
-        out: "",
+const TWO: Session = Session {
+    disk: &TWO_FILES,
+    ..OVER
+};
+
+static OUTPUT_FAILS: [Session; 1] = [Session {
+    runs: &[Run {
+        words: &["transmit", "0", "1", "0"],
+        room: Room {
+            bytes: 0,
+            fault: NEVER,
+        },
         status: 5,
         line: lines!(station: output failed;),
-    };
-    let input = receiving(&words, Vec::new(alloc));
-    assert!(rt; gives_on(alloc, &mut shelf, input, room, wanted)?);
-    Ok(())
+        ..QUIET
+    }],
+    ..TWO
+}];
+
+static OTHERS: [Session; 1] = [Session {
+    runs: &[
+        Run {
+            words: &["transmit", "0", "1"],
+            ..USAGE
+        },
+        Run {
+            words: &["transmit", "0", "1", "17"],
+            ..USAGE
+        },
+        Run {
+            words: &["transmit", "0", "1", "0", "--workers", "2"],
+            ..USAGE
+        },
+        Run {
+            words: &["transmit", "0", "1", "0", "--line", "nrz"],
+            ..USAGE
+        },
+    ],
+    ..TWO
+}];
+
+#[test]
+fn an_output_that_fails_got_a_front_of_the_symbols(rt: HostRuntime) -> Result<(), Fail> {
+    hold(rt.alloc(), &OUTPUT_FAILS)
 }
 
 #[test]
 fn other_words_of_transmit_are_refused(rt: HostRuntime) -> Result<(), Fail> {
-    let alloc = rt.alloc();
-    let mut shelf = disk(alloc, &TWO_FILES)?;
-    let usage = refused_with(2, lines!(station: usage: SHELF COMMAND [WORDS];));
-    let words: [&[&str]; 4] = [
-        &["transmit", "0", "1"],
-        &["transmit", "0", "1", "17"],
-        &["transmit", "0", "1", "0", "--workers", "2"],
-        &["transmit", "0", "1", "0", "--line", "nrz"],
-    ];
-    for words in words {
-        assert!(rt; gives_alone(alloc, &mut shelf, words, usage)?);
-    }
-    Ok(())
+    hold(rt.alloc(), &OTHERS)
 }

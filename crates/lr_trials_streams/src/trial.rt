@@ -1,10 +1,11 @@
 //! `trial`, and the shelf that it leaves.
+use crate::made::{LARGE, LINES, NO_DISK, USAGE};
 use lr_disk::MemDisk;
 use lr_trials_station::call::{
-    AMPLE, Input, NEVER, Outcome, Room, done_with, ends_on, gives_alone, gives_on, refused_with,
-    written_bytes, written_on,
+    Input, NEVER, Outcome, Room, done_with, ends_on, gives_alone, gives_on, written_bytes,
+    written_on,
 };
-use lr_trials_station::shelves::disk_of_calls;
+use lr_trials_station::sessions::{Left, QUIET, Run, Session, hold};
 use lr_trials_wanted::lines;
 use std::alloc::Global;
 use std::test::Fail;
@@ -30,16 +31,8 @@ const SHELF: usize = 41_666;
 // The same with 923 texts and 97 images: 20 + 256,594 + 417,100.
 const LONG_SHELF: usize = 673_714;
 
-const NOT_EMPTY: &str = lines!(station: not empty, length 41666;);
-
 // The text of the first file, after the ten bytes of its transport header.
 const TEXT: usize = 227;
-
-// An `out` for the lines of all files.
-const LINES: Room = Room {
-    bytes: 10_000,
-    fault: NEVER,
-};
 
 // An empty disk with room for this many bytes.
 fn empty(alloc: Global, room: u64) -> Result<MemDisk, Fail> {
@@ -74,118 +67,176 @@ fn received_disk(alloc: Global) -> Result<MemDisk, Fail> {
     }
 }
 
-// Whether a trial of these words on an empty disk prints this line alone, and leaves this many bytes.
-fn leaves(alloc: Global, words: &[&str], line: &str, bytes: usize) -> Result<bool, Fail> {
-    let mut disk = empty(alloc, 700_000)?;
-    let prints = gives_alone(alloc, &mut disk, words, done_with(line))?;
-    Ok(prints && disk.as_slice().len() == bytes)
-}
+/// A trial that is done.
+const TRIED: Run = Run {
+    words: &TRIAL,
+    out: LINE,
+    left: Left::Length(SHELF),
+    ..QUIET
+};
+
+/// A trial on an empty disk prints its line alone, and leaves so many bytes.
+static LEFT: [Session; 2] = [
+    Session {
+        runs: &[Run {
+            words: &TRIAL,
+            ..TRIED
+        }],
+        ..LARGE
+    },
+    Session {
+        runs: &[Run {
+            words: &["trial", "1", "64", "16"],
+            ..TRIED
+        }],
+        ..LARGE
+    },
+];
+
+static LONGEST: [Session; 1] = [Session {
+    room: 700_000,
+    runs: &[Run {
+        words: &["trial", "1", "1024", "0"],
+        out: LONG_LINE,
+        left: Left::Length(LONG_SHELF),
+        ..QUIET
+    }],
+    ..LARGE
+}];
 
 #[test]
 fn the_last_line_alone_is_printed(rt: HostRuntime) -> Result<(), Fail> {
-    let alloc = rt.alloc();
-    assert!(rt; leaves(alloc, &TRIAL, LINE, SHELF)?);
-    assert!(rt; leaves(alloc, &["trial", "1", "64", "16"], LINE, SHELF)?);
-    Ok(())
+    hold(rt.alloc(), &LEFT)
 }
 
 #[test]
 fn the_most_frames_are_tried(rt: HostRuntime) -> Result<(), Fail> {
-    assert!(rt;
-        leaves(
-            rt.alloc(),
-            &["trial", "1", "1024", "0"],
-            LONG_LINE,
-            LONG_SHELF
-        )?
-    );
-    Ok(())
+    hold(rt.alloc(), &LONGEST)
+}
+
+// Whether both disks have the same bytes, and the same text of the right length as their first file.
+fn are_alike(alloc: Global, disk: &mut MemDisk, other: &mut MemDisk) -> Result<bool, Fail> {
+    let same = disk.as_slice() == other.as_slice();
+    let text = written_on(alloc, disk, &["extract", "0"], 500)?;
+    let other_text = written_on(alloc, other, &["extract", "0"], 500)?;
+    Ok(same && text.len() == TEXT && text.as_slice() == other_text.as_slice())
+}
+
+fn trial_is_reception(alloc: Global) -> Result<bool, Fail> {
+    let mut disk = tried_disk(alloc)?;
+    let mut other = received_disk(alloc)?;
+    are_alike(alloc, &mut disk, &mut other)
 }
 
 #[test]
 fn the_shelf_is_the_one_of_init_and_receive(rt: HostRuntime) -> Result<(), Fail> {
-    let alloc = rt.alloc();
-    let mut disk = tried_disk(alloc)?;
-    let mut other = received_disk(alloc)?;
-    assert!(rt; disk.as_slice() == other.as_slice());
-    let text = written_on(alloc, &mut disk, &["extract", "0"], 500)?;
-    assert!(rt; text.len() == TEXT);
-    assert!(rt; text == written_on(alloc, &mut other, &["extract", "0"], 500)?);
+    assert!(rt; trial_is_reception(rt.alloc())?);
     Ok(())
 }
+
+static SECOND: [Session; 1] = [Session {
+    runs: &[
+        TRIED,
+        Run {
+            words: &TRIAL,
+            status: 11,
+            line: lines!(station: not empty, length 41666;),
+            left: Left::Length(SHELF),
+            ..QUIET
+        },
+    ],
+    ..LARGE
+}];
 
 #[test]
 fn a_second_trial_is_refused(rt: HostRuntime) -> Result<(), Fail> {
-    let alloc = rt.alloc();
-    let mut disk = tried_disk(alloc)?;
-    assert!(rt; gives_alone(alloc, &mut disk, &TRIAL, refused_with(11, NOT_EMPTY))?);
-    assert!(rt; disk.as_slice().len() == SHELF);
-    Ok(())
+    hold(rt.alloc(), &SECOND)
 }
+
+static OTHERS: [Session; 1] = [Session {
+    runs: &[
+        Run {
+            words: &["trial", "1", "1025", "0"],
+            ..USAGE
+        },
+        Run {
+            words: &["trial", "1", "0", "0"],
+            ..USAGE
+        },
+        Run {
+            words: &["trial", "1", "64", "17"],
+            ..USAGE
+        },
+        Run {
+            words: &["trial", "1", "64"],
+            ..USAGE
+        },
+        Run {
+            words: &["trial", "1", "64", "0", "--output", "symbols"],
+            ..USAGE
+        },
+    ],
+    ..NO_DISK
+}];
 
 #[test]
 fn other_trials_are_refused(rt: HostRuntime) -> Result<(), Fail> {
-    let alloc = rt.alloc();
-    let mut disk = disk_of_calls(alloc, &[], 0)?;
-    let usage = refused_with(2, lines!(station: usage: SHELF COMMAND [WORDS];));
-    let words: [&[&str]; 5] = [
-        &["trial", "1", "1025", "0"],
-        &["trial", "1", "0", "0"],
-        &["trial", "1", "64", "17"],
-        &["trial", "1", "64"],
-        &["trial", "1", "64", "0", "--output", "symbols"],
-    ];
-    for words in words {
-        assert!(rt; gives_alone(alloc, &mut disk, words, usage)?);
-    }
-    Ok(())
+    hold(rt.alloc(), &OTHERS)
 }
 
-fn reading(bytes: Vec<u8>, fault: u64) -> Input<'static> {
-    Input {
+// Whether a trial over this source, with this much room for its line, gives that and leaves the disk of any trial.
+fn leaves_the_same(
+    alloc: Global,
+    bytes: &[u8],
+    fault: u64,
+    room: usize,
+    wanted: Outcome<'_>,
+) -> Result<bool, Fail> {
+    let mut disk = empty(alloc, 100_000)?;
+    let input = Input {
         words: &TRIAL,
-        bytes,
+        bytes: bytes.to_vec(alloc)?,
         reads: 1,
         fault,
-    }
+    };
+    let room = Room {
+        bytes: room,
+        fault: NEVER,
+    };
+    let given = gives_on(alloc, &mut disk, input, room, wanted)?;
+    Ok(given && disk.as_slice() == tried_disk(alloc)?.as_slice())
 }
 
 #[test]
 fn a_line_that_fails_leaves_the_whole_shelf(rt: HostRuntime) -> Result<(), Fail> {
-    let alloc = rt.alloc();
-    let mut disk = empty(alloc, 100_000)?;
-    let room = Room {
-        bytes: 10,
-        fault: NEVER,
-    };
     let wanted = Outcome {
         out: "symbols 10",
         status: 5,
         line: lines!(station: output failed;),
     };
-    let input = reading(Vec::new(alloc), NEVER);
-    assert!(rt; gives_on(alloc, &mut disk, input, room, wanted)?);
-    assert!(rt; disk.as_slice() == tried_disk(alloc)?.as_slice());
+    assert!(rt; leaves_the_same(rt.alloc(), &[], NEVER, 10, wanted)?);
     Ok(())
 }
 
+static DISK_FAILS: [Session; 1] = [Session {
+    runs: &[Run {
+        words: &TRIAL,
+        status: 4,
+        line: lines!(station: disk failed;),
+        ..QUIET
+    }],
+    ..NO_DISK
+}];
+
 #[test]
 fn a_disk_that_fails_ends_the_trial(rt: HostRuntime) -> Result<(), Fail> {
-    let alloc = rt.alloc();
-    let mut disk = disk_of_calls(alloc, &[], 0)?;
-    let wanted = refused_with(4, lines!(station: disk failed;));
-    assert!(rt; gives_alone(alloc, &mut disk, &TRIAL, wanted)?);
-    Ok(())
+    hold(rt.alloc(), &DISK_FAILS)
 }
 
 #[test]
 fn the_source_is_not_read(rt: HostRuntime) -> Result<(), Fail> {
-    let alloc = rt.alloc();
     for fault in [NEVER, 0] {
-        let mut disk = empty(alloc, 100_000)?;
-        let input = reading(vec![in alloc; 7; 892]?, fault);
-        assert!(rt; gives_on(alloc, &mut disk, input, AMPLE, done_with(LINE))?);
-        assert!(rt; disk.as_slice() == tried_disk(alloc)?.as_slice());
+        assert!(rt; leaves_the_same(rt.alloc(), &[7; 892], fault, 500, done_with(LINE))?);
     }
     Ok(())
 }

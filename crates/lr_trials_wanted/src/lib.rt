@@ -39,15 +39,39 @@ fn line_at(bytes: &[u8], start: usize) -> &str {
     str::from_utf8(&line[..line.len().min(SHOWN)]).unwrap_or("bytes that are no text")
 }
 
-/// Whether just these bytes came. Where others did, the failure has the line in which they differ, of both.
-pub fn is_text(what: &str, came: &[u8], wanted: &[u8]) -> Result<bool, Fail> {
+/// Where bytes that came differ from those that were wanted: the place, and the line in which they do, of both.
+pub struct Differing<'a> {
+    pub place: usize,
+    pub came: &'a str,
+    pub wanted: &'a str,
+}
+
+/// Where these bytes differ from those that were wanted, if they do.
+pub fn difference<'a>(came: &'a [u8], wanted: &'a [u8]) -> Option<Differing<'a>> {
     if came == wanted {
-        return Ok(true);
+        return None;
     }
     let place = first_difference(came, wanted);
     let start = line_start(came, place);
-    let came = line_at(came, start);
-    let wanted = line_at(wanted, start);
+    Some(Differing {
+        place,
+        came: line_at(came, start),
+        wanted: line_at(wanted, start),
+    })
+}
+
+/// Whether just these bytes came. Where others did, the failure has the line in which they differ, of both.
+pub fn is_text(what: &str, came: &[u8], wanted: &[u8]) -> Result<bool, Fail> {
+    let Some(
+        Differing {
+            place,
+            came,
+            wanted,
+        },
+    ) = difference(came, wanted)
+    else {
+        return Ok(true);
+    };
     Err(Fail::new(format_args!(
         "{what} differs from byte {place} on: {came:?} came, and not {wanted:?}"
     )))

@@ -2,7 +2,8 @@ use Rattle.std.proofs.Common.{rules, ◌≡◌, ℕ, List, subst}
 use Rattle.lr_catalog.specs.Discards.{discard_line}
 use Rattle.lr_causes.specs.Puts.{Puts, PutFails}
 use Rattle.lr_commands.specs.Discard.{discard_query}
-use Rattle.lr_commands.proofs.AddingRuns.{not_loaded, ready_loaded}
+use Rattle.lr_commands.proofs.AddingRuns.{ready_loaded}
+use Rattle.lr_commands.proofs.AddingEnds.{not_loaded}
 use Rattle.lr_commands.proofs.Discarding.{not_begun, not_added, ok_from, told_line, cut_line, discard_once}
 use Rattle.lr_commands.proofs.discard.discard.Goals as goal
 

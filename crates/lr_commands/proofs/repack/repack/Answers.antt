@@ -1,7 +1,8 @@
 use Rattle.std.proofs.Common.{ℕ, List, subst}
 use Rattle.lr_causes.specs.Puts.{Puts, PutFails}
 use Rattle.lr_shelf.specs.Kept.{kept_by}
-use Rattle.lr_commands.proofs.AddingRuns.{not_loaded, ready_got, ready_loaded}
+use Rattle.lr_commands.proofs.AddingRuns.{ready_got, ready_loaded}
+use Rattle.lr_commands.proofs.AddingEnds.{not_loaded}
 use Rattle.lr_commands.specs.Repack.{repack_query}
 use Rattle.lr_commands.proofs.Repacking.{cut_line, not_added, not_coded, not_read}
 use Rattle.lr_commands.proofs.Repacking.{decides_made, makes_it, ok_is, repack_once, told_line}

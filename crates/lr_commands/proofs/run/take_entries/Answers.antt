@@ -19,6 +19,7 @@ pub loop-number-init : goal.loop-number-init
 loop-number-init g c = record {
   kept = refl;
   told = λ t. t;
+  untold = λ t. t;
   reads = λ t. unwritten_yet g.D.Disk g.met.D.Disk.only_now c.args.disk.now t;
   disk_count = refl;
   so_far =
@@ -53,8 +54,8 @@ returns-in_err-entry-clause-stops g c =
     rw (p.1, p.2)
     (entry_stopped g.D.Disk g.O.Sink query way c.args.disk.now c.args.out.now c.in-Some.range allowed
     (g.C.ReadsEntries.gathers c.args.command.now c.loop-number.gathered) c.loop-number.number c.loop-number.disk
-    c.loop-number.out c.entry.new.out inv.so_far inv.told inv.reads inv.disk_count c.entry.new.disk
-    c.loop-number-test.true e.reads.told e.reads.unwritten c.in_err-entry.field-0.0 stops
+    c.loop-number.out c.entry.new.out inv.so_far inv.told inv.untold inv.reads inv.disk_count c.entry.new.disk
+    c.loop-number-test.true e.reads.told e.reads.untold e.reads.unwritten c.in_err-entry.field-0.0 stops
     (e.counted inv.so_far.read inv.so_far.gathered))
 
 pub loop-number-preserved : goal.loop-number-preserved
@@ -66,6 +67,7 @@ loop-number-preserved g c =
     record {
       kept = e.reads.kept ∙ inv.kept;
       told = λ t. e.reads.told (inv.told t);
+      untold = λ t. inv.untold (e.reads.untold t);
       reads = λ t. unwritten_joined g.D.Disk c.args.disk.now c.loop-number.disk c.entry.new.disk (inv.reads t)
           (e.reads.unwritten (inv.told t));
       disk_count = e.same ∙ inv.disk_count;
@@ -96,7 +98,7 @@ returns-clause-takes g c =
     on_noted c.last.result
     (λ puts. last_taken g.D.Disk g.O.Sink query way c.args.disk.now c.args.out.now c.in-Some.range allowed
     (g.C.ReadsEntries.gathers c.args.command.now c.loop-number.gathered) c.loop-number.number c.loop-number.disk
-    c.loop-number.out c.last.new.out inv.so_far inv.told inv.reads inv.disk_count
+    c.loop-number.out c.last.new.out inv.so_far inv.told inv.untold inv.reads inv.disk_count
     (c.loop-number.auto.number-end c.in-Some.ensures.ordered) c.loop-number-test.false puts)
     takes (c.last.ensures.tells inv.so_far.read inv.so_far.gathered)
 
@@ -118,7 +120,7 @@ returns-clause-stops g c =
     on_sure c.last.result
     (last_stopped g.D.Disk g.O.Sink query way c.args.disk.now c.args.out.now c.in-Some.range allowed
     (g.C.ReadsEntries.gathers c.args.command.now c.loop-number.gathered) c.loop-number.number c.loop-number.disk
-    c.loop-number.out c.last.new.out inv.so_far inv.told inv.reads inv.disk_count
+    c.loop-number.out c.last.new.out inv.so_far inv.told inv.untold inv.reads inv.disk_count
     (c.loop-number.auto.number-end c.in-Some.ensures.ordered) c.loop-number-test.false)
     stops sure
 
@@ -155,7 +157,7 @@ returns-clause-gathers g c =
     on_ok c.last.result
     (λ puts. gathered_all g.D.Disk g.O.Sink query way c.args.disk.now c.args.out.now c.in-Some.range allowed
     (g.C.ReadsEntries.gathers c.args.command.now c.loop-number.gathered) c.loop-number.number c.loop-number.disk
-    c.loop-number.out c.last.new.out inv.so_far inv.told inv.reads inv.disk_count
+    c.loop-number.out c.last.new.out inv.so_far inv.told inv.untold inv.reads inv.disk_count
     (c.loop-number.auto.number-end c.in-Some.ensures.ordered) c.loop-number-test.false puts
     (g.C.ReadsEntries.gathers c.args.command.now) c.loop-number.gathered inv.so_far.gathered)
     takes

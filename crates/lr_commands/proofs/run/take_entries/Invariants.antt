@@ -9,6 +9,7 @@ invariant-loop-number g l =
     record {
       kept : kept_by l.shelf ≡ kept_by l.fn.shelf;
       told : g.D.Disk.tells l.fn.disk → g.D.Disk.tells l.disk;
+      untold : g.D.Disk.tells l.disk → g.D.Disk.tells l.fn.disk;
       reads : g.D.Disk.tells l.fn.disk → IsUnwritten g.D.Disk l.fn.disk l.disk;
       disk_count : g.D.Disk.faults l.disk ≡ g.D.Disk.faults l.fn.disk;
       so_far : SoFar g.D.Disk g.O.Sink (g.C.ReadsEntries.query l.command) (kept_by l.fn.shelf).way

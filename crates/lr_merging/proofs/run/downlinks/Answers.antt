@@ -3,7 +3,8 @@ use Rattle.lr_causes.specs.declared.cause.Cause.{Cause}
 use Rattle.lr_commands.proofs.AddingRuns.{ready_loaded}
 use Rattle.lr_causes.specs.Outside.{outside, world_of}
 use Rattle.lr_merging.specs.Downlinks.{DownlinksRun}
-use Rattle.lr_merging.proofs.Merging.{not_loaded, not_taken, whole_run}
+use Rattle.lr_merging.proofs.Merging.{whole_run}
+use Rattle.lr_merging.proofs.Untaken.{not_loaded, not_taken}
 use Rattle.lr_merging.proofs.run.downlinks.Goals as goal
 
 pub returns-in-Err : goal.returns-in-Err

@@ -1,4 +1,6 @@
-use Rattle.std.proofs.Common.{rules, refl}
+use Rattle.std.proofs.Common.{rules, refl, subst, sym}
+use Rattle.lr_causes.specs.Puts.{Puts}
+use Rattle.lr_printing.specs.Packets.{packets_text}
 use Rattle.std.proofs.lemmas.Result.{err_from_is_err_and}
 use Rattle.lr_printing.proofs.PacketsGoOn.{packets_begun, all_packets, some_packets}
 use Rattle.lr_printing.proofs.packet_lines.put_each_packet.Goals as goal
@@ -21,7 +23,10 @@ returns-clause-all g c =
     let t = all_packets g.O.Sink g.S.Source c.args.reader.most
     (packets_begun g.O.Sink _ c.new-channels.ensures refl refl)
     (rw c.requires.input at c.in_ok-totals.ensures) in
-    let same = t.0 in
-    let all = t.1 in
-    let put = all.3 in
-    (all.0, all.1, all.2, search rules, all.4)
+    let all = t.1 in (
+      all.0,
+      all.1,
+      all.2,
+      subst (λ o. Puts g.O.Sink (packets_text all.0) c.args.out.now o) (sym (c.out-2-1.given.1 (sym t.0))) all.3,
+      all.4,
+    )

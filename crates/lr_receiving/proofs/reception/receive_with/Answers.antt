@@ -3,7 +3,7 @@ use Rattle.lr_shelf.specs.Load.{IsLoadRefusal}
 use Rattle.lr_shelf.specs.declared.shelf.Shelf.{Shelf}
 use Rattle.lr_shelf.specs.declared.error.ShelfError.{ShelfError}
 use Rattle.lr_reading.specs.Readers.{leeway_for}
-use Rattle.lr_receiving.proofs.Loading.{not_loaded, loaded_run}
+use Rattle.lr_receiving.proofs.Unloaded.{not_loaded, loaded_run}
 use Rattle.lr_causes.specs.Outside.{outside, world_of}
 use Rattle.lr_receiving.proofs.reception.receive_with.Goals as goal
 

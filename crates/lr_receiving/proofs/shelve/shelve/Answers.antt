@@ -5,7 +5,7 @@ use Rattle.lr_causes.specs.declared.cause.Cause.TheVariants.{Failed}
 use Rattle.lr_causes.specs.declared.cause.Party.TheVariants.{Output}
 use Rattle.lr_causes.proofs.Results.{if_ok_on, if_err_one}
 use Rattle.lr_receiving.specs.Shelved.{StopsShelving}
-use Rattle.lr_receiving.proofs.Shelving.{no_line, one_cut, one_refused, one_shelved}
+use Rattle.lr_receiving.proofs.ShelvingOne.{no_line, one_cut, one_refused, one_shelved}
 use Rattle.lr_causes.specs.Outside.{outlets, outlets_of}
 use Rattle.lr_receiving.proofs.shelve.shelve.Goals as goal
 

@@ -1,4 +1,4 @@
-use Rattle.lr_receiving.proofs.Trying.{last_stops, last_put, stream_stops}
+use Rattle.lr_receiving.proofs.Tried.{last_stops, last_put, stream_stops}
 use Rattle.lr_receiving.proofs.trial_run.fill.Goals as goal
 
 pub returns-in-Err-put_last : goal.returns-in-Err-put_last

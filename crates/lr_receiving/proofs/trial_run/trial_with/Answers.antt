@@ -30,8 +30,8 @@ returns-in-NoMemory g c =
     rw (sym c.in-Ok.ensures.bytes)
     (withdrawn g.D.Disk g.O.Sink c.in-Ok.symbols.items c.args.disk.now c.init.new.disk c.args.out.now c.init.result
     c.init.ensures c.in-Ok-init.is c.fill.new.disk c.fill.new.out c.in-NoMemory.ensures _ _ c.withdraw.ensures.kind
-    c.withdraw.ensures.told c.withdraw.ensures.first c.withdraw.ensures.ends c.withdraw.ensures.left
-    c.withdraw.ensures.any_moment)
+    c.withdraw.ensures.told c.withdraw.ensures.untold c.withdraw.ensures.first c.withdraw.ensures.ends
+    c.withdraw.ensures.left c.withdraw.ensures.any_moment)
 
 pub returns-in_default : goal.returns-in_default
 returns-in_default g c =

@@ -1,4 +1,3 @@
-use Rattle.std.proofs.Common.{rules, arith}
 use Rattle.lr_causes.specs.Outside.{outside, world_of}
 use Rattle.lr_station.proofs.StatusLemmas.{says}
 use Rattle.lr_station.proofs.top.station_alone.Goals as goal
@@ -9,21 +8,17 @@ returns-clause-stations g c =
     record {
       cause = c.run_words_alone-cause.result;
       runs = ran.runs;
-      caused = ran.caused;
       told = c.tell.ensures.line;
       answers = c.status.ensures;
-      source_failed = search (rules, arith);
-      disk_failed = search (rules, arith);
-      output_failed = search (rules, arith);
       says = says (world_of g.S.Source g.D.Disk g.O.Sink)
           (outside c.args.source.now c.args.disk.now c.args.out.now)
           (outside c.run_words_alone-cause.new.source c.run_words_alone-cause.new.disk
           c.run_words_alone-cause.new.out) _
           c.run_words_alone-cause.result c.status.result c.status.ensures ran.runs ran.caused;
       tell = record {
-        by_source = ran.told_by_source;
-        by_disk = ran.told_by_disk;
-        by_out = ran.told_by_out;
-        by_err = c.tell.ensures.told;
+        by_source = ran.source_tells;
+        by_disk = ran.disk_tells;
+        by_out = ran.out_tells;
+        by_err = c.tell.ensures.tells;
       };
     }

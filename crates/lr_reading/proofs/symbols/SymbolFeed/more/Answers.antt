@@ -1,19 +1,20 @@
 use Rattle.std.proofs.Common.{◌≡◌, true, subst, sym}
-use Rattle.lr_reading.specs.Feeding.{FeedState, FeedsOn}
+use Rattle.lr_reading.specs.Feeding.{FeedState, FeedsOn, symbols_from}
+use Rattle.lr_reading.specs.Reading.{at_source}
 use Rattle.lr_reading.proofs.Coming.{may_ask}
 use Rattle.lr_reading.proofs.Feeding.{piece_fed, none_fed}
 use Rattle.lr_reading.proofs.symbols.SymbolFeed.more.Goals as goal
 
 pub returns-in_default-clause-feeds : goal.returns-in_default-clause-feeds
-returns-in_default-clause-feeds g c = λ line bytes given s under_way so calm.
-    piece_fed g.S.Source line (under_way ≡ true) so c.requires.unfinished
-    (may_ask (under_way ≡ true) line bytes given c.args.self.now.lock so.stands so.line_is c.requires.looked calm)
-    calm c.in_default.ensures.takes
+returns-in_default-clause-feeds g c = λ line so_far under_way so calm.
+    piece_fed (symbols_from g.S.Source line) (under_way ≡ true) so c.requires.unfinished
+    (may_ask (under_way ≡ true) line so_far.bytes so_far.given c.args.self.now.lock so.stands so.line_is
+    c.requires.looked calm) calm c.in_default.ensures.takes
 
 pub returns-in-Some-clause-feeds : goal.returns-in-Some-clause-feeds
-returns-in-Some-clause-feeds g c = λ line bytes given s under_way so calm.
-    subst (λ (n : FeedState). FeedsOn g.S.Source line (under_way ≡ true) bytes given n s c.args.source.now
-    c.take.new.source) (sym c.finish.ensures)
-    (none_fed g.S.Source line (under_way ≡ true) c.in-Some.stop so c.requires.unfinished
-    (may_ask (under_way ≡ true) line bytes given c.args.self.now.lock so.stands so.line_is c.requires.looked calm)
-    c.in-Some.ensures.takes)
+returns-in-Some-clause-feeds g c = λ line so_far under_way so calm.
+    subst (λ (n : FeedState). FeedsOn (symbols_from g.S.Source line) (under_way ≡ true)
+    (at_source so_far c.args.source.now) (at_source n c.take.new.source)) (sym c.finish.ensures)
+    (none_fed (symbols_from g.S.Source line) (under_way ≡ true) so c.requires.unfinished
+    (may_ask (under_way ≡ true) line so_far.bytes so_far.given c.args.self.now.lock so.stands so.line_is
+    c.requires.looked calm) c.in-Some.stop c.in-Some.ensures.takes)

@@ -1,43 +1,44 @@
 use Rattle.std.proofs.Common.{true, ◌≡◌, length, refl, sym, ap, ◌∙◌, subst, rules, arith}
 use Rattle.lr_lock.specs.Standing.{LockStandsFor}
 use Rattle.lr_lock.specs.Symbols.{symbols_of}
-use Rattle.lr_reading.specs.Feeding.{FeedState, FeedsOn}
+use Rattle.lr_reading.specs.Feeding.{FeedState, FeedsOn, symbols_from}
+use Rattle.lr_reading.specs.Reading.{at_source}
 use Rattle.lr_reading.proofs.Feeding.{window_given, more_wanted, all_given, joined}
 use Rattle.lr_reading.proofs.symbols.SymbolFeed.next.Goals as goal
 
 pub returns-in-Window-clause-feeds : goal.returns-in-Window-clause-feeds
-returns-in-Window-clause-feeds g c = λ line bytes given s so.
-    let on = subst (λ (n : FeedState). FeedsOn g.S.Source line (c.args.under_way ≡ true) bytes given n s
-    c.args.source.now c.steps.source)
-    (sym c.self.view_is) (c.steps.invariant.feeds line bytes given s so) in
-    window_given g.S.Source line (c.args.under_way ≡ true) on c.next_window.new.self c.next_window.new.window
-    c.next_window.ensures.line
-    c.next_window.ensures.finished (c.in-Window.ensures.answers (symbols_of on.all) given on.so_far.stands)
+returns-in-Window-clause-feeds g c = λ line so_far so.
+    let on = subst (λ (n : FeedState). FeedsOn (symbols_from g.S.Source line) (c.args.under_way ≡ true)
+    (at_source so_far c.args.source.now) (at_source n c.steps.source)) (sym c.self.view_is)
+    (c.steps.invariant.feeds line so_far so) in
+    window_given (symbols_from g.S.Source line) (c.args.under_way ≡ true) on c.next_window.new.self
+    c.next_window.new.window c.next_window.ensures.line c.next_window.ensures.finished
+    (c.in-Window.ensures.answers (symbols_of on.all) so_far.given on.so_far.stands)
     (c.in-Window.ensures.shorter refl) (search rules)
 
 pub returns-in-End-clause-feeds : goal.returns-in-End-clause-feeds
-returns-in-End-clause-feeds g c = λ line bytes given s so.
-    let on = subst (λ (n : FeedState). FeedsOn g.S.Source line (c.args.under_way ≡ true) bytes given n s
-    c.args.source.now c.steps.source)
-    (sym c.self.view_is) (c.steps.invariant.feeds line bytes given s so) in
-    all_given g.S.Source line (c.args.under_way ≡ true) on c.next_window.new.self c.next_window.new.window
-    c.next_window.ensures.line
-    c.next_window.ensures.finished (c.in-End.ensures.answers (symbols_of on.all) given on.so_far.stands)
+returns-in-End-clause-feeds g c = λ line so_far so.
+    let on = subst (λ (n : FeedState). FeedsOn (symbols_from g.S.Source line) (c.args.under_way ≡ true)
+    (at_source so_far c.args.source.now) (at_source n c.steps.source)) (sym c.self.view_is)
+    (c.steps.invariant.feeds line so_far so) in
+    all_given (symbols_from g.S.Source line) (c.args.under_way ≡ true) on c.next_window.new.self
+    c.next_window.new.window c.next_window.ensures.line c.next_window.ensures.finished
+    (c.in-End.ensures.answers (symbols_of on.all) so_far.given on.so_far.stands)
     c.next_window.ensures.passes
 
 pub steps-preserved : goal.steps-preserved
 steps-preserved g c =
     record {
-      feeds = λ line bytes given s so.
-          let on = subst (λ (n : FeedState). FeedsOn g.S.Source line (c.args.under_way ≡ true) bytes given n s
-          c.args.source.now c.steps.source)
-          (sym c.self.view_is) (c.steps.invariant.feeds line bytes given s so) in
-          let wanted = more_wanted g.S.Source line (c.args.under_way ≡ true) on c.next_window.new.self
+      feeds = λ line so_far so.
+          let on = subst (λ (n : FeedState). FeedsOn (symbols_from g.S.Source line) (c.args.under_way ≡ true)
+          (at_source so_far c.args.source.now) (at_source n c.steps.source)) (sym c.self.view_is)
+          (c.steps.invariant.feeds line so_far so) in
+          let wanted = more_wanted (symbols_from g.S.Source line) (c.args.under_way ≡ true) on c.next_window.new.self
           c.next_window.new.window
           c.next_window.ensures.line c.next_window.ensures.finished
-          (c.in-More.ensures.answers (symbols_of on.all) given on.so_far.stands) c.next_window.ensures.passes in
-          joined g.S.Source line (c.args.under_way ≡ true)
-          (c.more.ensures.feeds line wanted.all given s c.args.under_way wanted.so_far
+          (c.in-More.ensures.answers (symbols_of on.all) so_far.given on.so_far.stands) c.next_window.ensures.passes in
+          joined (symbols_from g.S.Source line) (c.args.under_way ≡ true)
+          (c.more.ensures.feeds line (record so_far { bytes = wanted.all }) c.args.under_way wanted.so_far
           (c.holds_back.ensures.calm c.if-holds_back.false)) wanted.looks wanted.near
           wanted.same;
       standing = c.more.ensures.standing (
@@ -72,11 +73,12 @@ more-requires-clause-looked g c =
     omega (arith, wants.room)
 
 pub returns-then-holds_back-clause-feeds : goal.returns-then-holds_back-clause-feeds
-returns-then-holds_back-clause-feeds g c = λ line bytes given s so.
-    let on = subst (λ (n : FeedState). FeedsOn g.S.Source line (c.args.under_way ≡ true) bytes given n s
-    c.args.source.now c.steps.source) (sym c.self.view_is) (c.steps.invariant.feeds line bytes given s so) in (
-      more_wanted g.S.Source line (c.args.under_way ≡ true) on c.next_window.new.self c.next_window.new.window
-          c.next_window.ensures.line c.next_window.ensures.finished
-          (c.in-More.ensures.answers (symbols_of on.all) given on.so_far.stands) c.next_window.ensures.passes,
+returns-then-holds_back-clause-feeds g c = λ line so_far so.
+    let on = subst (λ (n : FeedState). FeedsOn (symbols_from g.S.Source line) (c.args.under_way ≡ true)
+    (at_source so_far c.args.source.now) (at_source n c.steps.source)) (sym c.self.view_is)
+    (c.steps.invariant.feeds line so_far so) in (
+      more_wanted (symbols_from g.S.Source line) (c.args.under_way ≡ true) on c.next_window.new.self
+          c.next_window.new.window c.next_window.ensures.line c.next_window.ensures.finished
+          (c.in-More.ensures.answers (symbols_of on.all) so_far.given on.so_far.stands) c.next_window.ensures.passes,
       c.holds_back.ensures.waits c.if-holds_back.true,
     )

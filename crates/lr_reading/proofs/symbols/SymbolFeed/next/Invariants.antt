@@ -1,16 +1,17 @@
-use Rattle.std.proofs.Common.{◌≡◌, ◌≤◌, ℕ, List, true}
+use Rattle.std.proofs.Common.{◌≡◌, ◌≤◌, true}
 use Rattle.lr_conv.specs.declared.line.LineCode.{LineCode}
-use Rattle.lr_lock.specs.declared.frame.Frame.{Frame}
-use Rattle.lr_reading.specs.Feeding.{IsStanding, steps_left, symbols_left, FedSoFar, FeedsOn}
+use Rattle.lr_reading.specs.Feeding.{IsStanding, Taken, steps_left, symbols_from, symbols_left, FedSoFar, FeedsOn}
+use Rattle.lr_reading.specs.Reading.{at_source}
 use Rattle.lr_reading.proofs.symbols.SymbolFeed.next.Given as goal
 
 abbrev pub invariant-steps : goal.invariant-steps
 invariant-steps g l =
     let source = g.S.Source in
     record {
-      feeds : (line : LineCode) (bytes : List ℕ) (given : List Frame) (s : _)
-          → FedSoFar source line bytes given l.fn.self s l.fn.source
-          → FeedsOn source line (l.under_way ≡ true) bytes given l.self s l.fn.source l.source;
+      feeds : (line : LineCode) (so_far : Taken _)
+          → FedSoFar (symbols_from source line) so_far (at_source l.fn.self l.fn.source)
+          → FeedsOn (symbols_from source line) (l.under_way ≡ true) (at_source so_far l.fn.source)
+          (at_source l.self l.source);
       standing : IsStanding l.self.lock;
       most : l.self.most ≡ l.fn.self.most;
       line : l.self.lock.line ≡ l.fn.self.lock.line;

@@ -1,10 +1,11 @@
 use Rattle.std.proofs.Common.{rules, refl, ◌∙◌}
+use Rattle.lr_reading.specs.Reading.{at_source}
 use Rattle.lr_reading.proofs.Gathering.{joined, joined_on, none_gathered}
 use Rattle.lr_reading.proofs.units.UnitFeed.next.Goals as goal
 
 pub loop-self-init : goal.loop-self-init
 loop-self-init g c = record {
-  gathered = none_gathered g.S.Source g.row.N c.args.source.now c.args.self.now (search rules);
+  gathered = none_gathered g.S.Source g.row.N (at_source c.args.self.now c.args.source.now) (search rules);
   kept = refl;
   short = search rules;
 }

@@ -1,10 +1,12 @@
 use Rattle.std.proofs.Common.{refl}
+use Rattle.lr_reading.specs.Feeding.{taken_since}
+use Rattle.lr_reading.specs.WindowSources.{progress}
 use Rattle.lr_reading.proofs.WindowLeading.{gives}
 use Rattle.lr_reading.proofs.window_source.WindowSourceJobSourceHired.next.Goals as goal
 
 pub returns-clause-gives : goal.returns-clause-gives
 returns-clause-gives g c = λ start jobs kept at.
     gives g.S.Source g.C.Consumer.took g.C.Consumer.most at _ refl refl refl refl c.next_window.result
-    (c.next_window.ensures.offers start.intake.now.feed.lock.line start.intake.now.feed.most at.bytes at.given jobs
-    kept start.source.now at.is_given)
+    (c.next_window.ensures.offers start.intake.now.feed.lock.line start.intake.now.feed.most
+    (progress (taken_since start.source.now at.bytes at.given) jobs kept) at.is_given)
     c.next_window.ensures.less

@@ -1,0 +1,260 @@
+//! The images of shelves, whoever reads them.
+ghost use Rattle.std.specs.Prelude.{◌≤◌};
+ghost use Rattle.lr_gatecore.specs.declared.sizes.TheConstants.{MOST_SEATS};
+
+use crate::image_files::{
+    CODED, ENCRYPTED, FIRST, LINES_OF_FIVE, SECOND, coded_file, field_of, file_of, plain_file,
+};
+use crate::shared::add;
+use lr_bits::MissionFile;
+use lr_causes::{Cause, line_for};
+use lr_disk::MemDisk;
+use lr_io::MemSink;
+use lr_rendering::{render, render_alone};
+use lr_shelf::Shelf;
+use lr_trials_wanted::{is_status, is_text, lines};
+use std::alloc::Global;
+use std::sync::Wait;
+use std::test::Fail;
+use std::thread::Threads;
+
+/// The room of a disk and of an output, in bytes.
+const ROOM: usize = 400_000;
+
+/// How many bytes the data field of the large image has: 300 lines of 250 pixels of 8 bits.
+const FIELD_BYTES: usize = 75_000;
+
+/// What a run is to come to, where the output has this much room.
+#[derive(Clone, Copy)]
+struct End<'t> {
+    room: usize,
+    status: u8,
+    line: &'t str,
+    text: &'t [u8],
+}
+
+/// Whether a run that ended for this cause, and put this, came to this end. Where it didn't, the failure says what
+/// differs.
+fn came_to(cause: Cause, out: &MemSink, end: End<'_>) -> Result<bool, Fail> {
+    Ok(
+        is_status(cause.status(), end.status)?
+            && is_text("err", line_for(cause).as_bytes(), end.line.as_bytes())?
+            && is_text("out", out.as_slice(), end.text)?,
+    )
+}
+
+fn sink(alloc: Global, room: usize) -> Result<MemSink, Fail> {
+    Ok(MemSink::of(alloc, Vec::new(alloc), room)?)
+}
+
+/// Whether a run on the caller's thread comes to this end.
+fn ends_alone(alloc: Global, disk: &mut MemDisk, end: End<'_>) -> Result<bool, Fail> {
+    let mut out = sink(alloc, end.room)?;
+    let cause = render_alone(alloc, disk, &mut out);
+    came_to(cause, &out, end)
+}
+
+/// Whether a run by this many workers comes to this end.
+fn ends_by<R: Threads + Wait + Sync>(
+    rt: &R,
+    alloc: Global,
+    workers: u32,
+    disk: &mut MemDisk,
+    end: End<'_>,
+) -> Result<bool, Fail>
+    requires { (1 ≤ workers) × (workers ≤ MOST_SEATS) }
+{
+    let mut out = sink(alloc, end.room)?;
+    let cause = render(rt, alloc, workers, disk, &mut out);
+    came_to(cause, &out, end)
+}
+
+/// Whether all runs come to this end, however many work.
+fn ends<R: Threads + Wait + Sync>(
+    rt: &R,
+    alloc: Global,
+    disk: &mut MemDisk,
+    end: End<'_>,
+) -> Result<bool, Fail> {
+    Ok(
+        ends_alone(alloc, disk, end)?
+            && ends_by(rt, alloc, 1, disk, end)?
+            && ends_by(rt, alloc, 2, disk, end)?
+            && ends_by(rt, alloc, 8, disk, end)?
+            && ends_by(rt, alloc, 64, disk, end)?,
+    )
+}
+
+/// A shelf of no files.
+fn empty_shelf(alloc: Global) -> Result<MemDisk, Fail> {
+    let mut disk = MemDisk::of(alloc, Vec::new(alloc), ROOM as u64, 10_000)?;
+    Shelf::init(&mut disk, ROOM as u64)?;
+    Ok(disk)
+}
+
+/// Two files: one of two coded lines, and the same without the flag that they need.
+fn with_coded(alloc: Global) -> Result<MemDisk, Fail> {
+    let mut flagless = CODED;
+    flagless[39] = 17;
+    let mut disk = empty_shelf(alloc)?;
+    add(alloc, &mut disk, coded_file(alloc)?)?;
+    add(
+        alloc,
+        &mut disk,
+        file_of(alloc, &[&flagless, &FIRST, &SECOND])?,
+    )?;
+    Ok(disk)
+}
+
+/// A file that has no image: its header isn't whole.
+fn no_image(alloc: Global) -> Result<MissionFile, Fail> {
+    file_of(alloc, &[&CODED[..20]])
+}
+
+/// Seven files: one that has no image, a discarded one, a coded image, another discarded one, an encrypted one, one
+/// whose packets hold no lines, and a coded image.
+fn with_gaps(alloc: Global) -> Result<MemDisk, Fail> {
+    let mut disk = empty_shelf(alloc)?;
+    add(alloc, &mut disk, no_image(alloc)?)?;
+    add(alloc, &mut disk, coded_file(alloc)?)?;
+    add(alloc, &mut disk, coded_file(alloc)?)?;
+    add(alloc, &mut disk, no_image(alloc)?)?;
+    add(
+        alloc,
+        &mut disk,
+        file_of(alloc, &[&ENCRYPTED, &FIRST, &SECOND])?,
+    )?;
+    add(alloc, &mut disk, file_of(alloc, &[&CODED])?)?;
+    add(alloc, &mut disk, coded_file(alloc)?)?;
+    let mut shelf = Shelf::load(alloc, &mut disk)?;
+    shelf.discard(&mut disk, 1)?;
+    shelf.discard(&mut disk, 3)?;
+    Ok(disk)
+}
+
+/// Three coded images, with another byte at this place of the disk. The item of the first one ends before 112, that of
+/// the second one stands at 113 to 204, and its first length at 149.
+fn with_byte(alloc: Global, place: usize, byte: u8) -> Result<MemDisk, Fail> {
+    let mut disk = empty_shelf(alloc)?;
+    add(alloc, &mut disk, coded_file(alloc)?)?;
+    add(alloc, &mut disk, coded_file(alloc)?)?;
+    add(alloc, &mut disk, coded_file(alloc)?)?;
+    let mut bytes = disk.as_slice().to_vec(alloc)?;
+    if let Some(one) = bytes.get_mut(place) {
+        *one = byte;
+    }
+    if bytes.len() > ROOM {
+        return Err(Fail::from("too many bytes"));
+    }
+    Ok(MemDisk::of(alloc, bytes, ROOM as u64, 10_000)?)
+}
+
+/// The text of the large image between two others.
+fn large_text(alloc: Global) -> Result<Vec<u8>, Fail> {
+    let mut text = LINES_OF_FIVE.to_vec(alloc)?;
+    text.extend_from_slice(b"P5\n250 300\n255\n")?;
+    text.extend_from_slice(&field_of(alloc, FIELD_BYTES)?)?;
+    text.extend_from_slice(LINES_OF_FIVE)?;
+    Ok(text)
+}
+
+#[test]
+fn an_empty_shelf_has_no_image(rt: HostRuntime) -> Result<(), Fail> {
+    let alloc = rt.alloc();
+    let mut disk = empty_shelf(alloc)?;
+    let end = End {
+        room: ROOM,
+        status: 0,
+        line: lines!(rendered 0 skipped 0;),
+        text: b"",
+    };
+    assert!(rt; ends(&rt, alloc, &mut disk, end)?);
+    Ok(())
+}
+
+#[test]
+fn files_without_an_image_are_skipped(rt: HostRuntime) -> Result<(), Fail> {
+    let alloc = rt.alloc();
+    let mut disk = with_coded(alloc)?;
+    let end = End {
+        room: ROOM,
+        status: 0,
+        line: lines!(rendered 1 skipped 1;),
+        text: LINES_OF_FIVE,
+    };
+    assert!(rt; ends(&rt, alloc, &mut disk, end)?);
+    Ok(())
+}
+
+#[test]
+fn gone_entries_count_for_nothing(rt: HostRuntime) -> Result<(), Fail> {
+    let alloc = rt.alloc();
+    let mut disk = with_gaps(alloc)?;
+    let mut text = LINES_OF_FIVE.to_vec(alloc)?;
+    text.extend_from_slice(LINES_OF_FIVE)?;
+    let end = End {
+        room: ROOM,
+        status: 0,
+        line: lines!(rendered 2 skipped 3;),
+        text: &text,
+    };
+    assert!(rt; ends(&rt, alloc, &mut disk, end)?);
+    Ok(())
+}
+
+#[test]
+fn a_damaged_item_ends_the_run(rt: HostRuntime) -> Result<(), Fail> {
+    let alloc = rt.alloc();
+    let mut disk = with_byte(alloc, 150, 43)?;
+    let end = End {
+        room: ROOM,
+        status: 6,
+        line: lines!(station: not a shelf at 112;),
+        text: LINES_OF_FIVE,
+    };
+    assert!(rt; ends(&rt, alloc, &mut disk, end)?);
+    Ok(())
+}
+
+#[test]
+fn a_wrong_checksum_ends_the_run(rt: HostRuntime) -> Result<(), Fail> {
+    let alloc = rt.alloc();
+    let mut disk = with_byte(alloc, 200, 0)?;
+    let end = End {
+        room: ROOM,
+        status: 12,
+        line: lines!(station: bad checksum;),
+        text: LINES_OF_FIVE,
+    };
+    assert!(rt; ends(&rt, alloc, &mut disk, end)?);
+    Ok(())
+}
+
+/// The large image is five strips, and the output fails in it.
+#[test]
+fn large_images_are_put_in_their_place(rt: HostRuntime) -> Result<(), Fail> {
+    let alloc = rt.alloc();
+    let mut disk = with_coded(alloc)?;
+    add(
+        alloc,
+        &mut disk,
+        plain_file(alloc, 8, 250, 300, FIELD_BYTES)?,
+    )?;
+    add(alloc, &mut disk, coded_file(alloc)?)?;
+    let text = large_text(alloc)?;
+    let whole = End {
+        room: ROOM,
+        status: 0,
+        line: lines!(rendered 3 skipped 1;),
+        text: &text,
+    };
+    assert!(rt; ends(&rt, alloc, &mut disk, whole)?);
+    let cut = End {
+        room: 1_000,
+        status: 5,
+        line: lines!(station: output failed;),
+        text: text.get(..1_000).unwrap_or(b""),
+    };
+    assert!(rt; ends(&rt, alloc, &mut disk, cut)?);
+    Ok(())
+}
