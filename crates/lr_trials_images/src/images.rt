@@ -13,7 +13,7 @@ pub(crate) enum Body {
     Bytes(&'static [u8]),
     /// The header of the coded image, with another byte at a place.
     Coded(usize, u8),
-    /// The header of an image that isn't compressed, of so many bits, columns and lines.
+    /// The header of an image that isn't compressed: its bits, columns and lines.
     Plain(u8, u16, u16),
     /// The header of a coded image of 8 columns: its lines, how many samples a block has, and how many lines a piece.
     Header(u8, u8, u8),

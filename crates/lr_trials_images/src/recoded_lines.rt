@@ -65,7 +65,7 @@ fn alternating(alloc: Global, count: usize) -> Result<Vec<u16>, NoMemory> {
     Ok(samples)
 }
 
-/// Samples of so many bits, and the text of the bytes that they are coded as, in blocks of 8.
+/// Samples, how many bits each has, and the text of the bytes that they are coded as, in blocks of 8.
 struct Case(&'static [u16], u32, &'static str);
 
 /// That the samples of each case are coded so.

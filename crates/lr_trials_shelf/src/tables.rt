@@ -43,9 +43,9 @@ pub(crate) enum Answer {
     Number(u64),
     Gone,
     Disk,
-    /// There are only so many files.
+    /// There are only this many files.
     Past(u64),
-    /// So many bytes are needed, of so many.
+    /// How many bytes are needed, and the capacity.
     Full(u64, u64),
     /// The checksum that stands there, and the right one.
     Crc(u16, u16),
@@ -72,7 +72,7 @@ pub(crate) enum Step {
     At(u64, u64, u64),
     /// How many bytes the disk has.
     Length(usize),
-    /// The disk begins with so many bytes that it had before.
+    /// The disk begins with the first N bytes that it had before.
     Begins(usize),
 }
 

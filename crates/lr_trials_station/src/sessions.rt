@@ -14,9 +14,9 @@ pub enum Piece {
     Frame(&'static [u8]),
     /// This many bytes of one value.
     Same(usize, u8),
-    /// What these words write, at most so many bytes.
+    /// What these words write, at most N bytes.
     Written(&'static [&'static str], usize),
-    /// What stands before, without so many bytes at its end.
+    /// What stands before, without the last N bytes.
     Less(usize),
 }
 

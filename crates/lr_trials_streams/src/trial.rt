@@ -75,7 +75,7 @@ const TRIED: Run = Run {
     ..QUIET
 };
 
-/// A trial on an empty disk prints its line alone, and leaves so many bytes.
+/// A trial on an empty disk prints its line alone, and leaves a shelf of this length.
 static LEFT: [Session; 2] = [
     Session {
         runs: &[Run {
