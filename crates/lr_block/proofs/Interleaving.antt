@@ -1,55 +1,15 @@
 -- Blocks, their words, and the frame in them.
-use Rattle.std.proofs.Common.{
-  ◌≡◌,
-  ℕ,
-  zero,
-  suc,
-  ◌+◌,
-  ◌*◌,
-  ◌/◌,
-  ◌%◌,
-  ◌<◌,
-  ◌≤◌,
-  ◌≢◌,
-  List,
-  [],
-  ◌∷◌,
-  ◌++◌,
-  length,
-  map,
-  refl,
-  zero-add,
-  get_or,
-  take,
-  sym,
-  ap,
-  subst,
-  ◌∙◌,
-  arith,
-  below_more,
-  length-take-le,
-}
+use Rattle.std.proofs.Common.{◌≡◌, ℕ, zero, suc, ◌+◌, ◌*◌, ◌/◌, ◌%◌, ◌<◌, ◌≤◌, ◌≢◌, List, [], ◌∷◌, ◌++◌, length, map}
+use Rattle.std.proofs.Common.{refl, zero-add, get_or, take, sym, ap, subst, ◌∙◌, arith, below_more, length-take-le}
 use Rattle.std.proofs.lemmas.List.{get_or-take}
 use Rattle.std.proofs.lemmas.Grind.{same_number_lists}
-use Rattle.std.proofs.lemmas.List.FromFn.{
-  fill_by_all,
-  get_or-map-range_with_len,
-  length-map-range_with_len,
-  map-range_with_len_more,
-  take-map-range_with_len,
-}
+use Rattle.std.proofs.lemmas.List.FromFn.{fill_by_all, get_or-map-range_with_len, length-map-range_with_len}
+use Rattle.std.proofs.lemmas.List.FromFn.{map-range_with_len_more, take-map-range_with_len}
 use Rattle.std.specs.List.{range_with_len}
 use Rattle.lr_rs.specs.Words.{IsWord, IsCodeword, IsRestored, distance}
 use Rattle.lr_rs.proofs.Exactness.{distance-self}
-use Rattle.lr_block.specs.Blocks.{
-  every_fourth,
-  word_of,
-  information_of,
-  IsEncoded,
-  IsRestoredBlock,
-  IsFirstLost,
-  changes_of,
-}
+use Rattle.lr_block.specs.Blocks.{every_fourth, word_of, information_of, IsEncoded, IsRestoredBlock, IsFirstLost}
+use Rattle.lr_block.specs.Blocks.{changes_of}
 use Rattle.lr_bits.specs.declared.sizes.TheConstants.{BLOCK_BYTES, FRAME_BYTES}
 use Rattle.lr_rs.specs.declared.sizes.TheConstants.{INFORMATION_BYTES, WORD_BYTES}
 
@@ -202,15 +162,7 @@ pub changes_by_words : (block restored first second third fourth : List ℕ) (in
     → in_third ≡ distance WORD_BYTES (word_of block 2) third → in_fourth ≡ distance WORD_BYTES (word_of block 3) fourth
     → in_first ∷ in_second ∷ in_third ∷ in_fourth ∷ [] ≡ changes_of block restored
 changes_by_words block restored first second third fourth in_first in_second in_third in_fourth same p0 p1 p2 p3 =
-    let e0 : in_first ≡ distance WORD_BYTES (word_of block 0) (word_of restored 0) = p0
-    ∙ ap (distance WORD_BYTES (word_of block 0)) (sym same.0) in
-    let e1 : in_second ≡ distance WORD_BYTES (word_of block 1) (word_of restored 1) = p1
-    ∙ ap (distance WORD_BYTES (word_of block 1)) (sym same.1) in
-    let e2 : in_third ≡ distance WORD_BYTES (word_of block 2) (word_of restored 2) = p2
-    ∙ ap (distance WORD_BYTES (word_of block 2)) (sym same.2) in
-    let e3 : in_fourth ≡ distance WORD_BYTES (word_of block 3) (word_of restored 3) = p3
-    ∙ ap (distance WORD_BYTES (word_of block 3)) (sym same.3) in
-    cc
+    rw (same.0, same.1, same.2, same.3, p0, p1, p2, p3) refl
 
 -- some word is restored to
 abbrev pub HasRestored : List ℕ → ℕ → Type 0

@@ -1,37 +1,7 @@
 -- The outcome of a block.
-use Rattle.std.proofs.Common.{
-  ◌≡◌,
-  ℕ,
-  ◌+◌,
-  ◌*◌,
-  ◌/◌,
-  ◌%◌,
-  ◌<◌,
-  ◌⊎◌,
-  inl,
-  inr,
-  Bool,
-  true,
-  false,
-  leb,
-  eqb,
-  Option,
-  Some,
-  None,
-  is_none,
-  unwrap_or,
-  List,
-  [],
-  length,
-  take,
-  get_or,
-  refl,
-  sym,
-  ap,
-  subst,
-  ◌∙◌,
-  arith,
-}
+use Rattle.std.proofs.Common.{◌≡◌, ℕ, ◌+◌, ◌*◌, ◌/◌, ◌%◌, ◌<◌, ◌⊎◌, inl, inr, Bool, true, false, leb, eqb, Option}
+use Rattle.std.proofs.Common.{Some, None, is_none, unwrap_or, List, [], length, take, get_or, refl, sym, ap, subst}
+use Rattle.std.proofs.Common.{◌∙◌, arith}
 use Rattle.std.specs.Int.Bits.{xor_lt}
 use Rattle.std.specs.List.{range_with_len, list_all}
 use Rattle.std.proofs.lemmas.Bool.{and_parts, and_from, leb-true, le-leb, eqb-true, eq-eqb, false≢true, true≢false}
@@ -43,41 +13,14 @@ use Rattle.lr_bits.specs.declared.outcome.Outcome.{Outcome}
 use Rattle.lr_bits.specs.declared.outcome.Outcome.TheVariants.{Restored, Lost}
 use Rattle.lr_block.specs.Randomiser.{randomised_block, sequence_byte}
 use Rattle.lr_block.specs.Blocks.{word_of, changes_of, IsRestoredBlock, IsFirstLost}
-use Rattle.lr_block.specs.Outcomes.{
-  IsOutcome,
-  is_restored_word,
-  restored_of,
-  RestoredIsFound,
-  restored_word,
-  first_lost,
-  restored_block,
-  outcome_at,
-  outcome_of_block,
-  IsBlock,
-  OutcomeIsTheOne,
-  SentBlockIsReceived,
-  all_lists,
-}
-use Rattle.lr_block.proofs.Sequence.{
-  randomised_block-randomised_block,
-  get_or-randomised_block,
-  length-randomised_block,
-  sequence_byte-lt,
-}
+use Rattle.lr_block.specs.Outcomes.{IsOutcome, is_restored_word, restored_of, RestoredIsFound, restored_word}
+use Rattle.lr_block.specs.Outcomes.{first_lost, restored_block, outcome_at, outcome_of_block, IsBlock}
+use Rattle.lr_block.specs.Outcomes.{OutcomeIsTheOne, SentBlockIsReceived, all_lists}
+use Rattle.lr_block.proofs.Sequence.{randomised_block-randomised_block, get_or-randomised_block}
+use Rattle.lr_block.proofs.Sequence.{length-randomised_block, sequence_byte-lt}
 use Rattle.lr_block.proofs.Interleaving.{get_or-every_fourth, length-every_fourth, every_fourth_by_all, same_blocks}
-use Rattle.lr_block.proofs.Searching.{
-  IsAmong,
-  member-range,
-  from-range,
-  list_all-member,
-  list_all-from,
-  cases_find,
-  cases_first,
-  is_first,
-  none_is_first,
-  member-all_lists,
-  from-all_lists,
-}
+use Rattle.lr_block.proofs.Searching.{IsAmong, member-range, from-range, list_all-member, list_all-from, cases_find}
+use Rattle.lr_block.proofs.Searching.{cases_first, is_first, none_is_first, member-all_lists, from-all_lists}
 use Rattle.lr_rs.specs.declared.sizes.TheConstants.{CHECK_BYTES, WORD_BYTES}
 use Rattle.lr_bits.specs.declared.sizes.TheConstants.{BLOCK_BYTES, FRAME_BYTES}
 

@@ -1,31 +1,6 @@
 -- The randomiser's sequence: the table has its first 255 bytes, after which it begins anew.
-use Rattle.std.proofs.Common.{
-  ◌≡◌,
-  ℕ,
-  zero,
-  suc,
-  ◌+◌,
-  ◌*◌,
-  ◌/◌,
-  ◌%◌,
-  ◌<◌,
-  Bool,
-  true,
-  ◌&&◌,
-  eqb,
-  ltb,
-  List,
-  [],
-  ◌∷◌,
-  length,
-  get_or,
-  refl,
-  sym,
-  ap,
-  ◌∙◌,
-  arith,
-  add-one,
-}
+use Rattle.std.proofs.Common.{◌≡◌, ℕ, zero, suc, ◌+◌, ◌*◌, ◌/◌, ◌%◌, ◌<◌, Bool, true, ◌&&◌, eqb, ltb, List, [], ◌∷◌}
+use Rattle.std.proofs.Common.{length, get_or, refl, sym, ap, ◌∙◌, arith, add-one}
 use Rattle.std.specs.Int.Bits.{bit_xor, xor_assoc, xor_self, xor_zero_r}
 use Rattle.std.specs.Int.Digits.{number_from_digits}
 use Rattle.std.proofs.lemmas.Bool.{eqb-true, ltb-true, and_parts}

@@ -2,40 +2,17 @@
 use Rattle.std.proofs.Common.{◌≡◌, ◌==◌, ℕ, refl, ap, ◌∙◌, sym}
 use Rattle.std.specs.Prelude.{if◌then◌else◌}
 use Rattle.lr_causes.specs.declared.cause.Party.TheVariants.{Source, Disk, Output}
-use Rattle.lr_causes.specs.declared.cause.Refusal.TheVariants.{
-  NotAShelf,
-  NoSuchFile,
-  Capacity,
-  NotEmpty,
-  BadChecksum,
-  Discarded,
-  CannotExport,
-  BadBundle,
-  CannotSend,
-  CannotRepack,
-}
+use Rattle.lr_causes.specs.declared.cause.Refusal.TheVariants.{NotAShelf, NoSuchFile, Capacity}
+use Rattle.lr_causes.specs.declared.cause.Refusal.TheVariants.{NotEmpty, BadChecksum, Discarded}
+use Rattle.lr_causes.specs.declared.cause.Refusal.TheVariants.{CannotExport, BadBundle, CannotSend}
+use Rattle.lr_causes.specs.declared.cause.Refusal.TheVariants.{CannotRepack}
 use Rattle.lr_causes.specs.declared.cause.Cause.{Cause}
 use Rattle.lr_causes.specs.declared.cause.Cause.TheVariants.{Done, DoneWith, Usage, Failed, NoMemory, Refused}
 use Rattle.lr_causes.specs.Causes.{status_of}
-use Rattle.lr_causes.specs.Kinds.{
-  Kind,
-  IsDone,
-  IsUsage,
-  HasFailed,
-  IsNoMemory,
-  IsNotAShelf,
-  IsNoSuchFile,
-  IsCapacity,
-  IsNotEmpty,
-  IsBadChecksum,
-  IsDiscarded,
-  IsNoExport,
-  IsNoBundle,
-  IsNotSent,
-  IsNoRepack,
-  kind_of,
-  HasOneKind,
-}
+use Rattle.lr_causes.specs.Kinds.{Kind, IsDone, IsUsage, HasFailed, IsNoMemory, IsNotAShelf}
+use Rattle.lr_causes.specs.Kinds.{IsNoSuchFile, IsCapacity, IsNotEmpty, IsBadChecksum, IsDiscarded}
+use Rattle.lr_causes.specs.Kinds.{IsNoExport, IsNoBundle, IsNotSent, IsNoRepack, kind_of}
+use Rattle.lr_causes.specs.Kinds.{HasOneKind}
 
 -- the kind of a status
 abbrev kind_of_status : ℕ → Kind

@@ -5,18 +5,10 @@ use Rattle.lr_forms.specs.declared.forms.Stop.{Stop}
 use Rattle.lr_forms.specs.declared.forms.Stop.TheVariants.{End, Limit, Fault}
 use Rattle.lr_causes.specs.declared.cause.Party.{Party}
 use Rattle.lr_causes.specs.declared.cause.Party.TheVariants.{Source, Disk, Output}
-use Rattle.lr_causes.specs.declared.cause.Refusal.TheVariants.{
-  NotAShelf,
-  NoSuchFile,
-  Capacity,
-  NotEmpty,
-  BadChecksum,
-  Discarded,
-  CannotExport,
-  BadBundle,
-  CannotSend,
-  CannotRepack,
-}
+use Rattle.lr_causes.specs.declared.cause.Refusal.TheVariants.{NotAShelf, NoSuchFile, Capacity}
+use Rattle.lr_causes.specs.declared.cause.Refusal.TheVariants.{NotEmpty, BadChecksum, Discarded}
+use Rattle.lr_causes.specs.declared.cause.Refusal.TheVariants.{CannotExport, BadBundle, CannotSend}
+use Rattle.lr_causes.specs.declared.cause.Refusal.TheVariants.{CannotRepack}
 use Rattle.lr_causes.specs.declared.cause.Cause.{Cause}
 use Rattle.lr_causes.specs.declared.cause.Cause.TheVariants.{Done, DoneWith, Usage, Failed, NoMemory, Refused}
 use Rattle.lr_causes.specs.declared.fault.BundleFlaw.{BundleFlaw}

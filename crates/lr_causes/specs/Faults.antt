@@ -1,31 +1,17 @@
 -- The words for why no PGM can be put, and why an image is not coded anew.
 use Rattle.std.specs.Prelude.{ℕ, List, codes}
 use Rattle.lr_causes.specs.declared.fault.CodingFault.{CodingFault}
-use Rattle.lr_causes.specs.declared.fault.CodingFault.TheVariants.{
-  Depth as BelowFive,
-  Line as LongLine,
-  Header as LongHeader,
-  File as LongFile,
-}
+use Rattle.lr_causes.specs.declared.fault.CodingFault.TheVariants.{Depth as BelowFive}
+use Rattle.lr_causes.specs.declared.fault.CodingFault.TheVariants.{Line as LongLine}
+use Rattle.lr_causes.specs.declared.fault.CodingFault.TheVariants.{Header as LongHeader}
+use Rattle.lr_causes.specs.declared.fault.CodingFault.TheVariants.{File as LongFile}
 use Rattle.lr_causes.specs.declared.fault.ExportFault.{ExportFault}
-use Rattle.lr_causes.specs.declared.fault.ExportFault.TheVariants.{
-  Headers,
-  NotImage,
-  NoStructure,
-  Encrypted,
-  Compression,
-  Depth,
-  Empty,
-  TooLarge,
-  Flags,
-  BlockSize,
-  LinesPerPacket,
-  Rice,
-  Short,
-  Depths,
-  Outside,
-  NoSegment,
-}
+use Rattle.lr_causes.specs.declared.fault.ExportFault.TheVariants.{Headers, NotImage, NoStructure}
+use Rattle.lr_causes.specs.declared.fault.ExportFault.TheVariants.{Encrypted, Compression, Depth}
+use Rattle.lr_causes.specs.declared.fault.ExportFault.TheVariants.{Empty, TooLarge, Flags}
+use Rattle.lr_causes.specs.declared.fault.ExportFault.TheVariants.{BlockSize, LinesPerPacket, Rice}
+use Rattle.lr_causes.specs.declared.fault.ExportFault.TheVariants.{Short, Depths, Outside}
+use Rattle.lr_causes.specs.declared.fault.ExportFault.TheVariants.{NoSegment}
 
 -- ---- no PGM
 

@@ -1,18 +1,10 @@
 -- Causes without the values that their lines tell.
 use Rattle.std.specs.Prelude.{◌≡◌}
 use Rattle.lr_causes.specs.declared.cause.Party.{Party}
-use Rattle.lr_causes.specs.declared.cause.Refusal.TheVariants.{
-  NotAShelf,
-  NoSuchFile,
-  Capacity,
-  NotEmpty,
-  BadChecksum,
-  Discarded,
-  CannotExport,
-  BadBundle,
-  CannotSend,
-  CannotRepack,
-}
+use Rattle.lr_causes.specs.declared.cause.Refusal.TheVariants.{NotAShelf, NoSuchFile, Capacity}
+use Rattle.lr_causes.specs.declared.cause.Refusal.TheVariants.{NotEmpty, BadChecksum, Discarded}
+use Rattle.lr_causes.specs.declared.cause.Refusal.TheVariants.{CannotExport, BadBundle, CannotSend}
+use Rattle.lr_causes.specs.declared.cause.Refusal.TheVariants.{CannotRepack}
 use Rattle.lr_causes.specs.declared.cause.Cause.{Cause}
 use Rattle.lr_causes.specs.declared.cause.Cause.TheVariants.{Done, DoneWith, Usage, Failed, NoMemory, Refused}
 use Rattle.lr_causes.specs.Causes.{status_of}

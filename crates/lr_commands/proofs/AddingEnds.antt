@@ -1,6 +1,6 @@
 -- How a run that adds an item ends, for each cause.
 use Rattle.std.proofs.Common.{◌≡◌, ◌<◌, inl, inr, ℕ, Result, Ok, Err, IfErr, OnOk, List, []}
-use Rattle.std.proofs.Common.{◌∷◌, ◌++◌, ◌+◌, ◌-◌, take, drop, min, refl, arith, ap, ◌∙◌, sym, subst}
+use Rattle.std.proofs.Common.{◌∷◌, ◌++◌, ◌+◌, ◌-◌, take, drop, min, refl, ap, ◌∙◌, sym, subst}
 use Rattle.lr_bits.specs.Sizes.{most_u64}
 use Rattle.lr_io.specs.declared.sink.Sink.{Ghosts as SinkOf}
 use Rattle.lr_disk.specs.Reads.{IsUnwritten}
@@ -10,26 +10,22 @@ use Rattle.lr_disk.proofs.Moments.{joined, weaker}
 use Rattle.lr_shelf_format.specs.Items.{Item, extent_of, head_of_item, item_bytes}
 use Rattle.lr_shelf_format.specs.ShelfBytes.{StandsForShelf}
 use Rattle.lr_shelf_format.specs.Way.{Way, IsWay}
-use Rattle.lr_shelf_format.proofs.WayLemmas.{has_one_way}
 use Rattle.lr_shelf.specs.Adding.{StaysOutside, WithOrWithout}
 use Rattle.lr_shelf.specs.Adds.{Adds, last_gate, new_end}
 use Rattle.lr_shelf.specs.Calls.{IsFaultCounted}
-use Rattle.lr_shelf.specs.Kept.{KeptShelf, kept_by, kept_with}
+use Rattle.lr_shelf.specs.Kept.{KeptShelf, kept_by, kept_with, shelf_on}
 use Rattle.lr_shelf.specs.Load.{Loads, IsLoadRefusal}
 use Rattle.lr_shelf.specs.Shelf.{HasEitherWay, IsDurable, IsSettled, KeepsWay, StandsForEither}
 use Rattle.lr_shelf.specs.declared.shelf.Shelf.{Shelf}
 use Rattle.lr_shelf.specs.declared.error.ShelfError.{ShelfError}
-use Rattle.lr_shelf.specs.declared.error.ShelfError.TheVariants.{
-  Disk as Disk',
-  NotAShelf as NotAShelf',
-  NotEmpty as NotEmpty',
-  Capacity as Capacity',
-  NoSuchFile as NoSuchFile',
-  Crc as Crc',
-  NoMemory as NoMemory',
-  Failed as Failed',
-  Discarded as Discarded',
-}
+use Rattle.lr_shelf.specs.declared.error.ShelfError.TheVariants.{Disk as Disk'}
+use Rattle.lr_shelf.specs.declared.error.ShelfError.TheVariants.{NotAShelf as NotAShelf'}
+use Rattle.lr_shelf.specs.declared.error.ShelfError.TheVariants.{NotEmpty as NotEmpty'}
+use Rattle.lr_shelf.specs.declared.error.ShelfError.TheVariants.{Capacity as Capacity'}
+use Rattle.lr_shelf.specs.declared.error.ShelfError.TheVariants.{NoSuchFile as NoSuchFile'}
+use Rattle.lr_shelf.specs.declared.error.ShelfError.TheVariants.{Crc as Crc', NoMemory as NoMemory'}
+use Rattle.lr_shelf.specs.declared.error.ShelfError.TheVariants.{Failed as Failed'}
+use Rattle.lr_shelf.specs.declared.error.ShelfError.TheVariants.{Discarded as Discarded'}
 use Rattle.lr_causes.specs.declared.cause.Party.TheVariants.{Source, Disk, Output}
 use Rattle.lr_causes.specs.declared.cause.Refusal.{Refusal}
 use Rattle.lr_causes.specs.declared.cause.Refusal.TheVariants.{NotAShelf, Capacity}
@@ -39,29 +35,15 @@ use Rattle.lr_causes.specs.Causes.{FaultCounts, IsEarlier}
 use Rattle.lr_causes.specs.Outside.{outlet_counts, outlets, outlets_of}
 use Rattle.lr_refusals.specs.Errors.{cause_of}
 use Rattle.lr_causes.specs.Puts.{Puts, PutFails}
-use Rattle.lr_commands.specs.Adding.{
-  Addition,
-  AddsItem,
-  AreSameOrOneMore,
-  AdditionQuery,
-  EndsWith,
-  Fits,
-  HasWayOrOneMore,
-  IsFullFor,
-  IsRefusedOnWay,
-  IsAddingRefused,
-  MayAdd,
-  MayEndAdding,
-  MayEndWith,
-  RunsAdding,
-  StandsForOneMore,
-  way_added,
-}
+use Rattle.lr_commands.specs.Adding.{Addition, AddsItem, AreSameOrOneMore, AdditionQuery, EndsWith}
+use Rattle.lr_commands.specs.Adding.{Fits, HasWayOrOneMore, IsAddingRefused, MayAdd, MayEndAdding}
+use Rattle.lr_commands.specs.Adding.{MayEndWith, RunsAdding, StandsForOneMore, way_added}
 use Rattle.lr_causes.specs.Counts.{CountsTell, NoneBesides}
 use Rattle.lr_commands.proofs.Filing.{shelf_counted}
 use Rattle.lr_commands.proofs.Texts.{disk_counts, out_counts, quiet_counts, same_counts}
 use Rattle.lr_commands.proofs.AddingRuns.{both, IsReady, way_read, told_through, untold_through, unwritten_still}
 use Rattle.lr_commands.proofs.AddingRuns.{count_still}
+use Rattle.lr_commands.proofs.AddingOnce.{one_way, over_none, over_once}
 
 -- ---- runs
 
@@ -71,65 +53,6 @@ refused_is one other same = cc (same)
 module _ {D O : Type 0} (disk : DiskOf D) (out : SinkOf O) (query : AdditionQuery)
     (once : (bytes : List ℕ) (way : Way) (one other : Result Addition Refusal) → query.decides bytes way one
     → query.decides bytes way other → one ≡ other) where
-  one_way : (bytes : List ℕ) (way way' : Way) → IsWay bytes way → IsWay bytes way' → way ≡ way'
-  one_way bytes way way' is is' = (has_one_way bytes).way way way' is is'
-
-  -- ---- one refusal
-
-  module _ (bytes : List ℕ) (way : Way) where
-    full_once : (one other : Addition) (refusal refusal' : Refusal) → query.decides bytes way (Ok one)
-        → query.decides bytes way (Ok other) → IsFullFor one.item way refusal → IsFullFor other.item way refusal'
-        → refusal ≡ refusal'
-    full_once one other refusal refusal' is is' full full' =
-        let same = once bytes way (Ok one) (Ok other) is is' in
-        let addition : one ≡ other = cc (same) in
-        full.is ∙ ap (λ (a : Addition). Capacity (min (way_added a.item way).end most_u64) way.capacity)
-        addition ∙ sym full'.is
-
-    pub refused_once : (one other : Refusal) → IsRefusedOnWay query bytes way one
-        → IsRefusedOnWay query bytes way other
-        → one ≡ other
-    refused_once one other (inl is) (inl is') =
-        let same = once bytes way (Err one) (Err other) is is' in
-        cc (same)
-    refused_once one other (inl is) (inr is') =
-        let same = once bytes way (Err one) (Ok is'.0) is is'.1 in
-        cc (same)
-    refused_once one other (inr is) (inl is') =
-        let same = once bytes way (Ok is.0) (Err other) is.1 is' in
-        cc (same)
-    refused_once one other (inr is) (inr is') = full_once is.0 is'.0 one other is.1 is'.1 is.2 is'.2
-
-    pub not_both : (refusal : Refusal) (addition : Addition) → IsRefusedOnWay query bytes way refusal
-        → query.decides bytes way (Ok addition) → Fits addition.item way → ⊥
-    not_both refusal addition (inl is) is' fits =
-        let same = once bytes way (Err refusal) (Ok addition) is is' in
-        cc (same)
-    not_both refusal addition (inr is) is' fits =
-        let same = once bytes way (Ok is.0) (Ok addition) is.1 is' in
-        let one : is.0 ≡ addition = cc (same) in
-        let over : way.capacity < (way_added addition.item way).end =
-        subst (λ (a : Addition). way.capacity < (way_added a.item way).end) one is.2.over in
-        omega (arith, over, fits)
-
-  pub over_once : (bytes : List ℕ) (one other : Refusal) → IsAddingRefused query bytes one
-      → IsAddingRefused query bytes other → one ≡ other
-  over_once bytes one other (inl is) (inl is') =
-      sym is.2 ∙ ap NotAShelf ((has_one_way bytes).place is.0 is'.0 is.1 is'.1) ∙ is'.2
-  over_once bytes one other (inl is) (inr is') = absurd ((has_one_way bytes).none is'.0 is.0 is'.1 is.1)
-  over_once bytes one other (inr is) (inl is') = absurd ((has_one_way bytes).none is.0 is'.0 is.1 is'.1)
-  over_once bytes one other (inr is) (inr is') =
-      refused_once bytes is.0 one other is.2
-      (subst (λ (w : Way). IsRefusedOnWay query bytes w other) (one_way bytes is'.0 is.0 is'.1 is.1) is'.2)
-
-  pub over_none : (bytes : List ℕ) (refusal : Refusal) (addition : Addition) → IsAddingRefused query bytes refusal
-      → MayAdd query bytes addition → ⊥
-  over_none bytes refusal addition (inl is) may = (has_one_way bytes).none may.way is.0 may.is_way is.1
-  over_none bytes refusal addition (inr is) may =
-      not_both bytes may.way refusal addition
-      (subst (λ (w : Way). IsRefusedOnWay query bytes w refusal) (one_way bytes is.0 may.way is.1 may.is_way) is.2)
-      may.decided may.fits
-
   -- ---- nothing was written
 
   still : (capacity : ℕ) (items : List Item) (d d' : D) → IsUnwritten disk d d' → IsDurable disk capacity items d
@@ -211,8 +134,8 @@ module _ {D O : Type 0} (disk : DiskOf D) (out : SinkOf O) (query : AdditionQuer
       leaves = record { silent = refl; unwritten = unwritten };
       refused = λ r same t.
           subst (IsAddingRefused query (disk.contents d)) (refused_is refusal r same) (over t);
-      refuses = λ r t is. inl (ap Refused (over_once (disk.contents d) refusal r (over t) is));
-      adds = λ addition t is. absurd (over_none (disk.contents d) refusal addition (over t) is);
+      refuses = λ r t is. inl (ap Refused (over_once query once (disk.contents d) refusal r (over t) is));
+      adds = λ addition t is. absurd (over_none query once (disk.contents d) refusal addition (over t) is);
       way_any_moment = λ way t is_way only. way_still way d d' (unwritten t) is_way only;
       bytes_any_moment = λ way t is_way only. bytes_still way d d' (unwritten t) only;
       any_moment = λ capacity items t durable. still capacity items d d' (unwritten t) durable;
@@ -251,9 +174,10 @@ module _ {D O : Type 0} (disk : DiskOf D) (out : SinkOf O) (query : AdditionQuer
 
   -- ---- the call that adds the item
 
-  module _ {A : Type 0} (d d1 d2 : D) (o : O) (shelf shelf2 : Shelf) (addition : Addition) (made : query.makes addition)
+  module _ {A : Type 0} (d d1 d2 : D) (o : O) (shelf shelf2 : Shelf) (addition : Addition)
+      (made : query.makes addition)
       (ready : IsReady disk d d1 shelf) (answer : Result A ShelfError)
-      (adding : Adds disk addition.item shelf shelf2 d1 d2 answer)
+      (adding : Adds disk addition.item (shelf_on shelf d1) (shelf_on shelf2 d2) answer)
       (decided : disk.tells d → query.decides (disk.contents d) (kept_by shelf).way (Ok addition)) where
     abbrev there : Way
     there = (kept_by shelf).way
@@ -302,7 +226,7 @@ module _ {D O : Type 0} (disk : DiskOf D) (out : SinkOf O) (query : AdditionQuer
         (HasWayOrOneMore query (disk.contents d) way) to
         (adding.way_any_moment (ready.told t) (ready.keeps t) (ready.synced t))) where
           same : there ≡ way
-          same = one_way (disk.contents d) there way (way_is t) is_way
+          same = one_way query once (disk.contents d) there way (way_is t) is_way
 
           to : (c : List ℕ) → HasEitherWay there addition.item c → HasWayOrOneMore query (disk.contents d) way c
           to c (inl is) = inl (subst (IsWay c) same is)
@@ -328,7 +252,7 @@ module _ {D O : Type 0} (disk : DiskOf D) (out : SinkOf O) (query : AdditionQuer
         (adding.outside_any_moment (ready.told t) (ready.synced t))
         (adding.bytes_any_moment (ready.told t) (ready.keeps t) (ready.synced t)))) where
           same : there ≡ way
-          same = one_way (disk.contents d) there way (way_is t) is_way
+          same = one_way query once (disk.contents d) there way (way_is t) is_way
 
           Outside : List ℕ → Type 0
           Outside =
@@ -408,8 +332,8 @@ module _ {D O : Type 0} (disk : DiskOf D) (out : SinkOf O) (query : AdditionQuer
           made = made;
           decided = may_add fits;
           way = λ way t is_way.
-              subst (λ (w : Way). MayEndWith (outlets_of disk out) query addition.item w d d2)
-              (one_way (disk.contents d) there way (way_is t) is_way)
+              subst (λ (w : Way). MayEndWith (outlets_of disk out).disk addition.item w d d2)
+              (one_way query once (disk.contents d) there way (way_is t) is_way)
               (record {
                 has = adding.either_way (ready.told t) (ready.keeps t);
                 outside = outside_here (disk.contents d2) t (adding.outside (ready.told t));
@@ -455,8 +379,8 @@ module _ {D O : Type 0} (disk : DiskOf D) (out : SinkOf O) (query : AdditionQuer
         decided = may_add fits;
         put = put;
         way = λ way t is_way.
-            subst (λ (w : Way). EndsWith (outlets_of disk out) query addition.item w d d2)
-            (one_way (disk.contents d) there way (way_is t) is_way)
+            subst (λ (w : Way). EndsWith (outlets_of disk out).disk addition.item w d d2)
+            (one_way query once (disk.contents d) there way (way_is t) is_way)
             (record {
               has = way_after t;
               outside = outside_here (disk.contents d2) t (adding.outside (ready.told t));
@@ -480,7 +404,7 @@ module _ {D O : Type 0} (disk : DiskOf D) (out : SinkOf O) (query : AdditionQuer
         untold_by_out = puts.untold;
         leaves = adds_item (Puts out) o2 puts;
         refused = λ r same t. cc (same);
-        refuses = λ r t is. absurd (over_none (disk.contents d) r addition is (may_add fits t));
+        refuses = λ r t is. absurd (over_none query once (disk.contents d) r addition is (may_add fits t));
         adds = λ other t may. inl tt;
         way_any_moment = both_ways fits;
         bytes_any_moment = both_bytes fits;
@@ -499,7 +423,7 @@ module _ {D O : Type 0} (disk : DiskOf D) (out : SinkOf O) (query : AdditionQuer
         untold_by_out = fails.untold;
         leaves = adds_item (PutFails out) o2 fails;
         refused = λ r same t. cc (same);
-        refuses = λ r t is. absurd (over_none (disk.contents d) r addition is (may_add fits t));
+        refuses = λ r t is. absurd (over_none query once (disk.contents d) r addition is (may_add fits t));
         adds = λ other t may. inl tt;
         way_any_moment = both_ways fits;
         bytes_any_moment = both_bytes fits;

@@ -12,7 +12,7 @@ use Rattle.lr_shelf_format.specs.Way.{IsWay}
 use Rattle.lr_shelf_format.specs.declared.stored.Stored.{Stored}
 use Rattle.lr_shelf.specs.Adds.{Adds}
 use Rattle.lr_shelf.specs.Calls.{IsFaultCounted}
-use Rattle.lr_shelf.specs.Kept.{KeptShelf, kept_by}
+use Rattle.lr_shelf.specs.Kept.{KeptShelf, kept_by, shelf_on}
 use Rattle.lr_shelf.specs.Load.{Loads}
 use Rattle.lr_shelf.specs.Read.{Gets}
 use Rattle.lr_shelf.specs.Shelf.{IsDurable, IsSettled, KeepsWay}
@@ -70,7 +70,7 @@ module _ {D : Type 0} (disk : DiskOf D) where
   }
 
   module _ (d d1 d2 : D) (old new : Shelf) (number : ℕ) (result : Result Stored ShelfError)
-      (ready : IsReady disk d d1 old) (gets : Gets disk number old new d1 d2 result) where
+      (ready : IsReady disk d d1 old) (gets : Gets disk number (shelf_on old d1) (shelf_on new d2) result) where
     abbrev since : disk.tells d → IsUnwritten disk d1 d2
     since t = gets.reads.unwritten (ready.told t)
 
@@ -121,7 +121,7 @@ module _ {D : Type 0} (disk : DiskOf D) where
       subst (λ (l : List ℕ). IsWay l (kept_by shelf).way) (ready.unwritten t).contents (ready.keeps t)
 
   module _ {A : Type 0} (d d1 d2 : D) (shelf shelf2 : Shelf) (item : Item) (ready : IsReady disk d d1 shelf)
-      (answer : Result A ShelfError) (adding : Adds disk item shelf shelf2 d1 d2 answer) where
+      (answer : Result A ShelfError) (adding : Adds disk item (shelf_on shelf d1) (shelf_on shelf2 d2) answer) where
     pub told_through : disk.tells d → disk.tells d2
     told_through t = adding.calls.told (ready.told t)
 

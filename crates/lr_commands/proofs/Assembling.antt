@@ -26,16 +26,8 @@ use Rattle.lr_causes.specs.declared.cause.Party.TheVariants.{Source, Disk, Outpu
 use Rattle.lr_causes.specs.declared.cause.Refusal.{Refusal}
 use Rattle.lr_commands.specs.declared.gathering.Gathering.{Gathering}
 use Rattle.lr_commands.specs.declared.opened.Opened.{Opened}
-use Rattle.lr_commands.specs.Assemble.{
-  whole_fate,
-  if_of,
-  is_without,
-  member_of,
-  members_of,
-  segment_for_image,
-  segment_read,
-  skipped_of,
-}
+use Rattle.lr_commands.specs.Assemble.{whole_fate, if_of, is_without, member_of, members_of}
+use Rattle.lr_commands.specs.Assemble.{segment_for_image, segment_read, skipped_of}
 use Rattle.lr_commands.specs.Gathered.{GathersMembers, IsStop, with_member, with_skipped}
 use Rattle.lr_commands.specs.Steps.{PutsText, TextStops}
 use Rattle.lr_commands.proofs.Exporting.{pgm_some}

@@ -9,20 +9,17 @@ use Rattle.lr_shelf_format.specs.Items.{discard_item}
 use Rattle.lr_shelf_format.specs.Way.{Way}
 use Rattle.lr_shelf.specs.Discards.{Discards, IsDiscardError}
 use Rattle.lr_shelf.specs.Asked.{IsAskable}
-use Rattle.lr_shelf.specs.Kept.{kept_by}
+use Rattle.lr_shelf.specs.Kept.{kept_by, shelf_on}
 use Rattle.lr_shelf.specs.declared.shelf.Shelf.{Shelf}
 use Rattle.lr_shelf.specs.declared.error.ShelfError.{ShelfError}
-use Rattle.lr_shelf.specs.declared.error.ShelfError.TheVariants.{
-  Disk as Disk',
-  NotAShelf as NotAShelf',
-  NotEmpty as NotEmpty',
-  Capacity as Capacity',
-  NoSuchFile as NoSuchFile',
-  Crc as Crc',
-  NoMemory as NoMemory',
-  Failed as Failed',
-  Discarded as Discarded',
-}
+use Rattle.lr_shelf.specs.declared.error.ShelfError.TheVariants.{Disk as Disk'}
+use Rattle.lr_shelf.specs.declared.error.ShelfError.TheVariants.{NotAShelf as NotAShelf'}
+use Rattle.lr_shelf.specs.declared.error.ShelfError.TheVariants.{NotEmpty as NotEmpty'}
+use Rattle.lr_shelf.specs.declared.error.ShelfError.TheVariants.{Capacity as Capacity'}
+use Rattle.lr_shelf.specs.declared.error.ShelfError.TheVariants.{NoSuchFile as NoSuchFile'}
+use Rattle.lr_shelf.specs.declared.error.ShelfError.TheVariants.{Crc as Crc', NoMemory as NoMemory'}
+use Rattle.lr_shelf.specs.declared.error.ShelfError.TheVariants.{Failed as Failed'}
+use Rattle.lr_shelf.specs.declared.error.ShelfError.TheVariants.{Discarded as Discarded'}
 use Rattle.lr_catalog.specs.Discards.{discard_line}
 use Rattle.lr_causes.specs.declared.cause.Party.TheVariants.{Output}
 use Rattle.lr_causes.specs.declared.cause.Refusal.{Refusal}
@@ -79,7 +76,8 @@ module _ {D O : Type 0} (disk : DiskOf D) (out : SinkOf O) (number : ℕ) where
       (unwritten_yet disk only_now d) NoMemory tt (quiet_counts disk out NoMemory d d o o tt refl refl)
 
   module _ (d d1 d2 : D) (o : O) (shelf shelf2 : Shelf) (ready : IsReady disk d d1 shelf)
-      (answer : Result (Unit {0}) ShelfError) (discards : Discards disk number shelf shelf2 d1 d2 answer) where
+      (answer : Result (Unit {0}) ShelfError) (discards : Discards disk number (shelf_on shelf d1)
+      (shelf_on shelf2 d2) answer) where
     abbrev there : Way
     there = (kept_by shelf).way
 

@@ -13,24 +13,9 @@ use Rattle.lr_shelf_format.proofs.SomeWay.{some_way}
 use Rattle.lr_causes.specs.declared.cause.Refusal.{Refusal}
 use Rattle.lr_causes.specs.declared.cause.Refusal.TheVariants.{NoSuchFile, NotAShelf}
 use Rattle.lr_commands.specs.declared.range.Range.{Range}
-use Rattle.lr_commands.specs.Queries.{
-  Absent,
-  Answer,
-  AnswersFrom,
-  AnswersIn,
-  Query,
-  IsAnswer,
-  IsLooked,
-  IsSeen,
-  EntryView,
-  Whole,
-  Wrong,
-  answer_of,
-  entry_at,
-  fate_of,
-  refused_answer,
-  then_rest,
-}
+use Rattle.lr_commands.specs.Queries.{Absent, Answer, AnswersFrom, AnswersIn, Query, IsAnswer}
+use Rattle.lr_commands.specs.Queries.{IsLooked, IsSeen, EntryView, Whole, Wrong, answer_of}
+use Rattle.lr_commands.specs.Queries.{entry_at, fate_of, refused_answer, then_rest, query_over}
 use Rattle.lr_commands.specs.Laws.{HasAnAnswer}
 
 -- ---- what is seen at an entry
@@ -59,7 +44,7 @@ module _ (looks : Stored → Bool) (bytes : List ℕ) (entry : Entry) where
 module _ (query : Query) (bytes : List ℕ) (fit : All (λ byte. byte < 256) bytes) where
   module _ (way : Way) where
     abbrev From : (left number : ℕ) → List EntryView → Type 0
-    From left number read = (answer : Answer) × AnswersFrom query bytes way left number read answer
+    From left number read = (answer : Answer) × AnswersFrom (query_over query bytes way) left number read answer
 
     -- the fate of what is seen at an entry, and then of the others
     from_entry : (left number : ℕ) (read : List EntryView)
@@ -92,7 +77,7 @@ module _ (query : Query) (bytes : List ℕ) (fit : All (λ byte. byte < 256) byt
         from_entry left number read (λ seen. answers_from left (number + 1) (read ++ seen ∷ [])) there.0 there.1
         (fate_of query way read number there.0) refl
 
-    answers_in : (range : Option Range) → (answer : Answer) × AnswersIn query bytes way range answer
+    answers_in : (range : Option Range) → (answer : Answer) × AnswersIn (query_over query bytes way) range answer
     answers_in None = (refused_answer [] (NoSuchFile (length way.entries)), refl)
     answers_in (Some range) = answers_from (range.to - range.from) range.from []
 

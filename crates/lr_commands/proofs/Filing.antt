@@ -1,27 +1,6 @@
 -- What `get` and `check` answer, as what stands at an entry.
-use Rattle.std.proofs.Common.{
-  ◌≡◌,
-  ◌<◌,
-  ◌≤◌,
-  ◌+◌,
-  ◌^◌,
-  ℕ,
-  true,
-  false,
-  Some,
-  None,
-  Err,
-  List,
-  [],
-  ◌∷◌,
-  ◌++◌,
-  length,
-  refl,
-  arith,
-  ap,
-  sym,
-  subst,
-}
+use Rattle.std.proofs.Common.{◌≡◌, ◌<◌, ◌≤◌, ◌+◌, ◌^◌, ℕ, true, false, Some, None, Err, List, []}
+use Rattle.std.proofs.Common.{◌∷◌, ◌++◌, length, refl, arith, ap, sym, subst}
 use Rattle.lr_io.specs.declared.sink.Sink.{Ghosts as SinkOf}
 use Rattle.lr_disk.specs.declared.disk.Disk.{Ghosts as DiskOf}
 use Rattle.lr_shelf_format.specs.Way.{Sound, Gone}
@@ -31,17 +10,14 @@ use Rattle.lr_shelf.specs.Calls.{IsFaultCounted}
 use Rattle.lr_shelf.specs.Kept.{KeptShelf}
 use Rattle.lr_shelf.specs.Read.{Finds, IsGetRefusal}
 use Rattle.lr_shelf.specs.declared.error.ShelfError.{ShelfError}
-use Rattle.lr_shelf.specs.declared.error.ShelfError.TheVariants.{
-  Disk as Disk',
-  NotAShelf as NotAShelf',
-  NotEmpty as NotEmpty',
-  Capacity as Capacity',
-  NoSuchFile as NoSuchFile',
-  Crc as Crc',
-  NoMemory as NoMemory',
-  Failed as Failed',
-  Discarded as Discarded',
-}
+use Rattle.lr_shelf.specs.declared.error.ShelfError.TheVariants.{Disk as Disk'}
+use Rattle.lr_shelf.specs.declared.error.ShelfError.TheVariants.{NotAShelf as NotAShelf'}
+use Rattle.lr_shelf.specs.declared.error.ShelfError.TheVariants.{NotEmpty as NotEmpty'}
+use Rattle.lr_shelf.specs.declared.error.ShelfError.TheVariants.{Capacity as Capacity'}
+use Rattle.lr_shelf.specs.declared.error.ShelfError.TheVariants.{NoSuchFile as NoSuchFile'}
+use Rattle.lr_shelf.specs.declared.error.ShelfError.TheVariants.{Crc as Crc', NoMemory as NoMemory'}
+use Rattle.lr_shelf.specs.declared.error.ShelfError.TheVariants.{Failed as Failed'}
+use Rattle.lr_shelf.specs.declared.error.ShelfError.TheVariants.{Discarded as Discarded'}
 use Rattle.lr_causes.specs.declared.cause.Refusal.TheVariants.{NotAShelf, BadChecksum}
 use Rattle.lr_causes.specs.Outside.{outlet_counts, outlets, outlets_of}
 use Rattle.lr_causes.specs.declared.cause.Cause.{Cause}
@@ -50,7 +26,7 @@ use Rattle.lr_commands.specs.Queries.{Query, IsLooked, EntryView, Whole, Wrong, 
 use Rattle.lr_refusals.specs.Errors.{cause_of}
 use Rattle.lr_commands.specs.Files.{FileQuery, query_of_files, files_of}
 use Rattle.lr_causes.specs.Counts.{CountsTell, NoneBesides}
-use Rattle.lr_commands.specs.Steps.{PutsText, TextStops, TakesEntry, EntryStops}
+use Rattle.lr_commands.specs.Steps.{PutsText, TextStops, TakesEntry, EntryStops, standing_at}
 use Rattle.lr_commands.proofs.Texts.{disk_counts, quiet_counts, stops_seen}
 
 pub files_of-whole : (read : List EntryView) (opened : Opened)
@@ -123,7 +99,8 @@ module _ {D O : Type 0} (disk : DiskOf D) (out : SinkOf O) (kept : KeptShelf) (n
       → ((stored computed : ℕ) → error ≡ Crc' stored computed
       → query.entry_text read number (Wrong stored computed) ≡ Err BadChecksum)
       → (error ≡ Discarded' → ⊥) → IsGetRefusal disk kept number d error
-      → EntryStops (outlets_of disk out) query kept.way read number (cause_of error) (outlets d o) (outlets d' o)
+      → EntryStops (outlets_of disk out) (standing_at query kept.way read number) (cause_of error) (outlets d o)
+      (outlets d' o)
   get_stops query read d' o Disk' bad stays refusal = refl
   get_stops query read d' o (NotAShelf' at) bad stays refusal = record {
     seen = None;
@@ -153,7 +130,7 @@ module _ {D O : Type 0} (disk : DiskOf D) (out : SinkOf O) (kept : KeptShelf) (n
       pub takes_file : (gathers : List Opened → Type 0)
           → PutsText out (query.entry_text (files_of read) number opened) o o'
           → gathers (files_of read ++ opened ∷ [])
-          → TakesEntry (outlets_of disk out) (query_of_files query) kept.way read number
+          → TakesEntry (outlets_of disk out) (standing_at (query_of_files query) kept.way read number)
           (λ read'. gathers (files_of read')) (outlets d o) (outlets d' o')
       takes_file gathers puts gathered = record {
         seen = Whole opened;
@@ -163,7 +140,8 @@ module _ {D O : Type 0} (disk : DiskOf D) (out : SinkOf O) (kept : KeptShelf) (n
       }
 
       pub stops_file : (cause : Cause) → TextStops out (query.entry_text (files_of read) number opened) cause o o'
-          → EntryStops (outlets_of disk out) (query_of_files query) kept.way read number cause (outlets d o)
+          → EntryStops (outlets_of disk out) (standing_at (query_of_files query) kept.way read number) cause
+          (outlets d o)
           (outlets d' o')
       stops_file = stops_seen disk out (query_of_files query) kept.way read number d d' o o' (Some (Whole opened))
           (λ t. (finds t, looked))
@@ -171,7 +149,7 @@ module _ {D O : Type 0} (disk : DiskOf D) (out : SinkOf O) (kept : KeptShelf) (n
     module _ (gone : IsGetRefusal disk kept number d Discarded') where
       pub takes_gone : (gathers : List Opened → Type 0) → PutsText out (query.gone number) o o'
           → gathers (files_of read)
-          → TakesEntry (outlets_of disk out) (query_of_files query) kept.way read number
+          → TakesEntry (outlets_of disk out) (standing_at (query_of_files query) kept.way read number)
           (λ read'. gathers (files_of read')) (outlets d o) (outlets d' o')
       takes_gone gathers puts gathered = record {
         seen = Absent;
@@ -181,7 +159,8 @@ module _ {D O : Type 0} (disk : DiskOf D) (out : SinkOf O) (kept : KeptShelf) (n
       }
 
       pub stops_gone : (cause : Cause) → TextStops out (query.gone number) cause o o'
-          → EntryStops (outlets_of disk out) (query_of_files query) kept.way read number cause (outlets d o)
+          → EntryStops (outlets_of disk out) (standing_at (query_of_files query) kept.way read number) cause
+          (outlets d o)
           (outlets d' o')
       stops_gone =
           stops_seen disk out (query_of_files query) kept.way read number d d' o o' (Some Absent) (found_gone gone)

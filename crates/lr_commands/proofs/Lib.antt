@@ -1,5 +1,6 @@
 pub mod AddingRuns
 pub mod AddingEnds
+pub mod AddingOnce
 pub mod Answering
 pub mod Assembling
 pub mod Discarding
@@ -9,7 +10,6 @@ pub mod Filing
 pub mod Loading
 pub mod Reading
 pub mod Reasons
-pub mod Rendering
 pub mod Repacking
 pub mod Seeing
 pub mod Taking

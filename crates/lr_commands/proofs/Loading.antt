@@ -1,32 +1,7 @@
 -- What a run does, by what loading the shelf answered.
-use Rattle.std.proofs.Common.{
-  ◌≡◌,
-  ◌⊎◌,
-  ◌+◌,
-  ◌<◌,
-  inl,
-  inr,
-  ℕ,
-  Option,
-  Some,
-  None,
-  Result,
-  Ok,
-  Err,
-  IfOk,
-  List,
-  [],
-  ◌++◌,
-  length,
-  refl,
-  arith,
-  ap,
-  ◌∙◌,
-  sym,
-  subst,
-  append-nil,
-  length-append,
-}
+use Rattle.std.proofs.Common.{◌≡◌, ◌⊎◌, ◌+◌, ◌<◌, inl, inr, ℕ, Option, Some, None, Result, Ok, Err}
+use Rattle.std.proofs.Common.{IfOk, List, [], ◌++◌, length, refl, arith, ap, ◌∙◌, sym, subst}
+use Rattle.std.proofs.Common.{append-nil, length-append}
 use Rattle.lr_io.specs.declared.sink.Sink.{Ghosts as SinkOf}
 use Rattle.lr_disk.specs.declared.disk.Disk.{Ghosts as DiskOf}
 use Rattle.lr_disk.proofs.Moments.{unwritten_joined, unwritten_yet}
@@ -37,46 +12,27 @@ use Rattle.lr_shelf.specs.Load.{Loads, IsLoadRefusal}
 use Rattle.lr_shelf.specs.Shelf.{KeepsWay}
 use Rattle.lr_shelf.specs.declared.shelf.Shelf.{Shelf}
 use Rattle.lr_shelf.specs.declared.error.ShelfError.{ShelfError}
-use Rattle.lr_shelf.specs.declared.error.ShelfError.TheVariants.{
-  Disk as Disk',
-  NotAShelf as NotAShelf',
-  NotEmpty as NotEmpty',
-  Capacity as Capacity',
-  NoSuchFile as NoSuchFile',
-  Crc as Crc',
-  NoMemory as NoMemory',
-  Failed as Failed',
-  Discarded as Discarded',
-}
+use Rattle.lr_shelf.specs.declared.error.ShelfError.TheVariants.{Disk as Disk'}
+use Rattle.lr_shelf.specs.declared.error.ShelfError.TheVariants.{NotAShelf as NotAShelf'}
+use Rattle.lr_shelf.specs.declared.error.ShelfError.TheVariants.{NotEmpty as NotEmpty'}
+use Rattle.lr_shelf.specs.declared.error.ShelfError.TheVariants.{Capacity as Capacity'}
+use Rattle.lr_shelf.specs.declared.error.ShelfError.TheVariants.{NoSuchFile as NoSuchFile'}
+use Rattle.lr_shelf.specs.declared.error.ShelfError.TheVariants.{Crc as Crc', NoMemory as NoMemory'}
+use Rattle.lr_shelf.specs.declared.error.ShelfError.TheVariants.{Failed as Failed'}
+use Rattle.lr_shelf.specs.declared.error.ShelfError.TheVariants.{Discarded as Discarded'}
 use Rattle.lr_causes.specs.declared.cause.Party.TheVariants.{Source, Disk, Output}
 use Rattle.lr_causes.specs.declared.cause.Refusal.TheVariants.{NotAShelf}
 use Rattle.lr_causes.specs.declared.cause.Cause.{Cause}
 use Rattle.lr_causes.specs.declared.cause.Cause.TheVariants.{Done, DoneWith, Usage, Failed, NoMemory, Refused}
 use Rattle.lr_causes.specs.declared.note.Note.{Note}
-use Rattle.lr_commands.specs.Queries.{
-  Query,
-  Answer,
-  AnswersOn,
-  BegunBy,
-  IsAnswer,
-  IsBegun,
-  done_answer,
-  refused_answer,
-}
+use Rattle.lr_commands.specs.Queries.{Query, Answer, AnswersOn, BegunBy, IsAnswer, IsBegun}
+use Rattle.lr_commands.specs.Queries.{done_answer, refused_answer, query_on, query_over}
 use Rattle.lr_causes.specs.Causes.{FaultCounts}
 use Rattle.lr_causes.specs.Counts.{CountsTell, NoneBesides}
 use Rattle.lr_causes.specs.Outside.{outlet_counts, outlets, outlets_of}
 use Rattle.lr_refusals.specs.Errors.{cause_of}
-use Rattle.lr_commands.specs.Runs.{
-  PutsFirst,
-  Got,
-  Precedes,
-  RunsReading,
-  RunsOn,
-  RunsOver,
-  at_place,
-  cause_for,
-}
+use Rattle.lr_commands.specs.Runs.{PutsFirst, Got, Precedes, RunsReading, RunsOn, RunsOver}
+use Rattle.lr_commands.specs.Runs.{at_place, cause_for, reading, allowed_by, allowed_on}
 use Rattle.lr_commands.proofs.Answering.{answer_is, begun_front}
 use Rattle.lr_commands.proofs.Texts.{disk_counts, quiet_counts, same_counts}
 
@@ -88,7 +44,7 @@ some_after text one rest whole same some =
 module _ {D O : Type 0} (disk : DiskOf D) (out : SinkOf O) (query : Query) where
   -- what the bytes answer comes, unless an event came before it
   ends : (bytes : List ℕ) (o o' : O) (cause : Cause)
-      → Got out (IsAnswer query bytes) (IsBegun query bytes) cause o o' → (answer : Answer)
+      → Got out (allowed_by query bytes) cause o o' → (answer : Answer)
       → IsAnswer query bytes answer → (cause ≡ cause_for answer.refusal answer.note) ⊎ Precedes cause answer
   ends bytes o o' Done got answer is =
       inl (ap (λ (a : Answer). cause_for a.refusal a.note)
@@ -117,13 +73,13 @@ module _ {D O : Type 0} (disk : DiskOf D) (out : SinkOf O) (query : Query) where
       (answer_is query bytes (refused_answer got.first.text refusal) answer got.is is))
 
   pub over : (d d' : D) (o o' : O) (cause : Cause)
-      → RunsReading (outlets_of disk out) query (IsAnswer query) (IsBegun query) cause (outlets d o) (outlets d' o')
+      → RunsReading (outlets_of disk out) (reading query (allowed_by query)) cause (outlets d o) (outlets d' o')
       → RunsOver (outlets_of disk out) query cause (outlets d o) (outlets d' o')
   over d d' o o' cause runs =
       record { runs = runs; ends = λ answer t. ends (disk.contents d) o o' cause (runs.got t) answer }
 
   -- nothing was put
-  nothing : (bytes : List ℕ) (o : O) → PutsFirst out (IsAnswer query bytes) (IsBegun query bytes) 1 o o
+  nothing : (bytes : List ℕ) (o : O) → PutsFirst out (allowed_by query bytes) 1 o o
   nothing bytes o = record {
     passed = 0;
     text = [];
@@ -132,7 +88,7 @@ module _ {D O : Type 0} (disk : DiskOf D) (out : SinkOf O) (query : Query) where
     untouched = λ none. refl;
   }
 
-  nothing_yet : (bytes : List ℕ) (o : O) → PutsFirst out (IsAnswer query bytes) (IsBegun query bytes) 0 o o
+  nothing_yet : (bytes : List ℕ) (o : O) → PutsFirst out (allowed_by query bytes) 0 o o
   nothing_yet bytes o = record {
     passed = 0;
     text = [];
@@ -145,7 +101,7 @@ module _ {D O : Type 0} (disk : DiskOf D) (out : SinkOf O) (query : Query) where
   pub not_started :
       ((x : D) (c : List ℕ) → disk.tells x → disk.left_since x (disk.moment x) c → disk.may_leave x c)
       → (d : D) (o : O)
-      → RunsReading (outlets_of disk out) query (IsAnswer query) (IsBegun query) NoMemory (outlets d o) (outlets d o)
+      → RunsReading (outlets_of disk out) (reading query (allowed_by query)) NoMemory (outlets d o) (outlets d o)
   not_started only_now d o = record {
     may = tt;
     counted = quiet_counts disk out NoMemory d d o o tt refl refl;
@@ -167,7 +123,7 @@ module _ {D O : Type 0} (disk : DiskOf D) (out : SinkOf O) (query : Query) where
 
     -- no shelf was loaded
     pub not_loaded : (error : ShelfError) → result ≡ Err error → IsLoadRefusal disk d error
-        → RunsReading (outlets_of disk out) query (IsAnswer query) (IsBegun query) (cause_of error) (outlets d o)
+        → RunsReading (outlets_of disk out) (reading query (allowed_by query)) (cause_of error) (outlets d o)
         (outlets d1 o)
     not_loaded Disk' is refusal = record {
       may = tt;
@@ -237,17 +193,17 @@ module _ {D O : Type 0} (disk : DiskOf D) (out : SinkOf O) (query : Query) where
         abbrev bytes : List ℕ
         bytes = disk.contents d
 
-        onto : (answer : Answer) → AnswersOn query bytes way answer → IsAnswer query bytes answer
+        onto : (answer : Answer) → AnswersOn (query_over query bytes way) answer → IsAnswer query bytes answer
         onto answer one = inr (way, way_there t, one)
 
-        first : (passed left : ℕ) (text : List ℕ) → BegunBy query bytes way passed left text
+        first : (passed left : ℕ) (text : List ℕ) → BegunBy (query_over query bytes way) passed left text
             → IsBegun query bytes passed left text
         first passed left text (inl none) = inl none
         first passed left text (inr begun) = inr (way, way_there t, begun)
 
         first_all : (left : ℕ) (o' : O)
-            → PutsFirst out (AnswersOn query bytes way) (BegunBy query bytes way) left o o'
-            → PutsFirst out (IsAnswer query bytes) (IsBegun query bytes) left o o'
+            → PutsFirst out (allowed_on (query_on query way) bytes) left o o'
+            → PutsFirst out (allowed_by query bytes) left o o'
         first_all left o' got = record {
           passed = got.passed;
           text = got.text;
@@ -257,16 +213,16 @@ module _ {D O : Type 0} (disk : DiskOf D) (out : SinkOf O) (query : Query) where
         }
 
         next_all : (passed : ℕ) (text : List ℕ)
-            → BegunBy query bytes way passed 0 text
-            ⊎ ((note : Option Note) × AnswersOn query bytes way (done_answer text note))
+            → BegunBy (query_over query bytes way) passed 0 text
+            ⊎ ((note : Option Note) × AnswersOn (query_over query bytes way) (done_answer text note))
             → IsBegun query bytes passed 0 text
             ⊎ ((note : Option Note) × IsAnswer query bytes (done_answer text note))
         next_all passed text (inl begun) = inl (first passed 0 text begun)
         next_all passed text (inr one) = inr (one.0, onto (done_answer text one.0) one.1)
 
         got_all : (cause : Cause) (o' : O)
-            → Got out (AnswersOn query bytes way) (BegunBy query bytes way) cause o o'
-            → Got out (IsAnswer query bytes) (IsBegun query bytes) cause o o'
+            → Got out (allowed_on (query_on query way) bytes) cause o o'
+            → Got out (allowed_by query bytes) cause o o'
         unfolding first_all
         got_all Done o' got = record {
           text = got.text;
@@ -298,8 +254,8 @@ module _ {D O : Type 0} (disk : DiskOf D) (out : SinkOf O) (query : Query) where
 
       -- a shelf was loaded, and its entries were run over
       pub loaded : (d2 : D) (o' : O) (cause : Cause)
-          → RunsOn (outlets_of disk out) query (kept_by shelf).way cause (outlets d1 o) (outlets d2 o')
-          → RunsReading (outlets_of disk out) query (IsAnswer query) (IsBegun query) cause (outlets d o) (outlets d2 o')
+          → RunsOn (outlets_of disk out) (query_on query (kept_by shelf).way) cause (outlets d1 o) (outlets d2 o')
+          → RunsReading (outlets_of disk out) (reading query (allowed_by query)) cause (outlets d o) (outlets d2 o')
       loaded d2 o' cause runs = record {
         may = runs.may;
         counted = subst
@@ -314,7 +270,7 @@ module _ {D O : Type 0} (disk : DiskOf D) (out : SinkOf O) (query : Query) where
         got = λ t.
             got_all t cause o'
             (subst
-            (λ (b : List ℕ). Got out (AnswersOn query b (kept_by shelf).way) (BegunBy query b (kept_by shelf).way)
+            (λ (b : List ℕ). Got out (allowed_on (query_on query (kept_by shelf).way) b)
             cause o o') (loads.unwritten t).contents (runs.got (loads.calls.told t)));
         untouched = runs.untouched;
       }

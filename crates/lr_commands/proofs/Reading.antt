@@ -10,8 +10,8 @@ use Rattle.std.proofs.lemmas.List.Folds.{concat-append}
 use Rattle.std.proofs.lemmas.Option.{slice_get_within}
 use Rattle.lr_disk.specs.declared.disk.Disk.{Ghosts as DiskOf}
 use Rattle.lr_shelf_format.specs.Way.{IsWay, Way}
-use Rattle.lr_commands.specs.Queries.{Query, IsSeen, EntryView, entry_at}
-use Rattle.lr_commands.specs.Read.{AreSeen, GathersOver, HasGathered}
+use Rattle.lr_commands.specs.Queries.{Query, IsSeen, EntryView, entry_at, query_on}
+use Rattle.lr_commands.specs.Read.{AreSeen, GathersOver, HasGathered, entries_seen}
 
 -- ---- one at the end
 
@@ -33,14 +33,15 @@ some_same a b is = cc (is)
 -- ---- what was seen
 
 module _ {D : Type 0} (disk : DiskOf D) (d : D) (query : Query) (way : Way) (from : ℕ) where
-  pub none_seen : AreSeen disk d query way from [] []
+  pub none_seen : AreSeen disk d (entries_seen query way from []) []
   none_seen = record {
     stand = λ t i h. absurd (omega (arith, h));
     count = refl;
     become = λ i seen is. absurd (omega (arith, slice_get_within [] i seen is));
   }
 
-  module _ (read : List EntryView) (texts : List (List ℕ)) (are : AreSeen disk d query way from read texts)
+  module _ (read : List EntryView) (texts : List (List ℕ))
+      (are : AreSeen disk d (entries_seen query way from read) texts)
       (seen : EntryView)
       (text : List ℕ)
       (stands : disk.tells d → IsSeen query.looks (disk.contents d) (entry_at way (from + length read)) (Some seen))
@@ -85,7 +86,7 @@ module _ {D : Type 0} (disk : DiskOf D) (d : D) (query : Query) (way : Way) (fro
           ∙ ap (query.entry_text read (from + length read)) (sym same) ∙ fate ∙ ap (λ (t : List ℕ). Ok t) (sym last)
     ]
 
-    pub one_more_seen : AreSeen disk d query way from all (texts ++ text ∷ [])
+    pub one_more_seen : AreSeen disk d (entries_seen query way from all) (texts ++ text ∷ [])
     one_more_seen = record {
       stand = stand_more;
       count = omega (
@@ -101,7 +102,7 @@ module _ {D : Type 0} (disk : DiskOf D) (d : D) (query : Query) (way : Way) (fro
 pub gathered_over : {D G : Type 0} (disk : DiskOf D) (d d1 : D) (query : Query) (gathers : G → List EntryView → Type 0)
     (way : Way) (put : List ℕ) → (disk.tells d → disk.tells d1)
     → (disk.tells d → disk.contents d1 ≡ disk.contents d) → (disk.tells d → IsWay (disk.contents d1) way)
-    → HasGathered disk d1 query gathers way put → GathersOver disk d query gathers put
+    → HasGathered disk d1 (query_on query way) gathers put → GathersOver disk d query gathers put
 gathered_over disk d d1 query gathers way put told same is_way has = record {
   way = way;
   is_way = λ t. subst (λ (l : List ℕ). IsWay l way) (same t) (is_way t);

@@ -1,37 +1,7 @@
 -- Each reason that `extract` and `verify` have for a refusal.
-use Rattle.std.proofs.Common.{
-  ◌≡◌,
-  ◌⊎◌,
-  ◌<◌,
-  ◌≤◌,
-  ◌+◌,
-  ◌-◌,
-  inl,
-  inr,
-  ℕ,
-  zero,
-  suc,
-  Bool,
-  true,
-  false,
-  Option,
-  Some,
-  None,
-  Result,
-  Ok,
-  Err,
-  List,
-  [],
-  ◌∷◌,
-  ◌++◌,
-  length,
-  refl,
-  arith,
-  ap,
-  ◌∙◌,
-  sym,
-  subst,
-}
+use Rattle.std.proofs.Common.{◌≡◌, ◌⊎◌, ◌<◌, ◌≤◌, ◌+◌, ◌-◌, inl, inr, ℕ, zero, suc, Bool, true}
+use Rattle.std.proofs.Common.{false, Option, Some, None, Result, Ok, Err, List, [], ◌∷◌, ◌++◌}
+use Rattle.std.proofs.Common.{length, refl, arith, ap, ◌∙◌, sym, subst}
 use Rattle.std.specs.Prelude.{if◌then◌else◌, ltb}
 use Rattle.std.proofs.lemmas.Bool.{cases_lt, lt-ltb, le-ltb}
 use Rattle.std.proofs.lemmas.List.{append-nil}
@@ -44,35 +14,14 @@ use Rattle.lr_shelf_format.specs.Way.{Way, IsWay, Sound, Bad, HasSoundRecord, Is
 use Rattle.lr_shelf_format.specs.declared.stored.Stored.{Stored}
 use Rattle.lr_shelf_format.proofs.WayLemmas.{has_one_way}
 use Rattle.lr_causes.specs.declared.cause.Refusal.{Refusal}
-use Rattle.lr_causes.specs.declared.cause.Refusal.TheVariants.{
-  NotAShelf,
-  NoSuchFile,
-  BadChecksum,
-  Discarded,
-  CannotExport,
-}
+use Rattle.lr_causes.specs.declared.cause.Refusal.TheVariants.{NotAShelf, NoSuchFile, BadChecksum}
+use Rattle.lr_causes.specs.declared.cause.Refusal.TheVariants.{Discarded, CannotExport}
 use Rattle.lr_causes.specs.declared.fault.ExportFault.{ExportFault}
 use Rattle.lr_commands.specs.declared.range.Range.{Range}
-use Rattle.lr_commands.specs.Queries.{
-  Query,
-  Answer,
-  entry_at,
-  answer_of,
-  fate_of,
-  AnswersFrom,
-  AnswersIn,
-  AnswersOn,
-  IsAnswer,
-  IsRefusedFor,
-  IsSeen,
-  EntryView,
-  Whole,
-  Wrong,
-  Absent,
-  done_answer,
-  plain,
-  refused_answer,
-}
+use Rattle.lr_commands.specs.Queries.{Query, Answer, entry_at, answer_of, fate_of, AnswersFrom}
+use Rattle.lr_commands.specs.Queries.{AnswersIn, AnswersOn, IsAnswer, IsRefusedFor, IsSeen}
+use Rattle.lr_commands.specs.Queries.{EntryView, Whole, Wrong, Absent, done_answer, plain}
+use Rattle.lr_commands.specs.Queries.{refused_answer, query_over}
 use Rattle.lr_commands.specs.Export.{export_query}
 use Rattle.lr_commands.specs.Extract.{extract_query}
 use Rattle.lr_refusals.specs.Errors.{image_fault}
@@ -98,12 +47,12 @@ range_of number false range is = cc (is)
 module _ (query : Query) (number : ℕ) (ranges : (count : ℕ) → query.range count ≡ one_entry number count)
     (bytes : List ℕ) (way : Way) (is : IsWay bytes way) where
   in_range : (b : Bool) → ltb number (length way.entries) ≡ b → (answer : Answer)
-      → AnswersIn query bytes way (chosen number b) answer → IsAnswer query bytes answer
+      → AnswersIn (query_over query bytes way) (chosen number b) answer → IsAnswer query bytes answer
   in_range b same answer from =
       inr (
         way,
         is,
-        subst (λ (r : Option Range). AnswersIn query bytes way r answer)
+        subst (λ (r : Option Range). AnswersIn (query_over query bytes way) r answer)
             (ap (chosen number) (sym same) ∙ sym (ranges (length way.entries))) from,
       )
 
@@ -118,20 +67,22 @@ module _ (query : Query) (number : ℕ) (ranges : (count : ℕ) → query.range 
 
   module _ (there : number < length way.entries) where
     -- what the one entry answers is what the bytes do
-    one_entry_is : (answer : Answer) → AnswersFrom query bytes way 1 number [] answer → IsAnswer query bytes answer
+    one_entry_is : (answer : Answer) → AnswersFrom (query_over query bytes way) 1 number [] answer
+        → IsAnswer query bytes answer
     one_entry_is answer from =
         let one : number + 1 - number ≡ 1 = omega arith in
         in_range true (lt-ltb number (length way.entries) there) answer
-        (subst (λ n. AnswersFrom query bytes way n number [] answer) (sym one) from)
+        (subst (λ n. AnswersFrom (query_over query bytes way) n number [] answer) (sym one) from)
 
-    from_one : (answer : Answer) → IsAnswer query bytes answer → AnswersFrom query bytes way 1 number [] answer
+    from_one : (answer : Answer) → IsAnswer query bytes answer
+        → AnswersFrom (query_over query bytes way) 1 number [] answer
     from_one answer (inl none) = absurd ((has_one_way bytes).none way none.0 is none.1)
     from_one answer (inr some) =
         let one : number + 1 - number ≡ 1 = omega arith in
-        subst (λ n. AnswersFrom query bytes way n number [] answer) one
-        (subst (λ (r : Option Range). AnswersIn query bytes way r answer)
+        subst (λ n. AnswersFrom (query_over query bytes way) n number [] answer) one
+        (subst (λ (r : Option Range). AnswersIn (query_over query bytes way) r answer)
         (ranges (length way.entries) ∙ ap (chosen number) (lt-ltb number (length way.entries) there))
-        (subst (λ (w : Way). AnswersOn query bytes w answer)
+        (subst (λ (w : Way). AnswersOn (query_over query bytes w) answer)
         ((has_one_way bytes).way some.0 way some.1 is) some.2))
 
     stopped : (seen : Option EntryView) (refusal : Refusal) → IsSeen query.looks bytes (entry_at way number) seen
@@ -177,7 +128,7 @@ module _ (number : ℕ) (bytes : List ℕ) (way : Way) (is : IsWay bytes way) wh
     not_refused stays sound (Some Absent) stands refusal fate = cc (stays, stands)
 
     right_from : (entry_at way number).gone ≡ false → HasSoundRecord bytes (entry_at way number) → (answer : Answer)
-        → AnswersFrom (extract_query number) bytes way 1 number [] answer → answer.refusal ≡ None
+        → AnswersFrom (query_over (extract_query number) bytes way) 1 number [] answer → answer.refusal ≡ None
     right_from stays sound answer (inl a) =
         ap (λ (x : Answer). x.refusal) a.is ∙ ap (λ (x : Answer). x.refusal) a.after
     right_from stays sound answer (inr b) =
@@ -201,7 +152,8 @@ module _ (number : ℕ) (bytes : List ℕ) (way : Way) (is : IsWay bytes way) wh
         put_one (extract_query number) number one bytes way is there (λ read. refl) (plain stored) (stands, tt)
         (proper_of stored.file) refl;
     right = λ there stays sound answer from.
-        right_from there stays sound answer (from_one (extract_query number) number one bytes way is there answer from);
+        right_from there stays sound answer
+        (from_one (extract_query number) number one bytes way is there answer from);
   }
 
 pub has_reasons : ExtractHasReasons
@@ -263,7 +215,7 @@ spoilt read Absent bad = none_bad-absent read ∙ bad
 
 module _ (bytes : List ℕ) (way : Way) where
   abbrev From : (left number : ℕ) → List EntryView → Answer → Type 0
-  From left number read answer = AnswersFrom verify_query bytes way left number read answer
+  From left number read answer = AnswersFrom (query_over verify_query bytes way) left number read answer
 
   -- it is refused at an entry only where that has no record
   at_none : (read : List EntryView) (number : ℕ) (seen : Option EntryView) (refusal : Refusal)
@@ -377,7 +329,8 @@ module _ (bytes : List ℕ) (way : Way) where
       → From (length way.entries - 0) 0 [] answer
   on_all answer is (inl none) = absurd ((has_one_way bytes).none way none.0 is none.1)
   on_all answer is (inr some) =
-      subst (λ (w : Way). AnswersOn verify_query bytes w answer) ((has_one_way bytes).way some.0 way some.1 is) some.2
+      subst (λ (w : Way). AnswersOn (query_over verify_query bytes w) answer)
+      ((has_one_way bytes).way some.0 way some.1 is) some.2
 
   why : (answer : Answer) → IsWay bytes way → IsAnswer verify_query bytes answer → SaysWhy bytes way answer
   why answer is one =

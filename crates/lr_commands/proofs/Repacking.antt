@@ -22,21 +22,18 @@ use Rattle.lr_rice_coder.proofs.OneRepack.{repacks_are_one}
 use Rattle.lr_shelf.specs.Append.{Appends, IsAppendRefusal, item_for}
 use Rattle.lr_shelf.specs.Asked.{IsAskable}
 use Rattle.lr_shelf.specs.Calls.{IsFaultCounted}
-use Rattle.lr_shelf.specs.Kept.{KeptShelf, kept_by}
+use Rattle.lr_shelf.specs.Kept.{KeptShelf, kept_by, shelf_on}
 use Rattle.lr_shelf.specs.Read.{Finds, Gets, IsGetRefusal}
 use Rattle.lr_shelf.specs.declared.shelf.Shelf.{Shelf}
 use Rattle.lr_shelf.specs.declared.error.ShelfError.{ShelfError}
-use Rattle.lr_shelf.specs.declared.error.ShelfError.TheVariants.{
-  Disk as Disk',
-  NotAShelf as NotAShelf',
-  NotEmpty as NotEmpty',
-  Capacity as Capacity',
-  NoSuchFile as NoSuchFile',
-  Crc as Crc',
-  NoMemory as NoMemory',
-  Failed as Failed',
-  Discarded as Discarded',
-}
+use Rattle.lr_shelf.specs.declared.error.ShelfError.TheVariants.{Disk as Disk'}
+use Rattle.lr_shelf.specs.declared.error.ShelfError.TheVariants.{NotAShelf as NotAShelf'}
+use Rattle.lr_shelf.specs.declared.error.ShelfError.TheVariants.{NotEmpty as NotEmpty'}
+use Rattle.lr_shelf.specs.declared.error.ShelfError.TheVariants.{Capacity as Capacity'}
+use Rattle.lr_shelf.specs.declared.error.ShelfError.TheVariants.{NoSuchFile as NoSuchFile'}
+use Rattle.lr_shelf.specs.declared.error.ShelfError.TheVariants.{Crc as Crc', NoMemory as NoMemory'}
+use Rattle.lr_shelf.specs.declared.error.ShelfError.TheVariants.{Failed as Failed'}
+use Rattle.lr_shelf.specs.declared.error.ShelfError.TheVariants.{Discarded as Discarded'}
 use Rattle.lr_refusals.specs.Errors.{image_fault, cause_of}
 use Rattle.lr_causes.specs.Puts.{Puts, PutFails}
 use Rattle.lr_causes.specs.declared.fault.CodingFault.{CodingFault}
@@ -52,22 +49,12 @@ use Rattle.lr_causes.specs.Causes.{FaultCounts}
 use Rattle.lr_causes.specs.Outside.{outlet_counts, outlets, outlets_of}
 use Rattle.lr_commands.specs.Adding.{Addition, Fits, MayEndAdding, RunsAdding, way_added}
 use Rattle.lr_commands.specs.Queries.{entry_at}
-use Rattle.lr_commands.specs.Repack.{
-  coded_by,
-  DecidesCoded,
-  DecidesFound,
-  DecidesRepack,
-  IsNotRepacked,
-  IsRepackOf,
-  MakesRepacked,
-  refusal_cause,
-  repack_addition,
-  repack_query,
-  repack_refusal,
-}
+use Rattle.lr_commands.specs.Repack.{coded_by, DecidesCoded, DecidesFound, DecidesRepack}
+use Rattle.lr_commands.specs.Repack.{IsNotRepacked, IsRepackOf, MakesRepacked, refusal_cause}
+use Rattle.lr_commands.specs.Repack.{repack_addition, repack_query, repack_refusal}
 use Rattle.lr_commands.specs.declared.repack.Repacked.{Repacked}
 use Rattle.lr_causes.specs.Counts.{CountsTell, NoneBesides}
-use Rattle.lr_commands.proofs.AddingRuns.{IsReady, told_got, untold_got, unwritten_got}
+use Rattle.lr_commands.proofs.AddingRuns.{IsReady, ready_got, told_got, untold_got, unwritten_got}
 use Rattle.lr_commands.proofs.AddingEnds.{earlier_run, refused_run}
 use Rattle.lr_commands.proofs.AddingEnds.{cut_run, done_run, failed_run, full_run, no_memory_run}
 use Rattle.lr_commands.proofs.Filing.{shelf_counted}
@@ -95,7 +82,7 @@ coded_wrong block stored (Err coding) cause is has =
 
 module _ (number block : ℕ) where
   coded_once : (way : Way) (stored : Stored) (outcome : Result File RepackFault) (one other : Result Addition Refusal)
-      → DecidesCoded number block way stored outcome one → DecidesCoded number block way stored outcome other
+      → DecidesCoded number way stored outcome one → DecidesCoded number way stored outcome other
       → one ≡ other
   coded_once way stored (Ok new) one other is is' = is ∙ sym is'
   coded_once way stored (Err fault) one other is is' =
@@ -112,7 +99,7 @@ module _ (number block : ℕ) where
   found_decides_once way (Some (Sound stored)) one other is is' =
       let same : is.0 ≡ is'.0 = repacks_are_one stored.file block is.0 is'.0 is.1 is'.1 in
       coded_once way stored is'.0 one other
-      (subst (λ (r : Result File RepackFault). DecidesCoded number block way stored r one) same is.2) is'.2
+      (subst (λ (r : Result File RepackFault). DecidesCoded number way stored r one) same is.2) is'.2
 
   pub repack_once : (bytes : List ℕ) (way : Way) (one other : Result Addition Refusal)
       → DecidesRepack number block bytes way one → DecidesRepack number block bytes way other → one ≡ other
@@ -147,6 +134,13 @@ module _ (number block : ℕ) where
   may_refuse (fault.File size) refusal names = coding LongFile refusal names
   may_refuse fault.NoMemory refusal names = cc (names)
 
+-- the shelf works, and this addition, which was made of one of its files, is what is decided
+pub record IsReadyToAdd {D : Type 0} (disk : DiskOf D) (number block : ℕ) (d d' : D) (shelf : Shelf)
+    (addition : Addition) : Type 0 where
+  pub ready : IsReady disk d d' shelf
+  pub made : MakesRepacked number block addition
+  pub decided : disk.tells d → DecidesRepack number block (disk.contents d) (kept_by shelf).way (Ok addition)
+
 module _ {D O : Type 0} (disk : DiskOf D) (out : SinkOf O) (number block : ℕ) where
   abbrev pub RunsRepack : Cause → D → D → O → O → Type 0
   RunsRepack cause d d' o o' =
@@ -154,7 +148,7 @@ module _ {D O : Type 0} (disk : DiskOf D) (out : SinkOf O) (number block : ℕ) 
       (outlets d' o')
 
   module _ (d d1 d2 : D) (o : O) (old new : Shelf) (result : Result Stored ShelfError) (ready : IsReady disk d d1 old)
-      (gets : Gets disk number old new d1 d2 result) where
+      (gets : Gets disk number (shelf_on old d1) (shelf_on new d2) result) where
     abbrev there : Way
     there = (kept_by old).way
 
@@ -283,59 +277,57 @@ module _ {D O : Type 0} (disk : DiskOf D) (out : SinkOf O) (number block : ℕ) 
           subst (λ (c : Cause). RunsRepack c d d2 o o) (sym refused.2)
           (refuses_with refused.0 refused.1 (repack_refusal refused.0) refl (may_refuse number block refused.0))
 
-  -- the new file wasn't added
-  module _ (d d1 d2 : D) (o : O) (shelf shelf2 : Shelf) (placed : Placed) (stored : Stored) (text : List ℕ)
-      (ready : IsReady disk d d1 shelf) (answer : Result ℕ ShelfError)
-      (appends : Appends disk placed shelf shelf2 d1 d2 answer) where
+  module _ (d d1 d2 : D) (o : O) (shelf shelf2 : Shelf) (placed : Placed) (text : List ℕ)
+      (to : IsReadyToAdd disk number block d d1 shelf (record { item = item_for placed; text = text }))
+      (answer : Result ℕ ShelfError)
+      (appends : Appends disk placed (shelf_on shelf d1) (shelf_on shelf2 d2) answer) where
     abbrev addition : Addition
     addition = record { item = item_for placed; text = text }
 
-    module _ (made : MakesRepacked number block addition)
-        (decided : disk.tells d
-        → DecidesRepack number block (disk.contents d) (kept_by shelf).way (Ok addition)) where
-      pub not_added : (error : ShelfError) → answer ≡ Err error
-          → IsAppendRefusal (item_for placed) (kept_by shelf) error → RunsRepack (cause_of error) d d2 o o
-      not_added Disk' is refusal =
-          failed_run disk out (repack_query number block) (repack_once number block) d d1
-          d2 o shelf shelf2 addition made ready answer appends.adds decided is refusal.1
-      not_added (NotAShelf' at) is refusal = absurd refusal
-      not_added (NotEmpty' size) is refusal = absurd refusal
-      not_added (Capacity' needed most) is refusal =
-          let same : Capacity' needed most ≡ Capacity' needed (kept_by shelf).way.capacity =
-          ap (Capacity' needed) refusal.3 in
-          subst (λ (n : ℕ). RunsRepack (Refused (Capacity needed n)) d d2 o o) (sym refusal.3)
-          (full_run disk out (repack_query number block) (repack_once number block) d d1
-          d2 o shelf shelf2 addition made ready answer appends.adds decided needed
-          (is ∙ ap (λ (e : ShelfError). Err e) same) refusal.1 refusal.2)
-      not_added (NoSuchFile' count) is refusal = absurd refusal
-      not_added (Crc' stored computed) is refusal = absurd refusal
-      not_added NoMemory' is refusal =
-          no_memory_run disk out (repack_query number block) (repack_once number block) d
-          d1 d2 o shelf shelf2 addition made ready answer appends.adds decided is
-      not_added Failed' is refusal =
-          let works = ready.works in
-          cc (works, refusal)
-      not_added Discarded' is refusal = absurd refusal
+    -- the new file wasn't added
+    pub not_added : (error : ShelfError) → answer ≡ Err error
+        → IsAppendRefusal (item_for placed) (kept_by shelf) error → RunsRepack (cause_of error) d d2 o o
+    not_added Disk' is refusal =
+        failed_run disk out (repack_query number block) (repack_once number block) d d1
+        d2 o shelf shelf2 addition to.made to.ready answer appends.adds to.decided is refusal.1
+    not_added (NotAShelf' at) is refusal = absurd refusal
+    not_added (NotEmpty' size) is refusal = absurd refusal
+    not_added (Capacity' needed most) is refusal =
+        let same : Capacity' needed most ≡ Capacity' needed (kept_by shelf).way.capacity =
+        ap (Capacity' needed) refusal.3 in
+        subst (λ (n : ℕ). RunsRepack (Refused (Capacity needed n)) d d2 o o) (sym refusal.3)
+        (full_run disk out (repack_query number block) (repack_once number block) d d1
+        d2 o shelf shelf2 addition to.made to.ready answer appends.adds to.decided needed
+        (is ∙ ap (λ (e : ShelfError). Err e) same) refusal.1 refusal.2)
+    not_added (NoSuchFile' count) is refusal = absurd refusal
+    not_added (Crc' stored computed) is refusal = absurd refusal
+    not_added NoMemory' is refusal =
+        no_memory_run disk out (repack_query number block) (repack_once number block) d
+        d1 d2 o shelf shelf2 addition to.made to.ready answer appends.adds to.decided is
+    not_added Failed' is refusal =
+        let works = to.ready.works in
+        cc (works, refusal)
+    not_added Discarded' is refusal = absurd refusal
 
-      -- it was
-      module _ (place : ℕ) (added : answer ≡ Ok place) where
-        fits : Fits (item_for placed) (kept_by shelf).way
-        fits = elim (cases_lt (kept_by shelf).way.capacity (way_added (item_for placed) (kept_by shelf).way).end) [
-          | inl over ↦
-              let full = appends.full ready.works over in
-              cc (added, full)
-          | inr room ↦ room
-        ]
+    -- it was
+    module _ (place : ℕ) (added : answer ≡ Ok place) where
+      fits : Fits (item_for placed) (kept_by shelf).way
+      fits = elim (cases_lt (kept_by shelf).way.capacity (way_added (item_for placed) (kept_by shelf).way).end) [
+        | inl over ↦
+            let full = appends.full to.ready.works over in
+            cc (added, full)
+        | inr room ↦ room
+      ]
 
-        pub told_line : (o2 : O) → Puts out text o o2 → RunsRepack Done d d2 o o2
-        told_line =
-            done_run disk out (repack_query number block) (repack_once number block) d d1
-            d2 o shelf shelf2 addition made ready answer appends.adds decided place added fits
+      pub told_line : (o2 : O) → Puts out text o o2 → RunsRepack Done d d2 o o2
+      told_line =
+          done_run disk out (repack_query number block) (repack_once number block) d d1
+          d2 o shelf shelf2 addition to.made to.ready answer appends.adds to.decided place added fits
 
-        pub cut_line : (o2 : O) → PutFails out text o o2 → RunsRepack (Failed Output) d d2 o o2
-        cut_line =
-            cut_run disk out (repack_query number block) (repack_once number block) d d1
-            d2 o shelf shelf2 addition made ready answer appends.adds decided place added fits
+      pub cut_line : (o2 : O) → PutFails out text o o2 → RunsRepack (Failed Output) d d2 o o2
+      cut_line =
+          cut_run disk out (repack_query number block) (repack_once number block) d d1
+          d2 o shelf shelf2 addition to.made to.ready answer appends.adds to.decided place added fits
 
 pub ok_is : {A E : Type 0} (r : Result A E) → ((e : E) → r ≡ Err e → ⊥) → (v : A) × (r ≡ Ok v)
 ok_is (Ok v) never = (v, refl)
@@ -344,7 +336,7 @@ ok_is (Err e) never = absurd (never e refl)
 -- what was made of the file is the addition
 module _ (number block place : ℕ) (way : Way) (stored : Stored) (made : Repacked)
     (is_place : place ≡ length way.entries) (is : IsRepackOf number place block stored made) where
-  pub addition_is : ◌≡◌ {A = Addition} (record { item = item_for made.placed; text = made.line })
+  addition_is : ◌≡◌ {A = Addition} (record { item = item_for made.placed; text = made.line })
       (repack_addition number way stored made.placed.file)
   addition_is =
       ap (λ (t : List ℕ). record { item = item_for made.placed; text = t }) (is.line ∙ line_at)
@@ -359,27 +351,28 @@ module _ (number block place : ℕ) (way : Way) (stored : Stored) (made : Repack
             ap (λ (n : ℕ). repack_line number n (length (bytes_of stored.file))
             (length (bytes_of made.placed.file))) is_place
 
-  pub makes_it : MakesRepacked number block (record { item = item_for made.placed; text = made.line })
-  makes_it = record {
-    way = way;
-    stored = stored;
-    new = made.placed.file;
-    repacked = is.repacked;
-    is = addition_is;
-  }
-
 -- and it is what is decided, by the shelf that the file was read from
-pub decides_made : {D O : Type 0} (disk : DiskOf D) (out : SinkOf O) (number block : ℕ) (d d1 d2 : D) (o : O)
-    (old new : Shelf) (result : Result Stored ShelfError) (ready : IsReady disk d d1 old)
-    (gets : Gets disk number old new d1 d2 result) (stored : Stored) (is : result ≡ Ok stored) (place : ℕ)
-    (made : Repacked) → place ≡ length (kept_by new).way.entries → IsRepackOf number place block stored made
-    → disk.tells d
-    → DecidesRepack number block (disk.contents d) (kept_by new).way
-    (Ok (record { item = item_for made.placed; text = made.line }))
-decides_made disk out number block d d1 d2 o old new result ready gets stored is place made is_place re t =
-    subst (λ (a : Addition). DecidesRepack number block (disk.contents d) (kept_by new).way (Ok a))
-    (sym (addition_is number block place (kept_by new).way stored made is_place re))
-    (subst (λ (k : KeptShelf).
-    DecidesRepack number block (disk.contents d) k.way (Ok (repack_addition number k.way stored made.placed.file)))
-    (sym gets.kept)
-    (decides_new disk out number block d d1 d2 o old new result ready gets stored is made.placed.file re.repacked t))
+pub ready_to_add : {D O : Type 0} (disk : DiskOf D) (out : SinkOf O) (number block : ℕ) (d d1 d2 : D) (o : O)
+    (old new : Shelf) (result : Result Stored ShelfError) → IsReady disk d d1 old
+    → Gets disk number (shelf_on old d1) (shelf_on new d2) result → (stored : Stored) → result ≡ Ok stored
+    → (place : ℕ) (made : Repacked) → place ≡ length (kept_by new).way.entries
+    → IsRepackOf number place block stored made
+    → IsReadyToAdd disk number block d d2 new (record { item = item_for made.placed; text = made.line })
+ready_to_add disk out number block d d1 d2 o old new result ready gets stored is place made is_place re =
+    let same = addition_is number block place (kept_by new).way stored made is_place re in
+    record {
+      ready = ready_got disk d d1 d2 old new number result ready gets stored is;
+      made = record {
+        way = (kept_by new).way;
+        stored = stored;
+        new = made.placed.file;
+        repacked = re.repacked;
+        is = same;
+      };
+      decided = λ t.
+          subst (λ (a : Addition). DecidesRepack number block (disk.contents d) (kept_by new).way (Ok a)) (sym same)
+          (subst (λ (k : KeptShelf). DecidesRepack number block (disk.contents d) k.way
+          (Ok (repack_addition number k.way stored made.placed.file))) (sym gets.kept)
+          (decides_new disk out number block d d1 d2 o old new result ready gets stored is made.placed.file
+          re.repacked t));
+    }

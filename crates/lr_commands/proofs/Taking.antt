@@ -1,34 +1,7 @@
 -- How a run over the entries of a loaded shelf goes on, and how it ends.
-use Rattle.std.proofs.Common.{
-  ◌≡◌,
-  inl,
-  inr,
-  ℕ,
-  ◌+◌,
-  ◌-◌,
-  ◌<◌,
-  ◌≤◌,
-  Option,
-  Some,
-  None,
-  Result,
-  Ok,
-  Err,
-  List,
-  [],
-  ◌∷◌,
-  ◌++◌,
-  length,
-  refl,
-  arith,
-  ap,
-  ◌∙◌,
-  sym,
-  subst,
-  append-nil,
-  append_assoc,
-  length-append,
-}
+use Rattle.std.proofs.Common.{◌≡◌, inl, inr, ℕ, ◌+◌, ◌-◌, ◌<◌, ◌≤◌, Option, Some, None, Result, Ok}
+use Rattle.std.proofs.Common.{Err, List, [], ◌∷◌, ◌++◌, length, refl, arith, ap, ◌∙◌, sym, subst}
+use Rattle.std.proofs.Common.{append-nil, append_assoc, length-append}
 use Rattle.lr_io.specs.declared.sink.Sink.{Ghosts as SinkOf}
 use Rattle.lr_io.specs.Pieces.{PutsPart}
 use Rattle.lr_disk.specs.Reads.{IsUnwritten}
@@ -42,54 +15,28 @@ use Rattle.lr_causes.specs.declared.cause.Cause.{Cause}
 use Rattle.lr_causes.specs.declared.cause.Cause.TheVariants.{Done, DoneWith, Usage, Failed, NoMemory, Refused}
 use Rattle.lr_causes.specs.declared.note.Note.{Note}
 use Rattle.lr_commands.specs.declared.range.Range.{Range}
-use Rattle.lr_commands.specs.Queries.{
-  Query,
-  Answer,
-  IsSeen,
-  EntryView,
-  done_answer,
-  refused_answer,
-  entry_at,
-  fate_of,
-  answer_of,
-  then_rest,
-  AnswersFrom,
-  AnswersIn,
-  AnswersOn,
-  BegunBy,
-}
+use Rattle.lr_commands.specs.Queries.{Query, Answer, IsSeen, EntryView, done_answer, refused_answer}
+use Rattle.lr_commands.specs.Queries.{entry_at, fate_of, answer_of, then_rest, AnswersFrom}
+use Rattle.lr_commands.specs.Queries.{AnswersIn, AnswersOn, BegunBy, query_over, query_on}
 use Rattle.lr_causes.specs.Causes.{FaultCounts, done_with}
 use Rattle.lr_causes.specs.Counts.{CountsTell, NoneBesides}
 use Rattle.lr_causes.specs.Outside.{outlet_counts, outlets, outlets_of}
-use Rattle.lr_commands.specs.Runs.{Got, IsDoneWith, PutsAll, PutsFirst, PutsRefused, PutsCut, RunsOn, by_count}
-use Rattle.lr_commands.specs.Steps.{PutsText, CutsText, TextStops, TakesEntry, EntryStops}
+use Rattle.lr_commands.specs.Runs.{Got, IsDoneWith, PutsAll, PutsFirst, PutsRefused, PutsCut}
+use Rattle.lr_commands.specs.Runs.{RunsOn, by_count, allowed_on}
+use Rattle.lr_commands.specs.Steps.{PutsText, CutsText, TextStops, TakesEntry, EntryStops, standing_at}
 use Rattle.lr_commands.specs.Read.{HasGathered, IsDone}
 use Rattle.lr_commands.proofs.Reading.{none_seen, one_more_seen, concat-push}
-use Rattle.lr_commands.specs.Reached.{SoFar}
-use Rattle.lr_commands.proofs.Answering.{
-  reaches_first,
-  reaches_more,
-  refused_here,
-  begun_before,
-  ends_here,
-}
-use Rattle.lr_commands.proofs.Texts.{
-  quiet_counts,
-  same_counts,
-  text_counted,
-  last_may,
-  entry_may,
-  entry_untouched,
-  entry_told,
-  entry_untold,
-  text_told,
-  text_untold,
-}
+use Rattle.lr_commands.specs.Reached.{SoFar, entries_run}
+use Rattle.lr_commands.proofs.Answering.{reaches_first, reaches_more, refused_here, begun_before}
+use Rattle.lr_commands.proofs.Answering.{ends_here}
+use Rattle.lr_commands.proofs.Texts.{quiet_counts, same_counts, text_counted, last_may, entry_may}
+use Rattle.lr_commands.proofs.Texts.{entry_untouched, entry_told, entry_untold, text_told}
+use Rattle.lr_commands.proofs.Texts.{text_untold}
 
 module _ {D O : Type 0} (disk : DiskOf D) (out : SinkOf O) (query : Query) (way : Way) (range : Range) (d : D)
     (o : O) where
   pub so_first : (gathers : List EntryView → Type 0) → gathers []
-      → SoFar disk out query way range d o gathers range.from o
+      → SoFar (outlets_of disk out) (entries_run query way range gathers) (outlets d o) range.from o
   so_first gathers fresh = record {
     read = [];
     text = [];
@@ -111,17 +58,19 @@ module _ {D O : Type 0} (disk : DiskOf D) (out : SinkOf O) (query : Query) (way 
   }
 
   module _ (gathers : List EntryView → Type 0) (number : ℕ) (o1 o2 : O)
-      (so : SoFar disk out query way range d o gathers number o1) where
+      (so : SoFar (outlets_of disk out) (entries_run query way range gathers) (outlets d o) number o1) where
     module _ (t : disk.tells d) (allowed : query.range (length way.entries) ≡ Some range) where
       abbrev MayAnswer : Answer → Type 0
-      MayAnswer = AnswersOn query (disk.contents d) way
+      MayAnswer = AnswersOn (query_over query (disk.contents d) way)
 
       abbrev MayBegin : (passed left : ℕ) → List ℕ → Type 0
-      MayBegin = BegunBy query (disk.contents d) way
+      MayBegin = BegunBy (query_over query (disk.contents d) way)
 
       pub onto : (answer : Answer)
-          → AnswersFrom query (disk.contents d) way (range.to - range.from) range.from [] answer → MayAnswer answer
-      onto answer is = subst (λ (r : Option Range). AnswersIn query (disk.contents d) way r answer) (sym allowed) is
+          → AnswersFrom (query_over query (disk.contents d) way) (range.to - range.from) range.from [] answer
+          → MayAnswer answer
+      onto answer is = subst (λ (r : Option Range). AnswersIn (query_over query (disk.contents d) way) r answer)
+          (sym allowed) is
 
       -- the texts so far
       pub begun_so : (left : ℕ) → number + left ≤ range.to → MayBegin (number - range.from) left so.text
@@ -133,7 +82,8 @@ module _ {D O : Type 0} (disk : DiskOf D) (out : SinkOf O) (query : Query) (way 
       })
 
       -- nothing was put after them
-      pub first_put : (left : ℕ) → number + left ≤ range.to → o2 ≡ o1 → PutsFirst out MayAnswer MayBegin left o o2
+      pub first_put : (left : ℕ) → number + left ≤ range.to → o2 ≡ o1
+          → PutsFirst out (record { answer = MayAnswer; begin = MayBegin }) left o o2
       first_put left inside still = record {
         passed = number - range.from;
         text = so.text;
@@ -143,9 +93,9 @@ module _ {D O : Type 0} (disk : DiskOf D) (out : SinkOf O) (query : Query) (way 
       }
 
       pub refused_put : (refusal : Refusal) → number ≤ range.to → o2 ≡ o1
-          → AnswersFrom query (disk.contents d) way (range.to - range.from) range.from []
+          → AnswersFrom (query_over query (disk.contents d) way) (range.to - range.from) range.from []
           (refused_answer so.text refusal)
-          → PutsRefused out MayAnswer MayBegin refusal o o2
+          → PutsRefused out (record { answer = MayAnswer; begin = MayBegin }) refusal o o2
       unfolding first_put
       refused_put refusal inside still is = record {
         first = first_put 0 (omega (arith, inside)) still;
@@ -162,8 +112,9 @@ module _ {D O : Type 0} (disk : DiskOf D) (out : SinkOf O) (query : Query) (way 
           subst (λ (b : List ℕ). IsSeen query.looks b (entry_at way number) seen) (same t) (stands (told t))
 
       pub so_more : (gathers' : List EntryView → Type 0) (d2 : D)
-          → TakesEntry (outlets_of disk out) query way so.read number gathers' (outlets d1 o1) (outlets d2 o2)
-          → SoFar disk out query way range d o gathers' (number + 1) o2
+          → TakesEntry (outlets_of disk out) (standing_at query way so.read number) gathers' (outlets d1 o1)
+          (outlets d2 o2)
+          → SoFar (outlets_of disk out) (entries_run query way range gathers') (outlets d o) (number + 1) o2
       so_more gathers' d2 takes = record {
         read = so.read ++ takes.seen ∷ [];
         text = so.text ++ takes.puts.text;
@@ -200,7 +151,7 @@ module _ {D O : Type 0} (disk : DiskOf D) (out : SinkOf O) (query : Query) (way 
         cut_here : (seen : Option EntryView)
             → (disk.tells d1 → IsSeen query.looks (disk.contents d1) (entry_at way number) seen)
             → CutsText out (fate_of query way so.read number seen) o1 o2
-            → PutsCut out (MayAnswer t allowed) (MayBegin t allowed) o o2
+            → PutsCut out (record { answer = (MayAnswer t allowed); begin = (MayBegin t allowed) }) o o2
         cut_here None stands cuts = absurd (no_text cuts.is) where
           no_text : {e : Refusal} → ◌≡◌ {A = Result (List ℕ) Refusal} (Err e) (Ok cuts.text) → ⊥
           no_text same = cc (same)
@@ -216,7 +167,8 @@ module _ {D O : Type 0} (disk : DiskOf D) (out : SinkOf O) (query : Query) (way 
             texts =
                 let passed : number + 1 - range.from ≡ number - range.from + 1 = omega (arith, so.after) in
                 subst
-                (λ n. AnswersFrom (record query { last = λ w r. Ok []; tells = λ r. None }) (disk.contents d) way n
+                (λ n. AnswersFrom (query_over (record query { last = λ w r. Ok []; tells = λ r. None })
+                (disk.contents d) way) n
                 range.from [] (done_answer (so.text ++ cuts.text) None)) passed
                 (begun_before query (disk.contents d) way range.from (number + 1) (so.read ++ seen ∷ [])
                 (so.text ++ cuts.text)
@@ -230,8 +182,9 @@ module _ {D O : Type 0} (disk : DiskOf D) (out : SinkOf O) (query : Query) (way 
         }
 
         pub entry_got : (d2 : D) (cause : Cause)
-            → EntryStops (outlets_of disk out) query way so.read number cause (outlets d1 o1) (outlets d2 o2)
-            → Got out (MayAnswer t allowed) (MayBegin t allowed) cause o o2
+            → EntryStops (outlets_of disk out) (standing_at query way so.read number) cause (outlets d1 o1)
+            (outlets d2 o2)
+            → Got out (record { answer = (MayAnswer t allowed); begin = (MayBegin t allowed) }) cause o o2
         entry_got d2 Done stops = absurd stops.stops
         entry_got d2 (DoneWith note) stops = absurd stops.stops
         entry_got d2 Usage stops = absurd stops.stops
@@ -248,14 +201,15 @@ module _ {D O : Type 0} (disk : DiskOf D) (out : SinkOf O) (query : Query) (way 
     module _ (inside : number ≤ range.to) (all : range.to ≤ number)
         (allowed : query.range (length way.entries) ≡ Some range) (t : disk.tells d) where
       last_from : (last : Result (List ℕ) Refusal) → query.last way so.read ≡ last
-          → AnswersFrom query (disk.contents d) way (range.to - range.from) range.from []
+          → AnswersFrom (query_over query (disk.contents d) way) (range.to - range.from) range.from []
           (then_rest so.text (answer_of last (query.tells so.read)))
       last_from last is =
           ends_here query (disk.contents d) way range.from number so.read so.text (so.reaches t) range.to inside all
           last is
 
       pub last_put : PutsText out (query.last way so.read) o1 o2
-          → PutsAll out (MayAnswer t allowed) (MayBegin t allowed) (query.tells so.read) o o2
+          → PutsAll out (record { answer = (MayAnswer t allowed); begin = (MayBegin t allowed) })
+          (query.tells so.read) o o2
       last_put puts = record {
         text = so.text ++ puts.text;
         is = onto t allowed (then_rest so.text (answer_of (Ok puts.text) (query.tells so.read)))
@@ -266,7 +220,7 @@ module _ {D O : Type 0} (disk : DiskOf D) (out : SinkOf O) (query : Query) (way 
       }
 
       pub last_got : (cause : Cause) → TextStops out (query.last way so.read) cause o1 o2
-          → Got out (MayAnswer t allowed) (MayBegin t allowed) cause o o2
+          → Got out (record { answer = (MayAnswer t allowed); begin = (MayBegin t allowed) }) cause o o2
       last_got Done stops = absurd stops
       last_got (DoneWith note) stops = absurd stops
       last_got Usage stops = absurd stops
@@ -292,7 +246,7 @@ module _ {D O : Type 0} (disk : DiskOf D) (out : SinkOf O) (query : Query) (way 
       last_got (Refused refusal) stops =
           refused_put t allowed refusal inside stops.1
           (subst
-          (λ (l : List ℕ). AnswersFrom query (disk.contents d) way (range.to - range.from) range.from []
+          (λ (l : List ℕ). AnswersFrom (query_over query (disk.contents d) way) (range.to - range.from) range.from []
           (refused_answer l refusal)) (append-nil so.text) (last_from (Err refusal) stops.0))
 
 -- ---- the ways out
@@ -302,7 +256,7 @@ module _ {D O : Type 0} (disk : DiskOf D) (out : SinkOf O) (query : Query) (way 
   pub not_allowed :
       ((x : D) (c : List ℕ) → disk.tells x → disk.left_since x (disk.moment x) c → disk.may_leave x c)
       → (count : ℕ) → count ≡ length way.entries → query.range count ≡ None
-      → RunsOn (outlets_of disk out) query way (Refused (NoSuchFile count)) (outlets d o) (outlets d o)
+      → RunsOn (outlets_of disk out) (query_on query way) (Refused (NoSuchFile count)) (outlets d o) (outlets d o)
   not_allowed only_now count count_is none = record {
     may = by_count count none refl;
     counted = quiet_counts disk out (Refused (NoSuchFile count)) d d o o tt refl refl;
@@ -321,7 +275,7 @@ module _ {D O : Type 0} (disk : DiskOf D) (out : SinkOf O) (query : Query) (way 
       };
       is =
           subst
-          (λ (r : Option Range). AnswersIn query (disk.contents d) way r
+          (λ (r : Option Range). AnswersIn (query_over query (disk.contents d) way) r
           (refused_answer [] (NoSuchFile count)))
           (sym (ap query.range (sym count_is) ∙ none))
           (ap (λ (n : ℕ). refused_answer [] (NoSuchFile n)) count_is);
@@ -331,7 +285,8 @@ module _ {D O : Type 0} (disk : DiskOf D) (out : SinkOf O) (query : Query) (way 
 
   module _ (range : Range) (allowed : query.range (length way.entries) ≡ Some range)
       (gathers : List EntryView → Type 0) (number : ℕ) (d1 : D) (o1 o2 : O)
-      (so : SoFar disk out query way range d o gathers number o1) (told : disk.tells d → disk.tells d1)
+      (so : SoFar (outlets_of disk out) (entries_run query way range gathers) (outlets d o) number o1)
+      (told : disk.tells d → disk.tells d1)
       (untold : disk.tells d1 → disk.tells d) (reads : disk.tells d → IsUnwritten disk d d1)
       (count : disk.faults d1 ≡ disk.faults d) where
     same_here : outlet_counts (outlets_of disk out) (outlets d1 o1) ≡ outlet_counts (outlets_of disk out) (outlets d o)
@@ -340,10 +295,10 @@ module _ {D O : Type 0} (disk : DiskOf D) (out : SinkOf O) (query : Query) (way 
     -- an entry was not taken
     pub entry_stopped : (d2 : D) → number < range.to → (disk.tells d1 → disk.tells d2)
         → (disk.tells d2 → disk.tells d1) → (disk.tells d1 → IsUnwritten disk d1 d2) → (cause : Cause)
-        → EntryStops (outlets_of disk out) query way so.read number cause (outlets d1 o1) (outlets d2 o2)
+        → EntryStops (outlets_of disk out) (standing_at query way so.read number) cause (outlets d1 o1) (outlets d2 o2)
         → CountsTell NoneBesides cause (outlet_counts (outlets_of disk out) (outlets d1 o1))
         (outlet_counts (outlets_of disk out) (outlets d2 o2))
-        → RunsOn (outlets_of disk out) query way cause (outlets d o) (outlets d2 o2)
+        → RunsOn (outlets_of disk out) (query_on query way) cause (outlets d o) (outlets d2 o2)
     entry_stopped d2 more told2 untold2 unwritten cause stops counted = record {
       may = entry_may disk out query way so.read number d1 d2 o1 o2 cause stops;
       counted =
@@ -370,11 +325,10 @@ module _ {D O : Type 0} (disk : DiskOf D) (out : SinkOf O) (query : Query) (way 
     module _ (inside : number ≤ range.to) (all : range.to ≤ number)
         (puts : PutsText out (query.last way so.read) o1 o2) where
       put_so : (t : disk.tells d) → (noted : Option Note) → noted ≡ query.tells so.read
-          → PutsAll out (AnswersOn query (disk.contents d) way) (BegunBy query (disk.contents d) way) noted o o2
+          → PutsAll out (allowed_on (query_on query way) (disk.contents d)) noted o o2
       put_so t noted is =
           subst
-          (λ (n : Option Note). PutsAll out (AnswersOn query (disk.contents d) way)
-          (BegunBy query (disk.contents d) way) n o o2) (sym is)
+          (λ (n : Option Note). PutsAll out (allowed_on (query_on query way) (disk.contents d)) n o o2) (sym is)
           (last_put disk out query way range d o gathers number o1 o2 so inside all allowed t puts)
 
       done_with_so : (told_note : Option Note) → told_note ≡ query.tells so.read → IsDoneWith query told_note
@@ -382,7 +336,7 @@ module _ {D O : Type 0} (disk : DiskOf D) (out : SinkOf O) (query : Query) (way 
           record { way = way; read = so.read; text = puts.text; last = puts.is; tells = sym is }
 
       pub last_taken : (note : Option Note) → note ≡ query.tells so.read
-          → RunsOn (outlets_of disk out) query way (done_with note) (outlets d o) (outlets d1 o2)
+          → RunsOn (outlets_of disk out) (query_on query way) (done_with note) (outlets d o) (outlets d1 o2)
       last_taken None is = record {
         may = done_with_so None is;
         counted = quiet_counts disk out Done d d1 o o2 tt count (puts.puts.kept ∙ so.puts.kept);
@@ -409,7 +363,7 @@ module _ {D O : Type 0} (disk : DiskOf D) (out : SinkOf O) (query : Query) (way 
       -- what all entries gave
       pub gathered_all : {G : Type 0} (gather : G → List EntryView → Type 0) (value : G) → gather value so.read
           → out.tells o → (put : List ℕ) × (out.contents o2 ≡ out.contents o ++ put)
-          × HasGathered disk d query gather way put
+          × HasGathered disk d (query_on query way) gather put
       gathered_all gather value knows told_out = (
         so.text ++ puts.text,
         puts.puts.put (so.puts.told told_out) ∙ ap (λ (l : List ℕ). l ++ puts.text) (so.puts.put told_out)
@@ -432,7 +386,7 @@ module _ {D O : Type 0} (disk : DiskOf D) (out : SinkOf O) (query : Query) (way 
     -- or it was not
     pub last_stopped : number ≤ range.to → range.to ≤ number → (cause : Cause)
         → TextStops out (query.last way so.read) cause o1 o2 → (query.last way so.read ≡ Ok [] → ⊥)
-        → RunsOn (outlets_of disk out) query way cause (outlets d o) (outlets d1 o2)
+        → RunsOn (outlets_of disk out) (query_on query way) cause (outlets d o) (outlets d1 o2)
     last_stopped inside all cause stops some = record {
       may = last_may disk out query way so.read o1 o2 cause stops;
       counted = subst
@@ -463,7 +417,8 @@ module _ {D O : Type 0} (disk : DiskOf D) (out : SinkOf O) where
 
   pub entry_undone : (query : Query) (way : Way) (read : List EntryView) (number : ℕ) (d d' : D) (o o' : O)
       (cause : Cause)
-      → EntryStops (outlets_of disk out) query way read number cause (outlets d o) (outlets d' o') → IsDone cause → ⊥
+      → EntryStops (outlets_of disk out) (standing_at query way read number) cause (outlets d o) (outlets d' o')
+      → IsDone cause → ⊥
   entry_undone query way read number d d' o o' Done stops done = stops.stops
   entry_undone query way read number d d' o o' (DoneWith note) stops done = stops.stops
   entry_undone query way read number d d' o o' Usage stops done = done

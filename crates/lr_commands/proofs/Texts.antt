@@ -16,6 +16,7 @@ use Rattle.lr_causes.specs.declared.cause.Cause.{Cause}
 use Rattle.lr_causes.specs.declared.cause.Cause.TheVariants.{Done, DoneWith, Usage, Failed, NoMemory, Refused}
 use Rattle.lr_commands.specs.Queries.{Query, IsSeen, EntryView, entry_at, fate_of}
 use Rattle.lr_commands.proofs.Answering.{err_is}
+use Rattle.lr_commands.specs.Steps.{standing_at}
 use Rattle.lr_commands.specs.Runs.{CutsNothing, MayCause, MayRefuse, at_place, at_entry, at_end}
 use Rattle.lr_commands.specs.Steps.{TextStops, EntryStops}
 
@@ -136,7 +137,7 @@ module _ {D O : Type 0} (disk : DiskOf D) (out : SinkOf O) where
     entry_refused (Some seen) refusal fate = at_entry read number seen fate
 
     pub entry_may : (cause : Cause)
-        → EntryStops (outlets_of disk out) query way read number cause (outlets d o) (outlets d' o')
+        → EntryStops (outlets_of disk out) (standing_at query way read number) cause (outlets d o) (outlets d' o')
         → MayCause query cause
     entry_may Done stops = absurd stops.stops
     entry_may (DoneWith note) stops = absurd stops.stops
@@ -148,7 +149,8 @@ module _ {D O : Type 0} (disk : DiskOf D) (out : SinkOf O) where
     entry_may (Refused refusal) stops = entry_refused stops.seen refusal stops.stops.0
 
     pub entry_untouched : (cause : Cause)
-        → EntryStops (outlets_of disk out) query way read number cause (outlets d o) (outlets d' o') → CutsNothing cause
+        → EntryStops (outlets_of disk out) (standing_at query way read number) cause (outlets d o) (outlets d' o')
+        → CutsNothing cause
         → o' ≡ o
     entry_untouched Done stops cuts = absurd cuts
     entry_untouched (DoneWith note) stops cuts = absurd cuts
@@ -161,7 +163,8 @@ module _ {D O : Type 0} (disk : DiskOf D) (out : SinkOf O) where
 
     -- a sink still tells what it holds
     pub entry_told : (cause : Cause)
-        → EntryStops (outlets_of disk out) query way read number cause (outlets d o) (outlets d' o') → out.tells o
+        → EntryStops (outlets_of disk out) (standing_at query way read number) cause (outlets d o) (outlets d' o')
+        → out.tells o
         → out.tells o'
     entry_told (Failed Disk) stops t = subst (λ (x : O). out.tells x) (sym stops) t
     entry_told (Failed Output) stops t = stops.stops.fails.told t
@@ -173,7 +176,8 @@ module _ {D O : Type 0} (disk : DiskOf D) (out : SinkOf O) where
     entry_told (Failed Source) stops t = absurd stops.stops
 
     pub entry_untold : (cause : Cause)
-        → EntryStops (outlets_of disk out) query way read number cause (outlets d o) (outlets d' o') → out.tells o'
+        → EntryStops (outlets_of disk out) (standing_at query way read number) cause (outlets d o) (outlets d' o')
+        → out.tells o'
         → out.tells o
     entry_untold (Failed Disk) stops t = subst (λ (x : O). out.tells x) stops t
     entry_untold (Failed Output) stops t = stops.stops.fails.untold t
@@ -188,7 +192,7 @@ module _ {D O : Type 0} (disk : DiskOf D) (out : SinkOf O) where
     pub stops_seen : (seen : Option EntryView)
         → (disk.tells d → IsSeen query.looks (disk.contents d) (entry_at way number) seen) → (cause : Cause)
         → TextStops out (fate_of query way read number seen) cause o o'
-        → EntryStops (outlets_of disk out) query way read number cause (outlets d o) (outlets d' o')
+        → EntryStops (outlets_of disk out) (standing_at query way read number) cause (outlets d o) (outlets d' o')
     stops_seen seen stands Done stops = absurd stops
     stops_seen seen stands (DoneWith note) stops = absurd stops
     stops_seen seen stands Usage stops = absurd stops

@@ -6,24 +6,21 @@ use Rattle.lr_shelf.specs.Asked.{entry_of}
 use Rattle.lr_shelf.specs.Kept.{KeptShelf}
 use Rattle.lr_shelf.specs.Read.{FindsFile, IsCheckRefusal, IsGetRefusal}
 use Rattle.lr_shelf.specs.declared.error.ShelfError.{ShelfError}
-use Rattle.lr_shelf.specs.declared.error.ShelfError.TheVariants.{
-  Disk as Disk',
-  NotAShelf as NotAShelf',
-  NotEmpty as NotEmpty',
-  Capacity as Capacity',
-  NoSuchFile as NoSuchFile',
-  Crc as Crc',
-  NoMemory as NoMemory',
-  Failed as Failed',
-  Discarded as Discarded',
-}
+use Rattle.lr_shelf.specs.declared.error.ShelfError.TheVariants.{Disk as Disk'}
+use Rattle.lr_shelf.specs.declared.error.ShelfError.TheVariants.{NotAShelf as NotAShelf'}
+use Rattle.lr_shelf.specs.declared.error.ShelfError.TheVariants.{NotEmpty as NotEmpty'}
+use Rattle.lr_shelf.specs.declared.error.ShelfError.TheVariants.{Capacity as Capacity'}
+use Rattle.lr_shelf.specs.declared.error.ShelfError.TheVariants.{NoSuchFile as NoSuchFile'}
+use Rattle.lr_shelf.specs.declared.error.ShelfError.TheVariants.{Crc as Crc', NoMemory as NoMemory'}
+use Rattle.lr_shelf.specs.declared.error.ShelfError.TheVariants.{Failed as Failed'}
+use Rattle.lr_shelf.specs.declared.error.ShelfError.TheVariants.{Discarded as Discarded'}
 use Rattle.lr_catalog.specs.Discards.{gone_line}
 use Rattle.lr_catalog.specs.Files.{check_line}
 use Rattle.lr_causes.specs.Outside.{outlets, outlets_of}
 use Rattle.lr_causes.specs.declared.cause.Cause.{Cause}
 use Rattle.lr_commands.specs.declared.opened.Opened.{Opened}
 use Rattle.lr_commands.specs.Queries.{EntryView, Whole, Wrong, Absent, plain}
-use Rattle.lr_commands.specs.Steps.{PutsText, TextStops, TakesEntry, EntryStops}
+use Rattle.lr_commands.specs.Steps.{PutsText, TextStops, TakesEntry, EntryStops, standing_at}
 use Rattle.lr_commands.specs.Verify.{none_bad, verify_query}
 use Rattle.lr_commands.proofs.Texts.{stops_seen}
 
@@ -64,11 +61,12 @@ module _ {D O : Type 0} (disk : DiskOf D) (out : SinkOf O) (kept : KeptShelf) (r
     (o o' : O) where
   abbrev Takes : Bool → Type 0
   Takes sound =
-      TakesEntry (outlets_of disk out) verify_query kept.way read number (λ read'. sound ≡ none_bad read')
+      TakesEntry (outlets_of disk out) (standing_at verify_query kept.way read number) (λ read'. sound ≡ none_bad read')
       (outlets d o) (outlets d' o')
 
   abbrev Stops : Cause → Type 0
-  Stops cause = EntryStops (outlets_of disk out) verify_query kept.way read number cause (outlets d o) (outlets d' o')
+  Stops cause = EntryStops (outlets_of disk out) (standing_at verify_query kept.way read number) cause (outlets d o)
+      (outlets d' o')
 
   module _ (right : FindsFile disk (entry_of kept number) d) where
     pub takes_right : (sound : Bool) → sound ≡ none_bad read → PutsText out (Ok (check_line number None)) o o'

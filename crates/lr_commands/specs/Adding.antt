@@ -2,6 +2,7 @@
 -- becomes of the disk.
 use Rattle.std.specs.Prelude.{◌≡◌, ◌⊎◌, ◌+◌, ◌-◌, ◌<◌, ◌≤◌, ℕ, min, Result, Ok, Err, List, [], ◌∷◌, ◌++◌, take, drop}
 use Rattle.lr_bits.specs.Sizes.{most_u64}
+use Rattle.lr_disk.specs.declared.disk.Disk.{Ghosts as DiskOf}
 use Rattle.lr_disk.specs.Reads.{IsUnwritten}
 use Rattle.lr_disk.specs.Pending.{EachImageSince, NothingPending}
 use Rattle.lr_shelf_format.specs.Items.{Item, extent_of, head_of_item, item_bytes}
@@ -112,21 +113,22 @@ IsAdded _ = ⊥
 
 -- ---- a run
 
-module _ {D O : Type 0} (world : OutletsOf D O) (query : AdditionQuery) where
+module _ {D : Type 0} (disk : DiskOf D) where
   -- Over a disk that has this way, whatever its items hold: it has the item at its end, with nothing pending. The bytes
   -- before the last gate and after the new end stay, and between them stand an open gate, the item and a closed gate.
   pub record EndsWith (item : Item) (way : Way) (d d' : D) : Type 0 where
-    pub has : IsWay (world.disk.contents d') (way_added item way)
-    pub outside : StaysOutside (way.end - 1) (way_added item way).end (world.disk.contents d) (world.disk.contents d')
-    pub stands : take (2 + extent_of (head_of_item item)) (drop (way.end - 1) (world.disk.contents d'))
+    pub has : IsWay (disk.contents d') (way_added item way)
+    pub outside : StaysOutside (way.end - 1) (way_added item way).end (disk.contents d) (disk.contents d')
+    pub stands : take (2 + extent_of (head_of_item item)) (drop (way.end - 1) (disk.contents d'))
         ≡ 1 ∷ (item_bytes item ++ 0 ∷ [])
-    pub durable : NothingPending world.disk d'
+    pub durable : NothingPending disk d'
 
   -- or it may have it: the bytes before the last gate and after the new end stay
   pub record MayEndWith (item : Item) (way : Way) (d d' : D) : Type 0 where
-    pub has : HasEitherWay way item (world.disk.contents d')
-    pub outside : StaysOutside (way.end - 1) (way_added item way).end (world.disk.contents d) (world.disk.contents d')
+    pub has : HasEitherWay way item (disk.contents d')
+    pub outside : StaysOutside (way.end - 1) (way_added item way).end (disk.contents d) (disk.contents d')
 
+module _ {D O : Type 0} (world : OutletsOf D O) (query : AdditionQuery) where
   -- the item was added, and its text was put in this manner
   pub record AddsItem (IsPut : List ℕ → O → O → Type 0) (w w' : Outlets D O) : Type 0 where
     pub addition : Addition
@@ -135,7 +137,7 @@ module _ {D O : Type 0} (world : OutletsOf D O) (query : AdditionQuery) where
     pub put : IsPut addition.text w.out w'.out
     -- over every disk that has a way, and over a shelf of these items
     pub way : (way : Way) → world.disk.tells w.disk → IsWay (world.disk.contents w.disk) way
-        → EndsWith addition.item way w.disk w'.disk
+        → EndsWith world.disk addition.item way w.disk w'.disk
     pub stands : (capacity : ℕ) (items : List Item) → world.disk.tells w.disk
         → IsDurable world.disk capacity items w.disk
         → IsDurable world.disk capacity (items ++ addition.item ∷ []) w'.disk
@@ -146,7 +148,7 @@ module _ {D O : Type 0} (world : OutletsOf D O) (query : AdditionQuery) where
     pub made : query.makes addition
     pub decided : world.disk.tells w.disk → MayAdd query (world.disk.contents w.disk) addition
     pub way : (way : Way) → world.disk.tells w.disk → IsWay (world.disk.contents w.disk) way
-        → MayEndWith addition.item way w.disk w'.disk
+        → MayEndWith world.disk addition.item way w.disk w'.disk
     pub stands : (capacity : ℕ) (items : List Item) → world.disk.tells w.disk
         → IsDurable world.disk capacity items w.disk
         → StandsForEither capacity items addition.item (world.disk.contents w'.disk)

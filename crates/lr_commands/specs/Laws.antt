@@ -1,23 +1,6 @@
 -- What is true of all bytes.
-use Rattle.std.specs.Prelude.{
-  ◌≡◌,
-  ◌⊎◌,
-  ◌<◌,
-  ◌≤◌,
-  ◌++◌,
-  ℕ,
-  Bool,
-  true,
-  false,
-  Some,
-  None,
-  Result,
-  Ok,
-  Err,
-  All,
-  List,
-  length,
-}
+use Rattle.std.specs.Prelude.{◌≡◌, ◌⊎◌, ◌<◌, ◌≤◌, ◌++◌, ℕ, Bool, true, false, Some, None, Result}
+use Rattle.std.specs.Prelude.{Ok, Err, All, List, length}
 use Rattle.lr_bits.specs.File.{proper_of}
 use Rattle.lr_image.specs.Pgm.{pgm_text}
 use Rattle.lr_image.specs.Picture.{Picture}
@@ -25,16 +8,8 @@ use Rattle.lr_image.specs.Images.{HasOutcome}
 use Rattle.lr_image.specs.declared.fault.ImageFault.{ImageFault}
 use Rattle.lr_shelf_format.specs.Way.{Way, IsWay, Bad, HasSoundRecord, IsFound, Sound}
 use Rattle.lr_shelf_format.specs.declared.stored.Stored.{Stored}
-use Rattle.lr_commands.specs.Queries.{
-  Query,
-  Answer,
-  entry_at,
-  IsAnswer,
-  IsBegun,
-  IsRefusedFor,
-  PutsOneText,
-  done_answer,
-}
+use Rattle.lr_commands.specs.Queries.{Query, Answer, entry_at, IsAnswer, IsBegun, IsRefusedFor}
+use Rattle.lr_commands.specs.Queries.{PutsOneText, done_answer}
 use Rattle.lr_commands.specs.Export.{export_query}
 use Rattle.lr_commands.specs.Extract.{extract_query}
 use Rattle.lr_refusals.specs.Errors.{image_fault}

@@ -10,8 +10,6 @@ pub mod Laws
 pub mod List
 pub mod Read
 pub mod Reached
-pub mod Render
-pub mod Rendered
 pub mod Repack
 pub mod Runs
 pub mod Show

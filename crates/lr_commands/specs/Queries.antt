@@ -88,15 +88,32 @@ answer_of (Err refusal) told = refused_answer [] refusal
 abbrev pub then_rest : List ℕ → Answer → Answer
 then_rest text rest = record { text = text ++ rest.text; refusal = rest.refusal; note = rest.note }
 
-module _ (query : Query) (bytes : List ℕ) (way : Way) where
+-- what is asked of a shelf of this way
+pub record QueryOn : Type 0 where
+  pub query : Query
+  pub way : Way
+
+abbrev pub query_on : Query → Way → QueryOn
+query_on query way = record { query = query; way = way }
+
+-- and of its bytes
+pub record QueryOver : Type 0 where
+  pub query : Query
+  pub bytes : List ℕ
+  pub way : Way
+
+abbrev pub query_over : Query → List ℕ → Way → QueryOver
+query_over query bytes way = record { query = query; bytes = bytes; way = way }
+
+module _ (over : QueryOver) where
   -- an entry at which the run isn't refused, and what comes after it
   pub record PassesEntry (read : List EntryView) (number : ℕ) (After : EntryView → Answer → Type 0) (answer : Answer)
       : Type 0 where
     pub seen : EntryView
     pub text : List ℕ
     pub rest : Answer
-    pub stands : IsSeen query.looks bytes (entry_at way number) (Some seen)
-    pub fate : query.entry_text read number seen ≡ Ok text
+    pub stands : IsSeen over.query.looks over.bytes (entry_at over.way number) (Some seen)
+    pub fate : over.query.entry_text read number seen ≡ Ok text
     pub after : After seen rest
     pub is : answer ≡ then_rest text rest
 
@@ -104,30 +121,30 @@ module _ (query : Query) (bytes : List ℕ) (way : Way) where
   pub record IsRefusedAtEntry (read : List EntryView) (number : ℕ) (answer : Answer) : Type 0 where
     pub seen : Option EntryView
     pub refusal : Refusal
-    pub stands : IsSeen query.looks bytes (entry_at way number) seen
-    pub fate : fate_of query way read number seen ≡ Err refusal
+    pub stands : IsSeen over.query.looks over.bytes (entry_at over.way number) seen
+    pub fate : fate_of over.query over.way read number seen ≡ Err refusal
     pub is : answer ≡ refused_answer [] refusal
 
   -- the answer of this many entries, from this number on, after those that were seen
   abbrev pub AnswersFrom : (left number : ℕ) → List EntryView → Answer → Type 0
-  AnswersFrom zero number read answer = answer ≡ answer_of (query.last way read) (query.tells read)
+  AnswersFrom zero number read answer = answer ≡ answer_of (over.query.last over.way read) (over.query.tells read)
   AnswersFrom (suc left) number read answer =
       PassesEntry read number (λ seen rest. AnswersFrom left (number + 1) (read ++ seen ∷ []) rest) answer
       ⊎ IsRefusedAtEntry read number answer
 
   abbrev pub AnswersIn : Option Range → Answer → Type 0
-  AnswersIn None answer = answer ≡ refused_answer [] (NoSuchFile (length way.entries))
+  AnswersIn None answer = answer ≡ refused_answer [] (NoSuchFile (length over.way.entries))
   AnswersIn (Some range) answer = AnswersFrom (range.to - range.from) range.from [] answer
 
   -- what the entries of this way answer
   abbrev pub AnswersOn : Answer → Type 0
-  AnswersOn answer = AnswersIn (query.range (length way.entries)) answer
+  AnswersOn answer = AnswersIn (over.query.range (length over.way.entries)) answer
 
 -- no shelf stands there, or one whose entries answer
 abbrev pub IsAnswer : Query → List ℕ → Answer → Type 0
 IsAnswer query bytes answer =
     ((at : ℕ) × IsNoShelfAt bytes at × (answer ≡ refused_answer [] (NotAShelf at)))
-    ⊎ ((way : Way) × IsWay bytes way × AnswersOn query bytes way answer)
+    ⊎ ((way : Way) × IsWay bytes way × AnswersOn (query_over query bytes way) answer)
 
 -- what the command is refused for over these bytes
 abbrev pub IsRefusedFor : Query → List ℕ → Refusal → Type 0
@@ -140,24 +157,25 @@ abbrev pub without_last : Query → Query
 without_last query = record query { last = λ way read. Ok []; tells = λ read. None }
 
 -- the texts of the first entries of the range, this many, after which at least this many are left
-pub record BegunOn (query : Query) (bytes : List ℕ) (way : Way) (passed left : ℕ) (text : List ℕ) : Type 0 where
+pub record BegunOn (over : QueryOver) (passed left : ℕ) (text : List ℕ) : Type 0 where
   pub range : Range
-  pub allowed : query.range (length way.entries) ≡ Some range
+  pub allowed : over.query.range (length over.way.entries) ≡ Some range
   pub inside : range.from + passed + left ≤ range.to
-  pub texts : AnswersFrom (without_last query) bytes way passed range.from [] (done_answer text None)
+  pub texts : AnswersFrom (record over { query = without_last over.query }) passed range.from []
+      (done_answer text None)
 
 -- nothing yet
 abbrev pub IsNothing : ℕ → List ℕ → Type 0
 IsNothing passed text = (passed ≡ 0) × (text ≡ [])
 
 -- nothing yet, or those of this way
-abbrev pub BegunBy : Query → List ℕ → Way → (passed left : ℕ) → List ℕ → Type 0
-BegunBy query bytes way passed left text = IsNothing passed text ⊎ BegunOn query bytes way passed left text
+abbrev pub BegunBy : QueryOver → (passed left : ℕ) → List ℕ → Type 0
+BegunBy over passed left text = IsNothing passed text ⊎ BegunOn over passed left text
 
 -- nothing yet, or those of the way that the bytes have
 abbrev pub IsBegun : Query → List ℕ → (passed left : ℕ) → List ℕ → Type 0
 IsBegun query bytes passed left text =
-    IsNothing passed text ⊎ ((way : Way) × IsWay bytes way × BegunOn query bytes way passed left text)
+    IsNothing passed text ⊎ ((way : Way) × IsWay bytes way × BegunOn (query_over query bytes way) passed left text)
 
 -- ---- commands of one entry
 

@@ -1,39 +1,49 @@
 -- How far a run over the entries of a shelf has come.
 use Rattle.std.specs.Prelude.{◌≡◌, ◌≤◌, ◌-◌, ℕ, Result, Option, List, [], length}
 use Rattle.std.specs.List.{concat}
-use Rattle.lr_io.specs.declared.sink.Sink.{Ghosts as SinkOf}
-use Rattle.lr_disk.specs.declared.disk.Disk.{Ghosts as DiskOf}
 use Rattle.lr_shelf_format.specs.Way.{Way}
+use Rattle.lr_causes.specs.Outside.{Outlets, OutletsOf}
 use Rattle.lr_causes.specs.Puts.{Puts}
 use Rattle.lr_causes.specs.declared.cause.Refusal.{Refusal}
 use Rattle.lr_causes.specs.declared.note.Note.{Note}
 use Rattle.lr_commands.specs.declared.range.Range.{Range}
-use Rattle.lr_commands.specs.Queries.{Query, Answer, AnswersFrom, EntryView, then_rest}
-use Rattle.lr_commands.specs.Read.{AreSeen}
+use Rattle.lr_commands.specs.Queries.{Query, QueryOver, Answer, AnswersFrom, EntryView, query_over, then_rest}
+use Rattle.lr_commands.specs.Read.{AreSeen, entries_seen}
 
 -- The entries before this number were read, and their texts are this text: wherever the range ends after them, and
 -- whatever comes last.
-pub record ReachesEntry (query : Query) (bytes : List ℕ) (way : Way) (from number : ℕ) (read : List EntryView)
-    (text : List ℕ)
-    : Type 0 where
+pub record ReachesEntry (over : QueryOver) (from number : ℕ) (read : List EntryView) (text : List ℕ) : Type 0 where
   pub on : (last : Way → List EntryView → Result (List ℕ) Refusal) (tells : List EntryView → Option Note) (to : ℕ)
       → number ≤ to → (rest : Answer)
-      → AnswersFrom (record query { last = last; tells = tells }) bytes way (to - number) number read rest
-      → AnswersFrom (record query { last = last; tells = tells }) bytes way (to - from) from []
+      → AnswersFrom (record over { query = record (over.query) { last = last; tells = tells } }) (to - number) number
+      read
+      rest
+      → AnswersFrom (record over { query = record (over.query) { last = last; tells = tells } }) (to - from) from []
       (then_rest text rest)
 
+-- a run over the entries of this range, and what it gathers of those that it read
+pub record EntriesRun : Type 1 where
+  pub query : Query
+  pub way : Way
+  pub range : Range
+  pub gathers : List EntryView → Type 0
+
+abbrev pub entries_run : Query → Way → Range → (List EntryView → Type 0) → EntriesRun
+entries_run query way range gathers = record { query = query; way = way; range = range; gathers = gathers }
+
 -- From this disk and `out` on, the entries before this number were read, and their texts put.
-pub record SoFar {D O : Type 0} (disk : DiskOf D) (out : SinkOf O) (query : Query) (way : Way) (range : Range) (d : D)
-    (o : O) (gathers : List EntryView → Type 0) (number : ℕ) (o1 : O) : Type 0 where
+pub record SoFar {D O : Type 0} (world : OutletsOf D O) (run : EntriesRun) (w : Outlets D O) (number : ℕ) (o' : O)
+    : Type 0 where
   pub read : List EntryView
   pub text : List ℕ
-  pub gathered : gathers read
+  pub gathered : run.gathers read
   pub few : length read ≤ number
-  pub after : range.from ≤ number
-  pub puts : Puts out text o o1
-  pub untouched : number ≡ range.from → o1 ≡ o
-  pub reaches : disk.tells d → ReachesEntry query (disk.contents d) way range.from number read text
+  pub after : run.range.from ≤ number
+  pub puts : Puts world.out text w.out o'
+  pub untouched : number ≡ run.range.from → o' ≡ w.out
+  pub reaches : world.disk.tells w.disk
+      → ReachesEntry (query_over run.query (world.disk.contents w.disk) run.way) run.range.from number read text
   pub texts : List (List ℕ)
   pub joined : text ≡ concat texts
-  pub all : length read ≡ number - range.from
-  pub seen : AreSeen disk d query way range.from read texts
+  pub all : length read ≡ number - run.range.from
+  pub seen : AreSeen world.disk w.disk (entries_seen run.query run.way run.range.from read) texts

@@ -47,13 +47,13 @@ repack_refusal (fault.Header size) = Some (CannotRepack Header)
 repack_refusal (fault.File size) = Some (CannotRepack LongFile)
 repack_refusal fault.NoMemory = None
 
-module _ (number block : ℕ) where
-  -- what is decided of what comes of the file
-  abbrev pub DecidesCoded : Way → Stored → Result File RepackFault → Result Addition Refusal → Type 0
-  DecidesCoded way stored (Ok new) result = result ≡ Ok (repack_addition number way stored new)
-  DecidesCoded way stored (Err fault) result =
-      (refusal : Refusal) × (repack_refusal fault ≡ Some refusal) × (result ≡ Err refusal)
+-- what is decided of what comes of the file of this number
+abbrev pub DecidesCoded : ℕ → Way → Stored → Result File RepackFault → Result Addition Refusal → Type 0
+DecidesCoded number way stored (Ok new) result = result ≡ Ok (repack_addition number way stored new)
+DecidesCoded number way stored (Err fault) result =
+    (refusal : Refusal) × (repack_refusal fault ≡ Some refusal) × (result ≡ Err refusal)
 
+module _ (number block : ℕ) where
   -- of what stands at the entry
   abbrev pub DecidesFound : Way → Option EntryState → Result Addition Refusal → Type 0
   DecidesFound way None result = result ≡ Err (NotAShelf (entry_at way number).gate)
@@ -61,7 +61,7 @@ module _ (number block : ℕ) where
   DecidesFound way (Some (Bad stored computed)) result = result ≡ Err BadChecksum
   DecidesFound way (Some (Sound stored)) result =
       (outcome : Result File RepackFault) × HasRepackOutcome stored.file block outcome
-      × DecidesCoded way stored outcome result
+      × DecidesCoded number way stored outcome result
 
   -- of bytes of this way
   abbrev pub DecidesRepack : List ℕ → Way → Result Addition Refusal → Type 0

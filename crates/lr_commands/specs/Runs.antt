@@ -10,18 +10,9 @@ use Rattle.lr_causes.specs.declared.cause.Cause.{Cause}
 use Rattle.lr_causes.specs.declared.cause.Cause.TheVariants.{Done, DoneWith, Failed, NoMemory, Refused}
 use Rattle.lr_causes.specs.declared.note.Note.{Note}
 use Rattle.lr_shelf_format.specs.Way.{Way}
-use Rattle.lr_commands.specs.Queries.{
-  Query,
-  Answer,
-  AnswersOn,
-  BegunBy,
-  IsAnswer,
-  IsBegun,
-  PutsOneText,
-  EntryView,
-  done_answer,
-  refused_answer,
-}
+use Rattle.lr_commands.specs.Queries.{Query, QueryOn, Answer, AnswersOn, BegunBy, IsAnswer, IsBegun}
+use Rattle.lr_commands.specs.Queries.{PutsOneText, EntryView, done_answer, query_over}
+use Rattle.lr_commands.specs.Queries.{refused_answer}
 use Rattle.lr_causes.specs.Causes.{done_with}
 use Rattle.lr_causes.specs.Counts.{CountsTell, NoneBesides}
 use Rattle.lr_causes.specs.Outside.{Outlets, OutletsOf, outlet_counts}
@@ -73,35 +64,56 @@ CutsNothing (Refused refusal) = Unit {0}
 CutsNothing _ = ⊥
 
 -- which answers there are, and which texts are begun
-module _ {O : Type 0} (out : SinkOf O) (MayAnswer : Answer → Type 0)
-    (MayBegin : (passed left : ℕ) → List ℕ → Type 0) where
+pub record Allowed : Type 1 where
+  pub answer : Answer → Type 0
+  pub begin : (passed left : ℕ) → List ℕ → Type 0
+
+-- of these bytes, and of those of a shelf of this way
+abbrev pub allowed_by : Query → List ℕ → Allowed
+allowed_by query bytes = record { answer = IsAnswer query bytes; begin = IsBegun query bytes }
+
+abbrev pub allowed_on : QueryOn → List ℕ → Allowed
+allowed_on on bytes = record {
+  answer = AnswersOn (query_over on.query bytes on.way);
+  begin = BegunBy (query_over on.query bytes on.way);
+}
+
+-- what is asked, and what each list of bytes allows
+pub record Reading : Type 1 where
+  pub query : Query
+  pub allowed : List ℕ → Allowed
+
+abbrev pub reading : Query → (List ℕ → Allowed) → Reading
+reading query allowed = record { query = query; allowed = allowed }
+
+module _ {O : Type 0} (out : SinkOf O) (may : Allowed) where
   -- there is an answer that refuses nothing and tells this, and its text was put
   pub record PutsAll (note : Option Note) (o o' : O) : Type 0 where
     pub text : List ℕ
-    pub is : MayAnswer (done_answer text note)
+    pub is : may.answer (done_answer text note)
     pub put : out.tells o → out.contents o' ≡ out.contents o ++ text
 
   -- the texts of the first entries were put, and at least this many entries are left
   pub record PutsFirst (left : ℕ) (o o' : O) : Type 0 where
     pub passed : ℕ
     pub text : List ℕ
-    pub begun : MayBegin passed left text
+    pub begun : may.begin passed left text
     pub put : out.tells o → out.contents o' ≡ out.contents o ++ text
     pub untouched : passed ≡ 0 → o' ≡ o
 
   -- they are all of an answer with this refusal
   pub record PutsRefused (refusal : Refusal) (o o' : O) : Type 0 where
     pub first : PutsFirst 0 o o'
-    pub is : MayAnswer (refused_answer first.text refusal)
+    pub is : may.answer (refused_answer first.text refusal)
 
   -- `out` failed in the text of an entry, or in the last one: those before it were put, and a part of it
   pub record PutsCut (o o' : O) : Type 0 where
     pub passed : ℕ
     pub text : List ℕ
     pub one : List ℕ
-    pub begun : MayBegin passed 0 text
-    pub next : MayBegin (passed + 1) 0 (text ++ one)
-        ⊎ ((note : Option Note) × MayAnswer (done_answer (text ++ one) note))
+    pub begun : may.begin passed 0 text
+    pub next : may.begin (passed + 1) 0 (text ++ one)
+        ⊎ ((note : Option Note) × may.answer (done_answer (text ++ one) note))
     pub some : 0 < length one
     pub part : out.tells o → PutsPart one (out.contents o ++ text) (out.contents o')
 
@@ -116,10 +128,8 @@ module _ {O : Type 0} (out : SinkOf O) (MayAnswer : Answer → Type 0)
   Got _ o o' = ⊥
 
 module _ {D O : Type 0} (world : OutletsOf D O) where
-  pub record RunsReading (query : Query) (MayAnswer : List ℕ → Answer → Type 0)
-      (MayBegin : List ℕ → (passed left : ℕ) → List ℕ → Type 0)
-      (cause : Cause) (w w' : Outlets D O) : Type 0 where
-    pub may : MayCause query cause
+  pub record RunsReading (asked : Reading) (cause : Cause) (w w' : Outlets D O) : Type 0 where
+    pub may : MayCause asked.query cause
     -- no party failed but the one that the cause names
     pub counted : CountsTell NoneBesides cause (outlet_counts world w) (outlet_counts world w')
     -- nothing on the disk changes
@@ -130,18 +140,17 @@ module _ {D O : Type 0} (world : OutletsOf D O) where
     pub reads : world.disk.tells w.disk → IsUnwritten world.disk w.disk w'.disk
     -- `out` got what the bytes answer; a refusal comes only where it is that of the answer, with its values
     pub got : world.disk.tells w.disk
-        → Got world.out (MayAnswer (world.disk.contents w.disk)) (MayBegin (world.disk.contents w.disk)) cause
-        w.out w'.out
+        → Got world.out (asked.allowed (world.disk.contents w.disk)) cause w.out w'.out
     -- over any disk, where the only text is that of one entry
-    pub untouched : PutsOneText query → CutsNothing cause → w'.out ≡ w.out
+    pub untouched : PutsOneText asked.query → CutsNothing cause → w'.out ≡ w.out
 
   -- a run over the entries of a shelf of this way
-  abbrev pub RunsOn : Query → Way → Cause → Outlets D O → Outlets D O → Type 0
-  RunsOn query way = RunsReading query (λ bytes. AnswersOn query bytes way) (λ bytes. BegunBy query bytes way)
+  abbrev pub RunsOn : QueryOn → Cause → Outlets D O → Outlets D O → Type 0
+  RunsOn on = RunsReading (reading on.query (allowed_on on))
 
   -- a whole run
   pub record RunsOver (query : Query) (cause : Cause) (w w' : Outlets D O) : Type 0 where
-    pub runs : RunsReading query (IsAnswer query) (IsBegun query) cause w w'
+    pub runs : RunsReading (reading query (allowed_by query)) cause w w'
     -- what the bytes answer decides, unless an event comes before: done, or refused for this
     pub ends : (answer : Answer) → world.disk.tells w.disk
         → IsAnswer query (world.disk.contents w.disk) answer

@@ -35,22 +35,31 @@ module _ {O : Type 0} (out : SinkOf O) (fate : Result (List ℕ) Refusal) where
   TextStops (Refused refusal) o o' = (fate ≡ Err refusal) × (o' ≡ o)
   TextStops _ o o' = ⊥
 
-module _ {D O : Type 0} (world : OutletsOf D O) (query : Query) (way : Way) (read : List EntryView)
-    (number : ℕ) where
+-- where a run stands: what it asks, what it saw, and the number of the entry that is next
+pub record AtEntry : Type 0 where
+  pub query : Query
+  pub way : Way
+  pub read : List EntryView
+  pub number : ℕ
+
+abbrev pub standing_at : Query → Way → List EntryView → ℕ → AtEntry
+standing_at query way read number = record { query = query; way = way; read = read; number = number }
+
+module _ {D O : Type 0} (world : OutletsOf D O) (at : AtEntry) where
   -- the text of the entry was put, and it was gathered
   pub record TakesEntry (gathers : List EntryView → Type 0) (w w' : Outlets D O) : Type 0 where
     pub seen : EntryView
     pub stands : world.disk.tells w.disk
-        → IsSeen query.looks (world.disk.contents w.disk) (entry_at way number) (Some seen)
-    pub puts : PutsText world.out (query.entry_text read number seen) w.out w'.out
-    pub gathered : gathers (read ++ seen ∷ [])
+        → IsSeen at.query.looks (world.disk.contents w.disk) (entry_at at.way at.number) (Some seen)
+    pub puts : PutsText world.out (at.query.entry_text at.read at.number seen) w.out w'.out
+    pub gathered : gathers (at.read ++ seen ∷ [])
 
   -- what stands there is known, and its text was not put
   pub record SeenStops (cause : Cause) (w w' : Outlets D O) : Type 0 where
     pub seen : Option EntryView
     pub stands : world.disk.tells w.disk
-        → IsSeen query.looks (world.disk.contents w.disk) (entry_at way number) seen
-    pub stops : TextStops world.out (fate_of query way read number seen) cause w.out w'.out
+        → IsSeen at.query.looks (world.disk.contents w.disk) (entry_at at.way at.number) seen
+    pub stops : TextStops world.out (fate_of at.query at.way at.read at.number seen) cause w.out w'.out
 
   -- why an entry was not taken
   abbrev pub EntryStops : Cause → Outlets D O → Outlets D O → Type 0

@@ -154,13 +154,13 @@ impl<C: ReadsFiles> ReadsEntries for Files<C> {
 
     fn entry<D: Disk, O: Sink>(
         &self,
-        alloc: Global,
         number: u64,
         gathered: &mut C::Gathered,
         shelf: &mut Shelf,
         disk: &mut D,
         out: &mut O,
     ) -> Result<(), Cause> {
+        let alloc = shelf.allocator();
         match file_or_gone(shelf.get(disk, number)) {
             Ok(Some(stored)) => match open(alloc, &self.0, stored) {
                 Ok(opened) => self.0.file(alloc, number, &opened, gathered, out),

@@ -8,7 +8,6 @@ ghost use Rattle.lr_commands.specs.Laws.{
   HasOneAnswer,
   VerifyHasReasons,
 };
-ghost use Rattle.lr_commands.specs.Rendered.{RenderPutsImages};
 
 /// Bytes have an answer to each thing that a command asks: a text, or a refusal.
 pub fn bytes_have_an_answer()
@@ -43,10 +42,4 @@ pub fn export_has_reasons()
 /// What `verify` is refused for, reason by reason.
 pub fn verify_has_reasons()
     ensures { VerifyHasReasons }
-{}
-
-/// `render` puts the images of all entries that aren't gone and have one, joined in their order, where nothing is
-/// refused.
-pub fn render_puts_images()
-    ensures { RenderPutsImages }
 {}

@@ -17,7 +17,7 @@ pub trait ReadsEntries {
     ghost use Rattle.lr_causes.specs.Outside.{outlet_counts, outlets, outlets_of};
     ghost use Rattle.lr_commands.specs.Queries.{Query, EntryView};
     ghost use Rattle.lr_causes.specs.Counts.{CountsTell, NoneBesides};
-    ghost use Rattle.lr_commands.specs.Steps.{PutsText, ReadsOnly, TextStops, TakesEntry, EntryStops};
+    ghost use Rattle.lr_commands.specs.Steps.{PutsText, ReadsOnly, TextStops, TakesEntry, EntryStops, standing_at};
 
     /// What it gathers of the entries.
     type Gathered: Drop;
@@ -41,7 +41,6 @@ pub trait ReadsEntries {
     /// Reads an entry and puts its text. Memory is taken before the text.
     fn entry<D: Disk, O: Sink>(
         &self,
-        alloc: Global,
         number: u64,
         gathered: &mut Self::Gathered,
         shelf: &mut Shelf,
@@ -56,11 +55,11 @@ pub trait ReadsEntries {
             CountsTell NoneBesides cause (outlet_counts (outlets_of D.Disk O.Sink) (outlets disk.old out.old))
             (outlet_counts (outlets_of D.Disk O.Sink) (outlets disk.new out.new))) }
         ensures takes { (read : List EntryView) → length read + 1 < 2 ^ 64 → gathers self.now gathered.old read
-            → OnOk result (TakesEntry (outlets_of D.Disk O.Sink) (query self.now)
-            (kept_by shelf.old).way read number (gathers self.now gathered.new)
+            → OnOk result (TakesEntry (outlets_of D.Disk O.Sink)
+            (standing_at (query self.now) (kept_by shelf.old).way read number) (gathers self.now gathered.new)
             (outlets disk.old out.old) (outlets disk.new out.new)) }
         ensures stops { (read : List EntryView) → gathers self.now gathered.old read → IfErr result (λ cause.
-            EntryStops (outlets_of D.Disk O.Sink) (query self.now) (kept_by shelf.old).way read number
+            EntryStops (outlets_of D.Disk O.Sink) (standing_at (query self.now) (kept_by shelf.old).way read number)
             cause (outlets disk.old out.old) (outlets disk.new out.new)) };
 
     /// Puts the last text, and answers what is told beside it. Memory is taken before the text, and none where there

@@ -1,5 +1,6 @@
 //! The one loop over the entries of a shelf.
 ghost use Rattle.std.specs.Prelude.{◌≡◌, ◌++◌, ℕ, List, false, [], IfErr, IfOk, OnOk};
+ghost use Rattle.lr_commands.specs.Queries.{query_on};
 ghost use Rattle.lr_shelf.specs.Kept.{kept_by};
 ghost use Rattle.lr_causes.specs.Causes.{done_with};
 ghost use Rattle.lr_causes.specs.Outside.{outlets, outlets_of};
@@ -25,16 +26,17 @@ fn take_entries<C: ReadsEntries, D: Disk, O: Sink>(
 ) -> Result<Option<Note>, Cause>
     requires fresh { C.gathers command.now gathered [] }
     requires working { (kept_by shelf.old).failed ≡ false }
-    ensures takes { IfOk result (λ note. RunsOn (outlets_of D.Disk O.Sink) (C.query command.now)
-        (kept_by shelf.old).way (done_with note)
+    ensures takes { IfOk result (λ note. RunsOn (outlets_of D.Disk O.Sink)
+        (query_on (C.query command.now) (kept_by shelf.old).way) (done_with note)
         (outlets disk.old out.old) (outlets disk.new out.new)) }
-    ensures stops { IfErr result (λ cause. RunsOn (outlets_of D.Disk O.Sink) (C.query command.now)
-        (kept_by shelf.old).way cause
+    ensures stops { IfErr result (λ cause. RunsOn (outlets_of D.Disk O.Sink)
+        (query_on (C.query command.now) (kept_by shelf.old).way) cause
         (outlets disk.old out.old) (outlets disk.new out.new)) }
     ensures undone { IfErr result (λ cause. IsDone cause → ⊥) }
     ensures gathers { OnOk result (O.tells out.old → (put : List ℕ)
         × (O.contents out.new ≡ O.contents out.old ++ put)
-        × HasGathered D.Disk disk.old (C.query command.now) (C.gathers command.now) (kept_by shelf.old).way put) }
+        × HasGathered D.Disk disk.old (query_on (C.query command.now) (kept_by shelf.old).way)
+        (C.gathers command.now) put) }
 {
     let count = shelf.len();
     let Some(range) = command.range(count) else {
@@ -42,7 +44,7 @@ fn take_entries<C: ReadsEntries, D: Disk, O: Sink>(
     };
     let mut gathered = gathered;
     for number in range.from..range.to {
-        command.entry(alloc, number, &mut gathered, shelf, disk, out)?;
+        command.entry(number, &mut gathered, shelf, disk, out)?;
     }
     command.last(alloc, gathered, shelf, out)
 }

@@ -58,13 +58,13 @@ impl ReadsEntries for VerifyAll {
 
     fn entry<D: Disk, O: Sink>(
         &self,
-        alloc: Global,
         number: u64,
         sound: &mut bool,
         shelf: &mut Shelf,
         disk: &mut D,
         out: &mut O,
     ) -> Result<(), Cause> {
+        let alloc = shelf.allocator();
         match shelf.check(disk, number) {
             Ok(()) => put_check(alloc, number, None, out),
             Err(error) => match error {

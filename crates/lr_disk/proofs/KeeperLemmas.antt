@@ -1,64 +1,17 @@
 -- Each list of bytes that keeps what the pending writes and cuts don't leave open is a crash image.
-use Rattle.std.proofs.Common.{
-  ◌≡◌,
-  inl,
-  inr,
-  ℕ,
-  ◌+◌,
-  ◌-◌,
-  ◌<◌,
-  ◌≤◌,
-  min,
-  max,
-  List,
-  [],
-  ◌∷◌,
-  ◌++◌,
-  length,
-  get_or,
-  take,
-  drop,
-  map,
-  refl,
-  sym,
-  ◌∙◌,
-  ap,
-  subst,
-  arith,
-  length-append,
-  length-take,
-  length-drop,
-}
+use Rattle.std.proofs.Common.{◌≡◌, inl, inr, ℕ, ◌+◌, ◌-◌, ◌<◌, ◌≤◌, min, max, List, [], ◌∷◌, ◌++◌}
+use Rattle.std.proofs.Common.{length, get_or, take, drop, map, refl, sym, ◌∙◌, ap, subst, arith}
+use Rattle.std.proofs.Common.{length-append, length-take, length-drop}
 use Rattle.std.specs.List.{range_with_len}
 use Rattle.std.proofs.lemmas.Bool.{cases_lt}
-use Rattle.std.proofs.lemmas.List.{
-  take_at,
-  drop_at,
-  take_all,
-  drop_all,
-  take-append-le,
-  append-nil,
-  get_or_append_left,
-  get_or-append_right,
-  get_or-take,
-  get_or-drop,
-  nil_from_length,
-}
+use Rattle.std.proofs.lemmas.List.{take_at, drop_at, take_all, drop_all, take-append-le, append-nil}
+use Rattle.std.proofs.lemmas.List.{get_or_append_left, get_or-append_right, get_or-take}
+use Rattle.std.proofs.lemmas.List.{get_or-drop, nil_from_length}
 use Rattle.std.proofs.lemmas.Grind.{same_number_lists}
 use Rattle.std.proofs.lemmas.List.FromFn.{length-map-range_with_len, get_or-map-range_with_len}
 use Rattle.lr_disk.specs.Disk.{Torn, Cut}
-use Rattle.lr_disk.specs.Mem.{
-  Pending,
-  State,
-  torn,
-  cut,
-  IsImage,
-  IsCrashImageOf,
-  after,
-  after_all,
-  at_start,
-  step_contents,
-}
+use Rattle.lr_disk.specs.Mem.{Pending, State, torn, cut, IsImage, IsCrashImageOf, after, after_all}
+use Rattle.lr_disk.specs.Mem.{at_start, step_contents}
 use Rattle.lr_disk.specs.declared.past.Call.{Call}
 use Rattle.lr_disk.specs.declared.past.Call.TheVariants.{Kept, Wrote, Shortened, Synced}
 use Rattle.lr_disk.proofs.RangeLemmas.{no_longer_than}

@@ -1,9 +1,10 @@
 -- How a run of calls goes on.
-use Rattle.std.proofs.Common.{◌≡◌, inl, inr, ⊎_elim, ℕ, List, refl, ◌∙◌, arith}
-use Rattle.lr_disk.specs.Disk.{Elapses, LeavesOnly, SameImages}
+use Rattle.std.proofs.Common.{◌≡◌, inl, inr, ⊎_elim, ℕ, ◌+◌, List, length, refl, sym, ◌∙◌, subst, arith}
+use Rattle.std.proofs.lemmas.List.{take_all}
+use Rattle.lr_disk.specs.Disk.{Cut, Elapses, FollowsWrite, LeavesOnly, NoOther, SameImages}
 use Rattle.lr_disk.specs.Reads.{IsUnwritten}
 use Rattle.lr_disk.specs.declared.disk.Disk.{Ghosts as DiskOf}
-use Rattle.lr_disk.specs.Pending.{EachImageSince}
+use Rattle.lr_disk.specs.Pending.{EachImageSince, NothingPending}
 
 module _ {D : Type 0} (moment : D → ℕ) (left_since : D → ℕ → List ℕ → Type 0) where
   -- what is left has a weaker property too
@@ -85,3 +86,40 @@ module _ {D : Type 0} (disk : DiskOf D) where
         second.any_moment
         );
   }
+
+-- ---- a cut
+
+-- bytes of which nothing was cut off
+pub Cut-refl : (n : ℕ) (bytes : List ℕ) → Cut n bytes bytes
+Cut-refl n bytes = record {
+  kept = n + length bytes;
+  enough = omega arith;
+  front =
+      sym (take_all (n + length bytes) bytes (omega arith));
+}
+
+module _ {D : Type 0} (disk : DiskOf D)
+    (only_now : (d : D) (c : List ℕ) → disk.tells d → disk.left_since d (disk.moment d) c → disk.may_leave d c)
+    {n : ℕ} {old mid : D} (told : disk.tells old) (durable : NothingPending disk old)
+    (crash : FollowsWrite (Cut n) (disk.may_leave old) (disk.may_leave mid))
+    (time : Elapses (disk.moment old) (disk.moment mid) (disk.left_since old) (disk.left_since mid)
+    (disk.may_leave mid)) where
+  images_are_cuts : (c : List ℕ) → disk.may_leave mid c → Cut n (disk.contents old) c
+  images_are_cuts c image =
+      let step = crash c image in subst (λ l. Cut n l c) (durable step.0 step.1) step.2
+
+  -- where nothing was pending, a cut leaves only cuts of the contents at any moment
+  pub cut_moments : EachImageSince disk old mid (Cut n (disk.contents old))
+  cut_moments =
+      one_call disk only_now old mid _ told
+      (λ c image. subst (Cut n (disk.contents old)) (sym (durable c image)) (Cut-refl n (disk.contents old)))
+      images_are_cuts time
+
+  -- and so does a sync after it
+  pub cut_sync_moments : {new : D} → disk.tells mid → NoOther (disk.may_leave mid) (disk.may_leave new)
+      → Elapses (disk.moment mid) (disk.moment new) (disk.left_since mid) (disk.left_since new) (disk.may_leave new)
+      → EachImageSince disk old new (Cut n (disk.contents old))
+  cut_sync_moments {new} told_then kept time_then =
+      joined disk.moment disk.left_since old mid new _ cut_moments
+      (one_call disk only_now mid new _ told_then images_are_cuts (λ c image. images_are_cuts c (kept c image))
+      time_then)

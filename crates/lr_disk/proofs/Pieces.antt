@@ -3,11 +3,12 @@ use Rattle.std.proofs.Common.{◌≡◌, ℕ, ◌+◌, ◌-◌, ◌<◌, ◌≤�
 use Rattle.std.proofs.Common.{inl, inr, ⊎_elim, subst, arith, length-append, length-take, length-drop}
 use Rattle.std.proofs.lemmas.Bool.{cases_lt}
 use Rattle.std.proofs.Math.Seq.{take-add, take-append-add}
-use Rattle.std.proofs.lemmas.List.{drop-drop, drop-take, take-take, take_all}
+use Rattle.std.proofs.lemmas.List.{drop-drop, drop-take, take-take}
 use Rattle.std.proofs.lemmas.Slice.{take-put_mid}
 use borrow.Rule.Slice.PartMut.{put_mid}
 use Rattle.lr_disk.specs.Disk.{Cut, Elapses, FollowsWrite, KeepsImages, SameImages, Torn, Written}
 use Rattle.lr_disk.specs.Mem.{written_torn}
+use Rattle.lr_disk.proofs.Moments.{Cut-refl}
 
 -- what was read, and one piece more
 pub read_on : (at filled count size : ℕ) (into piece contents : List ℕ) → filled ≤ length into
@@ -162,11 +163,7 @@ module _ (at done : ℕ) (bytes rest old mid : List ℕ) (within : done ≤ leng
 
 -- nothing is cut off
 pub uncut : (n : ℕ) (old new : List ℕ → Type 0) → SameImages old new → FollowsWrite (Cut n) old new
-uncut n old new same c image = (
-  c,
-  (same c).0 image,
-  record { kept = n + length c; enough = omega arith; front = sym (take_all (n + length c) c (omega arith)) },
-)
+uncut n old new same c image = (c, (same c).0 image, Cut-refl n c)
 
 -- one call after another, where the second leaves what the first might have left
 pub elapsed_on : {before mid now : ℕ} (past between since : ℕ → List ℕ → Type 0) (image image' : List ℕ → Type 0)

@@ -1,26 +1,6 @@
 -- Each crash image keeps what the pending writes and cuts don't leave open.
-use Rattle.std.proofs.Common.{
-  ◌≡◌,
-  ◌⊎◌,
-  inl,
-  inr,
-  ℕ,
-  ◌+◌,
-  ◌-◌,
-  ◌<◌,
-  ◌≤◌,
-  min,
-  List,
-  [],
-  ◌∷◌,
-  length,
-  get_or,
-  sym,
-  ◌∙◌,
-  ap,
-  arith,
-  length-take,
-}
+use Rattle.std.proofs.Common.{◌≡◌, ◌⊎◌, inl, inr, ℕ, ◌+◌, ◌-◌, ◌<◌, ◌≤◌, min, List, [], ◌∷◌, length}
+use Rattle.std.proofs.Common.{get_or, sym, ◌∙◌, ap, arith, length-take}
 use Rattle.std.proofs.lemmas.List.{get_or-take, get_or-drop}
 use Rattle.lr_disk.specs.Disk.{Torn}
 use Rattle.lr_disk.specs.Mem.{Pending, torn, cut, IsCrashImageOf}

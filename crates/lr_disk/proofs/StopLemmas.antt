@@ -1,59 +1,13 @@
 -- What a stop leaves is a crash image.
-use Rattle.std.proofs.Common.{
-  ◌≡◌,
-  ◌⊎◌,
-  inl,
-  inr,
-  ℕ,
-  ◌+◌,
-  ◌-◌,
-  ◌<◌,
-  ◌≤◌,
-  min,
-  max,
-  List,
-  [],
-  ◌∷◌,
-  ◌++◌,
-  length,
-  get_or,
-  take,
-  drop,
-}
-use Rattle.std.proofs.Common.{
-  append_assoc,
-  Bool,
-  true,
-  false,
-  if◌then◌else◌,
-  ◌==◌,
-  refl,
-  sym,
-  ◌∙◌,
-  ap,
-  subst,
-  arith,
-  length-append,
-  length-take,
-  length-drop,
-}
+use Rattle.std.proofs.Common.{◌≡◌, ◌⊎◌, inl, inr, ℕ, ◌+◌, ◌-◌, ◌<◌, ◌≤◌, min, max, List, [], ◌∷◌}
+use Rattle.std.proofs.Common.{◌++◌, length, get_or, take, drop}
+use Rattle.std.proofs.Common.{append_assoc, Bool, true, false, if◌then◌else◌, ◌==◌, refl, sym, ◌∙◌}
+use Rattle.std.proofs.Common.{ap, subst, arith, length-append, length-take, length-drop}
 use Rattle.std.proofs.lemmas.List.{take_all, take_at, drop_at, length-replicate}
 use Rattle.std.specs.Prelude.{replicate}
 use Rattle.lr_disk.specs.Disk.{Torn}
-use Rattle.lr_disk.specs.Mem.{
-  Pending,
-  State,
-  torn,
-  cut,
-  after,
-  after_all,
-  at_start,
-  over_written,
-  state_at,
-  IsImage,
-  IsCrashImageOf,
-  step_contents,
-}
+use Rattle.lr_disk.specs.Mem.{Pending, State, torn, cut, after, after_all, at_start, over_written}
+use Rattle.lr_disk.specs.Mem.{state_at, IsImage, IsCrashImageOf, step_contents}
 use Rattle.lr_disk.specs.Stop.{with_filler, filled_between, inside, left_of_kind}
 use Rattle.lr_disk.specs.declared.past.Call.{Call}
 use Rattle.lr_disk.specs.declared.past.Call.TheVariants.{Kept, Wrote, Shortened, Synced}

@@ -1,17 +1,8 @@
 -- A disk in memory keeps what it had at first and each call. What a crash may leave follows from these.
 use Rattle.std.specs.Prelude.{◌≡◌, ◌≤◌, ◌+◌, ◌-◌, ℕ, min, max, List, [], ◌∷◌, ◌++◌, length, take, drop, replicate, refl}
 use Rattle.std.proofs.Common.{inl, inr, sym, ◌∙◌, ap, subst, arith, length-append, length-take, length-drop}
-use Rattle.std.proofs.lemmas.List.{
-  take_at,
-  drop_at,
-  take_all,
-  drop_all,
-  take-take,
-  take-append-le,
-  drop-append-le,
-  append-nil,
-  length-replicate,
-}
+use Rattle.std.proofs.lemmas.List.{take_at, drop_at, take_all, drop_all, take-take, take-append-le}
+use Rattle.std.proofs.lemmas.List.{drop-append-le, append-nil, length-replicate}
 use Rattle.std.proofs.lemmas.Bool.{cases_lt}
 use Rattle.lr_disk.specs.Disk.{Written, Torn, Cut}
 use Rattle.lr_disk.specs.declared.past.Call.{Call}

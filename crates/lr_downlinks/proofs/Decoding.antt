@@ -1,11 +1,10 @@
 -- A stream is led to its files, window by window.
-use Rattle.std.proofs.Common.{◌≡◌, ◌⊎◌, inl, inr, Some, None, ◌<◌, ◌≤◌, ◌+◌, ◌-◌, ℕ, ℤ, Bool, true, false, not, ◌^◌}
+use Rattle.std.proofs.Common.{◌≡◌, ◌⊎◌, inl, inr, Some, None, ◌<◌, ◌≤◌, ◌+◌, ◌-◌, ℕ, ℤ, Bool, true, false, ◌^◌}
 use Rattle.std.proofs.Common.{List, [], ◌∷◌, ◌++◌, length, map, take, drop, refl, sym, ap, ◌∙◌, subst, arith}
 use Rattle.std.proofs.Common.{length-append, length-drop}
-use Rattle.std.specs.Prelude.{count_by, cond}
+use Rattle.std.specs.Prelude.{cond}
 use Rattle.std.proofs.lemmas.List.{length-map, length-take-le, map_push, take_all}
 use Rattle.std.proofs.lemmas.Bool.{cases_lt}
-use Rattle.std.proofs.lemmas.List.Sums.{sum_by-cons}
 use Rattle.std.proofs.Math.Seq.{take-add}
 use Rattle.lr_bits.specs.declared.outcome.Outcome.{Outcome}
 use Rattle.lr_bits.specs.declared.placed.Placed.{Placed}
@@ -13,8 +12,8 @@ use Rattle.lr_conv.specs.Marker.{tail_of}
 use Rattle.lr_conv.specs.declared.line.LineCode.{LineCode}
 use Rattle.lr_frame.proofs.Given.{all_outcomes, outcomes_stay}
 use Rattle.lr_frame.specs.Outcomes.{outcome_in, outcome_of_window, outcomes_of_symbols}
-use Rattle.lr_bits.specs.Outcomes.{is_restored}
 use Rattle.lr_bits.specs.declared.sizes.TheConstants.{FRAME_SYMBOLS}
+use Rattle.lr_layers.proofs.Pushing.{both_kinds}
 use Rattle.lr_layers.specs.Layers.{numbers_of, CountsView}
 use Rattle.lr_layers.specs.Origins.{placed_of_outcomes, placed_packets}
 use Rattle.lr_layers.specs.Standing.{AddsFiles, KeptLayers, LayersStandFor}
@@ -25,36 +24,10 @@ use Rattle.lr_lock.specs.Steps.{GivesWindow, HasEnded, WantsMore}
 use Rattle.lr_lock.specs.Symbols.{symbols_of}
 use Rattle.lr_lock.specs.Windows.{WindowView, window_view}
 use Rattle.lr_lock.specs.declared.frame.Frame.{Frame}
-use Rattle.lr_downlinks.specs.Decoding.{
-  FeedsMore,
-  DecodesOn,
-  IsDecodedSoFar,
-  IsFed,
-  ShowsWindow,
-  outcomes_given,
-  decode_steps_left,
-}
+use Rattle.lr_downlinks.specs.Decoding.{FeedsMore, DecodesOn, IsDecodedSoFar, IsFed, ShowsWindow}
+use Rattle.lr_downlinks.specs.Decoding.{outcomes_given, decode_steps_left, coded_stream, given_by}
 use Rattle.lr_downlinks.specs.Streams.{files_of_stream}
 use Rattle.lr_downlinks.specs.declared.sizes.TheConstants.{MOST_STREAM_SYMBOLS}
-
--- ---- counts
-
--- an outcome is restored or lost
-both_kinds : (outcomes : List Outcome) → count_by is_restored outcomes
-    + count_by (λ o. not (is_restored o)) outcomes ≡ length outcomes
-both_kinds [] = refl
-both_kinds (o ∷ outcomes) =
-    omega (
-      arith,
-      sum_by-cons (λ x. cond (is_restored x) 1 0) o outcomes,
-      sum_by-cons (λ x. cond (not (is_restored x)) 1 0) o outcomes,
-      both_kinds outcomes,
-      one_kind (is_restored o),
-    )
-  where
-    one_kind : (b : Bool) → cond b 1 0 + cond (not b) 1 0 ≡ 1
-    one_kind true = refl
-    one_kind false = refl
 
 -- what is fed is a part of the rest
 pub feeds_rest : (stream : List ℕ) (taken : ℕ) (lock new : LockState) (size : ℕ)
@@ -67,11 +40,13 @@ feeds_rest stream taken lock new size more =
 module _ (line : LineCode) (stream : List ℕ) where
   -- ---- feeding
 
-  module _ (fed : ℕ) (given : List Frame) (now : ℕ) (lock : LockState) (on : DecodesOn line stream fed given now lock)
+  module _ (fed : ℕ) (given : List Frame) (now : ℕ) (lock : LockState) (on : DecodesOn (coded_stream line stream)
+      (given_by fed given) now lock)
       (later : LockState) (line_stays : later.line ≡ lock.line) (finished : later.finished ≡ lock.finished) where
     -- it wants more
-    pub wanted : WantsMore lock later (symbols_of (take now stream)) given → length later.kept ≤ length lock.kept
-        → DecodesOn line stream fed given now later
+    pub wanted : WantsMore (record { before = lock; later = later }) (symbols_of (take now stream)) given
+        → length later.kept ≤ length lock.kept
+        → DecodesOn (coded_stream line stream) (given_by fed given) now later
     wanted wants passes = record {
       is_fed = record {
         inside = on.is_fed.inside;
@@ -83,9 +58,10 @@ module _ (line : LineCode) (stream : List ℕ) where
       same = on.same;
     }
 
-    pub window_shown : (seen : WindowView) → GivesWindow lock later seen (symbols_of (take now stream)) given
+    pub window_shown : (seen : WindowView)
+        → GivesWindow (record { before = lock; later = later }) seen (symbols_of (take now stream)) given
         → length later.kept + FRAME_SYMBOLS ≤ length lock.kept
-        → ShowsWindow line stream fed given later seen (Some now)
+        → ShowsWindow (coded_stream line stream) (given_by fed given) later seen (Some now)
     window_shown seen gives shorter = (
       gives.frame,
       record {
@@ -100,8 +76,9 @@ module _ (line : LineCode) (stream : List ℕ) where
       on.same,
     )
 
-    pub all_shown : (seen : WindowView) → HasEnded lock later (symbols_of (take now stream)) given
-        → ShowsWindow line stream fed given later seen None
+    pub all_shown : (seen : WindowView)
+        → HasEnded (record { before = lock; later = later }) (symbols_of (take now stream)) given
+        → ShowsWindow (coded_stream line stream) (given_by fed given) later seen None
     all_shown seen ended =
         let whole : now ≡ length stream = on.is_fed.ended ended.closed in
         let all : AreFrames (tail_of line) (symbols_of (take now stream)) given =
@@ -109,7 +86,7 @@ module _ (line : LineCode) (stream : List ℕ) where
         ended.all in (
           subst (λ (l : List ℕ). AreFrames (tail_of line) (symbols_of l) given)
               (ap (λ (n : ℕ). take n stream) whole ∙ take_all (length stream) stream (omega arith)) all,
-          ap (λ (n : ℕ). outcomes_given line stream n given) (sym whole) ∙ on.same,
+          ap (λ (n : ℕ). outcomes_given (coded_stream line stream) (given_by n given)) (sym whole) ∙ on.same,
         )
 
   -- what the finish counts
@@ -153,20 +130,21 @@ module _ (line : LineCode) (stream : List ℕ) where
         )
 
   -- symbols are fed, or the lock is finished
-  pub fed_on : (fed : ℕ) (given : List Frame) (now : ℕ) (lock : LockState) → DecodesOn line stream fed given now lock
+  pub fed_on : (fed : ℕ) (given : List Frame) (now : ℕ) (lock : LockState)
+      → DecodesOn (coded_stream line stream) (given_by fed given) now lock
       → lock.finished ≡ false → (new : LockState) (size : ℕ) → FeedsMore lock new (drop now stream) size
-      → DecodesOn line stream fed given (now + size) new
+      → DecodesOn (coded_stream line stream) (given_by fed given) (now + size) new
   unfolding outcomes_given
   fed_on fed given now lock on unfinished new size more =
       by_size (cases_lt 0 size)
     where
-      is : IsFed line stream now lock given
+      is : IsFed (coded_stream line stream) (given_by now given) lock
       is = on.is_fed
 
       grown : take (now + size) stream ≡ take now stream ++ take size (drop now stream)
       grown = take-add now size stream
 
-      some : 0 < size → DecodesOn line stream fed given (now + size) new
+      some : 0 < size → DecodesOn (coded_stream line stream) (given_by fed given) (now + size) new
       some more_than = record {
         is_fed = record {
           inside = omega (arith, more.inside, length-drop now stream, is.inside);
@@ -200,11 +178,12 @@ module _ (line : LineCode) (stream : List ℕ) where
               ∙ unfinished in
               cc (e, open_is)
 
-      none : size ≡ 0 → DecodesOn line stream fed given (now + size) new
+      none : size ≡ 0 → DecodesOn (coded_stream line stream) (given_by fed given) (now + size) new
       none zero_is =
           let nothing : length stream ≤ now =
           omega (arith, length-drop now stream, ap (λ (l : List ℕ). length l) (more.ended zero_is)) in
-          subst (λ (n : ℕ). DecodesOn line stream fed given n new) (omega (arith, zero_is)) (record {
+          subst (λ (n : ℕ). DecodesOn (coded_stream line stream) (given_by fed given) n new) (omega
+          (arith, zero_is)) (record {
             is_fed = record {
               inside = is.inside;
               line_is = ap (λ (l : LockState). l.line) (more.finished zero_is) ∙ is.line_is;
@@ -215,19 +194,20 @@ module _ (line : LineCode) (stream : List ℕ) where
             same = on.same;
           })
 
-      by_size : (0 < size) ⊎ (size ≤ 0) → DecodesOn line stream fed given (now + size) new
+      by_size : (0 < size) ⊎ (size ≤ 0) → DecodesOn (coded_stream line stream) (given_by fed given) (now + size) new
       by_size (inl more_than) = some more_than
       by_size (inr none_is) = none (omega (arith, none_is))
 
-  pub begun : (given : List Frame) (fed : ℕ) (lock : LockState) → IsFed line stream fed lock given
-      → DecodesOn line stream fed given fed lock
+  pub begun : (given : List Frame) (fed : ℕ) (lock : LockState)
+      → IsFed (coded_stream line stream) (given_by fed given) lock
+      → DecodesOn (coded_stream line stream) (given_by fed given) fed lock
   begun given fed lock is = record { is_fed = is; same = refl }
 
   -- ---- files
 
   -- nothing was fed yet
   pub decoded_none : (lock : LockState) (layers : KeptLayers) → LockStandsFor lock [] [] → lock.line ≡ line
-      → lock.finished ≡ false → LayersStandFor layers [] → IsDecodedSoFar line stream 0 lock layers []
+      → lock.finished ≡ false → LayersStandFor layers [] → IsDecodedSoFar (coded_stream line stream) 0 lock layers []
   unfolding outcomes_given placed_of_outcomes placed_packets
   decoded_none lock layers stands line_is unfinished layers_stand = record {
     given = [];
@@ -244,7 +224,7 @@ module _ (line : LineCode) (stream : List ℕ) where
 
   -- how many outcomes the layers have
   pub outcomes_few : (fed : ℕ) (lock : LockState) (layers : KeptLayers) (files : List Placed)
-      → IsDecodedSoFar line stream fed lock layers files → length stream ≤ MOST_STREAM_SYMBOLS
+      → IsDecodedSoFar (coded_stream line stream) fed lock layers files → length stream ≤ MOST_STREAM_SYMBOLS
       → layers.numbers.restored + layers.numbers.lost < 2 ^ 48
   unfolding outcomes_given
   outcomes_few fed lock layers files is few =
@@ -263,26 +243,28 @@ module _ (line : LineCode) (stream : List ℕ) where
 
   -- one window more
   pub decoded_more : (fed : ℕ) (lock : LockState) (layers : KeptLayers) (files : List Placed)
-      → (is : IsDecodedSoFar line stream fed lock layers files) → (now : ℕ) (later : LockState) (seen : WindowView)
-      → ShowsWindow line stream fed is.given later seen (Some now)
+      → (is : IsDecodedSoFar (coded_stream line stream) fed lock layers files)
+      → (now : ℕ) (later : LockState) (seen : WindowView)
+      → ShowsWindow (coded_stream line stream) (given_by fed is.given) later seen (Some now)
       → (outcome : Outcome) → outcome ≡ outcome_of_window seen.line seen.symbols → (layers' : KeptLayers)
       (files' : List Placed)
       → ((outcomes : List Outcome) → LayersStandFor layers outcomes
       → LayersStandFor layers' (outcomes ++ outcome ∷ []) × AddsFiles outcomes outcome files files')
-      → IsDecodedSoFar line stream now later layers' files'
+      → IsDecodedSoFar (coded_stream line stream) now later layers' files'
   unfolding outcomes_given
   decoded_more fed lock layers files is now later seen shows outcome outcome_is layers' files' pushed =
       let frame = shows.0 in
       let symbols = symbols_of (take now stream) in
-      let before : map (outcome_in line symbols) is.given ≡ outcomes_given line stream fed is.given = shows.3 in
+      let before : map (outcome_in line symbols) is.given ≡ outcomes_given (coded_stream line stream)
+      (given_by fed is.given) = shows.3 in
       let here : outcome ≡ outcome_in line symbols frame =
       outcome_is ∙ ap (λ (w : WindowView). outcome_of_window w.line w.symbols) shows.2 in
       let all : map (outcome_in line symbols) (is.given ++ frame ∷ [])
-      ≡ outcomes_given line stream fed is.given ++ outcome ∷ [] =
+      ≡ outcomes_given (coded_stream line stream) (given_by fed is.given) ++ outcome ∷ [] =
       map_push (outcome_in line symbols) is.given frame
       ∙ ap (λ (l : List Outcome). l ++ outcome_in line symbols frame ∷ []) before
-      ∙ ap (λ (o : Outcome). outcomes_given line stream fed is.given ++ o ∷ []) (sym here) in
-      let step = pushed (outcomes_given line stream fed is.given) is.layers_stand in
+      ∙ ap (λ (o : Outcome). outcomes_given (coded_stream line stream) (given_by fed is.given) ++ o ∷ []) (sym here) in
+      let step = pushed (outcomes_given (coded_stream line stream) (given_by fed is.given)) is.layers_stand in
       record {
         given = is.given ++ frame ∷ [];
         is_fed = shows.1;
@@ -294,8 +276,10 @@ module _ (line : LineCode) (stream : List ℕ) where
 
   -- all windows are done
   pub decoded_all : (fed : ℕ) (lock : LockState) (layers : KeptLayers) (files : List Placed)
-      → (is : IsDecodedSoFar line stream fed lock layers files) → (later : LockState) (seen : WindowView)
-      → ShowsWindow line stream fed is.given later seen None → files ≡ files_of_stream line stream
+      → (is : IsDecodedSoFar (coded_stream line stream) fed lock layers files)
+      → (later : LockState) (seen : WindowView)
+      → ShowsWindow (coded_stream line stream) (given_by fed is.given) later seen None
+      → files ≡ files_of_stream line stream
   unfolding outcomes_given files_of_stream
   decoded_all fed lock layers files is later seen shows =
       let whole : take (length stream) stream ≡ stream = take_all (length stream) stream (omega arith) in

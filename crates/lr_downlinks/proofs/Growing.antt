@@ -11,15 +11,9 @@ use Rattle.lr_shelf_format.specs.Way.{IsWay, Way, way_with}
 use Rattle.lr_shelf.specs.Adding.{StaysOutside}
 use Rattle.lr_shelf.specs.Adds.{Adds, last_gate, new_end}
 use Rattle.lr_shelf.specs.Append.{item_for}
-use Rattle.lr_shelf.specs.InitialShelves.{
-  InitialShelf,
-  IsSettledOn,
-  KeepsOn,
-  LeavesPrefixes,
-  StandsForPrefix,
-  StandsWith,
-}
-use Rattle.lr_shelf.specs.Kept.{KeptShelf, kept_by}
+use Rattle.lr_shelf.specs.InitialShelves.{InitialShelf, IsSettledOn, KeepsOn, LeavesPrefixes}
+use Rattle.lr_shelf.specs.InitialShelves.{StandsForPrefix, StandsWith}
+use Rattle.lr_shelf.specs.Kept.{KeptShelf, kept_by, shelf_on}
 use Rattle.lr_shelf.specs.Shelf.{HasEitherWay, KeepsWay}
 use Rattle.lr_shelf.specs.declared.error.ShelfError.{ShelfError}
 use Rattle.lr_shelf.specs.declared.error.ShelfError.TheVariants.{Disk}
@@ -36,7 +30,7 @@ use Rattle.lr_downlinks.specs.Appended.{HasAppended, MayHaveAppended}
 module _ {D : Type 0} (disk : DiskOf D)
     (only_now : (d : D) (c : List ℕ) → disk.tells d → disk.left_since d (disk.moment d) c → disk.may_leave d c)
     (shelf : Shelf) (d : D) where
-  pub none_appended : HasAppended disk shelf d [] d
+  pub none_appended : HasAppended disk (shelf_on shelf d) [] d
   none_appended = record {
     told = λ t. t;
     untold = λ t. t;
@@ -67,7 +61,7 @@ module _ {D : Type 0} (disk : DiskOf D)
 
 module _ {D : Type 0} (disk : DiskOf D) (shelf : Shelf) (d : D) (files : List Placed) (placed : Placed)
     (old new : Shelf) (mid d' : D) (way_is : (kept_by old).way ≡ way_with_files files (kept_by shelf).way)
-    (so_far : HasAppended disk shelf d files mid) where
+    (so_far : HasAppended disk (shelf_on shelf d) files mid) where
   gate_later : last_gate (kept_by shelf) ≤ last_gate (kept_by old)
   gate_later = omega (arith, end_later files (kept_by shelf).way, ap (λ (w : Way). w.end) way_is)
 
@@ -91,7 +85,8 @@ module _ {D : Type 0} (disk : DiskOf D) (shelf : Shelf) (d : D) (files : List Pl
   keeps_way : disk.tells d → KeepsWay (disk.contents d) shelf → KeepsWay (disk.contents mid) old
   keeps_way t keeps = subst (IsWay (disk.contents mid)) (sym way_is) (so_far.way t keeps)
 
-  module _ {A : Type 0} (result : Result A ShelfError) (adds : Adds disk (item_for placed) old new mid d' result) where
+  module _ {A : Type 0} (result : Result A ShelfError) (adds : Adds disk (item_for placed) (shelf_on old mid)
+      (shelf_on new d') result) where
     outside_moments : disk.tells d → NothingPending disk d
         → EachImageSince disk d d'
         (StaysOutside (last_gate (kept_by shelf)) (way_with_files (files ++ placed ∷ []) (kept_by shelf).way).end
@@ -122,7 +117,7 @@ module _ {D : Type 0} (disk : DiskOf D) (shelf : Shelf) (d : D) (files : List Pl
     }
 
     fronts_moments : {A : Type 0} (result : Result A ShelfError)
-        → Adds disk (item_for placed) old new mid d' result → (initial : InitialShelf)
+        → Adds disk (item_for placed) (shelf_on old mid) (shelf_on new d') result → (initial : InitialShelf)
         → IsSettledOn initial [] disk shelf d
         → LeavesPrefixes disk initial (files ++ placed ∷ []) d d'
     fronts_moments result adds initial s =
@@ -131,8 +126,9 @@ module _ {D : Type 0} (disk : DiskOf D) (shelf : Shelf) (d : D) (files : List Pl
         (settled_mid initial s))
 
     -- the file was appended
-    pub one_appended : {A : Type 0} (answer : A) → Adds disk (item_for placed) old new mid d' (Ok answer)
-        → HasAppended disk shelf d (files ++ placed ∷ []) d'
+    pub one_appended : {A : Type 0} (answer : A) → Adds disk (item_for placed) (shelf_on old mid) (shelf_on new d')
+        (Ok answer)
+        → HasAppended disk (shelf_on shelf d) (files ++ placed ∷ []) d'
     one_appended answer adds =
         let way : (kept_by new).way ≡ way_with_files (files ++ placed ∷ []) (kept_by shelf).way =
         ap (λ (k : KeptShelf). k.way) adds.kept
@@ -160,8 +156,8 @@ module _ {D : Type 0} (disk : DiskOf D) (shelf : Shelf) (d : D) (files : List Pl
 
     -- the disk failed in it
     pub one_failed : {A : Type 0}
-        → Adds disk {A = A} (item_for placed) old new mid d' (Err Disk)
-        → MayHaveAppended disk shelf d files placed d'
+        → Adds disk {A = A} (item_for placed) (shelf_on old mid) (shelf_on new d') (Err Disk)
+        → MayHaveAppended disk (shelf_on shelf d) files placed d'
     one_failed adds = record {
       told = λ t. adds.calls.told (so_far.told t);
       untold = λ t. so_far.untold (adds.calls.untold t);

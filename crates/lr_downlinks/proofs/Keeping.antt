@@ -8,20 +8,15 @@ use Rattle.lr_disk.specs.declared.disk.Disk.{Ghosts as DiskOf}
 use Rattle.lr_shelf_format.specs.Items.{head_of_item}
 use Rattle.lr_shelf_format.specs.Way.{Way, way_with}
 use Rattle.lr_shelf.specs.Append.{Appends, item_for}
-use Rattle.lr_shelf.specs.Kept.{KeptShelf, kept_by, kept_with}
+use Rattle.lr_shelf.specs.Kept.{KeptShelf, kept_by, kept_with, shelf_on}
 use Rattle.lr_shelf.specs.declared.error.ShelfError.{ShelfError}
 use Rattle.lr_shelf.specs.declared.error.ShelfError.TheVariants.{Disk}
 use Rattle.lr_shelf.specs.declared.shelf.Shelf.{Shelf}
-use Rattle.lr_downlinks.specs.Appending.{
-  AppendsFile,
-  AppendsNext,
-  IsSameBook,
-  WantsMemory,
-  answer_to,
-  failed_after,
-  book_view_of,
-}
-use Rattle.lr_downlinks.specs.Books.{BeginsRun, BookView, IsBookOf, KeepsBook, StandsOver, BookWorks, WorksOrBroke}
+use Rattle.lr_downlinks.specs.Appending.{AppendsFile, AppendsNext, IsSameBook, WantsMemory}
+use Rattle.lr_downlinks.specs.Appending.{answer_to, failed_after, book_view_of, downlink_file}
+use Rattle.lr_downlinks.specs.Appending.{downlink_files}
+use Rattle.lr_downlinks.specs.Books.{BeginsRun, BookView, IsBookOf, KeepsBook, StandsOver}
+use Rattle.lr_downlinks.specs.Books.{BookWorks, WorksOrBroke, held_by}
 use Rattle.lr_downlinks.specs.Merge.{IsNextOf, times_in_order}
 use Rattle.lr_shelf.specs.Prefixes.{way_with_files}
 use Rattle.lr_downlinks.specs.Appended.{HasAppended}
@@ -41,7 +36,8 @@ module _ {D : Type 0} (start : Start) (shelf : Shelf) (same_way : (kept_by shelf
 
   -- no append met a fault
   book_works : (disk : DiskOf D) (d : D) → book.failed ≡ false
-      → HasAppended disk shelf d (merged start book.order) book.disk → BookWorks disk start shelf d book
+      → HasAppended disk (shelf_on shelf d) (merged start book.order) book.disk
+      → BookWorks disk start (shelf_on shelf d) book
   book_works disk d working appended = record {
     appended = appended;
     keeps = λ initial s.
@@ -56,8 +52,8 @@ module _ {D : Type 0} (disk : DiskOf D)
     (start : Start) (handed : Shelf → D → Type 0) (name : GName) where
   -- the same shelf, as far as it keeps something
   state_same : (shelf : Shelf) (d : D) (old : BookView D) (shelf' : Shelf) → kept_by shelf' ≡ kept_by old.shelf
-      → (failed : Bool) → WorksOrBroke disk start shelf d failed old
-      → WorksOrBroke disk start shelf d failed (record {
+      → (failed : Bool) → WorksOrBroke disk start (shelf_on shelf d) failed old
+      → WorksOrBroke disk start (shelf_on shelf d) failed (record {
         shelf = shelf';
         disk = old.disk;
         order = old.order;
@@ -117,9 +113,9 @@ module _ {D : Type 0} (disk : DiskOf D)
           failed = b;
         })) (sym same.failed) kept))
 
-    module _ (shelf : Shelf) (d : D) (over : StandsOver disk start shelf d old) where
-      works_if : old.failed ≡ false → BookWorks disk start shelf d old
-      works_if e = subst (λ (b : Bool). WorksOrBroke disk start shelf d b old) e over.state
+    module _ (shelf : Shelf) (d : D) (over : StandsOver disk start (shelf_on shelf d) old) where
+      works_if : old.failed ≡ false → BookWorks disk start (shelf_on shelf d) old
+      works_if e = subst (λ (b : Bool). WorksOrBroke disk start (shelf_on shelf d) b old) e over.state
 
       way_is : (kept_by old.shelf).way ≡ way_with_files (merged start old.order) (kept_by shelf).way
       way_is = book_way start shelf over.same_way old keeps.files
@@ -131,7 +127,7 @@ module _ {D : Type 0} (disk : DiskOf D)
 
       -- the file was appended
       pub more_kept : (shelf' : Shelf) (d' : D) (number : ℕ)
-          → Appends disk placed old.shelf shelf' old.disk d' (Ok number)
+          → Appends disk placed (held_by old) (shelf_on shelf' d') (Ok number)
           → KeepsBook disk start handed name (record {
             shelf = shelf';
             disk = d';
@@ -159,7 +155,7 @@ module _ {D : Type 0} (disk : DiskOf D)
                 let over = keeps.stands shelf d is in
                 record {
                   same_way = over.same_way;
-                  state = subst (λ (b : Bool). WorksOrBroke disk start shelf d b grown) (sym works)
+                  state = subst (λ (b : Bool). WorksOrBroke disk start (shelf_on shelf d) b grown) (sym works)
                       (book_works start shelf over.same_way grown files disk d works
                       (appended_more shelf d over (works_if shelf d over works)));
                 };
@@ -178,16 +174,17 @@ module _ {D : Type 0} (disk : DiskOf D)
               one ∙ ap (kept_with (item_for placed)) keeps.files.kept
               ∙ ap (λ (w : Way). record { way = w; failed = old.failed }) (sym way)
 
-          appended_more : (shelf : Shelf) (d : D) → StandsOver disk start shelf d old
-              → BookWorks disk start shelf d old
-              → HasAppended disk shelf d (merged start (old.order ++ downlink ∷ [])) d'
+          appended_more : (shelf : Shelf) (d : D) → StandsOver disk start (shelf_on shelf d) old
+              → BookWorks disk start (shelf_on shelf d) old
+              → HasAppended disk (shelf_on shelf d) (merged start (old.order ++ downlink ∷ [])) d'
           appended_more shelf d over was =
-              subst (λ (l : List Placed). HasAppended disk shelf d l d') (sym more)
+              subst (λ (l : List Placed). HasAppended disk (shelf_on shelf d) l d') (sym more)
               (one_appended disk shelf d (merged start old.order) placed old.shelf shelf' old.disk d'
               (way_is shelf d over) was.appended leaves_contents counts_now was.keeps number a.adds)
 
       -- the disk failed in it
-      pub broke_kept : (shelf' : Shelf) (d' : D) → Appends disk placed old.shelf shelf' old.disk d' (Err Disk)
+      pub broke_kept : (shelf' : Shelf) (d' : D) → Appends disk placed (held_by old)
+          (shelf_on shelf' d') (Err Disk)
           → KeepsBook disk start handed name (record {
             shelf = shelf';
             disk = d';
@@ -221,7 +218,7 @@ module _ {D : Type 0} (disk : DiskOf D)
 
       -- it was refused before anything was written
       pub refused_kept : (shelf : Shelf) (d : D) (error : ShelfError) → error ≢ Disk
-          → Appends disk placed old.shelf shelf old.disk d (Err error)
+          → Appends disk placed (held_by old) (shelf_on shelf d) (Err error)
           → (d ≡ old.disk) × (kept_by shelf ≡ kept_by old.shelf)
       refused_kept shelf d error other a =
           ⊎_elim (λ (is : error ≡ Disk). absurd (other is))
@@ -229,7 +226,7 @@ module _ {D : Type 0} (disk : DiskOf D)
 
       -- whatever it answered
       one_kept : (shelf : Shelf) (d : D) (order : List ℕ) (answer : Result ℕ ShelfError)
-          → Appends disk placed old.shelf shelf old.disk d answer
+          → Appends disk placed (held_by old) (shelf_on shelf d) answer
           → OnOk answer (order ≡ old.order ++ downlink ∷ [])
           → OnErr answer (order ≡ old.order)
           → KeepsBook disk start handed name (record {
@@ -258,7 +255,8 @@ module _ {D : Type 0} (disk : DiskOf D)
           (record { shelf = is.1; disk = is.0; order = same; failed = refl })
 
       pub next_kept : (shelf : Shelf) (d : D) (order : List ℕ) (result : Result Bool ShelfError)
-          → AppendsFile disk downlink placed (book_view_of old.shelf old.disk old.order) (book_view_of shelf d order)
+          → AppendsFile disk (downlink_file downlink placed) (book_view_of old.shelf old.disk old.order)
+          (book_view_of shelf d order)
           result
           ⊎ WantsMemory (book_view_of old.shelf old.disk old.order) (book_view_of shelf d order) result
           → KeepsBook disk start handed name (record {
@@ -289,7 +287,8 @@ module _ {D : Type 0} (disk : DiskOf D) (downlink : ℕ) (files : List Placed) (
   module _ (placed : Placed) (some : slice_get files (times_in_order downlink old.order) ≡ Some placed)
       (shelf : Shelf) (d : D)
       (order : List ℕ) where
-    one_refused : (answer : Result ℕ ShelfError) → Appends disk placed old.shelf shelf old.disk d answer
+    one_refused : (answer : Result ℕ ShelfError) → Appends disk placed (held_by old)
+        (shelf_on shelf d) answer
         → OnErr answer (order ≡ old.order)
         → IfErr (answer_to answer) (λ error. error ≢ Disk → IsSameBook old (record {
           shelf = shelf;
@@ -309,10 +308,11 @@ module _ {D : Type 0} (disk : DiskOf D) (downlink : ℕ) (files : List Placed) (
     not_false (Err error) e = cc (e)
 
     pub some_next : (result : Result Bool ShelfError)
-        → AppendsFile disk downlink placed (book_view_of old.shelf old.disk old.order) (book_view_of shelf d order)
+        → AppendsFile disk (downlink_file downlink placed) (book_view_of old.shelf old.disk old.order)
+        (book_view_of shelf d order)
         result
         ⊎ WantsMemory (book_view_of old.shelf old.disk old.order) (book_view_of shelf d order) result
-        → AppendsNext disk downlink files old (record {
+        → AppendsNext disk (downlink_files downlink files) old (record {
           shelf = shelf;
           disk = d;
           order = order;
@@ -323,7 +323,7 @@ module _ {D : Type 0} (disk : DiskOf D) (downlink : ℕ) (files : List Placed) (
       nothing = λ e. absurd (not_false a.answer (sym a.result_is ∙ e));
       next = λ placed' some'.
           let same : placed ≡ placed' = cc (some, some') in
-          inl (subst (λ (p : Placed). AppendsFile disk downlink p old (record {
+          inl (subst (λ (p : Placed). AppendsFile disk (downlink_file downlink p) old (record {
             shelf = shelf;
             disk = d;
             order = order;
@@ -375,7 +375,7 @@ module _ {D : Type 0} (disk : DiskOf D) (downlink : ℕ) (files : List Placed) (
 module _ {D : Type 0} (disk : DiskOf D)
     (only_now : (d : D) (c : List ℕ) → disk.tells d → disk.left_since d (disk.moment d) c → disk.may_leave d c)
     (start : Start) (handed : Shelf → D → Type 0) (shelf : Shelf) (name : GName) (d : D)
-    (working : (kept_by shelf).failed ≡ false) (begun : BeginsRun disk start handed shelf name d)
+    (working : (kept_by shelf).failed ≡ false) (begun : BeginsRun disk start handed name (shelf_on shelf d))
     (few : length start.streams ≤ 16) where
   abbrev opened : BookView D
   opened = record { shelf = shelf; disk = d; order = []; failed = false }
@@ -390,11 +390,11 @@ module _ {D : Type 0} (disk : DiskOf D)
         ∙ sym (ap (λ (l : List Placed). way_with_files l start.way) (merge-none (files_in start))));
   }
 
-  begins_over : StandsOver disk start shelf d opened
+  begins_over : StandsOver disk start (shelf_on shelf d) opened
   begins_over = record {
     same_way = sym begun.way_is;
     state = book_works start shelf (sym begun.way_is) opened opened_is disk d refl
-        (subst (λ (l : List Placed). HasAppended disk shelf d l d) (sym (merge-none (files_in start)))
+        (subst (λ (l : List Placed). HasAppended disk (shelf_on shelf d) l d) (sym (merge-none (files_in start)))
         (none_appended disk only_now shelf d));
   }
 
@@ -405,8 +405,8 @@ module _ {D : Type 0} (disk : DiskOf D)
     files = opened_is;
     stands = λ shelf' d' is.
         let same = begun.only shelf' d' is in
-        subst (λ (s : Shelf). StandsOver disk start s d' opened) (sym same.0)
-        (subst (λ (e : D). StandsOver disk start shelf e opened) (sym same.1) begins_over);
+        subst (λ (s : Shelf). StandsOver disk start (shelf_on s d') opened) (sym same.0)
+        (subst (λ (e : D). StandsOver disk start (shelf_on shelf e) opened) (sym same.1) begins_over);
   }
 
   -- also where the order is known to be empty

@@ -1,29 +1,6 @@
 -- How the rest is appended.
-use Rattle.std.proofs.Common.{
-  ◌≡◌,
-  ◌≢◌,
-  ◌⊎◌,
-  inl,
-  inr,
-  ◌<◌,
-  ◌≤◌,
-  ◌+◌,
-  ℕ,
-  min,
-  Bool,
-  true,
-  false,
-  Some,
-  None,
-  Result,
-  Ok,
-  Err,
-  List,
-  [],
-  ◌∷◌,
-  ◌++◌,
-  length,
-}
+use Rattle.std.proofs.Common.{◌≡◌, ◌≢◌, ◌⊎◌, inl, inr, ◌<◌, ◌≤◌, ◌+◌, ℕ, min, Bool, true, false}
+use Rattle.std.proofs.Common.{Some, None, Result, Ok, Err, List, [], ◌∷◌, ◌++◌, length}
 use Rattle.std.proofs.Common.{refl, sym, ap, ◌∙◌, subst, ⊎_elim, get_or, arith}
 use Rattle.std.specs.Prelude.{slice_get, OnOk, OnErr, IfErr}
 use Rattle.std.proofs.lemmas.Bool.{cases_eq}
@@ -37,8 +14,9 @@ use Rattle.lr_shelf.specs.Append.{Appends, IsAppendRefusal, item_for}
 use Rattle.lr_shelf.specs.Kept.{KeptShelf, kept_by}
 use Rattle.lr_shelf.specs.declared.error.ShelfError.{ShelfError}
 use Rattle.lr_shelf.specs.declared.error.ShelfError.TheVariants.{Disk, Capacity, NoMemory, Failed}
-use Rattle.lr_downlinks.specs.Appending.{AppendsFile, AppendsNext, IsSameBook, WantsMemory, answer_to, failed_after}
-use Rattle.lr_downlinks.specs.Books.{BookView, IsBookOf}
+use Rattle.lr_downlinks.specs.Appending.{AppendsFile, AppendsNext, IsSameBook, WantsMemory}
+use Rattle.lr_downlinks.specs.Appending.{answer_to, failed_after, downlink_file, downlink_files}
+use Rattle.lr_downlinks.specs.Books.{BookView, IsBookOf, held_by}
 use Rattle.lr_downlinks.specs.Ending.{DoesNotFitAt, RunEndsWith, BookGoesOn, IsLeftAt}
 use Rattle.lr_downlinks.specs.Merge.{times_in_order}
 use Rattle.lr_shelf.specs.Prefixes.{way_with_files}
@@ -54,16 +32,23 @@ module _ {D : Type 0} (disk : DiskOf D) (start : Start) (downlink : ℕ) (old ne
 
   -- the order goes on
   longer : (result : Result Bool ShelfError) → (placed : Placed)
-      → AppendsFile disk downlink placed old new result ⊎ WantsMemory old new result → BookGoesOn old new
+      → AppendsFile disk (downlink_file downlink placed) old new result ⊎ WantsMemory old new result
+      → BookGoesOn old new
   longer result placed (inr wants) e = omega (arith, ap (times_in_order e) wants.same.order)
   longer result placed (inl a) e = by_answer a.answer a.order a.order_stays where
     by_answer : (answer : Result ℕ ShelfError)
         → OnOk answer (new.order ≡ old.order ++ downlink ∷ [])
         → OnErr answer (new.order ≡ old.order) → times_in_order e old.order ≤ times_in_order e new.order
-    by_answer (Ok number) more same = omega (arith, ap (times_in_order e) more, times-later e old.order (downlink ∷ []))
+    by_answer (Ok number) more same = omega (
+      arith,
+      ap (times_in_order e) more,
+      times-later e old.order
+          (downlink ∷ []),
+    )
     by_answer (Err error) more same = omega (arith, ap (times_in_order e) same)
 
-  module _ (result : Result Bool ShelfError) (next : AppendsNext disk downlink (files_in start downlink) old new result)
+  module _ (result : Result Bool ShelfError) (next : AppendsNext disk
+      (downlink_files downlink (files_in start downlink)) old new result)
     where
       -- there is a next file, or there is none
       pub goes_on : BookGoesOn old new
@@ -115,7 +100,7 @@ module _ {D : Type 0} (disk : DiskOf D) (start : Start) (downlink : ℕ) (old ne
           by_answer (Err error) e more = absurd (cc (e))
 
           by_kind : (placed : Placed)
-              → AppendsFile disk downlink placed old new result ⊎ WantsMemory old new result
+              → AppendsFile disk (downlink_file downlink placed) old new result ⊎ WantsMemory old new result
               → times_in_order downlink new.order ≡ times_in_order downlink old.order + 1
           by_kind placed (inl a) = by_answer a.answer (sym is ∙ a.result_is) a.order
           by_kind placed (inr wants) = let e = wants.result_is in absurd (cc (e, is))
@@ -180,7 +165,8 @@ module _ {D : Type 0} (disk : DiskOf D) (start : Start) (downlink : ℕ) (old ne
         left_by : (placed : Placed)
             → slice_get (files_in start downlink) (times_in_order downlink old.order) ≡ Some placed
             → (error : ShelfError) → result ≡ Err error → (answer : Result ℕ ShelfError)
-            → Appends disk placed old.shelf new.shelf old.disk new.disk answer → answer_to answer ≡ Err error
+            → Appends disk placed (held_by old) (held_by new) answer
+            → answer_to answer ≡ Err error
             → IsLeftAt start downlink new error
         left_by placed some error is (Ok number) a e = absurd (cc (e))
         left_by placed some error is (Err refused) a e =
@@ -193,7 +179,7 @@ module _ {D : Type 0} (disk : DiskOf D) (start : Start) (downlink : ℕ) (old ne
         left_at error is =
             let has = has_next error is in
             ⊎_elim
-            (λ (a : AppendsFile disk downlink has.0 old new result).
+            (λ (a : AppendsFile disk (downlink_file downlink has.0) old new result).
             left_by has.0 has.1 error is a.answer a.appends (sym a.result_is ∙ is))
             (λ (w : WantsMemory old new result).
             let same : NoMemory ≡ error = by_err NoMemory error (sym w.result_is ∙ is) in

@@ -1,4 +1,5 @@
 pub mod Bundling
+pub mod BundleReading
 pub mod Decoding
 pub mod Growing
 pub mod Keeping

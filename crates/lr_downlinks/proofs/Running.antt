@@ -13,28 +13,20 @@ use Rattle.lr_shelf_format.specs.Items.{Item}
 use Rattle.lr_shelf_format.specs.ShelfBytes.{StandsForShelf, entries_of}
 use Rattle.lr_shelf.specs.Append.{item_for}
 use Rattle.lr_shelf.specs.InitialShelves.{OfItems, StandsWithEither, with_files}
-use Rattle.lr_shelf.specs.Kept.{KeptShelf, kept_by}
+use Rattle.lr_shelf.specs.Kept.{KeptShelf, kept_by, shelf_on}
 use Rattle.lr_shelf.specs.Shelf.{IsSettled}
 use Rattle.lr_shelf.specs.declared.shelf.Shelf.{Shelf}
 use Rattle.lr_shelf.proofs.InitialPrefixes.{settled_on_items}
 use Rattle.lr_shelf.proofs.InitialShelves.{entries_of-append, entries_of-files}
 use Rattle.lr_shelf.proofs.ItemsKept.{entry_count_is}
-use Rattle.lr_downlinks.specs.Books.{
-  BeginsRun,
-  BookView,
-  Broke,
-  IsBookOf,
-  KeepsBook,
-  StandsOver,
-  BookWorks,
-  WorksOrBroke,
-}
+use Rattle.lr_downlinks.specs.Books.{BeginsRun, BookView, Broke, IsBookOf, KeepsBook, StandsOver}
+use Rattle.lr_downlinks.specs.Books.{BookWorks, WorksOrBroke}
 use Rattle.lr_downlinks.specs.Ending.{RunEndsWith}
 use Rattle.lr_downlinks.specs.Members.{AreMembers}
 use Rattle.lr_downlinks.specs.Merge.{IsNextOf, IsWhole, merge, times_in_order}
 use Rattle.lr_downlinks.specs.Receipts.{HasFileAt}
 use Rattle.lr_downlinks.specs.Room.{AllFit, NextDoesNotFit}
-use Rattle.lr_downlinks.specs.Runs.{MergeEnds, MergesOver}
+use Rattle.lr_downlinks.specs.Runs.{MergeEnds, MergesOver, merging, all_files}
 use Rattle.lr_downlinks.specs.Appended.{HasAppended}
 use Rattle.lr_downlinks.specs.Start.{Start, files_in, merged}
 use Rattle.lr_downlinks.specs.Streams.{files_of_downlink}
@@ -98,17 +90,17 @@ module _ {D : Type 0} (disk : DiskOf D) (handed : Shelf → D → Type 0) (strea
 
   module _ (name' : GName) (book : BookView D) (keeps : KeepsBook disk begun_as handed name' book)
       (handed_in : handed shelf d) where
-    over : StandsOver disk begun_as shelf d book
+    over : StandsOver disk begun_as (shelf_on shelf d) book
     over = keeps.stands shelf d handed_in
 
-    works : book.failed ≡ false → BookWorks disk begun_as shelf d book
-    works e = subst (λ (b : Bool). WorksOrBroke disk begun_as shelf d b book) e over.state
+    works : book.failed ≡ false → BookWorks disk begun_as (shelf_on shelf d) book
+    works e = subst (λ (b : Bool). WorksOrBroke disk begun_as (shelf_on shelf d) b book) e over.state
 
-    broke : book.failed ≡ true → Broke disk begun_as shelf d book
-    broke e = subst (λ (b : Bool). WorksOrBroke disk begun_as shelf d b book) e over.state
+    broke : book.failed ≡ true → Broke disk begun_as (shelf_on shelf d) book
+    broke e = subst (λ (b : Bool). WorksOrBroke disk begun_as (shelf_on shelf d) b book) e over.state
 
     ends_for : (result : RunEnd) → RunEndsWith begun_as book result
-        → MergeEnds count files book.order disk result shelf d book.disk
+        → MergeEnds (merging count files book.order) disk result (shelf_on shelf d) book.disk
     ends_for All ends = ((works ends.0).appended, ends.1)
     ends_for Disk ends =
         let b = broke ends in
@@ -174,7 +166,7 @@ module _ {D : Type 0} (disk : DiskOf D) (handed : Shelf → D → Type 0) (strea
           HasFileAt capacity number placed (disk.contents book.disk)
           × ((c : List ℕ) → disk.may_leave book.disk c → HasFileAt capacity number placed c)
 
-      entry_appended : HasAppended disk shelf d (merge files book.order) book.disk
+      entry_appended : HasAppended disk (shelf_on shelf d) (merge files book.order) book.disk
           → has_entry (length (entries_of items) + at)
       entry_appended has =
           let still = (has.on (OfItems capacity items) (settled_on_items disk capacity items shelf d s)).0 in (
@@ -205,7 +197,7 @@ module _ {D : Type 0} (disk : DiskOf D) (handed : Shelf → D → Type 0) (strea
 
     merges : (result : RunEnd) → RunEndsWith begun_as book result
         → (fits : length (kept_by shelf).way.entries + length book.order < 2 ^ 64)
-        → MergesOver disk count files shelf d book.disk (record {
+        → MergesOver disk (all_files count files) (shelf_on shelf d) book.disk (record {
           base = length (kept_by shelf).way.entries;
           order = book.order;
           result = result;
@@ -229,11 +221,12 @@ module _ {D : Type 0} (disk : DiskOf D) (handed : Shelf → D → Type 0) (strea
 
   -- the start is named
   pub merges_over : (start : Start) → streams ≡ start.streams → line ≡ start.line
-      → BeginsRun disk start handed shelf name d → (name' : GName) (book : BookView D)
+      → BeginsRun disk start handed name (shelf_on shelf d) → (name' : GName) (book : BookView D)
       → KeepsBook disk start handed name' book → (result : RunEnd) → RunEndsWith start book result
       → (base : ℕ) → base ≡ length (kept_by shelf).way.entries → (order : List ℕ) → order ≡ book.order
       → (fits : base + length order < 2 ^ 64)
-      → MergesOver disk (length streams) (files_of_downlink line streams) shelf d book.disk (record {
+      → MergesOver disk (all_files (length streams) (files_of_downlink line streams)) (shelf_on shelf d) book.disk
+      (record {
         base = base;
         order = order;
         result = result;
@@ -258,7 +251,8 @@ module _ {D : Type 0} (disk : DiskOf D) (handed : Shelf → D → Type 0) (strea
 
       based : (n : ℕ) → length (kept_by shelf).way.entries ≡ n → (order : List ℕ) → book.order ≡ order
           → (fits : n + length order < 2 ^ 64)
-          → MergesOver disk (length streams) (files_of_downlink line streams) shelf d book.disk (record {
+          → MergesOver disk (all_files (length streams) (files_of_downlink line streams)) (shelf_on shelf d)
+          book.disk (record {
             base = n;
             order = order;
             result = result;
@@ -266,14 +260,16 @@ module _ {D : Type 0} (disk : DiskOf D) (handed : Shelf → D → Type 0) (strea
           })
       based n is order order_is =
           subst (λ (m : ℕ). (fits : m + length order < 2 ^ 64)
-          → MergesOver disk (length streams) (files_of_downlink line streams) shelf d book.disk (record {
+          → MergesOver disk (all_files (length streams) (files_of_downlink line streams)) (shelf_on shelf d)
+          book.disk (record {
             base = m;
             order = order;
             result = result;
             numbered = fits;
           })) is
           (subst (λ (o : List ℕ). (fits : length (kept_by shelf).way.entries + length o < 2 ^ 64)
-          → MergesOver disk (length streams) (files_of_downlink line streams) shelf d book.disk (record {
+          → MergesOver disk (all_files (length streams) (files_of_downlink line streams)) (shelf_on shelf d)
+          book.disk (record {
             base = length (kept_by shelf).way.entries;
             order = o;
             result = result;

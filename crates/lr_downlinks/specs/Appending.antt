@@ -8,7 +8,7 @@ use Rattle.lr_shelf.specs.Kept.{kept_by}
 use Rattle.lr_shelf.specs.declared.error.ShelfError.{ShelfError}
 use Rattle.lr_shelf.specs.declared.error.ShelfError.TheVariants.{Disk, NoMemory}
 use Rattle.lr_shelf.specs.declared.shelf.Shelf.{Shelf}
-use Rattle.lr_downlinks.specs.Books.{BookView}
+use Rattle.lr_downlinks.specs.Books.{BookView, held_by}
 use Rattle.lr_downlinks.specs.Merge.{times_in_order}
 
 -- the book is as it was; of the shelf, all that it keeps
@@ -37,23 +37,39 @@ pub record WantsMemory {D : Type 0} (old new : BookView D) (result : Result Bool
   pub result_is : result ≡ Err NoMemory
   pub same : IsSameBook old new
 
-module _ {D : Type 0} (disk : DiskOf D) (downlink : ℕ) where
+-- a file of this downlink
+pub record DownlinkFile : Type 0 where
+  pub downlink : ℕ
+  pub placed : Placed
+
+abbrev pub downlink_file : ℕ → Placed → DownlinkFile
+downlink_file downlink placed = record { downlink = downlink; placed = placed }
+
+-- all files of this downlink
+pub record DownlinkFiles : Type 0 where
+  pub downlink : ℕ
+  pub files : List Placed
+
+abbrev pub downlink_files : ℕ → List Placed → DownlinkFiles
+downlink_files downlink files = record { downlink = downlink; files = files }
+
+module _ {D : Type 0} (disk : DiskOf D) where
   -- the file was appended to the shelf, and the downlink to the order, or the shelf refused it
-  pub record AppendsFile (placed : Placed) (old new : BookView D) (result : Result Bool ShelfError) : Type 0 where
+  pub record AppendsFile (next : DownlinkFile) (old new : BookView D) (result : Result Bool ShelfError) : Type 0 where
     pub answer : Result ℕ ShelfError
-    pub appends : Appends disk placed old.shelf new.shelf old.disk new.disk answer
+    pub appends : Appends disk next.placed (held_by old) (held_by new) answer
     pub result_is : result ≡ answer_to answer
-    pub order : OnOk answer (new.order ≡ old.order ++ downlink ∷ [])
+    pub order : OnOk answer (new.order ≡ old.order ++ next.downlink ∷ [])
     pub order_stays : OnErr answer (new.order ≡ old.order)
 
-  pub record AppendsNext (files : List Placed) (old new : BookView D) (result : Result Bool ShelfError)
-      : Type 0 where
+  pub record AppendsNext (own : DownlinkFiles) (old new : BookView D) (result : Result Bool ShelfError) : Type 0 where
     -- `false` exactly where there is no file left, and then nothing is changed
-    pub none : slice_get files (times_in_order downlink old.order) ≡ None → (result ≡ Ok false) × IsSameBook old new
-    pub nothing : result ≡ Ok false → slice_get files (times_in_order downlink old.order) ≡ None
+    pub none : slice_get own.files (times_in_order own.downlink old.order) ≡ None
+        → (result ≡ Ok false) × IsSameBook old new
+    pub nothing : result ≡ Ok false → slice_get own.files (times_in_order own.downlink old.order) ≡ None
     -- else the next one is appended
-    pub next : (placed : Placed) → slice_get files (times_in_order downlink old.order) ≡ Some placed
-        → AppendsFile placed old new result ⊎ WantsMemory old new result
+    pub next : (placed : Placed) → slice_get own.files (times_in_order own.downlink old.order) ≡ Some placed
+        → AppendsFile (downlink_file own.downlink placed) old new result ⊎ WantsMemory old new result
     -- a refusal but `Disk` leaves the book as it was, and after `Disk` it says so
     pub refused : IfErr result (λ error. error ≢ Disk → IsSameBook old new)
     pub failed : new.failed ≡ failed_after old.failed result

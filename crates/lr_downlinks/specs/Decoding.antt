@@ -26,42 +26,58 @@ pub record FeedsMore (old new : LockState) (rest : List ℕ) (size : ℕ) : Type
   pub closes : size ≡ 0 → (fed : List ℤ) (given : List Frame) → LockStandsFor old fed given
       → LockStandsFor new fed given
 
--- this many symbols of the stream were fed to a lock of this line code, and these frames given
-pub record IsFed (line : LineCode) (stream : List ℕ) (fed : ℕ) (lock : LockState) (given : List Frame) : Type 0 where
-  pub inside : fed ≤ length stream
-  pub line_is : lock.line ≡ line
-  pub stands : LockStandsFor lock (symbols_of (take fed stream)) given
-  pub passed : FRAME_SYMBOLS * length given + length lock.kept ≤ fed
-  pub ended : lock.finished ≡ true → fed ≡ length stream
+-- a stream of symbols, as bytes, under this line code
+pub record CodedStream : Type 0 where
+  pub line : LineCode
+  pub symbols : List ℕ
 
--- what becomes of these frames, where this many symbols were fed
-unfoldable pub outcomes_given : LineCode → List ℕ → ℕ → List Frame → List Outcome
-outcomes_given line stream fed given = map (outcome_in line (symbols_of (take fed stream))) given
+abbrev pub coded_stream : LineCode → List ℕ → CodedStream
+coded_stream line symbols = record { line = line; symbols = symbols }
 
--- more were fed, and what becomes of the frames given stays
-pub record DecodesOn (line : LineCode) (stream : List ℕ) (fed : ℕ) (given : List Frame) (now : ℕ) (lock : LockState)
-    : Type 0 where
-  pub is_fed : IsFed line stream now lock given
-  pub same : outcomes_given line stream now given ≡ outcomes_given line stream fed given
+-- how many symbols of a stream were fed, and the frames that were given by then
+pub record GivenFrames : Type 0 where
+  pub fed : ℕ
+  pub frames : List Frame
 
--- the next frame is shown, or all were given
-abbrev pub ShowsWindow : LineCode → List ℕ → ℕ → List Frame → LockState → WindowView → Option ℕ → Type 0
-ShowsWindow line stream fed given lock window (Some now) =
-    (frame : Frame) × IsFed line stream now lock (given ++ frame ∷ [])
-    × (window ≡ window_view line (symbols_of (take now stream)) frame)
-    × (outcomes_given line stream now given ≡ outcomes_given line stream fed given)
-ShowsWindow line stream fed given lock window None =
-    AreFrames (tail_of line) (symbols_of stream) given
-    × (outcomes_given line stream (length stream) given ≡ outcomes_given line stream fed given)
+abbrev pub given_by : ℕ → List Frame → GivenFrames
+given_by fed frames = record { fed = fed; frames = frames }
+
+module _ (stream : CodedStream) where
+  -- these symbols were fed to a lock of this line code, and these frames given
+  pub record IsFed (given : GivenFrames) (lock : LockState) : Type 0 where
+    pub inside : given.fed ≤ length stream.symbols
+    pub line_is : lock.line ≡ stream.line
+    pub stands : LockStandsFor lock (symbols_of (take given.fed stream.symbols)) given.frames
+    pub passed : FRAME_SYMBOLS * length given.frames + length lock.kept ≤ given.fed
+    pub ended : lock.finished ≡ true → given.fed ≡ length stream.symbols
+
+  -- what becomes of these frames, as far as the symbols were fed
+  unfoldable pub outcomes_given : GivenFrames → List Outcome
+  outcomes_given given = map (outcome_in stream.line (symbols_of (take given.fed stream.symbols))) given.frames
+
+  -- more were fed, and what becomes of the frames given stays
+  pub record DecodesOn (given : GivenFrames) (now : ℕ) (lock : LockState) : Type 0 where
+    pub is_fed : IsFed (given_by now given.frames) lock
+    pub same : outcomes_given (given_by now given.frames) ≡ outcomes_given given
+
+  -- the next frame is shown, or all were given
+  abbrev pub ShowsWindow : GivenFrames → LockState → WindowView → Option ℕ → Type 0
+  ShowsWindow given lock window (Some now) =
+      (frame : Frame) × IsFed (given_by now (given.frames ++ frame ∷ [])) lock
+      × (window ≡ window_view stream.line (symbols_of (take now stream.symbols)) frame)
+      × (outcomes_given (given_by now given.frames) ≡ outcomes_given given)
+  ShowsWindow given lock window None =
+      AreFrames (tail_of stream.line) (symbols_of stream.symbols) given.frames
+      × (outcomes_given (given_by (length stream.symbols) given.frames) ≡ outcomes_given given)
 
 -- what decreases with each step
 abbrev pub decode_steps_left : List ℕ → ℕ → LockState → ℕ
 decode_steps_left stream fed lock = 2 * (length stream - fed) + length lock.kept + cond lock.finished 0 1
 
 -- of the frames given so far the layers have the outcomes, and the files are these
-pub record IsDecodedSoFar (line : LineCode) (stream : List ℕ) (fed : ℕ) (lock : LockState) (layers : KeptLayers)
+pub record IsDecodedSoFar (stream : CodedStream) (fed : ℕ) (lock : LockState) (layers : KeptLayers)
     (files : List Placed) : Type 0 where
   pub given : List Frame
-  pub is_fed : IsFed line stream fed lock given
-  pub layers_stand : LayersStandFor layers (outcomes_given line stream fed given)
-  pub files_are : files ≡ placed_of_outcomes (outcomes_given line stream fed given)
+  pub is_fed : IsFed stream (given_by fed given) lock
+  pub layers_stand : LayersStandFor layers (outcomes_given stream (given_by fed given))
+  pub files_are : files ≡ placed_of_outcomes (outcomes_given stream (given_by fed given))

@@ -3,14 +3,12 @@ use Rattle.std.specs.Prelude.{◌≡◌, ◌≤◌, ◌<◌, ℕ, min, true, fal
 use Rattle.lr_bits.specs.declared.placed.Placed.{Placed}
 use Rattle.lr_bits.specs.Sizes.{most_u64}
 use Rattle.lr_shelf.specs.declared.error.ShelfError.{ShelfError}
-use Rattle.lr_shelf.specs.declared.error.ShelfError.TheVariants.{
-  Disk as Disk',
-  NoMemory as NoMemory',
-  Capacity as Capacity',
-}
+use Rattle.lr_shelf.specs.declared.error.ShelfError.TheVariants.{Disk as Disk'}
+use Rattle.lr_shelf.specs.declared.error.ShelfError.TheVariants.{NoMemory as NoMemory'}
+use Rattle.lr_shelf.specs.declared.error.ShelfError.TheVariants.{Capacity as Capacity'}
 use Rattle.lr_downlinks.specs.Books.{BookView}
 use Rattle.lr_downlinks.specs.Merge.{IsWhole, times_in_order}
-use Rattle.lr_downlinks.specs.Runs.{NextDoesNotFitBy}
+use Rattle.lr_downlinks.specs.Runs.{NextDoesNotFitBy, merging}
 use Rattle.lr_shelf.specs.Prefixes.{way_with_files}
 use Rattle.lr_downlinks.specs.Start.{Start, files_in, merged}
 use Rattle.lr_downlinks.specs.declared.run.RunEnd.{RunEnd}
@@ -43,4 +41,4 @@ RunEndsWith start book Disk = book.failed ≡ true
 RunEndsWith start book NoMemory = book.failed ≡ false
 RunEndsWith start book (Capacity needed capacity) =
     (book.failed ≡ false)
-    × NextDoesNotFitBy (length start.streams) (files_in start) book.order start.way needed capacity
+    × NextDoesNotFitBy (merging (length start.streams) (files_in start) book.order) start.way needed capacity

@@ -1,6 +1,13 @@
 //! The shelf, its disk, and what came onto it.
 ghost use Rattle.std.specs.Prelude.{◌≡◌, ◌<◌, ◌⊎◌, ◌^◌};
-ghost use Rattle.lr_downlinks.specs.Appending.{AppendsFile, WantsMemory, failed_after, book_view_of};
+ghost use Rattle.lr_downlinks.specs.Appending.{
+  AppendsFile,
+  WantsMemory,
+  failed_after,
+  book_view_of,
+  downlink_file,
+  downlink_files,
+};
 ghost use Rattle.lr_downlinks.specs.Merge.{times_in_order};
 
 use crate::order::Order;
@@ -22,7 +29,7 @@ fn append_file<D: Disk>(
 ) -> Result<bool, ShelfError>
     requires known { downlink < MOST_DOWNLINKS }
     requires few { times_in_order downlink order.old < 2 ^ 63 }
-    ensures { AppendsFile D.Disk downlink placed.now (book_view_of shelf.old disk.old order.old)
+    ensures { AppendsFile D.Disk (downlink_file downlink placed.now) (book_view_of shelf.old disk.old order.old)
         (book_view_of shelf.new disk.new order.new) result
         ⊎ WantsMemory (book_view_of shelf.old disk.old order.old) (book_view_of shelf.new disk.new order.new) result }
 {
@@ -87,7 +94,7 @@ impl<'a, N: RunStart<D>, D: Disk> Book<'a, N, D> {
     pub fn append_next(&mut self, downlink: u8, files: &[Placed]) -> Result<bool, ShelfError>
         requires known { downlink < length (N.start).streams }
         requires files { files.now ≡ files_in N.start downlink }
-        ensures appends { AppendsNext D.Disk downlink files.now self.old self.new result }
+        ensures appends { AppendsNext D.Disk (downlink_files downlink files.now) self.old self.new result }
         ensures was { IsBookOf N.start self.old }
         ensures is { IsBookOf N.start self.new }
         ensures stood { StandsSince D.Disk N.start N.handed self.old }

@@ -1,10 +1,10 @@
 //! A run over a bundle.
 ghost use Rattle.std.specs.Prelude.{◌≡◌, ◌<◌, ◌≤◌, false, [], length, IfOk};
-ghost use Rattle.lr_shelf.specs.Kept.{kept_by};
+ghost use Rattle.lr_shelf.specs.Kept.{kept_by, shelf_on};
 ghost use Rattle.lr_downlinks.specs.Books.{BeginsRun};
 ghost use Rattle.lr_downlinks.specs.Ending.{RunEndsWith};
 ghost use Rattle.lr_downlinks.specs.Members.{AreMembers, IsMember};
-ghost use Rattle.lr_downlinks.specs.Runs.{MergesOver};
+ghost use Rattle.lr_downlinks.specs.Runs.{MergesOver, all_files};
 ghost use Rattle.lr_downlinks.specs.Streams.{files_of_downlink};
 
 use crate::book::Book;
@@ -65,7 +65,7 @@ fn open_book<'a, N: RunStart<D>, D: Disk>(
 ) -> Book<'a, N, D>
     requires working { (kept_by shelf).failed ≡ false }
     requires few { length (N.start).streams ≤ MOST_DOWNLINKS }
-    requires begun { BeginsRun D.Disk N.start N.handed shelf lent.disk.ghost_name lent.disk.now }
+    requires begun { BeginsRun D.Disk N.start N.handed lent.disk.ghost_name (shelf_on shelf lent.disk.now) }
     requires none { order ≡ [] }
     ensures { result.failed ≡ false }
 {
@@ -116,9 +116,10 @@ fn run_named<'a, N: RunStart<D> + Send + Sync, R: Threads + Wait + Sync, D: Disk
     requires working { (kept_by shelf).failed ≡ false }
     requires streams { bundle.now ≡ (N.start).streams }
     requires line { line ≡ (N.start).line }
-    requires begun { BeginsRun D.Disk N.start N.handed shelf lent.disk.ghost_name lent.disk.now }
+    requires begun { BeginsRun D.Disk N.start N.handed lent.disk.ghost_name (shelf_on shelf lent.disk.now) }
     ensures same { result.0.disk.ghost_name ≡ lent.entry.disk.ghost_name }
-    ensures runs { MergesOver D.Disk (length bundle.now) (files_of_downlink line bundle.now) shelf lent.entry.disk.now
+    ensures runs { MergesOver D.Disk (all_files (length bundle.now) (files_of_downlink line bundle.now))
+        (shelf_on shelf lent.entry.disk.now)
         result.0.disk.now result.1 }
 {
     let base = shelf.len();
@@ -154,7 +155,9 @@ pub fn run_downlinks<R: Threads + Wait + Sync, D: Disk + Send>(
     disk: &mut D,
 ) -> Run
     requires working { (kept_by shelf).failed ≡ false }
-    ensures { MergesOver D.Disk (length bundle.now) (files_of_downlink line bundle.now) shelf disk.old disk.new result }
+    ensures { MergesOver D.Disk (all_files (length bundle.now) (files_of_downlink line bundle.now))
+        (shelf_on shelf disk.old) disk.new
+        result }
 {
     let lent = Lent { disk };
     let (lent, run) = run_named::<Brand, R, D>(rt, alloc, bundle, line, shelf, lent);

@@ -4,7 +4,14 @@ ghost use Rattle.lr_conv.specs.declared.line.LineCode.{LineCode as LineCode'};
 ghost use Rattle.lr_lock.specs.declared.frame.Frame.{Frame};
 ghost use Rattle.lr_lock.specs.Thresholds.{lock_symbols};
 ghost use Rattle.lr_downlinks.specs.Streams.{files_of_stream};
-ghost use Rattle.lr_downlinks.specs.Decoding.{FeedsMore, IsFed, ShowsWindow, decode_steps_left};
+ghost use Rattle.lr_downlinks.specs.Decoding.{
+  FeedsMore,
+  IsFed,
+  ShowsWindow,
+  decode_steps_left,
+  coded_stream,
+  given_by,
+};
 
 use crate::sizes::MOST_STREAM_SYMBOLS;
 use lr_bits::{NoMemory, Placed};
@@ -36,9 +43,11 @@ fn feed_more(lock: &mut Lock, rest: &[u8]) -> usize
 fn show_next(lock: &mut Lock, stream: &[u8], fed: usize, window: &mut Window) -> Option<usize>
     requires few { length stream.now ≤ MOST_STREAM_SYMBOLS }
     requires line { window.old.line ≡ lock.old.line }
-    requires is_fed { (line : LineCode') × (given : List Frame) × IsFed line stream.now fed lock.old given }
-    ensures shows { (line : LineCode') (given : List Frame) → IsFed line stream.now fed lock.old given
-        → ShowsWindow line stream.now fed given lock.new window.new result }
+    requires is_fed { (line : LineCode') × (given : List Frame) × IsFed (coded_stream line stream.now)
+        (given_by fed given) lock.old }
+    ensures shows { (line : LineCode') (given : List Frame) → IsFed (coded_stream line stream.now)
+        (given_by fed given) lock.old
+        → ShowsWindow (coded_stream line stream.now) (given_by fed given) lock.new window.new result }
     ensures line { window.new.line ≡ lock.new.line }
     ensures fewer { IfSome result (λ taken. decode_steps_left stream.now taken lock.new
         < decode_steps_left stream.now fed lock.old) }

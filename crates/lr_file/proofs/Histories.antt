@@ -10,16 +10,8 @@ use Rattle.lr_bits.specs.File.{File}
 use Rattle.lr_bits.specs.Sizes.{most_file_bytes}
 use Rattle.lr_packet.specs.Verdict.{Good}
 use Rattle.lr_file.specs.Files.{packets_of_key, last_stretches, bodies_of, size_of, is_file, file_from, file_at}
-use Rattle.lr_file.specs.Standing.{
-  Open,
-  KeptFiles,
-  AreAscending,
-  FilesStandFor,
-  kept_of_key,
-  is_open,
-  last_count,
-  open_from,
-}
+use Rattle.lr_file.specs.Standing.{Open, KeptFiles, AreAscending, FilesStandFor, kept_of_key, is_open, last_count}
+use Rattle.lr_file.specs.Standing.{open_from}
 use Rattle.lr_file.specs.Standing.{open_file}
 use Rattle.lr_file.specs.Steps.{file_begun_by, open_file_with, is_next, next_open, completed_file, SetsKey, IsBuilt}
 use Rattle.lr_file.specs.Steps.{IsFileOf}

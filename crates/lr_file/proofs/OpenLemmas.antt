@@ -14,7 +14,8 @@ use Rattle.lr_bits.proofs.FileLemmas.{pieces_of-concat, sum-map-length}
 use Rattle.lr_packet.specs.Verdict.{Good}
 use Rattle.lr_file.specs.Standing.{Open, IsWithinLimits}
 use Rattle.lr_file.specs.Steps.{is_next, open_file_with, IsBuilt}
-use Rattle.lr_file.proofs.Stretches.{and_left, and_right, and_false}
+use Rattle.lr_file.proofs.Stretches.{and_left, and_right}
+use Rattle.std.proofs.Math.Bool.{and-false}
 
 pub is_next-few : (file : Open) (p : Good) → IsTrue (is_next file p) → length file.lengths < most_file_bodies
 unfolding is_next
@@ -95,4 +96,4 @@ pub is_next-full : (file : Open) (p : Good) → most_file_bodies < length file.l
 unfolding is_next
 is_next-full file p full =
     let none : ltb (length file.lengths) most_file_bodies ≡ false = grind (arith, nat_tests) in
-    rw (none, and_false (eqb p.count ((file.count + 1) % SEQUENCE_COUNTS))) refl
+    rw (none, and-false (eqb p.count ((file.count + 1) % SEQUENCE_COUNTS))) refl

@@ -5,6 +5,7 @@ use Rattle.std.proofs.Common.{append_assoc}
 use Rattle.std.specs.Prelude.{find, replicate}
 use Rattle.std.specs.List.{concat}
 use Rattle.std.specs.Str.{bytes_eq}
+use Rattle.std.proofs.Math.Bool.{and-true, and_assoc, and-false}
 use Rattle.std.proofs.lemmas.List.{append-nil}
 use Rattle.lr_bits.specs.declared.sizes.TheConstants.{SEQUENCE_COUNTS}
 use Rattle.lr_bits.specs.Sizes.{most_file_bodies, most_file_bytes}
@@ -32,17 +33,9 @@ are_zeros stretch = bytes_eq (flags stretch) (zeros (length stretch))
 abbrev pub is_counted_on : List Good → Good → Bool
 is_counted_on stretch p = eqb p.count ((last_count stretch + 1) % SEQUENCE_COUNTS)
 
-and_true : (b : Bool) → (b && true) ≡ b
-and_true true = refl
-and_true false = refl
-
-and_assoc : (a b c : Bool) → ((a && b) && c) ≡ (a && (b && c))
-and_assoc true b c = refl
-and_assoc false b c = refl
-
 flags-end : (qs : List Good) (p : Good) (k : ℕ) →
     bytes_eq (flags (qs ++ p ∷ [])) (zeros (length qs) ++ k ∷ []) ≡ (are_zeros qs && eqb p.flags k)
-flags-end [] p k = and_true (eqb p.flags k)
+flags-end [] p k = and-true (eqb p.flags k)
 flags-end (q ∷ qs) p k =
     ap (λ b. eqb q.flags 0 && b) (flags-end qs p k) ∙ sym (and_assoc (eqb q.flags 0) (are_zeros qs) (eqb p.flags k))
 
@@ -88,7 +81,7 @@ file_flags-end q qs p =
 
 counted-end : (q : Good) (qs : List Good) (p : Good) →
     are_counted_on (counts (q ∷ qs ++ p ∷ [])) ≡ (are_counted_on (counts (q ∷ qs)) && is_counted_on (q ∷ qs) p)
-counted-end q [] p = and_true (eqb p.count ((q.count + 1) % SEQUENCE_COUNTS))
+counted-end q [] p = and-true (eqb p.count ((q.count + 1) % SEQUENCE_COUNTS))
 counted-end q (r ∷ qs) p =
     let here = eqb r.count ((q.count + 1) % SEQUENCE_COUNTS) in
     ap (λ b. here && b) (counted-end r qs p) ∙ sym (and_assoc here (are_counted_on (counts (r ∷ qs)))
@@ -106,10 +99,6 @@ concat-end (q ∷ qs) p =
 pub size-end : (s : List Good) (p : Good) → size_of (s ++ p ∷ []) ≡ size_of s + length p.body
 size-end s p = ap length (concat-end s p) ∙ length-append (concat (bodies_of s)) p.body
 
-pub and_false : (b : Bool) → (b && false) ≡ false
-and_false true = refl
-and_false false = refl
-
 pub and_left : (a b : Bool) → (a && b) ≡ true → a ≡ true
 and_left true b h = refl
 and_left false b h = h
@@ -124,11 +113,11 @@ open_tests : (flag counted few most z f few' most' : Bool) → (few' ≡ true �
     ((((flag && counted) && few) && most) && (z && ((f && few') && most')))
 open_tests true true few most true true true true h g =
     sym (ap (λ (b : Bool). (b && most) && true) (h refl) ∙ ap (λ (b : Bool). b && true) (g refl))
-open_tests true true few most true true true false h g = sym (and_false (few && most))
-open_tests true true few most true true false most' h g = sym (and_false (few && most))
-open_tests true true few most true false few' most' h g = sym (and_false (few && most))
-open_tests true true few most false f few' most' h g = sym (and_false (few && most))
-open_tests true false few most z f few' most' h g = ap (λ (b : Bool). (b && few') && most') (and_false z)
+open_tests true true few most true true true false h g = sym (and-false (few && most))
+open_tests true true few most true true false most' h g = sym (and-false (few && most))
+open_tests true true few most true false few' most' h g = sym (and-false (few && most))
+open_tests true true few most false f few' most' h g = sym (and-false (few && most))
+open_tests true false few most z f few' most' h g = ap (λ (b : Bool). (b && few') && most') (and-false z)
 open_tests false counted few most z f few' most' h g = refl
 
 -- the same with one test more
@@ -137,13 +126,13 @@ file_tests : (flag counted few most z f few' most' least : Bool) → (few' ≡ t
     (((((flag && z) && (counted && f)) && few') && least) && most') ≡
     ((((flag && counted) && few) && most) && ((z && ((f && few') && most')) && least))
 file_tests flag counted few most z f few' most' true h g =
-    ap (λ (b : Bool). b && most') (and_true (((flag && z) && (counted && f)) && few'))
+    ap (λ (b : Bool). b && most') (and-true (((flag && z) && (counted && f)) && few'))
     ∙ open_tests flag counted few most z f few' most' h g
-    ∙ ap (λ (b : Bool). (((flag && counted) && few) && most) && b) (sym (and_true (z && ((f && few') && most'))))
+    ∙ ap (λ (b : Bool). (((flag && counted) && few) && most) && b) (sym (and-true (z && ((f && few') && most'))))
 file_tests flag counted few most z f few' most' false h g =
-    ap (λ (b : Bool). b && most') (and_false (((flag && z) && (counted && f)) && few'))
-    ∙ sym (ap (λ (b : Bool). (((flag && counted) && few) && most) && b) (and_false (z && ((f && few') && most')))
-    ∙ and_false (((flag && counted) && few) && most))
+    ap (λ (b : Bool). b && most') (and-false (((flag && z) && (counted && f)) && few'))
+    ∙ sym (ap (λ (b : Bool). (((flag && counted) && few) && most) && b) (and-false (z && ((f && few') && most')))
+    ∙ and-false (((flag && counted) && few) && most))
 
 few_before : (n : ℕ) → ltb n most_file_bodies ≡ true → leb n most_file_bodies ≡ true
 few_before n h = grind (arith, nat_tests)
@@ -204,7 +193,7 @@ pub is_open-one : (p : Good) → is_open (p ∷ []) ≡ (eqb p.flags 1 && leb (l
 unfolding is_open
 is_open-one p =
     ap (λ bs. (((eqb p.flags 1 && true) && true) && true) && leb (length bs) most_file_bytes) (append-nil p.body)
-    ∙ ap (λ (b : Bool). b && leb (length p.body) most_file_bytes) (and_true _ ∙ and_true _ ∙ and_true (eqb p.flags 1))
+    ∙ ap (λ (b : Bool). b && leb (length p.body) most_file_bytes) (and-true _ ∙ and-true _ ∙ and-true (eqb p.flags 1))
 
 pub is_file-one : (p : Good) →
     is_file (p ∷ []) ≡ ((eqb p.flags 3 && leb 10 (length p.body)) && leb (length p.body) most_file_bytes)
@@ -213,7 +202,7 @@ is_file-one p =
     ap (λ bs. ((((eqb p.flags 3 && true) && true) && true) && leb 10 (length bs)) && leb (length bs) most_file_bytes)
     (append-nil p.body)
     ∙ ap (λ (b : Bool). (b && leb 10 (length p.body)) && leb (length p.body) most_file_bytes)
-    (and_true _ ∙ and_true _ ∙ and_true (eqb p.flags 3))
+    (and-true _ ∙ and-true _ ∙ and-true (eqb p.flags 3))
 
 -- a stretch that doesn't begin with flags 1 is no open file
 pub not_open : (q : Good) (qs : List Good) → eqb q.flags 1 ≡ false → is_open (q ∷ qs) ≡ false

@@ -1,12 +1,14 @@
 -- A step that changes none of what the rule reads of the conductor's view.
 use Rattle.std.proofs.Common.{◌≡◌, ℕ, ◌≤◌, ◌≢◌, ◌&&◌, ◌==◌, Bool, true, false, List, set, sym, refl, ap, ap₂, ◌∙◌}
-use Rattle.std.proofs.Common.{subst, ⊎_elim, true≢false}
+use Rattle.std.proofs.Common.{subst, ⊎_elim, true≢false, Option}
 use mathlib.Core.Option.{some, some-injective}
 use mathlib.Core.Logic.{dite}
 use native.Mathlib.Decide.{ℕ_discrete}
 use lib.ListN.{get_elem?}
 use Rattle.atomic_table.proofs.Lists.{at_set, set_here, set_else}
 use Rattle.lr_gatecore.specs.declared.stage.Stage.{Stage}
+use Rattle.lr_gate.specs.declared.view.Held.{Held}
+use Rattle.lr_gate.specs.declared.view.Read.{Read}
 use Rattle.lr_gate.specs.declared.view.View.{View}
 use Rattle.lr_gate.specs.Shows.{is_being_taken, IsSeatShown, IsJoinedView}
 use Rattle.lr_gatecore.proofs.Lists.{at_length}
@@ -21,8 +23,10 @@ module _ {J : Type 0} where
     pub split_off : me'.split_off ≡ me.split_off
     pub jobs : me'.jobs ≡ me.jobs
 
-  pub itself : (v : View J) → Alike v v
-  itself v = record {
+  -- a seat's step changes what it holds, finished and read
+  pub seat_steps : (v : View J) (held : Option (Held J)) (finished : List ℕ) (reads : List Read)
+      → Alike v record v { held = held; finished = finished; reads = reads }
+  seat_steps v held finished reads = record {
     spent = refl;
     stocked = refl;
     stopped = refl;
@@ -44,7 +48,7 @@ module _ {J : Type 0} where
         ap (get_elem? (set views id v')) (sym e) ∙ set_here views id v' (at_length views id v at),
         subst (λ x. Alike x v') is like,
       ))
-      (λ ne. (me, set_else views id 0 v' (λ e. ne (sym e)) ∙ first, itself me))
+      (λ ne. (me, set_else views id 0 v' (λ e. ne (sym e)) ∙ first, seat_steps me me.held me.finished me.reads))
 
   pub hidden_same : (me me' : View J) (p : ℕ) → Alike me me' → is_being_taken me' p ≡ is_being_taken me p
   hidden_same me me' p a = ap₂ (λ (b : Bool) (t : ℕ). b && (p == t)) a.taking a.taken

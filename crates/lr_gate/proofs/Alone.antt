@@ -8,10 +8,10 @@ use Rattle.lr_gatecore.specs.declared.stage.Stage.TheVariants.{Ready, Busy, Done
 use Rattle.lr_gatecore.specs.declared.sizes.TheConstants.{WORD_BASE}
 use Rattle.lr_gate.specs.declared.view.View.{View}
 use Rattle.lr_gate.specs.Words.{cell_word, finish_count}
-use Rattle.lr_gate.specs.Shows.{held_job, count_of, finishes_of, IsHeldBy, Lies, Shows}
+use Rattle.lr_gate.specs.Shows.{held_job, count_of, finishes_of, IsHeldBy, Lies, Shows, place_in}
 use Rattle.lr_gate.specs.Steps.{FoundAlone}
 use Rattle.lr_gate.proofs.Lists.{at_below, none_not_some}
-use Rattle.lr_gate.proofs.Keeps.{St}
+use Rattle.lr_gate.proofs.Keeps.{St, ring}
 
 module _ {J : Type 0} where
   lone_counts : (i : ℕ) (vs : List (View J)) (v : View J) → get_elem? vs 0 ≡ some v → length vs ≡ 1
@@ -33,7 +33,7 @@ module _ {J D : Type 0} (f : J → D) (crew : ℕ) where
   Told v p word = (count_of p v.finished ≡ 0 → word ≡ p * WORD_BASE + 1)
       × (count_of p v.finished ≢ 0 → word ≡ p * WORD_BASE + 2)
 
-  by_stage : (n : ℕ) (s : St J D) (r : Shows f n crew s) (p : ℕ) (st : Stage) → length s.views ≡ 1
+  by_stage : (n : ℕ) (s : St J D) (r : Shows f (ring n crew) s) (p : ℕ) (st : Stage) → length s.views ≡ 1
       → r.me.held ≡ None → r.me.taken ≤ p → p < r.me.taken + n → get_elem? r.stages p ≡ some st
       → Told r.me p (get_or s.words (p % n + 1) 0)
   by_stage n s r p Ready one free a b at = let ok = r.each_cell p a b in
@@ -45,13 +45,13 @@ module _ {J D : Type 0} (f : J → D) (crew : ℕ) where
       let count : count_of p r.me.finished ≡ 1 = sym (lone_counts p s.views r.me r.first one)
       ∙ (r.finishes p ∙ ap finish_count at) in (λ e. absurd (omega (arith, e, count)), λ ne. word)
   by_stage n s r p (Busy w) one free a b at = let ok = r.each_cell p a b in
-      let lies : Lies f r.me s.homes s.views p (p % n) (some (Busy w)) = subst (Lies f r.me s.homes s.views p
-      (p % n)) at ok.lies in
+      let lies : Lies f r.me s (place_in n p) (some (Busy w)) =
+      subst (Lies f r.me s (place_in n p)) at ok.lies in
       let by : IsHeldBy s.views w (held_job (p % n) p lies.0) = lies.3 in
       let is : r.me ≡ by.0 = lone_seat s.views r.me by.0 w r.first one by.1 in
       absurd (none_not_some (held_job (p % n) p lies.0) (sym free ∙ (ap (λ (v : View J). v.held) is ∙ by.2)))
 
-  found_first : (n : ℕ) (s : St J D) (r : Shows f n crew s) (i : ℕ) → FoundAlone n i r.me (get_or s.words i 0)
+  found_first : (n : ℕ) (s : St J D) (r : Shows f (ring n crew) s) (i : ℕ) → FoundAlone n i r.me (get_or s.words i 0)
   found_first n s r i none_off nought free = let one : length s.views ≡ 1 = r.seats ∙ ap (λ z. z + 1) none_off in (
     λ p a b is. let got = at_below r.stages p (subst (λ z. p < z) (sym r.as_many) b) in
         subst (λ z. Told r.me p (get_or s.words z 0)) is
@@ -61,7 +61,7 @@ module _ {J D : Type 0} (f : J → D) (crew : ℕ) where
   )
 
   -- what a seat finds in a word
-  pub found_alone : (n : ℕ) (s : St J D) (r : Shows f n crew s) (id : ℕ) (v : View J) (i : ℕ)
+  pub found_alone : (n : ℕ) (s : St J D) (r : Shows f (ring n crew) s) (id : ℕ) (v : View J) (i : ℕ)
       → get_elem? s.views id ≡ some v → v.spent ≡ false → FoundAlone n i v (get_or s.words i 0)
   found_alone n s r id v i at live none_off nought free =
       let first : id ≡ 0 = sym (r.each_seat id v at live).numbered ∙ nought in

@@ -1,5 +1,5 @@
 -- What the steps of a claim and a finish need and tell.
-use Rattle.std.proofs.Common.{◌≡◌, ℕ, zero, suc, ◌+◌, ◌-◌, ◌*◌, ◌/◌, ◌%◌, ◌^◌, ◌<◌, ◌≤◌, ◌≢◌, eqb, false, List, []}
+use Rattle.std.proofs.Common.{◌≡◌, ℕ, zero, suc, ◌+◌, ◌-◌, ◌*◌, ◌/◌, ◌%◌, ◌<◌, ◌≤◌, ◌≢◌, eqb, false, List, []}
 use Rattle.std.proofs.Common.{◌∷◌, ◌++◌, length, get_or, set, sym, refl, ap, ◌∙◌, subst, arith, mod-lt, suc-mul}
 use Rattle.std.proofs.Common.{div-add-mod', lt_of_not-le, Some, None}
 use Rattle.std.proofs.lemmas.List.{set-get_or}
@@ -21,13 +21,13 @@ use Rattle.lr_gate.specs.declared.view.View.{View}
 use Rattle.lr_gatecore.specs.declared.stage.Stage.{Stage}
 use Rattle.lr_gatecore.specs.declared.stage.Stage.TheVariants.{Ready, Busy, Done}
 use Rattle.lr_gate.specs.Words.{cell_word, finish_count}
-use Rattle.lr_gate.specs.Shows.{held_job, count_of, finishes_of, Lies, Shows}
+use Rattle.lr_gate.specs.Shows.{held_job, count_of, finishes_of, Lies, Shows, place_in}
 use Rattle.lr_gate.specs.Steps.{FoundAlone, read, SeatState, after_read, after_claim, after_finish, LookTells}
 use Rattle.lr_gate.specs.Steps.{ClaimTells, FinishTells}
 use Rattle.lr_gatecore.specs.declared.sizes.TheConstants.{MOST_JOBS, WORD_BASE}
 use Rattle.lr_gatecore.proofs.Lists.{at_length}
 use Rattle.lr_gate.proofs.Lists.{tag_of}
-use Rattle.lr_gate.proofs.Keeps.{St, Goes}
+use Rattle.lr_gate.proofs.Keeps.{St, Goes, ring}
 use Rattle.lr_gate.proofs.Looks.{read_shows}
 use Rattle.lr_gate.proofs.Alone.{found_alone}
 use Rattle.lr_gate.proofs.Works.{claim_shows, finish_shows}
@@ -76,11 +76,11 @@ module _ {J : Type 0} where
 
 module _ {J D : Type 0} (f : J → D) (crew : ℕ) where
   -- a cell whose word is ready
-  abbrev IsReady : (n : ℕ) (s : St J D) → Shows f n crew s → ℕ → ℕ → Type 0
+  abbrev IsReady : (n : ℕ) (s : St J D) → Shows f (ring n crew) s → ℕ → ℕ → Type 0
   IsReady n s r c found = (p : ℕ) × (r.me.taken ≤ p) × (p < r.me.taken + n) × (p % n ≡ c)
       × (get_elem? r.stages p ≡ some Ready) × (found ≡ p * WORD_BASE + 1) × (p < MOST_JOBS)
 
-  ready_at : (n : ℕ) (s : St J D) (r : Shows f n crew s) (c : ℕ) → c < n → get_or s.words (c + 1) 0 % 4 ≡ 1
+  ready_at : (n : ℕ) (s : St J D) (r : Shows f (ring n crew) s) (c : ℕ) → c < n → get_or s.words (c + 1) 0 % 4 ≡ 1
       → IsReady n s r c (get_or s.words (c + 1) 0)
   ready_at n s r c near one = let at = spot n r.me.taken c r.some_cell near in let p : ℕ = at.0 in
       let ok = r.each_cell p at.1 at.2 in
@@ -90,32 +90,34 @@ module _ {J D : Type 0} (f : J → D) (crew : ℕ) where
       let below : p < length r.stages = at_length r.stages p Ready stage in
       (p, at.1, at.2, at.3, stage, found ∙ ap (cell_word p) stage, omega (arith, below, r.as_many, r.few))
 
-  lone_at : (n slots id : ℕ) (m : SeatState J D) (i : ℕ) (s : St J D) (r : Shows f n crew s)
+  lone_at : (n slots id : ℕ) (m : SeatState J D) (i : ℕ) (s : St J D) (r : Shows f (ring n crew) s)
       → length s.homes ≡ slots → get_elem? s.views id ≡ some m.0 → m.0.spent ≡ false
       → FoundAlone slots i m.0 (get_or s.words i 0)
   lone_at n slots id m i s r wide at live =
       subst (λ (z : ℕ). FoundAlone z i m.0 (get_or s.words i 0)) (sym r.sized ∙ wide)
       (found_alone f crew n s r id m.0 i at live)
 
+  -- a read that leaves the word as it found it keeps the rule
+  found_stays : (n : ℕ) (s : St J D) (r : Shows f (ring n crew) s) (id : ℕ) (v : View J) (i : ℕ) (k : Read)
+      → get_elem? s.views id ≡ some v → v.spent ≡ false
+      → Shows f (ring n crew) record {
+        words = set s.words i (get_or s.words i 0);
+        homes = s.homes;
+        views = set s.views id (after_read v k);
+      }
+  found_stays n s r id v i k at live =
+      let views : List (View J) = set s.views id (after_read v k) in
+      subst (λ ws. Shows f (ring n crew) record { words = ws; homes = s.homes; views = views })
+      (sym (set-get_or s.words i 0)) (read_shows f crew n s r id v k at live)
+
   pub looks_go : (n slots id : ℕ) (m : SeatState J D) (i : ℕ) → m.0.spent ≡ false → i < n + 1
-      → Allows (Shows f n crew) slots id m i (λ z. z) (LookTells f (step slots i 0 0 none) m)
+      → Allows (Shows f (ring n crew)) slots id m i (λ z. z) (LookTells f (step slots i 0 0 none) m)
   looks_go n slots id m i live near s r wide at _ = let found : ℕ = get_or s.words i 0 in
-      let k : Read = read i None found in
-      let now : Shows f n crew record {
-        words = set s.words i found;
-        homes = s.homes;
-        views = set s.views id (after_read m.0 k);
-      } =
-      subst (λ ws. Shows f n crew record {
-        words = ws;
-        homes = s.homes;
-        views = set s.views id (after_read m.0 k);
-      }) (sym (set-get_or s.words i 0))
-      (read_shows f crew n s r id m.0 k at live) in (
+      let k : Read = read i None found in (
         after_read m.0 k,
         keeps,
         tt,
-        now,
+        found_stays n s r id m.0 i k at live,
         (
           refl,
           (λ one pos. let c : ℕ = i - 1 in let ic : i ≡ c + 1 = omega arith in
@@ -130,7 +132,7 @@ module _ {J D : Type 0} (f : J → D) (crew : ℕ) where
   LastRead v i old = (earlier : List Read) × (v.reads ≡ earlier ++ read i None old ∷ [])
 
   -- the expected word was found
-  claim_on : (n slots id : ℕ) (m : SeatState J D) (i old new q : ℕ) (s : St J D) (r : Shows f n crew s)
+  claim_on : (n slots id : ℕ) (m : SeatState J D) (i old new q : ℕ) (s : St J D) (r : Shows f (ring n crew) s)
       → m.0.spent ≡ false → m.0.held ≡ None → 0 < i → i < n + 1 → old ≡ q * WORD_BASE + 1
       → new ≡ old + 4 * m.0.number + 2 → LastRead m.0 i old
       → length s.homes ≡ slots → get_elem? s.views id ≡ some m.0 → get_or s.words i 0 ≡ old
@@ -143,9 +145,9 @@ module _ {J D : Type 0} (f : J → D) (crew : ℕ) where
       let tag : found % 4 ≡ 1 = ap (λ (z : ℕ). z % 4) hit ∙ tag_old in
       let g = ready_at n s r c (omega arith) (subst (λ (z : ℕ). get_or s.words z 0 % 4 ≡ 1) ic tag) in
       let p : ℕ = g.0 in let found_is : found ≡ p * WORD_BASE + 1 = ap (λ (z : ℕ). get_or s.words z 0) ic ∙ g.5 in
-      let lies : Lies f r.me s.homes s.views p (p % n) (some Ready) = subst (Lies f r.me s.homes s.views p
-      (p % n)) g.4 (r.each_cell p g.1 g.2).lies in let j : J = lies.0 in
-      let S : ℕ → ℕ → ℕ → Type 0 = λ x y z. Shows f n crew record {
+      let lies : Lies f r.me s (place_in n p) (some Ready) =
+      subst (Lies f r.me s (place_in n p)) g.4 (r.each_cell p g.1 g.2).lies in let j : J = lies.0 in
+      let S : ℕ → ℕ → ℕ → Type 0 = λ x y z. Shows f (ring n crew) record {
         words = set s.words x y;
         homes = set s.homes z none;
         views = set s.views id (after_claim m.0 k (held_job z p j));
@@ -174,27 +176,16 @@ module _ {J D : Type 0} (f : J → D) (crew : ℕ) where
         ),
       )
 
-  claim_off : (n slots id : ℕ) (m : SeatState J D) (i old new q : ℕ) (s : St J D) (r : Shows f n crew s)
+  claim_off : (n slots id : ℕ) (m : SeatState J D) (i old new q : ℕ) (s : St J D) (r : Shows f (ring n crew) s)
       → m.0.spent ≡ false → old ≡ q * WORD_BASE + 1 → LastRead m.0 i old → length s.homes ≡ slots
       → get_elem? s.views id ≡ some m.0 → get_or s.words i 0 ≢ old
       → Goes f crew n s i id m (get_or s.words i 0) (ClaimTells f (step slots i old new none) m (get_or s.words i 0))
   claim_off n slots id m i old new q s r live old_is last wide at miss = let found : ℕ = get_or s.words i 0 in
-      let k : Read = read i (Some old) found in
-      let now : Shows f n crew record {
-        words = set s.words i found;
-        homes = s.homes;
-        views = set s.views id (after_read m.0 k);
-      } =
-      subst (λ ws. Shows f n crew record {
-        words = ws;
-        homes = s.homes;
-        views = set s.views id (after_read m.0 k);
-      }) (sym (set-get_or s.words i 0))
-      (read_shows f crew n s r id m.0 k at live) in (
+      let k : Read = read i (Some old) found in (
         after_read m.0 k,
         keeps,
         tt,
-        now,
+        found_stays n s r id m.0 i k at live,
         (
           (last.0, last.1, ap (λ (z : ℕ). z % 4) old_is ∙ tag_of q 1),
           (λ hit. absurd (miss hit)),
@@ -205,7 +196,7 @@ module _ {J D : Type 0} (f : J → D) (crew : ℕ) where
 
   pub claims_go : (n slots id : ℕ) (m : SeatState J D) (i old new q : ℕ) → m.0.spent ≡ false → m.0.held ≡ None
       → 0 < i → i < n + 1 → old ≡ q * WORD_BASE + 1 → new ≡ old + 4 * m.0.number + 2 → LastRead m.0 i old
-      → Allows (Shows f n crew) slots id m i (λ z. either (eqb z old) new z)
+      → Allows (Shows f (ring n crew)) slots id m i (λ z. either (eqb z old) new z)
       (ClaimTells f (step slots i old new none) m)
   claims_go n slots id m i old new q live free pos near old_is new_is last s r wide at _ =
       let found : ℕ = get_or s.words i 0 in
@@ -216,9 +207,9 @@ module _ {J D : Type 0} (f : J → D) (crew : ℕ) where
   pub finishes_go : (n slots id : ℕ) (m : SeatState J D) (i new c : ℕ) (h : Held J) (more : List (ℕ × SlotValue J D))
       → m.0.spent ≡ false → m.0.held ≡ Some h → h.cell ≡ c → m.1 ≡ (c, Made (f h.what)) ∷ more → i ≡ c + 1
       → new ≡ h.job * WORD_BASE + 2
-      → Allows (Shows f n crew) slots id m i (λ _. new) (λ _. FinishTells f (step slots i new 0 none) m new)
+      → Allows (Shows f (ring n crew)) slots id m i (λ _. new) (λ _. FinishTells f (step slots i new 0 none) m new)
   finishes_go n slots id m i new c h more live holds cell has word new_is s r wide at _ =
-      let S : List (ℕ × SlotValue J D) → ℕ → ℕ → Type 0 = λ cs x y. Shows f n crew record {
+      let S : List (ℕ × SlotValue J D) → ℕ → ℕ → Type 0 = λ cs x y. Shows f (ring n crew) record {
         words = set s.words x y;
         homes = table.put_back s.homes cs;
         views = set s.views id (after_finish m.0 h.job);

@@ -6,11 +6,11 @@ use lib.ListN.{get_elem?}
 use Rattle.atomic_table.specs.Table.{Joins}
 use Rattle.atomic_table.proofs.Lists.{at_set, set_here, set_else}
 use Rattle.lr_gate.specs.declared.view.View.{View}
-use Rattle.lr_gate.specs.Shows.{held_job, count_of, finishes_of, IsJoinedView, Shows}
+use Rattle.lr_gate.specs.Shows.{held_job, count_of, finishes_of, IsJoinedView, Shows, place_in}
 use Rattle.lr_gate.specs.Steps.{after_join, spent_view}
 use Rattle.lr_gatecore.proofs.Lists.{at_length}
 use Rattle.lr_gate.proofs.Lists.{none_not_some}
-use Rattle.lr_gate.proofs.Keeps.{St, lies_stay}
+use Rattle.lr_gate.proofs.Keeps.{St, lies_stay, ring}
 use Rattle.lr_gate.proofs.Works.{held_apart}
 
 times_both : (i : ℕ) (xs ys : List ℕ) → count_of i (xs ++ ys) ≡ count_of i xs + count_of i ys
@@ -35,15 +35,16 @@ module _ {J : Type 0} where
       let c = times_both i v.finished w.finished in omega (arith, a, b, c)
 
 module _ {J D : Type 0} (f : J → D) (crew : ℕ) where
-  join_shows : (n : ℕ) (s : St J D) (r : Shows f n crew s) (k : ℕ) (w : View J) → k ≢ 0
+  join_shows : (n : ℕ) (s : St J D) (r : Shows f (ring n crew) s) (k : ℕ) (w : View J) → k ≢ 0
       → get_elem? (set s.views 0 (after_join r.me w)) k ≡ some w → w.held ≡ None
-      → Shows f n crew record {
+      → Shows f (ring n crew) record {
         words = s.words;
         homes = s.homes;
         views = set (set s.views 0 (after_join r.me w)) k spent_view;
       }
   join_shows n s r k w other there free = let me' : View J = after_join r.me w in
-      let mid : List (View J) = set s.views 0 me' in let views' : List (View J) = set mid k spent_view in
+      let mid : List (View J) = set s.views 0 me' in
+      let s' : St J D = record { words = s.words; homes = s.homes; views = set mid k spent_view } in
       let first : get_elem? mid 0 ≡ some me' = set_here s.views 0 me' (at_length s.views 0 r.me r.first) in record {
         stages = r.stages;
         me = me';
@@ -64,7 +65,7 @@ module _ {J D : Type 0} (f : J → D) (crew : ℕ) where
         crew = r.crew;
         each_cell = λ q a b. let ok = r.each_cell q a b in record {
           word = ok.word;
-          lies = lies_stay f r.me me' s.homes s.homes s.views views' q (q % n) refl refl (λ x e. e) refl
+          lies = lies_stay f r.me me' s s' (place_in n q) refl refl (λ x e. e) refl
               (λ by x h. held_apart mid k w spent_view by (held_job (q % n) q x) there
               (λ e. none_not_some (held_job (q % n) q x) (sym free ∙ e))
               (Rattle.lr_gate.proofs.Keeps.held_stays s.views 0 r.me me' by
@@ -98,10 +99,10 @@ module _ {J D : Type 0} (f : J → D) (crew : ℕ) where
       }
 
   pub joins_go : (n id : ℕ) (v : View J) (k : ℕ) (w : View J) → id ≡ 0 → w.held ≡ None
-      → Joins (Shows f n crew) id v k w (after_join v w) spent_view
+      → Joins (Shows f (ring n crew)) id v k w (after_join v w) spent_view
   joins_go n id v k w first free s r at other there =
       let is : r.me ≡ v = some-injective r.me v (sym r.first ∙ (ap (get_elem? s.views) (sym first) ∙ at)) in
-      let S : ℕ → View J → Type 0 = λ z u. Shows f n crew record {
+      let S : ℕ → View J → Type 0 = λ z u. Shows f (ring n crew) record {
         words = s.words;
         homes = s.homes;
         views = set (set s.views z (after_join u w)) k spent_view;

@@ -1,5 +1,5 @@
 -- The steps of the conductor keep the rule.
-use Rattle.std.proofs.Common.{◌≡◌, ℕ, zero, suc, ◌+◌, ◌*◌, ◌%◌, ◌^◌, ◌<◌, ◌≤◌, ◌≢◌, Bool, cond, List, [], ◌∷◌, ◌++◌}
+use Rattle.std.proofs.Common.{◌≡◌, ℕ, zero, suc, ◌+◌, ◌*◌, ◌%◌, ◌<◌, ◌≤◌, ◌≢◌, Bool, cond, List, [], ◌∷◌, ◌++◌}
 use Rattle.std.proofs.Common.{length, set, sym, refl, ap, ◌∙◌, subst, ⊎_elim, arith, length-set, length-append}
 use Rattle.std.proofs.Common.{get_or-set_same, get_or-set_other, mod-lt}
 use mathlib.Core.Option.{none, some, some-injective, some-ne-none}
@@ -14,10 +14,11 @@ use Rattle.lr_gate.specs.declared.slot_value.SlotValue.{SlotValue}
 use Rattle.lr_gate.specs.declared.slot_value.SlotValue.TheVariants.{Empty, Given, Made}
 use Rattle.lr_gate.specs.declared.view.Held.{Held}
 use Rattle.lr_gate.specs.declared.view.View.{View}
+use Rattle.lr_gatecore.specs.declared.ring_size.RingSize.{RingSize}
 use Rattle.lr_gatecore.specs.declared.stage.Stage.{Stage}
 use Rattle.lr_gatecore.specs.declared.stage.Stage.TheVariants.{Ready, Busy, Done}
 use Rattle.lr_gate.specs.Words.{cell_word, finish_count}
-use Rattle.lr_gate.specs.Shows.{held_job, IsHeldBy, is_being_taken, Lies, IsCellShown, Shows}
+use Rattle.lr_gate.specs.Shows.{held_job, IsHeldBy, is_being_taken, Lies, IsCellShown, Shows, JobPlace, place_in}
 use Rattle.lr_gate.specs.Steps.{SeatState, after_put, put_view, PutTells}
 use Rattle.lr_gate.proofs.Alike.{spents_stay}
 use Rattle.lr_gatecore.specs.declared.sizes.TheConstants.{MOST_JOBS, WORD_BASE}
@@ -42,19 +43,23 @@ Homes J D = List (maybe.Option (SlotValue J D))
 abbrev pub St : Type 0 → Type 0 → Type 0
 St J D = State (SlotValue J D) (View J)
 
+-- a ring with n cells
+abbrev pub ring : ℕ → ℕ → RingSize
+ring n workers = record { cells = n; workers = workers }
+
 module _ {J D : Type 0} (f : J → D) where
-  pub lies_stay : (me me' : View J) (homes homes' : Homes J D) (views views' : List (View J)) (p c : ℕ)
-      → me'.stocked ≡ me.stocked → is_being_taken me' p ≡ is_being_taken me p
-      → ((x : J) → get_elem? me.jobs p ≡ some x → get_elem? me'.jobs p ≡ some x)
-      → get_elem? homes' c ≡ get_elem? homes c
-      → ((w : ℕ) (j : J) → IsHeldBy views w (held_job c p j) → IsHeldBy views' w (held_job c p j))
-      → (o : maybe.Option Stage) → Lies f me homes views p c o → Lies f me' homes' views' p c o
-  lies_stay me me' homes homes' views views' p c st hid more same who none k =
+  pub lies_stay : (me me' : View J) (s s' : St J D) (p : JobPlace)
+      → me'.stocked ≡ me.stocked → is_being_taken me' p.job ≡ is_being_taken me p.job
+      → ((x : J) → get_elem? me.jobs p.job ≡ some x → get_elem? me'.jobs p.job ≡ some x)
+      → get_elem? s'.homes p.cell ≡ get_elem? s.homes p.cell
+      → ((w : ℕ) (j : J) → IsHeldBy s.views w (held_job p.cell p.job j)
+      → IsHeldBy s'.views w (held_job p.cell p.job j))
+      → (o : maybe.Option Stage) → Lies f me s p o → Lies f me' s' p o
+  lies_stay me me' s s' p st hid more same who none k =
       same ∙ (k ∙ ap (λ (b : Bool). some (cond b none (some Empty))) (sym st))
-  lies_stay me me' homes homes' views views' p c st hid more same who (some Ready) k = (k.0, more k.0 k.1, same ∙ k.2)
-  lies_stay me me' homes homes' views views' p c st hid more same who (some (Busy w)) k =
-      (k.0, more k.0 k.1, same ∙ k.2, who w k.0 k.3)
-  lies_stay me me' homes homes' views views' p c st hid more same who (some Done) k =
+  lies_stay me me' s s' p st hid more same who (some Ready) k = (k.0, more k.0 k.1, same ∙ k.2)
+  lies_stay me me' s s' p st hid more same who (some (Busy w)) k = (k.0, more k.0 k.1, same ∙ k.2, who w k.0 k.3)
+  lies_stay me me' s s' p st hid more same who (some Done) k =
       (k.0, more k.0 k.1, same ∙ (k.2 ∙ ap (λ (b : Bool). some (cond b none (some (Made (f k.0))))) (sym hid)))
 
 module _ {J D : Type 0} (f : J → D) (crew : ℕ) where
@@ -65,9 +70,9 @@ module _ {J D : Type 0} (f : J → D) (crew : ℕ) where
   put_ends (suc i) (x ∷ xs) = put_ends i xs
 
   -- the next job goes into its cell
-  unfoldable pub put_shows : (n : ℕ) (s : St J D) (r : Shows f n crew s) (j : J) → length r.me.jobs < MOST_JOBS
+  unfoldable pub put_shows : (n : ℕ) (s : St J D) (r : Shows f (ring n crew) s) (j : J) → length r.me.jobs < MOST_JOBS
       → length r.me.jobs < r.me.taken + n
-      → Shows f n crew record {
+      → Shows f (ring n crew) record {
         words = set s.words (length r.me.jobs % n + 1) (length r.me.jobs * WORD_BASE + 1);
         homes = set s.homes (length r.me.jobs % n) (some (Given j));
         views = set s.views 0 (after_put r.me j);
@@ -78,6 +83,7 @@ module _ {J D : Type 0} (f : J → D) (crew : ℕ) where
       let near : c < n = mod-lt p r.some_cell in let homes' : Homes J D = set s.homes c (some (Given j)) in
       let views' : List (View J) = set s.views 0 me' in
       let words' : List ℕ = set s.words (c + 1) (p * WORD_BASE + 1) in
+      let s' : St J D = record { words = words'; homes = homes'; views = views' } in
       let some_view : 0 < length s.views = at_length s.views 0 r.me r.first in
       let long : length st' ≡ length r.stages + 1 = length-append r.stages (Ready ∷ []) in
       let here : get_elem? st' p ≡ some Ready = at_last r.stages Ready p many in
@@ -101,10 +107,9 @@ module _ {J D : Type 0} (f : J → D) (crew : ℕ) where
         crew = r.crew;
         each_spent = spents_stay s.views 0 me' r.awake r.each_spent;
         each_cell = λ q a b. dite (ℕ_discrete q p)
-            (λ e. subst (IsCellShown f n me' st' record { words = words'; homes = homes'; views = views' })
-            (sym e) record {
+            (λ e. subst (λ (z : ℕ). IsCellShown f me' st' s' (place_in n z)) (sym e) record {
               word = get_or-set_same s.words (c + 1) (p * WORD_BASE + 1) 0 (omega arith) ∙ ap (cell_word p) (sym here);
-              lies = subst (Lies f me' homes' views' p c) (sym here) (
+              lies = subst (Lies f me' s' (place_in n p)) (sym here) (
                 j,
                 at_last r.me.jobs j p refl,
                 set_here s.homes c (some (Given j)) (subst (λ (m : ℕ). c < m) (sym r.sized) near),
@@ -116,8 +121,8 @@ module _ {J D : Type 0} (f : J → D) (crew : ℕ) where
             (λ e. ne (e ∙ many)) in record {
               word = get_or-set_other s.words (c + 1) (q % n + 1) (p * WORD_BASE + 1) 0 (λ e. apart (omega arith))
                   ∙ (ok.word ∙ ap (cell_word q) (sym stage));
-              lies = subst (Lies f me' homes' views' q (q % n)) (sym stage)
-                  (lies_stay f r.me me' s.homes homes' s.views views' q (q % n) refl refl
+              lies = subst (Lies f me' s' (place_in n q)) (sym stage)
+                  (lies_stay f r.me me' s s' (place_in n q) refl refl
                   (at_longer r.me.jobs (j ∷ []) q)
                   (set_else s.homes c (q % n) (some (Given j)) apart)
                   (λ w x. held_stays s.views 0 r.me me' w (held_job (q % n) q x) r.first refl)
@@ -151,12 +156,12 @@ module _ {J D : Type 0} (f : J → D) (crew : ℕ) where
 
   abbrev pub Goes : ℕ → St J D → ℕ → ℕ → SeatState J D → ℕ → (SeatState J D → Type 0) → Type 0
   Goes n s i id m new then = (w : View J) × (a : Act (SlotValue J D)) × Valid s.homes m.1 a
-      × Shows f n crew (stepped s i new id m.1 w a) × then (w, carried_after m.1 a)
+      × Shows f (ring n crew) (stepped s i new id m.1 w a) × then (w, carried_after m.1 a)
 
   pub puts_go : (n slots id : ℕ) (m : SeatState J D) (i new c p : ℕ) (j : J) (more : List (ℕ × SlotValue J D))
       → id ≡ 0 → m.1 ≡ (c, Given j) ∷ more → p ≡ length m.0.jobs → c ≡ p % n → i ≡ c + 1 → new ≡ p * WORD_BASE + 1
       → p < MOST_JOBS → p < m.0.taken + n
-      → Allows (Shows f n crew) slots id m i (λ _. new) (λ _. PutTells (step slots i new 0 none) m new)
+      → Allows (Shows f (ring n crew)) slots id m i (λ _. new) (λ _. PutTells (step slots i new 0 none) m new)
   puts_go n slots id m i new c p j more first has many cell word new_is few room s r wide at _ =
       let is : r.me ≡ m.0 = some-injective r.me m.0 (sym r.first ∙ (ap (get_elem? s.views) (sym first) ∙ at)) in
       let q : ℕ = length r.me.jobs in let pq : p ≡ q = many ∙ ap (λ (v : View J). length v.jobs) (sym is) in
@@ -167,7 +172,7 @@ module _ {J D : Type 0} (f : J → D) (crew : ℕ) where
       let n' : new ≡ q * WORD_BASE + 1 = new_is ∙ ap (λ (z : ℕ). z * WORD_BASE + 1) pq in
       let told : SeatState J D → Type 0 = PutTells (step slots i new 0 none) m new in
       let S : List (ℕ × SlotValue J D) → ℕ → ℕ → ℕ → View J
-      → Type 0 = λ cs x y z v. Shows f n crew record {
+      → Type 0 = λ cs x y z v. Shows f (ring n crew) record {
         words = set s.words x y;
         homes = table.put_back s.homes cs;
         views = set s.views z (after_put v j);

@@ -1,5 +1,5 @@
 -- A seat noted a load, and nothing else changed.
-use Rattle.std.proofs.Common.{◌≡◌, ℕ, ◌+◌, ◌%◌, ◌^◌, ◌<◌, ◌≤◌, ◌≢◌, false, List, length, set, sym, refl, ap, ◌∙◌}
+use Rattle.std.proofs.Common.{◌≡◌, ℕ, ◌+◌, ◌%◌, ◌<◌, ◌≤◌, ◌≢◌, false, length, set, sym, refl, ap, ◌∙◌}
 use Rattle.std.proofs.Common.{subst, ⊎_elim, length-set}
 use mathlib.Core.Option.{some}
 use lib.ListN.{get_elem?}
@@ -8,28 +8,19 @@ use Rattle.lr_gatecore.specs.declared.stage.Stage.TheVariants.{Busy}
 use Rattle.lr_gatecore.specs.declared.sizes.TheConstants.{MOST_JOBS}
 use Rattle.lr_gate.specs.declared.view.Read.{Read}
 use Rattle.lr_gate.specs.declared.view.View.{View}
-use Rattle.lr_gate.specs.Shows.{held_job, Shows}
+use Rattle.lr_gate.specs.Shows.{held_job, Shows, place_in}
 use Rattle.lr_gate.specs.Steps.{after_read}
 use Rattle.lr_gate.proofs.Lists.{same_finishes}
-use Rattle.lr_gate.proofs.Alike.{Alike, first_after, hidden_same, seat_same, spents_stay}
-use Rattle.lr_gate.proofs.Keeps.{St, held_stays, lies_stay}
+use Rattle.lr_gate.proofs.Alike.{Alike, seat_steps, first_after, hidden_same, seat_same, spents_stay}
+use Rattle.lr_gate.proofs.Keeps.{St, held_stays, lies_stay, ring}
 
 module _ {J D : Type 0} (f : J → D) (crew : ℕ) where
-  pub read_shows : (n : ℕ) (s : St J D) (r : Shows f n crew s) (id : ℕ) (v : View J) (k : Read)
+  pub read_shows : (n : ℕ) (s : St J D) (r : Shows f (ring n crew) s) (id : ℕ) (v : View J) (k : Read)
       → get_elem? s.views id ≡ some v → v.spent ≡ false
-      → Shows f n crew record { words = s.words; homes = s.homes; views = set s.views id (after_read v k) }
+      → Shows f (ring n crew) record { words = s.words; homes = s.homes; views = set s.views id (after_read v k) }
   read_shows n s r id v k at live = let v' : View J = after_read v k in
-      let views' : List (View J) = set s.views id v' in
-      let like : Alike v v' = record {
-        spent = refl;
-        stocked = refl;
-        stopped = refl;
-        taking = refl;
-        taken = refl;
-        split_off = refl;
-        jobs = refl;
-      } in
-      let front = first_after s.views id v v' r.me r.first at like in let me' : View J = front.0 in
+      let s' : St J D = record { words = s.words; homes = s.homes; views = set s.views id v' } in
+      let front = first_after s.views id v v' r.me r.first at (seat_steps v _ _ _) in let me' : View J = front.0 in
       let same : Alike r.me me' = front.2 in
       let taken : me'.taken ≡ r.me.taken = same.taken in record {
         stages = r.stages;
@@ -52,7 +43,7 @@ module _ {J D : Type 0} (f : J → D) (crew : ℕ) where
         each_cell = λ q a b. let ok = r.each_cell q (subst (λ z. z ≤ q) taken a)
             (subst (λ z. q < z + n) taken b) in record {
               word = ok.word;
-              lies = lies_stay f r.me me' s.homes s.homes s.views views' q (q % n) same.stocked
+              lies = lies_stay f r.me me' s s' (place_in n q) same.stocked
                   (hidden_same r.me me' q same) (λ x e. subst (λ xs. get_elem? xs q ≡ some x) (sym same.jobs) e) refl
                   (λ w x. held_stays s.views id v v' w (held_job (q % n) q x) at refl) (get_elem? r.stages q) ok.lies;
             };

@@ -13,12 +13,12 @@ use Rattle.atomic_table.proofs.Lists.{set_here, set_else}
 use Rattle.lr_gate.specs.declared.slot_value.SlotValue.{SlotValue}
 use Rattle.lr_gate.specs.declared.slot_value.SlotValue.TheVariants.{Empty}
 use Rattle.lr_gate.specs.declared.view.View.{View}
-use Rattle.lr_gate.specs.Shows.{Lies, Shows}
+use Rattle.lr_gate.specs.Shows.{Lies, Shows, place_in}
 use Rattle.lr_gate.specs.Steps.{SeatState, new_view, after_stock, free_cells, StockTells}
 use Rattle.lr_gatecore.proofs.Lists.{at_above, at_length}
 use Rattle.lr_gate.proofs.Lists.{at_end, none_not_some, same_finishes, free_snoc_at}
 use Rattle.lr_gate.proofs.Alike.{spents_stay}
-use Rattle.lr_gate.proofs.Keeps.{St, Homes}
+use Rattle.lr_gate.proofs.Keeps.{St, Homes, ring}
 use Rattle.lr_gate.proofs.Takes.{seats_stay}
 
 zeros : (k j : ℕ) → ◌≡◌ {A = ℕ} (get_or (replicate k 0) j 0) 0
@@ -84,7 +84,7 @@ module _ {J D : Type 0} where
 
 module _ {J D : Type 0} (f : J → D) (crew : ℕ) where
   -- all cells are free and at home
-  pub opens : (n : ℕ) → 0 < n → Shows f n crew (opening (replicate (n + 1) 0) (replicate n Empty) (new_view 0))
+  pub opens : (n : ℕ) → 0 < n → Shows f (ring n crew) (opening (replicate (n + 1) 0) (replicate n Empty) (new_view 0))
   opens n pos = let hs : List (SlotValue J D) = replicate n Empty in let me : View J = new_view 0 in record {
     stages = [];
     me = me;
@@ -116,10 +116,11 @@ module _ {J D : Type 0} (f : J → D) (crew : ℕ) where
   }
 
   -- the conductor picks all cells up
-  stock_shows : (n : ℕ) (s : St J D) (r : Shows f n crew s) (homes' : List (maybe.Option (SlotValue J D)))
+  stock_shows : (n : ℕ) (s : St J D) (r : Shows f (ring n crew) s) (homes' : List (maybe.Option (SlotValue J D)))
       → r.me.jobs ≡ [] → length homes' ≡ n → ((c : ℕ) → c < n → get_elem? homes' c ≡ some none)
-      → Shows f n crew record { words = s.words; homes = homes'; views = set s.views 0 (after_stock r.me) }
+      → Shows f (ring n crew) record { words = s.words; homes = homes'; views = set s.views 0 (after_stock r.me) }
   stock_shows n s r homes' none_put long out = let me' : View J = after_stock r.me in
+      let s' : St J D = record { words = s.words; homes = homes'; views = set s.views 0 me' } in
       let empty : length r.stages ≡ 0 = r.as_many ∙ ap length none_put in record {
         stages = r.stages;
         me = me';
@@ -143,7 +144,7 @@ module _ {J D : Type 0} (f : J → D) (crew : ℕ) where
             let free : get_elem? r.stages q ≡ none = at_above r.stages q (omega arith) in
             record {
               word = ok.word;
-              lies = subst (Lies f me' homes' (set s.views 0 me') q (q % n)) (sym free)
+              lies = subst (Lies f me' s' (place_in n q)) (sym free)
                   (out (q % n) (mod-lt q r.some_cell));
             };
         each_seat = seats_stay r.me me' r.stages r.stages n s.views r.first refl refl refl (λ p x e. e)
@@ -151,7 +152,7 @@ module _ {J D : Type 0} (f : J → D) (crew : ℕ) where
       }
 
   pub stocks_go : (n slots id : ℕ) (m : SeatState J D) (i : ℕ) → slots ≡ n → id ≡ 0 → m ≡ (new_view 0, [])
-      → Allows (Shows f n crew) slots id m i (λ z. z) (StockTells (step slots i 0 0 none) m)
+      → Allows (Shows f (ring n crew)) slots id m i (λ z. z) (StockTells (step slots i 0 0 none) m)
   stocks_go n slots id m i sized first start s r wide at _ = let found : ℕ = get_or s.words i 0 in
       let fresh : m.0 ≡ new_view 0 = ap (λ (x : SeatState J D). x.0) start in
       let is : r.me ≡ m.0 = some-injective r.me m.0 (sym r.first ∙ (ap (get_elem? s.views) (sym first) ∙ at)) in
@@ -162,13 +163,13 @@ module _ {J D : Type 0} (f : J → D) (crew : ℕ) where
       let none_out : length r.stages ≡ 0 = r.as_many ∙ ap length no_job in
       let ok = r.each_cell j (omega arith) (omega arith) in
       let free : get_elem? r.stages j ≡ none = at_above r.stages j (omega arith) in
-      let lies : Lies f r.me s.homes s.views j (j % n) none = subst (Lies f r.me s.homes s.views j
-      (j % n)) free ok.lies in
+      let lies : Lies f r.me s (place_in n j) none =
+      subst (Lies f r.me s (place_in n j)) free ok.lies in
       ap (get_elem? s.homes) (sym (mod-eq_of_lt l))
       ∙ (lies ∙ ap (λ (b : Bool). some (cond b none (some Empty))) (ap (λ (v : View J). v.stocked) is')) in
       let act : Act (SlotValue J D) = take_all n in
       let homes' : List (maybe.Option (SlotValue J D)) = homes_after s.homes m.1 act in
-      let S : List ℕ → ℕ → View J → Type 0 = λ ws z v. Shows f n crew record {
+      let S : List ℕ → ℕ → View J → Type 0 = λ ws z v. Shows f (ring n crew) record {
         words = ws;
         homes = homes';
         views = set s.views z (after_stock v);

@@ -10,14 +10,14 @@ use Rattle.lr_gate.specs.Steps.{after_claim, after_finish}
 use Rattle.lr_gate.specs.Moves.{PutIsMove, ClaimIsMove, FinishIsMove, TakeIsMove, StopIsMove}
 use Rattle.lr_gatecore.proofs.Lists.{at_length}
 use Rattle.lr_gate.proofs.Lists.{none_not_some}
-use Rattle.lr_gate.proofs.Alike.{Alike, first_after}
-use Rattle.lr_gate.proofs.Keeps.{St, put_shows}
+use Rattle.lr_gate.proofs.Alike.{Alike, seat_steps, first_after}
+use Rattle.lr_gate.proofs.Keeps.{St, put_shows, ring}
 use Rattle.lr_gate.proofs.Takes.{take_shows, stop_shows}
 use Rattle.lr_gate.proofs.Works.{claim_shows, finish_at}
 use Rattle.lr_gate.proofs.Shown.{busy_by}
 
 module _ {J D : Type 0} (f : J → D) (crew : ℕ) where
-  pub put_moves : (n : ℕ) (s : St J D) (r : Shows f n crew s) → PutIsMove f n crew s r
+  pub put_moves : (n : ℕ) (s : St J D) (r : Shows f (ring n crew) s) → PutIsMove f (ring n crew) s r
   unfolding put_shows
   put_moves n s r j running few room = let many : length r.stages ≡ length r.me.jobs = r.as_many in (
     put_shows f crew n s r j few room,
@@ -38,20 +38,12 @@ module _ {J D : Type 0} (f : J → D) (crew : ℕ) where
       }
   same_machine st me me' a = ap₂ (λ t b. record { stages = st; taken = t; stopped = b }) a.taken a.stopped
 
-  pub claim_moves : (n : ℕ) (s : St J D) (r : Shows f n crew s) → ClaimIsMove f n crew s r
+  pub claim_moves : (n : ℕ) (s : St J D) (r : Shows f (ring n crew) s) → ClaimIsMove f (ring n crew) s r
   unfolding claim_shows
   claim_moves n s r w p v k j at live free has job = let b = at_length r.stages p Ready has.1 in
       let in_n : length r.stages ≤ r.me.taken + n = r.within in
       let v' : View J = after_claim v k (held_job (p % n) p j) in
-      let like : Alike v v' = record {
-        spent = refl;
-        stocked = refl;
-        stopped = refl;
-        taking = refl;
-        taken = refl;
-        split_off = refl;
-        jobs = refl;
-      } in let front = first_after s.views w v v' r.me r.first at like in
+      let front = first_after s.views w v v' r.me r.first at (seat_steps v _ _ _) in
       let low = at_length s.views w v at in let many = r.seats in let most = r.crew in (
         claim_shows f crew n s r w p v k j at live free has.0 (omega arith) has.1 job,
         (
@@ -66,28 +58,20 @@ module _ {J D : Type 0} (f : J → D) (crew : ℕ) where
         ),
       )
 
-  pub finish_moves : (n : ℕ) (s : St J D) (r : Shows f n crew s) → FinishIsMove f n crew s r
+  pub finish_moves : (n : ℕ) (s : St J D) (r : Shows f (ring n crew) s) → FinishIsMove f (ring n crew) s r
   unfolding finish_at
   finish_moves n s r w v h at live is = let g = (r.each_seat w v at live).holds h is in
       let v' : View J = after_finish v h.job in
-      let like : Alike v v' = record {
-        spent = refl;
-        stocked = refl;
-        stopped = refl;
-        taking = refl;
-        taken = refl;
-        split_off = refl;
-        jobs = refl;
-      } in let front = first_after s.views w v v' r.me r.first at like in (
+      let front = first_after s.views w v v' r.me r.first at (seat_steps v _ _ _) in (
         finish_at f crew n s r w v h at live is g.0 g.2 g.3,
         ((g.0, g.2), same_machine (set r.stages h.job Done) r.me front.0 front.2),
       )
 
-  pub take_moves : (n : ℕ) (s : St J D) (r : Shows f n crew s) → TakeIsMove f n crew s r
+  pub take_moves : (n : ℕ) (s : St J D) (r : Shows f (ring n crew) s) → TakeIsMove f (ring n crew) s r
   unfolding take_shows
   take_moves n s r going full =
       (take_shows f crew n s r going full, ((le_refl r.me.taken, r.taking_is going), refl, refl))
 
-  pub stop_moves : (n : ℕ) (s : St J D) (r : Shows f n crew s) → StopIsMove f n crew s r
+  pub stop_moves : (n : ℕ) (s : St J D) (r : Shows f (ring n crew) s) → StopIsMove f (ring n crew) s r
   unfolding stop_shows
   stop_moves n s r running = (stop_shows f crew n s r, (running, refl, refl))

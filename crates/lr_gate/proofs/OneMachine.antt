@@ -11,7 +11,7 @@ use Rattle.lr_gatecore.specs.declared.stage.Stage.TheVariants.{Ready, Busy, Done
 use Rattle.lr_gate.specs.Words.{cell_word}
 use Rattle.lr_gate.specs.Shows.{flag, Shows, machine_shown}
 use Rattle.lr_gatecore.proofs.Lists.{at_above}
-use Rattle.lr_gate.proofs.Keeps.{St}
+use Rattle.lr_gate.proofs.Keeps.{St, ring}
 
 -- a cell's word tells the stage of its job
 same_stage : (p : ℕ) (a b : maybe.Option Stage) → cell_word p a ≡ cell_word p b → a ≡ b
@@ -46,7 +46,7 @@ same_list (x ∷ xs) (y ∷ ys) h =
     ap₂ (λ a l. a ∷ l) (some-injective x y (h 0)) (same_list xs ys (λ i. h (suc i)))
 
 module _ {J D : Type 0} (f : J → D) (n workers : ℕ) where
-  stage_same : (s t : St J D) (r : Shows f n workers s) (q : Shows f n workers t) → t.words ≡ s.words
+  stage_same : (s t : St J D) (r : Shows f (ring n workers) s) (q : Shows f (ring n workers) t) → t.words ≡ s.words
       → q.me.taken ≡ r.me.taken → (i : ℕ) → get_elem? q.stages i ≡ get_elem? r.stages i
   stage_same s t r q words taken i = dite (dec_lt i r.me.taken)
       (λ old. q.past i (omega arith) ∙ sym (r.past i old))
@@ -57,8 +57,8 @@ module _ {J D : Type 0} (f : J → D) (n workers : ℕ) where
       (λ far. at_above q.stages i (let w = q.within in omega arith)
       ∙ sym (at_above r.stages i (let w = r.within in omega arith))))
 
-  pub same_words : (s t : St J D) (r : Shows f n workers s) (q : Shows f n workers t) → t.words ≡ s.words
-      → q.me.taken ≡ r.me.taken → machine_shown f n workers t q ≡ machine_shown f n workers s r
+  pub same_words : (s t : St J D) (r : Shows f (ring n workers) s) (q : Shows f (ring n workers) t) → t.words ≡ s.words
+      → q.me.taken ≡ r.me.taken → machine_shown f (ring n workers) t q ≡ machine_shown f (ring n workers) s r
   same_words s t r q words taken =
       let stopped : q.me.stopped ≡ r.me.stopped = same_flag q.me.stopped r.me.stopped
       (sym q.stop_is ∙ (ap (λ (ws : List ℕ). get_or ws 0 0) words ∙ r.stop_is)) in

@@ -4,6 +4,7 @@ use Rattle.std.proofs.Common.{ap, ◌∙◌, subst, arith, mod-lt, true≢false}
 use Rattle.std.specs.Prelude.{IsTrue, ◌↔◌}
 use mathlib.Core.Logic.{dite}
 use native.Mathlib.Decide.{ℕ_discrete, dec_le}
+use Rattle.lr_gate.specs.declared.round.CellRange.{CellRange}
 use Rattle.lr_gate.specs.declared.view.Read.{Read}
 use Rattle.lr_gate.specs.declared.view.View.{View}
 use Rattle.lr_gate.specs.Steps.{SeatState}
@@ -13,6 +14,9 @@ use Rattle.lr_gate.specs.Seats.{Turns, SomeUnfinished}
 use Rattle.lr_gate.specs.Calls.{with_reads, IsAlone, HasFinished, Works, Visits, GoesBetween, GoesRound}
 use Rattle.lr_gatecore.proofs.Lists.{at_length}
 use Rattle.lr_gate.proofs.MoreReads.{more_reads, more_work, passed_longer, passed_behind, claimed_behind}
+
+abbrev range : ℕ → ℕ → CellRange
+range from to = record { from = from; to = to }
 
 module _ {J D : Type 0} (n : ℕ) where
   -- all cells from one up to another were passed over, and the seat has only read
@@ -53,10 +57,11 @@ module _ {J D : Type 0} (n : ℕ) where
 
   -- cells that were all passed over
   pub gone_between : (old now : SeatState J D) (from to : ℕ) → Gone old now from to
-      → GoesBetween n from to old now false
+      → GoesBetween n (range from to) old now false
   gone_between old now from to g = (g.reads, g.now_is, g.passed, λ one. (g.window one, λ some. g.past some one))
 
-  passed_gone : (old now : SeatState J D) (from to : ℕ) → GoesBetween n from to old now false → Gone old now from to
+  passed_gone : (old now : SeatState J D) (from to : ℕ) → GoesBetween n (range from to) old now false
+      → Gone old now from to
   passed_gone old now from to r = record {
     reads = r.0;
     now_is = r.1;
@@ -67,12 +72,12 @@ module _ {J D : Type 0} (n : ℕ) where
 
   -- the cells from the start on, and then those before it, are all cells
   pub goes_on : (old mid next : SeatState J D) (start : ℕ) (b : Bool) → start < n
-      → GoesBetween n start n old mid false → GoesBetween n 0 start mid next b → GoesRound n old next b
+      → GoesBetween n (range start n) old mid false → GoesBetween n (range 0 start) mid next b → GoesRound n old next b
   goes_on old mid next start true inside first second =
       gone_works old mid next start n (passed_gone old mid start n first) second
   goes_on old mid next start false inside first second' =
-      let second : GoesBetween n 0 start (with_reads old.0 first.0, old.1) next false =
-      subst (λ (m : SeatState J D). GoesBetween n 0 start m next false) first.1 second' in (
+      let second : GoesBetween n (range 0 start) (with_reads old.0 first.0, old.1) next false =
+      subst (λ (m : SeatState J D). GoesBetween n (range 0 start) m next false) first.1 second' in (
         first.0 ++ second.0,
         second.1 ∙ ap (λ (x : View J). (x, old.1)) (more_reads old.0 first.0 second.0),
         λ c l. dite (dec_le start c) (λ later. passed_longer first.0 second.0 c (first.2 c later l))

@@ -14,11 +14,11 @@ use Rattle.lr_gate.specs.declared.slot_value.SlotValue.TheVariants.{Empty, Made}
 use Rattle.lr_gate.specs.declared.view.Held.{Held}
 use Rattle.lr_gate.specs.declared.view.View.{View}
 use Rattle.lr_gate.specs.Words.{cell_word, finish_count}
-use Rattle.lr_gate.specs.Shows.{held_job, is_being_taken, Lies, Shows, machine_shown}
+use Rattle.lr_gate.specs.Shows.{held_job, is_being_taken, Lies, Shows, machine_shown, place_in}
 use Rattle.lr_gate.specs.Cells.{ShowsMachine}
 use Rattle.lr_gatecore.proofs.Lists.{at_length, at_above}
 use Rattle.lr_gate.proofs.Lists.{at_below, none_not_some, inside}
-use Rattle.lr_gate.proofs.Keeps.{St}
+use Rattle.lr_gate.proofs.Keeps.{St, ring}
 use Rattle.lr_gate.proofs.Takes.{not_hidden, taking_hides}
 use Rattle.lr_gate.proofs.Works.{differ, one_owner, not_true}
 use Rattle.lr_gate.proofs.Claims.{spot}
@@ -44,34 +44,34 @@ module _ {J : Type 0} where
 
 module _ {J D : Type 0} (f : J → D) (crew : ℕ) where
   -- a job with a stage that isn't done lies in the window
-  not_past : (n : ℕ) (s : St J D) (r : Shows f n crew s) (i w : ℕ) → get_elem? r.stages i ≡ some (Busy w)
+  not_past : (n : ℕ) (s : St J D) (r : Shows f (ring n crew) s) (i w : ℕ) → get_elem? r.stages i ≡ some (Busy w)
       → r.me.taken ≤ i
   not_past n s r i w e =
       dite (dec_lt i r.me.taken) (λ l. let d : get_elem? r.stages i ≡ some Done = r.past i l in
       absurd (let bad : some (Busy w) ≡ some Done = sym e ∙ d in cc)) (λ ge. omega arith)
 
-  cell_at : (n : ℕ) (s : St J D) (r : Shows f n crew s) (i : ℕ) (st : Stage) → r.me.taken ≤ i
+  cell_at : (n : ℕ) (s : St J D) (r : Shows f (ring n crew) s) (i : ℕ) (st : Stage) → r.me.taken ≤ i
       → get_elem? r.stages i ≡ some st → (get_or s.words (i % n + 1) 0 ≡ cell_word i (some st))
-      × Lies f r.me s.homes s.views i (i % n) (some st)
+      × Lies f r.me s (place_in n i) (some st)
   cell_at n s r i st a e = let b = at_length r.stages i st e in
       let w : length r.stages ≤ r.me.taken + n = r.within in let ok = r.each_cell i a (omega arith) in
-      (ok.word ∙ ap (cell_word i) e, subst (Lies f r.me s.homes s.views i (i % n)) e ok.lies)
+      (ok.word ∙ ap (cell_word i) e, subst (Lies f r.me s (place_in n i)) e ok.lies)
 
-  pub busy_by : (n : ℕ) (s : St J D) (r : Shows f n crew s) (i w : ℕ) → get_elem? r.stages i ≡ some (Busy w)
-      → Lies f r.me s.homes s.views i (i % n) (some (Busy w))
+  pub busy_by : (n : ℕ) (s : St J D) (r : Shows f (ring n crew) s) (i w : ℕ) → get_elem? r.stages i ≡ some (Busy w)
+      → Lies f r.me s (place_in n i) (some (Busy w))
   busy_by n s r i w e = (cell_at n s r i (Busy w) (not_past n s r i w e) e).1
 
-  holds_by : (n : ℕ) (s : St J D) (r : Shows f n crew s) (w : ℕ) (v : View J) (h : Held J) (b : Bool)
+  holds_by : (n : ℕ) (s : St J D) (r : Shows f (ring n crew) s) (w : ℕ) (v : View J) (h : Held J) (b : Bool)
       → v.spent ≡ b → get_elem? s.views w ≡ some v → v.held ≡ Some h
-      → HasStage (machine_shown f n crew s r) h.job (Busy w) × (h.cell ≡ h.job % n)
+      → HasStage (machine_shown f (ring n crew) s r) h.job (Busy w) × (h.cell ≡ h.job % n)
   holds_by n s r w v h true gone at is = absurd (none_not_some h (sym (r.each_spent w v at gone).nothing ∙ is))
   holds_by n s r w v h false live at is = let k = (r.each_seat w v at live).holds h is in ((k.0, k.2), k.1)
 
-  word_at : (n : ℕ) (s : St J D) (r : Shows f n crew s) (c p : ℕ) → r.me.taken ≤ p → p < r.me.taken + n
+  word_at : (n : ℕ) (s : St J D) (r : Shows f (ring n crew) s) (c p : ℕ) → r.me.taken ≤ p → p < r.me.taken + n
       → p % n ≡ c → get_or s.words (c + 1) 0 ≡ cell_word p (get_elem? r.stages p)
   word_at n s r c p a b e = ap (λ (z : ℕ). get_or s.words (z + 1) 0) (sym e) ∙ (r.each_cell p a b).word
 
-  free_word : (n : ℕ) (s : St J D) (r : Shows f n crew s) (c : ℕ) → c < n
+  free_word : (n : ℕ) (s : St J D) (r : Shows f (ring n crew) s) (c : ℕ) → c < n
       → (get_or s.words (c + 1) 0 ≡ 0) ↔ ((i : ℕ) → r.me.taken ≤ i → i < length r.stages → i % n ≢ c)
   free_word n s r c near = let w : length r.stages ≤ r.me.taken + n = r.within in (
     (λ e i a b is. let some_stage = at_below r.stages i b in
@@ -82,15 +82,16 @@ module _ {J D : Type 0} (f : J → D) (crew : ℕ) where
         (λ ge. omega arith)))),
   )
 
-  free_home : (n : ℕ) (s : St J D) (r : Shows f n crew s) (c : ℕ) → r.me.stocked ≡ true → c < n
+  free_home : (n : ℕ) (s : St J D) (r : Shows f (ring n crew) s) (c : ℕ) → r.me.stocked ≡ true → c < n
       → get_or s.words (c + 1) 0 ≡ 0 → get_elem? s.homes c ≡ some none
   free_home n s r c full near e = let at = spot n r.me.taken c r.some_cell near in let p : ℕ = at.0 in
       let gone = no_stage p (get_elem? r.stages p) (sym (word_at n s r c p at.1 at.2 at.3) ∙ e) in
-      let lies : Lies f r.me s.homes s.views p (p % n) none = subst (Lies f r.me s.homes s.views p (p % n)) gone
+      let lies : Lies f r.me s (place_in n p) none = subst (Lies f r.me s (place_in n p)) gone
       (r.each_cell p at.1 at.2).lies in
       ap (get_elem? s.homes) (sym at.3) ∙ (lies ∙ ap (λ (b : Bool). some (cond b none (some Empty))) full)
 
-  pub shown : (n : ℕ) (s : St J D) (r : Shows f n crew s) → ShowsMachine f n crew s (machine_shown f n crew s r) r.me
+  pub shown : (n : ℕ) (s : St J D) (r : Shows f (ring n crew) s)
+      → ShowsMachine f (ring n crew) s (machine_shown f (ring n crew) s r) r.me
   shown n s r = record {
     state = record {
       past = r.past;

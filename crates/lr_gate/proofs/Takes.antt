@@ -18,14 +18,14 @@ use Rattle.lr_gate.specs.declared.view.View.{View}
 use Rattle.lr_gatecore.specs.declared.stage.Stage.{Stage}
 use Rattle.lr_gatecore.specs.declared.stage.Stage.TheVariants.{Ready, Busy, Done}
 use Rattle.lr_gate.specs.Words.{stage_code, cell_word}
-use Rattle.lr_gate.specs.Shows.{held_job, is_being_taken, IsSeatShown, Lies, IsCellShown, Shows}
+use Rattle.lr_gate.specs.Shows.{held_job, is_being_taken, IsSeatShown, Lies, IsCellShown, Shows, place_in}
 use Rattle.lr_gate.specs.Steps.{FoundAlone, read, SeatState, after_read, after_grab, after_take, after_split}
 use Rattle.lr_gate.specs.Steps.{new_view, GrabTells, TakeTells, StopTells, after_stop}
 use Rattle.lr_gatecore.specs.declared.sizes.TheConstants.{WORD_BASE}
 use Rattle.lr_gatecore.proofs.Lists.{at_above, at_length}
 use Rattle.lr_gate.proofs.Lists.{at_below, other_cell, tag_of, at_end, none_not_some, same_finishes, finishes_end}
 use Rattle.lr_gate.proofs.Alike.{spents_stay}
-use Rattle.lr_gate.proofs.Keeps.{St, Homes, held_stays, lies_stay, Goes}
+use Rattle.lr_gate.proofs.Keeps.{St, Homes, held_stays, lies_stay, Goes, ring}
 use Rattle.lr_gate.proofs.Looks.{read_shows}
 use Rattle.lr_gate.proofs.Alone.{found_alone}
 
@@ -72,9 +72,9 @@ module _ {J : Type 0} where
 
 module _ {J D : Type 0} (f : J → D) (crew : ℕ) where
   -- the oldest job is done, and its slot is taken out
-  pub grab_shows : (n : ℕ) (s : St J D) (r : Shows f n crew s) (k : Read) → r.me.taking ≡ false
+  pub grab_shows : (n : ℕ) (s : St J D) (r : Shows f (ring n crew) s) (k : Read) → r.me.taking ≡ false
       → get_elem? r.stages r.me.taken ≡ some Done
-      → Shows f n crew record {
+      → Shows f (ring n crew) record {
         words = s.words;
         homes = set s.homes (r.me.taken % n) none;
         views = set s.views 0 (after_grab r.me k);
@@ -103,12 +103,12 @@ module _ {J D : Type 0} (f : J → D) (crew : ℕ) where
         crew = r.crew;
         each_spent = spents_stay s.views 0 me' r.awake r.each_spent;
         each_cell = λ q a b. let ok = r.each_cell q a b in dite (ℕ_discrete q t)
-            (λ e. subst (IsCellShown f n me' r.stages s') (sym e)
+            (λ e. subst (λ (z : ℕ). IsCellShown f me' r.stages s' (place_in n z)) (sym e)
             (let here = r.each_cell t (le_refl t) (omega arith) in
-            let lies : Lies f r.me s.homes s.views t c
-            (some Done) = subst (Lies f r.me s.homes s.views t c) is here.lies in record {
+            let lies : Lies f r.me s (place_in n t)
+            (some Done) = subst (Lies f r.me s (place_in n t)) is here.lies in record {
               word = here.word;
-              lies = subst (Lies f me' homes' views' t c) (sym is) (
+              lies = subst (Lies f me' s' (place_in n t)) (sym is) (
                 lies.0,
                 lies.1,
                 set_here s.homes c none (subst (λ (m : ℕ). c < m) (sym r.sized) near)
@@ -117,7 +117,7 @@ module _ {J D : Type 0} (f : J → D) (crew : ℕ) where
             }))
             (λ ne. record {
               word = ok.word;
-              lies = lies_stay f r.me me' s.homes homes' s.views views' q (q % n) refl (not_hidden me' q ne
+              lies = lies_stay f r.me me' s s' (place_in n q) refl (not_hidden me' q ne
                   ∙ sym (idle_shows r.me q idle)) (λ x e. e)
                   (set_else s.homes c (q % n) none (other_cell t q n (omega arith) b ne))
                   (λ w x. held_stays s.views 0 r.me me' w (held_job (q % n) q x) r.first refl)
@@ -128,14 +128,15 @@ module _ {J D : Type 0} (f : J → D) (crew : ℕ) where
       }
 
   -- the conductor splits a seat off
-  split_shows : (n : ℕ) (s : St J D) (r : Shows f n crew s) → r.me.split_off < crew
-      → Shows f n crew record {
+  split_shows : (n : ℕ) (s : St J D) (r : Shows f (ring n crew) s) → r.me.split_off < crew
+      → Shows f (ring n crew) record {
         words = s.words;
         homes = s.homes;
         views = set s.views 0 (after_split r.me) ++ new_view (r.me.split_off + 1) ∷ [];
       }
   split_shows n s r room = let me' : View J = after_split r.me in
       let new : View J = new_view (r.me.split_off + 1) in let old' : List (View J) = set s.views 0 me' in
+      let s' : St J D = record { words = s.words; homes = s.homes; views = old' ++ new ∷ [] } in
       let some_view = at_length s.views 0 r.me r.first in
       let first' = set_here s.views 0 me' some_view in
       let long : length old' ≡ r.me.split_off + 1 = length-set s.views 0 me' ∙ r.seats in record {
@@ -163,7 +164,7 @@ module _ {J D : Type 0} (f : J → D) (crew : ℕ) where
             (at_end old' new v j e);
         each_cell = λ q a b. let ok = r.each_cell q a b in record {
           word = ok.word;
-          lies = lies_stay f r.me me' s.homes s.homes s.views (old' ++ new ∷ []) q (q % n) refl refl (λ x e. e) refl
+          lies = lies_stay f r.me me' s s' (place_in n q) refl refl (λ x e. e) refl
               (λ w x k. let h = held_stays s.views 0 r.me me' w (held_job (q % n) q x) r.first refl k in
               (h.0, at_longer old' (new ∷ []) w h.0 h.1, h.2)) (get_elem? r.stages q) ok.lies;
         };
@@ -185,8 +186,8 @@ module _ {J D : Type 0} (f : J → D) (crew : ℕ) where
   past_take l t p is old a = dite (ℕ_discrete p t) (λ e. ap (get_elem? l) e ∙ is) (λ ne. old (omega arith))
 
   -- the slot was emptied, and the cell is free again
-  unfoldable pub take_shows : (n : ℕ) (s : St J D) (r : Shows f n crew s) → r.me.taking ≡ true → r.me.stocked ≡ true
-      → Shows f n crew record {
+  unfoldable pub take_shows : (n : ℕ) (s : St J D) (r : Shows f (ring n crew) s) → r.me.taking ≡ true
+      → r.me.stocked ≡ true → Shows f (ring n crew) record {
         words = set s.words (r.me.taken % n + 1) 0;
         homes = s.homes;
         views = set s.views 0 (after_take r.me);
@@ -217,15 +218,15 @@ module _ {J D : Type 0} (f : J → D) (crew : ℕ) where
         crew = r.crew;
         each_spent = spents_stay s.views 0 me' r.awake r.each_spent;
         each_cell = λ q a b. let a' : t + 1 ≤ q = a in let b' : q < t + 1 + n = b in dite (ℕ_discrete q (t + n))
-            (λ e. subst (IsCellShown f n me' r.stages s') (sym e)
+            (λ e. subst (λ (z : ℕ). IsCellShown f me' r.stages s' (place_in n z)) (sym e)
             (let turn : (t + n) % n ≡ c = add-mod_right t n in
             let out : get_elem? r.stages (t + n) ≡ none = at_above r.stages (t + n) in_n in
             let here = r.each_cell t (le_refl t) (omega arith) in
-            let lies : Lies f r.me s.homes s.views t c
-            (some Done) = subst (Lies f r.me s.homes s.views t c) is here.lies in record {
+            let lies : Lies f r.me s (place_in n t)
+            (some Done) = subst (Lies f r.me s (place_in n t)) is here.lies in record {
               word = ap (λ (z : ℕ). get_or words' (z + 1) 0) turn
                   ∙ (get_or-set_same s.words (c + 1) 0 0 (omega arith) ∙ ap (cell_word (t + n)) (sym out));
-              lies = subst (Lies f me' s.homes views' (t + n) ((t + n) % n)) (sym out)
+              lies = subst (Lies f me' s' (place_in n (t + n))) (sym out)
                   (ap (get_elem? s.homes) turn
                   ∙ (lies.2 ∙ (ap (λ (b : Bool). some (cond b none (some (Made (f lies.0)))))
                   (taking_hides r.me going) ∙ ap (λ (b : Bool). some (cond b none (some Empty))) (sym full))));
@@ -233,7 +234,7 @@ module _ {J D : Type 0} (f : J → D) (crew : ℕ) where
             (λ ne. let ok = r.each_cell q (omega arith) (omega arith) in
             let apart : q % n ≢ c = other_cell t q n (omega arith) (omega arith) (λ e. omega arith) in record {
               word = get_or-set_other s.words (c + 1) (q % n + 1) 0 0 (λ e. apart (omega arith)) ∙ ok.word;
-              lies = lies_stay f r.me me' s.homes s.homes s.views views' q (q % n) refl (idle_shows me' q refl
+              lies = lies_stay f r.me me' s s' (place_in n q) refl (idle_shows me' q refl
                   ∙ sym (not_hidden r.me q (λ e. omega arith))) (λ x e. e) refl
                   (λ w x. held_stays s.views 0 r.me me' w (held_job (q % n) q x) r.first refl)
                   (get_elem? r.stages q) ok.lies;
@@ -248,12 +249,12 @@ module _ {J D : Type 0} (f : J → D) (crew : ℕ) where
       }
 
   -- the conductor only notes the load
-  look_on : (n slots id : ℕ) (m : SeatState J D) (i : ℕ) (s : St J D) (r : Shows f n crew s) → id ≡ 0
+  look_on : (n slots id : ℕ) (m : SeatState J D) (i : ℕ) (s : St J D) (r : Shows f (ring n crew) s) → id ≡ 0
       → r.me ≡ m.0 → FoundAlone slots i m.0 (get_or s.words i 0) → get_or s.words i 0 % 4 ≢ 2
       → Goes f crew n s i id m (get_or s.words i 0) (GrabTells f (step slots i 0 0 none) m (get_or s.words i 0))
   look_on n slots id m i s r first is lone other = let found : ℕ = get_or s.words i 0 in
       let k : Read = read i None found in
-      let S : List ℕ → ℕ → View J → Type 0 = λ ws z v. Shows f n crew record {
+      let S : List ℕ → ℕ → View J → Type 0 = λ ws z v. Shows f (ring n crew) record {
         words = ws;
         homes = s.homes;
         views = set s.views z (after_read v k);
@@ -264,20 +265,20 @@ module _ {J D : Type 0} (f : J → D) (crew : ℕ) where
       (after_read m.0 k, keeps, tt, now, ((λ e. absurd (other e)), (λ _. refl), lone))
 
   -- the conductor takes the slot
-  grab_on : (n slots id : ℕ) (m : SeatState J D) (i : ℕ) (s : St J D) (r : Shows f n crew s) → slots ≡ n → id ≡ 0
+  grab_on : (n slots id : ℕ) (m : SeatState J D) (i : ℕ) (s : St J D) (r : Shows f (ring n crew) s) → slots ≡ n → id ≡ 0
       → r.me ≡ m.0 → m.0.taking ≡ false → FoundAlone slots i m.0 (get_or s.words i 0)
       → get_elem? r.stages r.me.taken ≡ some Done → get_or s.words i 0 % 4 ≡ 2
       → Goes f crew n s i id m (get_or s.words i 0) (GrabTells f (step slots i 0 0 none) m (get_or s.words i 0))
   grab_on n slots id m i s r sized first is idle lone stage two = let found : ℕ = get_or s.words i 0 in
       let k : Read = read i None found in let t : ℕ = r.me.taken in let pos : 0 < n = r.some_cell in
       let idle' : r.me.taking ≡ false = ap (λ (v : View J). v.taking) is ∙ idle in
-      let lies : Lies f r.me s.homes s.views t (t % n) (some Done) = subst (Lies f r.me s.homes s.views t
-      (t % n)) stage (r.each_cell t (le_refl t) (omega arith)).lies in let j : J = lies.0 in
+      let lies : Lies f r.me s (place_in n t) (some Done) =
+      subst (Lies f r.me s (place_in n t)) stage (r.each_cell t (le_refl t) (omega arith)).lies in let j : J = lies.0 in
       let home : get_elem? s.homes (t % n) ≡ some (some (Made (f j))) = lies.2
       ∙ ap (λ (b : Bool). some (cond b none (some (Made (f j))))) (idle_shows r.me t idle') in
       let place : t % n ≡ m.0.taken % slots = ap (λ (v : View J). v.taken % n) is
       ∙ ap (λ (z : ℕ). m.0.taken % z) (sym sized) in
-      let S : List ℕ → ℕ → ℕ → View J → Type 0 = λ ws z c v. Shows f n crew record {
+      let S : List ℕ → ℕ → ℕ → View J → Type 0 = λ ws z c v. Shows f (ring n crew) record {
         words = ws;
         homes = set s.homes c none;
         views = set s.views z (after_grab v k);
@@ -299,7 +300,7 @@ module _ {J D : Type 0} (f : J → D) (crew : ℕ) where
       )
 
   -- take's load
-  grab_cases : (n slots id : ℕ) (m : SeatState J D) (i : ℕ) (s : St J D) (r : Shows f n crew s) → slots ≡ n
+  grab_cases : (n slots id : ℕ) (m : SeatState J D) (i : ℕ) (s : St J D) (r : Shows f (ring n crew) s) → slots ≡ n
       → id ≡ 0 → r.me ≡ m.0 → m.0.taking ≡ false → FoundAlone slots i m.0 (get_or s.words i 0)
       → (st : Stage) → get_elem? r.stages r.me.taken ≡ some st
       → get_or s.words i 0 ≡ r.me.taken * WORD_BASE + stage_code st
@@ -316,7 +317,7 @@ module _ {J D : Type 0} (f : J → D) (crew : ℕ) where
 
   pub grabs_go : (n slots id : ℕ) (m : SeatState J D) (i : ℕ) → slots ≡ n → id ≡ 0 → m.0.taken < length m.0.jobs
       → m.0.taking ≡ false → i ≡ m.0.taken % n + 1
-      → Allows (Shows f n crew) slots id m i (λ z. z) (GrabTells f (step slots i 0 0 none) m)
+      → Allows (Shows f (ring n crew)) slots id m i (λ z. z) (GrabTells f (step slots i 0 0 none) m)
   grabs_go n slots id m i sized first some_job idle word s r wide at _ =
       let is : r.me ≡ m.0 = some-injective r.me m.0 (sym r.first ∙ (ap (get_elem? s.views) (sym first) ∙ at)) in
       let got = at_below r.stages r.me.taken (subst (λ (v : View J). v.taken < length r.stages) (sym is)
@@ -332,11 +333,11 @@ module _ {J D : Type 0} (f : J → D) (crew : ℕ) where
   -- take's store
   pub takes_go : (n slots id : ℕ) (m : SeatState J D) (i : ℕ) → id ≡ 0 → m.0.taking ≡ true → m.0.stocked ≡ true
       → i ≡ m.0.taken % n + 1
-      → Allows (Shows f n crew) slots id m i (λ _. 0) (λ _. TakeTells (step slots i 0 0 none) m 0)
+      → Allows (Shows f (ring n crew)) slots id m i (λ _. 0) (λ _. TakeTells (step slots i 0 0 none) m 0)
   takes_go n slots id m i first going full word s r wide at _ =
       let is : r.me ≡ m.0 = some-injective r.me m.0 (sym r.first ∙ (ap (get_elem? s.views) (sym first) ∙ at)) in
       let w : i ≡ r.me.taken % n + 1 = word ∙ ap (λ (v : View J). v.taken % n + 1) (sym is) in
-      let S : ℕ → ℕ → View J → Type 0 = λ x z v. Shows f n crew record {
+      let S : ℕ → ℕ → View J → Type 0 = λ x z v. Shows f (ring n crew) record {
         words = set s.words x 0;
         homes = s.homes;
         views = set s.views z (after_take v);
@@ -349,10 +350,10 @@ module _ {J D : Type 0} (f : J → D) (crew : ℕ) where
 
   -- a new worker's seat
   pub splits_go : (n id : ℕ) (v : View J) → id ≡ 0 → v.split_off < crew
-      → Splits (Shows f n crew) id v (after_split v) (new_view (v.split_off + 1))
+      → Splits (Shows f (ring n crew)) id v (after_split v) (new_view (v.split_off + 1))
   splits_go n id v first room s r at =
       let is : r.me ≡ v = some-injective r.me v (sym r.first ∙ (ap (get_elem? s.views) (sym first) ∙ at)) in
-      let S : ℕ → View J → Type 0 = λ z u. Shows f n crew record {
+      let S : ℕ → View J → Type 0 = λ z u. Shows f (ring n crew) record {
         words = s.words;
         homes = s.homes;
         views = set s.views z (after_split u) ++ new_view (u.split_off + 1) ∷ [];
@@ -361,43 +362,44 @@ module _ {J D : Type 0} (f : J → D) (crew : ℕ) where
       subst (λ z. S z v) (sym first) (subst (λ u. S 0 u) is start)
 
   -- the stop word is set
-  unfoldable pub stop_shows : (n : ℕ) (s : St J D) (r : Shows f n crew s)
-      → Shows f n crew record { words = set s.words 0 1; homes = s.homes; views = set s.views 0 (after_stop r.me) }
-  stop_shows n s r = let me' : View J = after_stop r.me in let wide : length s.words ≡ n + 1 = r.wide in record {
-    stages = r.stages;
-    me = me';
-    first = set_here s.views 0 me' (at_length s.views 0 r.me r.first);
-    awake = r.awake;
-    some_cell = r.some_cell;
-    sized = r.sized;
-    wide = length-set s.words 0 1 ∙ r.wide;
-    as_many = r.as_many;
-    behind = r.behind;
-    within = r.within;
-    stop_is = get_or-set_same s.words 0 1 0 (omega arith);
-    taking_is = r.taking_is;
-    past = r.past;
-    few = r.few;
-    finishes = λ i. same_finishes i s.views 0 r.me me' r.first refl ∙ r.finishes i;
-    seats = length-set s.views 0 me' ∙ r.seats;
-    crew = r.crew;
-    each_spent = spents_stay s.views 0 me' r.awake r.each_spent;
-    each_cell = λ q a b. let ok = r.each_cell q a b in
-        record {
-          word = get_or-set_other s.words 0 (q % n + 1) 1 0 (λ e. omega arith) ∙ ok.word;
-          lies = lies_stay f r.me me' s.homes s.homes s.views (set s.views 0 me') q (q % n) refl refl (λ x e. e) refl
-              (λ w x. held_stays s.views 0 r.me me' w (held_job (q % n) q x) r.first refl)
-              (get_elem? r.stages q) ok.lies;
-        };
-    each_seat = seats_stay r.me me' r.stages r.stages n s.views r.first refl refl refl (λ p x e. e)
-        (λ p w a e. (a, e)) r.each_seat;
-  }
+  unfoldable pub stop_shows : (n : ℕ) (s : St J D) (r : Shows f (ring n crew) s) → Shows f (ring n crew)
+      record { words = set s.words 0 1; homes = s.homes; views = set s.views 0 (after_stop r.me) }
+  stop_shows n s r = let me' : View J = after_stop r.me in let wide : length s.words ≡ n + 1 = r.wide in
+      let s' : St J D = record { words = set s.words 0 1; homes = s.homes; views = set s.views 0 me' } in record {
+        stages = r.stages;
+        me = me';
+        first = set_here s.views 0 me' (at_length s.views 0 r.me r.first);
+        awake = r.awake;
+        some_cell = r.some_cell;
+        sized = r.sized;
+        wide = length-set s.words 0 1 ∙ r.wide;
+        as_many = r.as_many;
+        behind = r.behind;
+        within = r.within;
+        stop_is = get_or-set_same s.words 0 1 0 (omega arith);
+        taking_is = r.taking_is;
+        past = r.past;
+        few = r.few;
+        finishes = λ i. same_finishes i s.views 0 r.me me' r.first refl ∙ r.finishes i;
+        seats = length-set s.views 0 me' ∙ r.seats;
+        crew = r.crew;
+        each_spent = spents_stay s.views 0 me' r.awake r.each_spent;
+        each_cell = λ q a b. let ok = r.each_cell q a b in
+            record {
+              word = get_or-set_other s.words 0 (q % n + 1) 1 0 (λ e. omega arith) ∙ ok.word;
+              lies = lies_stay f r.me me' s s' (place_in n q) refl refl (λ x e. e) refl
+                  (λ w x. held_stays s.views 0 r.me me' w (held_job (q % n) q x) r.first refl)
+                  (get_elem? r.stages q) ok.lies;
+            };
+        each_seat = seats_stay r.me me' r.stages r.stages n s.views r.first refl refl refl (λ p x e. e)
+            (λ p w a e. (a, e)) r.each_seat;
+      }
 
   pub stops_go : (n slots id : ℕ) (m : SeatState J D) → id ≡ 0
-      → Allows (Shows f n crew) slots id m 0 (λ _. 1) (λ _. StopTells (step slots 0 1 0 none) m 1)
+      → Allows (Shows f (ring n crew)) slots id m 0 (λ _. 1) (λ _. StopTells (step slots 0 1 0 none) m 1)
   stops_go n slots id m first s r wide at _ =
       let is : r.me ≡ m.0 = some-injective r.me m.0 (sym r.first ∙ (ap (get_elem? s.views) (sym first) ∙ at)) in
-      let S : ℕ → View J → Type 0 = λ z v. Shows f n crew record {
+      let S : ℕ → View J → Type 0 = λ z v. Shows f (ring n crew) record {
         words = set s.words 0 1;
         homes = s.homes;
         views = set s.views z (after_stop v);

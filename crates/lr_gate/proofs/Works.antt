@@ -1,5 +1,5 @@
 -- The steps of a worker keep the rule.
-use Rattle.std.proofs.Common.{◌≡◌, ℕ, ◌+◌, ◌*◌, ◌%◌, ◌^◌, ◌<◌, ◌≤◌, ◌≢◌, ◌&&◌, ◌==◌, Bool, true, false, cond, List}
+use Rattle.std.proofs.Common.{◌≡◌, ℕ, ◌+◌, ◌*◌, ◌%◌, ◌<◌, ◌≤◌, ◌≢◌, ◌&&◌, ◌==◌, Bool, true, false, cond, List}
 use Rattle.std.proofs.Common.{length, set, sym, refl, ap, ◌∙◌, subst, ⊎_elim, arith, length-set, get_or-set_same}
 use Rattle.std.proofs.Common.{get_or-set_other, mod-lt, ne_eqb, eq-eqb, Some, None}
 use mathlib.Core.Option.{none, some, some-injective, some-ne-none}
@@ -15,13 +15,13 @@ use Rattle.lr_gate.specs.declared.view.View.{View}
 use Rattle.lr_gatecore.specs.declared.stage.Stage.{Stage}
 use Rattle.lr_gatecore.specs.declared.stage.Stage.TheVariants.{Ready, Busy, Done}
 use Rattle.lr_gate.specs.Words.{cell_word, finish_count}
-use Rattle.lr_gate.specs.Shows.{flag, held_job, IsHeldBy, is_being_taken, Lies, IsCellShown, Shows}
+use Rattle.lr_gate.specs.Shows.{flag, held_job, IsHeldBy, is_being_taken, Lies, IsCellShown, Shows, place_in}
 use Rattle.lr_gate.specs.Steps.{after_claim, after_finish}
 use Rattle.lr_gatecore.specs.declared.sizes.TheConstants.{MOST_JOBS, WORD_BASE}
 use Rattle.lr_gatecore.proofs.Lists.{at_length}
 use Rattle.lr_gate.proofs.Lists.{other_cell, none_not_some, inside, same_finishes, one_more}
-use Rattle.lr_gate.proofs.Alike.{Alike, first_after, hidden_same, seat_same, spents_stay}
-use Rattle.lr_gate.proofs.Keeps.{St, Homes, lies_stay}
+use Rattle.lr_gate.proofs.Alike.{Alike, seat_steps, first_after, hidden_same, seat_same, spents_stay}
+use Rattle.lr_gate.proofs.Keeps.{St, Homes, lies_stay, ring}
 use Rattle.lr_gate.proofs.Takes.{not_hidden}
 
 -- stages told apart
@@ -80,10 +80,10 @@ module _ {J : Type 0} where
 
 module _ {J D : Type 0} (f : J → D) (crew : ℕ) where
   -- a ready cell is claimed
-  unfoldable pub claim_shows : (n : ℕ) (s : St J D) (r : Shows f n crew s) (id p : ℕ) (v : View J) (k : Read)
+  unfoldable pub claim_shows : (n : ℕ) (s : St J D) (r : Shows f (ring n crew) s) (id p : ℕ) (v : View J) (k : Read)
       (j : J) → get_elem? s.views id ≡ some v → v.spent ≡ false → v.held ≡ None
       → r.me.taken ≤ p → p < r.me.taken + n → get_elem? r.stages p ≡ some Ready → get_elem? r.me.jobs p ≡ some j
-      → Shows f n crew record {
+      → Shows f (ring n crew) record {
         words = set s.words (p % n + 1) (p * WORD_BASE + (4 * id + 3));
         homes = set s.homes (p % n) none;
         views = set s.views id (after_claim v k (held_job (p % n) p j));
@@ -98,15 +98,7 @@ module _ {J D : Type 0} (f : J → D) (crew : ℕ) where
       let here : get_elem? st' p ≡ some (Busy id) = set_here r.stages p (Busy id) (at_length r.stages p Ready stage) in
       let s' : St J D = record { words = words'; homes = homes'; views = views' } in
       let nothing : (h : Held J) → v.held ≡ Some h → ⊥ = λ h e. none_not_some h (sym free ∙ e) in
-      let like : Alike v v' = record {
-        spent = refl;
-        stocked = refl;
-        stopped = refl;
-        taking = refl;
-        taken = refl;
-        split_off = refl;
-        jobs = refl;
-      } in let front = first_after s.views id v v' r.me r.first at like in
+      let front = first_after s.views id v v' r.me r.first at (seat_steps v _ _ _) in
       let me' : View J = front.0 in let same : Alike r.me me' = front.2 in
       let taken : me'.taken ≡ r.me.taken = same.taken in let live' : v'.spent ≡ false = live in
       let more : (q : ℕ) (x : J) → get_elem? r.me.jobs q ≡ some x
@@ -139,9 +131,9 @@ module _ {J D : Type 0} (f : J → D) (crew : ℕ) where
         each_spent = spents_stay s.views id v' live' r.each_spent;
         each_cell = λ q l' u'. let l : t ≤ q = subst (λ z. z ≤ q) taken l' in
             let u : q < t + n = subst (λ z. q < z + n) taken u' in dite (ℕ_discrete q p)
-            (λ e. subst (IsCellShown f n me' st' s') (sym e) record {
+            (λ e. subst (λ (z : ℕ). IsCellShown f me' st' s' (place_in n z)) (sym e) record {
               word = get_or-set_same s.words (c + 1) x 0 (omega arith) ∙ ap (cell_word p) (sym here);
-              lies = subst (Lies f me' homes' views' p c) (sym here) (
+              lies = subst (Lies f me' s' (place_in n p)) (sym here) (
                 j,
                 more p j job,
                 set_here s.homes c none (subst (λ (m : ℕ). c < m) (sym r.sized) near),
@@ -153,8 +145,8 @@ module _ {J D : Type 0} (f : J → D) (crew : ℕ) where
             let stays : get_elem? st' q ≡ get_elem? r.stages q = set_else r.stages p q (Busy id) ne in record {
               word = get_or-set_other s.words (c + 1) (q % n + 1) x 0 (λ e. apart (omega arith))
                   ∙ (ok.word ∙ ap (cell_word q) (sym stays));
-              lies = subst (Lies f me' homes' views' q (q % n)) (sym stays)
-                  (lies_stay f r.me me' s.homes homes' s.views views' q (q % n) same.stocked
+              lies = subst (Lies f me' s' (place_in n q)) (sym stays)
+                  (lies_stay f r.me me' s s' (place_in n q) same.stocked
                   (hidden_same r.me me' q same) (more q) (set_else s.homes c (q % n) none apart)
                   (λ w y. held_apart s.views id v v' w (held_job (q % n) q y) at
                   (nothing (held_job (q % n) q y))) (get_elem? r.stages q) ok.lies);
@@ -183,10 +175,10 @@ module _ {J D : Type 0} (f : J → D) (crew : ℕ) where
       }
 
   -- the held job is finished, in the cell where it lies
-  unfoldable pub finish_at : (n : ℕ) (s : St J D) (r : Shows f n crew s) (id : ℕ) (v : View J) (h : Held J)
+  unfoldable pub finish_at : (n : ℕ) (s : St J D) (r : Shows f (ring n crew) s) (id : ℕ) (v : View J) (h : Held J)
       → get_elem? s.views id ≡ some v → v.spent ≡ false → v.held ≡ Some h
       → r.me.taken ≤ h.job → get_elem? r.stages h.job ≡ some (Busy id) → get_elem? r.me.jobs h.job ≡ some h.what
-      → Shows f n crew record {
+      → Shows f (ring n crew) record {
         words = set s.words (h.job % n + 1) (h.job * WORD_BASE + 2);
         homes = set s.homes (h.job % n) (some (Made (f h.what)));
         views = set s.views id (after_finish v h.job);
@@ -206,15 +198,7 @@ module _ {J D : Type 0} (f : J → D) (crew : ℕ) where
       (ap (get_elem? r.stages) is ∙ r.taking_is e)) in
       let plain : is_being_taken r.me p ≡ false = dite (ℕ_discrete p t)
       (λ e. ap (λ (b : Bool). b && (p == t)) (not_true r.me.taking (λ y. calm y e))) (λ ne. not_hidden r.me p ne) in
-      let like : Alike v v' = record {
-        spent = refl;
-        stocked = refl;
-        stopped = refl;
-        taking = refl;
-        taken = refl;
-        split_off = refl;
-        jobs = refl;
-      } in let front = first_after s.views id v v' r.me r.first at like in
+      let front = first_after s.views id v v' r.me r.first at (seat_steps v _ _ _) in
       let me' : View J = front.0 in let same : Alike r.me me' = front.2 in
       let taken : me'.taken ≡ r.me.taken = same.taken in let live' : v'.spent ≡ false = live in
       let more : (q : ℕ) (x : J) → get_elem? r.me.jobs q ≡ some x
@@ -245,9 +229,9 @@ module _ {J D : Type 0} (f : J → D) (crew : ℕ) where
         each_spent = spents_stay s.views id v' live' r.each_spent;
         each_cell = λ q l' u'. let l : t ≤ q = subst (λ z. z ≤ q) taken l' in
             let u : q < t + n = subst (λ z. q < z + n) taken u' in dite (ℕ_discrete q p)
-            (λ e. subst (IsCellShown f n me' st' s') (sym e) record {
+            (λ e. subst (λ (z : ℕ). IsCellShown f me' st' s' (place_in n z)) (sym e) record {
               word = get_or-set_same s.words (c + 1) x 0 (omega arith) ∙ ap (cell_word p) (sym here);
-              lies = subst (Lies f me' homes' views' p c) (sym here) (
+              lies = subst (Lies f me' s' (place_in n p)) (sym here) (
                 h.what,
                 more p h.what job,
                 set_here s.homes c (some (Made (f h.what)))
@@ -261,8 +245,8 @@ module _ {J D : Type 0} (f : J → D) (crew : ℕ) where
             let stays : get_elem? st' q ≡ get_elem? r.stages q = set_else r.stages p q Done ne in record {
               word = get_or-set_other s.words (c + 1) (q % n + 1) x 0 (λ e. apart (omega arith))
                   ∙ (ok.word ∙ ap (cell_word q) (sym stays));
-              lies = subst (Lies f me' homes' views' q (q % n)) (sym stays)
-                  (lies_stay f r.me me' s.homes homes' s.views views' q (q % n) same.stocked
+              lies = subst (Lies f me' s' (place_in n q)) (sym stays)
+                  (lies_stay f r.me me' s s' (place_in n q) same.stocked
                   (hidden_same r.me me' q same) (more q) (set_else s.homes c (q % n) (some (Made (f h.what))) apart)
                   (λ w y. held_apart s.views id v v' w (held_job (q % n) q y) at
                   (λ e. ne (ap (λ (z : Held J). z.job) (sym (inside h (held_job (q % n) q y) (sym holds ∙ e))))))
@@ -288,15 +272,15 @@ module _ {J D : Type 0} (f : J → D) (crew : ℕ) where
       }
 
   -- the held job is finished
-  pub finish_shows : (n : ℕ) (s : St J D) (r : Shows f n crew s) (id : ℕ) (v : View J) (h : Held J)
+  pub finish_shows : (n : ℕ) (s : St J D) (r : Shows f (ring n crew) s) (id : ℕ) (v : View J) (h : Held J)
       → get_elem? s.views id ≡ some v → v.spent ≡ false → v.held ≡ Some h
-      → Shows f n crew record {
+      → Shows f (ring n crew) record {
         words = set s.words (h.cell + 1) (h.job * WORD_BASE + 2);
         homes = set s.homes h.cell (some (Made (f h.what)));
         views = set s.views id (after_finish v h.job);
       }
   finish_shows n s r id v h at live holds = let ok = r.each_seat id v at live in let g = ok.holds h holds in
-      subst (λ (z : ℕ). Shows f n crew record {
+      subst (λ (z : ℕ). Shows f (ring n crew) record {
         words = set s.words (z + 1) (h.job * WORD_BASE + 2);
         homes = set s.homes z (some (Made (f h.what)));
         views = set s.views id (after_finish v h.job);

@@ -1,36 +1,18 @@
 -- What the calls keep of the seats, and what a round over the cells makes of one.
-use Rattle.std.specs.Prelude.{◌≡◌, ◌≢◌, ℕ, ◌+◌, ◌-◌, ◌≤◌, ◌<◌, ◌%◌, ◌^◌, ◌++◌, ◌∷◌, [], Bool, true, false, length}
+use Rattle.std.specs.Prelude.{◌≡◌, ◌≢◌, ℕ, ◌≤◌, ◌<◌, ◌%◌, ◌++◌, ◌∷◌, [], Bool, true, false, length}
 use Rattle.std.specs.Prelude.{List, None}
 use mathlib.Core.Option.{some}
 use lib.ListN.{get_elem?}
 use Rattle.atomic_table.specs.Seated.{TableId}
 use Rattle.atomic_table.specs.declared.shared.Seat.{Seat}
-use Rattle.lr_gatecore.specs.declared.sizes.TheConstants.{MOST_JOBS, MOST_SEATS}
+use Rattle.lr_gatecore.specs.declared.sizes.TheConstants.{MOST_SEATS}
+use Rattle.lr_gate.specs.declared.round.CellRange.{CellRange}
 use Rattle.lr_gate.specs.declared.slot_value.SlotValue.{SlotValue}
 use Rattle.lr_gate.specs.declared.view.View.{View}
 use Rattle.lr_gate.specs.declared.view.Read.{Read}
 use Rattle.lr_gate.specs.Shows.{count_of}
-use Rattle.lr_gate.specs.Steps.{SeatState, free_cells}
+use Rattle.lr_gate.specs.Steps.{SeatState}
 use Rattle.lr_gate.specs.Reads.{IsPassedOver, ClaimsJob}
-
--- the conductor's seat between two calls, with this many seats split off
-pub record IsConductor {J D : Type 0} (z : TableId) (cells crew : ℕ) (seat : Seat (SlotValue J D) (View J))
-    (put taken : ℕ) : Type 0 where
-  pub table : seat.table_id ≡ z
-  pub id : seat.id ≡ 0
-  pub number : seat.me.0.number ≡ 0
-  pub live : seat.me.0.spent ≡ false
-  pub free : seat.me.0.held ≡ None
-  pub put_is : put ≡ length seat.me.0.jobs
-  pub taken_is : taken ≡ seat.me.0.taken
-  pub behind : taken ≤ put
-  pub within : put ≤ taken + cells
-  pub few : put ≤ MOST_JOBS
-  pub stocked : seat.me.0.stocked ≡ true
-  pub resting : seat.me.0.taking ≡ false
-  pub crew_is : seat.me.0.split_off ≡ crew
-  -- it holds the slots of the free cells, that of the next job first
-  pub frees : seat.me.1 ≡ free_cells cells put (taken + cells - put)
 
 -- a worker's seat between two turns
 pub record IsWorker {J D : Type 0} (z : TableId) (seat : Seat (SlotValue J D) (View J)) (number : ℕ) : Type 0 where
@@ -81,15 +63,16 @@ module _ {J D : Type 0} where
       → ((p : ℕ) → old.0.taken ≤ p → p < length old.0.jobs → p % n ≡ cell → HasFinished old.0 p)
       × ((p : ℕ) → p < old.0.taken → HasFinished old.0 p))
 
-  -- of the cells from one up to another, one was worked in, or each was passed over
-  abbrev pub GoesBetween : ℕ → ℕ → ℕ → SeatState J D → SeatState J D → Bool → Type 0
-  GoesBetween n from to old new true = Works n old new
-  GoesBetween n from to old new false =
+  -- one of these cells was worked in, or each was passed over
+  abbrev pub GoesBetween : ℕ → CellRange → SeatState J D → SeatState J D → Bool → Type 0
+  GoesBetween n cells old new true = Works n old new
+  GoesBetween n cells old new false =
       (reads : List Read) × (new ≡ (with_reads old.0 reads, old.1))
-      × ((c : ℕ) → from ≤ c → c < to → IsPassedOver reads c)
+      × ((c : ℕ) → cells.from ≤ c → c < cells.to → IsPassedOver reads c)
       × (IsAlone old.0
-      → ((p : ℕ) → old.0.taken ≤ p → p < length old.0.jobs → from ≤ p % n → p % n < to → HasFinished old.0 p)
-      × (from < to → (p : ℕ) → p < old.0.taken → HasFinished old.0 p))
+      → ((p : ℕ) → old.0.taken ≤ p → p < length old.0.jobs → cells.from ≤ p % n → p % n < cells.to
+      → HasFinished old.0 p)
+      × (cells.from < cells.to → (p : ℕ) → p < old.0.taken → HasFinished old.0 p))
 
   -- a round worked, or passed over every cell
   abbrev pub GoesRound : ℕ → SeatState J D → SeatState J D → Bool → Type 0

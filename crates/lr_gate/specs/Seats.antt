@@ -3,6 +3,7 @@ use Rattle.std.specs.Prelude.{◌≡◌, ◌≢◌, ℕ, ◌+◌, ◌-◌, ◌%�
 use mathlib.Core.Option.{some}
 use lib.ListN.{get_elem?}
 use Rattle.atomic_table.specs.Seated.{TableId}
+use Rattle.lr_gatecore.specs.declared.sizes.TheConstants.{MOST_JOBS}
 use Rattle.lr_gate.specs.declared.gate.Gate.{Gate}
 use Rattle.lr_gate.specs.declared.gate.Conductor.{Conductor}
 use Rattle.lr_gate.specs.declared.gate.WorkerSeat.{WorkerSeat}
@@ -10,9 +11,27 @@ use Rattle.lr_gate.specs.declared.gate.Turn.{Turn}
 use Rattle.lr_gate.specs.declared.gate.Turn.TheVariants.{Did, Nothing, Stopped}
 use Rattle.lr_gate.specs.declared.view.View.{View}
 use Rattle.lr_gate.specs.declared.view.Read.{Read}
-use Rattle.lr_gate.specs.Steps.{read, new_view}
+use Rattle.lr_gate.specs.Steps.{read, new_view, free_cells}
 use Rattle.lr_gate.specs.Reads.{IsPassedOver, ClaimsJob}
-use Rattle.lr_gate.specs.Calls.{IsConductor, IsWorker, with_reads, after_work, HasFinished}
+use Rattle.lr_gate.specs.Calls.{IsWorker, with_reads, after_work, HasFinished}
+
+-- the conductor is the one of this gate, and this many seats were split off
+pub record IsConductorWith {W J D : Type 0} (gate : Gate W J D) (crew : ℕ) (c : Conductor W J D) : Type 0 where
+  pub table : c.seat.table_id ≡ gate.table.shared.table_id
+  pub id : c.seat.id ≡ 0
+  pub number : c.seat.me.0.number ≡ 0
+  pub live : c.seat.me.0.spent ≡ false
+  pub free : c.seat.me.0.held ≡ None
+  pub put_is : c.put ≡ length c.seat.me.0.jobs
+  pub taken_is : c.taken ≡ c.seat.me.0.taken
+  pub behind : c.taken ≤ c.put
+  pub within : c.put ≤ c.taken + gate.cells
+  pub few : c.put ≤ MOST_JOBS
+  pub stocked : c.seat.me.0.stocked ≡ true
+  pub resting : c.seat.me.0.taking ≡ false
+  pub crew_is : c.seat.me.0.split_off ≡ crew
+  -- it holds the slots of the free cells, that of the next job first
+  pub frees : c.seat.me.1 ≡ free_cells gate.cells c.put (c.taken + gate.cells - c.put)
 
 module _ {W J D : Type 0} where
   -- how many cells the gate has, and with how many worker seats it was built
@@ -29,10 +48,6 @@ module _ {W J D : Type 0} where
   -- what a worker's seat knows
   abbrev pub seat_view : WorkerSeat W J D → View J
   seat_view s = s.seat.me.0
-
-  -- the conductor is the one of this gate, and this many seats were split off
-  abbrev pub IsConductorWith : Gate W J D → ℕ → Conductor W J D → Type 0
-  IsConductorWith gate crew c = IsConductor gate.table.shared.table_id gate.cells crew c.seat c.put c.taken
 
   abbrev pub IsConductorOf : Gate W J D → Conductor W J D → Type 0
   IsConductorOf gate c = IsConductorWith gate gate.workers c

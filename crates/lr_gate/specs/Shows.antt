@@ -1,10 +1,11 @@
 -- The rule of the ring: the table shows a state of the machine at every moment.
-use Rattle.std.specs.Prelude.{◌≡◌, ℕ, ◌+◌, ◌%◌, ◌^◌, ◌<◌, ◌≤◌, Bool, true, false, cond, ◌&&◌, ◌==◌, List, [], ◌∷◌}
+use Rattle.std.specs.Prelude.{◌≡◌, ℕ, ◌+◌, ◌%◌, ◌<◌, ◌≤◌, Bool, true, false, cond, ◌&&◌, ◌==◌, List, [], ◌∷◌}
 use Rattle.std.specs.Prelude.{length, slice_index_or, Some, None}
 use mathlib.Core.Option.{some, none}
 use mathlib.Core.Option as maybe
 use lib.ListN.{get_elem?}
 use Rattle.atomic_table.specs.Table.{State}
+use Rattle.lr_gatecore.specs.declared.ring_size.RingSize.{RingSize}
 use Rattle.lr_gatecore.specs.declared.stage.Stage.{Stage}
 use Rattle.lr_gatecore.specs.declared.stage.Stage.TheVariants.{Ready, Busy, Done}
 use Rattle.lr_gatecore.specs.Machine.{Machine}
@@ -44,55 +45,69 @@ pub record IsSeatShown {J : Type 0} (me : View J) (stages : List Stage) (n j : �
       → (me.taken ≤ h.job) × (h.cell ≡ h.job % n) × (get_elem? stages h.job ≡ some (Busy j))
       × (get_elem? me.jobs h.job ≡ some h.what)
 
+-- a job and the cell in which it lies, by their numbers; in a ring of n cells
+pub record JobPlace : Type 0 where
+  pub job : ℕ
+  pub cell : ℕ
+
+abbrev pub place_in : ℕ → ℕ → JobPlace
+place_in n p = record { job = p; cell = p % n }
+
 -- the view of a seat that was joined into another
 pub record IsJoinedView {J : Type 0} (v : View J) : Type 0 where
   pub nothing : v.held ≡ None
   pub no_job : v.finished ≡ []
   pub no_read : v.reads ≡ []
 
+-- the size of the machine that a ring of this size shows: its conductor is one worker more
+abbrev pub machine_size : RingSize → RingSize
+machine_size size = record size { workers = size.workers + 1 }
+
 module _ {J D : Type 0} (gives : J → D) where
-  -- where the slot c of the job p is, by the job's stage: out of the table is `some none`
-  abbrev pub Lies : View J → List (maybe.Option (SlotValue J D)) → List (View J) → ℕ → ℕ → maybe.Option Stage → Type 0
-  Lies me homes views p c none = get_elem? homes c ≡ some (cond me.stocked none (some Empty))
-  Lies me homes views p c (some Ready) =
-      (j : J) × (get_elem? me.jobs p ≡ some j) × (get_elem? homes c ≡ some (some (Given j)))
-  Lies me homes views p c (some (Busy w)) =
-      (j : J) × (get_elem? me.jobs p ≡ some j) × (get_elem? homes c ≡ some none)
-      × IsHeldBy views w (held_job c p j)
-  Lies me homes views p c (some Done) =
-      (j : J) × (get_elem? me.jobs p ≡ some j)
-      × (get_elem? homes c ≡ some (cond (is_being_taken me p) none (some (Made (gives j)))))
+  -- where the slot of a job's cell is, by the job's stage: out of the table is `some none`
+  abbrev pub Lies : View J → State (SlotValue J D) (View J) → JobPlace → maybe.Option Stage → Type 0
+  Lies me s at none = get_elem? s.homes at.cell ≡ some (cond me.stocked none (some Empty))
+  Lies me s at (some Ready) =
+      (j : J) × (get_elem? me.jobs at.job ≡ some j) × (get_elem? s.homes at.cell ≡ some (some (Given j)))
+  Lies me s at (some (Busy w)) =
+      (j : J) × (get_elem? me.jobs at.job ≡ some j) × (get_elem? s.homes at.cell ≡ some none)
+      × IsHeldBy s.views w (held_job at.cell at.job j)
+  Lies me s at (some Done) =
+      (j : J) × (get_elem? me.jobs at.job ≡ some j)
+      × (get_elem? s.homes at.cell ≡ some (cond (is_being_taken me at.job) none (some (Made (gives j)))))
 
-  pub record IsCellShown (n : ℕ) (me : View J) (stages : List Stage) (s : State (SlotValue J D) (View J))
-      (p : ℕ) : Type 0 where
-    pub word : slice_index_or s.words (p % n + 1) 0 ≡ cell_word p (get_elem? stages p)
-    pub lies : Lies me s.homes s.views p (p % n) (get_elem? stages p)
+  pub record IsCellShown (me : View J) (stages : List Stage) (s : State (SlotValue J D) (View J)) (at : JobPlace) : Type
+      0 where
+    pub word : slice_index_or s.words (at.cell + 1) 0 ≡ cell_word at.job (get_elem? stages at.job)
+    pub lies : Lies me s at (get_elem? stages at.job)
 
-  -- The rule, with n cells and this many worker seats to come. A cell is told by the one number p of the next n jobs
-  -- that lies in it: `stages` are those of all jobs put, and a p after them is a free cell
-  pub record Shows (n workers : ℕ) (s : State (SlotValue J D) (View J)) : Type 0 where
+  -- The rule of a ring of this size, with its worker seats to come. Of the next jobs, as many as there are cells, one
+  -- lies in each cell, which is told by that job's number p: `stages` are those of all jobs put, and a p after them is
+  -- a free cell
+  pub record Shows (size : RingSize) (s : State (SlotValue J D) (View J)) : Type 0 where
     pub stages : List Stage
     pub me : View J
     pub first : get_elem? s.views 0 ≡ some me
     pub awake : me.spent ≡ false
-    pub some_cell : 0 < n
-    pub sized : length s.homes ≡ n
-    pub wide : length s.words ≡ n + 1
+    pub some_cell : 0 < size.cells
+    pub sized : length s.homes ≡ size.cells
+    pub wide : length s.words ≡ size.cells + 1
     pub as_many : length stages ≡ length me.jobs
     pub behind : me.taken ≤ length stages
-    pub within : length stages ≤ me.taken + n
+    pub within : length stages ≤ me.taken + size.cells
     pub stop_is : slice_index_or s.words 0 0 ≡ flag me.stopped
     pub taking_is : me.taking ≡ true → get_elem? stages me.taken ≡ some Done
     pub past : (p : ℕ) → p < me.taken → get_elem? stages p ≡ some Done
     pub few : length me.jobs ≤ MOST_JOBS
     pub finishes : (i : ℕ) → finishes_of i s.views ≡ finish_count (get_elem? stages i)
     pub seats : length s.views ≡ me.split_off + 1
-    pub crew : me.split_off ≤ workers
-    pub each_cell : (p : ℕ) → me.taken ≤ p → p < me.taken + n → IsCellShown n me stages s p
+    pub crew : me.split_off ≤ size.workers
+    pub each_cell : (p : ℕ) → me.taken ≤ p → p < me.taken + size.cells
+        → IsCellShown me stages s (place_in size.cells p)
     pub each_seat : (j : ℕ) (v : View J) → get_elem? s.views j ≡ some v → v.spent ≡ false
-        → IsSeatShown me stages n j v
+        → IsSeatShown me stages size.cells j v
     pub each_spent : (j : ℕ) (v : View J) → get_elem? s.views j ≡ some v → v.spent ≡ true → IsJoinedView v
 
   -- the state of the machine that is shown
-  abbrev pub machine_shown : (n workers : ℕ) (s : State (SlotValue J D) (View J)) → Shows n workers s → Machine
-  machine_shown n workers s r = record { stages = r.stages; taken = r.me.taken; stopped = r.me.stopped }
+  abbrev pub machine_shown : (size : RingSize) (s : State (SlotValue J D) (View J)) → Shows size s → Machine
+  machine_shown size s r = record { stages = r.stages; taken = r.me.taken; stopped = r.me.stopped }

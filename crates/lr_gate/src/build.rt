@@ -8,10 +8,9 @@ ghost use Rattle.lr_gate.specs.Seats.{IsConductorWith, IsNewSeat, opening_view};
 use crate::gate::{Conductor, Gate, Tally, WorkerSeat};
 use crate::plays::{Joins, Stocks};
 use crate::slot_value::SlotValue;
-use crate::view::Size;
 use atomic_table::Table;
 use lr_bits::NoMemory;
-use lr_gatecore::{MOST_CELLS, MOST_HANDS, Work};
+use lr_gatecore::{MOST_CELLS, MOST_HANDS, RingSize, Work};
 use std::alloc::{AllocError, Global};
 
 fn empties<J, D>(alloc: Global, count: usize) -> Result<Vec<SlotValue<J, D>>, AllocError>
@@ -63,10 +62,7 @@ impl<W: Work> Gate<W> {
         let words = Vec::from_elem(alloc, 0u64, cells as usize + 1)?;
         let slots = empties(alloc, cells as usize)?;
         let mut seats = Vec::with_capacity(alloc, workers as usize)?;
-        let size = Size {
-            cells: u64::from(cells),
-            workers: u64::from(workers),
-        };
+        let size = RingSize { cells, workers };
         let Ok((table, mut seat)) = Table::new(alloc, words.as_slice(), slots, &size) else {
             return Err(NoMemory);
         };

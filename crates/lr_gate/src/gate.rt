@@ -4,15 +4,15 @@ ghost use Rattle.lr_gate.specs.Sizes.{HasSize};
 
 use crate::plays::Law;
 use crate::slot_value::SlotValue;
-use crate::view::{Size, View};
+use crate::view::View;
 use atomic_table::{Seat, Table};
-use lr_gatecore::Work;
+use lr_gatecore::{RingSize, Work};
 use std::alloc::Global;
 
 /// A ring of cells, which its seats share.
 #[derive(Drop)]
 pub struct Gate<W: Work> {
-    pub(crate) table: Table<SlotValue<W::Job, W::Done>, View<W::Job>, Size, Law<W>, Global>,
+    pub(crate) table: Table<SlotValue<W::Job, W::Done>, View<W::Job>, RingSize, Law<W>, Global>,
     pub(crate) cells: u64,
     pub(crate) workers: u64,
     ghost sized: { HasSize table.shared.table_id table.shared.key cells workers },

@@ -29,4 +29,4 @@ pub use gate::{Conductor, Gate, RingFull, Tally, Turn, WorkerSeat};
 pub use laws::{a_ring_shows_the_machine, steps_of_a_ring_are_moves, words_tell_the_machine};
 pub use plays::Law;
 pub use slot_value::SlotValue;
-pub use view::{Held, Read, Size, View};
+pub use view::{Held, Read, View};

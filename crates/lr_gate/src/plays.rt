@@ -7,9 +7,9 @@ ghost use Rattle.lr_gate.specs.Steps.{PutTells, TakeTells, StockTells, StopTells
 ghost use Rattle.lr_gate.specs.Steps.{ClaimTells, FinishTells};
 
 use crate::slot_value::SlotValue;
-use crate::view::{Size, View};
+use crate::view::View;
 use atomic_table::{Join, Play, Split, TableRule};
-use lr_gatecore::Work;
+use lr_gatecore::{RingSize, Work};
 use std::marker::PhantomData;
 
 /// The rule of the ring.
@@ -17,8 +17,8 @@ pub struct Law<W> {
     marker: PhantomData<W>,
 }
 
-impl<J, D, W: Work<Job = J, Done = D>> TableRule<SlotValue<J, D>, View<J>, Size> for Law<W> {
-    ghost holds = { λ size. Shows W.gives size.cells size.workers };
+impl<J, D, W: Work<Job = J, Done = D>> TableRule<SlotValue<J, D>, View<J>, RingSize> for Law<W> {
+    ghost holds = { Shows W.gives };
 
     ghost first = { λ _. new_view 0 };
 }

@@ -10,6 +10,13 @@ use crate::view::View;
 use atomic_table::Seat;
 use lr_gatecore::Work;
 
+/// The cells from one up to another.
+#[derive(Clone, Copy)]
+struct CellRange {
+    from: usize,
+    to: usize,
+}
+
 /// Visits each cell once, the one of this number first and then in the order of the ring, until one is claimed and its
 /// job is done. The answer is whether one was. Then `start` is the cell after it.
 pub(crate) fn go_round<W: Work>(
@@ -25,30 +32,34 @@ pub(crate) fn go_round<W: Work>(
 {
     let cells = gate.cells as usize;
     let first = *start % cells;
-    if go_between(gate, seat, number, start, work, first, cells) {
+    let rest = CellRange {
+        from: first,
+        to: cells,
+    };
+    if go_between(gate, seat, number, start, work, rest) {
         return true;
     }
-    go_between(gate, seat, number, start, work, 0, first)
+    let front = CellRange { from: 0, to: first };
+    go_between(gate, seat, number, start, work, front)
 }
 
-/// Visits the cells from one up to another, until one is claimed and its job is done.
+/// Visits these cells, until one is claimed and its job is done.
 fn go_between<W: Work>(
     gate: &Gate<W>,
     seat: &mut Seat<SlotValue<W::Job, W::Done>, View<W::Job>>,
     number: u64,
     start: &mut usize,
     work: &mut W,
-    from: usize,
-    to: usize,
+    cells: CellRange,
 ) -> bool
     requires mine { MayClaim gate.now.table.shared.table_id seat.old number }
-    requires order { from ≤ to }
-    requires cells { to ≤ gate.now.cells }
+    requires order { cells.from ≤ cells.to }
+    requires cells { cells.to ≤ gate.now.cells }
     ensures same { (seat.new.table_id ≡ seat.old.table_id) × (seat.new.id ≡ seat.old.id) }
     ensures mine { result ≡ false → MayClaim gate.now.table.shared.table_id seat.new number }
-    ensures goes { GoesBetween gate.now.cells from to seat.old.me seat.new.me result }
+    ensures goes { GoesBetween gate.now.cells cells seat.old.me seat.new.me result }
 {
-    for cell in from..to {
+    for cell in cells.from..cells.to {
         if visit(gate, seat, number, work, cell) {
             *start = cell + 1;
             return true;

@@ -1,13 +1,6 @@
-//! What the proofs say of the seats. No value of these types is made, but of `Size`.
+//! What the proofs say of the seats. No value of these types is made.
 
 use std::collections::LinkedList;
-
-/// How large a ring is: the number of its cells, and of the worker seats that it was built with.
-#[derive(Drop)]
-pub struct Size {
-    pub cells: u64,
-    pub workers: u64,
-}
 
 /// A load of a word, or an exchange: its word, the value that an exchange expects, and the value found.
 pub struct Read {

@@ -7,6 +7,7 @@ use mathlib.Core.Option.{some, some-ne-none, some-injective}
 use lib.ListN.{get_elem?}
 use Rattle.lr_gatecore.specs.declared.event.Event.{Event}
 use Rattle.lr_gatecore.specs.declared.event.Event.TheVariants.{Put, Claim, Finish, Take, Stop}
+use Rattle.lr_gatecore.specs.declared.ring_size.RingSize.{RingSize}
 use Rattle.lr_gatecore.specs.declared.stage.Stage.{Stage}
 use Rattle.lr_gatecore.specs.declared.stage.Stage.TheVariants.{Ready, Busy, Done}
 use Rattle.lr_gatecore.specs.Machine.{Machine, Entry, HasStage, Moves, IsRefused, Leads}
@@ -27,22 +28,22 @@ has_window t i w b st h = let e : i ≡ t + (i - t) = (let le : t ≤ i = h.0 in
     (i - t, e, sym (past_at t (i - t) Done w) ∙ (ap (get_elem? (replicate t Done ++ w)) (sym e) ∙ h.1))
 
 -- after a move the core keeps what it kept
-pub kept_after : (cells workers t t' : ℕ) (b : Bool) (w w' : List Stage) (capacity capacity' : ℕ) (e : Event)
-    → IsKept cells workers t b w capacity
-    → MachineSteps cells workers (machine_of t w b) e true (machine_of t' w' b)
-    → length w' ≤ cells → cells ≤ capacity' → t' + length w' ≤ MOST_JOBS → IsKept cells workers t' b w' capacity'
-kept_after cells workers t t' b w w' capacity capacity' e old steps fits room few = record {
+pub kept_after : (size : RingSize) (t t' : ℕ) (b : Bool) (w w' : List Stage) (capacity capacity' : ℕ) (e : Event)
+    → IsKept size t b w capacity
+    → MachineSteps size (machine_of t w b) e true (machine_of t' w' b)
+    → length w' ≤ size.cells → size.cells ≤ capacity' → t' + length w' ≤ MOST_JOBS → IsKept size t' b w' capacity'
+kept_after size t t' b w w' capacity capacity' e old steps fits room few = record {
   some_cell = old.some_cell;
   most_cells = old.most_cells;
   fits = fits;
   room = room;
   few = few;
-  state = next_state cells workers (machine_of t w b) e steps.0 (machine_of t' w' b) old.state steps.1;
+  state = next_state size (machine_of t w b) e steps.0 (machine_of t' w' b) old.state steps.1;
 }
 
-pub put_moves : (cells workers t : ℕ) (w : List Stage) (b : Bool) → length w < cells → b ≡ false
-    → MachineSteps cells workers (machine_of t w b) Put true (machine_of t (w ++ Ready ∷ []) b)
-put_moves cells workers t w b room runs = (
+pub put_moves : (size : RingSize) (t : ℕ) (w : List Stage) (b : Bool) → length w < size.cells → b ≡ false
+    → MachineSteps size (machine_of t w b) Put true (machine_of t (w ++ Ready ∷ []) b)
+put_moves size t w b room runs = (
   length (replicate t Done ++ w),
   (
     omega (arith, length-append (replicate t Done) w, length-replicate t Done),
@@ -53,67 +54,62 @@ put_moves cells workers t w b room runs = (
   ),
 )
 
-pub claim_busy : (cells workers t k worker cell : ℕ) (w : List Stage) (b : Bool)
-    → get_elem? w k ≡ some (Busy worker) → MachineSteps cells workers (machine_of t w b) (Claim worker cell) false
+pub claim_busy : (size : RingSize) (t k worker cell : ℕ) (w : List Stage) (b : Bool)
+    → get_elem? w k ≡ some (Busy worker) → MachineSteps size (machine_of t w b) (Claim worker cell) false
     (machine_of t w b)
-claim_busy cells workers t k worker cell w b e = (λ job n mv. mv.2 (t + k) (window_has t k w b (Busy worker) e), refl)
+claim_busy size t k worker cell w b e = (λ job n mv. mv.2 (t + k) (window_has t k w b (Busy worker) e), refl)
 
-pub claim_other : (cells workers t worker cell : ℕ) (w : List Stage) (b : Bool) → 0 < cells → cell < cells
-    → length w ≤ cells → ¬ (get_elem? w ((cell + cells - t % cells) % cells) ≡ some Ready)
-    → MachineSteps cells workers (machine_of t w b) (Claim worker cell) false (machine_of t w b)
-claim_other cells workers t worker cell w b pos near short not = let k : ℕ = (cell + cells - t % cells) % cells in
-    let low : k < cells = mod-lt (cell + cells - t % cells) pos in (
+pub claim_other : (size : RingSize) (t worker cell : ℕ) (w : List Stage) (b : Bool) → 0 < size.cells
+    → cell < size.cells → length w ≤ size.cells
+    → ¬ (get_elem? w ((cell + size.cells - t % size.cells) % size.cells) ≡ some Ready)
+    → MachineSteps size (machine_of t w b) (Claim worker cell) false (machine_of t w b)
+claim_other size t worker cell w b pos near short not =
+    let k : ℕ = (cell + size.cells - t % size.cells) % size.cells in
+    let low : k < size.cells = mod-lt (cell + size.cells - t % size.cells) pos in (
       λ job n mv. let h = has_window t job w b Ready mv.3 in let q : ℕ = h.0 in let below = at_length w q Ready h.2 in
-          let is : job ≡ t + q = h.1 in
-          let same : job ≡ t + k =
-          one_job job (t + k) cells (omega arith) (omega arith) (mv.4 ∙ sym (place_is t cell cells pos near)) in
+          let is : job ≡ t + q = h.1 in let same : job ≡ t + k = one_job job (t + k) size.cells (omega arith)
+          (omega arith) (mv.4 ∙ sym (place_is t cell size.cells pos near)) in
           not (ap (get_elem? w) (let e : k ≡ q = omega arith in e) ∙ h.2),
       refl,
     )
 
-pub claim_moves : (cells workers t worker cell : ℕ) (w : List Stage) (b : Bool) → 0 < cells → worker < workers
-    → cell < cells → ((k : ℕ) → ¬ (get_elem? w k ≡ some (Busy worker)))
-    → get_elem? w ((cell + cells - t % cells) % cells) ≡ some Ready
-    → MachineSteps cells workers (machine_of t w b) (Claim worker cell) true
-    (machine_of t (set w ((cell + cells - t % cells) % cells) (Busy worker)) b)
-claim_moves cells workers t worker cell w b pos low near free is = let k : ℕ = (cell + cells - t % cells) % cells in (
-  t + k,
-  (
-    low,
-    near,
-    λ i h. let x = has_window t i w b (Busy worker) h in free x.0 x.2,
-    window_has t k w b Ready is,
-    place_is t cell cells pos near,
-    ap (λ (xs : List Stage). record { stages = xs; taken = t; stopped = b }) (sym (past_set t k Done (Busy worker) w)),
-  ),
-)
+pub claim_moves : (size : RingSize) (t worker cell : ℕ) (w : List Stage) (b : Bool) → 0 < size.cells
+    → worker < size.workers → cell < size.cells → ((k : ℕ) → ¬ (get_elem? w k ≡ some (Busy worker)))
+    → get_elem? w ((cell + size.cells - t % size.cells) % size.cells) ≡ some Ready
+    → MachineSteps size (machine_of t w b) (Claim worker cell) true
+    (machine_of t (set w ((cell + size.cells - t % size.cells) % size.cells) (Busy worker)) b)
+claim_moves size t worker cell w b pos low near free is =
+    let k : ℕ = (cell + size.cells - t % size.cells) % size.cells in (
+      t + k,
+      (
+        low,
+        near,
+        λ i h. let x = has_window t i w b (Busy worker) h in free x.0 x.2,
+        window_has t k w b Ready is,
+        place_is t cell size.cells pos near,
+        ap (λ (xs : List Stage). record { stages = xs; taken = t; stopped = b })
+            (sym (past_set t k Done (Busy worker) w)),
+      ),
+    )
 
-pub finish_none : (cells workers t worker : ℕ) (w : List Stage) (b : Bool)
+pub finish_none : (size : RingSize) (t worker : ℕ) (w : List Stage) (b : Bool)
     → ((k : ℕ) → ¬ (get_elem? w k ≡ some (Busy worker)))
-    → MachineSteps cells workers (machine_of t w b) (Finish worker) false (machine_of t w b)
-finish_none cells workers t worker w b free = (
-  λ job n mv. let x = has_window t job w b (Busy worker) mv.0 in
-      free x.0 x.2,
-  refl,
-)
+    → MachineSteps size (machine_of t w b) (Finish worker) false (machine_of t w b)
+finish_none size t worker w b free = (λ job n mv. let x = has_window t job w b (Busy worker) mv.0 in free x.0 x.2, refl)
 
-pub finish_moves : (cells workers t k worker : ℕ) (w : List Stage) (b : Bool) → get_elem? w k ≡ some (Busy worker)
-    → MachineSteps cells workers (machine_of t w b) (Finish worker) true (machine_of t (set w k Done) b)
-finish_moves cells workers t k worker w b is = (
+pub finish_moves : (size : RingSize) (t k worker : ℕ) (w : List Stage) (b : Bool) → get_elem? w k ≡ some (Busy worker)
+    → MachineSteps size (machine_of t w b) (Finish worker) true (machine_of t (set w k Done) b)
+finish_moves size t k worker w b is = (
   t + k,
   (
     window_has t k w b (Busy worker) is,
-    ap (λ (xs : List Stage). record {
-      stages = xs;
-      taken = t;
-      stopped = b;
-    }) (sym (past_set t k Done Done w)),
+    ap (λ (xs : List Stage). record { stages = xs; taken = t; stopped = b }) (sym (past_set t k Done Done w)),
   ),
 )
 
-pub take_none : (cells workers t : ℕ) (w : List Stage) (b : Bool) → ¬ (get_elem? w 0 ≡ some Done)
-    → MachineSteps cells workers (machine_of t w b) Take false (machine_of t w b)
-take_none cells workers t w b not = (
+pub take_none : (size : RingSize) (t : ℕ) (w : List Stage) (b : Bool) → ¬ (get_elem? w 0 ≡ some Done)
+    → MachineSteps size (machine_of t w b) Take false (machine_of t w b)
+take_none size t w b not = (
   λ job n mv. let x = has_window t job w b Done mv.0 in
       let is : job ≡ t = mv.1 in let at : job ≡ t + x.0 = x.1 in
       not (ap (get_elem? w) (let e : 0 ≡ x.0 = omega arith in e) ∙ x.2),
@@ -126,9 +122,9 @@ behind t [] rest is e = absurd (some-ne-none Done (sym is))
 behind t (x ∷ xs) rest is e = ap (λ (ys : List Stage). replicate (t + 1) Done ++ ys) e
     ∙ (past_more t Done xs ∙ ap (λ (y : Stage). replicate t Done ++ y ∷ xs) (sym (some-injective x Done is)))
 
-pub take_moves : (cells workers t : ℕ) (w rest : List Stage) (b : Bool) → get_elem? w 0 ≡ some Done
-    → rest ≡ drop 1 w → MachineSteps cells workers (machine_of t w b) Take true (machine_of (t + 1) rest b)
-take_moves cells workers t w rest b is e = let at = window_has t 0 w b Done is in let z : t + 0 ≡ t = omega arith in (
+pub take_moves : (size : RingSize) (t : ℕ) (w rest : List Stage) (b : Bool) → get_elem? w 0 ≡ some Done
+    → rest ≡ drop 1 w → MachineSteps size (machine_of t w b) Take true (machine_of (t + 1) rest b)
+take_moves size t w rest b is e = let at = window_has t 0 w b Done is in let z : t + 0 ≡ t = omega arith in (
   t,
   (
     subst (λ (i : ℕ). HasStage (machine_of t w b) i Done) z at,
@@ -138,22 +134,22 @@ take_moves cells workers t w rest b is e = let at = window_has t 0 w b Done is i
 )
 
 -- one event more
-module _ (cells workers : ℕ) where
+module _ (size : RingSize) where
   abbrev Longer : Machine → List Event → List Entry → Event → Bool → Machine → Type 0
-  Longer m events log e b n = (more : List Entry) × Leads cells workers m (events ++ e ∷ []) more n
+  Longer m events log e b n = (more : List Entry) × Leads size m (events ++ e ∷ []) more n
       × (length more ≡ length log + cond b 1 0)
 
   pub leads_end : (m : Machine) (events : List Event) (log : List Entry) (n : Machine) (e : Event) (b : Bool)
-      (n' : Machine) → Leads cells workers m events log n → MachineSteps cells workers n e b n'
+      (n' : Machine) → Leads size m events log n → MachineSteps size n e b n'
       → Longer m events log e b n'
-  leads_end m [] log n e true n' old new = let start : Moves cells workers m e new.0 n' =
-      subst (λ (x : Machine). Moves cells workers x e new.0 n') old.1 new.1 in (
+  leads_end m [] log n e true n' old new = let start : Moves size m e new.0 n' =
+      subst (λ (x : Machine). Moves size x e new.0 n') old.1 new.1 in (
         record { event = e; job = new.0 } ∷ [],
         inl (new.0, n', [], start, (refl, refl), refl),
         (let z : length log ≡ 0 = ap length old.0 in omega arith),
       )
-  leads_end m [] log n e false n' old new = let start : IsRefused cells workers m e =
-      subst (λ (x : Machine). IsRefused cells workers x e) old.1 new.0 in
+  leads_end m [] log n e false n' old new = let start : IsRefused size m e =
+      subst (λ (x : Machine). IsRefused size x e) old.1 new.0 in
       ([], inr (start, (refl, new.1 ∙ old.1)), (let z : length log ≡ 0 = ap length old.0 in omega arith))
   leads_end m (x ∷ xs) log n e b n' old new = ⊎_elim
       (λ o. let more = leads_end o.1 xs o.2 n e b n' o.4 new in (
@@ -165,7 +161,7 @@ module _ (cells workers : ℕ) where
       (λ o. let more = leads_end m xs log n e b n' o.1 new in (more.0, inr (o.0, more.1), more.2)) old
 
   -- a refused event or a move changes how many jobs were put by one at most
-  pub put_more : (m n : Machine) (e : Event) (b : Bool) → MachineSteps cells workers m e b n
+  pub put_more : (m n : Machine) (e : Event) (b : Bool) → MachineSteps size m e b n
       → length n.stages ≤ length m.stages + 1
   put_more m n e false s = let z : length n.stages ≡ length m.stages = ap (λ (x : Machine). length x.stages) s.1 in
       omega arith

@@ -3,6 +3,7 @@ use Rattle.std.specs.Prelude.{◌≡◌, ℕ, ◌<◌, ◌%◌, ◌==◌, Bool, 
 use Rattle.std.specs.List.{range_with_len}
 use Rattle.lr_gatecore.specs.declared.event.Event.{Event}
 use Rattle.lr_gatecore.specs.declared.event.Event.TheVariants.{Put, Claim, Finish, Take, Stop}
+use Rattle.lr_gatecore.specs.declared.ring_size.RingSize.{RingSize}
 use Rattle.lr_gatecore.specs.Machine.{Machine, empty_machine, Entry, Leads}
 
 abbrev pub entry : Event → ℕ → Entry
@@ -42,7 +43,7 @@ IsWholeLife cells i events = (worker : ℕ) × (events ≡ Put ∷ Claim worker 
 -- between its put and its take
 abbrev pub JobsGoInOrder : Type 0
 JobsGoInOrder =
-    (cells workers : ℕ) (events : List Event) (log : List Entry) (n : Machine)
-    → Leads cells workers empty_machine events log n
+    (size : RingSize) (events : List Event) (log : List Entry) (n : Machine)
+    → Leads size empty_machine events log n
     → (taken_jobs log ≡ range_with_len 0 n.taken)
-    × ((i : ℕ) → i < n.taken → IsWholeLife cells i (life_of i log))
+    × ((i : ℕ) → i < n.taken → IsWholeLife size.cells i (life_of i log))

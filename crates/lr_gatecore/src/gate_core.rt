@@ -10,6 +10,7 @@ ghost use Rattle.lr_gatecore.specs.Machine.{Entry, empty_machine, put_count, Lea
 ghost use Rattle.lr_gatecore.specs.Core.{IsCore, SameSize, Steps};
 
 use crate::event::Event;
+use crate::ring_size::RingSize;
 use crate::sizes::{MOST_CELLS, MOST_JOBS, MOST_SEATS};
 use crate::stage::Stage;
 use lr_bits::NoMemory;
@@ -20,8 +21,7 @@ use std::marker::Model;
 /// The machine of a ring, which runs alone: it keeps the stages of the jobs that were put and not taken.
 #[derive(Drop)]
 pub struct GateCore {
-    cells: u32,
-    workers: u32,
+    size: RingSize,
     taken: u64,
     stopped: bool,
     window: VecDeque<Stage>,
@@ -34,13 +34,12 @@ impl Model for GateCore {
     ghost Value = { Core };
 
     ghost view = { λ g. record {
-      cells = g.cells;
-      workers = g.workers;
+      size = g.size;
       machine = machine_of g.taken g.window.items g.stopped;
     } };
 
     ghost invariant = { λ g.
-        IsKept g.cells g.workers g.taken g.stopped g.window.items (deque_capacity g.window) };
+        IsKept g.size g.taken g.stopped g.window.items (deque_capacity g.window) };
 }
 
 /// The place of the job that the worker claimed and hasn't finished.
@@ -72,12 +71,12 @@ impl GateCore {
     pub fn new(alloc: Global, cells: u32, workers: u32) -> Result<GateCore, NoMemory>
         requires cells { (0 < cells) × (cells ≤ MOST_CELLS) }
         requires workers { (0 < workers) × (workers ≤ MOST_SEATS) }
-        ensures { IfOk result (λ core. core ≡ record { cells = cells; workers = workers; machine = empty_machine }) }
+        ensures { IfOk result (λ core. core
+            ≡ record { size = record { cells = cells; workers = workers }; machine = empty_machine }) }
     {
         let window = VecDeque::with_capacity(alloc, cells as usize)?;
         Ok(GateCore {
-            cells,
-            workers,
+            size: RingSize { cells, workers },
             taken: 0,
             stopped: false,
             window,
@@ -112,7 +111,7 @@ impl GateCore {
         ensures sizes { SameSize self.old self.new }
         ensures steps { Steps self.old Put result self.new }
     {
-        if self.stopped || self.window.len() >= self.cells as usize {
+        if self.stopped || self.window.len() >= self.size.cells as usize {
             return false;
         }
         self.window.push_back_reserved(Stage::Ready);
@@ -123,13 +122,13 @@ impl GateCore {
         ensures sizes { SameSize self.old self.new }
         ensures steps { Steps self.old (Claim worker cell) result self.new }
     {
-        if worker >= self.workers || cell >= self.cells {
+        if worker >= self.size.workers || cell >= self.size.cells {
             return false;
         }
         if place_of(&self.window, worker).is_some() {
             return false;
         }
-        let cells = u64::from(self.cells);
+        let cells = u64::from(self.size.cells);
         let place = ((u64::from(cell) + cells - self.taken % cells) % cells) as usize;
         if !is_at(&self.window, place, Stage::Ready) {
             return false;
@@ -177,7 +176,7 @@ impl GateCore {
         requires { put_count self.old.machine + length events.now ≤ MOST_JOBS }
         ensures sizes { SameSize self.old self.new }
         ensures leads { (log : List Entry)
-            × Leads self.old.cells self.old.workers self.old.machine events.now log self.new.machine
+            × Leads self.old.size self.old.machine events.now log self.new.machine
             × (result ≡ length log) }
     {
         let mut moved = 0;

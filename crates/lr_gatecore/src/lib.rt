@@ -9,6 +9,7 @@
 mod event;
 mod gate_core;
 mod laws;
+mod ring_size;
 mod sizes;
 mod stage;
 mod work;
@@ -16,6 +17,7 @@ mod work;
 pub use event::Event;
 pub use gate_core::GateCore;
 pub use laws::{jobs_go_in_order, moves_are_one, moves_lead_to_states};
+pub use ring_size::RingSize;
 pub use sizes::{MOST_CELLS, MOST_HANDS, MOST_JOBS, MOST_SEATS, WORD_BASE};
 pub use stage::Stage;
 pub use work::Work;

@@ -9,7 +9,7 @@ use Rattle.std.proofs.Math.ListN.{length-set}
 use Rattle.lr_gf.specs.Sums.{sum_of}
 use Rattle.lr_gf.specs.Field.{times}
 use Rattle.lr_gf.specs.Systems.{entry, AreElements, IsInKernel}
-use Rattle.lr_gf.specs.RowOperations.{IsEquivalent, IsPivotStep, moved_row, cleared_column}
+use Rattle.lr_gf.specs.RowOperations.{IsEquivalent, IsPivotStep, RowMove, moved_row, cleared_column}
 use Rattle.lr_gf.proofs.Laws.{below, commute, group, times-add-left, times-zero-right, one-times, linear-times-right}
 use Rattle.lr_gf.proofs.SumLaws.{sum_of-same, sum_of-add, sum_of-linear, sum_of-lt}
 
@@ -95,16 +95,21 @@ cleared_column-from rows columns p c m n hr hc hp e x h =
           ];
     }
 
+abbrev pub row_move : ℕ → ℕ → ℕ → RowMove
+row_move from to factor = record { from = from; to = to; factor = factor }
+
 -- the entries of the row that `moved_row` puts at `to`, and of the others
-moved_row-there : (from to f : ℕ) (m : ℕ → ℕ → ℕ) (k : ℕ) → moved_row from to f m to k ≡ times f (m from k)
+moved_row-there : (from to f : ℕ) (m : ℕ → ℕ → ℕ) (k : ℕ) → moved_row (row_move from to f) m to k ≡ times f (m from k)
 moved_row-there from to f m k = if_same to to (times f (m from k)) (if to == from then m to k else m to k) refl
 
-moved_row-swapped : (from to f : ℕ) (m : ℕ → ℕ → ℕ) (k : ℕ) → from ≢ to → moved_row from to f m from k ≡ m to k
+moved_row-swapped : (from to f : ℕ) (m : ℕ → ℕ → ℕ) (k : ℕ) → from ≢ to
+    → moved_row (row_move from to f) m from k ≡ m to k
 moved_row-swapped from to f m k d =
     if_other from to (times f (m from k)) (if from == from then m to k else m from k) d
     ∙ if_same from from (m to k) (m from k) refl
 
-moved_row-elsewhere : (from to f : ℕ) (m : ℕ → ℕ → ℕ) (i k : ℕ) → i ≢ to → i ≢ from → moved_row from to f m i k ≡ m i k
+moved_row-elsewhere : (from to f : ℕ) (m : ℕ → ℕ → ℕ) (i k : ℕ) → i ≢ to → i ≢ from
+    → moved_row (row_move from to f) m i k ≡ m i k
 moved_row-elsewhere from to f m i k d e =
     if_other i to (times f (m from k)) (if i == from then m to k else m i k) d ∙ if_other i from (m to k) (m i k) e
 
@@ -115,21 +120,21 @@ rows_alike columns r s x h = sum_of-same columns (λ k. times (r k) (x k)) (λ k
 
 -- one way through `moved_row`, and back
 pub moved_row-to : (rows columns from to f : ℕ) (m n : ℕ → ℕ → ℕ) → rows ≤ 16 → columns ≤ 17 → from < rows → to < rows
-    → ((i k : ℕ) → i < 16 → k < 17 → n i k ≡ moved_row from to f m i k)
+    → ((i k : ℕ) → i < 16 → k < 17 → n i k ≡ moved_row (row_move from to f) m i k)
     → (x : ℕ → ℕ) → IsInKernel rows columns m x → IsInKernel rows columns n x
 moved_row-to rows columns from to f m n hr hc hf ht e x h = record {
   sent = λ i l.
       elim (cases_eq i to) [
         | inl q ↦
             rows_alike columns (n i) (λ k. times f (m from k)) x
-            (λ k j. e i k (omega arith) (omega arith) ∙ ap (λ z. moved_row from to f m z k) q
+            (λ k j. e i k (omega arith) (omega arith) ∙ ap (λ z. moved_row (row_move from to f) m z k) q
             ∙ moved_row-there from to f m k)
             ∙ sum_scaled columns f (m from) x ∙ ap (times f) (h.sent from hf) ∙ times-zero-right f
         | inr q ↦
             elim (cases_eq i from) [
               | inl s ↦
                   rows_alike columns (n i) (m to) x
-                  (λ k j. e i k (omega arith) (omega arith) ∙ ap (λ z. moved_row from to f m z k) s
+                  (λ k j. e i k (omega arith) (omega arith) ∙ ap (λ z. moved_row (row_move from to f) m z k) s
                   ∙ moved_row-swapped from to f m k (λ t. q (s ∙ t)))
                   ∙ h.sent to ht
               | inr s ↦
@@ -143,7 +148,7 @@ moved_row-to rows columns from to f m n hr hc hf ht e x h = record {
 -- g undoes f
 pub moved_row-from : (rows columns from to f g : ℕ) (m n : ℕ → ℕ → ℕ) → rows ≤ 16 → columns ≤ 17 → from < rows
     → to < rows → times g f ≡ 1
-    → ((i k : ℕ) → i < 16 → k < 17 → n i k ≡ moved_row from to f m i k)
+    → ((i k : ℕ) → i < 16 → k < 17 → n i k ≡ moved_row (row_move from to f) m i k)
     → (x : ℕ → ℕ) → IsInKernel rows columns n x → IsInKernel rows columns m x
 moved_row-from rows columns from to f g m n hr hc hf ht inverse e x h =
     let s : ℕ = sum_of columns (λ k. times (m from k) (x k)) in
@@ -193,7 +198,8 @@ added_row c v source old new zeros added kept k h =
 -- the row that is moved is 0 before the column
 pub moved_row-zero : (rows place p column g : ℕ) (m l : ℕ → ℕ → ℕ) → rows ≤ 16 → column < 17 → place ≤ p → p < rows
     → ((i k : ℕ) → place ≤ i → i < rows → k < column → m i k ≡ 0)
-    → ((i k : ℕ) → i < 16 → k < 17 → l i k ≡ moved_row p place g m i k) → (k : ℕ) → k < column → l place k ≡ 0
+    → ((i k : ℕ) → i < 16 → k < 17 → l i k ≡ moved_row (row_move p place g) m i k) → (k : ℕ) → k < column
+    → l place k ≡ 0
 moved_row-zero rows place p column g m l hr hc hp hq zeros e k h =
     e place k (omega arith) (omega arith) ∙ moved_row-there p place g m k ∙ ap (times g) (zeros p k hp hq h)
     ∙ times-zero-right g
@@ -244,15 +250,16 @@ clear_skip old now p c j hl e done rest = (
 -- a row moved to its place and multiplied by the inverse of its entry, and the column cleared: a
 -- step of the elimination
 moved_row-elements : (p place g : ℕ) (m l : ℕ → ℕ → ℕ) → p < 16 → place < 16
-    → ((i k : ℕ) → i < 16 → k < 17 → l i k ≡ moved_row p place g m i k) → AreElements m → AreElements l
+    → ((i k : ℕ) → i < 16 → k < 17 → l i k ≡ moved_row (row_move p place g) m i k) → AreElements m → AreElements l
 moved_row-elements p place g m l hp hq e h i k hi hk =
     let P : ℕ → Type 0 = λ z. z < 256 in
     elim (cases_eq i place) [
-      | inl q ↦ subst P (sym (e i k hi hk ∙ ap (λ z. moved_row p place g m z k) q ∙ moved_row-there p place g m k))
+      | inl q ↦ subst P (sym (e i k hi hk ∙ ap (λ z. moved_row
+          (row_move p place g) m z k) q ∙ moved_row-there p place g m k))
           (below g (m p k))
       | inr q ↦
           elim (cases_eq i p) [
-            | inl t ↦ subst P (sym (e i k hi hk ∙ ap (λ z. moved_row p place g m z k) t
+            | inl t ↦ subst P (sym (e i k hi hk ∙ ap (λ z. moved_row (row_move p place g) m z k) t
                 ∙ moved_row-swapped p place g m k (λ u. q (t ∙ u)))) (h place k hq hk)
             | inr t ↦ subst P (sym (e i k hi hk ∙ moved_row-elsewhere p place g m i k q t)) (h i k hi hk)
           ]
@@ -272,7 +279,7 @@ cleared_column-elements p c m n e h i k hi hk =
 pub is_pivot_step : (rows place p column g : ℕ) (m l n : ℕ → ℕ → ℕ) → AreElements m → rows ≤ 16 → column < 17
     → place ≤ p → p < rows
     → times (m p column) g ≡ 1
-    → ((i k : ℕ) → i < 16 → k < 17 → l i k ≡ moved_row p place g m i k)
+    → ((i k : ℕ) → i < 16 → k < 17 → l i k ≡ moved_row (row_move p place g) m i k)
     → ((i k : ℕ) → i < 16 → k < 17 → n i k ≡ cleared_column place column l i k)
     → IsPivotStep rows place column m n
 is_pivot_step rows place p column g m l n hm hr hc hp hq inverse e f = record {
@@ -307,7 +314,7 @@ is_pivot_step rows place p column g m l n hm hr hc hp hq inverse e f = record {
             ∙ ap (bit_xor (l i k)) (times-zero-right (l i column)) ∙ xor_zero_r (l i k)
             ∙ elim (cases_eq i p) [
               | inl t ↦
-                  e i k (omega arith) hk ∙ ap (λ z. moved_row p place g m z k) t
+                  e i k (omega arith) hk ∙ ap (λ z. moved_row (row_move p place g) m z k) t
                   ∙ moved_row-swapped p place g m k (λ u. q (t ∙ u))
                   ∙ zero place (omega arith) (omega arith) ∙ sym (ap (λ z. m z k) t ∙ zero p hp hq)
               | inr t ↦ e i k (omega arith) hk ∙ moved_row-elsewhere p place g m i k q t

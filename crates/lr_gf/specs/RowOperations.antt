@@ -8,9 +8,16 @@ pub record IsEquivalent (rows columns : ℕ) (m n : ℕ → ℕ → ℕ) : Type 
   pub to : (x : ℕ → ℕ) → IsInKernel rows columns m x → IsInKernel rows columns n x
   pub from : (x : ℕ → ℕ) → IsInKernel rows columns n x → IsInKernel rows columns m x
 
--- row `from` comes to `to`, multiplied by the factor, and the row there takes its place
-abbrev pub moved_row : ℕ → ℕ → ℕ → (ℕ → ℕ → ℕ) → ℕ → ℕ → ℕ
-moved_row from to factor m i k = if i == to then times factor (m from k) else (if i == from then m to k else m i k)
+-- a row comes to another place, multiplied by a factor
+pub record RowMove : Type 0 where
+  pub from : ℕ
+  pub to : ℕ
+  pub factor : ℕ
+
+-- the entries after this move: the row that was there takes the place of the one that moved
+abbrev pub moved_row : RowMove → (ℕ → ℕ → ℕ) → ℕ → ℕ → ℕ
+moved_row move m i k =
+    if i == move.to then times move.factor (m move.from k) else (if i == move.from then m move.to k else m i k)
 
 -- the pivot row is added to each of the other rows as often as makes its entry in the column 0
 abbrev pub cleared_column : ℕ → ℕ → (ℕ → ℕ → ℕ) → ℕ → ℕ → ℕ

@@ -135,7 +135,8 @@ fn move_pivot(cells: &mut [[Gf; 17]; 16], from: usize, to: usize, factor: Gf)
     requires from { from < 16 }
     requires to { to < 16 }
     ensures { (i k : ℕ) → i < 16 → k < 17
-        → entry cells.new i k ≡ moved_row from to factor (entry cells.old) i k }
+        → entry cells.new i k ≡ moved_row (record { from = from; to = to; factor = factor })
+        (entry cells.old) i k }
 {
     let mut row = cells[from];
     scale(&mut row, factor);

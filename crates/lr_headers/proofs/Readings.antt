@@ -1,26 +1,6 @@
 -- The header as a function of the bytes.
-use Rattle.std.proofs.Common.{
-  ◌≡◌,
-  ◌+◌,
-  ◌≤◌,
-  ◌<◌,
-  ltb,
-  eqb,
-  not,
-  ◌||◌,
-  inl,
-  inr,
-  ℕ,
-  zero,
-  suc,
-  Bool,
-  true,
-  false,
-  List,
-  [],
-  ◌∷◌,
-  length,
-}
+use Rattle.std.proofs.Common.{◌≡◌, ◌+◌, ◌≤◌, ◌<◌, ltb, eqb, not, ◌||◌, inl, inr, ℕ, zero, suc, Bool, true, false}
+use Rattle.std.proofs.Common.{List, [], ◌∷◌, length}
 use Rattle.std.proofs.Common.{Option, Some, None, Result, Ok, Err, MatchResult, cond, refl, ap, arith}
 use Rattle.std.proofs.lemmas.Bool.{ltb-false, ltb-true}
 use Rattle.std.proofs.lemmas.List.{length-take-le}
@@ -29,26 +9,10 @@ use Rattle.lr_headers.specs.declared.fault.HeaderFault.{HeaderFault}
 use Rattle.lr_headers.specs.declared.fault.HeaderFault.TheVariants.{Ended, NotPrimary, Overrun}
 use Rattle.lr_headers.specs.Laws.{HeadersAreRead}
 use Rattle.lr_headers.specs.Headers.{header_of, header_with, record_and, record_at, records_from, unless_fault}
-use Rattle.lr_headers.specs.Tiling.{
-  Header,
-  HasHeaderFault,
-  IsHeaderOf,
-  IsRecord,
-  IsTiling,
-  fault_at,
-  first_fault,
-  file_header_bytes,
-  header_length,
-  kind_at,
-  length_at,
-}
-use Rattle.lr_headers.proofs.Tilings.{
-  headers_are_one,
-  headers_have_no_fault,
-  header_faults_are_one,
-  no_fault,
-  record_ends,
-}
+use Rattle.lr_headers.specs.Tiling.{Header, HasHeaderFault, IsHeaderOf, IsRecord, IsTiling, fault_at, first_fault}
+use Rattle.lr_headers.specs.Tiling.{file_header_bytes, header_length, kind_at, length_at}
+use Rattle.lr_headers.proofs.Tilings.{headers_are_one, headers_have_no_fault, header_faults_are_one, no_fault}
+use Rattle.lr_headers.proofs.Tilings.{record_ends}
 
 -- the records go on from a place up to another one, and not from there
 record StopsFrom (bytes : List ℕ) (from : ℕ) (fault : HeaderFault) : Type 0 where

@@ -1,41 +1,8 @@
 -- Records one after another.
-use Rattle.std.proofs.Common.{
-  ◌≡◌,
-  ◌+◌,
-  ◌≤◌,
-  ◌<◌,
-  inl,
-  inr,
-  ℕ,
-  zero,
-  suc,
-  Bool,
-  true,
-  false,
-  not,
-  ◌&&◌,
-  eqb,
-  eq-eqb,
-  List,
-  [],
-}
-use Rattle.std.proofs.Common.{
-  ◌∷◌,
-  ◌++◌,
-  Option,
-  Some,
-  None,
-  cond,
-  length,
-  get_or,
-  All,
-  refl,
-  sym,
-  ap,
-  ◌∙◌,
-  subst,
-  arith,
-}
+use Rattle.std.proofs.Common.{◌≡◌, ◌+◌, ◌≤◌, ◌<◌, inl, inr, ℕ, zero, suc, Bool, true, false, not, ◌&&◌, eqb, eq-eqb}
+use Rattle.std.proofs.Common.{List, []}
+use Rattle.std.proofs.Common.{◌∷◌, ◌++◌, Option, Some, None, cond, length, get_or, All, refl, sym, ap, ◌∙◌, subst}
+use Rattle.std.proofs.Common.{arith}
 use Rattle.std.proofs.lemmas.Bool.{ltb-false, eqb-true, false_from_ne_true}
 use Rattle.std.specs.List.{find, slice_get}
 use Rattle.lr_headers.specs.Fields.{content_in, content_of, contents_of, data_bits, file_type, is_kind, is_sized}
@@ -219,11 +186,7 @@ entry_from p q r = rw (p, q, r) refl
 
 entry_is : (bytes : List ℕ) (place : ℕ) (e other : Entry) → IsRecord bytes place e → IsRecord bytes place other
     → e ≡ other
-entry_is bytes place e other r s =
-    let kind : e.kind ≡ other.kind = r.kind ∙ sym s.kind in
-    let at : e.at ≡ other.at = r.here ∙ sym s.here in
-    let size : e.length ≡ other.length = r.size ∙ sym s.size in
-    entry_from kind at size
+entry_is bytes place e other r s = entry_from (r.kind ∙ sym s.kind) (r.here ∙ sym s.here) (r.size ∙ sym s.size)
 
 tilings_are_one : (bytes : List ℕ) (from : ℕ) (es others : List Entry) → IsTiling bytes from es (length bytes)
     → IsTiling bytes from others (length bytes) → es ≡ others
@@ -252,11 +215,7 @@ headers_are_one proper header other h k =
     let front : IsPrefix header.bytes other.entries
     (length header.bytes) = subst (λ (b : List ℕ). IsPrefix b other.entries (length b)) (sym bytes) k.tiled.front in
     let entries = fronts_are_one header.bytes header.entries other.entries h.tiled.front front in
-    header_from bytes entries
-  where
-    header_from : {a b : List ℕ} {x y : List Entry} → a ≡ b → x ≡ y
-        → ◌≡◌ {A = Header} (record { bytes = a; entries = x }) (record { bytes = b; entries = y })
-    header_from p q = rw (p, q) refl
+    λ i. record { bytes = bytes i; entries = entries i }
 
 no_stop : (bytes : List ℕ) (from : ℕ) (es others : List Entry) (to : ℕ) (fault : HeaderFault)
     → IsTiling bytes from es (length bytes) → IsTiling bytes from others to → to < length bytes

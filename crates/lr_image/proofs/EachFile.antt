@@ -1,5 +1,5 @@
 -- Each file has an image or a first fault.
-use Rattle.std.proofs.Common.{◌≡◌, ◌⊎◌, inl, inr, ◌<◌, ◌≤◌, ◌+◌, ◌-◌, ◌*◌, ◌/◌, ◌^◌, min, ℕ, zero, suc, List, [], ◌∷◌}
+use Rattle.std.proofs.Common.{◌≡◌, ◌⊎◌, inl, inr, ◌<◌, ◌≤◌, ◌-◌, ◌*◌, ◌/◌, ◌^◌, min, ℕ, zero, suc, List, [], ◌∷◌}
 use Rattle.std.proofs.Common.{◌++◌, length, map, All, Option, Some, None, Result, Ok, Err, refl, arith, pow_pos}
 use Rattle.std.specs.Prelude.{MatchResult}
 use Rattle.std.proofs.Math.Nat.{mul-le-mul_left}
@@ -16,13 +16,14 @@ use Rattle.lr_headers.specs.Tiling.{Header, HasHeaderFault, IsHeaderOf}
 use Rattle.lr_headers.proofs.Readings.{headers_are_read}
 use Rattle.lr_rice.specs.CodedLines.{Form}
 use Rattle.lr_rice.specs.Laws.{IsForm}
-use Rattle.lr_rice.proofs.EachString.{bits_from, fulls, lines_are_read}
+use Rattle.lr_rice.proofs.EachItem.{bits_from, fulls}
+use Rattle.lr_rice.proofs.EachString.{lines_are_read}
 use Rattle.lr_image.specs.declared.fault.ImageFault.{ImageFault}
 use Rattle.lr_image.specs.declared.fault.ImageFault.TheVariants.{Headers, Rice, Short}
 use Rattle.lr_image.specs.declared.shape.Shape.{Shape}
 use Rattle.lr_image.specs.Laws.{FilesHaveOutcomes}
 use Rattle.lr_image.specs.Picture.{Picture}
-use Rattle.lr_image.specs.Pieces.{GiveLines, PiecesFail}
+use Rattle.lr_image.specs.Pieces.{GiveLines, PieceSite, PiecesFail, first_site, next_site}
 use Rattle.lr_image.specs.Plain.{BeginsWithPixels, PixelsFail, whole_pixels}
 use Rattle.lr_image.specs.Images.{HasOutcome, HasPixels, LacksPixels, data_field, data_pieces, line_form}
 use Rattle.lr_image.specs.Shapes.{IsShapeOf, shape_of}
@@ -70,21 +71,24 @@ plain_or_not bits n bytes some = elim (cases_lt (whole_pixels bits bytes) n) [
 -- ---- pixels that are coded without loss
 
 module _ (form : Form) (is : IsForm form) (each : ℕ) where
-  abbrev Pieces : ℕ → ℕ → ℕ → List (List ℕ) → Type 0
-  Pieces number done wanted pieces =
-      ((samples : List ℕ) × GiveLines form each wanted pieces samples)
-      ⊎ ((fault : ImageFault) × PiecesFail form each number done wanted pieces fault)
+  abbrev Pieces : PieceSite → List (List ℕ) → Type 0
+  Pieces at pieces =
+      ((samples : List ℕ) × GiveLines form each at.wanted pieces samples)
+      ⊎ ((fault : ImageFault) × PiecesFail form each at pieces fault)
 
-  pieces_or_not : (number done wanted : ℕ) (pieces : List (List ℕ)) → Pieces number done wanted pieces
-  pieces_or_not number done zero [] = inl ([], (refl, refl))
-  pieces_or_not number done (suc wanted) [] =
+  none_or_short : (number done wanted : ℕ) → Pieces (record { number = number; done = done; wanted = wanted }) []
+  none_or_short number done zero = inl ([], (refl, refl))
+  none_or_short number done (suc wanted) =
       inr (Short (done * form.columns), record { some = omega arith; is_fault = refl })
-  pieces_or_not number done wanted (piece ∷ pieces) =
-      elim (lines_are_read form is (min each wanted) (bits_of piece) (are_bits piece)) [
+
+  pieces_or_not : (at : PieceSite) (pieces : List (List ℕ)) → Pieces at pieces
+  pieces_or_not at [] = none_or_short at.number at.done at.wanted
+  pieces_or_not at (piece ∷ pieces) =
+      elim (lines_are_read form is (min each at.wanted) (bits_of piece) (are_bits piece)) [
         | inr fails ↦
-            inr (Rice number fails.0, inl (record { rice = fails.0; fails = fails.1; is_fault = refl }))
+            inr (Rice at.number fails.0, inl (record { rice = fails.0; fails = fails.1; is_fault = refl }))
         | inl there ↦
-            elim (pieces_or_not (number + 1) (done + min each wanted) (wanted - each) pieces) [
+            elim (pieces_or_not (next_site each at) pieces) [
               | inr later ↦
                   inr (later.0, inr (record { front = there.0; begins = there.1; later = later.1 }))
               | inl others ↦ inl (
@@ -107,7 +111,7 @@ pixels_or_not : (file : File) (size : ℕ) (s : Structure) (lossless : Option Lo
     ⊎ ((fault : ImageFault) × LacksPixels file size s lossless fault)
 pixels_or_not file size s None is = plain_or_not s.bits (s.columns * s.lines) (data_field file size) is.least_bits
 pixels_or_not file size s (Some l) is =
-    pieces_or_not (line_form s l) (form_is s l is.0 is.1) l.lines 0 0 s.lines (data_pieces file size)
+    pieces_or_not (line_form s l) (form_is s l is.0 is.1) l.lines (first_site s.lines) (data_pieces file size)
 
 abbrev Outcome : File → Type 0
 Outcome file = (outcome : Result Picture ImageFault) × HasOutcome file outcome

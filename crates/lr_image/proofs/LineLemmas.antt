@@ -7,7 +7,11 @@ use Rattle.lr_bits.specs.Bits.{bits_of}
 use Rattle.lr_rice.specs.CodedLines.{Form, BeginsWithLines, GrowsByLines}
 use Rattle.lr_image.specs.declared.fault.ImageFault.{ImageFault}
 use Rattle.lr_image.specs.declared.fault.ImageFault.TheVariants.{NoMemory, Short}
-use Rattle.lr_image.specs.Pieces.{GiveLines, LackLines, LinesLack, PieceFails, PiecesFail}
+use Rattle.lr_image.specs.Pieces.{GiveLines, LackLines, LinesLack, PieceFails, PieceSite, PiecesFail, next_site}
+
+-- after this many pieces and lines of all
+abbrev pub site_in : ℕ → ℕ → ℕ → PieceSite
+site_in all number done = record { number = number; done = done; wanted = all - done }
 
 -- The first pieces were read: `number` of them, with `done` lines and these pixels. What the others give or lack, all
 -- give or lack.
@@ -17,7 +21,7 @@ pub record Partway (form : Form) (each all number done : ℕ) (pixels : List ℕ
   pub few : number ≤ done
   pub gives : (back : List ℕ) → GiveLines form each (all - done) left back
       → GiveLines form each all pieces (pixels ++ back)
-  pub lacks : (fault : ImageFault) → PiecesFail form each number done (all - done) left fault
+  pub lacks : (fault : ImageFault) → PiecesFail form each (site_in all number done) left fault
       → LackLines form each all pieces fault
 
 pub starts : (form : Form) (each all : ℕ) (pieces : List (List ℕ)) → Partway form each all 0 0 [] pieces pieces
@@ -25,7 +29,7 @@ starts form each all pieces = record {
   within = omega arith;
   few = omega arith;
   gives = λ back give. subst (λ (n : ℕ). GiveLines form each n pieces back) (sub-zero all) give;
-  lacks = λ fault fail. subst (λ (n : ℕ). PiecesFail form each 0 0 n pieces fault) (sub-zero all) fail;
+  lacks = λ fault fail. subst (λ (n : ℕ). LackLines form each n pieces fault) (sub-zero all) fail;
 }
 
 -- the next piece gives its lines
@@ -55,12 +59,12 @@ reads form each all number done lines piece pixels longer left others pieces one
           (part.gives (front ++ back)
           (subst (λ (ps : List (List ℕ)). GiveLines form each (all - done) ps (front ++ back)) (sym first) all_of));
       lacks = λ fault fail.
-          let later : PiecesFail form each (number + 1) (done + min each (all - done))
-          (all - done - each) others fault =
-          subst (λ (n : ℕ). PiecesFail form each (number + 1) n (all - done - each) others fault) read
-          (subst (λ (n : ℕ). PiecesFail form each (number + 1) (done + lines) n others fault) wanted fail) in
+          let site : ℕ → ℕ → PieceSite = λ d w. record { number = number + 1; done = d; wanted = w } in
+          let later : PiecesFail form each (next_site each (site_in all number done)) others fault =
+          subst (λ (s : PieceSite). PiecesFail form each s others fault)
+          (ap (site (done + lines)) wanted ∙ ap (λ d. site d (all - done - each)) read) fail in
           part.lacks fault
-          (subst (λ (ps : List (List ℕ)). PiecesFail form each number done (all - done) ps fault) (sym first)
+          (subst (λ (ps : List (List ℕ)). PiecesFail form each (site_in all number done) ps fault) (sym first)
           (inr (record { front = front; begins = begins; later = later })));
     }
 
@@ -75,7 +79,7 @@ fails form each all number done lines piece pixels left others pieces fault coun
     let here : PieceFails form (min each (all - done)) number piece fault =
     subst (λ (n : ℕ). PieceFails form n number piece fault) count fail in
     inr (part.lacks fault
-    (subst (λ (ps : List (List ℕ)). PiecesFail form each number done (all - done) ps fault) (sym first) (inl here)))
+    (subst (λ (ps : List (List ℕ)). PiecesFail form each (site_in all number done) ps fault) (sym first) (inl here)))
 
 pub no_lines : (form : Form) (each : ℕ) (pieces : List (List ℕ)) → GiveLines form each 0 pieces []
 no_lines form each [] = (refl, refl)
@@ -106,5 +110,5 @@ pub lacking : (form : Form) (each all number done : ℕ) (pixels : List ℕ) (le
     → LackLines form each all pieces fault
 lacking form each all number done pixels left pieces fault none before is part =
     let lack : LinesLack form done (all - done) fault = record { some = omega arith; is_fault = is } in
-    part.lacks fault (subst (λ (ps : List (List ℕ)). PiecesFail form each number done (all - done) ps fault)
+    part.lacks fault (subst (λ (ps : List (List ℕ)). PiecesFail form each (site_in all number done) ps fault)
     (sym none) lack)

@@ -21,7 +21,7 @@ use Rattle.lr_image.specs.declared.layout.Layout.{Layout}
 use Rattle.lr_image.specs.declared.shape.Shape.{Shape}
 use Rattle.lr_image.specs.Laws.{OutcomesAreOne}
 use Rattle.lr_image.specs.Picture.{Picture}
-use Rattle.lr_image.specs.Pieces.{GiveLines, PiecesFail}
+use Rattle.lr_image.specs.Pieces.{GiveLines, PieceSite, PiecesFail, first_site, next_site}
 use Rattle.lr_image.specs.Plain.{BeginsWithPixels, PixelsFail}
 use Rattle.lr_image.specs.Images.{HasImageFault, HasLayout, HasNoHeader, HasNoLayout, HasNoPixels, HasNoShape}
 use Rattle.lr_image.specs.Images.{HasPixels, IsImageOf, LacksPixels, data_field, data_pieces, line_form}
@@ -73,35 +73,32 @@ lines_are form each wanted (piece ∷ pieces) samples others is a b =
     a.are_samples ∙ ap (λ (l : List ℕ). l ++ a.back) front.0 ∙ ap (λ (l : List ℕ). b.front ++ l) back
     ∙ sym b.are_samples
 
-lines_lack_none : (form : Form) (each number done wanted : ℕ) (pieces : List (List ℕ)) (samples : List ℕ)
-    (fault : ImageFault) → IsForm form → GiveLines form each wanted pieces samples
-    → PiecesFail form each number done wanted pieces fault → ⊥
-lines_lack_none form each number done wanted [] samples fault is a b =
+lines_lack_none : (form : Form) (each : ℕ) (at : PieceSite) (pieces : List (List ℕ)) (samples : List ℕ)
+    (fault : ImageFault) → IsForm form → GiveLines form each at.wanted pieces samples
+    → PiecesFail form each at pieces fault → ⊥
+lines_lack_none form each at [] samples fault is a b =
     let no_line = a.0 in
     let some = b.some in
     omega arith
-lines_lack_none form each number done wanted (piece ∷ pieces) samples fault is a (inl b) =
-    lines_have_no_fault form is (min each wanted) a.front (bits_of piece) b.rice a.begins b.fails
-lines_lack_none form each number done wanted (piece ∷ pieces) samples fault is a (inr b) =
-    lines_lack_none form each (number + 1) (done + min each wanted)
-    (wanted - each) pieces a.back fault is a.others b.later
+lines_lack_none form each at (piece ∷ pieces) samples fault is a (inl b) =
+    lines_have_no_fault form is (min each at.wanted) a.front (bits_of piece) b.rice a.begins b.fails
+lines_lack_none form each at (piece ∷ pieces) samples fault is a (inr b) =
+    lines_lack_none form each (next_site each at) pieces a.back fault is a.others b.later
 
-pieces_fail_once : (form : Form) (each number done wanted : ℕ) (pieces : List (List ℕ)) (fault other : ImageFault)
-    → IsForm form → PiecesFail form each number done wanted pieces fault
-    → PiecesFail form each number done wanted pieces other → fault ≡ other
-pieces_fail_once form each number done wanted [] fault other is a b = a.is_fault ∙ sym b.is_fault
-pieces_fail_once form each number done wanted (piece ∷ pieces) fault other is (inl a) (inl b) =
-    let same = faults_are_one form is (min each wanted) (bits_of piece) a.rice b.rice a.fails b.fails in
+pieces_fail_once : (form : Form) (each : ℕ) (at : PieceSite) (pieces : List (List ℕ)) (fault other : ImageFault)
+    → IsForm form → PiecesFail form each at pieces fault → PiecesFail form each at pieces other → fault ≡ other
+pieces_fail_once form each at [] fault other is a b = a.is_fault ∙ sym b.is_fault
+pieces_fail_once form each at (piece ∷ pieces) fault other is (inl a) (inl b) =
+    let same = faults_are_one form is (min each at.wanted) (bits_of piece) a.rice b.rice a.fails b.fails in
     let first = a.is_fault in
     let second = b.is_fault in
     cc
-pieces_fail_once form each number done wanted (piece ∷ pieces) fault other is (inl a) (inr b) =
-    absurd (lines_have_no_fault form is (min each wanted) b.front (bits_of piece) a.rice b.begins a.fails)
-pieces_fail_once form each number done wanted (piece ∷ pieces) fault other is (inr a) (inl b) =
-    absurd (lines_have_no_fault form is (min each wanted) a.front (bits_of piece) b.rice a.begins b.fails)
-pieces_fail_once form each number done wanted (piece ∷ pieces) fault other is (inr a) (inr b) =
-    pieces_fail_once form each (number + 1) (done + min each wanted)
-    (wanted - each) pieces fault other is a.later b.later
+pieces_fail_once form each at (piece ∷ pieces) fault other is (inl a) (inr b) =
+    absurd (lines_have_no_fault form is (min each at.wanted) b.front (bits_of piece) a.rice b.begins a.fails)
+pieces_fail_once form each at (piece ∷ pieces) fault other is (inr a) (inl b) =
+    absurd (lines_have_no_fault form is (min each at.wanted) a.front (bits_of piece) b.rice a.begins b.fails)
+pieces_fail_once form each at (piece ∷ pieces) fault other is (inr a) (inr b) =
+    pieces_fail_once form each (next_site each at) pieces fault other is a.later b.later
 
 -- ---- both
 
@@ -119,14 +116,16 @@ pixels_lack_none : (file : File) (size : ℕ) (s : Structure) (lossless : Option
 pixels_lack_none file size s None pixels fault is a b =
     plain_lacks_none s.bits (s.columns * s.lines) (data_field file size) pixels fault is.least_bits a b
 pixels_lack_none file size s (Some l) pixels fault is a b =
-    lines_lack_none (line_form s l) l.lines 0 0 s.lines (data_pieces file size) pixels fault (form_is s l is.0 is.1) a b
+    lines_lack_none (line_form s l) l.lines (first_site s.lines) (data_pieces file size) pixels fault
+    (form_is s l is.0 is.1) a b
 
 lacks_once : (file : File) (size : ℕ) (s : Structure) (lossless : Option Lossless) (fault other : ImageFault)
     → IsShapeOf s lossless → LacksPixels file size s lossless fault → LacksPixels file size s lossless other
     → fault ≡ other
 lacks_once file size s None fault other is a b = a.is_fault ∙ sym b.is_fault
 lacks_once file size s (Some l) fault other is a b =
-    pieces_fail_once (line_form s l) l.lines 0 0 s.lines (data_pieces file size) fault other (form_is s l is.0 is.1) a b
+    pieces_fail_once (line_form s l) l.lines (first_site s.lines) (data_pieces file size) fault other
+    (form_is s l is.0 is.1) a b
 
 -- ---- images
 

@@ -50,15 +50,32 @@ pub record LinesLack (form : Form) (done wanted : ℕ) (fault : ImageFault) : Ty
   pub some : 0 < wanted
   pub is_fault : fault ≡ Short (done * form.columns)
 
--- A piece of these has a fault in the lines that it is to give, or lines are still wanted after the last one. `number`
--- and `done` count the pieces and the lines before them.
-abbrev pub PiecesFail : Form → ℕ → ℕ → ℕ → ℕ → List (List ℕ) → ImageFault → Type 0
-PiecesFail form each number done wanted [] fault = LinesLack form done wanted fault
-PiecesFail form each number done wanted (piece ∷ pieces) fault =
-    PieceFails form (min each wanted) number piece fault
-    ⊎ FailsLater form (min each wanted) piece
-    (PiecesFail form each (number + 1) (done + min each wanted) (wanted - each) pieces fault)
+-- where a piece stands: how many pieces and how many lines come before it, and how many lines are still wanted
+pub record PieceSite : Type 0 where
+  pub number : ℕ
+  pub done : ℕ
+  pub wanted : ℕ
+
+-- where the first piece stands
+abbrev pub first_site : ℕ → PieceSite
+first_site wanted = record { number = 0; done = 0; wanted = wanted }
+
+-- where the next piece stands, if a piece gives this many lines
+abbrev pub next_site : ℕ → PieceSite → PieceSite
+next_site each at = record {
+  number = at.number + 1;
+  done = at.done + min each at.wanted;
+  wanted = at.wanted - each;
+}
+
+-- A piece of these has a fault in the lines that it is to give, or lines are still wanted after the last one. The first
+-- of them stands there.
+abbrev pub PiecesFail : Form → ℕ → PieceSite → List (List ℕ) → ImageFault → Type 0
+PiecesFail form each at [] fault = LinesLack form at.done at.wanted fault
+PiecesFail form each at (piece ∷ pieces) fault =
+    PieceFails form (min each at.wanted) at.number piece fault
+    ⊎ FailsLater form (min each at.wanted) piece (PiecesFail form each (next_site each at) pieces fault)
 
 -- the pieces, from the first one on, lack lines
 abbrev pub LackLines : Form → ℕ → ℕ → List (List ℕ) → ImageFault → Type 0
-LackLines form each wanted pieces fault = PiecesFail form each 0 0 wanted pieces fault
+LackLines form each wanted pieces fault = PiecesFail form each (first_site wanted) pieces fault

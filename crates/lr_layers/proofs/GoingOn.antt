@@ -1,20 +1,6 @@
 -- The packets and files of the first outcomes are the first ones.
-use Rattle.std.proofs.Common.{
-  ◌≡◌,
-  List,
-  [],
-  ◌∷◌,
-  ◌++◌,
-  length,
-  map,
-  ap,
-  ◌∙◌,
-  sym,
-  refl,
-  subst,
-  append-nil,
-  append_assoc,
-}
+use Rattle.std.proofs.Common.{◌≡◌, List, [], ◌∷◌, ◌++◌, length, map, ap, ◌∙◌, sym, refl, subst}
+use Rattle.std.proofs.Common.{append-nil, append_assoc}
 use Rattle.std.proofs.lemmas.List.Elements.{filter_map-append, All-take}
 use Rattle.std.proofs.Math.Seq.{take-append_seam}
 use Rattle.lr_bits.specs.declared.outcome.Outcome.{Outcome}

@@ -2,7 +2,7 @@
 use Rattle.std.proofs.Common.{◌≡◌, ℕ, ◌+◌, ◌-◌, Bool, true, false, not, ◌&&◌, List, [], ◌∷◌, ◌++◌, length, map}
 use Rattle.std.proofs.Common.{ap, ap₂, ◌∙◌, sym, refl, subst, arith, eqb, eqb-true}
 use Rattle.std.proofs.Common.{append-nil, length-append, add-zero, Some, None}
-use Rattle.std.specs.Prelude.{count_by, filter, if◌then◌else◌}
+use Rattle.std.specs.Prelude.{count_by, filter, if◌then◌else◌, sum}
 use Rattle.std.specs.Option.{option_to_list}
 use Rattle.std.specs.List.{filter_map}
 use Rattle.std.specs.Result.{result_ok}
@@ -17,14 +17,13 @@ use Rattle.lr_bits.specs.File.{File}
 use Rattle.lr_bits.specs.Packet.{Packet}
 use Rattle.lr_vc.specs.Frame.{Fields, fields_of, frame_of, version_of}
 use Rattle.lr_vc.specs.Packets.{packets_of, packets_at}
-use Rattle.lr_vc.specs.Standing.{KeptChannels, ChannelsStandFor}
+use Rattle.lr_vc.specs.Standing.{ChannelsStandFor}
 use Rattle.lr_vc.proofs.History.{packets_of-more}
 use Rattle.lr_packet.specs.Verdict.{Good, good_packets}
 use Rattle.lr_packet.proofs.VerdictLemmas.{good_packets-append}
 use Rattle.lr_file.specs.Files.{files_of_packets, files_after, file_at}
-use Rattle.lr_file.specs.Standing.{KeptFiles, FilesStandFor}
+use Rattle.lr_file.specs.Standing.{FilesStandFor}
 use Rattle.lr_layers.specs.declared.counts.AddedCounts.{AddedCounts}
-use Rattle.lr_layers.specs.declared.starts.Start.{Start}
 use Rattle.lr_layers.specs.declared.starts.Now.{Now}
 use Rattle.lr_layers.specs.Layers.{CountsView, numbers_of, frame_in, frames_of_outcomes, good_of_outcomes}
 use Rattle.lr_layers.specs.Layers.{files_of_outcomes, is_bad_version, is_fill}
@@ -33,8 +32,10 @@ use Rattle.lr_bits.specs.declared.sizes.TheConstants.{FILL_CHANNEL}
 use Rattle.lr_layers.specs.Origins.{PlacedPacket, packet_of, at_place, placed_packets, placed_file}
 use Rattle.lr_layers.specs.Origins.{placed_files_after, placed_of_outcomes, corrected_in}
 use Rattle.lr_layers.specs.Standing.{KeptLayers, LayersStandFor, AddsFiles}
-use Rattle.lr_layers.specs.Starts.{IsNow, Joins, StartsStandFor, corrected_before}
-use Rattle.lr_layers.specs.Steps.{AddsFrame}
+use Rattle.lr_layers.specs.Starts.{AtHand, IsNow, Joins, JoinerStandsFor, StartsStandFor, corrected_before}
+use Rattle.lr_layers.specs.Steps.{AddsFrame, CountsFrame, Gains}
+use Rattle.lr_layers.specs.declared.frames.FrameLayers.{FrameLayers}
+use Rattle.lr_layers.specs.declared.packets.Joiner.{Joiner}
 use Rattle.lr_layers.proofs.Changes.{corrected_before-more, corrected_before-same}
 use Rattle.lr_layers.proofs.Joining.{joins_none, placed_files-append}
 use Rattle.lr_layers.proofs.Places.{placed_packets-more, packets_ending-are, all_below, packets_with_more}
@@ -43,16 +44,13 @@ use Rattle.lr_layers.proofs.Staying.{placed_files-stay}
 
 -- ---- the packets of a frame were pushed
 
-pub took : (outcomes : List Outcome) (before : List PlacedPacket) (place : ℕ) (frames : List Fields) (f : Fields)
-    (channels : KeptChannels) (files : KeptFiles) (starts : List ((ℕ × ℕ) × Start)) (old new : List Placed)
-    (gained : AddedCounts) →
-    ChannelsStandFor channels (frames ++ f ∷ []) → (cleared items listed : List Packet) → cleared ≡ [] →
+pub took : (at : AtHand) (frames : List Fields) (f : Fields) (layers : FrameLayers) (gains : Gains) →
+    ChannelsStandFor layers.channels (frames ++ f ∷ []) → (cleared items listed : List Packet) → cleared ≡ [] →
     items ≡ cleared ++ packets_at (frames ++ f ∷ []) (length frames) → listed ≡ items →
-    Joins outcomes before (at_place place (good_packets listed)) files starts old new →
-    gained.packets ≡ length (good_packets listed) → gained.files ≡ length new - length old →
-    AddsFrame outcomes before place frames (frames ++ f ∷ []) channels files starts old new gained
-took outcomes before place frames f channels files starts old new gained stands cleared items listed none read same
-    joins good count =
+    Joins at (good_packets listed) layers.joiner gains.old gains.new →
+    gains.counts.packets ≡ length (good_packets listed) →
+    gains.counts.files ≡ length gains.new - length gains.old → AddsFrame at frames f layers gains
+took at frames f layers gains stands cleared items listed none read same joins good count =
     let P = packets_at (frames ++ f ∷ []) (length frames) in
     let listed_are : listed ≡ P = same ∙ read ∙ ap (λ l. l ++ P) none in
     record {
@@ -62,7 +60,7 @@ took outcomes before place frames f channels files starts old new gained stands 
           ∙ ap (λ l. good_packets (packets_of frames) ++ good_packets l) (sym listed_are);
       joins = joins;
       packets = good;
-      count = omega (arith, count, ap length joins.added, length-append old joins.more);
+      files = omega (arith, count, ap length joins.added, length-append gains.old joins.more);
     }
 
 -- ---- numbers
@@ -79,12 +77,25 @@ each_kind [] = refl
 each_kind (Restored corrected frame ∷ outcomes) = let rest = each_kind outcomes in omega (arith, rest)
 each_kind (Lost word ∷ outcomes) = let rest = each_kind outcomes in omega (arith, rest)
 
-length-is : (outcomes : List Outcome) →
+-- so the two kinds together are all outcomes
+pub both_kinds : (outcomes : List Outcome) →
     count_by is_restored outcomes + count_by (λ o. not (is_restored o)) outcomes ≡ length outcomes
-length-is outcomes =
+both_kinds outcomes =
     ap₂ (λ a b. a + b) (sym (length-filter is_restored outcomes))
     (sym (length-filter (λ o. not (is_restored o)) outcomes))
     ∙ each_kind outcomes
+
+abbrev one_if : Bool → ℕ
+one_if test = if test then 1 else 0
+
+-- an outcome was counted, and so many good packets and files
+pub record Counts (old : CountsView) (outcome : Outcome) (good placed : ℕ) (new : CountsView) : Type 0 where
+  restored : new.restored ≡ old.restored + one_if (is_restored outcome)
+  lost : new.lost ≡ old.lost + one_if (not (is_restored outcome))
+  bad_versions : new.bad_versions ≡ old.bad_versions + one_if (is_bad_version outcome)
+  fill : new.fill ≡ old.fill + one_if (is_fill outcome)
+  packets : new.packets ≡ old.packets + good
+  files : new.files ≡ old.files + placed
 
 -- numbers that agree in each part are the same
 same_numbers : (a b : CountsView) → a.restored ≡ b.restored → a.lost ≡ b.lost → a.bad_versions ≡ b.bad_versions →
@@ -201,13 +212,42 @@ module _ (outcomes : List Outcome) (outcome : Outcome) (ending : List Good)
       (at_place (length outcomes) ending))
       (placed_files-stay outcomes outcome (placed_packets outcomes) (all_below outcomes))
 
+-- the outcome that comes after all of these
+abbrev at_end : List Outcome → Outcome → AtHand
+at_end outcomes outcome = record {
+  outcomes = outcomes ++ outcome ∷ [];
+  place = length outcomes;
+  before = placed_packets outcomes;
+}
+
+abbrev joiner_of : KeptLayers → Joiner
+joiner_of kept = record { files = kept.files; starts = kept.starts }
+
+-- what is kept after a frame
+abbrev kept_after : KeptLayers → FrameLayers → Now → CountsView → KeptLayers
+kept_after old layers now numbers = record {
+  spent = old.spent;
+  channels = layers.channels;
+  files = layers.joiner.files;
+  starts = layers.joiner.starts;
+  corrected = now.corrected;
+  numbers = numbers;
+}
+
+-- what is kept of the files and of their starts, for an outcome more
+joined_before : (outcomes : List Outcome) (outcome : Outcome) (kept : KeptLayers) → LayersStandFor kept outcomes →
+    JoinerStandsFor (joiner_of kept) (outcomes ++ outcome ∷ []) (placed_packets outcomes)
+joined_before outcomes outcome kept stood = record {
+  files = subst (λ (l : List Good). FilesStandFor kept.files l) (sym stood.packets) stood.files;
+  starts = starts_stay outcomes outcome kept.starts (placed_packets outcomes) (all_below outcomes) stood.starts;
+}
+
 module _ (outcomes : List Outcome) (outcome : Outcome) (old new : KeptLayers) (stood : LayersStandFor old outcomes)
     (ending : List Good)
     (good : good_of_outcomes (outcomes ++ outcome ∷ []) ≡ good_of_outcomes outcomes ++ ending)
     (channels : ChannelsStandFor new.channels (frames_of_outcomes (outcomes ++ outcome ∷ [])))
     (before after : List Placed)
-    (joins : Joins (outcomes ++ outcome ∷ []) (placed_packets outcomes)
-    (at_place (length outcomes) ending) new.files new.starts before after) where
+    (joins : Joins (at_end outcomes outcome) ending (joiner_of new) before after) where
   packets_are : map packet_of (placed_packets (outcomes ++ outcome ∷ [])) ≡ good_of_outcomes (outcomes ++ outcome ∷ [])
   packets_are = packets_now outcomes outcome ending good stood.packets
 
@@ -224,39 +264,32 @@ module _ (outcomes : List Outcome) (outcome : Outcome) (old new : KeptLayers) (s
       ∙ ap (λ n. n + length joins.more) (count_of_files outcomes stood.packets)
 
   pub pushed : new.spent ≡ false → new.corrected ≡ old.corrected + corrected_in outcome →
-      new.numbers.restored ≡ old.numbers.restored + (if is_restored outcome then 1 else 0) →
-      new.numbers.lost ≡ old.numbers.lost + (if not (is_restored outcome) then 1 else 0) →
-      new.numbers.bad_versions ≡ old.numbers.bad_versions + (if is_bad_version outcome then 1 else 0) →
-      new.numbers.fill ≡ old.numbers.fill + (if is_fill outcome then 1 else 0) →
-      new.numbers.packets ≡ old.numbers.packets + length ending →
-      new.numbers.files ≡ old.numbers.files + length joins.more →
+      Counts old.numbers outcome (length ending) (length joins.more) new.numbers →
       LayersStandFor new (outcomes ++ outcome ∷ [])
-  pushed unspent corrected restored lost bad_versions fill packets files = record {
+  pushed unspent corrected counts = record {
     unspent = unspent;
     channels = channels;
     files = subst (λ (l : List Good). FilesStandFor new.files l) packets_are
         (subst (λ (l : List PlacedPacket). FilesStandFor new.files (map packet_of l))
-        (sym (placed_now outcomes outcome ending good)) joins.files_stand);
+        (sym (placed_now outcomes outcome ending good)) joins.stands.files);
     starts = subst (λ (l : List PlacedPacket). StartsStandFor (outcomes ++ outcome ∷ []) new.starts l)
-        (sym (placed_now outcomes outcome ending good))
-        joins.starts_stand;
+        (sym (placed_now outcomes outcome ending good)) joins.stands.starts;
     packets = packets_are;
     corrected = corrected ∙ ap (λ n. n + corrected_in outcome) stood.corrected
         ∙ sym (ap (corrected_before (outcomes ++ outcome ∷ [])) (length-append outcomes (outcome ∷ []))
         ∙ corrected_before-more outcomes outcome);
     numbers = same_numbers new.numbers (numbers_of (outcomes ++ outcome ∷ []))
-        (restored ∙ ap (λ (k : CountsView). k.restored + (if is_restored outcome then 1 else 0)) stood.numbers
+        (counts.restored ∙ ap (λ (k : CountsView). k.restored + one_if (is_restored outcome)) stood.numbers
         ∙ sym (count_by-push is_restored outcomes outcome))
-        (lost ∙ ap (λ (k : CountsView). k.lost + (if not (is_restored outcome) then 1 else 0)) stood.numbers
+        (counts.lost ∙ ap (λ (k : CountsView). k.lost + one_if (not (is_restored outcome))) stood.numbers
         ∙ sym (count_by-push (λ o. not (is_restored o)) outcomes outcome))
-        (bad_versions ∙ ap (λ (k : CountsView). k.bad_versions
-        + (if is_bad_version outcome then 1 else 0)) stood.numbers
+        (counts.bad_versions ∙ ap (λ (k : CountsView). k.bad_versions + one_if (is_bad_version outcome)) stood.numbers
         ∙ sym (count_by-push is_bad_version outcomes outcome))
-        (fill ∙ ap (λ (k : CountsView). k.fill + (if is_fill outcome then 1 else 0)) stood.numbers
+        (counts.fill ∙ ap (λ (k : CountsView). k.fill + one_if (is_fill outcome)) stood.numbers
         ∙ sym (count_by-push is_fill outcomes outcome))
-        (packets ∙ ap (λ (k : CountsView). k.packets + length ending) stood.numbers
+        (counts.packets ∙ ap (λ (k : CountsView). k.packets + length ending) stood.numbers
         ∙ sym (ap length good ∙ length-append (good_of_outcomes outcomes) ending))
-        (files ∙ ap (λ (k : CountsView). k.files + length joins.more) stood.numbers ∙ sym count_now);
+        (counts.files ∙ ap (λ (k : CountsView). k.files + length joins.more) stood.numbers ∙ sym count_now);
   }
 
 pub good_same : (outcomes : List Outcome) (outcome : Outcome) → frame_in outcome ≡ None →
@@ -276,34 +309,21 @@ good_with outcomes outcome f ending some good =
     ∙ ap (λ l. l ++ ending) (sym (good_is outcomes (frames_of_outcomes outcomes) refl))
 
 -- what was pushed adds no frame
-pub pushed_none : (outcomes : List Outcome) (outcome : Outcome) (old new : KeptLayers) (files : List Placed) →
-    LayersStandFor old outcomes → frame_in outcome ≡ None → new.spent ≡ false → new.channels ≡ old.channels →
-    new.files ≡ old.files → new.starts ≡ old.starts → new.corrected ≡ old.corrected + corrected_in outcome →
-    new.numbers.restored ≡ old.numbers.restored + (if is_restored outcome then 1 else 0) →
-    new.numbers.lost ≡ old.numbers.lost + (if not (is_restored outcome) then 1 else 0) →
-    new.numbers.bad_versions ≡ old.numbers.bad_versions + (if is_bad_version outcome then 1 else 0) →
-    new.numbers.fill ≡ old.numbers.fill + (if is_fill outcome then 1 else 0) →
-    new.numbers.packets ≡ old.numbers.packets → new.numbers.files ≡ old.numbers.files →
-    LayersStandFor new (outcomes ++ outcome ∷ []) × AddsFiles outcomes outcome files files
+pushed_none : (outcomes : List Outcome) (outcome : Outcome) (old : KeptLayers) (corrected : ℕ) (numbers : CountsView)
+    (files : List Placed) → LayersStandFor old outcomes → frame_in outcome ≡ None →
+    corrected ≡ old.corrected + corrected_in outcome → Counts old.numbers outcome 0 0 numbers →
+    LayersStandFor (record old { corrected = corrected; numbers = numbers }) (outcomes ++ outcome ∷ [])
+    × AddsFiles outcomes outcome files files
 unfolding joins_none
-pushed_none outcomes outcome old new files stood none unspent channels open_files starts corrected restored lost bad
-    fill packets count =
-    let all = outcomes ++ outcome ∷ [] in
+pushed_none outcomes outcome old corrected numbers files stood none changed counts =
+    let new : KeptLayers = record old { corrected = corrected; numbers = numbers } in
     let good = good_same outcomes outcome none in
-    let stands : ChannelsStandFor new.channels (frames_of_outcomes all) =
-    subst (λ (l : List Fields). ChannelsStandFor new.channels l) (sym (frames_same outcomes outcome none))
-    (subst (λ (k : KeptChannels). ChannelsStandFor k (frames_of_outcomes outcomes))
-    (sym channels) stood.channels) in
-    let P : KeptFiles → List ((ℕ × ℕ) × Start) → Type 0 = λ f s.
-    Joins all (placed_packets outcomes) (at_place (length outcomes) []) f s files files in
-    let joins : P new.files new.starts =
-    joins_none all (placed_packets outcomes) new.files new.starts files
-    (subst (λ (k : KeptFiles). FilesStandFor k (map packet_of (placed_packets outcomes))) (sym open_files)
-    (subst (λ (l : List Good). FilesStandFor old.files l) (sym stood.packets) stood.files))
-    (subst (λ (k : List ((ℕ × ℕ) × Start)). StartsStandFor all k (placed_packets outcomes)) (sym starts)
-    (starts_stay outcomes outcome old.starts (placed_packets outcomes) (all_below outcomes) stood.starts)) in (
-      pushed outcomes outcome old new stood [] good stands files files joins unspent corrected restored lost bad fill
-          (packets ∙ sym (add-zero old.numbers.packets)) (count ∙ sym (add-zero old.numbers.files)),
+    let stands : ChannelsStandFor old.channels (frames_of_outcomes (outcomes ++ outcome ∷ [])) =
+    subst (λ (l : List Fields). ChannelsStandFor old.channels l) (sym (frames_same outcomes outcome none))
+    stood.channels in
+    let joins : Joins (at_end outcomes outcome) [] (joiner_of new) files files =
+    joins_none (at_end outcomes outcome) (joiner_of old) files (joined_before outcomes outcome old stood) in (
+      pushed outcomes outcome old new stood [] good stands files files joins stood.unspent changed counts,
       adds outcomes outcome old new stood [] good stands files files joins,
     )
 
@@ -317,7 +337,7 @@ now_is outcomes outcome old now stood place before after =
     let all = outcomes ++ outcome ∷ [] in
     let n = length outcomes in
     let at : now.start.place ≡ n =
-    place ∙ ap (λ (k : CountsView). k.restored + k.lost) stood.numbers ∙ length-is outcomes in (
+    place ∙ ap (λ (k : CountsView). k.restored + k.lost) stood.numbers ∙ both_kinds outcomes in (
       record {
         before = before ∙ stood.corrected ∙ sym (corrected_before-same outcomes outcome n (omega arith))
             ∙ ap (corrected_before all) (sym at);
@@ -329,45 +349,130 @@ now_is outcomes outcome old now stood place before after =
     )
 
 -- a frame was pushed
-pub pushed_frame : (outcomes : List Outcome) (outcome : Outcome) (old new : KeptLayers) (f : Fields) (now : Now)
-    (before after : List Placed)
-    (gained : AddedCounts) → LayersStandFor old outcomes → frame_in outcome ≡ Some f → now.start.place ≡ length outcomes
-    →
-    AddsFrame (outcomes ++ outcome ∷ []) (placed_packets outcomes) now.start.place (frames_of_outcomes outcomes)
-    (frames_of_outcomes outcomes ++ f ∷ []) new.channels new.files new.starts before after gained →
-    new.spent ≡ false → new.corrected ≡ old.corrected + corrected_in outcome →
-    new.numbers.restored ≡ old.numbers.restored + (if is_restored outcome then 1 else 0) →
-    new.numbers.lost ≡ old.numbers.lost + (if not (is_restored outcome) then 1 else 0) →
-    new.numbers.bad_versions ≡ old.numbers.bad_versions + (if is_bad_version outcome then 1 else 0) →
-    new.numbers.fill ≡ old.numbers.fill + (if is_fill outcome then 1 else 0) →
-    new.numbers.packets ≡ old.numbers.packets + gained.packets → new.numbers.files ≡ old.numbers.files + gained.files →
-    LayersStandFor new (outcomes ++ outcome ∷ []) × AddsFiles outcomes outcome before after
-pushed_frame outcomes outcome old new f now before after gained stood some at takes unspent corrected restored lost bad
-    fill packets files =
-    let all = outcomes ++ outcome ∷ [] in
+pushed_frame : (outcomes : List Outcome) (outcome : Outcome) (old : KeptLayers) (layers : FrameLayers) (f : Fields)
+    (now : Now) (numbers : CountsView) (gains : Gains) → LayersStandFor old outcomes → frame_in outcome ≡ Some f →
+    now.start.place ≡ length outcomes →
+    AddsFrame (record (at_end outcomes outcome) { place = now.start.place }) (frames_of_outcomes outcomes) f layers
+    gains →
+    now.corrected ≡ old.corrected + corrected_in outcome →
+    Counts old.numbers outcome gains.counts.packets gains.counts.files numbers →
+    LayersStandFor (kept_after old layers now numbers) (outcomes ++ outcome ∷ [])
+    × AddsFiles outcomes outcome gains.old gains.new
+pushed_frame outcomes outcome old layers f now numbers gains stood some at takes changed counts =
+    let new = kept_after old layers now numbers in
     let good = good_with outcomes outcome f takes.ending some takes.good in
-    let stands : ChannelsStandFor new.channels (frames_of_outcomes all) =
-    subst (λ (l : List Fields). ChannelsStandFor new.channels l)
+    let stands : ChannelsStandFor layers.channels (frames_of_outcomes (outcomes ++ outcome ∷ [])) =
+    subst (λ (l : List Fields). ChannelsStandFor layers.channels l)
     (sym (frames_more outcomes outcome f some)) takes.stands in
-    let P : ℕ → Type 0 =
-    λ n. (joins : Joins all (placed_packets outcomes) (at_place n takes.ending) new.files new.starts before after)
-    × (gained.files ≡ length joins.more) in
-    let here : P (length outcomes) = subst P at (takes.joins, takes.count) in (
-      pushed outcomes outcome old new stood takes.ending good stands before after here.0 unspent corrected restored lost
-          bad fill
-          (packets ∙ ap (λ n. old.numbers.packets + n) takes.packets) (files ∙ ap (λ n. old.numbers.files + n) here.1),
-      adds outcomes outcome old new stood takes.ending good stands before after here.0,
+    let P : ℕ → Type 0 = λ n.
+    (joins : Joins (record (at_end outcomes outcome) { place = n }) takes.ending layers.joiner gains.old gains.new)
+    × (gains.counts.files ≡ length joins.more) in
+    let here : P (length outcomes) = subst P at (takes.joins, takes.files) in
+    let counted : Counts old.numbers outcome (length takes.ending) (length here.0.more) numbers = record {
+      restored = counts.restored;
+      lost = counts.lost;
+      bad_versions = counts.bad_versions;
+      fill = counts.fill;
+      packets = counts.packets ∙ ap (λ n. old.numbers.packets + n) takes.packets;
+      files = counts.files ∙ ap (λ n. old.numbers.files + n) here.1;
+    } in (
+      pushed outcomes outcome old new stood takes.ending good stands gains.old gains.new here.0 stood.unspent changed
+          counted,
+      adds outcomes outcome old new stood takes.ending good stands gains.old gains.new here.0,
     )
 
--- what is kept of the files and of their starts, for a frame more
-pub files_before : (outcomes : List Outcome) (kept : KeptLayers) → LayersStandFor kept outcomes →
-    FilesStandFor kept.files (map packet_of (placed_packets outcomes))
-files_before outcomes kept stood = subst (λ (l : List Good). FilesStandFor kept.files l) (sym stood.packets) stood.files
+-- ---- the ways of an outcome
 
-pub starts_before : (outcomes : List Outcome) (outcome : Outcome) (kept : KeptLayers) → LayersStandFor kept outcomes →
-    StartsStandFor (outcomes ++ outcome ∷ []) kept.starts (placed_packets outcomes)
-starts_before outcomes outcome kept stood =
-    starts_stay outcomes outcome kept.starts (placed_packets outcomes) (all_below outcomes) stood.starts
+module _ (outcomes : List Outcome) (outcome : Outcome) (old kept : KeptLayers) (seen : old ≡ kept)
+    (h : LayersStandFor kept outcomes) (files : List Placed) where
+  stood : LayersStandFor old outcomes
+  stood = subst (λ (k : KeptLayers). LayersStandFor k outcomes) (sym seen) h
+
+  -- a block was lost
+  pub pushed_lost : (word : ℕ) → outcome ≡ Lost word →
+      LayersStandFor (record old { numbers = record (old.numbers) { lost = old.numbers.lost + 1 } })
+      (outcomes ++ outcome ∷ []) × AddsFiles outcomes outcome files files
+  pushed_lost word is =
+      let numbers = record (old.numbers) { lost = old.numbers.lost + 1 } in
+      subst (λ (o : Outcome). LayersStandFor (record old { numbers = numbers }) (outcomes ++ o ∷ [])
+      × AddsFiles outcomes o files files) (sym is)
+      (pushed_none outcomes (Lost word) old old.corrected numbers files stood refl (sym (add-zero old.corrected))
+      (record {
+        restored = sym (add-zero old.numbers.restored);
+        lost = refl;
+        bad_versions = sym (add-zero old.numbers.bad_versions);
+        fill = sym (add-zero old.numbers.fill);
+        packets = sym (add-zero old.numbers.packets);
+        files = sym (add-zero old.numbers.files);
+      }))
+
+  module _ (corrected : Corrected) (frame : List ℕ) (is : outcome ≡ Restored corrected frame) (now : Now)
+      (changed : ℕ) (changes : changed ≡ sum corrected.0) (after : now.corrected ≡ kept.corrected + changed)
+      (read : CountsView) (counts : CountsFrame frame old.numbers read) where
+    after_all : now.corrected ≡ old.corrected + corrected_in (Restored corrected frame)
+    after_all = after ∙ ap₂ (λ (k : KeptLayers) (n : ℕ). k.corrected + n) (sym seen) changes
+
+    counted : (packets files : ℕ) → Counts old.numbers (Restored corrected frame) packets files (record read {
+      restored = read.restored + 1;
+      packets = read.packets + packets;
+      files = read.files + files;
+    })
+    counted packets files = record {
+      restored = ap (λ k. k + 1) counts.restored;
+      lost = counts.lost ∙ sym (add-zero old.numbers.lost);
+      bad_versions = counts.bad_versions;
+      fill = counts.fill;
+      packets = ap (λ k. k + packets) counts.packets;
+      files = ap (λ k. k + files) counts.files;
+    }
+
+    -- it was restored to no frame of version 1
+    pub pushed_unread : None ≡ result_ok (frame_of frame) →
+        LayersStandFor
+        (record old { corrected = now.corrected; numbers = record read { restored = read.restored + 1 } })
+        (outcomes ++ outcome ∷ []) × AddsFiles outcomes outcome files files
+    pushed_unread none =
+        let numbers = record read { restored = read.restored + 1 } in
+        subst (λ (o : Outcome). LayersStandFor (record old { corrected = now.corrected; numbers = numbers })
+        (outcomes ++ o ∷ []) × AddsFiles outcomes o files files) (sym is)
+        (pushed_none outcomes (Restored corrected frame) old now.corrected numbers files stood (sym none) after_all
+        (record {
+          restored = ap (λ k. k + 1) counts.restored;
+          lost = counts.lost ∙ sym (add-zero old.numbers.lost);
+          bad_versions = counts.bad_versions;
+          fill = counts.fill;
+          packets = counts.packets ∙ sym (add-zero old.numbers.packets);
+          files = counts.files ∙ sym (add-zero old.numbers.files);
+        }))
+
+    -- it was restored to one
+    pub pushed_read : (f : Fields) (layers : FrameLayers) (gained : AddedCounts) (new : List Placed) →
+        Some f ≡ result_ok (frame_of frame) → now.start.place ≡ kept.numbers.restored + kept.numbers.lost →
+        now.start.corrected ≡ kept.corrected →
+        ((all : List Outcome) (before : List PlacedPacket) (frames : List Fields) →
+        ChannelsStandFor old.channels frames → JoinerStandsFor (joiner_of old) all before → IsNow all now →
+        AddsFrame (record { outcomes = all; place = now.start.place; before = before }) frames f layers
+        (record { old = files; new = new; counts = gained })) →
+        LayersStandFor (kept_after old layers now (record read {
+          restored = read.restored + 1;
+          packets = read.packets + gained.packets;
+          files = read.files + gained.files;
+        })) (outcomes ++ outcome ∷ []) × AddsFiles outcomes outcome files new
+    pushed_read f layers gained new some place before takes =
+        let o = Restored corrected frame in
+        let numbers = record read {
+          restored = read.restored + 1;
+          packets = read.packets + gained.packets;
+          files = read.files + gained.files;
+        } in
+        let at = now_is outcomes o old now stood
+        (place ∙ ap (λ (k : KeptLayers). k.numbers.restored + k.numbers.lost) (sym seen))
+        (before ∙ ap (λ (k : KeptLayers). k.corrected) (sym seen)) after_all in
+        subst (λ (o : Outcome). LayersStandFor (kept_after old layers now numbers) (outcomes ++ o ∷ [])
+        × AddsFiles outcomes o files new) (sym is)
+        (pushed_frame outcomes o old layers f now numbers (record { old = files; new = new; counts = gained }) stood
+        (sym some) at.1 (takes (outcomes ++ o ∷ []) (placed_packets outcomes) (frames_of_outcomes outcomes)
+        stood.channels (joined_before outcomes o old stood) at.0) after_all (counted gained.packets gained.files))
 
 by_version : (frame : List ℕ) (f : Fields) (first : Bool) → eqb (version_of frame) 1 ≡ first →
     Some f ≡ result_ok (frame_of frame) → (eqb (version_of frame) 1 && eqb (fields_of frame).vc FILL_CHANNEL) ≡ true →

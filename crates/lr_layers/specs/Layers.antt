@@ -1,5 +1,5 @@
 -- The mission files in a list of outcomes: frames of version 1, then packets, then good packets, then files.
-use Rattle.std.specs.Prelude.{ℕ, Bool, true, false, not, ◌==◌, ◌&&◌, Option, None, List, length, count_by}
+use Rattle.std.specs.Prelude.{ℕ, Bool, false, not, ◌==◌, ◌&&◌, Option, None, List, length, count_by}
 use Rattle.std.specs.List.{filter_map}
 use Rattle.std.specs.Result.{result_ok}
 use Rattle.lr_bits.specs.Outcomes.{is_restored}

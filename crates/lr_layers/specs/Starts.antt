@@ -6,11 +6,12 @@ use Rattle.std.specs.Option.{option_map}
 use Rattle.lr_bits.specs.declared.outcome.Outcome.{Outcome}
 use Rattle.lr_bits.specs.declared.placed.Placed.{Placed}
 use Rattle.lr_packet.specs.Verdict.{Good}
-use Rattle.lr_file.specs.Standing.{KeptFiles, FilesStandFor, AreAscending, kept_of_key}
+use Rattle.lr_file.specs.Standing.{FilesStandFor, AreAscending, kept_of_key}
 use Rattle.lr_file.specs.Steps.{SetsKey}
 use Rattle.lr_layers.specs.declared.starts.Start.{Start}
 use Rattle.lr_layers.specs.declared.starts.Now.{Now}
-use Rattle.lr_layers.specs.Origins.{PlacedPacket, packet_of, placed_of_key, placed_files_after, corrected_in}
+use Rattle.lr_layers.specs.declared.packets.Joiner.{Joiner}
+use Rattle.lr_layers.specs.Origins.{PlacedPacket, packet_of, at_place, placed_of_key, placed_files_after, corrected_in}
 
 -- a packet begins a file: it is the first of several, or all of it
 abbrev pub begins : Good → Bool
@@ -51,11 +52,21 @@ pub record IsNow (outcomes : List Outcome) (now : Now) : Type 0 where
   pub before : now.start.corrected ≡ corrected_before outcomes now.start.place
   pub after : now.corrected ≡ corrected_before outcomes (now.start.place + 1)
 
--- packets after others were joined, and the files that end with them appended, with their origins
-pub record Joins (outcomes : List Outcome) (before packets : List PlacedPacket) (files : KeptFiles)
-    (starts : List ((ℕ × ℕ) × Start)) (old new : List Placed) : Type 0 where
-  pub files_stand : FilesStandFor files (map packet_of (before ++ packets))
-  pub starts_stand : StartsStandFor outcomes starts (before ++ packets)
+-- the open files and their starts are those of these packets, which end in some of the outcomes
+pub record JoinerStandsFor (joiner : Joiner) (outcomes : List Outcome) (packets : List PlacedPacket) : Type 0 where
+  pub files : FilesStandFor joiner.files (map packet_of packets)
+  pub starts : StartsStandFor outcomes joiner.starts packets
+
+-- the outcome at hand is the one at `place`, and these packets came before
+pub record AtHand : Type 0 where
+  pub outcomes : List Outcome
+  pub place : ℕ
+  pub before : List PlacedPacket
+
+-- good packets that end in the outcome at hand were joined, and the files that end with them appended, with their
+-- origins
+pub record Joins (at : AtHand) (good : List Good) (joiner : Joiner) (old new : List Placed) : Type 0 where
+  pub stands : JoinerStandsFor joiner at.outcomes (at.before ++ at_place at.place good)
   pub more : List Placed
   pub added : new ≡ old ++ more
-  pub all : placed_files_after outcomes before packets ≡ more
+  pub all : placed_files_after at.outcomes at.before (at_place at.place good) ≡ more

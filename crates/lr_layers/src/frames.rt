@@ -1,24 +1,31 @@
 //! A restored frame, and the packets that end in it.
 
-ghost use Rattle.std.specs.Prelude.{◌≡◌, ◌≤◌, ◌<◌, ◌+◌, ◌^◌, ◌++◌, ◌∷◌, [], List, IfOk, IsOk, length, map, false};
+ghost use Rattle.std.specs.Prelude.{◌≡◌, ◌≤◌, ◌<◌, ◌+◌, ◌^◌, List, IfOk, IsOk, length, false};
 ghost use Rattle.std.specs.Option.{option_map};
 ghost use Rattle.std.specs.Result.{result_ok};
 ghost use Rattle.lr_vc.specs.Frame.{Fields, frame_of};
 ghost use Rattle.lr_bits.specs.declared.outcome.Outcome.{Outcome as Outcome'};
 ghost use Rattle.lr_vc.specs.Reading.{fields};
 ghost use Rattle.lr_vc.specs.Standing.{ChannelsStandFor};
-ghost use Rattle.lr_file.specs.Standing.{FilesStandFor};
 ghost use Rattle.lr_layers.specs.Standing.{numbers};
-ghost use Rattle.lr_layers.specs.Origins.{PlacedPacket, packet_of};
-ghost use Rattle.lr_layers.specs.Starts.{IsNow, StartsStandFor};
+ghost use Rattle.lr_layers.specs.Origins.{PlacedPacket};
+ghost use Rattle.lr_layers.specs.Starts.{IsNow, JoinerStandsFor};
 ghost use Rattle.lr_layers.specs.Steps.{CountsFrame, KeepsFilesBefore, AddsFrame};
 
 use crate::counts::{AddedCounts, Counts};
-use crate::packets::push_packets;
-use crate::starts::{Now, Starts};
+use crate::packets::{Joiner, push_packets};
+use crate::starts::Now;
 use lr_bits::{FILL_CHANNEL, FRAME_BYTES, NoMemory, Placed, RawPacket};
-use lr_file::Files;
 use lr_vc::{Channels, MOST_ENDING_PACKETS, TransferFrame};
+
+/// What takes frames to files, by the packets that end in them.
+#[derive(Drop)]
+pub(crate) struct FrameLayers {
+    pub channels: Channels,
+    /// The packets that end in the frame that is pushed.
+    pub packets: Vec<RawPacket>,
+    pub joiner: Joiner,
+}
 
 /// The frame of version 1 that these bytes are, if they are one. Frames of another version, and those of fill, are
 /// counted.
@@ -46,27 +53,25 @@ pub(crate) fn read_frame(bytes: &[u8; FRAME_BYTES], counts: &mut Counts) -> Opti
 pub(crate) fn push_frame(
     frame: &TransferFrame,
     now: Now,
-    channels: &mut Channels,
-    packets: &mut Vec<RawPacket>,
-    files: &mut Files,
-    starts: &mut Starts,
+    layers: &mut FrameLayers,
     out: &mut Vec<Placed>,
 ) -> Result<AddedCounts, NoMemory>
     ensures takes { (outcomes : List Outcome') (before : List PlacedPacket) (frames : List Fields)
-        → ChannelsStandFor channels.old frames → FilesStandFor files.old (map packet_of before)
-        → StartsStandFor outcomes starts.old before → IsNow outcomes now
-        → IfOk result (λ gained. AddsFrame outcomes before now.start.place frames (frames ++ fields frame.now ∷ [])
-        channels.new files.new starts.new out.old.items out.new.items gained) }
-    ensures fill { channels.old.spent ≡ false → frame.now.vc ≡ FILL_CHANNEL → IsOk result }
+        → ChannelsStandFor layers.old.channels frames → JoinerStandsFor layers.old.joiner outcomes before
+        → IsNow outcomes now
+        → IfOk result (λ gained. AddsFrame (record { outcomes = outcomes; place = now.start.place; before = before })
+        frames (fields frame.now) layers.new
+        (record { old = out.old.items; new = out.new.items; counts = gained })) }
+    ensures fill { layers.old.channels.spent ≡ false → frame.now.vc ≡ FILL_CHANNEL → IsOk result }
     ensures few { IfOk result (λ gained. gained.packets ≤ MOST_ENDING_PACKETS) }
     ensures few_new { IfOk result (λ _. length out.new.items ≤ length out.old.items + MOST_ENDING_PACKETS) }
     ensures few_files { IfOk result (λ gained. gained.files ≤ gained.packets) }
     ensures kept { KeepsFilesBefore out.old.items out.new.items }
 {
-    packets.clear();
-    channels.push(frame, packets)?;
+    layers.packets.clear();
+    layers.channels.push(frame, &mut layers.packets)?;
     let before = out.as_slice().len();
-    let good = push_packets(packets, now, files, starts, out)?;
+    let good = push_packets(&layers.packets, now, &mut layers.joiner, out)?;
     Ok(AddedCounts {
         packets: good,
         files: (out.as_slice().len() - before) as u64,

@@ -7,9 +7,10 @@ ghost use Rattle.lr_layers.specs.Layers.{frame_in, is_fill};
 ghost use Rattle.lr_layers.specs.Standing.{LayersStandFor, AreLayersSpent, AddsFiles, AreFew, numbers};
 
 use crate::counts::Counts;
-use crate::frames::{push_frame, read_frame};
+use crate::frames::{FrameLayers, push_frame, read_frame};
+use crate::packets::Joiner;
 use crate::starts::{Now, Start, Starts};
-use lr_bits::{BLOCK_BYTES, Corrected, NoMemory, Outcome, Placed, RawPacket};
+use lr_bits::{BLOCK_BYTES, Corrected, NoMemory, Outcome, Placed};
 use lr_file::Files;
 use lr_vc::{Channels, MOST_ENDING_PACKETS};
 use std::alloc::Global;
@@ -21,13 +22,9 @@ use std::marker::Model;
 /// answers `NoMemory`.
 #[derive(Drop)]
 pub struct Layers {
-    channels: Channels,
-    files: Files,
-    starts: Starts,
+    frames: FrameLayers,
     /// How many bytes were changed in all outcomes so far.
     corrected: u64,
-    /// The packets that end in the frame that is pushed.
-    packets: Vec<RawPacket>,
     counts: Counts,
     spent: bool,
 }
@@ -41,9 +38,9 @@ impl Model for Layers {
 
     ghost view = { λ l. record {
       spent = l.spent;
-      channels = l.channels;
-      files = l.files;
-      starts = l.starts;
+      channels = l.frames.channels;
+      files = l.frames.joiner.files;
+      starts = l.frames.joiner.starts;
       corrected = l.corrected;
       numbers = numbers l.counts;
     } };
@@ -65,12 +62,17 @@ impl Layers {
     pub fn new(alloc: Global) -> Self
         ensures { LayersStandFor result [] }
     {
-        Layers {
-            channels: Channels::new(alloc),
+        let joiner = Joiner {
             files: Files::new(alloc),
             starts: Starts::new(alloc),
+        };
+        Layers {
+            frames: FrameLayers {
+                channels: Channels::new(alloc),
+                packets: Vec::new(alloc),
+                joiner,
+            },
             corrected: 0,
-            packets: Vec::new(alloc),
             counts: Counts {
                 restored: 0,
                 lost: 0,
@@ -158,16 +160,7 @@ impl Layers {
             return Ok(());
         };
         let before = files.len();
-        let gained = push_frame(
-            &frame,
-            now,
-            &mut self.channels,
-            &mut self.packets,
-            &mut self.files,
-            &mut self.starts,
-            files,
-        );
-        match gained {
+        match push_frame(&frame, now, &mut self.frames, files) {
             Ok(gained) => {
                 counts.packets += gained.packets;
                 counts.files += gained.files;

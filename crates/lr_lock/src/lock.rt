@@ -199,7 +199,7 @@ impl Lock {
     pub fn next_window(&mut self, window: &mut Window) -> Step
         requires { window.old.line ≡ self.old.line }
         ensures answers { (fed : List ℤ) (given : List Frame) → LockStandsFor self.old fed given →
-            Answers self.old self.new window.new fed given result }
+            Answers (record { before = self.old; later = self.new }) window.new fed given result }
         ensures unchanged { result ≢ Step.Window → window.new ≡ window.old }
 
         ensures line { self.new.line ≡ self.old.line }

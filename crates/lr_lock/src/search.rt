@@ -108,7 +108,8 @@ fn search_from(
     ensures within { result.passed ≤ length symbols.now }
     ensures whole { IfSome result.frame (λ _. result.passed + needed ≤ length symbols.now) }
     ensures seen { (fed : List ℤ) (last : Option Frame) → place ≤ length fed → symbols.now ≡ drop place fed →
-        IsSearching tail.now fed last (place + start) → FindsFrame tail.now fed last place needed result }
+        IsSearching tail.now fed last (place + start) →
+        FindsFrame tail.now fed (record { last = last; place = place; needed = needed }) result }
 {
     let hit = first_hit(tail, symbols, start, needed);
     match hit.positive {
@@ -136,7 +137,8 @@ pub(crate) fn find_next(
     ensures within { result.passed ≤ length symbols.now }
     ensures whole { IfSome result.frame (λ _. result.passed + needed ≤ length symbols.now) }
     ensures seen { (fed : List ℤ) (last : Option Frame) → place ≤ length fed → symbols.now ≡ drop place fed →
-        IsAt tail.now fed last held place → FindsFrame tail.now fed last place needed result }
+        IsAt tail.now fed last held place →
+        FindsFrame tail.now fed (record { last = last; place = place; needed = needed }) result }
 {
     let Some(last) = held else {
         return search_from(tail, symbols, place, 0, needed);

@@ -9,11 +9,9 @@ use Rattle.lr_causes.specs.declared.fault.BundleFlaw.{BundleFlaw}
 use Rattle.lr_causes.specs.declared.fault.BundleFlaw.TheVariants.{Ended, Count, Rest, TooLong}
 use Rattle.lr_downlinks.specs.Bundles.{IsBundle, IsReading}
 use Rattle.lr_downlinks.specs.declared.fault.BundleFault.{BundleFault}
-use Rattle.lr_downlinks.specs.declared.fault.BundleFault.TheVariants.{
-  Ended as EndedAt,
-  Count as CountIs,
-  Rest as RestAt,
-}
+use Rattle.lr_downlinks.specs.declared.fault.BundleFault.TheVariants.{Ended as EndedAt}
+use Rattle.lr_downlinks.specs.declared.fault.BundleFault.TheVariants.{Count as CountIs}
+use Rattle.lr_downlinks.specs.declared.fault.BundleFault.TheVariants.{Rest as RestAt}
 use Rattle.lr_downlinks.specs.declared.sizes.TheConstants.{MOST_BUNDLE_BYTES}
 use Rattle.lr_forms.specs.declared.forms.Stop.{Stop}
 use Rattle.lr_forms.specs.declared.forms.Stop.TheVariants.{End, Limit, Fault}

@@ -18,7 +18,7 @@ use Rattle.lr_shelf.specs.Adds.{last_gate}
 use Rattle.lr_shelf.specs.Append.{item_for}
 use Rattle.lr_shelf.specs.Prefixes.{way_with_files}
 use Rattle.lr_shelf.specs.InitialShelves.{InitialShelf, OfItems, OfWay, IsSettledOn, LeavesPrefixes, StandsWith}
-use Rattle.lr_shelf.specs.Kept.{kept_by}
+use Rattle.lr_shelf.specs.Kept.{kept_by, shelf_on}
 use Rattle.lr_shelf.specs.Shelf.{HasEitherWay, IsDurable}
 use Rattle.lr_shelf.specs.declared.shelf.Shelf.{Shelf}
 use Rattle.lr_shelf.proofs.InitialPrefixes.{begun_items, begun_way, front_none, fronts_of_more, settled_on_items}
@@ -33,19 +33,20 @@ use Rattle.lr_causes.specs.declared.cause.Refusal.TheVariants.{Capacity as IsFul
 use Rattle.lr_commands.proofs.AddingRuns.{IsReady, way_read}
 use Rattle.lr_downlinks.specs.Merge.{IsWhole, merge}
 use Rattle.lr_downlinks.specs.Room.{AllFit}
-use Rattle.lr_downlinks.specs.Runs.{MergeEnds, MergesOver, NextDoesNotFitBy}
+use Rattle.lr_downlinks.specs.Runs.{MergeEnds, MergesOver, NextDoesNotFitBy, merging, all_files}
 use Rattle.lr_downlinks.specs.Appended.{HasAppended, MayHaveAppended}
 use Rattle.lr_downlinks.specs.Streams.{files_of_downlink}
 use Rattle.lr_downlinks.specs.declared.run.Run.{Run}
 use Rattle.lr_downlinks.specs.declared.run.RunEnd.{RunEnd}
 use Rattle.lr_downlinks.specs.declared.run.RunEnd.TheVariants.{All, Disk as DiskFails, NoMemory as NoneLeft, Capacity}
-use Rattle.lr_merging.specs.Downlinks.{AddsAllOn, AddsMerged, BreaksMerging, BreaksOn, DownlinksRun, OutBesides}
+use Rattle.lr_merging.specs.Downlinks.{AddsAllOn, AddsMerged, BreaksMerging, BreaksOn, DownlinksRun}
+use Rattle.lr_merging.specs.Downlinks.{OutBesides, broken_at, bundle_read}
 use Rattle.lr_merging.specs.Downlinks.{EndsMerging, GotReceipts}
 use Rattle.lr_causes.specs.Outside.{outside, world_of, World, Outside}
 use Rattle.lr_merging.specs.Downlinks.{LeavesMerged, Merges}
 use Rattle.lr_merging.specs.Lines.{receipt_lines, last_line}
 use Rattle.lr_merging.specs.Taking.{TakesBundle}
-use Rattle.lr_merging.specs.Told.{TellsAll, TellsEnd, TellsSome}
+use Rattle.lr_merging.specs.Told.{TellsAll, TellsEnd, TellsSome, receipted}
 
 -- ---- the disk, since the shelf was loaded from it
 
@@ -91,12 +92,12 @@ module _ {D : Type 0} (disk : DiskOf D) (shelf : Shelf) (d d1 : D) (ready : IsRe
     fronts_since all fronts =
         joined disk.moment disk.left_since d d1 d' _ (fronts_of_more disk initial d d1 d' [] begins.alone all) fronts
 
-    added_on : HasAppended disk shelf d1 files d' → AddsAllOn disk files d d' initial
+    added_on : HasAppended disk (shelf_on shelf d1) files d' → AddsAllOn disk files d d' initial
     added_on has =
         let on = has.on initial begins.settled in record { now = on.0; any_moment = fronts_since files on.1 }
 
-    broken_on : (placed : Placed) → MayHaveAppended disk shelf d1 files placed d'
-        → BreaksOn disk files d d' placed initial
+    broken_on : (placed : Placed) → MayHaveAppended disk (shelf_on shelf d1) files placed d'
+        → BreaksOn disk (broken_at files placed) d d' initial
     broken_on placed has =
         let on = has.on initial begins.settled in
         record { now = on.0; any_moment = fronts_since (files ++ placed ∷ []) on.1 }
@@ -143,7 +144,8 @@ module _ {D : Type 0} (disk : DiskOf D) (shelf : Shelf) (d d1 d' : D) (ready : I
 
 module _ {D : Type 0} (disk : DiskOf D) (count : ℕ) (files : ℕ → List Placed) (order : List ℕ) (shelf : Shelf)
     (d d1 d' : D) (ready : IsReady disk d d1 shelf) where
-  added : HasAppended disk shelf d1 (merge files order) d' → AddsMerged disk count files order d d'
+  added : HasAppended disk (shelf_on shelf d1) (merge files order) d'
+      → AddsMerged disk (merging count files order) d d'
   added has = record {
     way = λ way t is. (
       subst (λ (w : Way). IsWay (disk.contents d') (way_with_files (merge files order) w))
@@ -163,7 +165,8 @@ module _ {D : Type 0} (disk : DiskOf D) (count : ℕ) (files : ℕ → List Plac
         (on_way disk shelf d d1 ready way t is only) has;
   }
 
-  broken_in : MergeEnds count files order disk DiskFails shelf d1 d' → BreaksMerging disk count files order d d'
+  broken_in : MergeEnds (merging count files order) disk DiskFails (shelf_on shelf d1) d'
+      → BreaksMerging disk (merging count files order) d d'
   broken_in breaks = record {
     downlink = breaks.downlink;
     placed = breaks.placed;
@@ -186,11 +189,12 @@ module _ {D : Type 0} (disk : DiskOf D) (count : ℕ) (files : ℕ → List Plac
         (on_way disk shelf d d1 ready way t is only) breaks.placed breaks.appended;
   }
 
-  not_fitting : (needed capacity : ℕ) → NextDoesNotFitBy count files order (kept_by shelf).way needed capacity
+  not_fitting : (needed capacity : ℕ)
+      → NextDoesNotFitBy (merging count files order) (kept_by shelf).way needed capacity
       → (way : Way) → disk.tells d → IsWay (disk.contents d) way
-      → NextDoesNotFitBy count files order way needed capacity
+      → NextDoesNotFitBy (merging count files order) way needed capacity
   not_fitting needed capacity full way t is =
-      subst (λ (w : Way). NextDoesNotFitBy count files order w needed capacity)
+      subst (λ (w : Way). NextDoesNotFitBy (merging count files order) w needed capacity)
       (kept_way disk shelf d d1 ready way t is) full
 
 -- ---- how a run over a bundle ends
@@ -200,8 +204,9 @@ module _ {S D O : Type 0} (source : SourceOf S) (disk : DiskOf D) (out : SinkOf 
     (same_source : source.faults s' ≡ source.faults s) (base : ℕ) (order : List ℕ) where
   -- what is left, what `out` got, and the counts
   pub record IsFinished (cause : Cause) : Type 0 where
-    pub leaves : LeavesMerged disk (length streams) (files_of_downlink line streams) order d d' cause
-    pub got : GotReceipts out cause (receipt_lines base order (length streams)) (last_line streams order) o o'
+    pub leaves : LeavesMerged disk (merging (length streams) (files_of_downlink line streams) order) d d' cause
+    pub got : GotReceipts out cause
+        (record { receipts = (receipt_lines base order (length streams)); last = (last_line streams order) }) o o'
     pub counted : CountsTell OutBesides cause (counts (source.faults s) (disk.faults d) (out.faults o))
         (counts (source.faults s') (disk.faults d') (out.faults o'))
     pub told : out.tells o → out.tells o'
@@ -218,18 +223,18 @@ module _ {S D O : Type 0} (source : SourceOf S) (disk : DiskOf D) (out : SinkOf 
       counts_tell OutBesides cause (counts (source.faults s) (disk.faults d) (out.faults o))
       (counts (source.faults s') (disk.faults d') (out.faults o')) named (λ not none. same_source) same_disk same_out
 
-  told_some : TellsSome out streams base order o o' → out.tells o → out.tells o'
+  told_some : TellsSome out (receipted streams base order) o o' → out.tells o → out.tells o'
   told_some (inl puts) = puts.told
   told_some (inr fails) = fails.told
 
-  untold_some : TellsSome out streams base order o o' → out.tells o' → out.tells o
+  untold_some : TellsSome out (receipted streams base order) o o' → out.tells o' → out.tells o
   untold_some (inl puts) = puts.untold
   untold_some (inr fails) = fails.untold
 
   finish_all : (cause : Cause)
-      → HasAppended disk shelf d1 (merge (files_of_downlink line streams) order) d'
+      → HasAppended disk (shelf_on shelf d1) (merge (files_of_downlink line streams) order) d'
       × IsWhole (length streams) (files_of_downlink line streams) order
-      → TellsAll out streams base order cause o o' → IsFinished cause
+      → TellsAll out (receipted streams base order) cause o o' → IsFinished cause
   finish_all Done ends tells = record {
     leaves = (
       added disk (length streams) (files_of_downlink line streams) order shelf d d1 d' ready ends.0,
@@ -254,8 +259,8 @@ module _ {S D O : Type 0} (source : SourceOf S) (disk : DiskOf D) (out : SinkOf 
   finish_all _ ends tells = absurd tells
 
   pub finished : (result : RunEnd) (cause : Cause)
-      → MergeEnds (length streams) (files_of_downlink line streams) order disk result shelf d1 d'
-      → TellsEnd out streams result base order cause o o' → IsFinished cause
+      → MergeEnds (merging (length streams) (files_of_downlink line streams) order) disk result (shelf_on shelf d1) d'
+      → TellsEnd out result (receipted streams base order) cause o o' → IsFinished cause
   finished All cause ends tells = finish_all cause ends tells
   finished DiskFails cause ends tells =
       subst IsFinished (sym tells.0) (record {
@@ -290,7 +295,8 @@ module _ {S D O : Type 0} (source : SourceOf S) (disk : DiskOf D) (out : SinkOf 
       })
 
   pub told_since : (result : RunEnd)
-      → MergeEnds (length streams) (files_of_downlink line streams) order disk result shelf d1 d' → disk.tells d
+      → MergeEnds (merging (length streams) (files_of_downlink line streams) order) disk result (shelf_on shelf d1)
+      d' → disk.tells d
       → disk.tells d'
   told_since All ends t = ends.0.told (ready.told t)
   told_since DiskFails ends t = ends.appended.told (ready.told t)
@@ -298,7 +304,8 @@ module _ {S D O : Type 0} (source : SourceOf S) (disk : DiskOf D) (out : SinkOf 
   told_since (Capacity needed capacity) ends t = ends.0.told (ready.told t)
 
   pub untold_since : (result : RunEnd)
-      → MergeEnds (length streams) (files_of_downlink line streams) order disk result shelf d1 d' → disk.tells d'
+      → MergeEnds (merging (length streams) (files_of_downlink line streams) order) disk result (shelf_on shelf d1)
+      d' → disk.tells d'
       → disk.tells d
   untold_since All ends t = ready.untold (ends.0.untold t)
   untold_since DiskFails ends t = ready.untold (ends.appended.untold t)
@@ -306,21 +313,21 @@ module _ {S D O : Type 0} (source : SourceOf S) (disk : DiskOf D) (out : SinkOf 
   untold_since (Capacity needed capacity) ends t = ready.untold (ends.0.untold t)
 
   -- the disk failed exactly where the run says so
-  pub disk_failed : (result : RunEnd) (cause : Cause) → TellsEnd out streams result base order cause o o'
+  pub disk_failed : (result : RunEnd) (cause : Cause) → TellsEnd out result (receipted streams base order) cause o o'
       → result ≡ DiskFails → cause ≡ Failed Disk
   disk_failed All cause tells is = absurd (cc (is))
   disk_failed DiskFails cause tells is = tells.0
   disk_failed NoneLeft cause tells is = absurd (cc (is))
   disk_failed (Capacity needed capacity) cause tells is = absurd (cc (is))
 
-  all_told : (cause : Cause) → TellsAll out streams base order cause o o'
+  all_told : (cause : Cause) → TellsAll out (receipted streams base order) cause o o'
       → (Rose (out.faults o) (out.faults o') → ⊥) → cause ≡ Done
   all_told Done tells sure = refl
   all_told (Failed Output) tells sure = absurd (sure tells.rose)
   all_told _ tells sure = absurd tells
 
   -- all files were put onto the shelf, or memory was refused
-  pub done_or_none : (result : RunEnd) (cause : Cause) → TellsEnd out streams result base order cause o o'
+  pub done_or_none : (result : RunEnd) (cause : Cause) → TellsEnd out result (receipted streams base order) cause o o'
       → (Rose (out.faults o) (out.faults o') → ⊥) → (result ≡ All) ⊎ (result ≡ NoneLeft)
       → (cause ≡ Done) ⊎ (cause ≡ NoMemory)
   done_or_none All cause tells sure is = inl (all_told cause tells sure)
@@ -333,8 +340,8 @@ module _ {S D O : Type 0} (source : SourceOf S) (disk : DiskOf D) (out : SinkOf 
 -- a run that goes on to its bundle ends as its files were merged
 to_ends : {S D O : Type 0} (world : World S D O) (line : LineCode) (bytes : List ℕ) (w w' : Outside S D O)
     (streams : List (List ℕ)) (order : List ℕ) (cause : Cause)
-    → LeavesMerged world.disk (length streams) (files_of_downlink line streams) order w.disk w'.disk cause
-    → Merges world line bytes cause w w' → EndsMerging world line bytes cause w w'
+    → LeavesMerged world.disk (merging (length streams) (files_of_downlink line streams) order) w.disk w'.disk cause
+    → Merges world (bundle_read line bytes) cause w w' → EndsMerging world (bundle_read line bytes) cause w w'
 to_ends world line bytes w w' streams order Done leaves merges = merges
 to_ends world line bytes w w' streams order (Failed Output) leaves merges = merges
 to_ends world line bytes w w' streams order (Failed Disk) leaves merges = inr merges
@@ -345,8 +352,9 @@ to_ends world line bytes w w' streams order _ leaves merges = absurd leaves
 module _ {S D O : Type 0} (source : SourceOf S) (disk : DiskOf D) (out : SinkOf O) (line : LineCode)
     (s s' : S) (d d1 d' : D) (o o' : O) (shelf : Shelf) (ready : IsReady disk d d1 shelf) (streams : List (List ℕ))
     (taken : TakesBundle source streams s s') (run : Run)
-    (over : MergesOver disk (length streams) (files_of_downlink line streams) shelf d1 d' run) (cause : Cause)
-    (tells : TellsEnd out streams run.result run.base run.order cause o o') where
+    (over : MergesOver disk (all_files (length streams) (files_of_downlink line streams)) (shelf_on shelf d1) d' run)
+    (cause : Cause)
+    (tells : TellsEnd out run.result (receipted streams run.base run.order) cause o o') where
   same_count : source.faults s' ≡ source.faults s
   same_count = taken.taken.reason.2
 
@@ -357,7 +365,7 @@ module _ {S D O : Type 0} (source : SourceOf S) (disk : DiskOf D) (out : SinkOf 
       run.order run.result cause
       over.ends tells
 
-  merges : Merges (world_of source disk out) line taken.bytes cause (outside s d o) (outside s' d' o')
+  merges : Merges (world_of source disk out) (bundle_read line taken.bytes) cause (outside s d o) (outside s' d' o')
   merges = record {
     ended = taken.taken.reason;
     streams = streams;

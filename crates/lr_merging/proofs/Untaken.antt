@@ -12,11 +12,9 @@ use Rattle.lr_shelf.specs.Kept.{kept_by}
 use Rattle.lr_shelf.specs.Load.{IsLoadRefusal, Loads, MayRefuseAt}
 use Rattle.lr_shelf.specs.declared.shelf.Shelf.{Shelf}
 use Rattle.lr_shelf.specs.declared.error.ShelfError.{ShelfError}
-use Rattle.lr_shelf.specs.declared.error.ShelfError.TheVariants.{
-  Disk as Disk',
-  NotAShelf as NotAShelf',
-  NoMemory as NoMemory',
-}
+use Rattle.lr_shelf.specs.declared.error.ShelfError.TheVariants.{Disk as Disk'}
+use Rattle.lr_shelf.specs.declared.error.ShelfError.TheVariants.{NotAShelf as NotAShelf'}
+use Rattle.lr_shelf.specs.declared.error.ShelfError.TheVariants.{NoMemory as NoMemory'}
 use Rattle.lr_causes.specs.Causes.{MayEndBefore, IsCaused, counts}
 use Rattle.lr_causes.specs.Counts.{CountsTell}
 use Rattle.lr_causes.proofs.Counting.{counts_tell}
@@ -28,7 +26,7 @@ use Rattle.lr_causes.specs.declared.cause.Party.TheVariants.{Source, Disk}
 use Rattle.lr_causes.specs.declared.cause.Refusal.TheVariants.{NotAShelf, BadBundle}
 use Rattle.lr_commands.proofs.AddingRuns.{IsReady, way_read}
 use Rattle.lr_downlinks.specs.Bundles.{IsBundle}
-use Rattle.lr_merging.specs.Downlinks.{DownlinksRun, OutBesides}
+use Rattle.lr_merging.specs.Downlinks.{DownlinksRun, OutBesides, bundle_read}
 use Rattle.lr_merging.specs.Downlinks.{EndsMerging}
 use Rattle.lr_causes.specs.Outside.{NoFault, outside, world_of}
 use Rattle.lr_merging.specs.Downlinks.{IsBefore, LeavesAllAlone, LeavesAlone}
@@ -57,7 +55,7 @@ module _ {S D O : Type 0} (source : SourceOf S) (disk : DiskOf D) (out : SinkOf 
     -- where counts and end are told
     stopped : (cause : Cause) → CountsTell OutBesides cause (counts (source.faults s) (disk.faults d) (out.faults o))
         (counts (source.faults s') (disk.faults d1) (out.faults o))
-        → EndsMerging (world_of source disk out) line bytes cause (outside s d o) (outside s' d1 o)
+        → EndsMerging (world_of source disk out) (bundle_read line bytes) cause (outside s d o) (outside s' d1 o)
         → ((flaw : BundleFlaw) → HasFlaw bytes flaw → (cause ≡ Refused (BadBundle flaw)) ⊎ IsBefore cause)
         → (NoFault (world_of source disk out) (outside s d o) (outside s' d1 o) → (streams : List (List ℕ))
         → IsBundle bytes streams
@@ -126,7 +124,7 @@ module _ {S D O : Type 0} (source : SourceOf S) (disk : DiskOf D) (out : SinkOf 
 
   before_all : (cause : Cause) → CountsTell OutBesides cause (counts (source.faults s) (disk.faults d) (out.faults o))
       (counts (source.faults s) (disk.faults d1) (out.faults o))
-      → EndsMerging (world_of source disk out) line [] cause (outside s d o) (outside s d1 o)
+      → EndsMerging (world_of source disk out) (bundle_read line []) cause (outside s d o) (outside s d1 o)
       → ((at : ℕ) → disk.tells d → IsNoShelfAt (disk.contents d) at → MayEndBefore at cause) → IsBefore cause
       → (NoFault (world_of source disk out) (outside s d o) (outside s d1 o) → (way : Way)
       → disk.tells d → IsWay (disk.contents d) way
@@ -151,7 +149,8 @@ module _ {S D O : Type 0} (source : SourceOf S) (disk : DiskOf D) (out : SinkOf 
       → ((at : ℕ) → disk.tells d → IsNoShelfAt (disk.contents d) at → MayRefuseAt at error)
       → DownlinksRun (world_of source disk out) line (cause_of error) (outside s d o) (outside s d1 o)
   by_error Disk' counted refusal places =
-      before_all (Failed Disk) (counts_unloaded (Failed Disk) counted.1 (λ not none. absurd (not refl))) (inl untouched)
+      before_all (Failed Disk) (counts_unloaded (Failed Disk) counted.1 (λ not none. absurd (not refl)))
+      (inl untouched)
       (λ at t no. tt) tt
       (λ no_fault way t is. absurd (no_fault.of_disk counted.1))
   by_error (NotAShelf' at) counted refusal places =

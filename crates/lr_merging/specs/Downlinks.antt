@@ -23,16 +23,16 @@ use Rattle.lr_causes.specs.declared.cause.Party.{Party}
 use Rattle.lr_causes.specs.declared.cause.Party.TheVariants.{Source, Disk, Output}
 use Rattle.lr_causes.specs.declared.cause.Refusal.TheVariants.{NotAShelf, Capacity, BadBundle}
 use Rattle.lr_downlinks.specs.Bundles.{IsBundle}
-use Rattle.lr_downlinks.specs.Merge.{IsNextOf, IsOrder, IsWhole, merge}
+use Rattle.lr_downlinks.specs.Merge.{IsNextOf, IsOrder, IsWhole}
 use Rattle.lr_downlinks.specs.Receipts.{HasFileAt, receipt_at}
 use Rattle.lr_downlinks.specs.Room.{AllFit}
-use Rattle.lr_downlinks.specs.Runs.{NextDoesNotFitBy}
+use Rattle.lr_downlinks.specs.Runs.{Merging, NextDoesNotFitBy, merged_files, merging}
 use Rattle.lr_shelf.specs.Prefixes.{way_with_files}
 use Rattle.lr_shelf.specs.InitialShelves.{OfItems, OfWay, InitialShelf, HoldsEitherOn, HoldsStill, LeavesPrefixes}
 use Rattle.lr_downlinks.specs.Streams.{files_of_downlink}
 use Rattle.lr_merging.specs.Lines.{receipt_lines, last_line}
 use Rattle.lr_merging.specs.Taking.{AreAllTaken, HasFlaw, most_taken}
-use Rattle.lr_reading.specs.Reading.{IsRead, EndsFor}
+use Rattle.lr_reading.specs.Reading.{IsRead, EndsFor, within}
 
 -- The first event decides, but for this: after the files were put onto the shelf, `out` may fail in the receipts, and
 -- the cause stays.
@@ -58,86 +58,106 @@ module _ {D : Type 0} (disk : DiskOf D) (files : List Placed) (d d' : D) where
     pub now : HoldsStill initial files disk d'
     pub any_moment : LeavesPrefixes disk initial files d d'
 
-  -- these files were added, and the disk failed in the next one: that is there, or it isn't
-  pub record BreaksOn (placed : Placed) (initial : InitialShelf) : Type 0 where
-    pub now : HoldsEitherOn disk initial files placed d'
-    pub any_moment : LeavesPrefixes disk initial (files ++ placed ∷ []) d d'
+-- these files were added, and the disk failed in the next one
+pub record Broken : Type 0 where
+  pub files : List Placed
+  pub next : Placed
 
-module _ {D : Type 0} (disk : DiskOf D) (count : ℕ) (files : ℕ → List Placed)
-    (order : List ℕ) (d d' : D) where
+abbrev pub broken_at : List Placed → Placed → Broken
+broken_at files next = record { files = files; next = next }
+
+-- that is there, or it isn't
+pub record BreaksOn {D : Type 0} (disk : DiskOf D) (broken : Broken) (d d' : D) (initial : InitialShelf) : Type 0 where
+  pub now : HoldsEitherOn disk initial broken.files broken.next d'
+  pub any_moment : LeavesPrefixes disk initial (broken.files ++ broken.next ∷ []) d d'
+
+module _ {D : Type 0} (disk : DiskOf D) (merged : Merging) (d d' : D) where
   -- the files that the order names were put onto the shelf
   pub record AddsMerged : Type 0 where
     -- over every disk that has a way, whatever its items hold
     pub way : (way : Way) → disk.tells d → IsWay (disk.contents d) way
-        → IsWay (disk.contents d') (way_with_files (merge files order) way)
+        → IsWay (disk.contents d') (way_with_files (merged_files merged) way)
         × NothingPending disk d'
     -- the bytes before its last gate and after the new end stay, at every moment
     pub outside : (way : Way) → disk.tells d → IsWay (disk.contents d) way
-        → StaysOutside (way.end - 1) (way_with_files (merge files order) way).end
+        → StaysOutside (way.end - 1) (way_with_files (merged_files merged) way).end
         (disk.contents d) (disk.contents d')
     pub outside_any_moment : (way : Way) → disk.tells d → IsWay (disk.contents d) way
         → NothingPending disk d
         → EachImageSince disk d d'
-        (StaysOutside (way.end - 1) (way_with_files (merge files order) way).end (disk.contents d))
+        (StaysOutside (way.end - 1) (way_with_files (merged_files merged) way).end (disk.contents d))
     -- over a shelf of these items, and over every disk that has a way, whatever its records hold, with nothing
     -- pending
     pub onto_shelf : (capacity : ℕ) (items : List Item) → disk.tells d
         → IsDurable disk capacity items d
-        → AddsAllOn disk (merge files order) d d' (OfItems capacity items)
+        → AddsAllOn disk (merged_files merged) d d' (OfItems capacity items)
     pub onto_way : (way : Way) → disk.tells d → IsWay (disk.contents d) way
         → NothingPending disk d
-        → AddsAllOn disk (merge files order) d d' (OfWay way (disk.contents d))
+        → AddsAllOn disk (merged_files merged) d d' (OfWay way (disk.contents d))
 
   -- so they were, and the disk failed in the next file of some downlink: that is there, or it isn't
   pub record BreaksMerging : Type 0 where
     pub downlink : ℕ
     pub placed : Placed
-    pub next : IsNextOf count files order downlink placed
+    pub next : IsNextOf merged.count merged.files merged.order downlink placed
     pub way : (way : Way) → disk.tells d → IsWay (disk.contents d) way
-        → HasEitherWay (way_with_files (merge files order) way) (item_for placed) (disk.contents d')
+        → HasEitherWay (way_with_files (merged_files merged) way) (item_for placed) (disk.contents d')
     pub outside : (way : Way) → disk.tells d → IsWay (disk.contents d) way
-        → StaysOutside (way.end - 1) (way_with_files (merge files order ++ placed ∷ []) way).end
+        → StaysOutside (way.end - 1) (way_with_files (merged_files merged ++ placed ∷ []) way).end
         (disk.contents d)
         (disk.contents d')
     pub outside_any_moment : (way : Way) → disk.tells d → IsWay (disk.contents d) way
         → NothingPending disk d
         → EachImageSince disk d d'
-        (StaysOutside (way.end - 1) (way_with_files (merge files order ++ placed ∷ []) way).end
+        (StaysOutside (way.end - 1) (way_with_files (merged_files merged ++ placed ∷ []) way).end
         (disk.contents d))
     pub onto_shelf : (capacity : ℕ) (items : List Item) → disk.tells d
         → IsDurable disk capacity items d
-        → BreaksOn disk (merge files order) d d' placed (OfItems capacity items)
+        → BreaksOn disk (broken_at (merged_files merged) placed) d d' (OfItems capacity items)
     pub onto_way : (way : Way) → disk.tells d → IsWay (disk.contents d) way
         → NothingPending disk d
-        → BreaksOn disk (merge files order) d d' placed (OfWay way (disk.contents d))
+        → BreaksOn disk (broken_at (merged_files merged) placed) d d' (OfWay way (disk.contents d))
 
   -- what becomes of the disk, for each cause
   abbrev pub LeavesMerged : Cause → Type 0
-  LeavesMerged Done = AddsMerged × IsWhole count files order
-  LeavesMerged (Failed Output) = AddsMerged × IsWhole count files order
+  LeavesMerged Done = AddsMerged × IsWhole merged.count merged.files merged.order
+  LeavesMerged (Failed Output) = AddsMerged × IsWhole merged.count merged.files merged.order
   LeavesMerged (Failed Disk) = BreaksMerging
   LeavesMerged NoMemory = AddsMerged
   LeavesMerged (Refused (Capacity needed capacity)) = AddsMerged
       × ((way : Way) → disk.tells d → IsWay (disk.contents d) way
-      → NextDoesNotFitBy count files order way needed capacity)
+      → NextDoesNotFitBy merged way needed capacity)
   LeavesMerged _ = ⊥
 
   -- Over a shelf of these items, each receipt is that of a file of its downlink at its place, which is the entry of
   -- its number in the contents and in every crash image.
   abbrev pub HaveReceipts : ℕ → Type 0
-  HaveReceipts base = (at : ℕ) → at < length order → (placed : Placed)
-      × (slice_get (files (receipt_at base order at).downlink) (receipt_at base order at).place
+  HaveReceipts base = (at : ℕ) → at < length merged.order → (placed : Placed)
+      × (slice_get (merged.files (receipt_at base merged.order at).downlink) (receipt_at base merged.order at).place
       ≡ Some placed)
       × ((capacity : ℕ) (items : List Item) → disk.tells d → IsDurable disk capacity items d
       → HasFileAt capacity (base + at) placed (disk.contents d')
       × ((c : List ℕ) → disk.may_leave d' c → HasFileAt capacity (base + at) placed c))
 
+-- a line for each file, and the last one
+pub record MergedLines : Type 0 where
+  pub receipts : List ℕ
+  pub last : List ℕ
+
 -- What `out` gets, for each cause: all lines, a part of them, or the receipts without the last line, in which it may
 -- fail.
-abbrev pub GotReceipts : {O : Type 0} → SinkOf O → Cause → (receipts last : List ℕ) → O → O → Type 0
-GotReceipts out Done receipts last o o' = Puts out (receipts ++ last) o o'
-GotReceipts out (Failed Output) receipts last o o' = PutFails out (receipts ++ last) o o'
-GotReceipts out cause receipts last o o' = Puts out receipts o o' ⊎ PutFails out receipts o o'
+abbrev pub GotReceipts : {O : Type 0} → SinkOf O → Cause → MergedLines → O → O → Type 0
+GotReceipts out Done lines o o' = Puts out (lines.receipts ++ lines.last) o o'
+GotReceipts out (Failed Output) lines o o' = PutFails out (lines.receipts ++ lines.last) o o'
+GotReceipts out cause lines o o' = Puts out lines.receipts o o' ⊎ PutFails out lines.receipts o o'
+
+-- the bytes that were taken as a bundle, and the line code of its downlinks
+pub record BundleRead : Type 0 where
+  pub line : LineCode
+  pub bytes : List ℕ
+
+abbrev pub bundle_read : LineCode → List ℕ → BundleRead
+bundle_read line bytes = record { line = line; bytes = bytes }
 
 module _ {S D O : Type 0} (world : World S D O) where
   -- the disk was only read, and `out` is as it was
@@ -150,24 +170,26 @@ module _ {S D O : Type 0} (world : World S D O) where
     pub alone : LeavesAlone w w'
     pub source_stays : w'.source ≡ w.source
 
-  module _ (line : LineCode) (bytes : List ℕ) where
+  module _ (read : BundleRead) where
     -- The bytes are a bundle, and the files of its downlinks were put onto the shelf in this order. The shelf had
     -- `base` entries before.
     pub record Merges (cause : Cause) (w w' : Outside S D O) : Type 0 where
-      pub ended : EndsFor world.source End most_taken bytes w.source w'.source
+      pub ended : EndsFor world.source End (within most_taken read.bytes) w.source w'.source
       pub streams : List (List ℕ)
-      pub bundle : IsBundle bytes streams
+      pub bundle : IsBundle read.bytes streams
       pub order : List ℕ
-      pub order_is : IsOrder (length streams) (files_of_downlink line streams) order
-      pub leaves : LeavesMerged world.disk (length streams) (files_of_downlink line streams) order
-          w.disk w'.disk cause
+      pub order_is : IsOrder (length streams) (files_of_downlink read.line streams) order
+      pub leaves : LeavesMerged world.disk (merging (length streams) (files_of_downlink read.line streams) order)
+          w.disk
+          w'.disk cause
       pub base : ℕ
       pub base_is : (way : Way) → world.disk.tells w.disk → IsWay (world.disk.contents w.disk) way
           → base ≡ length way.entries
-      pub receipts : HaveReceipts world.disk (length streams) (files_of_downlink line streams) order
+      pub receipts : HaveReceipts world.disk (merging (length streams) (files_of_downlink read.line streams) order)
           w.disk w'.disk base
-      pub got : GotReceipts world.out cause (receipt_lines base order (length streams))
-          (last_line streams order) w.out w'.out
+      pub got : GotReceipts world.out cause
+          (record { receipts = receipt_lines base order (length streams); last = last_line streams order })
+          w.out w'.out
       -- where no file was put onto the shelf, and the disk didn't fail, it was only read
       pub only_read : order ≡ [] → (cause ≡ Failed Disk → ⊥) → world.disk.tells w.disk
           → IsUnwritten world.disk w.disk w'.disk
@@ -176,7 +198,7 @@ module _ {S D O : Type 0} (world : World S D O) where
     abbrev pub EndsMerging : Cause → Outside S D O → Outside S D O → Type 0
     EndsMerging Done w w' = Merges Done w w'
     EndsMerging (Failed Source) w w' =
-        LeavesAlone w w' × EndsFor world.source Fault most_taken bytes w.source w'.source
+        LeavesAlone w w' × EndsFor world.source Fault (within most_taken read.bytes) w.source w'.source
     EndsMerging (Failed Disk) w w' = LeavesAllAlone w w' ⊎ Merges (Failed Disk) w w'
     EndsMerging (Failed Output) w w' = Merges (Failed Output) w w'
     EndsMerging NoMemory w w' = LeavesAlone w w' ⊎ Merges NoMemory w w'
@@ -186,7 +208,7 @@ module _ {S D O : Type 0} (world : World S D O) where
     EndsMerging (Refused (Capacity needed capacity)) w w' =
         Merges (Refused (Capacity needed capacity)) w w'
     EndsMerging (Refused (BadBundle flaw)) w w' =
-        LeavesAlone w w' × HasFlaw bytes flaw × AreAllTaken world.source bytes w.source w'.source
+        LeavesAlone w w' × HasFlaw read.bytes flaw × AreAllTaken world.source read.bytes w.source w'.source
     EndsMerging _ w w' = ⊥
 
 -- the whole call, over every disk
@@ -200,7 +222,7 @@ pub record DownlinksRun {S D O : Type 0} (world : World S D O) (line : LineCode)
   -- these bytes were taken
   pub bytes : List ℕ
   pub read : IsRead world.source most_taken bytes w.source w'.source
-  pub ends : EndsMerging world line bytes cause w w'
+  pub ends : EndsMerging world (bundle_read line bytes) cause w w'
   -- a disk on which no shelf stands is refused, and nothing is touched
   pub broken : (at : ℕ) → world.disk.tells w.disk → IsNoShelfAt (world.disk.contents w.disk) at
       → MayEndBefore at cause × LeavesAllAlone world w w'

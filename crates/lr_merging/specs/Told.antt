@@ -11,25 +11,47 @@ use Rattle.lr_downlinks.specs.declared.run.RunEnd.{RunEnd}
 use Rattle.lr_downlinks.specs.declared.run.RunEnd.TheVariants.{All, Disk as DiskFails, NoMemory as NoneLeft, Capacity}
 use Rattle.lr_merging.specs.Lines.{receipt_lines, last_line}
 
-module _ {O : Type 0} (out : SinkOf O) (streams : List (List ℕ)) where
+-- the streams of a bundle, how many entries there were before, and the order of the files that were put onto the shelf
+pub record Receipted : Type 0 where
+  pub streams : List (List ℕ)
+  pub base : ℕ
+  pub order : List ℕ
+
+abbrev pub receipted : List (List ℕ) → ℕ → List ℕ → Receipted
+receipted streams base order = record { streams = streams; base = base; order = order }
+
+abbrev pub receipts_of : Receipted → List ℕ
+receipts_of run = receipt_lines run.base run.order (length run.streams)
+
+abbrev pub all_lines_of : Receipted → List ℕ
+all_lines_of run = receipts_of run ++ last_line run.streams run.order
+
+module _ {O : Type 0} (out : SinkOf O) where
   -- all lines, or a part of them
-  abbrev pub TellsAll : ℕ → List ℕ → Cause → O → O → Type 0
-  TellsAll base order Done o o' = Puts out (receipt_lines base order (length streams) ++ last_line streams order) o o'
-  TellsAll base order (Failed Output) o o' =
-      PutFails out (receipt_lines base order (length streams) ++ last_line streams order) o o'
-  TellsAll base order cause o o' = ⊥
+  abbrev pub TellsAll : Receipted → Cause → O → O → Type 0
+  TellsAll run Done o o' = Puts out (all_lines_of run) o o'
+  TellsAll run (Failed Output) o o' = PutFails out (all_lines_of run) o o'
+  TellsAll run cause o o' = ⊥
 
   -- the receipts, or a part of them
-  abbrev pub TellsSome : ℕ → List ℕ → O → O → Type 0
-  TellsSome base order o o' = Puts out (receipt_lines base order (length streams)) o o'
-      ⊎ PutFails out (receipt_lines base order (length streams)) o o'
+  abbrev pub TellsSome : Receipted → O → O → Type 0
+  TellsSome run o o' = Puts out (receipts_of run) o o' ⊎ PutFails out (receipts_of run) o o'
 
-  abbrev pub TellsEnd : RunEnd → ℕ → List ℕ → Cause → O → O → Type 0
-  TellsEnd All base order cause o o' = TellsAll base order cause o o'
-  TellsEnd DiskFails base order cause o o' = (cause ≡ Failed Disk) × TellsSome base order o o'
-  TellsEnd NoneLeft base order cause o o' = (cause ≡ NoMemory) × TellsSome base order o o'
-  TellsEnd (Capacity needed capacity) base order cause o o' =
-      (cause ≡ Refused (IsFull needed capacity)) × TellsSome base order o o'
+  abbrev pub TellsEnd : RunEnd → Receipted → Cause → O → O → Type 0
+  TellsEnd All run cause o o' = TellsAll run cause o o'
+  TellsEnd DiskFails run cause o o' = (cause ≡ Failed Disk) × TellsSome run o o'
+  TellsEnd NoneLeft run cause o o' = (cause ≡ NoMemory) × TellsSome run o o'
+  TellsEnd (Capacity needed capacity) run cause o o' =
+      (cause ≡ Refused (IsFull needed capacity)) × TellsSome run o o'
 
-  abbrev pub TellsRun : Run → Cause → O → O → Type 0
-  TellsRun run cause o o' = TellsEnd run.result run.base run.order cause o o'
+-- a run over the streams of a bundle
+pub record BundleRun : Type 0 where
+  pub streams : List (List ℕ)
+  pub run : Run
+
+abbrev pub bundle_run : List (List ℕ) → Run → BundleRun
+bundle_run streams run = record { streams = streams; run = run }
+
+abbrev pub TellsRun : {O : Type 0} → SinkOf O → BundleRun → Cause → O → O → Type 0
+TellsRun out bundle cause o o' =
+    TellsEnd out bundle.run.result (receipted bundle.streams bundle.run.base bundle.run.order) cause o o'

@@ -4,7 +4,7 @@ ghost use Rattle.lr_causes.specs.Outside.{outside, world_of};
 ghost use Rattle.lr_downlinks.specs.Runs.{MergesOver};
 ghost use Rattle.lr_downlinks.specs.Streams.{files_of_downlink};
 ghost use Rattle.lr_merging.specs.Downlinks.{DownlinksRun};
-ghost use Rattle.lr_merging.specs.Told.{TellsAll, TellsRun, TellsSome};
+ghost use Rattle.lr_merging.specs.Told.{TellsAll, TellsRun, TellsSome, receipted, bundle_run};
 
 use crate::receipts::{put_last, put_receipts};
 use crate::taking::take_bundle;
@@ -21,7 +21,7 @@ use std::thread::Threads;
 
 /// Puts the receipts and the last line of a run that put all files onto the shelf.
 fn tell_all<O: Sink>(bundle: &Bundle, run: &Run, out: &mut O) -> Cause
-    ensures { TellsAll O.Sink bundle.now run.now.base run.now.order result out.old out.new }
+    ensures { TellsAll O.Sink (receipted bundle.now run.now.base run.now.order) result out.old out.new }
 {
     if let Err(cause) = put_receipts(run, bundle.streams(), out) {
         return cause;
@@ -36,7 +36,7 @@ fn tell_all<O: Sink>(bundle: &Bundle, run: &Run, out: &mut O) -> Cause
 /// changes no cause.
 fn tell_some<O: Sink>(bundle: &Bundle, run: &Run, cause: Cause, out: &mut O) -> Cause
     ensures same { result ≡ cause }
-    ensures told { TellsSome O.Sink bundle.now run.now.base run.now.order out.old out.new }
+    ensures told { TellsSome O.Sink (receipted bundle.now run.now.base run.now.order) out.old out.new }
 {
     let _ = put_receipts(run, bundle.streams(), out);
     cause
@@ -44,7 +44,7 @@ fn tell_some<O: Sink>(bundle: &Bundle, run: &Run, cause: Cause, out: &mut O) -> 
 
 /// Puts what is told of a run, and answers why it ended.
 fn tell_run<O: Sink>(bundle: &Bundle, run: &Run, out: &mut O) -> Cause
-    ensures { TellsRun O.Sink bundle.now run.now result out.old out.new }
+    ensures { TellsRun O.Sink (bundle_run bundle.now run.now) result out.old out.new }
 {
     match run.result {
         RunEnd::All => tell_all(bundle, run, out),

@@ -1,37 +1,7 @@
 -- `decode` goes on by one outcome, and what it puts in all.
-use Rattle.std.proofs.Common.{
-  ◌≡◌,
-  ◌⊎◌,
-  ℕ,
-  ℤ,
-  ◌+◌,
-  ◌-◌,
-  ◌<◌,
-  ◌≤◌,
-  not,
-  Bool,
-  true,
-  false,
-  List,
-  [],
-  ◌∷◌,
-  ◌++◌,
-  length,
-  length-drop,
-  map,
-  take,
-  drop,
-  ap,
-  ◌∙◌,
-  sym,
-  refl,
-  subst,
-  arith,
-  append-nil,
-  inl,
-  inr,
-  ⊎_elim,
-}
+use Rattle.std.proofs.Common.{◌≡◌, ◌⊎◌, ℕ, ℤ, ◌+◌, ◌-◌, ◌<◌, ◌≤◌, not, Bool, true, false, List, []}
+use Rattle.std.proofs.Common.{◌∷◌, ◌++◌, length, length-drop, map, take, drop, ap, ◌∙◌, sym, refl}
+use Rattle.std.proofs.Common.{subst, arith, append-nil, inl, inr, ⊎_elim}
 use Rattle.std.proofs.lemmas.Bool.{cases_lt, leb-true}
 use Rattle.std.specs.Prelude.{count_by, cond, nat_le, if◌then◌else◌}
 use Rattle.std.specs.List.{All, list_all}
@@ -52,46 +22,28 @@ use Rattle.lr_catalog.specs.declared.summary.Summary.TheVariants.{Decode}
 use Rattle.lr_catalog.specs.Summaries.{summary_line}
 use Rattle.lr_causes.specs.declared.cause.Cause.{Cause}
 use Rattle.lr_causes.specs.Puts.{Puts, PutStops}
-use Rattle.lr_reading.specs.Arrivals.{
-  arrival_in,
-  arrival_of,
-  arrivals_of,
-  arrivals_of_units,
-  outcomes_of_arrivals,
-}
+use Rattle.lr_reading.specs.Arrivals.{arrival_in, arrival_of, arrivals_of, arrivals_of_units}
+use Rattle.lr_reading.specs.Arrivals.{outcomes_of_arrivals}
 use Rattle.lr_reading.specs.Inputs.{unit_bytes, outcome_of_unit, outcomes_of_bytes, bytes_left_over}
 use Rattle.lr_reading.specs.Lines.{numbered_lines}
-use Rattle.lr_reading.specs.Reading.{units_of, WhenLastAsked}
+use Rattle.lr_reading.specs.Reading.{units_of, WhenLastAsked, within}
 use Rattle.lr_reading.specs.Readers.{AreAllThatWait, EndsInNoise, leeway_for, most_when_asked}
-use Rattle.lr_reading.specs.Runs.{ReadsInput, TakesAll, TakesSome, course_of, lent}
+use Rattle.lr_reading.specs.Runs.{ReadsInput, TakesAll, TakesSome, course_of, lent, input_read}
 use Rattle.lr_reading.specs.declared.arrival.Arrival.{Arrival}
 use Rattle.lr_forms.specs.declared.forms.Input.{Input}
 use Rattle.lr_forms.specs.declared.forms.Input.TheVariants.{Symbols, Units}
 use Rattle.lr_reading.specs.declared.read_counts.ReadCounts.{ReadCounts}
 use Rattle.lr_reading.proofs.Coming.{outcomes_are, outcomes_counted}
-use Rattle.lr_reading.proofs.Numbered.{
-  numbered_lines-none,
-  numbered_lines-append,
-  numbered_lines-push,
-  numbered_lines-map,
-}
+use Rattle.lr_reading.proofs.Numbered.{numbered_lines-none, numbered_lines-append}
+use Rattle.lr_reading.proofs.Numbered.{numbered_lines-push, numbered_lines-map}
 use Rattle.lr_reading.proofs.Fronts.{take_on}
-use Rattle.lr_reading.proofs.Outcomes.{both_kinds}
+use Rattle.lr_layers.proofs.Pushing.{both_kinds}
 use Rattle.lr_catalog.specs.Outcomes.{window_line}
 use Rattle.lr_frame.specs.Outcomes.{outcome_in}
 use Rattle.lr_printing.specs.declared.outcome_lines.OutcomeLines.{OutcomeLines}
-use Rattle.lr_printing.specs.Decode.{
-  all_but,
-  ends_in_noise,
-  windows_waiting,
-  lines_of_units,
-  lines_of_windows,
-  decode_text,
-  decode_due,
-  decode_last,
-  decode_count,
-  sums_of,
-}
+use Rattle.lr_printing.specs.Decode.{all_but, ends_in_noise, windows_waiting, lines_of_units}
+use Rattle.lr_printing.specs.Decode.{lines_of_windows, decode_text, decode_due, decode_last}
+use Rattle.lr_printing.specs.Decode.{decode_count, sums_of, decode_printed}
 use Rattle.lr_printing.specs.DecodeTaken.{OutcomesTook, OutcomesStopped}
 use Rattle.lr_printing.specs.OutcomeLines.{outcome_text, text_of_outcomes}
 use Rattle.lr_causes.specs.Outside.{pipe, pipe_of}
@@ -261,7 +213,7 @@ few_restored out {before} {now} {arrivals} took = omega (
     length-outcomes (a ∷ arrivals) = omega (arith, length-outcomes arrivals)
 
 module _ {S : Type 0} (source : SourceOf S) (input : Input) (limit : ℕ) (totals : ReadCounts) (restored : ℕ)
-    (bytes : List ℕ) (s s' : S) (ends : ReadsInput source input limit totals bytes s s')
+    (bytes : List ℕ) (s s' : S) (ends : ReadsInput source (input_read input limit bytes) totals s s')
     (restored_is : restored ≡ count_by is_restored (outcomes_of_bytes input bytes)) where
   frames_are : length (outcomes_of_bytes input bytes) ≡ totals.frames
   frames_are = outcomes_counted input bytes ∙ sym ends.frames
@@ -342,7 +294,7 @@ module _ {O : Type 0} (out : SinkOf O) where
         → TakesAll (course_of source (OutcomesTook out) input limit (leeway_for input workers)) totals (lent s before)
         (lent s' now)
         → (now.out.ghost_name ≡ before.out.ghost_name) × ((bytes : List ℕ)
-        × ReadsInput source input limit totals bytes s s'
+        × ReadsInput source (input_read input limit bytes) totals s s'
         × (now.restored ≡ count_by is_restored (outcomes_of_bytes input bytes))
         × Puts out (decode_text input bytes) before.out.now now.out.now
         × WhenLastAsked source (λ given. (more : List ℕ)
@@ -369,7 +321,7 @@ module _ {O : Type 0} (out : SinkOf O) where
         → TakesSome (course_of source (OutcomesTook out) input limit (leeway_for input workers)) (OutcomesStopped out)
         cause (lent s before) (lent s' now)
         → (now.out.ghost_name ≡ before.out.ghost_name)
-        × Prints (pipe_of source out) (decode_text input) (decode_due input workers) (decode_last input) limit cause
+        × Prints (pipe_of source out) (decode_printed input workers limit) cause
         (pipe s before.out.now) (pipe s' now.out.now)
     outcomes_stopped workers cause some =
         let stopped = some.stops before (outcomes_begun before none none_restored) in

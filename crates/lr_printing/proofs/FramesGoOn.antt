@@ -1,24 +1,6 @@
 -- `frames` goes on by one frame, and what it puts in all.
-use Rattle.std.proofs.Common.{
-  ◌≡◌,
-  ℕ,
-  ◌/◌,
-  ◌%◌,
-  List,
-  [],
-  ◌∷◌,
-  ◌++◌,
-  length,
-  ap,
-  ◌∙◌,
-  sym,
-  refl,
-  subst,
-  arith,
-  ◌+◌,
-  append-nil,
-  inl,
-}
+use Rattle.std.proofs.Common.{◌≡◌, ℕ, ◌/◌, ◌%◌, List, [], ◌∷◌, ◌++◌, length, ap, ◌∙◌, sym, refl}
+use Rattle.std.proofs.Common.{subst, arith, ◌+◌, append-nil, inl}
 use Rattle.std.specs.List.{range_with_len}
 use Rattle.std.proofs.lemmas.List.{length-map}
 use Rattle.std.proofs.lemmas.List.FromFn.{length-range_with_len}
@@ -34,21 +16,17 @@ use Rattle.lr_reading.specs.Inputs.{outcome_of_unit}
 use Rattle.lr_reading.specs.Lines.{numbered_lines}
 use Rattle.lr_reading.specs.Reading.{unit_of, units_of, WhenLastAsked}
 use Rattle.lr_reading.specs.Readers.{leeway_for}
-use Rattle.lr_reading.specs.Runs.{ReadsInput, TakesAll, TakesSome, course_of, lent}
+use Rattle.lr_reading.specs.Runs.{ReadsInput, TakesAll, TakesSome, course_of, lent, input_read}
 use Rattle.lr_reading.specs.declared.arrival.Arrival.{Arrival}
 use Rattle.lr_forms.specs.declared.forms.Input.TheVariants.{Units}
 use Rattle.lr_forms.specs.declared.forms.UnitForm.TheVariants.{Frames}
 use Rattle.lr_reading.specs.declared.read_counts.ReadCounts.{ReadCounts}
 use Rattle.lr_reading.proofs.Coming.{arrivals_of_units-counted}
-use Rattle.lr_reading.proofs.Numbered.{
-  numbered_lines-none,
-  numbered_lines-append,
-  numbered_lines-push,
-  numbered_lines-map,
-}
+use Rattle.lr_reading.proofs.Numbered.{numbered_lines-none, numbered_lines-append}
+use Rattle.lr_reading.proofs.Numbered.{numbered_lines-push, numbered_lines-map}
 use Rattle.lr_printing.specs.declared.frame_lines.FrameLines.{FrameLines}
 use Rattle.lr_printing.specs.FrameLines.{frame_text, text_of_frames}
-use Rattle.lr_printing.specs.Frames.{lines_of_frames, frames_text, frames_last}
+use Rattle.lr_printing.specs.Frames.{lines_of_frames, frames_text, frames_last, frames_printed}
 use Rattle.lr_printing.specs.FramesTaken.{FramesTook, FramesStopped}
 use Rattle.lr_causes.specs.Outside.{pipe, pipe_of}
 use Rattle.lr_printing.specs.Printing.{Prints}
@@ -88,7 +66,7 @@ frames_counted bytes =
 
 -- the last line says how many there are, and how long the rest is
 pub frames_last_is : {S : Type 0} (source : SourceOf S) (limit : ℕ) (totals : ReadCounts) (bytes : List ℕ) (s s' : S)
-    → ReadsInput source (Units Frames) limit totals bytes s s'
+    → ReadsInput source (input_read (Units Frames) limit bytes) totals s s'
     → frames_last bytes totals.stop ≡ summary_line (FramesLine totals.frames totals.left) totals.stop
 frames_last_is source limit totals bytes s s' ends =
     ap (λ k. summary_line (FramesLine k (length bytes % FRAME_BYTES)) totals.stop)
@@ -143,7 +121,7 @@ module _ {O : Type 0} (out : SinkOf O) where
         → TakesAll (course_of source (FramesTook out) (Units Frames) limit (leeway_for (Units Frames) 1)) totals
         (lent s before) (lent s' now)
         → (now.out.ghost_name ≡ before.out.ghost_name) × ((bytes : List ℕ)
-        × ReadsInput source (Units Frames) limit totals bytes s s'
+        × ReadsInput source (input_read (Units Frames) limit bytes) totals s s'
         × Puts out (frames_text bytes) before.out.now now.out.now
         × WhenLastAsked source (λ given. (more : List ℕ) × (frames_text bytes ≡ frames_text given ++ more)) bytes s s')
     frames_put all =
@@ -167,7 +145,7 @@ module _ {O : Type 0} (out : SinkOf O) where
         → TakesSome (course_of source (FramesTook out) (Units Frames) limit (leeway_for (Units Frames) 1))
         (FramesStopped out) cause (lent s before) (lent s' now)
         → (now.out.ghost_name ≡ before.out.ghost_name)
-        × Prints (pipe_of source out) frames_text frames_text frames_last limit cause (pipe s before.out.now)
+        × Prints (pipe_of source out) (frames_printed limit) cause (pipe s before.out.now)
         (pipe s' now.out.now)
     frames_stopped cause some =
         let stopped = some.stops before (frames_begun before none) in

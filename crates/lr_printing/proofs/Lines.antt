@@ -1,28 +1,8 @@
 -- Lines that are put one after another, and how a command ends that prints them.
-use Rattle.std.proofs.Common.{
-  ◌≡◌,
-  ℕ,
-  List,
-  [],
-  ◌∷◌,
-  ◌++◌,
-  length,
-  ap,
-  ◌∙◌,
-  sym,
-  subst,
-  arith,
-  append_assoc,
-  append-nil,
-  refl,
-  length-append,
-  inl,
-  inr,
-  ◌≤◌,
-  ◌⊎◌,
-  ⊎_elim,
-  drop,
-}
+use Rattle.std.proofs.Common.{◌≡◌, ℕ, List, [], ◌∷◌, ◌++◌, length, ap, ◌∙◌, sym, subst, arith}
+use Rattle.std.proofs.Common.{append_assoc, append-nil, refl, length-append, inl, inr, ◌≤◌, ◌⊎◌}
+use Rattle.std.proofs.Common.{⊎_elim, drop, Result, IfErr, IsErrAnd}
+use Rattle.std.proofs.lemmas.Result.{err_from_is_err_and}
 use Rattle.lr_bits.specs.Faults.{Rose}
 use Rattle.lr_io.specs.declared.source.Source.{Ghosts as SourceOf}
 use Rattle.lr_io.specs.declared.sink.Sink.{Ghosts as SinkOf}
@@ -35,16 +15,21 @@ use Rattle.lr_causes.specs.declared.cause.Party.TheVariants.{Output, Source}
 use Rattle.lr_causes.proofs.Joining.{puts_both}
 use Rattle.lr_causes.specs.Outside.{Pipe, PipeOf, pipe, pipe_of}
 use Rattle.lr_forms.specs.declared.forms.Input.{Input}
-use Rattle.lr_printing.specs.Printing.{GotFirst, Prints, PrintsAll}
+use Rattle.lr_printing.specs.Printing.{GotFirst, Prints, PrintsAll, printed_by}
 use Rattle.lr_causes.specs.Puts.{Puts, PutStops}
 use Rattle.lr_printing.specs.Progress.{LinesStop, PutsButLast, PutsSome}
 use Rattle.lr_reading.specs.Arrivals.{arrivals_of}
 use Rattle.lr_reading.specs.Readers.{AreAllThatWait}
-use Rattle.lr_reading.specs.Reading.{IsRead, EndsFor, WhenLastAsked}
-use Rattle.lr_reading.specs.Runs.{ComesFirstBut}
+use Rattle.lr_reading.specs.Reading.{IsRead, WhenLastAsked}
+use Rattle.lr_reading.specs.Runs.{ComesFirstBut, ReadsInput, input_read}
 use Rattle.lr_reading.specs.declared.arrival.Arrival.{Arrival}
+use Rattle.lr_reading.specs.declared.read_counts.ReadCounts.{ReadCounts}
 use Rattle.lr_reading.proofs.Asking.{when_too}
 use Rattle.lr_reading.proofs.Fronts.{front_of}
+
+-- what holds for an error holds where the answer is that error
+pub err_so : {T E : Type 0} (P : E → Type 0) {e : E} (r : Result T E) → IsErrAnd r (λ y. y ≡ e) → P e → IfErr r P
+err_so P r is holds = let found = err_from_is_err_and r is in rw (found.1, found.2) holds
 
 -- some lines were put, and the next one wasn't
 pub lines_stop : {O : Type 0} (out : SinkOf O) (front line : List ℕ) (o p o' : O) → Puts out front o p
@@ -200,14 +185,15 @@ module _ {S O : Type 0} (source : SourceOf S) (out : SinkOf O) (lines due : List
     → List ℕ) (limit : ℕ) where
   -- the last line was put, whatever the input ended for
   pub printed : (stop : Stop) (s s' : S) (o o' : O)
-      → PrintsAll (pipe_of source out) lines due last limit stop (pipe s o) (pipe s' o')
-      → Prints (pipe_of source out) lines due last limit (cause_at stop) (pipe s o) (pipe s' o')
+      → PrintsAll (pipe_of source out) (printed_by lines due last limit) stop (pipe s o) (pipe s' o')
+      → Prints (pipe_of source out) (printed_by lines due last limit) (cause_at stop) (pipe s o) (pipe s' o')
   printed End s s' o o' all = inl all
   printed Limit s s' o o' all = inr all
   printed Fault s s' o o' all = all
 
   -- memory was refused before anything was read
-  pub none_read : (s : S) (o : O) → Prints (pipe_of source out) lines due last limit NoMemory (pipe s o) (pipe s o)
+  pub none_read : (s : S) (o : O)
+      → Prints (pipe_of source out) (printed_by lines due last limit) NoMemory (pipe s o) (pipe s o)
   none_read s o = record {
     bytes = [];
     read = record { told = λ t. t; untold = λ t. t; moved = λ t. refl; few = omega arith; asked = inl refl };
@@ -222,7 +208,7 @@ module _ {S O : Type 0} (source : SourceOf S) (out : SinkOf O) (lines due : List
   pub lines_stopped : (bytes front later : List ℕ) (s s' : S) (o o' : O) → IsRead source limit bytes s s'
       → lines bytes ≡ front ++ later → WhenLastAsked source (λ given. GotFirst out (due given) o o') bytes s s'
       → (cause : Cause) → LinesStop out front cause o o'
-      → Prints (pipe_of source out) lines due last limit cause (pipe s o) (pipe s' o')
+      → Prints (pipe_of source out) (printed_by lines due last limit) cause (pipe s o) (pipe s' o')
   lines_stopped bytes front later s s' o o' read all in_time (Failed Output) stop = inl (record {
     bytes = bytes;
     read = read;
@@ -259,16 +245,16 @@ module _ {S O : Type 0} (source : SourceOf S) (out : SinkOf O) (lines due : List
   }
   lines_stopped bytes front later s s' o o' read all in_time _ stop = absurd stop
 
-  module _ (bytes : List ℕ) {s s' : S} {o p : O} (read : IsRead source limit bytes s s') (stop : Stop)
-      (reason : EndsFor source stop limit bytes s s') (put : Puts out (lines bytes) o p) (line : List ℕ)
-      (is : last bytes stop ≡ line) where
+  module _ {input : Input} {bytes : List ℕ} {totals : ReadCounts} {s s' : S} {o p : O}
+      (ends : ReadsInput source (input_read input limit bytes) totals s s') (put : Puts out (lines bytes) o p)
+      {line : List ℕ} (is : last bytes totals.stop ≡ line) where
     -- all lines and the last one were put
     pub all_put : {o' : O} → Puts out line p o'
-        → PrintsAll (pipe_of source out) lines due last limit stop (pipe s o) (pipe s' o')
+        → PrintsAll (pipe_of source out) (printed_by lines due last limit) totals.stop (pipe s o) (pipe s' o')
     all_put {o'} more = record {
       bytes = bytes;
-      read = read;
-      reason = reason;
+      read = ends.read;
+      reason = ends.reason;
       told = (puts_both out _ _ _ _ _ put more).told;
       untold = (puts_both out _ _ _ _ _ put more).untold;
       put = λ tells. (puts_both out _ _ _ _ _ put more).put tells
@@ -279,12 +265,12 @@ module _ {S O : Type 0} (source : SourceOf S) (out : SinkOf O) (lines due : List
     -- the last line wasn't put
     pub last_stopped : WhenLastAsked source (λ given. (more : List ℕ) × (lines bytes ≡ due given ++ more)) bytes s s'
         → (o' : O) (cause : Cause) → PutStops out line cause p o'
-        → Prints (pipe_of source out) lines due last limit cause (pipe s o) (pipe s' o')
+        → Prints (pipe_of source out) (printed_by lines due last limit) cause (pipe s o) (pipe s' o')
     last_stopped in_time o' (Failed Output) failed = inr (record {
       bytes = bytes;
-      stop = stop;
-      read = read;
-      reason = reason;
+      stop = totals.stop;
+      read = ends.read;
+      reason = ends.reason;
       told = λ tells. failed.told (put.told tells);
       untold = λ tells. put.untold (failed.untold tells);
       part = λ tells.
@@ -300,7 +286,7 @@ module _ {S O : Type 0} (source : SourceOf S) (out : SinkOf O) (lines due : List
     })
     last_stopped in_time o' NoMemory same = record {
       bytes = bytes;
-      read = read;
+      read = ends.read;
       told = λ tells. subst (λ x. out.tells x) (sym same) (put.told tells);
       untold = λ tells. put.untold (subst (λ x. out.tells x) same tells);
       front = λ tells. record {
@@ -321,74 +307,63 @@ module _ {S O : Type 0} (source : SourceOf S) (out : SinkOf O) (lines due : List
 -- ---- where fewer lines are due
 
 module _ {S O : Type 0} (world : PipeOf S O) (lines due fewer : List ℕ → List ℕ) (last : List ℕ → Stop → List ℕ)
-    (limit : ℕ) (among : (given : List ℕ) → (more : List ℕ) × (due given ≡ fewer given ++ more)) (w w' : Pipe S O) where
-  fewer_put : (bytes : List ℕ)
-      → WhenLastAsked world.source (λ given. GotFirst world.out (due given) w.out w'.out) bytes w.source w'.source
-      → WhenLastAsked world.source (λ given. GotFirst world.out (fewer given) w.out w'.out) bytes w.source w'.source
-  fewer_put bytes = when_too world.source (λ given. GotFirst world.out (due given) w.out w'.out)
-      (λ given. GotFirst world.out (fewer given) w.out w'.out) bytes w.source w'.source (λ given put tells.
-      let got = put tells in
-      let first = among given in (
-        first.0 ++ got.0,
-        got.1 ∙ ap (λ (l : List ℕ). world.out.contents w.out ++ l)
-            (ap (λ (l : List ℕ). l ++ got.0) first.1 ∙ append_assoc (fewer given) first.0 got.0),
-      ))
+    (limit : ℕ) (among : (given : List ℕ) → (more : List ℕ) × (due given ≡ fewer given ++ more)) (w w' : Pipe S O)
+  where
+    fewer_put : (bytes : List ℕ)
+        → WhenLastAsked world.source (λ given. GotFirst world.out (due given) w.out w'.out) bytes w.source w'.source
+        → WhenLastAsked world.source (λ given. GotFirst world.out (fewer given) w.out w'.out) bytes w.source w'.source
+    fewer_put bytes = when_too world.source (λ given. GotFirst world.out (due given) w.out w'.out)
+        (λ given. GotFirst world.out (fewer given) w.out w'.out) bytes w.source w'.source (λ given put tells.
+        let got = put tells in
+        let first = among given in (
+          first.0 ++ got.0,
+          got.1 ∙ ap (λ (l : List ℕ). world.out.contents w.out ++ l)
+              (ap (λ (l : List ℕ). l ++ got.0) first.1 ∙ append_assoc (fewer given) first.0 got.0),
+        ))
 
-  pub prints_fewer : (cause : Cause) → Prints world lines due last limit cause w w'
-      → Prints world lines fewer last limit cause w w'
-  prints_fewer Done (inl all) = inl (record {
-    bytes = all.bytes;
-    read = all.read;
-    reason = all.reason;
-    told = all.told;
-    untold = all.untold;
-    put = all.put;
-    out_count = all.out_count;
-  })
-  prints_fewer Done (inr all) = inr (record {
-    bytes = all.bytes;
-    read = all.read;
-    reason = all.reason;
-    told = all.told;
-    untold = all.untold;
-    put = all.put;
-    out_count = all.out_count;
-  })
-  prints_fewer (Failed Source) all = record {
-    bytes = all.bytes;
-    read = all.read;
-    reason = all.reason;
-    told = all.told;
-    untold = all.untold;
-    put = all.put;
-    out_count = all.out_count;
-  }
-  prints_fewer (Failed Output) (inl cut) = inl (record {
-    bytes = cut.bytes;
-    read = cut.read;
-    told = cut.told;
-    untold = cut.untold;
-    part = cut.part;
-    in_time = fewer_put cut.bytes cut.in_time;
-    rose = cut.rose;
-  })
-  prints_fewer (Failed Output) (inr cut) = inr (record {
-    bytes = cut.bytes;
-    stop = cut.stop;
-    read = cut.read;
-    reason = cut.reason;
-    told = cut.told;
-    untold = cut.untold;
-    part = cut.part;
-    rose = cut.rose;
-  })
-  prints_fewer NoMemory stops = record {
-    bytes = stops.bytes;
-    read = stops.read;
-    told = stops.told;
-    untold = stops.untold;
-    front = stops.front;
-    in_time = fewer_put stops.bytes stops.in_time;
-    out_count = stops.out_count;
-  }
-  prints_fewer _ wrong = absurd wrong
+    all_fewer : {stop : Stop} → PrintsAll world (printed_by lines due last limit) stop w w'
+        → PrintsAll world (printed_by lines fewer last limit) stop w w'
+    all_fewer all = record {
+      bytes = all.bytes;
+      read = all.read;
+      reason = all.reason;
+      told = all.told;
+      untold = all.untold;
+      put = all.put;
+      out_count = all.out_count;
+    }
+
+    pub prints_fewer : (cause : Cause) → Prints world (printed_by lines due last limit) cause w w'
+        → Prints world (printed_by lines fewer last limit) cause w w'
+    prints_fewer Done (inl all) = inl (all_fewer all)
+    prints_fewer Done (inr all) = inr (all_fewer all)
+    prints_fewer (Failed Source) all = all_fewer all
+    prints_fewer (Failed Output) (inl cut) = inl (record {
+      bytes = cut.bytes;
+      read = cut.read;
+      told = cut.told;
+      untold = cut.untold;
+      part = cut.part;
+      in_time = fewer_put cut.bytes cut.in_time;
+      rose = cut.rose;
+    })
+    prints_fewer (Failed Output) (inr cut) = inr (record {
+      bytes = cut.bytes;
+      stop = cut.stop;
+      read = cut.read;
+      reason = cut.reason;
+      told = cut.told;
+      untold = cut.untold;
+      part = cut.part;
+      rose = cut.rose;
+    })
+    prints_fewer NoMemory stops = record {
+      bytes = stops.bytes;
+      read = stops.read;
+      told = stops.told;
+      untold = stops.untold;
+      front = stops.front;
+      in_time = fewer_put stops.bytes stops.in_time;
+      out_count = stops.out_count;
+    }
+    prints_fewer _ wrong = absurd wrong

@@ -1,31 +1,7 @@
 -- `packets` goes on by one frame, and what it puts in all.
-use Rattle.std.proofs.Common.{
-  ◌≡◌,
-  ℕ,
-  ◌+◌,
-  ◌*◌,
-  ◌<◌,
-  ◌≤◌,
-  List,
-  [],
-  ◌∷◌,
-  ◌++◌,
-  length,
-  ap,
-  ◌∙◌,
-  sym,
-  refl,
-  subst,
-  arith,
-  append_assoc,
-  append-nil,
-  inl,
-  length-append,
-  Result,
-  Ok,
-  Err,
-  ◌^◌,
-}
+use Rattle.std.proofs.Common.{◌≡◌, ℕ, ◌+◌, ◌*◌, ◌<◌, ◌≤◌, List, [], ◌∷◌, ◌++◌, length, ap, ◌∙◌, sym}
+use Rattle.std.proofs.Common.{refl, subst, arith, append_assoc, append-nil, inl, length-append}
+use Rattle.std.proofs.Common.{Result, Ok, Err, ◌^◌}
 use Rattle.std.specs.Prelude.{All}
 use Rattle.std.specs.Result.{result_ok}
 use Rattle.std.specs.List.{filter_map}
@@ -49,7 +25,7 @@ use Rattle.lr_causes.specs.Puts.{Puts, PutStops}
 use Rattle.lr_reading.specs.Arrivals.{arrivals_of, arrivals_of_units}
 use Rattle.lr_reading.specs.Reading.{units_of, WhenLastAsked}
 use Rattle.lr_reading.specs.Readers.{leeway_for}
-use Rattle.lr_reading.specs.Runs.{ReadsInput, TakesAll, TakesSome, course_of, lent}
+use Rattle.lr_reading.specs.Runs.{ReadsInput, TakesAll, TakesSome, course_of, lent, input_read}
 use Rattle.lr_reading.specs.declared.arrival.Arrival.{Arrival}
 use Rattle.lr_forms.specs.declared.forms.Input.TheVariants.{Units}
 use Rattle.lr_forms.specs.declared.forms.UnitForm.TheVariants.{Frames}
@@ -59,14 +35,8 @@ use Rattle.lr_reading.proofs.Whole.{units_long}
 use Rattle.lr_printing.specs.declared.packet_count.PacketCount.{PacketCount}
 use Rattle.lr_printing.specs.declared.packet_lines.PacketLines.{PacketLines}
 use Rattle.lr_printing.specs.Added.{lines_added}
-use Rattle.lr_printing.specs.Packets.{
-  frames_read,
-  packets_read,
-  lines_from,
-  lines_of_packets,
-  packets_text,
-  packets_last,
-}
+use Rattle.lr_printing.specs.Packets.{frames_read, packets_read, lines_from, lines_of_packets}
+use Rattle.lr_printing.specs.Packets.{packets_text, packets_last, packets_printed}
 use Rattle.lr_printing.specs.PacketsRead.{IsAfter, IsPacketCount}
 use Rattle.lr_printing.specs.PacketsTaken.{restored_frame, frames_in, text_of_packets, PacketsTook, PacketsStopped}
 use Rattle.lr_causes.specs.Outside.{pipe, pipe_of}
@@ -148,13 +118,15 @@ lines_first frames more all =
     )
 
 -- so do those of the first arrivals
-packets_grow : (bytes : List ℕ) (arrivals others : List Arrival) → arrivals_of (Units Frames) bytes ≡ arrivals ++ others
+packets_grow : (bytes : List ℕ) (arrivals others : List Arrival)
+    → arrivals_of (Units Frames) bytes ≡ arrivals ++ others
     → (first rest : List Arrival) → arrivals ≡ first ++ rest
     → (later : List ℕ) × (text_of_packets arrivals ≡ text_of_packets first ++ later)
 packets_grow bytes arrivals others all first rest is =
     let units : units_of FRAME_BYTES bytes ≡ frames_in arrivals ++ frames_in others =
     sym (frames_in-all bytes) ∙ ap frames_in all ∙ frames_in-append arrivals others in
-    let both : frames_in arrivals ≡ frames_in first ++ frames_in rest = ap frames_in is ∙ frames_in-append first rest in
+    let both : frames_in arrivals ≡ frames_in first ++ frames_in rest = ap frames_in is ∙ frames_in-append first rest
+    in
     let long : All (λ (frame : List ℕ). length frame ≡ FRAME_BYTES) (frames_in arrivals) =
     All-first (λ (frame : List ℕ). length frame ≡ FRAME_BYTES) (frames_in arrivals) (frames_in others)
     (subst (λ (l : List (List ℕ)). All (λ (frame : List ℕ). length frame ≡ FRAME_BYTES) l) units
@@ -266,7 +238,7 @@ module _ {O : Type 0} (out : SinkOf O) where
         → TakesAll (course_of source (PacketsTook out) (Units Frames) limit (leeway_for (Units Frames) 1)) totals
         (lent s before) (lent s' now)
         → (now.out.ghost_name ≡ before.out.ghost_name) × ((bytes : List ℕ)
-        × ReadsInput source (Units Frames) limit totals bytes s s'
+        × ReadsInput source (input_read (Units Frames) limit bytes) totals s s'
         × IsPacketCount now.counted (units_of FRAME_BYTES bytes)
         × Puts out (packets_text bytes) before.out.now now.out.now
         × WhenLastAsked source (λ given. (more : List ℕ) × (packets_text bytes ≡ packets_text given ++ more)) bytes
@@ -294,7 +266,7 @@ module _ {O : Type 0} (out : SinkOf O) where
         → TakesSome (course_of source (PacketsTook out) (Units Frames) limit (leeway_for (Units Frames) 1))
         (PacketsStopped out) cause (lent s before) (lent s' now)
         → (now.out.ghost_name ≡ before.out.ghost_name)
-        × Prints (pipe_of source out) packets_text packets_text packets_last limit cause (pipe s before.out.now)
+        × Prints (pipe_of source out) (packets_printed limit) cause (pipe s before.out.now)
         (pipe s' now.out.now)
     some_packets cause some =
         let stopped = some.stops before begun in

@@ -24,6 +24,7 @@ use Rattle.lr_reading.specs.Lines.{numbered_lines}
 use Rattle.lr_reading.specs.Readers.{most_when_asked}
 use Rattle.lr_reading.specs.Reading.{units_of}
 use Rattle.lr_reading.specs.declared.read_counts.ReadCounts.{ReadCounts}
+use Rattle.lr_printing.specs.Printing.{Printed, printed_by}
 
 -- the lines of these blocks, each numbered by its place
 unfoldable pub lines_of_units : UnitForm → List (List ℕ) → List ℕ
@@ -89,3 +90,8 @@ decode_count outcomes symbols left stop =
 abbrev pub decode_last : Input → List ℕ → Stop → List ℕ
 decode_last input bytes stop =
     decode_count (outcomes_of_bytes input bytes) (length bytes) (bytes_left_over input bytes) stop
+
+-- what the command prints, while this many work on windows, that takes this many bytes at most
+abbrev pub decode_printed : Input → (workers most : ℕ) → Printed
+decode_printed input workers most =
+    printed_by (decode_text input) (decode_due input workers) (decode_last input) most

@@ -8,6 +8,7 @@ use Rattle.lr_catalog.specs.Frames.{frame_line}
 use Rattle.lr_catalog.specs.Summaries.{summary_line}
 use Rattle.lr_reading.specs.Lines.{numbered_lines}
 use Rattle.lr_reading.specs.Reading.{units_of}
+use Rattle.lr_printing.specs.Printing.{Printed, printed_by}
 
 -- the lines of these frames, each numbered by its place
 unfoldable pub lines_of_frames : List (List ℕ) → List ℕ
@@ -21,3 +22,7 @@ frames_text bytes = lines_of_frames (units_of FRAME_BYTES bytes)
 abbrev pub frames_last : List ℕ → Stop → List ℕ
 frames_last bytes stop =
     summary_line (Frames (length bytes / FRAME_BYTES) (length bytes % FRAME_BYTES)) stop
+
+-- what the command prints that takes this many bytes at most
+abbrev pub frames_printed : ℕ → Printed
+frames_printed most = printed_by frames_text frames_text frames_last most

@@ -13,6 +13,7 @@ use Rattle.lr_catalog.specs.Packets.{packet_line}
 use Rattle.lr_catalog.specs.Summaries.{summary_line}
 use Rattle.lr_reading.specs.Lines.{numbered_lines}
 use Rattle.lr_reading.specs.Reading.{units_of}
+use Rattle.lr_printing.specs.Printing.{Printed, printed_by}
 
 -- the fields of the frames of version 1
 unfoldable pub frames_read : List (List ℕ) → List Fields
@@ -43,3 +44,7 @@ packets_count frames count left stop =
 abbrev pub packets_last : List ℕ → Stop → List ℕ
 packets_last bytes stop = packets_count (units_of FRAME_BYTES bytes) (length bytes / FRAME_BYTES)
     (length bytes % FRAME_BYTES) stop
+
+-- what the command prints that takes this many bytes at most
+abbrev pub packets_printed : ℕ → Printed
+packets_printed most = printed_by packets_text packets_text packets_last most

@@ -10,37 +10,46 @@ use Rattle.lr_causes.specs.declared.cause.Party.TheVariants.{Source, Output}
 use Rattle.lr_causes.specs.Outside.{Pipe, PipeOf}
 use Rattle.lr_causes.specs.Puts.{PutsPrefix}
 use Rattle.lr_io.specs.declared.sink.Sink.{Ghosts as SinkOf}
-use Rattle.lr_reading.specs.Reading.{IsRead, EndsFor, WhenLastAsked}
+use Rattle.lr_reading.specs.Reading.{IsRead, EndsFor, WhenLastAsked, within}
 
 -- `out` got this text first, and perhaps more
 abbrev pub GotFirst : {O : Type 0} → SinkOf O → List ℕ → O → O → Type 0
 GotFirst out text o o' = out.tells o → (more : List ℕ) × (out.contents o' ≡ out.contents o ++ (text ++ more))
 
--- The command's lines of the bytes read, those of them that are due before more bytes are asked for, its last line, and
--- the most bytes that it takes.
-module _ {S O : Type 0} (world : PipeOf S O) (lines due : List ℕ → List ℕ)
-    (last : List ℕ → Stop → List ℕ) (limit : ℕ) where
+-- what a command prints: its lines of the bytes read, those of them that are due before more bytes are asked for, its
+-- last line, and the most bytes that it takes
+pub record Printed : Type 0 where
+  pub lines : List ℕ → List ℕ
+  pub due : List ℕ → List ℕ
+  pub last : List ℕ → Stop → List ℕ
+  pub limit : ℕ
+
+abbrev pub printed_by : (lines due : List ℕ → List ℕ) → (List ℕ → Stop → List ℕ) → ℕ → Printed
+printed_by lines due last limit = record { lines = lines; due = due; last = last; limit = limit }
+
+module _ {S O : Type 0} (world : PipeOf S O) (printed : Printed) where
   -- all lines of the bytes read were put, and the last line
   pub record PrintsAll (stop : Stop) (w w' : Pipe S O) : Type 0 where
     pub bytes : List ℕ
-    pub read : IsRead world.source limit bytes w.source w'.source
-    pub reason : EndsFor world.source stop limit bytes w.source w'.source
+    pub read : IsRead world.source printed.limit bytes w.source w'.source
+    pub reason : EndsFor world.source stop (within printed.limit bytes) w.source w'.source
     pub told : world.out.tells w.out → world.out.tells w'.out
     pub untold : world.out.tells w'.out → world.out.tells w.out
     pub put : world.out.tells w.out
-        → world.out.contents w'.out ≡ world.out.contents w.out ++ (lines bytes ++ last bytes stop)
+        → world.out.contents w'.out ≡ world.out.contents w.out ++ (printed.lines bytes ++ printed.last bytes stop)
     pub out_count : world.out.faults w'.out ≡ world.out.faults w.out
 
   -- `out` failed in a line of the bytes read: a prefix of their lines was put, and not all of it. When the source was
   -- last asked, the lines were put that were due of the bytes that it had given
   pub record CutInLines (w w' : Pipe S O) : Type 0 where
     pub bytes : List ℕ
-    pub read : IsRead world.source limit bytes w.source w'.source
+    pub read : IsRead world.source printed.limit bytes w.source w'.source
     pub told : world.out.tells w.out → world.out.tells w'.out
     pub untold : world.out.tells w'.out → world.out.tells w.out
     pub part : world.out.tells w.out
-        → PutsPart (lines bytes) (world.out.contents w.out) (world.out.contents w'.out)
-    pub in_time : WhenLastAsked world.source (λ given. GotFirst world.out (due given) w.out w'.out) bytes w.source
+        → PutsPart (printed.lines bytes) (world.out.contents w.out) (world.out.contents w'.out)
+    pub in_time : WhenLastAsked world.source (λ given. GotFirst world.out (printed.due given) w.out w'.out) bytes
+        w.source
         w'.source
     pub rose : Rose (world.out.faults w.out) (world.out.faults w'.out)
 
@@ -48,12 +57,12 @@ module _ {S O : Type 0} (world : PipeOf S O) (lines due : List ℕ → List ℕ)
   pub record CutInLast (w w' : Pipe S O) : Type 0 where
     pub bytes : List ℕ
     pub stop : Stop
-    pub read : IsRead world.source limit bytes w.source w'.source
-    pub reason : EndsFor world.source stop limit bytes w.source w'.source
+    pub read : IsRead world.source printed.limit bytes w.source w'.source
+    pub reason : EndsFor world.source stop (within printed.limit bytes) w.source w'.source
     pub told : world.out.tells w.out → world.out.tells w'.out
     pub untold : world.out.tells w'.out → world.out.tells w.out
     pub part : world.out.tells w.out
-        → PutsPart (last bytes stop) (world.out.contents w.out ++ lines bytes)
+        → PutsPart (printed.last bytes stop) (world.out.contents w.out ++ printed.lines bytes)
         (world.out.contents w'.out)
     pub rose : Rose (world.out.faults w.out) (world.out.faults w'.out)
 
@@ -61,12 +70,13 @@ module _ {S O : Type 0} (world : PipeOf S O) (lines due : List ℕ → List ℕ)
   -- was last asked, the lines were put that were due of the bytes that it had given
   pub record StopsForMemory (w w' : Pipe S O) : Type 0 where
     pub bytes : List ℕ
-    pub read : IsRead world.source limit bytes w.source w'.source
+    pub read : IsRead world.source printed.limit bytes w.source w'.source
     pub told : world.out.tells w.out → world.out.tells w'.out
     pub untold : world.out.tells w'.out → world.out.tells w.out
     pub front : world.out.tells w.out
-        → PutsPrefix (lines bytes) (world.out.contents w.out) (world.out.contents w'.out)
-    pub in_time : WhenLastAsked world.source (λ given. GotFirst world.out (due given) w.out w'.out) bytes w.source
+        → PutsPrefix (printed.lines bytes) (world.out.contents w.out) (world.out.contents w'.out)
+    pub in_time : WhenLastAsked world.source (λ given. GotFirst world.out (printed.due given) w.out w'.out) bytes
+        w.source
         w'.source
     pub out_count : world.out.faults w'.out ≡ world.out.faults w.out
 

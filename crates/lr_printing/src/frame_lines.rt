@@ -3,10 +3,10 @@ ghost use Rattle.std.specs.Prelude.{◌≡◌, ◌<◌, ◌^◌, ◌++◌, List,
 ghost use Rattle.lr_bits.specs.Outcomes.{is_restored};
 ghost use Rattle.lr_catalog.specs.Summaries.{summary_line};
 ghost use Rattle.lr_reading.specs.Reading.{WhenLastAsked};
-ghost use Rattle.lr_reading.specs.Runs.{ReadsInput};
+ghost use Rattle.lr_reading.specs.Runs.{ReadsInput, input_read};
 ghost use Rattle.lr_forms.specs.declared.forms.Input.TheVariants.{Units};
 ghost use Rattle.lr_forms.specs.declared.forms.UnitForm.TheVariants.{Frames};
-ghost use Rattle.lr_printing.specs.Frames.{frames_text, frames_last};
+ghost use Rattle.lr_printing.specs.Frames.{frames_text, frames_printed};
 ghost use Rattle.lr_printing.specs.FrameLines.{frame_text};
 ghost use Rattle.lr_printing.specs.Printing.{Prints, PrintsAll};
 ghost use Rattle.lr_causes.specs.Outside.{pipe, pipe_of};
@@ -86,12 +86,12 @@ fn put_each_frame<S: Source, O: Sink>(
     requires alone { reader.workers ≡ 1 }
     requires few { reader.most < 2 ^ 64 }
     ensures all { IfOk result (λ totals. (bytes : List ℕ)
-        × ReadsInput S.Source (Units Frames) reader.most totals bytes source.old source.new
+        × ReadsInput S.Source (input_read (Units Frames) reader.most bytes) totals source.old source.new
         × Puts O.Sink (frames_text bytes) out.old out.new
         × WhenLastAsked S.Source (λ given. (more : List ℕ) × (frames_text bytes ≡ frames_text given ++ more))
         bytes source.old source.new) }
     ensures stopped { IfErr result (λ cause.
-        Prints (pipe_of S.Source O.Sink) frames_text frames_text frames_last reader.most cause
+        Prints (pipe_of S.Source O.Sink) (frames_printed reader.most) cause
         (pipe source.old out.old) (pipe source.new out.new)) }
 {
     let mut lines = FrameLines {
@@ -127,10 +127,10 @@ fn put_frames<S: Source, O: Sink>(
     out: &mut O,
 ) -> Result<Stop, Cause>
     ensures all { IfOk result
-        (λ stop. PrintsAll (pipe_of S.Source O.Sink) frames_text frames_text frames_last most stop
+        (λ stop. PrintsAll (pipe_of S.Source O.Sink) (frames_printed most) stop
         (pipe source.old out.old) (pipe source.new out.new)) }
     ensures stopped { IfErr result
-        (λ cause. Prints (pipe_of S.Source O.Sink) frames_text frames_text frames_last most cause
+        (λ cause. Prints (pipe_of S.Source O.Sink) (frames_printed most) cause
         (pipe source.old out.old) (pipe source.new out.new)) }
 {
     let input = Input::Units(UnitForm::Frames);
@@ -142,7 +142,7 @@ fn put_frames<S: Source, O: Sink>(
 
 /// A line for each frame of the source, and a last line. At most `most` bytes are taken.
 pub fn frames<S: Source, O: Sink>(alloc: Global, most: u64, source: &mut S, out: &mut O) -> Cause
-    ensures { Prints (pipe_of S.Source O.Sink) frames_text frames_text frames_last most result
+    ensures { Prints (pipe_of S.Source O.Sink) (frames_printed most) result
         (pipe source.old out.old) (pipe source.new out.new) }
 {
     match put_frames(alloc, most, source, out) {

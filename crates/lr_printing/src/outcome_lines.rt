@@ -6,8 +6,8 @@ ghost use Rattle.lr_reading.specs.Inputs.{outcomes_of_bytes};
 ghost use Rattle.lr_reading.specs.Leading.{MayLead, Leads};
 ghost use Rattle.lr_reading.specs.Readers.{leeway_for};
 ghost use Rattle.lr_reading.specs.Reading.{WhenLastAsked};
-ghost use Rattle.lr_reading.specs.Runs.{ReadsInput, IsLed, course_of, lent};
-ghost use Rattle.lr_printing.specs.Decode.{decode_text, decode_due, decode_last, sums_of};
+ghost use Rattle.lr_reading.specs.Runs.{ReadsInput, IsLed, course_of, lent, input_read};
+ghost use Rattle.lr_printing.specs.Decode.{decode_text, decode_due, sums_of, decode_printed};
 ghost use Rattle.lr_printing.specs.DecodeTaken.{OutcomesTook, OutcomesStopped};
 ghost use Rattle.lr_printing.specs.OutcomeLines.{outcome_text};
 ghost use Rattle.lr_printing.specs.Printing.{Prints};
@@ -121,7 +121,7 @@ fn put_each_outcome<
     ensures all { (workers : ℕ) → Leads (F.post read)
         (course_of S.Source (OutcomesTook O.Sink) input most (leeway_for input workers)) (OutcomesStopped O.Sink)
         → IfOk result (λ sums. (bytes : List ℕ)
-        × ReadsInput S.Source input most sums.0 bytes source.old source.new
+        × ReadsInput S.Source (input_read input most bytes) sums.0 source.old source.new
         × (sums.1 ≡ count_by is_restored (outcomes_of_bytes input bytes))
         × Puts O.Sink (decode_text input bytes) out.old out.new
         × WhenLastAsked S.Source
@@ -129,8 +129,8 @@ fn put_each_outcome<
         bytes source.old source.new) }
     ensures stopped { (workers : ℕ) → Leads (F.post read)
         (course_of S.Source (OutcomesTook O.Sink) input most (leeway_for input workers)) (OutcomesStopped O.Sink)
-        → IfErr result (λ cause. Prints (pipe_of S.Source O.Sink) (decode_text input) (decode_due input workers)
-        (decode_last input) most cause (pipe source.old out.old) (pipe source.new out.new)) }
+        → IfErr result (λ cause. Prints (pipe_of S.Source O.Sink) (decode_printed input workers most) cause
+        (pipe source.old out.old) (pipe source.new out.new)) }
 {
     let mut lines = OutcomeLines {
         alloc,
@@ -178,7 +178,7 @@ fn decode_with<
         (course_of S.Source (OutcomesTook O.Sink) input most (leeway_for input workers)) (OutcomesStopped O.Sink) }
     ensures { (workers : ℕ) → Leads (F.post read)
         (course_of S.Source (OutcomesTook O.Sink) input most (leeway_for input workers)) (OutcomesStopped O.Sink)
-        → Prints (pipe_of S.Source O.Sink) (decode_text input) (decode_due input workers) (decode_last input) most
+        → Prints (pipe_of S.Source O.Sink) (decode_printed input workers most)
         result (pipe source.old out.old) (pipe source.new out.new) }
 {
     let (totals, restored) = match put_each_outcome(alloc, input, most, source, out, read) {
@@ -201,7 +201,7 @@ pub fn decode_alone<S: Source, O: Sink>(
     out: &mut O,
 ) -> Cause
     requires few { most ≤ 2 ^ 48 }
-    ensures { Prints (pipe_of S.Source O.Sink) (decode_text input) (decode_due input 1) (decode_last input) most
+    ensures { Prints (pipe_of S.Source O.Sink) (decode_printed input 1 most)
         result (pipe source.old out.old) (pipe source.new out.new) }
 {
     let reader = match Reader::<FrameWork>::new(alloc, input, 1, most, &()) {
@@ -237,7 +237,7 @@ pub fn decode<R: Threads + Wait + Sync, H: Hand, S: Source, O: Sink>(
 ) -> Cause
     requires few { most ≤ 2 ^ 48 }
     requires workers { (1 ≤ workers) × (workers ≤ MOST_WORKERS) }
-    ensures { Prints (pipe_of S.Source O.Sink) (decode_text input) (decode_due input workers) (decode_last input) most
+    ensures { Prints (pipe_of S.Source O.Sink) (decode_printed input workers most)
         result (pipe source.old out.old) (pipe source.new out.new) }
 {
     let reader = match Reader::<H>::new(alloc, input, workers, most, tools) {

@@ -25,18 +25,11 @@ ghost use Rattle.lr_vc.specs.Frame.{frame_of};
 ghost use Rattle.lr_vc.specs.Standing.{ChannelsStandFor};
 ghost use Rattle.lr_packet.specs.Verdict.{good_of, good_packets};
 ghost use Rattle.lr_reading.specs.Reading.{WhenLastAsked, units_of};
-ghost use Rattle.lr_reading.specs.Runs.{ReadsInput};
+ghost use Rattle.lr_reading.specs.Runs.{ReadsInput, input_read};
 ghost use Rattle.lr_forms.specs.declared.forms.Input.TheVariants.{Units};
 ghost use Rattle.lr_forms.specs.declared.forms.UnitForm.TheVariants.{Frames};
 ghost use Rattle.lr_printing.specs.Added.{packets_added, lines_added};
-ghost use Rattle.lr_printing.specs.Packets.{
-  frames_read,
-  packets_read,
-  lines_from,
-  packets_count,
-  packets_text,
-  packets_last,
-};
+ghost use Rattle.lr_printing.specs.Packets.{frames_read, lines_from, packets_count, packets_text, packets_printed};
 ghost use Rattle.lr_printing.specs.PacketsRead.{IsAfter, IsPacketCount};
 ghost use Rattle.lr_printing.specs.Printing.{Prints, PrintsAll};
 ghost use Rattle.lr_causes.specs.Outside.{pipe, pipe_of};
@@ -202,13 +195,13 @@ fn put_each_packet<S: Source, O: Sink>(
     requires alone { reader.workers ≡ 1 }
     requires few { reader.most < 2 ^ 64 }
     ensures all { IfOk result (λ sums. (bytes : List ℕ)
-        × ReadsInput S.Source (Units Frames) reader.most sums.0 bytes source.old source.new
+        × ReadsInput S.Source (input_read (Units Frames) reader.most bytes) sums.0 source.old source.new
         × IsPacketCount sums.1 (units_of FRAME_BYTES bytes) × Puts O.Sink (packets_text bytes)
         out.old out.new
         × WhenLastAsked S.Source (λ given. (more : List ℕ) × (packets_text bytes ≡ packets_text given ++ more))
         bytes source.old source.new) }
     ensures stopped { IfErr result (λ cause.
-        Prints (pipe_of S.Source O.Sink) packets_text packets_text packets_last reader.most cause
+        Prints (pipe_of S.Source O.Sink) (packets_printed reader.most) cause
         (pipe source.old out.old) (pipe source.new out.new)) }
 {
     let mut channels = Channels::new(alloc);
@@ -259,10 +252,10 @@ fn put_packets<S: Source, O: Sink>(
     out: &mut O,
 ) -> Result<Stop, Cause>
     ensures all { IfOk result
-        (λ stop. PrintsAll (pipe_of S.Source O.Sink) packets_text packets_text packets_last most stop
+        (λ stop. PrintsAll (pipe_of S.Source O.Sink) (packets_printed most) stop
         (pipe source.old out.old) (pipe source.new out.new)) }
     ensures stopped { IfErr result
-        (λ cause. Prints (pipe_of S.Source O.Sink) packets_text packets_text packets_last most cause
+        (λ cause. Prints (pipe_of S.Source O.Sink) (packets_printed most) cause
         (pipe source.old out.old) (pipe source.new out.new)) }
 {
     let input = Input::Units(UnitForm::Frames);
@@ -275,7 +268,7 @@ fn put_packets<S: Source, O: Sink>(
 /// A line for each packet of the frames of the source, and a last line. At most `most` bytes are
 /// taken.
 pub fn packets<S: Source, O: Sink>(alloc: Global, most: u64, source: &mut S, out: &mut O) -> Cause
-    ensures { Prints (pipe_of S.Source O.Sink) packets_text packets_text packets_last most result
+    ensures { Prints (pipe_of S.Source O.Sink) (packets_printed most) result
         (pipe source.old out.old) (pipe source.new out.new) }
 {
     match put_packets(alloc, most, source, out) {

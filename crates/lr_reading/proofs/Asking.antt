@@ -1,40 +1,12 @@
 -- A source that is asked, and asked again.
-use Rattle.std.proofs.Common.{
-  ◌≡◌,
-  ◌<◌,
-  List,
-  [],
-  ◌∷◌,
-  ◌++◌,
-  length,
-  ℕ,
-  Result,
-  Ok,
-  Err,
-  inl,
-  inr,
-  ⊎_elim,
-  refl,
-  sym,
-  ap,
-  ◌∙◌,
-  subst,
-  arith,
-  append-nil,
-}
+use Rattle.std.proofs.Common.{◌≡◌, ◌<◌, List, [], ◌∷◌, ◌++◌, length, ℕ, Result, Ok, Err, inl, inr}
+use Rattle.std.proofs.Common.{⊎_elim, refl, sym, ap, ◌∙◌, subst, arith, append-nil}
 use Rattle.std.specs.List.{concat}
 use Rattle.std.proofs.lemmas.List.Folds.{concat-append}
 use Rattle.lr_bits.specs.declared.refusals.Failed.{Failed}
 use Rattle.lr_io.specs.declared.source.Source.{Ghosts as SourceOf}
-use Rattle.lr_reading.specs.Reading.{
-  AsksOnce,
-  CameInPieces,
-  HasGiven,
-  HaveGiven,
-  LastCall,
-  StopsAsking,
-  WhenLastAsked,
-}
+use Rattle.lr_reading.specs.Reading.{AsksOnce, CameInPieces, HasGiven, HaveGiven, LastCall}
+use Rattle.lr_reading.specs.Reading.{StopsAsking, WhenLastAsked}
 
 module _ {S : Type 0} (source : SourceOf S) where
   -- a call that gave this

@@ -1,16 +1,16 @@
 -- Before the first window.
-use Rattle.std.proofs.Common.{◌≡◌, ◌≤◌, ℕ, ℤ, Some, None, List, [], length, refl, sym, ap, ◌∙◌, inl, arith}
+use Rattle.std.proofs.Common.{◌≡◌, ◌≤◌, ℕ, ℤ, Some, None, [], length, refl, sym, ap, ◌∙◌, inl, arith}
 use Rattle.std.proofs.Math.Seq.{drop-nil}
 use Rattle.std.proofs.lemmas.List.Elements.{All-nil}
 use Rattle.lr_conv.specs.declared.line.LineCode.{LineCode}
 use Rattle.lr_io.specs.declared.source.Source.{Ghosts as SourceOf}
 use Rattle.lr_lock.specs.Windows.{WindowView}
-use Rattle.lr_rounds.specs.JobSources.{HasGivenNothing}
+use Rattle.lr_rounds.specs.JobSources.{HasGivenNothing, led}
 use Rattle.lr_reading.specs.Feeding.{FeedState, IsFreshFeed, FedSoFar, symbols_from, taken_since}
 use Rattle.lr_reading.specs.Intakes.{IsFreshIntake}
 use Rattle.lr_reading.specs.Reading.{at_source}
-use Rattle.lr_reading.specs.WindowSources.{StandsAt}
-use Rattle.lr_reading.specs.declared.arrival.Arrival.{Arrival}
+use Rattle.lr_reading.specs.WindowSources.{StandsAt, window_terms}
+use Rattle.lr_reading.specs.declared.consumer.Consumer.{Ghosts as ConsumerOf}
 use Rattle.lr_reading.specs.declared.window_source.WindowSource.{WindowSource}
 use Rattle.lr_reading.proofs.Asking.{came_none}
 use Rattle.lr_reading.proofs.Coming.{arrivals_given-none}
@@ -34,11 +34,11 @@ fed_begun source line limit now is fresh s = record {
 }
 
 -- the job source stands, and nothing was given
-pub may_begin : {S C : Type 0} (source : SourceOf S) (took : C → List Arrival → C → Type 0) (most : ℕ)
+pub may_begin : {S C Cause : Type 0} (source : SourceOf S) (consumer : ConsumerOf C Cause)
     (job_source : WindowSource S C) → IsFreshIntake job_source.intake.now.feed.most job_source.intake.now
-    → job_source.intake.now.feed.most ≤ most → (c : C) × took c [] job_source.consumer.now
-    → StandsAt source took most job_source job_source [] 0
-may_begin source took most job_source fresh few ready =
+    → job_source.intake.now.feed.most ≤ consumer.most → (c : C) × consumer.took c [] job_source.consumer.now
+    → StandsAt source consumer (led job_source [] 0) job_source
+may_begin source consumer job_source fresh few ready =
     let intake = job_source.intake.now in
     let line = intake.feed.lock.line in
     record {
@@ -75,8 +75,8 @@ may_begin source took most job_source fresh few ready =
       taken = λ c none. none;
     }
 
-pub begins : {S C : Type 0} (source : SourceOf S) (took : C → List Arrival → C → Type 0) (most : ℕ)
+pub begins : {S C Cause : Type 0} (source : SourceOf S) (consumer : ConsumerOf C Cause)
     (job_source : WindowSource S C) → IsFreshIntake job_source.intake.now.feed.most job_source.intake.now
-    → job_source.intake.now.feed.most ≤ most → (c : C) × took c [] job_source.consumer.now
-    → (start : WindowSource S C) × HasGivenNothing (StandsAt source took most) start job_source
-begins source took most job_source fresh few ready = (job_source, may_begin source took most job_source fresh few ready)
+    → job_source.intake.now.feed.most ≤ consumer.most → (c : C) × consumer.took c [] job_source.consumer.now
+    → (start : WindowSource S C) × HasGivenNothing (window_terms source consumer) start job_source
+begins source consumer job_source fresh few ready = (job_source, may_begin source consumer job_source fresh few ready)

@@ -1,29 +1,6 @@
 -- What comes of the input, piece by piece.
-use Rattle.std.proofs.Common.{
-  ◌≡◌,
-  ℕ,
-  ℤ,
-  ◌+◌,
-  ◌*◌,
-  ◌≤◌,
-  ◌<◌,
-  List,
-  [],
-  ◌∷◌,
-  ◌++◌,
-  length,
-  map,
-  ap,
-  ◌∙◌,
-  refl,
-  Option,
-  false,
-  None,
-  append_assoc,
-  subst,
-  arith,
-  All,
-}
+use Rattle.std.proofs.Common.{◌≡◌, ℕ, ℤ, ◌+◌, ◌*◌, ◌≤◌, ◌<◌, List, [], ◌∷◌, ◌++◌, length, map, ap}
+use Rattle.std.proofs.Common.{◌∙◌, refl, Option, false, None, append_assoc, subst, arith, All}
 use Rattle.std.specs.Prelude.{is_none}
 use Rattle.std.proofs.lemmas.List.{length-map, map-append}
 use Rattle.lr_bits.specs.declared.outcome.Outcome.{Outcome}
@@ -41,13 +18,8 @@ use Rattle.lr_lock.proofs.Bytes.{symbols_of-append}
 use Rattle.lr_lock.proofs.Existing.{frames_of-are, frames_once, given_are_prefix, prefix_stays}
 use Rattle.lr_frame.specs.Outcomes.{outcome_in, outcomes_of_symbols}
 use Rattle.lr_frame.proofs.Given.{outcomes_stay}
-use Rattle.lr_reading.specs.Arrivals.{
-  arrival_in,
-  arrival_of,
-  arrivals_of_units,
-  arrivals_of,
-  outcomes_of_arrivals,
-}
+use Rattle.lr_reading.specs.Arrivals.{arrival_in, arrival_of, arrivals_of_units, arrivals_of}
+use Rattle.lr_reading.specs.Arrivals.{outcomes_of_arrivals}
 use Rattle.lr_reading.specs.Feeding.{arrivals_given, EndsInFrame, HasOneMore, MayAsk}
 use Rattle.lr_reading.specs.Inputs.{unit_bytes, outcome_of_unit, outcomes_of_units, outcomes_of_bytes}
 use Rattle.lr_reading.specs.Reading.{units_of}

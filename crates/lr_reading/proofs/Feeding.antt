@@ -1,35 +1,7 @@
 -- Symbols are taken to windows.
-use Rattle.std.proofs.Common.{
-  ◌≡◌,
-  ◌≤◌,
-  ◌+◌,
-  ◌*◌,
-  ℕ,
-  ℤ,
-  true,
-  false,
-  List,
-  [],
-  ◌∷◌,
-  ◌++◌,
-  length,
-  map,
-  refl,
-  sym,
-  ap,
-  ◌∙◌,
-  subst,
-  arith,
-  length-append,
-  length-drop,
-  append_assoc,
-  append-nil,
-  None,
-  Some,
-  inl,
-  inr,
-  ⊎_elim,
-}
+use Rattle.std.proofs.Common.{◌≡◌, ◌≤◌, ◌+◌, ◌*◌, ℕ, ℤ, true, false, List, [], ◌∷◌, ◌++◌, length}
+use Rattle.std.proofs.Common.{map, refl, sym, ap, ◌∙◌, subst, arith, length-append, length-drop}
+use Rattle.std.proofs.Common.{append_assoc, append-nil, None, Some, inl, inr, ⊎_elim}
 use Rattle.std.specs.Prelude.{is_none}
 use Rattle.lr_bits.specs.Faults.{Rose}
 use Rattle.lr_bits.specs.declared.outcome.Outcome.{Outcome}
@@ -52,27 +24,13 @@ use Rattle.lr_reading.specs.declared.arrival.Arrival.{Arrival}
 use Rattle.lr_reading.specs.Arrivals.{arrival_in}
 use Rattle.lr_forms.specs.declared.forms.Stop.{Stop}
 use Rattle.lr_forms.specs.declared.forms.Stop.TheVariants.{End, Limit, Fault}
-use Rattle.lr_reading.specs.Reading.{CameInPieces, EndsFor, AtSource, StopsAsking, at_source}
+use Rattle.lr_reading.specs.Reading.{CameInPieces, EndsFor, AtSource, StopsAsking, at_source, within}
 use Rattle.lr_reading.proofs.Asking.{came_on, came_once, last_one, last_too, none_failed}
 use Rattle.lr_reading.proofs.Close.{ends_after, ends_weaker}
 use Rattle.lr_reading.proofs.Waiting.{next_ahead}
-use Rattle.lr_reading.specs.Feeding.{
-  FeedState,
-  SymbolSource,
-  arrivals_given,
-  FeedsPiece,
-  FeedsNone,
-  FeedsNoneFor,
-  FedSoFar,
-  FeedsOn,
-  HasOneMore,
-  MayAsk,
-  StaysNear,
-  LooksFirst,
-  GivesFrame,
-  EndsFrames,
-  Taken,
-}
+use Rattle.lr_reading.specs.Feeding.{FeedState, SymbolSource, arrivals_given, FeedsPiece, FeedsNone}
+use Rattle.lr_reading.specs.Feeding.{FeedsNoneFor, FedSoFar, FeedsOn, HasOneMore, MayAsk, StaysNear}
+use Rattle.lr_reading.specs.Feeding.{LooksFirst, GivesFrame, EndsFrames, Taken}
 
 -- a lock that is finished stands for what it stood for
 pub finished_stands : {lock : LockState} {fed : List ℤ} {given : List Frame} → LockStandsFor lock fed given
@@ -177,7 +135,7 @@ module _ {S : Type 0} (symbols : SymbolSource S) where
     still = none_failed source bytes so_far.first before.source came
 
     reason : (stop : Stop) (s' : S) → FeedsNoneFor source stop before.state before.source s'
-        → EndsFor source stop before.state.most bytes so_far.first s'
+        → EndsFor source stop (within before.state.most bytes) so_far.first s'
     reason End s' why = (omega (arith, why.0, so.long), λ told. why.1 (so.told told), why.2 ∙ still)
     reason Limit s' why = (omega (arith, why.0, so.long), why.1 ∙ still)
     reason Fault s' why = (omega (arith, why.0, so.long), subst (λ k. Rose k (source.faults s')) still why.1)
@@ -205,7 +163,7 @@ module _ {S : Type 0} (symbols : SymbolSource S) where
         moved = λ told. so.moved told ∙ ap (λ (l : List ℕ). bytes ++ l) (sym (fed.moved (so.told told)));
         asked = asked;
         going_on = λ e. absurd cc;
-        ended = λ e. subst (λ (n : FeedState). EndsFor source stop n.most bytes so_far.first now.source)
+        ended = λ e. subst (λ (n : FeedState). EndsFor source stop (within n.most bytes) so_far.first now.source)
             (sym fed.same) (reason stop now.source fed.why);
       };
       looks = looks;
@@ -229,7 +187,8 @@ module _ {S : Type 0} (symbols : SymbolSource S) where
       → later.line ≡ now.state.lock.line → later.finished ≡ now.state.lock.finished
       → FRAME_SYMBOLS * length given' + length later.kept
       ≤ FRAME_SYMBOLS * length so_far.given + length now.state.lock.kept
-      → FedSoFar symbols (record so_far { given = given' }) (at_source (record (now.state) { lock = later }) now.source)
+      → FedSoFar symbols (record so_far { given = given' })
+      (at_source (record (now.state) { lock = later }) now.source)
   stepped later so stands line_stays finished passed = record {
     stands = stands;
     line_is = line_stays ∙ so.line_is;
@@ -256,7 +215,7 @@ module _ {S : Type 0} (symbols : SymbolSource S) where
     abbrev stepped_on : AtSource FeedState S
     stepped_on = at_source (record (now.state) { lock = later }) now.source
 
-    pub window_given : GivesWindow lock later seen (symbols_of on.all) given
+    pub window_given : GivesWindow (record { before = lock; later = later }) seen (symbols_of on.all) given
         → length later.kept + FRAME_SYMBOLS ≤ length lock.kept → length lock.kept ≤ lock_symbols
         → GivesFrame symbols IsUnderWay before seen stepped_on
     window_given gives shorter fits = record {
@@ -280,11 +239,13 @@ module _ {S : Type 0} (symbols : SymbolSource S) where
         length-symbols_of on.all,
         fits,
       );
-      window_is = gives.window ∙ ap (λ (l : LineCode). window_view l (symbols_of on.all) gives.frame) on.so_far.line_is;
+      window_is = gives.window ∙ ap (λ (l : LineCode). window_view l (symbols_of on.all) gives.frame)
+          on.so_far.line_is;
       same = on.same;
     }
 
-    pub more_wanted : WantsMore lock later (symbols_of on.all) given → length later.kept ≤ length lock.kept
+    pub more_wanted : WantsMore (record { before = lock; later = later }) (symbols_of on.all) given
+        → length later.kept ≤ length lock.kept
         → FeedsOn symbols IsUnderWay before stepped_on
     more_wanted wants passes = record {
       all = on.all;
@@ -294,7 +255,8 @@ module _ {S : Type 0} (symbols : SymbolSource S) where
       same = on.same;
     }
 
-    pub all_given : HasEnded lock later (symbols_of on.all) given → length later.kept ≤ length lock.kept
+    pub all_given : HasEnded (record { before = lock; later = later }) (symbols_of on.all) given
+        → length later.kept ≤ length lock.kept
         → EndsFrames symbols IsUnderWay now.state.stop before stepped_on
     all_given ended passes = record {
       all = on.all;
@@ -308,7 +270,8 @@ module _ {S : Type 0} (symbols : SymbolSource S) where
     }
 
   -- after one feeding comes another
-  pub joined : (IsUnderWay : Type 0) {before : AtSource (Taken S) S} {all : List ℕ} {t : S} {now : AtSource FeedState S}
+  pub joined : (IsUnderWay : Type 0) {before : AtSource (Taken S) S} {all : List ℕ} {t : S}
+      {now : AtSource FeedState S}
       → FeedsOn symbols IsUnderWay (at_source (record (before.state) { bytes = all }) t) now
       → LooksFirst symbols IsUnderWay before all t
       → (IsUnderWay → StaysNear before.state.bytes before.state.given all)

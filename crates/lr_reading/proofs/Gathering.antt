@@ -1,30 +1,7 @@
 -- A piece of the source after what is held of a unit.
-use Rattle.std.proofs.Common.{
-  ◌≡◌,
-  ℕ,
-  ◌+◌,
-  ◌≤◌,
-  ◌<◌,
-  ◌⊎◌,
-  List,
-  [],
-  ◌++◌,
-  take,
-  length,
-  ap,
-  ◌∙◌,
-  sym,
-  subst,
-  refl,
-  arith,
-  append_assoc,
-  append-nil,
-  add-zero,
-  length-append,
-  inl,
-  inr,
-  ⊎_elim,
-}
+use Rattle.std.proofs.Common.{◌≡◌, ℕ, ◌+◌, ◌≤◌, ◌<◌, ◌⊎◌, List, [], ◌++◌, take, length, ap, ◌∙◌}
+use Rattle.std.proofs.Common.{sym, subst, refl, arith, append_assoc, append-nil, add-zero}
+use Rattle.std.proofs.Common.{length-append, inl, inr, ⊎_elim}
 use Rattle.std.proofs.lemmas.List.{length-take-le, take-append-le}
 use Rattle.std.proofs.Math.Seq.{take-append-add}
 use borrow.Rule.Slice.PartMut.{put_mid, post_of}

@@ -1,22 +1,6 @@
 -- Numbered lines, one after another.
-use Rattle.std.proofs.Common.{
-  ◌≡◌,
-  ℕ,
-  ◌+◌,
-  List,
-  [],
-  ◌∷◌,
-  ◌++◌,
-  length,
-  map,
-  ap,
-  ◌∙◌,
-  sym,
-  refl,
-  arith,
-  append_assoc,
-  append-nil,
-}
+use Rattle.std.proofs.Common.{◌≡◌, ℕ, ◌+◌, List, [], ◌∷◌, ◌++◌, length, map, ap, ◌∙◌, sym, refl}
+use Rattle.std.proofs.Common.{arith, append_assoc, append-nil}
 use Rattle.lr_reading.specs.Lines.{numbered_lines}
 
 module _ {A : Type 0} (line : ℕ → A → List ℕ) where

@@ -1,27 +1,6 @@
 -- A consumer is led through what comes of units.
-use Rattle.std.proofs.Common.{
-  ◌≡◌,
-  ℕ,
-  ◌+◌,
-  ◌*◌,
-  ◌%◌,
-  ◌<◌,
-  ◌≤◌,
-  List,
-  [],
-  ◌∷◌,
-  ◌++◌,
-  length,
-  ap,
-  ◌∙◌,
-  sym,
-  refl,
-  subst,
-  arith,
-  append-nil,
-  append_assoc,
-  length-append,
-}
+use Rattle.std.proofs.Common.{◌≡◌, ℕ, ◌+◌, ◌*◌, ◌%◌, ◌<◌, ◌≤◌, List, [], ◌∷◌, ◌++◌, length, ap, ◌∙◌}
+use Rattle.std.proofs.Common.{sym, refl, subst, arith, append-nil, append_assoc, length-append}
 use Rattle.std.specs.List.{concat}
 use Rattle.std.specs.Prelude.{All}
 use Rattle.std.proofs.lemmas.List.Elements.{All-push}
@@ -29,10 +8,10 @@ use Rattle.lr_bits.specs.declared.sizes.TheConstants.{FRAME_BYTES}
 use Rattle.lr_io.specs.declared.source.Source.{Ghosts as SourceOf}
 use Rattle.lr_forms.specs.declared.forms.Stop.{Stop}
 use Rattle.lr_reading.specs.Arrivals.{arrival_of, arrivals_of_units, arrivals_of}
-use Rattle.lr_reading.specs.Gathering.{UnitSizes, UnitState, IsShortOfOne, Gathers, GathersFor, GathersOn}
+use Rattle.lr_reading.specs.Gathering.{UnitSizes, UnitState, IsShortOfOne, Gathers, GathersFor, GathersOn, units_end}
 use Rattle.lr_reading.specs.Gathering.{ReadsUnits, EndsUnits}
 use Rattle.lr_reading.specs.Inputs.{unit_bytes, outcome_of_unit}
-use Rattle.lr_reading.specs.Reading.{EndsFor, at_source, units_of}
+use Rattle.lr_reading.specs.Reading.{EndsFor, at_source, units_of, within}
 use Rattle.lr_reading.specs.Readers.{leeway_for}
 use Rattle.lr_reading.specs.Runs.{ComesFirstBut, TakesAll, TakesSome, course_of, lent}
 use Rattle.lr_reading.specs.declared.arrival.Arrival.{Arrival}
@@ -42,13 +21,8 @@ use Rattle.lr_forms.specs.declared.forms.UnitForm.TheVariants.{Blocks, Frames}
 use Rattle.lr_reading.specs.declared.next.Next.TheVariants.{Ended}
 use Rattle.lr_reading.specs.declared.read_counts.ReadCounts.{ReadCounts}
 use Rattle.lr_reading.proofs.Asking.{stops_asking, when_too}
-use Rattle.lr_reading.proofs.Coming.{
-  arrivals_of_units-append,
-  arrivals_of_units-none,
-  arrivals_of_units-push,
-  arrivals_of_units-counted,
-  units_come,
-}
+use Rattle.lr_reading.proofs.Coming.{arrivals_of_units-append, arrivals_of_units-none}
+use Rattle.lr_reading.proofs.Coming.{arrivals_of_units-push, arrivals_of_units-counted, units_come}
 use Rattle.lr_reading.proofs.Fronts.{All-first}
 use Rattle.lr_reading.proofs.UnitsOf.{units_are, length-concat, long}
 use Rattle.lr_reading.proofs.UnitsRead.{begun, gathered_more, cleared, ended, concat-push}
@@ -228,7 +202,7 @@ module _ {S C : Type 0} (source : SourceOf S) (took : C → List Arrival → C �
       (so : UnitsTaken source took form n limit frames now s t before after)
       (stop : Stop) (more : Gathers source n (at_source now t) (at_source next s'))
       (why : GathersFor source n (Ended stop) t (at_source next s')) where
-    end : EndsUnits source sizes so.units (length next.held) stop s s'
+    end : EndsUnits source sizes (units_end so.units (length next.held) stop) s s'
     end = ended source sizes so.reads more stop why
 
     come : arrivals_of (Units form) (concat so.units ++ end.held) ≡ arrivals_of_units form so.units
@@ -262,7 +236,8 @@ module _ {S C : Type 0} (source : SourceOf S) (took : C → List Arrival → C �
       bytes = concat so.units ++ end.held;
       ends = record {
         read = end.read;
-        reason = subst (λ (x : Stop). EndsFor source x limit (concat so.units ++ end.held) s s') (sym stops) end.reason;
+        reason = subst (λ (x : Stop). EndsFor source x (within limit (concat so.units ++ end.held)) s s') (sym stops)
+            end.reason;
         symbols = omega (arith, symbols, taken_is, all_bytes, end.long);
         frames = omega (arith, frames_is, so.count, ap length come, arrivals_of_units-counted form so.units);
         left = rest_of form n (length so.units) totals.left (length (concat so.units ++ end.held)) size

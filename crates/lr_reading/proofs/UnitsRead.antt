@@ -1,27 +1,6 @@
 -- Units that were read, one after another.
-use Rattle.std.proofs.Common.{
-  ◌≡◌,
-  inl,
-  inr,
-  ⊎_elim,
-  ℕ,
-  ◌+◌,
-  ◌<◌,
-  List,
-  [],
-  ◌∷◌,
-  ◌++◌,
-  length,
-  ap,
-  ◌∙◌,
-  sym,
-  refl,
-  subst,
-  arith,
-  append_assoc,
-  append-nil,
-  length-append,
-}
+use Rattle.std.proofs.Common.{◌≡◌, inl, inr, ⊎_elim, ℕ, ◌+◌, ◌<◌, List, [], ◌∷◌, ◌++◌, length, ap}
+use Rattle.std.proofs.Common.{◌∙◌, sym, refl, subst, arith, append_assoc, append-nil, length-append}
 use Rattle.std.specs.List.{concat}
 use Rattle.std.proofs.lemmas.List.Folds.{concat-append}
 use Rattle.std.proofs.lemmas.List.Elements.{All-nil, All-push}
@@ -30,9 +9,9 @@ use Rattle.lr_io.specs.declared.source.Source.{Ghosts as SourceOf}
 use Rattle.lr_forms.specs.declared.forms.Stop.{Stop}
 use Rattle.lr_forms.specs.declared.forms.Stop.TheVariants.{End, Limit, Fault}
 use Rattle.lr_reading.specs.declared.next.Next.TheVariants.{Ended}
-use Rattle.lr_reading.specs.Gathering.{UnitSizes, UnitState, IsShortOfOne, Gathers, GathersFor, GathersOn}
+use Rattle.lr_reading.specs.Gathering.{UnitSizes, UnitState, IsShortOfOne, Gathers, GathersFor, GathersOn, units_end}
 use Rattle.lr_reading.specs.Gathering.{ReadsUnits, EndsUnits}
-use Rattle.lr_reading.specs.Reading.{CameInPieces, EndsFor, LastCall, AtSource, WhenLastAsked, at_source}
+use Rattle.lr_reading.specs.Reading.{CameInPieces, EndsFor, LastCall, AtSource, WhenLastAsked, at_source, within}
 use Rattle.lr_reading.proofs.Asking.{came_none, came_on, none_failed, stops_asking, when_too}
 
 -- the bytes of one unit more
@@ -45,7 +24,8 @@ module _ {S : Type 0} (source : SourceOf S) (sizes : UnitSizes) where
   n = sizes.unit
 
   -- nothing is read
-  pub begun : (s : S) → ReadsUnits source sizes [] s (at_source (record { held = []; taken = 0; most = sizes.limit }) s)
+  pub begun : (s : S) → ReadsUnits source sizes [] s
+      (at_source (record { held = []; taken = 0; most = sizes.limit }) s)
   begun s = record {
     whole = All-nil (λ (u : List ℕ). length u ≡ n);
     taken = refl;
@@ -114,7 +94,7 @@ module _ {S : Type 0} (source : SourceOf S) (sizes : UnitSizes) where
 
     -- and the reading ended with a rest
     pub ended : (stop : Stop) → GathersFor source n (Ended stop) before.source now
-        → EndsUnits source sizes units (length now.state.held) stop s now.source
+        → EndsUnits source sizes (units_end units (length now.state.held) stop) s now.source
     ended stop why = record {
       held = now.state.held;
       long = refl;
@@ -140,7 +120,7 @@ module _ {S : Type 0} (source : SourceOf S) (sizes : UnitSizes) where
         still = none_failed source old s before.source reads.going_on
 
         reason_of : (x : Stop) → GathersFor source n (Ended x) before.source now
-            → EndsFor source x sizes.limit bytes s now.source
+            → EndsFor source x (within sizes.limit bytes) s now.source
         reason_of End w =
             (omega (arith, all, w.1, more.most, reads.most), λ tells. w.2 (reads.told tells), w.3 ∙ still)
         reason_of Limit w = (omega (arith, all, w.1, more.most, reads.most), w.2 ∙ still)

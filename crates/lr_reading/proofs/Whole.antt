@@ -1,24 +1,6 @@
 -- Each frame that was restored is whole.
-use Rattle.std.proofs.Common.{
-  ◌≡◌,
-  ℕ,
-  ◌+◌,
-  ◌*◌,
-  ◌/◌,
-  ◌≤◌,
-  ℤ,
-  List,
-  [],
-  ◌∷◌,
-  length,
-  drop,
-  map,
-  refl,
-  arith,
-  zero,
-  suc,
-  length-drop,
-}
+use Rattle.std.proofs.Common.{◌≡◌, ℕ, ◌+◌, ◌*◌, ◌/◌, ◌≤◌, ℤ, List, [], ◌∷◌, length, drop, map, refl}
+use Rattle.std.proofs.Common.{arith, zero, suc, length-drop}
 use Rattle.std.specs.Prelude.{All}
 use Rattle.std.specs.List.{range_with_len}
 use Rattle.std.proofs.lemmas.List.{length-take-le}

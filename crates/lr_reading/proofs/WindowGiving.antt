@@ -15,7 +15,7 @@ use Rattle.lr_reading.specs.Arrivals.{arrival_in}
 use Rattle.lr_reading.specs.Feeding.{SymbolSource, arrivals_given, FeedsOn, MayAsk, LooksFirst, GivesFrame, EndsFrames}
 use Rattle.lr_reading.specs.Reading.{AtSource, at_source}
 use Rattle.lr_reading.specs.WindowSources.{arrival_of_window, AreOfLine, LooksForSpare, IsGiven, GivesMore}
-use Rattle.lr_reading.specs.WindowSources.{IsOver, Progress}
+use Rattle.lr_reading.specs.WindowSources.{IsOver, Progress, stream_of}
 use Rattle.lr_reading.specs.declared.arrival.Arrival.{Arrival}
 use Rattle.lr_reading.specs.declared.intake.Intake.{Intake}
 use Rattle.lr_reading.proofs.Coming.{arrivals_given-push, arrivals_given-counted}
@@ -24,7 +24,7 @@ use Rattle.lr_reading.proofs.Close.{gains_close, stays_close}
 use Rattle.lr_reading.proofs.WindowJobs.{as_many}
 
 module _ {S : Type 0} (symbols : SymbolSource S) (limit : ℕ) {so_far : Progress S} {old : AtSource Intake S}
-    (so : IsGiven symbols limit so_far old) where
+    (so : IsGiven (stream_of symbols limit) so_far old) where
   abbrev line : LineCode
   line = symbols.line
 
@@ -58,7 +58,8 @@ module _ {S : Type 0} (symbols : SymbolSource S) (limit : ℕ) {so_far : Progres
         → GivesFrame symbols IsUnderWay (at_source so_far.taken old.source) window (at_source intake'.feed s')
         → intake'.feed.most ≡ old.state.feed.most → intake'.ended ≡ None → intake'.frames ≡ old.state.frames
         → AreOfLine line intake'.spare.items → length intake'.feed.lock.kept ≤ most_kept
-        → GivesMore symbols limit (record so_far { windows = so_far.windows ++ window ∷ [] }) old (at_source intake' s')
+        → GivesMore (stream_of symbols limit) (record so_far { windows = so_far.windows ++ window ∷ [] }) old
+        (at_source intake' s')
     gives_window window gives most still frames lines short = record {
       all = gives.all;
       every = given ++ gives.frame ∷ [];
@@ -97,7 +98,7 @@ module _ {S : Type 0} (symbols : SymbolSource S) (limit : ℕ) {so_far : Progres
       gives_none : (on : FeedsOn symbols IsUnderWay (at_source so_far.taken old.source) (at_source intake'.feed s'))
           → ((stop : Stop) → intake'.ended ≡ Some stop → IsOver line on.all given intake'.feed stop)
           → (intake'.ended ≡ None → length intake'.feed.lock.kept ≤ most_kept)
-          → GivesMore symbols limit so_far old (at_source intake' s')
+          → GivesMore (stream_of symbols limit) so_far old (at_source intake' s')
       gives_none on over short = record {
         all = on.all;
         every = given;
@@ -123,7 +124,7 @@ module _ {S : Type 0} (symbols : SymbolSource S) (limit : ℕ) {so_far : Progres
 
       pub ends_input : (stop : Stop)
           → EndsFrames symbols IsUnderWay stop (at_source so_far.taken old.source) (at_source intake'.feed s')
-          → intake'.ended ≡ Some stop → GivesMore symbols limit so_far old (at_source intake' s')
+          → intake'.ended ≡ Some stop → GivesMore (stream_of symbols limit) so_far old (at_source intake' s')
       ends_input stop ends ended = gives_none
           (record { all = ends.all; so_far = ends.so_far; looks = ends.looks; near = ends.near; same = ends.same })
           (λ other e. let same : Some stop ≡ Some other = sym ended ∙ e in record {
@@ -136,6 +137,6 @@ module _ {S : Type 0} (symbols : SymbolSource S) (limit : ℕ) {so_far : Progres
       -- no frame was found yet
       pub waits_more : FeedsOn symbols IsUnderWay (at_source so_far.taken old.source) (at_source intake'.feed s')
           → intake'.ended ≡ None → length intake'.feed.lock.kept < WINDOW_END
-          → GivesMore symbols limit so_far old (at_source intake' s')
+          → GivesMore (stream_of symbols limit) so_far old (at_source intake' s')
       waits_more on still few = gives_none on
           (λ stop e. absurd (let clash : None ≡ Some stop = sym still ∙ e in cc)) (λ e. omega (arith, few))

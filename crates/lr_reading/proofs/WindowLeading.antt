@@ -17,7 +17,7 @@ use Rattle.lr_lock.specs.Symbols.{symbols_of}
 use Rattle.lr_lock.specs.Windows.{WindowView}
 use Rattle.lr_lock.specs.declared.frame.Frame.{Frame}
 use Rattle.lr_forms.specs.declared.forms.Input.TheVariants.{Symbols}
-use Rattle.lr_rounds.specs.JobSources.{Gives, IsDoneNext, Keeps, EndsWell, IsDriveFault}
+use Rattle.lr_rounds.specs.JobSources.{led, Gives, IsDoneNext, Keeps, EndsWell, IsDriveFault}
 use Rattle.lr_rounds.specs.declared.job_source.NextJob.{NextJob}
 use Rattle.lr_rounds.specs.declared.job_source.NextJob.TheVariants.{Job, NotYet, Finished}
 use Rattle.lr_bits.specs.declared.outcome.Outcome.{Outcome}
@@ -28,22 +28,23 @@ use Rattle.lr_forms.specs.declared.forms.Stop.{Stop}
 use Rattle.lr_rounds.specs.declared.drive_fault.DriveFault.{DriveFault}
 use Rattle.lr_rounds.specs.declared.drive_fault.DriveFault.TheVariants.{NoMemory, Stopped}
 use Rattle.lr_reading.specs.Readers.{AreAllThatWait, EndsInNoise}
-use Rattle.lr_reading.specs.Feeding.{SymbolSource, symbols_from, taken_since, arrivals_given, EndsInFrame, MayAsk}
+use Rattle.lr_reading.specs.Feeding.{symbols_from, taken_since, arrivals_given, EndsInFrame, MayAsk}
 use Rattle.lr_reading.specs.Feeding.{FeedState, FedSoFar}
 use Rattle.lr_reading.specs.Reading.{WhenLastAsked, at_source}
 use Rattle.lr_reading.specs.Runs.{ComesFirstBut, TakesSome, lent}
-use Rattle.lr_reading.specs.WindowSources.{HasWindows, first_arrivals, windows_left, GivesMore, HasNextJob}
+use Rattle.lr_reading.specs.WindowSources.{HasWindows, first_arrivals, GivesMore, HasNextJob, stream_of}
 use Rattle.lr_reading.specs.WindowSources.{LeavesFewer, StandsAt, progress, arrival_of_window, AreOfLine, IsOver}
 use Rattle.lr_reading.specs.WindowSources.{left_to_feed, course_from, lent_in, MayHandOver, StopsAt, ComesTo}
+use Rattle.lr_reading.specs.WindowSources.{WindowStream, window_terms}
 use Rattle.lr_reading.specs.declared.arrival.Arrival.{Arrival}
+use Rattle.lr_reading.specs.declared.consumer.Consumer.{Ghosts as ConsumerOf}
 use Rattle.lr_reading.specs.declared.window_source.WindowSource.{WindowSource}
 use Rattle.lr_reading.specs.declared.arrival.Position.{Position}
 use Rattle.lr_reading.specs.declared.read_counts.ReadCounts.{ReadCounts}
 use Rattle.lr_reading.proofs.Asking.{last_too}
 use Rattle.lr_reading.proofs.Fronts.{front_of}
 use Rattle.lr_reading.proofs.WindowJobs.{as_many, oldest_line, handed_more}
-use Rattle.lr_reading.proofs.WindowGiving.{given_is}
-use Rattle.lr_reading.proofs.WindowLed.{few_windows, in_time_on, led_some, led_all}
+use Rattle.lr_reading.proofs.WindowLed.{few_windows, frames_given, in_time_on, led_some, led_all}
 use Rattle.lr_reading.proofs.Close.{close_later}
 use Rattle.lr_reading.proofs.Refusing.{stops_at_once}
 
@@ -76,17 +77,14 @@ no_noise line given bytes ends noise =
 
 -- ---- the job source
 
-module _ {S C : Type 0} (source : SourceOf S) (took : C → List Arrival → C → Type 0) (most : ℕ)
+module _ {S C Cause : Type 0} (source : SourceOf S) (consumer : ConsumerOf C Cause)
     {start before : WindowSource S C} {windows : List WindowView} {kept : ℕ}
-    (at : StandsAt source took most start before windows kept) where
+    (at : StandsAt source consumer (led start windows kept) before) where
   abbrev line : LineCode
   line = start.intake.now.feed.lock.line
 
-  abbrev stream : SymbolSource S
-  stream = symbols_from source line
-
-  abbrev limit : ℕ
-  limit = start.intake.now.feed.most
+  abbrev stream : WindowStream S
+  stream = stream_of (symbols_from source line) start.intake.now.feed.most
 
   abbrev first : List Arrival
   first = first_arrivals line at.bytes at.given kept
@@ -100,9 +98,9 @@ module _ {S C : Type 0} (source : SourceOf S) (took : C → List Arrival → C �
     -- the job source stands, where it gave more windows
     stands_more : (windows' : List WindowView) → HasWindows (length windows') kept now.intake.now
         → vec_capacity now.intake.now.spare ≡ vec_capacity before.intake.now.spare → kept ≤ length windows'
-        → GivesMore stream limit (progress (taken_since start.source.now at.bytes at.given) windows' kept)
+        → GivesMore stream (progress (taken_since start.source.now at.bytes at.given) windows' kept)
         (at_source before.intake.now before.source.now) (at_source now.intake.now now.source.now)
-        → StandsAt source took most start now windows' kept
+        → StandsAt source consumer (led start windows' kept) now
     stands_more windows' has room behind more = record {
       same_intake = same_intake ∙ at.same_intake;
       same_source = same_source ∙ at.same_source;
@@ -116,11 +114,11 @@ module _ {S C : Type 0} (source : SourceOf S) (took : C → List Arrival → C �
       bytes = more.all;
       given = more.every;
       is_given = more.is_given;
-      close = more.close kept (omega (arith, at.behind, given_is stream limit at.is_given))
-          (λ under_way. omega (arith, under_way, at.has_windows.all, given_is stream limit at.is_given)) at.close;
+      close = more.close kept (omega (arith, at.behind, frames_given source consumer at))
+          (λ under_way. omega (arith, under_way, at.has_windows.all, frames_given source consumer at)) at.close;
       in_time = in_time;
-      taken = λ c none. subst (λ (n : C). took c (first_arrivals line more.all more.every kept) n) (sym consumer_is)
-          (subst (λ (l : List Arrival). took c l before.consumer.now) (sym same) (at.taken c none));
+      taken = λ c none. subst (consumer.took c (first_arrivals line more.all more.every kept)) (sym consumer_is)
+          (subst (λ (l : List Arrival). consumer.took c l before.consumer.now) (sym same) (at.taken c none));
     }
       where
         same : first_arrivals line more.all more.every kept ≡ first
@@ -191,17 +189,17 @@ module _ {S C : Type 0} (source : SourceOf S) (took : C → List Arrival → C �
             first) (due last.0) last.1)) more.looks)
 
     pub gives : (offer : NextJob WindowView)
-        → HasNextJob stream limit offer (progress (taken_since start.source.now at.bytes at.given) windows kept)
+        → HasNextJob stream offer
+        (progress (taken_since start.source.now at.bytes at.given) windows kept)
         (at_source before.intake.now before.source.now) (at_source now.intake.now now.source.now)
         → LeavesFewer offer before.intake.now now.intake.now
-        → Gives (StandsAt source took most) (λ (l : WindowSource S C). IsSome l.intake.now.ended)
-        (λ (l : WindowSource S C). windows_left l.intake.now) windows kept start before now offer
+        → Gives (window_terms source consumer) (led start windows kept) before now offer
     gives (Job window) more less = record {
       one_more = stands_more (windows ++ window ∷ []) (record {
         some = omega (arith, less.1, at.has_windows.some);
         all = omega (arith, less.0, less.1, at.has_windows.all, length-append windows (window ∷ []));
       }) less.1 (omega (arith, at.behind, length-append windows (window ∷ []))) more;
-      few = omega (arith, few_windows source took most at, at.small);
+      few = omega (arith, few_windows source consumer at, at.small);
       fewer = less.2;
     }
     gives NotYet waits less = (
@@ -237,7 +235,7 @@ module _ {S C : Type 0} (source : SourceOf S) (took : C → List Arrival → C �
     below : kept < length windows
     below = at_length windows kept next.0 next.1
 
-    pub may_hand_over : MayHandOver took most before.consumer.now
+    pub may_hand_over : MayHandOver consumer.took consumer.most before.consumer.now
     may_hand_over = record {
       first = at.ready.0;
       arrivals = first;
@@ -246,7 +244,7 @@ module _ {S C : Type 0} (source : SourceOf S) (took : C → List Arrival → C �
         arith,
         length-take kept (arrivals_given line at.bytes at.given),
         below,
-        few_windows source took most at,
+        few_windows source consumer at,
         at.few,
       );
     }
@@ -255,7 +253,7 @@ module _ {S C : Type 0} (source : SourceOf S) (took : C → List Arrival → C �
     spare_room = omega (arith, at.has_windows.all, below)
 
     pub few_frames : before.intake.now.frames < 2 ^ 60
-    few_frames = omega (arith, at.is_given.jobs.count, below, few_windows source took most at, at.small)
+    few_frames = omega (arith, at.is_given.jobs.count, below, few_windows source consumer at, at.small)
 
     handed : first_arrivals line at.bytes at.given (kept + 1) ≡ first ++ arrival_of_window done.window ∷ []
     handed = handed_more at.is_given.jobs next.0 next.1
@@ -269,10 +267,9 @@ module _ {S C : Type 0} (source : SourceOf S) (took : C → List Arrival → C �
           → vec_capacity now.intake.now.spare ≡ vec_capacity before.intake.now.spare
           → now.intake.now.feed ≡ before.intake.now.feed → now.intake.now.ended ≡ before.intake.now.ended
           → now.intake.now.frames ≡ before.intake.now.frames + 1
-          → ((c : C) (arrivals : List Arrival) → took c arrivals before.consumer.now
-          → took c (arrivals ++ arrival_of_window done.window ∷ []) now.consumer.now)
-          → Keeps (StandsAt source took most) (λ (l : WindowSource S C). IsSome l.intake.now.ended)
-          (λ (l : WindowSource S C). windows_left l.intake.now) windows kept start before now
+          → ((c : C) (arrivals : List Arrival) → consumer.took c arrivals before.consumer.now
+          → consumer.took c (arrivals ++ arrival_of_window done.window ∷ []) now.consumer.now)
+          → Keeps (window_terms source consumer) (led start windows kept) before now
       keeps spare room feed ended frames takes = record {
         one_more = record {
           same_intake = same_intake ∙ at.same_intake;
@@ -296,9 +293,9 @@ module _ {S C : Type 0} (source : SourceOf S) (took : C → List Arrival → C �
           bytes = at.bytes;
           given = at.given;
           is_given = record {
-            feeds = subst (λ (s : S). FedSoFar stream (taken_since start.source.now at.bytes at.given)
+            feeds = subst (λ (s : S). FedSoFar stream.symbols (taken_since start.source.now at.bytes at.given)
                 (at_source now.intake.now.feed s))
-                (sym source_is) (subst (λ (f : FeedState). FedSoFar stream
+                (sym source_is) (subst (λ (f : FeedState). FedSoFar stream.symbols
                 (taken_since start.source.now at.bytes at.given) (at_source f before.source.now))
                 (sym feed) at.is_given.feeds);
             limit_is = ap (λ (f : FeedState). f.most) feed ∙ at.is_given.limit_is;
@@ -328,9 +325,9 @@ module _ {S C : Type 0} (source : SourceOf S) (took : C → List Arrival → C �
           close = close_later kept at.given (length at.bytes) at.close;
           in_time = subst (λ (s : S). WhenLastAsked source (ComesFirstBut (Symbols line)
               (vec_capacity start.intake.now.spare) 0 (first_arrivals line at.bytes at.given (kept + 1))) at.bytes
-              start.source.now s) (sym source_is) (in_time_on source took most at (kept + 1) 0 (omega arith)
+              start.source.now s) (sym source_is) (in_time_on source consumer at (kept + 1) 0 (omega arith)
               (omega (arith, below)));
-          taken = λ c none. subst (λ (l : List Arrival). took c l now.consumer.now) (sym handed)
+          taken = λ c none. subst (λ (l : List Arrival). consumer.took c l now.consumer.now) (sym handed)
               (takes c first (at.taken c none));
         };
         no_more = omega (
@@ -341,61 +338,59 @@ module _ {S C : Type 0} (source : SourceOf S) (took : C → List Arrival → C �
         still_over = λ said. subst (λ (o : Option Stop). IsSome o) (sym ended) said;
       }
 
-      pub stops : {Cause : Type 0} (stopped : C → List Arrival → Cause → C → Type 0) (cause : Cause)
-          → ((c : C) (arrivals : List Arrival) → took c arrivals before.consumer.now
-          → stopped c (arrivals ++ arrival_of_window done.window ∷ []) cause now.consumer.now)
-          → StopsAt source took stopped start cause now
-      stops {Cause} stopped cause at_last = record {
+      pub stops : (cause : Cause)
+          → ((c : C) (arrivals : List Arrival) → consumer.took c arrivals before.consumer.now
+          → consumer.stopped c (arrivals ++ arrival_of_window done.window ∷ []) cause now.consumer.now)
+          → StopsAt source consumer start cause now
+      stops cause at_last = record {
         same_intake = same_intake ∙ at.same_intake;
         same_source = same_source ∙ at.same_source;
         same_consumer = same_consumer ∙ at.same_consumer;
-        some = subst (λ (s : S). TakesSome (course_from source took start) stopped cause (lent_in start)
-            (lent s now.consumer.now)) (sym source_is)
-            (led_some source took most at (kept + 1) (omega arith) (omega (arith, below)) stopped cause now.consumer.now
-            (λ c none. subst (λ (l : List Arrival). stopped c l cause now.consumer.now) (sym handed)
+        some = subst (λ (s : S). TakesSome (course_from source consumer.took start) consumer.stopped cause
+            (lent_in start) (lent s now.consumer.now)) (sym source_is)
+            (led_some source consumer at (kept + 1) (omega arith) (omega (arith, below)) cause now.consumer.now
+            (λ c none. subst (λ (l : List Arrival). consumer.stopped c l cause now.consumer.now) (sym handed)
             (at_last c first (at.taken c none))));
       }
 
-      pub keeps_on_ok : {Cause : Type 0} (came : Result (Unit {0}) Cause)
+      pub keeps_on_ok : (came : Result (Unit {0}) Cause)
           → OnOk came (now.intake.now.spare.items ≡ before.intake.now.spare.items ++ done.window ∷ [])
           → OnOk came (vec_capacity now.intake.now.spare ≡ vec_capacity before.intake.now.spare)
           → OnOk came ((now.intake.now.feed ≡ before.intake.now.feed)
           × (now.intake.now.ended ≡ before.intake.now.ended)
           × (now.intake.now.frames ≡ before.intake.now.frames + 1))
-          → ((c : C) (arrivals : List Arrival) → took c arrivals before.consumer.now
-          → OnOk came (took c (arrivals ++ arrival_of_window done.window ∷ []) now.consumer.now))
-          → OnOk came (Keeps (StandsAt source took most) (λ (l : WindowSource S C). IsSome l.intake.now.ended)
-          (λ (l : WindowSource S C). windows_left l.intake.now) windows kept start before now)
+          → ((c : C) (arrivals : List Arrival) → consumer.took c arrivals before.consumer.now
+          → OnOk came (consumer.took c (arrivals ++ arrival_of_window done.window ∷ []) now.consumer.now))
+          → OnOk came (Keeps (window_terms source consumer) (led start windows kept) before now)
       keeps_on_ok (Ok nothing) spare room same takes = keeps spare room same.0 same.1 same.2 takes
       keeps_on_ok (Err cause) spare room same takes = tt
 
-      pub stops_on_err : {Cause : Type 0} (stopped : C → List Arrival → Cause → C → Type 0)
-          (came : Result (Unit {0}) Cause)
-          → ((c : C) (arrivals : List Arrival) → took c arrivals before.consumer.now
-          → IfErr came (λ cause. stopped c (arrivals ++ arrival_of_window done.window ∷ []) cause now.consumer.now))
-          → IfErr came (λ cause. StopsAt source took stopped start cause now)
-      stops_on_err stopped (Ok nothing) at_last = tt
-      stops_on_err stopped (Err cause) at_last = stops stopped cause at_last
+      pub stops_on_err : (came : Result (Unit {0}) Cause)
+          → ((c : C) (arrivals : List Arrival) → consumer.took c arrivals before.consumer.now
+          → IfErr came (λ cause.
+          consumer.stopped c (arrivals ++ arrival_of_window done.window ∷ []) cause now.consumer.now))
+          → IfErr came (λ cause. StopsAt source consumer start cause now)
+      stops_on_err (Ok nothing) at_last = tt
+      stops_on_err (Err cause) at_last = stops cause at_last
 
 -- ---- what it came to
 
-module _ {S C : Type 0} (source : SourceOf S) (took : C → List Arrival → C → Type 0) (most : ℕ)
-    {Cause : Type 0} (stopped : C → List Arrival → Cause → C → Type 0) {start now : WindowSource S C} where
+module _ {S C Cause : Type 0} (source : SourceOf S) (consumer : ConsumerOf C Cause)
+    {start now : WindowSource S C} where
   -- the input ended, and the consumer took all
-  pub comes_to_end : EndsWell (StandsAt source took most) (λ (l : WindowSource S C). IsSome l.intake.now.ended) start
-      now
+  pub comes_to_end : EndsWell (window_terms source consumer) start now
       → (totals : ReadCounts) → now.intake.now.ended ≡ Some totals.stop → totals.symbols ≡ now.intake.now.feed.taken
       → totals.frames ≡ now.intake.now.frames → totals.left ≡ 0
-      → ComesTo source took stopped (Ok totals) start now
+      → ComesTo source consumer (Ok totals) start now
   comes_to_end ends totals ended symbols frames left = record {
     same_source = ends.all_kept.same_source;
     same_consumer = ends.all_kept.same_consumer;
-    led = led_all source took most ends.all_kept refl totals ended symbols frames left;
+    led = led_all source consumer ends.all_kept refl totals ended symbols frames left;
   }
 
   -- the consumer stopped
-  pub comes_to_stop : (cause : Cause) → StopsAt source took stopped start cause now
-      → ComesTo source took stopped (Err cause) start now
+  pub comes_to_stop : (cause : Cause) → StopsAt source consumer start cause now
+      → ComesTo source consumer (Err cause) start now
   comes_to_stop cause stops = record {
     same_source = stops.same_source;
     same_consumer = stops.same_consumer;
@@ -404,21 +399,22 @@ module _ {S C : Type 0} (source : SourceOf S) (took : C → List Arrival → C �
 
   -- it stopped, or there was no memory for threads
   pub comes_to_undriven : (why : DriveFault Cause) (cause : Cause) → why ≡ Stopped cause
-      → IsDriveFault (StopsAt source took stopped) why start start now
-      → ComesTo source took stopped (Err cause) start now
+      → IsDriveFault (window_terms source consumer) why start start now
+      → ComesTo source consumer (Err cause) start now
   comes_to_undriven why cause is undriven = comes_to_stop cause
-      (subst (λ (u : DriveFault Cause). IsDriveFault (StopsAt source took stopped) u start start now) is undriven)
+      (subst (λ (u : DriveFault Cause). IsDriveFault (window_terms source consumer) u start start now) is undriven)
 
   pub comes_to_no_memory : (why : DriveFault Cause) (cause : Cause) → why ≡ NoMemory
-      → IsDriveFault (StopsAt source took stopped) why start start now
-      → ((c : C) (arrivals : List Arrival) → took c arrivals now.consumer.now
-      → stopped c arrivals cause now.consumer.now)
-      → ComesTo source took stopped (Err cause) start now
+      → IsDriveFault (window_terms source consumer) why start start now
+      → ((c : C) (arrivals : List Arrival) → consumer.took c arrivals now.consumer.now
+      → consumer.stopped c arrivals cause now.consumer.now)
+      → ComesTo source consumer (Err cause) start now
   comes_to_no_memory why cause is undriven stops =
       let same : now ≡ start =
-      subst (λ (u : DriveFault Cause). IsDriveFault (StopsAt source took stopped) u start start now) is undriven in
-      subst (λ (first : WindowSource S C). ComesTo source took stopped (Err cause) first now) same (record {
+      subst (λ (u : DriveFault Cause). IsDriveFault (window_terms source consumer) u start start now) is undriven in
+      subst (λ (first : WindowSource S C). ComesTo source consumer (Err cause) first now) same (record {
         same_source = refl;
         same_consumer = refl;
-        led = stops_at_once (course_from source took now) (omega arith) stopped cause (lent_in now) stops;
+        led = stops_at_once (course_from source consumer.took now) (omega arith) consumer.stopped cause (lent_in now)
+            stops;
       })

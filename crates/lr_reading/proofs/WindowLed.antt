@@ -14,6 +14,7 @@ use Rattle.lr_conv.specs.declared.line.LineCode.{LineCode}
 use Rattle.lr_io.specs.declared.source.Source.{Ghosts as SourceOf}
 use Rattle.lr_lock.specs.Frames.{AreNext, place_after_frame}
 use Rattle.lr_lock.proofs.Existing.{given_are_prefix}
+use Rattle.lr_rounds.specs.JobSources.{led}
 use Rattle.lr_reading.specs.Readers.{ahead_with}
 use Rattle.lr_lock.specs.Symbols.{symbols_of}
 use Rattle.lr_lock.specs.Windows.{WindowView}
@@ -22,11 +23,12 @@ use Rattle.lr_forms.specs.declared.forms.Input.TheVariants.{Symbols}
 use Rattle.lr_forms.specs.declared.forms.Stop.{Stop}
 use Rattle.lr_forms.specs.declared.forms.Stop.TheVariants.{End, Limit, Fault}
 use Rattle.lr_reading.specs.Arrivals.{arrivals_of}
-use Rattle.lr_reading.specs.Feeding.{SymbolSource, symbols_from, arrivals_given}
-use Rattle.lr_reading.specs.Reading.{EndsFor, WhenLastAsked}
+use Rattle.lr_reading.specs.Feeding.{symbols_from, arrivals_given}
+use Rattle.lr_reading.specs.Reading.{EndsFor, WhenLastAsked, within}
 use Rattle.lr_reading.specs.Runs.{ComesFirstBut, TakesAll, TakesSome, lent}
 use Rattle.lr_reading.specs.WindowSources.{IsOver, first_arrivals, course_from, lent_in, StandsAt}
 use Rattle.lr_reading.specs.declared.arrival.Arrival.{Arrival}
+use Rattle.lr_reading.specs.declared.consumer.Consumer.{Ghosts as ConsumerOf}
 use Rattle.lr_reading.specs.declared.read_counts.ReadCounts.{ReadCounts}
 use Rattle.lr_reading.specs.declared.window_source.WindowSource.{WindowSource}
 use Rattle.lr_reading.proofs.Coming.{arrivals_few, arrivals_first, arrivals_go_on, arrivals_all}
@@ -38,20 +40,17 @@ use Rattle.lr_reading.proofs.WindowJobs.{as_many}
 
 -- nothing is left where neither a fault nor the limit ended the reading
 nothing_left : {S : Type 0} (source : SourceOf S) (stop : Stop) (limit : ℕ) (bytes : List ℕ) (s s' : S)
-    → EndsFor source stop limit bytes s s' → source.tells s → length bytes < limit
+    → EndsFor source stop (within limit bytes) s s' → source.tells s → length bytes < limit
     → (Rose (source.faults s) (source.faults s') → ⊥) → source.left s' ≡ []
 nothing_left source End limit bytes s s' why told few calm = why.1 told
 nothing_left source Limit limit bytes s s' why told few calm = absurd (omega (arith, why.0, few))
 nothing_left source Fault limit bytes s s' why told few calm = absurd (calm why.1)
 
-module _ {S C : Type 0} (source : SourceOf S) (took : C → List Arrival → C → Type 0) (most : ℕ)
+module _ {S C Cause : Type 0} (source : SourceOf S) (consumer : ConsumerOf C Cause)
     {start before : WindowSource S C} {windows : List WindowView} {kept : ℕ}
-    (at : StandsAt source took most start before windows kept) where
+    (at : StandsAt source consumer (led start windows kept) before) where
   abbrev line : LineCode
   line = start.intake.now.feed.lock.line
-
-  abbrev stream : SymbolSource S
-  stream = symbols_from source line
 
   abbrev limit : ℕ
   limit = start.intake.now.feed.most
@@ -59,8 +58,12 @@ module _ {S C : Type 0} (source : SourceOf S) (took : C → List Arrival → C �
   abbrev first : List Arrival
   first = first_arrivals line at.bytes at.given kept
 
+  -- as many frames were given as windows
+  pub frames_given : length windows ≡ length at.given
+  frames_given = given_is (symbols_from source line) limit at.is_given
+
   pub few_windows : FRAME_SYMBOLS * length windows ≤ limit
-  few_windows = few_given stream limit at.is_given
+  few_windows = few_given (symbols_from source line) limit at.is_given
 
   given_next : AreNext (tail_of line) (symbols_of at.bytes) None at.given
   given_next = subst (λ (l : LineCode). AreNext (tail_of l) (symbols_of at.bytes) None at.given)
@@ -70,8 +73,8 @@ module _ {S C : Type 0} (source : SourceOf S) (took : C → List Arrival → C �
   few_bytes = omega (arith, at.is_given.feeds.few, at.is_given.feeds.long, at.is_given.limit_is)
 
   ends_for : before.intake.now.feed.lock.finished ≡ true
-      → EndsFor source before.intake.now.feed.stop limit at.bytes start.source.now before.source.now
-  ends_for finished = subst (λ (k : ℕ). EndsFor source before.intake.now.feed.stop k at.bytes start.source.now
+      → EndsFor source before.intake.now.feed.stop (within limit at.bytes) start.source.now before.source.now
+  ends_for finished = subst (λ (k : ℕ). EndsFor source before.intake.now.feed.stop (within k at.bytes) start.source.now
       before.source.now) at.is_given.limit_is (at.is_given.feeds.ended finished)
 
   -- what comes of all that the source gives begins with these arrivals too
@@ -149,16 +152,16 @@ module _ {S C : Type 0} (source : SourceOf S) (took : C → List Arrival → C �
       (longer n after past enough) at.in_time
 
   -- the consumer stopped at the last one of these arrivals
-  pub led_some : (n : ℕ) → kept < n → n ≤ length windows → {Cause : Type 0}
-      (stopped : C → List Arrival → Cause → C → Type 0) (cause : Cause) (now : C)
-      → ((c : C) → took c [] start.consumer.now → stopped c (first_arrivals line at.bytes at.given n) cause now)
-      → TakesSome (course_from source took start) stopped cause (lent_in start) (lent before.source.now now)
+  pub led_some : (n : ℕ) → kept < n → n ≤ length windows → (cause : Cause) (now : C)
+      → ((c : C) → consumer.took c [] start.consumer.now
+      → consumer.stopped c (first_arrivals line at.bytes at.given n) cause now)
+      → TakesSome (course_from source consumer.took start) consumer.stopped cause (lent_in start)
+      (lent before.source.now now)
   unfolding cut
-  led_some n past enough {Cause} stopped cause now stops =
+  led_some n past enough cause now stops =
       let arrivals = arrivals_given line at.bytes at.given in
       let more = few_more before.intake.now.ended refl in
       let split = cut n (arrivals_of (Symbols line) at.bytes) (more.0, more.1) in
-      let as_given = given_is stream limit at.is_given in
       let frames = given_are_prefix (tail_of line) (symbols_of at.bytes) at.given (tail_size line) given_next in
       record {
         bytes = at.bytes;
@@ -194,8 +197,8 @@ module _ {S C : Type 0} (source : SourceOf S) (took : C → List Arrival → C �
               arith,
               at.has_windows.all,
               at.same_room,
-              as_given,
-            )) at.close at.is_given.full (omega (arith, past, enough, as_given)) (omega (arith, past, more))
+              frames_given,
+            )) at.close at.is_given.full (omega (arith, past, enough, frames_given)) (omega (arith, past, more))
             (subst (λ (l : List Frame). All (λ (frame : Frame). place_after_frame frame
             + ahead_with (vec_capacity start.intake.now.spare) < length at.bytes) (take count l)) frames.1 ended)
             (drop kept at.given) refl)) (cases_lt count n);
@@ -209,7 +212,7 @@ module _ {S C : Type 0} (source : SourceOf S) (took : C → List Arrival → C �
   -- the consumer took all
   pub led_all : kept ≡ length windows → (totals : ReadCounts) → before.intake.now.ended ≡ Some totals.stop
       → totals.symbols ≡ before.intake.now.feed.taken → totals.frames ≡ before.intake.now.frames → totals.left ≡ 0
-      → TakesAll (course_from source took start) totals (lent_in start) (lent_in before)
+      → TakesAll (course_from source consumer.took start) totals (lent_in start) (lent_in before)
   led_all all totals ended symbols frames left = record {
     bytes = at.bytes;
     ends = record {
@@ -220,7 +223,8 @@ module _ {S C : Type 0} (source : SourceOf S) (took : C → List Arrival → C �
         few = few_bytes;
         asked = at.is_given.feeds.asked;
       };
-      reason = subst (λ (x : Stop). EndsFor source x limit at.bytes start.source.now before.source.now) over.stop_is
+      reason = subst (λ (x : Stop). EndsFor source x (within limit at.bytes) start.source.now before.source.now)
+          over.stop_is
           (ends_for over.closed);
       symbols = symbols ∙ at.is_given.feeds.long;
       frames = frames ∙ at.is_given.jobs.count ∙ all ∙ sym (as_many at.is_given.jobs)
@@ -230,7 +234,8 @@ module _ {S C : Type 0} (source : SourceOf S) (took : C → List Arrival → C �
     in_time = subst (λ (l : List Arrival). WhenLastAsked source (ComesFirstBut (Symbols line)
         (vec_capacity start.intake.now.spare) 0 l) at.bytes start.source.now before.source.now) (whole ∙ sym come)
         at.in_time;
-    taken = λ c none. subst (λ (l : List Arrival). took c l before.consumer.now) (whole ∙ sym come) (at.taken c none);
+    taken = λ c none. subst (λ (l : List Arrival). consumer.took c l before.consumer.now) (whole ∙ sym come)
+        (at.taken c none);
   }
     where
       over : IsOver line at.bytes at.given before.intake.now.feed totals.stop

@@ -1,27 +1,6 @@
 -- How the lock is fed with the symbols of the input. No clause of a public call cites this.
-use Rattle.std.specs.Prelude.{
-  ◌≡◌,
-  ◌⊎◌,
-  ◌<◌,
-  ◌≤◌,
-  ◌+◌,
-  ◌-◌,
-  ◌*◌,
-  ℕ,
-  ℤ,
-  true,
-  false,
-  Option,
-  Some,
-  None,
-  List,
-  [],
-  ◌∷◌,
-  ◌++◌,
-  length,
-  map,
-  cond,
-}
+use Rattle.std.specs.Prelude.{◌≡◌, ◌⊎◌, ◌<◌, ◌≤◌, ◌+◌, ◌-◌, ◌*◌, ℕ, ℤ, true, false, Option, Some}
+use Rattle.std.specs.Prelude.{None, List, [], ◌∷◌, ◌++◌, length, map, cond}
 use Rattle.lr_bits.specs.Faults.{Rose}
 use Rattle.lr_bits.specs.declared.sizes.TheConstants.{FRAME_SYMBOLS}
 use Rattle.lr_conv.specs.declared.line.LineCode.{LineCode}
@@ -42,7 +21,7 @@ use Rattle.lr_reading.specs.declared.next.Found.{Found}
 use Rattle.lr_reading.specs.declared.next.Found.TheVariants.{Whole, Noise, Ended}
 use Rattle.lr_reading.specs.Arrivals.{arrival_in, arrivals_of}
 use Rattle.lr_reading.specs.Readers.{most_kept}
-use Rattle.lr_reading.specs.Reading.{AsksOnce, CameInPieces, LastCall, AtSource, StopsAsking, EndsFor}
+use Rattle.lr_reading.specs.Reading.{AsksOnce, CameInPieces, LastCall, AtSource, StopsAsking, EndsFor, within}
 use Rattle.lr_reading.specs.declared.arrival.Arrival.{Arrival}
 
 -- the lock, how many bytes were taken and the most that may be, and why no more are taken
@@ -178,7 +157,7 @@ module _ {S : Type 0} (symbols : SymbolSource S) where
     pub going_on : now.state.lock.finished ≡ false
         → CameInPieces symbols.source so_far.bytes so_far.first now.source
     pub ended : now.state.lock.finished ≡ true
-        → EndsFor symbols.source now.state.stop now.state.most so_far.bytes so_far.first now.source
+        → EndsFor symbols.source now.state.stop (within now.state.most so_far.bytes) so_far.first now.source
 
   -- after these bytes the source wasn't asked, or only once the lock had looked
   abbrev pub LooksFirst : Type 0 → AtSource (Taken S) S → List ℕ → S → Type 0
@@ -211,7 +190,8 @@ module _ {S : Type 0} (symbols : SymbolSource S) where
         ≡ arrivals_given symbols.line before.state.bytes before.state.given
 
   -- there is none: all frames were given
-  pub record EndsFrames (IsUnderWay : Type 0) (stop : Stop) (before : AtSource (Taken S) S) (now : AtSource FeedState S)
+  pub record EndsFrames (IsUnderWay : Type 0) (stop : Stop) (before : AtSource (Taken S) S)
+      (now : AtSource FeedState S)
       : Type 0 where
     pub all : List ℕ
     pub so_far : FedSoFar (taken_since before.state.first all before.state.given) now

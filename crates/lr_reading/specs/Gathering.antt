@@ -7,7 +7,7 @@ use Rattle.lr_forms.specs.declared.forms.Stop.{Stop}
 use Rattle.lr_forms.specs.declared.forms.Stop.TheVariants.{End, Limit, Fault}
 use Rattle.lr_reading.specs.declared.next.Next.{Next}
 use Rattle.lr_reading.specs.declared.next.Next.TheVariants.{Whole, Ended}
-use Rattle.lr_reading.specs.Reading.{CameInPieces, LastCall, AtSource, WhenLastAsked, IsRead, EndsFor}
+use Rattle.lr_reading.specs.Reading.{CameInPieces, LastCall, AtSource, WhenLastAsked, IsRead, EndsFor, within}
 
 -- the bytes of the unit so far, how many bytes were taken in all, and the most that may be
 pub record UnitState : Type 0 where
@@ -28,6 +28,15 @@ pub record IsShortOfOne (n : ℕ) (units : List (List ℕ)) (bytes : List ℕ) :
 pub record UnitSizes : Type 0 where
   pub unit : ℕ
   pub limit : ℕ
+
+-- units that were read, how many bytes came after the last one, and why no more did
+pub record UnitsEnd : Type 0 where
+  pub units : List (List ℕ)
+  pub rest : ℕ
+  pub stop : Stop
+
+abbrev pub units_end : List (List ℕ) → ℕ → Stop → UnitsEnd
+units_end units rest stop = record { units = units; rest = rest; stop = stop }
 
 module _ {S : Type 0} (source : SourceOf S) where
   -- why a unit of n bytes was gathered no further
@@ -79,11 +88,11 @@ module _ {S : Type 0} (source : SourceOf S) where
     pub in_need : WhenLastAsked source (IsShortOfOne sizes.unit units) (concat units ++ now.state.held) s now.source
 
   -- these units were read, and then a rest that is none
-  pub record EndsUnits (sizes : UnitSizes) (units : List (List ℕ)) (rest : ℕ) (stop : Stop) (s s' : S) : Type 0 where
+  pub record EndsUnits (sizes : UnitSizes) (ended : UnitsEnd) (s s' : S) : Type 0 where
     pub held : List ℕ
-    pub long : length held ≡ rest
+    pub long : length held ≡ ended.rest
     pub short : length held < sizes.unit
-    pub whole : All (λ unit. length unit ≡ sizes.unit) units
-    pub read : IsRead source sizes.limit (concat units ++ held) s s'
-    pub in_need : WhenLastAsked source (IsShortOfOne sizes.unit units) (concat units ++ held) s s'
-    pub reason : EndsFor source stop sizes.limit (concat units ++ held) s s'
+    pub whole : All (λ unit. length unit ≡ sizes.unit) ended.units
+    pub read : IsRead source sizes.limit (concat ended.units ++ held) s s'
+    pub in_need : WhenLastAsked source (IsShortOfOne sizes.unit ended.units) (concat ended.units ++ held) s s'
+    pub reason : EndsFor source ended.stop (within sizes.limit (concat ended.units ++ held)) s s'

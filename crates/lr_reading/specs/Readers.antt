@@ -1,20 +1,7 @@
 -- What a reader shows: the form of the input that it reads, how many work on its windows, the caller among them, the
 -- most bytes that it takes of it, and what those who work share.
-use Rattle.std.specs.Prelude.{
-  ℕ,
-  ◌⊎◌,
-  ◌<◌,
-  ◌≤◌,
-  ◌+◌,
-  ◌-◌,
-  ◌*◌,
-  ◌==◌,
-  if◌then◌else◌,
-  List,
-  length,
-  take,
-  All,
-}
+use Rattle.std.specs.Prelude.{ℕ, ◌⊎◌, ◌<◌, ◌≤◌, ◌+◌, ◌-◌, ◌*◌, ◌==◌, if◌then◌else◌, List, length}
+use Rattle.std.specs.Prelude.{take, All}
 use Rattle.lr_bits.specs.declared.sizes.TheConstants.{FRAME_SYMBOLS}
 use Rattle.lr_conv.specs.Marker.{tail_of}
 use Rattle.lr_lock.specs.Frames.{place_after_frame}

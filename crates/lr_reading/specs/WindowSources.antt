@@ -1,30 +1,7 @@
 -- How windows are led from a source to a consumer. No clause of a public call cites this.
-use Rattle.std.specs.Prelude.{
-  ◌≡◌,
-  ◌⊎◌,
-  ◌<◌,
-  ◌≤◌,
-  ◌+◌,
-  ◌*◌,
-  ◌^◌,
-  ℕ,
-  true,
-  Option,
-  Some,
-  None,
-  List,
-  [],
-  ◌∷◌,
-  ◌++◌,
-  length,
-  map,
-  take,
-  drop,
-  vec_len,
-  vec_capacity,
-  IsSome,
-  Result,
-}
+use Rattle.std.specs.Prelude.{◌≡◌, ◌⊎◌, ◌<◌, ◌≤◌, ◌+◌, ◌*◌, ◌^◌, ℕ, true, false, Option, Some, None}
+use Rattle.std.specs.Prelude.{List, [], ◌∷◌, ◌++◌, length, map, take, drop, vec_len, vec_capacity}
+use Rattle.std.specs.Prelude.{IsSome, Result}
 use Rattle.std.specs.List.{All}
 use Rattle.lr_lock.specs.Thresholds.{lock_symbols}
 use Rattle.lr_bits.specs.declared.sizes.TheConstants.{FRAME_BYTES}
@@ -38,24 +15,16 @@ use Rattle.lr_lock.specs.declared.frame.Frame.{Frame}
 use Rattle.lr_frame.specs.Outcomes.{outcome_of_window}
 use Rattle.lr_forms.specs.declared.forms.Input.TheVariants.{Symbols}
 use Rattle.lr_forms.specs.declared.forms.Stop.{Stop}
+use Rattle.lr_rounds.specs.JobSources.{Led, SourceTerms}
 use Rattle.lr_rounds.specs.declared.job_source.NextJob.{NextJob}
 use Rattle.lr_rounds.specs.declared.job_source.NextJob.TheVariants.{Job, NotYet, Finished}
-use Rattle.lr_reading.specs.Feeding.{
-  FeedState,
-  SymbolSource,
-  Taken,
-  symbols_from,
-  symbols_left,
-  taken_since,
-  arrivals_given,
-  EndsWithin,
-  MayAsk,
-  FedSoFar,
-}
+use Rattle.lr_reading.specs.Feeding.{FeedState, SymbolSource, Taken, symbols_from, symbols_left}
+use Rattle.lr_reading.specs.Feeding.{taken_since, arrivals_given, EndsWithin, MayAsk, FedSoFar}
 use Rattle.lr_reading.specs.Readers.{Leeway, ahead_with, most_kept}
 use Rattle.lr_reading.specs.Reading.{LastCall, AtSource, WhenLastAsked, at_source}
 use Rattle.lr_reading.specs.Runs.{ComesFirstBut, Course, Lent, TakesSome, IsLed, course_of, lent}
 use Rattle.lr_reading.specs.declared.arrival.Arrival.{Arrival}
+use Rattle.lr_reading.specs.declared.consumer.Consumer.{Ghosts as ConsumerOf}
 use Rattle.lr_reading.specs.declared.intake.Intake.{Intake}
 use Rattle.lr_reading.specs.declared.read_counts.ReadCounts.{ReadCounts}
 use Rattle.lr_reading.specs.declared.window_source.WindowSource.{WindowSource}
@@ -143,43 +112,51 @@ module _ {S : Type 0} (symbols : SymbolSource S) where
       (MayAsk symbols.line (vec_len old.state.spare < vec_capacity old.state.spare) taken.bytes taken.given) all
       taken.first s')
 
-  module _ (limit : ℕ) where
-    -- these bytes were taken, these windows of frames of them given, and what became of the first ones kept
-    pub record IsGiven (so_far : Progress S) (now : AtSource Intake S) : Type 0 where
-      pub feeds : FedSoFar symbols so_far.taken (at_source now.state.feed now.source)
-      pub limit_is : now.state.feed.most ≡ limit
-      pub jobs : HasWindowJobs symbols.line (arrivals_given symbols.line so_far.taken.bytes so_far.taken.given)
-          so_far.windows so_far.kept now.state
-      pub over : (stop : Stop) → now.state.ended ≡ Some stop
-          → IsOver symbols.line so_far.taken.bytes so_far.taken.given now.state.feed stop
-      -- three whole frames of 16,384 symbols at most stand in the lock
-      pub short : now.state.ended ≡ None → length now.state.feed.lock.kept ≤ most_kept
-      -- where no window is spare, nothing was taken since the last one was given
-      pub full : vec_len now.state.spare ≡ 0 → EndsWithin most_kept so_far.taken.given so_far.taken.bytes
+-- what windows are filled from: these symbols, of which no more bytes than these are taken
+pub record WindowStream (S : Type 0) : Type 1 where
+  pub symbols : SymbolSource S
+  pub limit : ℕ
 
-    -- more bytes were taken, and these windows are given now; what comes of the earlier ones stays
-    pub record GivesMore (so_far : Progress S) (old new : AtSource Intake S) : Type 0 where
-      pub all : List ℕ
-      pub every : List Frame
-      pub is_given : IsGiven (progress (taken_since so_far.taken.first all every) so_far.windows so_far.kept) new
-      pub looks : LooksForSpare so_far.taken all old new.source
-      pub rest : List Arrival
-      pub grown : arrivals_given symbols.line all every
-          ≡ arrivals_given symbols.line so_far.taken.bytes so_far.taken.given ++ rest
-      -- frames whose windows are under way stay close, from the first one that is
-      pub close : (first : ℕ) → first ≤ length so_far.taken.given
-          → (first < length so_far.taken.given → vec_len old.state.spare < vec_capacity old.state.spare)
-          → AreClose (drop first so_far.taken.given) (length so_far.taken.bytes)
-          → AreClose (drop first every) (length all)
+abbrev pub stream_of : {S : Type 0} → SymbolSource S → ℕ → WindowStream S
+stream_of symbols limit = record { symbols = symbols; limit = limit }
 
-    -- the next window; or none while none is spare, or while some are under way; or none, as the input ended
-    abbrev pub HasNextJob : NextJob WindowView → Progress S → AtSource Intake S → AtSource Intake S → Type 0
-    HasNextJob (Job window) so_far old new =
-        GivesMore (progress so_far.taken (so_far.windows ++ window ∷ []) so_far.kept) old new
-    HasNextJob NotYet so_far old new =
-        GivesMore so_far old new
-        × ((vec_len old.state.spare ≡ 0) ⊎ (vec_len old.state.spare < vec_capacity old.state.spare))
-    HasNextJob Finished so_far old new = GivesMore so_far old new × IsSome new.state.ended
+module _ {S : Type 0} (stream : WindowStream S) where
+  -- these bytes were taken, these windows of frames of them given, and what became of the first ones kept
+  pub record IsGiven (so_far : Progress S) (now : AtSource Intake S) : Type 0 where
+    pub feeds : FedSoFar stream.symbols so_far.taken (at_source now.state.feed now.source)
+    pub limit_is : now.state.feed.most ≡ stream.limit
+    pub jobs : HasWindowJobs stream.symbols.line
+        (arrivals_given stream.symbols.line so_far.taken.bytes so_far.taken.given) so_far.windows so_far.kept now.state
+    pub over : (stop : Stop) → now.state.ended ≡ Some stop
+        → IsOver stream.symbols.line so_far.taken.bytes so_far.taken.given now.state.feed stop
+    -- three whole frames of 16,384 symbols at most stand in the lock
+    pub short : now.state.ended ≡ None → length now.state.feed.lock.kept ≤ most_kept
+    -- where no window is spare, nothing was taken since the last one was given
+    pub full : vec_len now.state.spare ≡ 0 → EndsWithin most_kept so_far.taken.given so_far.taken.bytes
+
+  -- more bytes were taken, and these windows are given now; what comes of the earlier ones stays
+  pub record GivesMore (so_far : Progress S) (old new : AtSource Intake S) : Type 0 where
+    pub all : List ℕ
+    pub every : List Frame
+    pub is_given : IsGiven (progress (taken_since so_far.taken.first all every) so_far.windows so_far.kept) new
+    pub looks : LooksForSpare stream.symbols so_far.taken all old new.source
+    pub rest : List Arrival
+    pub grown : arrivals_given stream.symbols.line all every
+        ≡ arrivals_given stream.symbols.line so_far.taken.bytes so_far.taken.given ++ rest
+    -- frames whose windows are under way stay close, from the first one that is
+    pub close : (first : ℕ) → first ≤ length so_far.taken.given
+        → (first < length so_far.taken.given → vec_len old.state.spare < vec_capacity old.state.spare)
+        → AreClose (drop first so_far.taken.given) (length so_far.taken.bytes)
+        → AreClose (drop first every) (length all)
+
+  -- the next window; or none while none is spare, or while some are under way; or none, as the input ended
+  abbrev pub HasNextJob : NextJob WindowView → Progress S → AtSource Intake S → AtSource Intake S → Type 0
+  HasNextJob (Job window) so_far old new =
+      GivesMore (progress so_far.taken (so_far.windows ++ window ∷ []) so_far.kept) old new
+  HasNextJob NotYet so_far old new =
+      GivesMore so_far old new
+      × ((vec_len old.state.spare ≡ 0) ⊎ (vec_len old.state.spare < vec_capacity old.state.spare))
+  HasNextJob Finished so_far old new = GivesMore so_far old new × IsSome new.state.ended
 
 -- how many windows are spare now, where one was given, and that fewer are left
 abbrev pub LeavesFewer : NextJob WindowView → Intake → Intake → Type 0
@@ -202,50 +179,63 @@ module _ {C : Type 0} (took : C → List Arrival → C → Type 0) where
 
 -- ---- both
 
+-- of which line code its symbols are
+abbrev pub line_in : {S C : Type 0} → WindowSource S C → LineCode
+line_in now = now.intake.now.feed.lock.line
+
 -- what a job source is led through, from its first one on
 abbrev pub course_from : {S C : Type 0} → SourceOf S → (C → List Arrival → C → Type 0) → WindowSource S C → Course S C
-course_from source took start = course_of source took (Symbols start.intake.now.feed.lock.line)
-    start.intake.now.feed.most (leeway_in start.intake.now)
+course_from source took start =
+    course_of source took (Symbols (line_in start)) start.intake.now.feed.most (leeway_in start.intake.now)
 
 -- what it was lent
 abbrev pub lent_in : {S C : Type 0} → WindowSource S C → Lent S C
 lent_in now = lent now.source.now now.consumer.now
 
-module _ {S C : Type 0} (source : SourceOf S) (took : C → List Arrival → C → Type 0) where
-  -- The job source was the first one and has given these windows, and the consumer took what became of the first `kept`
-  -- of them. It may take what comes of `most` bytes
-  pub record StandsAt (most : ℕ) (start now : WindowSource S C) (windows : List WindowView) (kept : ℕ) : Type 0 where
-    pub same_intake : now.intake.ghost_name ≡ start.intake.ghost_name
-    pub same_source : now.source.ghost_name ≡ start.source.ghost_name
-    pub same_consumer : now.consumer.ghost_name ≡ start.consumer.ghost_name
-    pub few : start.intake.now.feed.most ≤ most
-    pub small : start.intake.now.feed.most ≤ 2 ^ 61
-    pub ready : (c : C) × took c [] start.consumer.now
-    pub has_windows : HasWindows (length windows) kept now.intake.now
-    pub same_room : vec_capacity now.intake.now.spare ≡ vec_capacity start.intake.now.spare
-    pub behind : kept ≤ length windows
+module _ {S C Cause : Type 0} (source : SourceOf S) (consumer : ConsumerOf C Cause) where
+  -- The job source was the first one and has given the windows led, and the consumer took what became of those kept
+  pub record StandsAt (led : Led (WindowSource S C) WindowView) (now : WindowSource S C) : Type 0 where
+    pub same_intake : now.intake.ghost_name ≡ led.start.intake.ghost_name
+    pub same_source : now.source.ghost_name ≡ led.start.source.ghost_name
+    pub same_consumer : now.consumer.ghost_name ≡ led.start.consumer.ghost_name
+    pub few : led.start.intake.now.feed.most ≤ consumer.most
+    pub small : led.start.intake.now.feed.most ≤ 2 ^ 61
+    pub ready : (c : C) × consumer.took c [] led.start.consumer.now
+    pub has_windows : HasWindows (length led.jobs) led.kept now.intake.now
+    pub same_room : vec_capacity now.intake.now.spare ≡ vec_capacity led.start.intake.now.spare
+    pub behind : led.kept ≤ length led.jobs
     pub bytes : List ℕ
     pub given : List Frame
-    pub is_given : IsGiven (symbols_from source start.intake.now.feed.lock.line) start.intake.now.feed.most
-        (progress (taken_since start.source.now bytes given) windows kept) (at_source now.intake.now now.source.now)
-    pub close : AreClose (drop kept given) (length bytes)
-    pub in_time : WhenLastAsked source (ComesFirstBut (Symbols start.intake.now.feed.lock.line)
-        (vec_capacity start.intake.now.spare) 0 (first_arrivals start.intake.now.feed.lock.line bytes given kept))
-        bytes start.source.now now.source.now
-    pub taken : (c : C) → took c [] start.consumer.now
-        → took c (first_arrivals start.intake.now.feed.lock.line bytes given kept) now.consumer.now
+    pub is_given : IsGiven (stream_of (symbols_from source (line_in led.start)) led.start.intake.now.feed.most)
+        (progress (taken_since led.start.source.now bytes given) led.jobs led.kept)
+        (at_source now.intake.now now.source.now)
+    pub close : AreClose (drop led.kept given) (length bytes)
+    pub in_time : WhenLastAsked source (ComesFirstBut (Symbols (line_in led.start))
+        (vec_capacity led.start.intake.now.spare) 0 (first_arrivals (line_in led.start) bytes given led.kept))
+        bytes led.start.source.now now.source.now
+    pub taken : (c : C) → consumer.took c [] led.start.consumer.now
+        → consumer.took c (first_arrivals (line_in led.start) bytes given led.kept) now.consumer.now
 
   -- the job source was the first one, and the consumer stopped for this cause
-  pub record StopsAt {Cause : Type 0} (stopped : C → List Arrival → Cause → C → Type 0) (start : WindowSource S C)
-      (cause : Cause) (now : WindowSource S C) : Type 0 where
+  pub record StopsAt (start : WindowSource S C) (cause : Cause) (now : WindowSource S C) : Type 0 where
     pub same_intake : now.intake.ghost_name ≡ start.intake.ghost_name
     pub same_source : now.source.ghost_name ≡ start.source.ghost_name
     pub same_consumer : now.consumer.ghost_name ≡ start.consumer.ghost_name
-    pub some : TakesSome (course_from source took start) stopped cause (lent_in start) (lent_in now)
+    pub some : TakesSome (course_from source consumer.took start) consumer.stopped cause (lent_in start) (lent_in now)
 
   -- the job source was the first one. It was led to the end of the input, or to where the consumer stopped
-  pub record ComesTo {Cause : Type 0} (stopped : C → List Arrival → Cause → C → Type 0)
-      (came : Result ReadCounts Cause) (start now : WindowSource S C) : Type 0 where
+  pub record ComesTo (came : Result ReadCounts Cause) (start now : WindowSource S C) : Type 0 where
     pub same_source : now.source.ghost_name ≡ start.source.ghost_name
     pub same_consumer : now.consumer.ghost_name ≡ start.consumer.ghost_name
-    pub led : IsLed (course_from source took start) stopped came (lent_in start) (lent_in now)
+    pub led : IsLed (course_from source consumer.took start) consumer.stopped came (lent_in start) (lent_in now)
+
+  -- the terms on which it gives windows and keeps what becomes of them. It wants none put at once: the source may wait
+  -- for symbols, and what is done goes out before that
+  abbrev pub window_terms : SourceTerms (WindowSource S C) WindowView Cause
+  window_terms = record {
+    stands = StandsAt;
+    stopped = StopsAt;
+    is_over = λ now. IsSome now.intake.now.ended;
+    left = λ now. windows_left now.intake.now;
+    at_once = λ now. false;
+  }

@@ -9,6 +9,7 @@ ghost use Rattle.lr_reading.specs.WindowSources.{
   arrival_of_window,
   IsGiven,
   HasNextJob,
+  stream_of,
   LeavesFewer,
   MayHandOver,
 };
@@ -46,10 +47,10 @@ fn position_of(window: &Window) -> Position
 /// no window is under way.
 fn next_window<S: Source>(intake: &mut Intake, source: &mut S) -> NextJob<Window>
     requires { (line : LineCode) × (limit : ℕ) × (so_far : Progress _)
-        × IsGiven (symbols_from S.Source line) limit so_far (at_source intake.old source.old) }
+        × IsGiven (stream_of (symbols_from S.Source line) limit) so_far (at_source intake.old source.old) }
     ensures offers { (line : LineCode) (limit : ℕ) (so_far : Progress _)
-        → IsGiven (symbols_from S.Source line) limit so_far (at_source intake.old source.old)
-        → HasNextJob (symbols_from S.Source line) limit result so_far (at_source intake.old source.old)
+        → IsGiven (stream_of (symbols_from S.Source line) limit) so_far (at_source intake.old source.old)
+        → HasNextJob (stream_of (symbols_from S.Source line) limit) result so_far (at_source intake.old source.old)
         (at_source intake.new source.new) }
     ensures less { LeavesFewer result intake.old intake.new }
 {
@@ -111,18 +112,9 @@ impl<'i, 's, 'c, H: Hand, S: Source, C: Consumer> JobSource<Hired<H>>
     for WindowSource<'i, 's, 'c, S, C> {
     type Cause = C::Cause;
 
-    ghost use Rattle.std.specs.Prelude.{IsSome, false};
-    ghost use Rattle.lr_reading.specs.WindowSources.{StandsAt, StopsAt, windows_left};
+    ghost use Rattle.lr_reading.specs.WindowSources.{window_terms};
 
-    ghost stands = { λ start now windows kept. StandsAt S.Source C.took C.most start now windows kept };
-
-    ghost stopped = { λ start cause now. StopsAt S.Source C.took C.stopped start cause now };
-
-    ghost is_over = { λ now. IsSome now.intake.now.ended };
-
-    ghost left = { λ now. windows_left now.intake.now };
-
-    ghost at_once = { λ now. false };
+    ghost terms = { window_terms S.Source C.Consumer };
 
     fn next(&mut self) -> Result<NextJob<Window>, C::Cause> {
         Ok(next_window(self.intake, self.source))

@@ -44,7 +44,7 @@ fn go_alone<H: Hand, S: Source, C: Consumer>(
     requires fresh { IsFreshIntake job_source.old.intake.now.feed.most job_source.old.intake.now }
     requires few { job_source.old.intake.now.feed.most ≤ C.most }
     requires ready { (c : C) × C.took c [] job_source.old.consumer.now }
-    ensures { ComesTo S.Source C.took C.stopped result job_source.old job_source.new }
+    ensures { ComesTo S.Source C.Consumer result job_source.old job_source.new }
 {
     drive_alone(pool, job_source)?;
     Ok(totals_of(job_source.intake))
@@ -59,7 +59,7 @@ fn go_by_all<R: Threads + Wait + Sync, H: Hand, S: Source, C: Consumer>(
     requires fresh { IsFreshIntake job_source.old.intake.now.feed.most job_source.old.intake.now }
     requires few { job_source.old.intake.now.feed.most ≤ C.most }
     requires ready { (c : C) × C.took c [] job_source.old.consumer.now }
-    ensures { ComesTo S.Source C.took C.stopped result job_source.old job_source.new }
+    ensures { ComesTo S.Source C.Consumer result job_source.old job_source.new }
 {
     match drive(rt, pool, job_source) {
         Ok(()) => Ok(totals_of(job_source.intake)),

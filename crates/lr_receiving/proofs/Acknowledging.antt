@@ -1,43 +1,17 @@
 -- Files stay acknowledged where shelving stops after them.
-use Rattle.std.proofs.Common.{
-  ◌≡◌,
-  inl,
-  inr,
-  ℕ,
-  ◌+◌,
-  ◌≤◌,
-  List,
-  [],
-  ◌∷◌,
-  ◌++◌,
-  length,
-  refl,
-  sym,
-  ◌∙◌,
-  ap,
-  subst,
-  arith,
-  append_assoc,
-  append-nil,
-  length-append,
-}
+use Rattle.std.proofs.Common.{◌≡◌, inl, inr, ℕ, ◌+◌, ◌≤◌, List, [], ◌∷◌, ◌++◌, length, refl, sym}
+use Rattle.std.proofs.Common.{◌∙◌, ap, subst, arith, append_assoc, append-nil, length-append}
 use Rattle.lr_bits.specs.declared.placed.Placed.{Placed}
 use Rattle.lr_causes.specs.Outside.{Outlets, OutletsOf}
 use Rattle.lr_forms.specs.declared.forms.Input.{Input}
 use Rattle.lr_reading.specs.Inputs.{outcomes_of_bytes}
 use Rattle.lr_reading.specs.Readers.{Leeway}
-use Rattle.lr_shelf.specs.InitialShelves.{
-  InitialShelf,
-  HoldsStill,
-  StandsForPrefix,
-  StandsWith,
-  StandsWithEither,
-  next_number,
-}
+use Rattle.lr_shelf.specs.InitialShelves.{InitialShelf, HoldsStill, StandsForPrefix, StandsWith}
+use Rattle.lr_shelf.specs.InitialShelves.{StandsWithEither, next_number}
 use Rattle.lr_shelf.proofs.InitialPrefixes.{front_more}
 use Rattle.lr_receiving.specs.Inputs.{files_of_bytes}
-use Rattle.lr_receiving.specs.Reception.{FewWait}
-use Rattle.lr_receiving.specs.Shelving.{AreAcknowledged, shelved_lines}
+use Rattle.lr_receiving.specs.Reception.{FewWait, taken_bytes}
+use Rattle.lr_receiving.specs.Shelving.{AreAcknowledged, shelved_lines, files_onto}
 use Rattle.lr_receiving.proofs.ShelvedLines.{shelved_lines-append}
 
 module _ {D O : Type 0} (world : OutletsOf D O) (initial : InitialShelf) where
@@ -46,7 +20,7 @@ module _ {D O : Type 0} (world : OutletsOf D O) (initial : InitialShelf) where
       → HoldsStill initial first world.disk w'.disk
       → (world.out.tells w.out → (text : List ℕ) × (world.out.contents w'.out
       ≡ world.out.contents w.out ++ (shelved_lines (next_number initial) first ++ text)))
-      → AreAcknowledged world initial first (first ++ others) w w'
+      → AreAcknowledged world (files_onto initial (first ++ others)) first w w'
   still_acknowledged first others w w' durable told = record {
     others = others;
     split = refl;
@@ -82,7 +56,7 @@ module _ {D O : Type 0} (world : OutletsOf D O) (initial : InitialShelf) where
       → ((c : List ℕ) → world.disk.may_leave w'.disk c → StandsWithEither initial done placed c)
       → (world.out.tells w.out → (text : List ℕ) × (world.out.contents w'.out
       ≡ world.out.contents w.out ++ (shelved_lines (next_number initial) done ++ text)))
-      → AreAcknowledged world initial done (done ++ placed ∷ []) w w'
+      → AreAcknowledged world (files_onto initial (done ++ placed ∷ [])) done w w'
   either_acknowledged done placed w w' now left told = record {
     others = placed ∷ [];
     split = refl;
@@ -118,7 +92,8 @@ module _ {D O : Type 0} (world : OutletsOf D O) (initial : InitialShelf) where
   module _ {w w' : Outlets D O} where
     -- files that are still to come
     pub acknowledged_more : {first files : List Placed} (more : List Placed)
-        → AreAcknowledged world initial first files w w' → AreAcknowledged world initial first (files ++ more) w w'
+        → AreAcknowledged world (files_onto initial files) first w w'
+        → AreAcknowledged world (files_onto initial (files ++ more)) first w w'
     acknowledged_more {first} {files} more known = record {
       others = known.others ++ more;
       split = ap (λ (l : List Placed). l ++ more) known.split ∙ append_assoc first known.others more;
@@ -131,7 +106,8 @@ module _ {D O : Type 0} (world : OutletsOf D O) (initial : InitialShelf) where
 
     -- the first ones of them
     pub acknowledged_first : (first others : List Placed) {files : List Placed}
-        → AreAcknowledged world initial (first ++ others) files w w' → AreAcknowledged world initial first files w w'
+        → AreAcknowledged world (files_onto initial files) (first ++ others) w w'
+        → AreAcknowledged world (files_onto initial files) first w w'
     acknowledged_first first others {files} known =
         let le : length first ≤ length (first ++ others) = omega (arith, length-append first others) in
         let lines = shelved_lines (next_number initial) first in
@@ -158,9 +134,9 @@ module _ {D O : Type 0} (world : OutletsOf D O) (initial : InitialShelf) where
   pub all_acknowledged : (files : List Placed) (w w' : Outlets D O) → HoldsStill initial files world.disk w'.disk
       → (world.out.tells w.out → (text : List ℕ) × (world.out.contents w'.out
       ≡ world.out.contents w.out ++ (shelved_lines (next_number initial) files ++ text)))
-      → AreAcknowledged world initial files files w w'
+      → AreAcknowledged world (files_onto initial files) files w w'
   all_acknowledged files w w' durable told =
-      subst (λ (l : List Placed). AreAcknowledged world initial files l w w') (append-nil files)
+      subst (λ (l : List Placed). AreAcknowledged world (files_onto initial l) files w w') (append-nil files)
       (still_acknowledged files [] w w' durable told)
 
   -- all is worked through
@@ -168,7 +144,7 @@ module _ {D O : Type 0} (world : OutletsOf D O) (initial : InitialShelf) where
       → HoldsStill initial (files_of_bytes input bytes) world.disk w'.disk
       → (world.out.tells w.out → (text : List ℕ) × (world.out.contents w'.out
       ≡ world.out.contents w.out ++ (shelved_lines (next_number initial) (files_of_bytes input bytes) ++ text)))
-      → FewWait world initial input leeway bytes w w'
+      → FewWait world initial (taken_bytes input leeway bytes) w w'
   unfolding files_of_bytes
   all_worked input leeway bytes w w' durable told = record {
     worked = outcomes_of_bytes input bytes;

@@ -9,17 +9,14 @@ use Rattle.lr_shelf.specs.Append.{IsAppendRefusal}
 use Rattle.lr_shelf.specs.Calls.{IsFaultCounted}
 use Rattle.lr_shelf.specs.Kept.{KeptShelf}
 use Rattle.lr_shelf.specs.declared.error.ShelfError.{ShelfError}
-use Rattle.lr_shelf.specs.declared.error.ShelfError.TheVariants.{
-  Disk as Disk',
-  NotAShelf as NotAShelf',
-  NotEmpty as NotEmpty',
-  Capacity as Capacity',
-  NoSuchFile as NoSuchFile',
-  Crc as Crc',
-  NoMemory as NoMemory',
-  Failed as Failed',
-  Discarded as Discarded',
-}
+use Rattle.lr_shelf.specs.declared.error.ShelfError.TheVariants.{Disk as Disk'}
+use Rattle.lr_shelf.specs.declared.error.ShelfError.TheVariants.{NotAShelf as NotAShelf'}
+use Rattle.lr_shelf.specs.declared.error.ShelfError.TheVariants.{NotEmpty as NotEmpty'}
+use Rattle.lr_shelf.specs.declared.error.ShelfError.TheVariants.{Capacity as Capacity'}
+use Rattle.lr_shelf.specs.declared.error.ShelfError.TheVariants.{NoSuchFile as NoSuchFile'}
+use Rattle.lr_shelf.specs.declared.error.ShelfError.TheVariants.{Crc as Crc', NoMemory as NoMemory'}
+use Rattle.lr_shelf.specs.declared.error.ShelfError.TheVariants.{Failed as Failed'}
+use Rattle.lr_shelf.specs.declared.error.ShelfError.TheVariants.{Discarded as Discarded'}
 use Rattle.lr_forms.specs.declared.forms.Stop.{Stop}
 use Rattle.lr_forms.specs.declared.forms.Stop.TheVariants.{End, Limit, Fault}
 use Rattle.lr_causes.specs.declared.cause.Cause.{Cause}
@@ -29,7 +26,7 @@ use Rattle.lr_causes.specs.declared.cause.Party.TheVariants.{Source, Disk, Outpu
 use Rattle.lr_causes.specs.Causes.{IsCaused, cause_at, counts}
 use Rattle.lr_refusals.specs.Errors.{cause_of}
 use Rattle.lr_causes.specs.Puts.{PutStops}
-use Rattle.lr_reading.specs.Reading.{EndsFor}
+use Rattle.lr_reading.specs.Reading.{EndsFor, within}
 use Rattle.lr_causes.specs.Counts.{CountsTell}
 use Rattle.lr_receiving.specs.First.{SourceBesides}
 use Rattle.lr_receiving.specs.Shelved.{MayStop}
@@ -99,7 +96,7 @@ first_same {D} {O} disk out cause s s' d o d1 d2 o1 o2 first same_disk same_out 
 
 -- why no more was taken is a cause
 pub first_end : {S : Type 0} (source : SourceOf S) (stop : Stop) (limit : ℕ) (bytes : List ℕ) (s s' : S)
-    → EndsFor source stop limit bytes s s'
+    → EndsFor source stop (within limit bytes) s s'
     → CountsTell SourceBesides (cause_at stop) (counts (source.faults s) 0 0) (counts (source.faults s') 0 0)
 first_end source End limit bytes s s' why =
     counts_tell SourceBesides Done (counts (source.faults s) 0 0) (counts (source.faults s') 0 0) tt
@@ -156,7 +153,8 @@ first_refused {A} e result s s' d d' o is works counted =
     by_error Discarded' works c = first_stays (cause_of Discarded') s s' d d' o o tt tt c refl
 
 -- a shelf that works isn't refused as one that failed
-pub append_works : (item : Item) (kept : KeptShelf) (e : ShelfError) → IsAppendRefusal item kept e → kept.failed ≡ false
+pub append_works : (item : Item) (kept : KeptShelf) (e : ShelfError) → IsAppendRefusal item kept e
+    → kept.failed ≡ false
     → e ≡ Failed' → ⊥
 append_works item kept e refusal works is =
     let failed : kept.failed ≡ true = subst (λ (x : ShelfError). IsAppendRefusal item kept x) is refusal in

@@ -1,18 +1,6 @@
 -- The files of the first arrivals come first.
-use Rattle.std.proofs.Common.{
-  ◌≡◌,
-  List,
-  [],
-  ◌∷◌,
-  ◌++◌,
-  length,
-  ap,
-  ◌∙◌,
-  sym,
-  subst,
-  append_assoc,
-  append-nil,
-}
+use Rattle.std.proofs.Common.{◌≡◌, List, [], ◌∷◌, ◌++◌, length, ap, ◌∙◌, sym, subst, append_assoc}
+use Rattle.std.proofs.Common.{append-nil}
 use Rattle.std.specs.Prelude.{All}
 use Rattle.std.proofs.Common.{ℕ}
 use Rattle.std.proofs.lemmas.List.{map-append}

@@ -29,21 +29,22 @@ use Rattle.lr_forms.specs.declared.forms.Input.TheVariants.{Symbols}
 use Rattle.lr_forms.specs.declared.forms.Output.TheVariants.{Symbols as AsSymbols}
 use Rattle.lr_reading.specs.Inputs.{outcomes_of_bytes}
 use Rattle.lr_receiving.specs.Inputs.{files_of_bytes}
-use Rattle.lr_receiving.specs.Made.{made_bytes}
+use Rattle.lr_receiving.specs.Made.{made_bytes, test_frames}
 use Rattle.lr_shelf.specs.InitialShelves.{with_files}
 use Rattle.lr_receiving.specs.Trial.{trial_capacity}
 
 -- ---- symbols in bytes
 
 -- the symbols of the made bytes are the stream's
-symbols_made : (start wrong n : ℕ) → symbols_of (made_bytes AsSymbols start wrong n) ≡ symbol_stream start wrong n
+symbols_made : (start wrong n : ℕ)
+    → symbols_of (made_bytes AsSymbols (test_frames start n wrong)) ≡ symbol_stream start wrong n
 unfolding made_bytes
 symbols_made start wrong n =
     let one = symbols_are_one_code start wrong n in
     ap (λ s. symbols_of (bytes_of_symbols s)) one
     ∙ levels_back (code STANDARD (replicate 6 false) (sent_bits start wrong n)) ∙ sym one
 
-pub made_length : (start wrong n : ℕ) → length (made_bytes AsSymbols start wrong n) ≡ FRAME_SYMBOLS * n
+pub made_length : (start wrong n : ℕ) → length (made_bytes AsSymbols (test_frames start n wrong)) ≡ FRAME_SYMBOLS * n
 unfolding made_bytes
 made_length start wrong n =
     length-map (symbol_stream start wrong n) (cast_unsigned w8) ∙ ap length (symbols_are_one_code start wrong n)
@@ -52,7 +53,7 @@ made_length start wrong n =
 -- ---- the stream's outcomes, and their files
 
 files_made : (start wrong n : ℕ) → ((k : ℕ) → k < n → IsReceivedAs wrong (frame_at start k) (block_at start wrong k))
-    → files_of_bytes (Symbols STANDARD) (made_bytes AsSymbols start wrong n)
+    → files_of_bytes (Symbols STANDARD) (made_bytes AsSymbols (test_frames start n wrong))
     ≡ placed_of_outcomes (made_outcomes start wrong n)
 unfolding files_of_bytes outcomes_of_bytes
 files_made start wrong n received =
@@ -84,7 +85,8 @@ sent_files_fit start wrong n few =
 
 pub made_files_fit : (start wrong n : ℕ) → n ≤ 1024
     → ((k : ℕ) → k < n → IsReceivedAs wrong (frame_at start k) (block_at start wrong k))
-    → end_of (with_files [] (files_of_bytes (Symbols STANDARD) (made_bytes AsSymbols start wrong n))) ≤ trial_capacity
+    → end_of (with_files [] (files_of_bytes (Symbols STANDARD) (made_bytes AsSymbols (test_frames start n wrong)))) ≤
+    trial_capacity
 made_files_fit start wrong n few received =
     let fit = sent_files_fit start wrong n few in
     omega (arith, fit, ap (λ files. end_of (with_files [] files)) (files_made start wrong n received))

@@ -13,7 +13,7 @@ use Rattle.lr_causes.specs.declared.cause.Refusal.TheVariants.{Capacity}
 use Rattle.lr_shelf.specs.Prefixes.{HasRoom, end_with}
 use Rattle.lr_shelf.proofs.Prefixes.{end_with-append}
 use Rattle.lr_receiving.specs.Onto.{IsFullWith}
-use Rattle.lr_receiving.specs.Shelved.{Grows, GrowsNoMore}
+use Rattle.lr_receiving.specs.Shelved.{Grows, GrowsNoMore, shelf_in}
 use Rattle.lr_causes.specs.Outside.{Outlets}
 
 -- there is one file
@@ -34,14 +34,14 @@ room_after way way' xs ys ends same first (inr fits) =
 
 module _ {D O : Type 0} where
   -- no file
-  pub grows_none : (shelf : Shelf) (w : Outlets D O) → Grows [] shelf shelf w w
+  pub grows_none : (shelf : Shelf) (w : Outlets D O) → Grows [] (shelf_in shelf w) (shelf_in shelf w)
   grows_none shelf w = record { ends = omega arith; same = refl; room = inl refl; none = λ is. (refl, refl) }
 
   module _ {xs ys : List Placed} {shelf shelf1 : Shelf} {w w1 : Outlets D O}
-      (first : Grows xs shelf shelf1 w w1) where
+      (first : Grows xs (shelf_in shelf w) (shelf_in shelf1 w1)) where
     -- files after files
-    pub grows_on : {shelf2 : Shelf} {w2 : Outlets D O} → Grows ys shelf1 shelf2 w1 w2
-        → Grows (xs ++ ys) shelf shelf2 w w2
+    pub grows_on : {shelf2 : Shelf} {w2 : Outlets D O} → Grows ys (shelf_in shelf1 w1) (shelf_in shelf2 w2)
+        → Grows (xs ++ ys) (shelf_in shelf w) (shelf_in shelf2 w2)
     grows_on next = record {
       ends = next.ends ∙ ap (λ (n : ℕ). end_with n ys) first.ends
           ∙ sym (end_with-append (kept_by shelf).way.end xs ys);
@@ -76,8 +76,8 @@ module _ {D O : Type 0} where
         }
 
     -- shelving stopped after some files
-    pub stops_after : {cause : Cause} {w2 : Outlets D O} → GrowsNoMore cause ys shelf1 w1 w2
-        → GrowsNoMore cause (xs ++ ys) shelf w w2
+    pub stops_after : {cause : Cause} {w2 : Outlets D O} → GrowsNoMore cause ys (shelf_in shelf1 w1) w2
+        → GrowsNoMore cause (xs ++ ys) (shelf_in shelf w) w2
     stops_after stops = record {
       full = λ needed most is. full_on (stops.full needed most is);
       none = λ is.
@@ -89,7 +89,7 @@ module _ {D O : Type 0} where
 
   -- it stopped before more of them
   pub stops_before : {cause : Cause} {xs : List Placed} (ys : List Placed) {shelf : Shelf} {w w' : Outlets D O}
-      → GrowsNoMore cause xs shelf w w' → GrowsNoMore cause (xs ++ ys) shelf w w'
+      → GrowsNoMore cause xs (shelf_in shelf w) w' → GrowsNoMore cause (xs ++ ys) (shelf_in shelf w) w'
   stops_before {cause} {xs} ys stops = record {
     full = λ needed most is.
         let full = stops.full needed most is in
@@ -109,14 +109,14 @@ module _ {D O : Type 0} where
 
   -- it stopped for want of memory, before anything was done
   pub stops_for_memory : (files : List Placed) (shelf : Shelf) (w : Outlets D O)
-      → GrowsNoMore NoMemory files shelf w w
+      → GrowsNoMore NoMemory files (shelf_in shelf w) w
   stops_for_memory files shelf w = record { full = λ needed most is. cc (is); none = λ is. (refl, refl, refl) }
 
   -- one file was appended, and its line put
   pub grows_one : (placed : Placed) (shelf shelf' : Shelf) (w w' : Outlets D O)
       → kept_by shelf' ≡ kept_with (item_for placed) (kept_by shelf)
       → end_with (kept_by shelf).way.end (placed ∷ []) ≤ (kept_by shelf).way.capacity
-      → Grows (placed ∷ []) shelf shelf' w w'
+      → Grows (placed ∷ []) (shelf_in shelf w) (shelf_in shelf' w')
   grows_one placed shelf shelf' w w' kept fits = record {
     ends = omega (arith, ap (λ (k : Rattle.lr_shelf.specs.Kept.KeptShelf). k.way.end) kept);
     same = ap (λ (k : Rattle.lr_shelf.specs.Kept.KeptShelf). k.way.capacity) kept;
@@ -127,7 +127,7 @@ module _ {D O : Type 0} where
   -- it wasn't, whatever the cause but the capacity
   pub stops_at_one : (cause : Cause) (placed : Placed) (shelf : Shelf) (w w' : Outlets D O)
       → ((needed most : ℕ) → cause ≡ Refused (Capacity needed most) → ⊥)
-      → GrowsNoMore cause (placed ∷ []) shelf w w'
+      → GrowsNoMore cause (placed ∷ []) (shelf_in shelf w) w'
   stops_at_one cause placed shelf w w' other = record {
     full = λ needed most is. absurd (other needed most is);
     none = λ is. cc (is);

@@ -1,30 +1,8 @@
 -- What follows of how a run of `receive` ends: each image holds what was acknowledged, and a run without faults is
 -- complete.
-use Rattle.std.proofs.Common.{
-  ◌≡◌,
-  ◌⊎◌,
-  inl,
-  inr,
-  ℕ,
-  ◌+◌,
-  ◌<◌,
-  ◌≤◌,
-  List,
-  [],
-  ◌∷◌,
-  ◌++◌,
-  length,
-  map,
-  refl,
-  sym,
-  ◌∙◌,
-  ap,
-  subst,
-  arith,
-  append_assoc,
-  append-nil,
-  length-append,
-}
+use Rattle.std.proofs.Common.{◌≡◌, ◌⊎◌, inl, inr, ℕ, ◌+◌, ◌<◌, ◌≤◌, List, [], ◌∷◌, ◌++◌, length}
+use Rattle.std.proofs.Common.{map, refl, sym, ◌∙◌, ap, subst, arith, append_assoc, append-nil}
+use Rattle.std.proofs.Common.{length-append}
 use Rattle.std.proofs.lemmas.List.Sums.{sum_by-append}
 use Rattle.lr_bits.specs.declared.placed.Placed.{Placed}
 use Rattle.lr_disk.specs.declared.disk.Disk.{Ghosts as DiskOf}
@@ -38,30 +16,19 @@ use Rattle.lr_causes.specs.declared.cause.Party.TheVariants.{Source, Disk, Outpu
 use Rattle.lr_causes.specs.declared.cause.Refusal.TheVariants.{Capacity}
 use Rattle.lr_forms.specs.declared.forms.Input.{Input}
 use Rattle.lr_receiving.specs.Inputs.{files_of_bytes}
-use Rattle.lr_shelf.specs.InitialShelves.{
-  InitialShelf,
-  OfItems,
-  OfWay,
-  AllHaveRoom,
-  HoldsStill,
-  StandsWith,
-  capacity_of,
-  end_with_files,
-  next_number,
-  with_files,
-  StandsForPrefix,
-  LeavesPrefixes,
-  HoldsPrefix,
-}
+use Rattle.lr_shelf.specs.InitialShelves.{InitialShelf, OfItems, OfWay, AllHaveRoom, HoldsStill}
+use Rattle.lr_shelf.specs.InitialShelves.{StandsWith, capacity_of, end_with_files, next_number}
+use Rattle.lr_shelf.specs.InitialShelves.{with_files, StandsForPrefix, LeavesPrefixes, HoldsPrefix}
 use Rattle.lr_shelf.specs.Prefixes.{end_with}
 use Rattle.lr_receiving.specs.Shelving.{shelved_lines, StandsForOneFileMore}
 use Rattle.lr_causes.specs.Outside.{NoFault, World, Outside, counts_in}
 use Rattle.lr_causes.specs.Counts.{CountsTell}
 use Rattle.lr_receiving.specs.First.{SourceBesides}
-use Rattle.lr_receiving.specs.Receive.{Ends, Receives}
+use Rattle.lr_receiving.specs.Receive.{Ends, Receives, run_onto}
 use Rattle.lr_shelf.proofs.InitialShelves.{with_files-append}
 use Rattle.lr_shelf.proofs.Prefixes.{end_with-append}
 use Rattle.lr_receiving.proofs.Growing.{some}
+use Rattle.lr_reading.specs.Runs.{input_read}
 use Rattle.lr_receiving.proofs.ShelvedLines.{shelved_lines-none, shelved_lines-cons, shelved_lines-push, line-some}
 
 -- lists that begin alike: the one with no more text has no more lines
@@ -197,7 +164,7 @@ module _ {S D O : Type 0} (world : World S D O) (input : Input) (initial : Initi
     every_one durable = every (length whole) (all_there initial (files_of_bytes input bytes) whole rest split)
         durable
 
-    held : (cause : Cause) → Ends world input initial limit bytes cause w w'
+    held : (cause : Cause) → Ends world (run_onto initial (input_read input limit bytes)) cause w w'
         → HoldsPrefix world.disk initial (files_of_bytes input bytes) (length whole) w'.disk
     held Done (inl e) = every_one e.durable
     held Done (inr e) = every_one e.durable
@@ -240,7 +207,7 @@ module _ {S D O : Type 0} (world : World S D O) (input : Input) (initial : Initi
         e.split enough e.durable
     held _ e = absurd e
 
-  complete : (cause : Cause) → Ends world input initial limit bytes cause w w'
+  complete : (cause : Cause) → Ends world (run_onto initial (input_read input limit bytes)) cause w w'
       → CountsTell SourceBesides cause (counts_in world w) (counts_in world w') → NoFault world w w'
       → AllHaveRoom initial (files_of_bytes input bytes)
       → (cause ≡ Done) ⊎ (cause ≡ NoMemory)
@@ -254,9 +221,9 @@ module _ {S D O : Type 0} (world : World S D O) (input : Input) (initial : Initi
   complete _ e first quiet fits = absurd e
 
   pub receives : (cause : Cause) → LeavesPrefixes world.disk initial (files_of_bytes input bytes) w.disk w'.disk
-      → Ends world input initial limit bytes cause w w'
+      → Ends world (run_onto initial (input_read input limit bytes)) cause w w'
       → CountsTell SourceBesides cause (counts_in world w) (counts_in world w')
-      → Receives world input initial limit bytes cause w w'
+      → Receives world (run_onto initial (input_read input limit bytes)) cause w w'
   receives cause any_moment ends first = record {
     held = λ whole rest text told split put. held whole rest text told split put cause ends;
     any_moment = any_moment;

@@ -9,11 +9,9 @@ use Rattle.lr_disk.proofs.Moments.{weaker, stays, unwritten_yet}
 use Rattle.lr_shelf.specs.Load.{IsLoadRefusal, MayRefuseAt}
 use Rattle.lr_shelf.specs.declared.shelf.Shelf.{Shelf}
 use Rattle.lr_shelf.specs.declared.error.ShelfError.{ShelfError}
-use Rattle.lr_shelf.specs.declared.error.ShelfError.TheVariants.{
-  Disk as Disk',
-  NotAShelf as NotAShelf',
-  NoMemory as NoMemory',
-}
+use Rattle.lr_shelf.specs.declared.error.ShelfError.TheVariants.{Disk as Disk'}
+use Rattle.lr_shelf.specs.declared.error.ShelfError.TheVariants.{NotAShelf as NotAShelf'}
+use Rattle.lr_shelf.specs.declared.error.ShelfError.TheVariants.{NoMemory as NoMemory'}
 use Rattle.lr_causes.specs.declared.cause.Cause.{Cause}
 use Rattle.lr_causes.specs.declared.cause.Cause.TheVariants.{Done, Failed, NoMemory, Refused}
 use Rattle.lr_causes.specs.declared.cause.Party.TheVariants.{Source, Disk, Output}
@@ -32,8 +30,8 @@ use Rattle.lr_reading.specs.Reading.{IsRead}
 use Rattle.lr_shelf.specs.InitialShelves.{InitialShelf, OfItems, OfWay, HoldsStill, StandsWith}
 use Rattle.lr_shelf.specs.InitialShelves.{LeavesPrefixes, next_number}
 use Rattle.lr_receiving.specs.Shelved.{MayStop}
-use Rattle.lr_receiving.specs.Receive.{Receives, IsReceiveCause, IsWorkDone, ReceiveRun}
-use Rattle.lr_receiving.specs.Reception.{FewWait}
+use Rattle.lr_receiving.specs.Receive.{Receives, IsReceiveCause, IsWorkDone, ReceiveRun, run_onto, receive_query}
+use Rattle.lr_receiving.specs.Reception.{FewWait, taken_bytes}
 use Rattle.lr_receiving.specs.Shelving.{shelved_lines}
 use Rattle.lr_receiving.proofs.Acknowledging.{all_worked, lines_alone}
 use Rattle.lr_receiving.proofs.Growing.{some, none_in}
@@ -41,6 +39,7 @@ use Rattle.lr_receiving.proofs.Headline.{receives}
 use Rattle.lr_receiving.proofs.ReceiveEnding.{got_none}
 use Rattle.lr_receiving.proofs.Taking.{no_bytes}
 use Rattle.lr_receiving.proofs.Timely.{none_put_off}
+use Rattle.lr_reading.specs.Runs.{input_read}
 use Rattle.lr_shelf.proofs.InitialPrefixes.{front_none, begun_items, begun_way}
 
 -- ---- the causes of what `load` refuses
@@ -117,7 +116,7 @@ full_reads source input limit bytes s s' read tells empty done next rest split =
 -- and where none were taken nothing waits
 pub nothing_waits : {S D O : Type 0} (world : World S D O) (initial : InitialShelf) (input : Input) (leeway : Leeway)
     (w w' : Outside S D O) (d : D) → HoldsStill initial [] world.disk d
-    → FewWait (world_outlets world) initial input leeway [] (outlets_in w) (outlets d w.out)
+    → FewWait (world_outlets world) initial (taken_bytes input leeway []) (outlets_in w) (outlets d w.out)
 nothing_waits world initial input leeway w w' d still =
     all_worked (world_outlets world) initial input leeway [] (outlets_in w) (outlets d w.out)
     (subst (λ (l : List Placed). HoldsStill initial l world.disk d) (sym (no_bytes input)) still)
@@ -137,9 +136,10 @@ module _ {S D O : Type 0} (world : World S D O)
       (world.disk.faults w.disk) (world.disk.faults w.disk) (world.out.faults w.out) (world.out.faults w.out) tt tt
       refl refl
 
-  nothing_made : (initial : InitialShelf) → world.disk.tells w.disk → StandsWith initial [] (world.disk.contents w.disk)
+  nothing_made : (initial : InitialShelf) → world.disk.tells w.disk
+      → StandsWith initial [] (world.disk.contents w.disk)
       → NothingPending world.disk w.disk
-      → Receives world input initial limit [] NoMemory w w
+      → Receives world (run_onto initial (input_read input limit [])) NoMemory w w
   nothing_made initial told stands only =
       receives world input initial limit [] w w NoMemory
       (subst (λ (l : List Placed). LeavesPrefixes world.disk initial l w.disk w.disk) (sym (no_bytes input))
@@ -155,7 +155,7 @@ module _ {S D O : Type 0} (world : World S D O)
       })
       none_failed
 
-  pub not_made : ReceiveRun world input workers limit NoMemory w w
+  pub not_made : ReceiveRun world (receive_query input workers limit) NoMemory w w
   not_made = record {
     causes = tt;
     first = none_failed;

@@ -1,22 +1,6 @@
 -- How a run of `receive` ends.
-use Rattle.std.proofs.Common.{
-  ◌≡◌,
-  inl,
-  inr,
-  ℕ,
-  List,
-  [],
-  ◌++◌,
-  length,
-  refl,
-  sym,
-  ◌∙◌,
-  ap,
-  subst,
-  arith,
-  append_assoc,
-  append-nil,
-}
+use Rattle.std.proofs.Common.{◌≡◌, inl, inr, ℕ, List, [], ◌++◌, length, refl, sym, ◌∙◌, ap, subst}
+use Rattle.std.proofs.Common.{arith, append_assoc, append-nil}
 use Rattle.lr_bits.specs.Faults.{Rose}
 use Rattle.lr_bits.specs.declared.placed.Placed.{Placed}
 use Rattle.lr_io.specs.declared.source.Source.{Ghosts as SourceOf}
@@ -36,7 +20,7 @@ use Rattle.lr_causes.specs.declared.cause.Refusal.TheVariants.{Capacity}
 use Rattle.lr_receiving.specs.declared.receive_counts.ReceiveCounts.{ReceiveCounts}
 use Rattle.lr_reading.specs.Readers.{Leeway}
 use Rattle.lr_reading.specs.Reading.{WhenLastAsked}
-use Rattle.lr_reading.specs.Runs.{ReadsInput}
+use Rattle.lr_reading.specs.Runs.{ReadsInput, input_read}
 use Rattle.lr_reading.proofs.Coming.{outcomes_counted}
 use Rattle.lr_forms.specs.declared.forms.Input.{Input}
 use Rattle.lr_causes.specs.Causes.{IsEarlier, cause_at}
@@ -44,27 +28,12 @@ use Rattle.lr_reading.specs.Inputs.{outcomes_of_bytes}
 use Rattle.lr_receiving.specs.Inputs.{files_of_bytes}
 use Rattle.lr_causes.specs.Puts.{PutFails}
 use Rattle.lr_shelf.specs.InitialShelves.{InitialShelf, HoldsStill, IsSettledOn, StandsWith, next_number}
-use Rattle.lr_receiving.specs.Shelving.{shelved_lines, StopsBy}
-use Rattle.lr_receiving.specs.Shelved.{MayStop, ShelvesSoFar, Grows, GrowsNoMore}
-use Rattle.lr_receiving.specs.Receive.{
-  counts_line,
-  receive_count,
-  receive_last,
-  AreWorkedBut,
-  IsWorkDone,
-  Finishes,
-  Ends,
-}
-use Rattle.lr_receiving.specs.Reception.{
-  FewWait,
-  sums_line,
-  PutsLast,
-  LastStops,
-  ReadsAll,
-  ReadsSome,
-  EndsOver,
-  EndsRun,
-}
+use Rattle.lr_receiving.specs.Shelving.{shelved_lines, StopsBy, files_onto}
+use Rattle.lr_receiving.specs.Shelved.{MayStop, ShelvesSoFar, Grows, GrowsNoMore, shelf_in}
+use Rattle.lr_receiving.specs.Receive.{counts_line, receive_count, receive_last, AreWorkedBut}
+use Rattle.lr_receiving.specs.Receive.{IsWorkDone, Finishes, Ends, run_onto, waiting_of}
+use Rattle.lr_receiving.specs.Reception.{FewWait, sums_line, PutsLast, LastStops, ReadsAll}
+use Rattle.lr_receiving.specs.Reception.{ReadsSome, EndsOver, EndsRun, taken_bytes, reception}
 use Rattle.lr_receiving.proofs.Acknowledging.{all_acknowledged, all_worked, lines_alone}
 use Rattle.lr_receiving.proofs.Timely.{all_in_time}
 use Rattle.lr_receiving.proofs.Causing.{first_beside, first_done, first_end, first_out, first_stays}
@@ -77,7 +46,7 @@ use Rattle.lr_shelf.proofs.InitialPrefixes.{front_none}
 -- the last line tells what was read and counted
 pub last_line_is : {S : Type 0} (source : SourceOf S) (input : Input) (limit : ℕ) (bytes : List ℕ)
     (s s' : S) (sums : ReceiveCounts)
-    → ReadsInput source input limit sums.totals bytes s s'
+    → ReadsInput source (input_read input limit bytes) sums.totals s s'
     → numbers sums.counts ≡ numbers_of (outcomes_of_bytes input bytes)
     → sums_line sums ≡ receive_last input bytes sums.totals.stop
 unfolding receive_last receive_count
@@ -101,7 +70,8 @@ got_none out initial o t =
 pub loaded : {D O : Type 0} (world : OutletsOf D O) (initial : InitialShelf) (w : Outlets D O) (d1 : D) (shelf : Shelf)
     → IsSettledOn initial [] world.disk shelf d1
     → EachImageSince world.disk w.disk d1 (StandsWith initial [])
-    → world.disk.faults d1 ≡ world.disk.faults w.disk → ShelvesSoFar world initial [] shelf w (outlets d1 w.out)
+    → world.disk.faults d1 ≡ world.disk.faults w.disk
+    → ShelvesSoFar world initial [] w (shelf_in shelf (outlets d1 w.out))
 loaded world initial w d1 shelf settled run count = record {
   settled = settled;
   any_moment = weaker world.disk.moment world.disk.left_since w.disk d1 _ _ (front_none initial) run;
@@ -132,8 +102,8 @@ no_work _ may done = absurd may
 
 module _ {D O : Type 0} {shelf : Shelf} {files : List Placed} {w w1 : Outlets D O} where
   -- shelving stopped
-  over_some : (cause : Cause) → MayStop cause → GrowsNoMore cause files shelf w w1
-      → EndsOver cause files shelf w w1
+  over_some : (cause : Cause) → MayStop cause → GrowsNoMore cause files (shelf_in shelf w) w1
+      → EndsOver cause files (shelf_in shelf w) w1
   over_some cause may stops = record {
     full = stops.full;
     room = λ done. absurd (no_work cause may done);
@@ -142,11 +112,11 @@ module _ {D O : Type 0} {shelf : Shelf} {files : List Placed} {w w1 : Outlets D 
     kind = λ none failed. cc (failed, (stops.none none).0);
   }
 
-  module _ {shelf1 : Shelf} (grown : Grows files shelf shelf1 w w1) (o2 : O) where
+  module _ {shelf1 : Shelf} (grown : Grows files (shelf_in shelf w) (shelf_in shelf1 w1)) (o2 : O) where
     -- all files are shelved, and the last line isn't put
     over_last : (cause : Cause) → ((needed most : ℕ) → cause ≡ Refused (Capacity needed most) → ⊥)
         → (cause ≡ Failed Disk → ⊥) → (IsEarlier cause → o2 ≡ w1.out)
-        → EndsOver cause files shelf w (outlets w1.disk o2)
+        → EndsOver cause files (shelf_in shelf w) (outlets w1.disk o2)
     over_last cause other no_fault same = record {
       full = λ needed most is. absurd (other needed most is);
       room = λ done. grown.room;
@@ -156,7 +126,7 @@ module _ {D O : Type 0} {shelf : Shelf} {files : List Placed} {w w1 : Outlets D 
     }
 
     -- it is put
-    over_done : (stop : Stop) → EndsOver (cause_at stop) files shelf w (outlets w1.disk o2)
+    over_done : (stop : Stop) → EndsOver (cause_at stop) files (shelf_in shelf w) (outlets w1.disk o2)
     over_done End = over_last (cause_at End) (λ needed most is. cc (is)) (λ is. cc (is)) (λ early. absurd early)
     over_done Limit = over_last (cause_at Limit) (λ needed most is. cc (is)) (λ is. cc (is)) (λ early. absurd early)
     over_done Fault = over_last (cause_at Fault) (λ needed most is. cc (is)) not_disk (λ early. absurd early)
@@ -167,25 +137,26 @@ module _ {D O : Type 0} {shelf : Shelf} {files : List Placed} {w w1 : Outlets D 
 module _ {S D O : Type 0} (world : World S D O) (input : Input) (limit : ℕ) where
   module _ (initial : InitialShelf) (bytes : List ℕ) (w w' : Outside S D O) where
     ends_of : (cause : Cause)
-        → StopsBy (world_outlets world) initial cause (files_of_bytes input bytes) (outlets_in w)
+        → StopsBy (world_outlets world) (files_onto initial (files_of_bytes input bytes)) cause (outlets_in w)
         (outlets_in w')
-        → Ends world input initial limit bytes cause w w'
+        → Ends world (run_onto initial (input_read input limit bytes)) cause w w'
     ends_of (Failed Disk) stops = stops
     ends_of (Failed Output) stops = inl stops
     ends_of NoMemory stops = stops
     ends_of (Refused (Capacity needed most)) stops = stops
     ends_of _ stops = absurd stops
 
-    ends_at : (stop : Stop) → Finishes world input initial limit bytes stop w w'
-        → Ends world input initial limit bytes (cause_at stop) w w'
+    ends_at : (stop : Stop) → Finishes world (run_onto initial (input_read input limit bytes)) stop w w'
+        → Ends world (run_onto initial (input_read input limit bytes)) (cause_at stop) w w'
     ends_at End done = inl done
     ends_at Limit done = inr done
     ends_at Fault done = done
 
   module _ (shelf : Shelf) (w w1 : Outside S D O) where
     -- shelving stopped
-    pub ended_some : (leeway : Leeway) (cause : Cause) → ReadsSome world input limit leeway cause shelf w w1
-        → EndsRun world input limit leeway cause shelf w w1
+    pub ended_some : (leeway : Leeway) (cause : Cause)
+        → ReadsSome world (reception input limit leeway) cause (shelf_in shelf w) w1
+        → EndsRun world (reception input limit leeway) cause (shelf_in shelf w) w1
     ended_some waiting cause some =
         let stopped = some.stopped in
         record {
@@ -214,181 +185,187 @@ module _ {S D O : Type 0} (world : World S D O) (input : Input) (limit : ℕ) wh
         }
 
     module _ (leeway : Leeway) (sums : ReceiveCounts) (shelf1 : Shelf)
-        (all : ReadsAll world input limit leeway sums shelf shelf1 w w1) (o2 : O) where
-      -- nothing waits, neither now nor when the source was last asked
-      none_waits : (initial : InitialShelf) (before : Outlets D O)
-          → HoldsStill initial (files_of_bytes input all.bytes) world.disk w1.disk
-          → (world.out.tells before.out → (text : List ℕ) × (world.out.contents o2
-          ≡ world.out.contents before.out
-          ++ (shelved_lines (next_number initial) (files_of_bytes input all.bytes) ++ text)))
-          → FewWait (world_outlets world) initial input leeway all.bytes before (outlets w1.disk o2)
-          × WhenLastAsked world.source (AreWorkedBut (world_outlets world) initial input leeway.when_asked
-          (files_of_bytes input all.bytes) before (outlets w1.disk o2)) all.bytes w.source w1.source
-      none_waits initial before durable told = (
-        all_worked (world_outlets world) initial input leeway all.bytes before (outlets w1.disk o2) durable told,
-        all_in_time world.source input leeway.when_asked all.bytes w.source w1.source (world_outlets world) initial
-            before (outlets w1.disk o2) (all_acknowledged (world_outlets world) initial
-            (files_of_bytes input all.bytes) before (outlets w1.disk o2) durable told) all.in_time,
-      )
+        (all : ReadsAll world (reception input limit leeway) sums (shelf_in shelf w) (shelf_in shelf1 w1)) (o2 : O)
+      where
+        -- nothing waits, neither now nor when the source was last asked
+        none_waits : (initial : InitialShelf) (before : Outlets D O)
+            → HoldsStill initial (files_of_bytes input all.bytes) world.disk w1.disk
+            → (world.out.tells before.out → (text : List ℕ) × (world.out.contents o2
+            ≡ world.out.contents before.out
+            ++ (shelved_lines (next_number initial) (files_of_bytes input all.bytes) ++ text)))
+            → FewWait (world_outlets world) initial (taken_bytes input leeway all.bytes) before (outlets w1.disk o2)
+            × WhenLastAsked world.source (AreWorkedBut (world_outlets world)
+            (files_onto initial (files_of_bytes input all.bytes)) (waiting_of input leeway.when_asked) before
+            (outlets w1.disk o2)) all.bytes w.source w1.source
+        none_waits initial before durable told = (
+          all_worked (world_outlets world) initial input leeway all.bytes before (outlets w1.disk o2) durable told,
+          all_in_time world.source input leeway.when_asked all.bytes w.source w1.source (world_outlets world) initial
+              before (outlets w1.disk o2) (all_acknowledged (world_outlets world) initial
+              (files_of_bytes input all.bytes) before (outlets w1.disk o2) durable told) all.in_time,
+        )
 
-      line_is : sums_line sums ≡ receive_last input all.bytes sums.totals.stop
-      line_is = last_line_is world.source input limit all.bytes w.source w1.source sums all.ends all.counts
+        line_is : sums_line sums ≡ receive_last input all.bytes sums.totals.stop
+        line_is = last_line_is world.source input limit all.bytes w.source w1.source sums all.ends all.counts
 
-      -- the files were written, and nothing else
-      changes : world.disk.tells w.disk
-          → ChangesFor (kept_by shelf).way (files_of_bytes input all.bytes) (world.disk.contents w.disk)
-          (world.disk.contents w1.disk)
-      changes t =
-          change_for (kept_by shelf).way (files_of_bytes input all.bytes) (world.disk.contents w.disk)
-          (world.disk.contents w1.disk) all.shelved.grown.room (all.shelved.outside t)
+        -- the files were written, and nothing else
+        changes : world.disk.tells w.disk
+            → ChangesFor (kept_by shelf).way (files_of_bytes input all.bytes) (world.disk.contents w.disk)
+            (world.disk.contents w1.disk)
+        changes t =
+            change_for (kept_by shelf).way (files_of_bytes input all.bytes) (world.disk.contents w.disk)
+            (world.disk.contents w1.disk) all.shelved.grown.room (all.shelved.outside t)
 
-      -- a part of the last line was put
-      summary_cut : PutFails world.out (sums_line sums) w1.out o2
-          → EndsRun world input limit leeway (Failed Output) shelf w (outside w1.source w1.disk o2)
-      summary_cut fails = record {
-        bytes = all.bytes;
-        read = all.ends.read;
-        kind = inl tt;
-        told_by_disk = all.shelved.told_by_disk;
-        untold_by_disk = all.shelved.untold_by_disk;
-        told_by_out = λ t. fails.told (all.shelved.told_by_out t);
-        untold_by_out = λ t. all.shelved.untold_by_out (fails.untold t);
-        first = λ works. first_out (world.source.faults w.source) (world.source.faults w1.source)
-            (world.disk.faults w.disk) (world.disk.faults w1.disk) (world.out.faults w.out) (world.out.faults o2)
-            (subst (λ (k : ℕ). Rose k (world.out.faults o2)) all.shelved.out_count fails.rose)
-            all.shelved.disk_count;
-        ends = λ initial before begun.
-            let so_far = all.shelved.shelved initial [] before begun in
-            let none = none_waits initial before so_far.settled.on_disk
-            (λ t.
-            let cut = fails.part (so_far.put.told t) in (
-              cut.part,
-              cut.put ∙ ap (λ (l : List ℕ). l ++ cut.part) (so_far.put.put t)
-                  ∙ append_assoc (world.out.contents before.out)
-                  (shelved_lines (next_number initial) (files_of_bytes input all.bytes)) cut.part,
-            )) in (
-              so_far.any_moment,
-              inr (record {
-                stop = sums.totals.stop;
-                reason = all.ends.reason;
-                durable = so_far.settled.on_disk;
-                part = λ t.
-                    let cut = fails.part (so_far.put.told t) in
-                    record {
-                      part = cut.part;
-                      rest = cut.rest;
-                      split = sym line_is ∙ cut.split;
-                      shorter = omega (arith, cut.shorter, ap length line_is);
-                      put = cut.put ∙ ap (λ (l : List ℕ). l ++ cut.part) (so_far.put.put t);
-                    };
-              }),
-              none.0,
-              none.1,
-            );
-        over =
-            over_last all.shelved.grown o2 (Failed Output) (λ needed most is. cc (is))
-            (λ is. let same : Output ≡ Disk = cc (is) in cc (same)) (λ early. absurd early);
-        ended = λ done. absurd done;
-        outside = changes;
-        moments = λ t only. (all.shelved.moments t only).1;
-      }
+        -- a part of the last line was put
+        summary_cut : PutFails world.out (sums_line sums) w1.out o2
+            → EndsRun world (reception input limit leeway) (Failed Output) (shelf_in shelf w)
+            (outside w1.source w1.disk o2)
+        summary_cut fails = record {
+          bytes = all.bytes;
+          read = all.ends.read;
+          kind = inl tt;
+          told_by_disk = all.shelved.told_by_disk;
+          untold_by_disk = all.shelved.untold_by_disk;
+          told_by_out = λ t. fails.told (all.shelved.told_by_out t);
+          untold_by_out = λ t. all.shelved.untold_by_out (fails.untold t);
+          first = λ works. first_out (world.source.faults w.source) (world.source.faults w1.source)
+              (world.disk.faults w.disk) (world.disk.faults w1.disk) (world.out.faults w.out) (world.out.faults o2)
+              (subst (λ (k : ℕ). Rose k (world.out.faults o2)) all.shelved.out_count fails.rose)
+              all.shelved.disk_count;
+          ends = λ initial before begun.
+              let so_far = all.shelved.shelved initial [] before begun in
+              let none = none_waits initial before so_far.settled.on_disk
+              (λ t.
+              let cut = fails.part (so_far.put.told t) in (
+                cut.part,
+                cut.put ∙ ap (λ (l : List ℕ). l ++ cut.part) (so_far.put.put t)
+                    ∙ append_assoc (world.out.contents before.out)
+                    (shelved_lines (next_number initial) (files_of_bytes input all.bytes)) cut.part,
+              )) in (
+                so_far.any_moment,
+                inr (record {
+                  stop = sums.totals.stop;
+                  reason = all.ends.reason;
+                  durable = so_far.settled.on_disk;
+                  part = λ t.
+                      let cut = fails.part (so_far.put.told t) in
+                      record {
+                        part = cut.part;
+                        rest = cut.rest;
+                        split = sym line_is ∙ cut.split;
+                        shorter = omega (arith, cut.shorter, ap length line_is);
+                        put = cut.put ∙ ap (λ (l : List ℕ). l ++ cut.part) (so_far.put.put t);
+                      };
+                }),
+                none.0,
+                none.1,
+              );
+          over =
+              over_last all.shelved.grown o2 (Failed Output) (λ needed most is. cc (is))
+              (λ is. let same : Output ≡ Disk = cc (is) in cc (same)) (λ early. absurd early);
+          ended = λ done. absurd done;
+          outside = changes;
+          moments = λ t only. (all.shelved.moments t only).1;
+        }
 
-      -- there was no memory for it
-      no_summary : o2 ≡ w1.out → EndsRun world input limit leeway NoMemory shelf w (outside w1.source w1.disk o2)
-      no_summary same = record {
-        bytes = all.bytes;
-        read = all.ends.read;
-        kind = inl tt;
-        told_by_disk = all.shelved.told_by_disk;
-        untold_by_disk = all.shelved.untold_by_disk;
-        told_by_out = λ t. subst world.out.tells (sym same) (all.shelved.told_by_out t);
-        untold_by_out = λ t. all.shelved.untold_by_out (subst world.out.tells same t);
-        first = λ works. first_stays NoMemory (world.source.faults w.source) (world.source.faults w1.source)
-            (world.disk.faults w.disk) (world.disk.faults w1.disk) (world.out.faults w.out) (world.out.faults o2) tt tt
-            all.shelved.disk_count (ap world.out.faults same ∙ all.shelved.out_count);
-        ends = λ initial before begun.
-            let so_far = all.shelved.shelved initial [] before begun in
-            let none = none_waits initial before so_far.settled.on_disk
-            (lines_alone (world_outlets world) initial (files_of_bytes input all.bytes) before
-            (outlets w1.disk o2) (λ t. ap world.out.contents same ∙ so_far.put.put t)) in (
-              so_far.any_moment,
-              record {
-                done = files_of_bytes input all.bytes;
-                rest = [];
-                split = sym (append-nil (files_of_bytes input all.bytes));
-                durable = so_far.settled.on_disk;
-                got = λ t. ap world.out.contents same ∙ so_far.put.put t;
-              },
-              none.0,
-              none.1,
-            );
-        over = over_last all.shelved.grown o2 NoMemory (λ needed most is. cc (is)) (λ is. cc (is)) (λ early. same);
-        ended = λ done. absurd done;
-        outside = changes;
-        moments = λ t only. (all.shelved.moments t only).1;
-      }
+        -- there was no memory for it
+        no_summary : o2 ≡ w1.out → EndsRun world (reception input limit leeway) NoMemory (shelf_in shelf w)
+            (outside w1.source w1.disk o2)
+        no_summary same = record {
+          bytes = all.bytes;
+          read = all.ends.read;
+          kind = inl tt;
+          told_by_disk = all.shelved.told_by_disk;
+          untold_by_disk = all.shelved.untold_by_disk;
+          told_by_out = λ t. subst world.out.tells (sym same) (all.shelved.told_by_out t);
+          untold_by_out = λ t. all.shelved.untold_by_out (subst world.out.tells same t);
+          first = λ works. first_stays NoMemory (world.source.faults w.source) (world.source.faults w1.source)
+              (world.disk.faults w.disk) (world.disk.faults w1.disk) (world.out.faults w.out) (world.out.faults o2)
+              tt tt
+              all.shelved.disk_count (ap world.out.faults same ∙ all.shelved.out_count);
+          ends = λ initial before begun.
+              let so_far = all.shelved.shelved initial [] before begun in
+              let none = none_waits initial before so_far.settled.on_disk
+              (lines_alone (world_outlets world) initial (files_of_bytes input all.bytes) before
+              (outlets w1.disk o2) (λ t. ap world.out.contents same ∙ so_far.put.put t)) in (
+                so_far.any_moment,
+                record {
+                  done = files_of_bytes input all.bytes;
+                  rest = [];
+                  split = sym (append-nil (files_of_bytes input all.bytes));
+                  durable = so_far.settled.on_disk;
+                  got = λ t. ap world.out.contents same ∙ so_far.put.put t;
+                },
+                none.0,
+                none.1,
+              );
+          over = over_last all.shelved.grown o2 NoMemory (λ needed most is. cc (is)) (λ is. cc (is)) (λ early. same);
+          ended = λ done. absurd done;
+          outside = changes;
+          moments = λ t only. (all.shelved.moments t only).1;
+        }
 
-      -- the last line wasn't put
-      pub last_stopped : (cause : Cause) → LastStops world.out sums cause w1.out o2
-          → EndsRun world input limit leeway cause shelf w (outside w1.source w1.disk o2)
-      last_stopped (Failed Output) stops = summary_cut stops
-      last_stopped NoMemory stops = no_summary stops
-      last_stopped _ stops = absurd stops
+        -- the last line wasn't put
+        pub last_stopped : (cause : Cause) → LastStops world.out sums cause w1.out o2
+            → EndsRun world (reception input limit leeway) cause (shelf_in shelf w) (outside w1.source w1.disk o2)
+        last_stopped (Failed Output) stops = summary_cut stops
+        last_stopped NoMemory stops = no_summary stops
+        last_stopped _ stops = absurd stops
 
-      -- it was put
-      pub all_put : PutsLast world.out sums w1.out o2
-          → EndsRun world input limit leeway (cause_at sums.totals.stop) shelf w (outside w1.source w1.disk o2)
-      all_put put = record {
-        bytes = all.bytes;
-        read = all.ends.read;
-        kind = inr (work_at sums.totals.stop);
-        told_by_disk = all.shelved.told_by_disk;
-        untold_by_disk = all.shelved.untold_by_disk;
-        told_by_out = λ t. put.told (all.shelved.told_by_out t);
-        untold_by_out = λ t. all.shelved.untold_by_out (put.untold t);
-        first = λ works. first_done sums.totals.stop (world.source.faults w.source)
-            (world.source.faults w1.source) (world.disk.faults w.disk)
-            (world.disk.faults w1.disk) (world.out.faults w.out) (world.out.faults o2)
-            (first_end world.source sums.totals.stop limit all.bytes w.source w1.source all.ends.reason)
-            all.shelved.disk_count (put.kept ∙ all.shelved.out_count);
-        ends = λ initial before begun.
-            let so_far = all.shelved.shelved initial [] before begun in
-            let files = files_of_bytes input all.bytes in
-            let none = none_waits initial before so_far.settled.on_disk
-            (λ t. (
-              sums_line sums,
-              put.put (so_far.put.told t) ∙ ap (λ (l : List ℕ). l ++ sums_line sums) (so_far.put.put t)
-                  ∙ append_assoc (world.out.contents before.out) (shelved_lines (next_number initial) files)
-                  (sums_line sums),
-            )) in (
-              so_far.any_moment,
-              ends_at initial all.bytes (outside w.source before.disk before.out)
-                  (outside w1.source w1.disk o2) sums.totals.stop (record {
-                    reason = all.ends.reason;
-                    durable = so_far.settled.on_disk;
-                    got = λ t.
-                        put.put (so_far.put.told t) ∙ ap (λ (l : List ℕ). l ++ sums_line sums) (so_far.put.put t)
-                        ∙ append_assoc (world.out.contents before.out) (shelved_lines (next_number initial) files)
-                        (sums_line sums)
-                        ∙ ap (λ (l : List ℕ). world.out.contents before.out
-                        ++ (shelved_lines (next_number initial) files ++ l)) line_is;
-                  }),
-              none.0,
-              none.1,
-            );
-        over = over_done all.shelved.grown o2 sums.totals.stop;
-        ended = λ done. (
-          sums.totals.stop,
-          refl,
-          record {
-            reason = all.ends.reason;
-            got = λ t.
-                let lines = shelved_lines (length (kept_by shelf).way.entries) (files_of_bytes input all.bytes) in
-                put.put (all.shelved.told_by_out t) ∙ ap (λ (l : List ℕ). l ++ sums_line sums) (all.shelved.put t)
-                ∙ append_assoc (world.out.contents w.out) lines (sums_line sums)
-                ∙ ap (λ (l : List ℕ). world.out.contents w.out ++ (lines ++ l)) line_is;
-          },
-        );
-        outside = changes;
-        moments = λ t only. (all.shelved.moments t only).1;
-      }
+        -- it was put
+        pub all_put : PutsLast world.out sums w1.out o2
+            → EndsRun world (reception input limit leeway) (cause_at sums.totals.stop) (shelf_in shelf w)
+            (outside w1.source w1.disk o2)
+        all_put put = record {
+          bytes = all.bytes;
+          read = all.ends.read;
+          kind = inr (work_at sums.totals.stop);
+          told_by_disk = all.shelved.told_by_disk;
+          untold_by_disk = all.shelved.untold_by_disk;
+          told_by_out = λ t. put.told (all.shelved.told_by_out t);
+          untold_by_out = λ t. all.shelved.untold_by_out (put.untold t);
+          first = λ works. first_done sums.totals.stop (world.source.faults w.source)
+              (world.source.faults w1.source) (world.disk.faults w.disk)
+              (world.disk.faults w1.disk) (world.out.faults w.out) (world.out.faults o2)
+              (first_end world.source sums.totals.stop limit all.bytes w.source w1.source all.ends.reason)
+              all.shelved.disk_count (put.kept ∙ all.shelved.out_count);
+          ends = λ initial before begun.
+              let so_far = all.shelved.shelved initial [] before begun in
+              let files = files_of_bytes input all.bytes in
+              let none = none_waits initial before so_far.settled.on_disk
+              (λ t. (
+                sums_line sums,
+                put.put (so_far.put.told t) ∙ ap (λ (l : List ℕ). l ++ sums_line sums) (so_far.put.put t)
+                    ∙ append_assoc (world.out.contents before.out) (shelved_lines (next_number initial) files)
+                    (sums_line sums),
+              )) in (
+                so_far.any_moment,
+                ends_at initial all.bytes (outside w.source before.disk before.out)
+                    (outside w1.source w1.disk o2) sums.totals.stop (record {
+                      reason = all.ends.reason;
+                      durable = so_far.settled.on_disk;
+                      got = λ t.
+                          put.put (so_far.put.told t) ∙ ap (λ (l : List ℕ). l ++ sums_line sums) (so_far.put.put t)
+                          ∙ append_assoc (world.out.contents before.out) (shelved_lines (next_number initial) files)
+                          (sums_line sums)
+                          ∙ ap (λ (l : List ℕ). world.out.contents before.out
+                          ++ (shelved_lines (next_number initial) files ++ l)) line_is;
+                    }),
+                none.0,
+                none.1,
+              );
+          over = over_done all.shelved.grown o2 sums.totals.stop;
+          ended = λ done. (
+            sums.totals.stop,
+            refl,
+            record {
+              reason = all.ends.reason;
+              got = λ t.
+                  let lines = shelved_lines (length (kept_by shelf).way.entries) (files_of_bytes input all.bytes) in
+                  put.put (all.shelved.told_by_out t) ∙ ap (λ (l : List ℕ). l ++ sums_line sums) (all.shelved.put t)
+                  ∙ append_assoc (world.out.contents w.out) lines (sums_line sums)
+                  ∙ ap (λ (l : List ℕ). world.out.contents w.out ++ (lines ++ l)) line_is;
+            },
+          );
+          outside = changes;
+          moments = λ t only. (all.shelved.moments t only).1;
+        }

@@ -4,12 +4,8 @@ use Rattle.lr_bits.specs.File.{File}
 use Rattle.lr_bits.specs.declared.placed.Placed.{Placed}
 use Rattle.lr_catalog.specs.Files.{shelved_line}
 use Rattle.lr_receiving.specs.Shelving.{shelved_lines}
-use Rattle.lr_reading.proofs.Numbered.{
-  numbered_lines-none,
-  numbered_lines-cons,
-  numbered_lines-append,
-  numbered_lines-push,
-}
+use Rattle.lr_reading.proofs.Numbered.{numbered_lines-none, numbered_lines-cons}
+use Rattle.lr_reading.proofs.Numbered.{numbered_lines-append, numbered_lines-push}
 
 abbrev line_of : ℕ → Placed → List ℕ
 line_of number placed = shelved_line number placed.file

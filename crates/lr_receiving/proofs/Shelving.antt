@@ -11,12 +11,10 @@ use Rattle.lr_shelf.specs.Append.{IsAppendRefusal, item_for}
 use Rattle.lr_shelf.specs.Kept.{KeptShelf, kept_by}
 use Rattle.lr_shelf.specs.declared.shelf.Shelf.{Shelf}
 use Rattle.lr_shelf.specs.declared.error.ShelfError.{ShelfError}
-use Rattle.lr_shelf.specs.declared.error.ShelfError.TheVariants.{
-  Disk as Disk',
-  Capacity as Capacity',
-  NoMemory as NoMemory',
-  Failed as Failed',
-}
+use Rattle.lr_shelf.specs.declared.error.ShelfError.TheVariants.{Disk as Disk'}
+use Rattle.lr_shelf.specs.declared.error.ShelfError.TheVariants.{Capacity as Capacity'}
+use Rattle.lr_shelf.specs.declared.error.ShelfError.TheVariants.{NoMemory as NoMemory'}
+use Rattle.lr_shelf.specs.declared.error.ShelfError.TheVariants.{Failed as Failed'}
 use Rattle.lr_catalog.specs.Files.{shelved_line}
 use Rattle.lr_causes.specs.declared.cause.Cause.{Cause}
 use Rattle.lr_causes.specs.declared.cause.Cause.TheVariants.{Failed, NoMemory, Refused}
@@ -26,8 +24,8 @@ use Rattle.lr_refusals.specs.Errors.{cause_of}
 use Rattle.lr_causes.specs.Puts.{Puts, PutFails}
 use Rattle.lr_shelf.specs.InitialShelves.{InitialShelf, HoldsStill, IsSettledOn, next_number, LeavesPrefixes}
 use Rattle.lr_shelf.specs.InitialShelves.{StandsWithEither}
-use Rattle.lr_receiving.specs.Shelving.{shelved_lines, StandsForOneFileMore, StopsBy, Stops}
-use Rattle.lr_receiving.specs.Shelved.{MayStop, ShelvesSoFar}
+use Rattle.lr_receiving.specs.Shelving.{shelved_lines, StandsForOneFileMore, StopsBy, Stops, files_onto}
+use Rattle.lr_receiving.specs.Shelved.{MayStop, ShelvesSoFar, shelf_in}
 use Rattle.lr_shelf.proofs.InitialShelves.{capacity_is, ends, needed_is, number_is}
 use Rattle.lr_receiving.proofs.ShelvedLines.{shelved_lines-push}
 use Rattle.lr_causes.specs.Outside.{outlets, Outlets, OutletsOf}
@@ -51,7 +49,8 @@ module _ (initial : InitialShelf) where
 -- ---- causes
 
 -- what an append refuses for stops shelving
-pub append_kind : (item : Item) (kept : KeptShelf) (e : ShelfError) → IsAppendRefusal item kept e → MayStop (cause_of e)
+pub append_kind : (item : Item) (kept : KeptShelf) (e : ShelfError) → IsAppendRefusal item kept e
+    → MayStop (cause_of e)
 append_kind item kept Disk' refusal = tt
 append_kind item kept (Capacity' needed most) refusal = tt
 append_kind item kept NoMemory' refusal = tt
@@ -65,8 +64,8 @@ module _ {D O : Type 0} (world : OutletsOf D O) (initial : InitialShelf) (w w' :
   longer : (done rest : List Placed) → files ≡ done ++ rest → files ++ more ≡ done ++ (rest ++ more)
   longer done rest split = ap (λ (l : List Placed). l ++ more) split ∙ append_assoc done rest more
 
-  stops_by_more : (cause : Cause) → StopsBy world initial cause files w w'
-      → StopsBy world initial cause (files ++ more) w w'
+  stops_by_more : (cause : Cause) → StopsBy world (files_onto initial files) cause w w'
+      → StopsBy world (files_onto initial (files ++ more)) cause w w'
   stops_by_more (Failed Disk) why = record {
     done = why.done;
     rest = why.rest ++ more;
@@ -104,8 +103,8 @@ module _ {D O : Type 0} (world : OutletsOf D O) (initial : InitialShelf) (w w' :
   stops_by_more _ why = absurd why
 
   -- shelving that stopped among some files stopped among more of them
-  pub stops_more : (cause : Cause) → Stops world initial cause files w w'
-      → Stops world initial cause (files ++ more) w w'
+  pub stops_more : (cause : Cause) → Stops world (files_onto initial files) cause w w'
+      → Stops world (files_onto initial (files ++ more)) cause w w'
   stops_more cause stops = record {
     any_moment =
         fronts_of_more world.disk initial w.disk w'.disk w'.disk files stops.any_moment more;
@@ -115,7 +114,7 @@ module _ {D O : Type 0} (world : OutletsOf D O) (initial : InitialShelf) (w w' :
 -- ---- one file more, on an initial shelf
 
 module _ {D O : Type 0} (world : OutletsOf D O) (initial : InitialShelf) (done : List Placed) (shelf : Shelf)
-    (w w1 : Outlets D O) (so_far : ShelvesSoFar world initial done shelf w w1) where
+    (w w1 : Outlets D O) (so_far : ShelvesSoFar world initial done w (shelf_in shelf w1)) where
   abbrev disk : DiskOf D
   disk = world.disk
 
@@ -123,7 +122,7 @@ module _ {D O : Type 0} (world : OutletsOf D O) (initial : InitialShelf) (done :
   out = world.out
 
   -- no memory for what comes next
-  pub out_of_memory : (more : List Placed) → Stops world initial NoMemory (done ++ more) w w1
+  pub out_of_memory : (more : List Placed) → Stops world (files_onto initial (done ++ more)) NoMemory w w1
   out_of_memory more = record {
     any_moment = fronts_of_more disk initial w.disk w1.disk w1.disk done so_far.any_moment more;
     why = record {
@@ -146,7 +145,7 @@ module _ {D O : Type 0} (world : OutletsOf D O) (initial : InitialShelf) (done :
         → ((c : List ℕ) → disk.may_leave d2 c → StandsWithEither initial done placed c)
         → ((e ≡ Disk' → ⊥) → d2 ≡ w1.disk)
         → IsAppendRefusal (item_for placed) (kept_by shelf) e
-        → Stops world initial (cause_of e) (done ++ placed ∷ []) w (outlets d2 w1.out)
+        → Stops world (files_onto initial (done ++ placed ∷ [])) (cause_of e) w (outlets d2 w1.out)
     append_stopped Disk' is now left stays refusal = record {
       any_moment = moments;
       why = record {
@@ -212,7 +211,7 @@ module _ {D O : Type 0} (world : OutletsOf D O) (initial : InitialShelf) (done :
 
       -- the line was put
       pub line_put : disk.faults d2 ≡ disk.faults w1.disk → Puts out text w1.out o2
-          → ShelvesSoFar world initial (done ++ placed ∷ []) shelf2 w (outlets d2 o2)
+          → ShelvesSoFar world initial (done ++ placed ∷ []) w (shelf_in shelf2 (outlets d2 o2))
       line_put disk_count put = record {
         settled = settled;
         any_moment = moments;
@@ -231,7 +230,7 @@ module _ {D O : Type 0} (world : OutletsOf D O) (initial : InitialShelf) (done :
 
       -- a part of the line was put
       pub line_stopped : PutFails out text w1.out o2
-          → Stops world initial (Failed Output) (done ++ placed ∷ []) w (outlets d2 o2)
+          → Stops world (files_onto initial (done ++ placed ∷ [])) (Failed Output) w (outlets d2 o2)
       line_stopped fails = record {
         any_moment = moments;
         why = record {

@@ -1,19 +1,7 @@
 -- What the shelving of one outcome comes to: its file is appended and told, or why not.
 use Rattle.std.proofs.Common.{◌≡◌, inl, inr, ◌+◌, ◌-◌, ◌≤◌, ◌<◌, ℕ, List, [], ◌∷◌, ◌++◌, length, min, refl, sym}
-use Rattle.std.proofs.Common.{
-  ◌∙◌,
-  ap,
-  subst,
-  arith,
-  append_assoc,
-  append-nil,
-  length-append,
-  ⊎_elim,
-  Result,
-  Ok,
-  Err,
-  OnOk,
-}
+use Rattle.std.proofs.Common.{◌∙◌, ap, subst, arith, append_assoc, append-nil, length-append}
+use Rattle.std.proofs.Common.{⊎_elim, Result, Ok, Err, OnOk}
 use Rattle.std.proofs.lemmas.Bool.{cases_lt}
 use Rattle.lr_bits.specs.File.{IsFile}
 use Rattle.lr_bits.specs.declared.placed.Placed.{Placed}
@@ -26,15 +14,13 @@ use Rattle.lr_shelf.specs.Adding.{StaysOutside}
 use Rattle.lr_shelf.specs.Adds.{new_end}
 use Rattle.lr_shelf.specs.Append.{Appends, IsAppendRefusal, item_for}
 use Rattle.lr_shelf.specs.Calls.{IsFaultCounted}
-use Rattle.lr_shelf.specs.Kept.{KeptShelf, kept_by}
+use Rattle.lr_shelf.specs.Kept.{KeptShelf, kept_by, shelf_on}
 use Rattle.lr_shelf.specs.declared.shelf.Shelf.{Shelf}
 use Rattle.lr_shelf.specs.declared.error.ShelfError.{ShelfError}
-use Rattle.lr_shelf.specs.declared.error.ShelfError.TheVariants.{
-  Disk as Disk',
-  Capacity as Capacity',
-  NoMemory as NoMemory',
-  Failed as Failed',
-}
+use Rattle.lr_shelf.specs.declared.error.ShelfError.TheVariants.{Disk as Disk'}
+use Rattle.lr_shelf.specs.declared.error.ShelfError.TheVariants.{Capacity as Capacity'}
+use Rattle.lr_shelf.specs.declared.error.ShelfError.TheVariants.{NoMemory as NoMemory'}
+use Rattle.lr_shelf.specs.declared.error.ShelfError.TheVariants.{Failed as Failed'}
 use Rattle.lr_catalog.specs.Files.{shelved_line}
 use Rattle.lr_causes.specs.declared.cause.Cause.TheVariants.{Failed, NoMemory}
 use Rattle.lr_causes.specs.declared.cause.Party.TheVariants.{Disk, Output}
@@ -44,7 +30,7 @@ use Rattle.lr_shelf.specs.InitialShelves.{InitialShelf, IsSettledOn, next_number
 use Rattle.lr_shelf.specs.Prefixes.{HasRoom, end_with}
 use Rattle.lr_receiving.specs.Onto.{ChangesImagesFor}
 use Rattle.lr_receiving.specs.Shelving.{shelved_lines}
-use Rattle.lr_receiving.specs.Shelved.{ShelvesSoFar, HasShelved, StopsShelving, Grows, GrowsNoMore}
+use Rattle.lr_receiving.specs.Shelved.{ShelvesSoFar, HasShelved, StopsShelving, Grows, GrowsNoMore, shelf_in}
 use Rattle.lr_receiving.proofs.Acknowledging.{either_acknowledged, lines_alone, still_acknowledged}
 use Rattle.lr_receiving.proofs.Causing.{append_works, first_out, first_refused, first_stays}
 use Rattle.lr_receiving.proofs.Changing.{change_for, no_change}
@@ -63,10 +49,10 @@ same_of {D = D} {A = A} disk d d' result answer is counted =
     subst (λ (r : Result A ShelfError). IsFaultCounted (disk.faults d) (disk.faults d') r) is counted
 
 module _ {D O : Type 0} (disk : DiskOf D) (placed : Placed) (shelf shelf' : Shelf) (d d' : D) (o : O)
-    (result : Result ℕ ShelfError) (appends : Appends disk placed shelf shelf' d d' result) where
+    (result : Result ℕ ShelfError) (appends : Appends disk placed (shelf_on shelf d) (shelf_on shelf' d') result) where
   -- the file had room
   pub appended : (answer : ℕ) → result ≡ Ok answer → (o' : O)
-      → Grows (placed ∷ []) shelf shelf' (outlets d o) (outlets d' o')
+      → Grows (placed ∷ []) (shelf_in shelf (outlets d o)) (shelf_in shelf' (outlets d' o'))
   appended answer is o' =
       grows_one placed shelf shelf' (outlets d o) (outlets d' o') (at_ok appends.adds.kept)
       (⊎_elim (λ over. absurd (refused over)) (λ fits. omega (arith, fits))
@@ -82,7 +68,7 @@ module _ {D O : Type 0} (disk : DiskOf D) (placed : Placed) (shelf shelf' : Shel
 
   -- it had none, or the append stopped for another cause
   pub not_appended : (e : ShelfError) → IsAppendRefusal (item_for placed) (kept_by shelf) e
-      → GrowsNoMore (cause_of e) (placed ∷ []) shelf (outlets d o) (outlets d' o)
+      → GrowsNoMore (cause_of e) (placed ∷ []) (shelf_in shelf (outlets d o)) (outlets d' o)
   not_appended (Capacity' needed most) refusal = record {
     full = λ needed' most' is.
         let same_needed : needed ≡ needed' = cc (is) in
@@ -134,7 +120,7 @@ images_one disk placed shelf d d' room run =
 
 -- there was no memory for its line
 pub no_line : {D O : Type 0} (world : OutletsOf D O) (files : List Placed) (shelf : Shelf) (w : Outlets D O)
-    → StopsShelving world NoMemory files shelf w w
+    → StopsShelving world NoMemory files (shelf_in shelf w) w
 no_line world files shelf w = record {
   kind = tt;
   told_by_disk = λ t. t;
@@ -159,8 +145,8 @@ module _ {D O : Type 0} (disk : DiskOf D)
     (out : SinkOf O) (placed : Placed) (shelf shelf' : Shelf) (d d' : D) (o : O) where
   -- it wasn't appended
   pub one_refused : (e : ShelfError) → IsFile placed.file
-      → Appends disk placed shelf shelf' d d' (Err e)
-      → StopsShelving (outlets_of disk out) (cause_of e) (placed ∷ []) shelf (outlets d o) (outlets d' o)
+      → Appends disk placed (shelf_on shelf d) (shelf_on shelf' d') (Err e)
+      → StopsShelving (outlets_of disk out) (cause_of e) (placed ∷ []) (shelf_in shelf (outlets d o)) (outlets d' o)
   one_refused e is appends =
       let adds = appends.adds in
       record {
@@ -209,10 +195,11 @@ module _ {D O : Type 0} (disk : DiskOf D)
       }
 
   -- it was
-  module _ (number : ℕ) (appends : Appends disk placed shelf shelf' d d' (Ok number)) (n : ℕ) (text : List ℕ)
+  module _ (number : ℕ) (appends : Appends disk placed (shelf_on shelf d) (shelf_on shelf' d') (Ok number)) (n : ℕ)
+      (text : List ℕ)
       (place : n ≡ length (kept_by shelf).way.entries) (is : text ≡ shelved_line n placed.file) (o' : O) where
     module _ (initial : InitialShelf) (done : List Placed) (before : Outlets D O)
-        (so_far : ShelvesSoFar (outlets_of disk out) initial done shelf before (outlets d o)) where
+        (so_far : ShelvesSoFar (outlets_of disk out) initial done before (shelf_in shelf (outlets d o))) where
       settled_now : IsSettledOn initial (done ++ placed ∷ []) disk shelf' d'
       settled_now =
           settled_on disk leaves_contents counts_now done placed shelf shelf' d d' number appends.adds initial
@@ -225,7 +212,8 @@ module _ {D O : Type 0} (disk : DiskOf D)
 
     -- and its line was put
     pub one_shelved : Puts out text o o'
-        → HasShelved (outlets_of disk out) (placed ∷ []) shelf shelf' (outlets d o) (outlets d' o')
+        → HasShelved (outlets_of disk out) (placed ∷ []) (shelf_in shelf (outlets d o))
+        (shelf_in shelf' (outlets d' o'))
     one_shelved put = record {
       told_by_disk = appends.adds.calls.told;
       untold_by_disk = appends.adds.calls.untold;
@@ -262,7 +250,8 @@ module _ {D O : Type 0} (disk : DiskOf D)
 
     -- and a part of its line
     pub one_cut : PutFails out text o o'
-        → StopsShelving (outlets_of disk out) (Failed Output) (placed ∷ []) shelf (outlets d o) (outlets d' o')
+        → StopsShelving (outlets_of disk out) (Failed Output) (placed ∷ []) (shelf_in shelf (outlets d o))
+        (outlets d' o')
     one_cut fails = record {
       kind = tt;
       told_by_disk = appends.adds.calls.told;

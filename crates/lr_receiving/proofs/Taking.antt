@@ -1,28 +1,7 @@
 -- `receive` goes on by one outcome, and what it does with all that comes of its input.
-use Rattle.std.proofs.Common.{
-  ◌≡◌,
-  ℕ,
-  ◌+◌,
-  ◌*◌,
-  ◌<◌,
-  ◌≤◌,
-  ◌^◌,
-  List,
-  [],
-  ◌∷◌,
-  ◌++◌,
-  length,
-  ap,
-  ◌∙◌,
-  sym,
-  refl,
-  subst,
-  arith,
-  append_assoc,
-  append-nil,
-  length-append,
-  ⊎_elim,
-}
+use Rattle.std.proofs.Common.{◌≡◌, ℕ, ◌+◌, ◌*◌, ◌<◌, ◌≤◌, ◌^◌, List, [], ◌∷◌, ◌++◌, length, ap, ◌∙◌}
+use Rattle.std.proofs.Common.{sym, refl, subst, arith, append_assoc, append-nil, length-append}
+use Rattle.std.proofs.Common.{⊎_elim}
 use Rattle.std.proofs.lemmas.Bool.{cases_lt}
 use Rattle.std.proofs.lemmas.List.{length-map, map-append}
 use Rattle.lr_bits.specs.declared.outcome.Outcome.{Outcome}
@@ -44,11 +23,11 @@ use Rattle.lr_reading.proofs.Coming.{outcomes_are, outcomes_counted, no_arrivals
 use Rattle.lr_receiving.specs.declared.shelver.Shelver.{Shelver}
 use Rattle.lr_receiving.specs.declared.receive_counts.ReceiveCounts.{ReceiveCounts}
 use Rattle.lr_receiving.specs.Inputs.{files_of_bytes}
-use Rattle.lr_receiving.specs.Reception.{FewWait, ReadsAll, ReadsSome}
-use Rattle.lr_receiving.specs.Shelved.{HasShelved, ShelvesSoFar, StopsShelving, Gains, GainsNoMore}
+use Rattle.lr_receiving.specs.Reception.{FewWait, ReadsAll, ReadsSome, taken_bytes, reception}
+use Rattle.lr_receiving.specs.Shelved.{HasShelved, ShelvesSoFar, StopsShelving, Gains, GainsNoMore, shelf_in, one_more}
 use Rattle.lr_receiving.specs.ShelverTaken.{IsOnSame, ShelverTook, ShelverStopped, lent_to}
-use Rattle.lr_reading.proofs.Outcomes.{both_kinds}
-use Rattle.lr_receiving.specs.Shelving.{AreAcknowledged}
+use Rattle.lr_layers.proofs.Pushing.{both_kinds}
+use Rattle.lr_receiving.specs.Shelving.{AreAcknowledged, files_onto}
 use Rattle.lr_receiving.proofs.FirstFiles.{files_first}
 use Rattle.lr_receiving.proofs.Timely.{all_come_first, worked_in_time}
 use Rattle.lr_receiving.proofs.Acknowledging.{acknowledged_more}
@@ -84,23 +63,23 @@ files_all input bytes = ap placed_of_outcomes (outcomes_are input bytes)
 module _ {D O : Type 0} (disk : DiskOf D) (out : SinkOf O) where
   -- it begins
   pub shelver_begun : (shelver : Shelver D O) → LayersStandFor shelver.layers.now []
-      → numbers shelver.counts ≡ shelver.layers.now.numbers → ShelverTook disk out shelver [] shelver
+      → numbers shelver.counts ≡ shelver.layers.now.numbers → ShelverTook (outlets_of disk out) shelver [] shelver
   shelver_begun shelver stands counted = record {
     on_same = record { same_layers = refl; same_shelf = refl; same_disk = refl; same_out = refl };
     stands = stands;
     counted = counted;
-    shelved = subst (λ (l : List Placed). HasShelved (outlets_of disk out) l shelver.shelf.now
-        shelver.shelf.now (lent_to shelver) (lent_to shelver)) (sym no_files)
+    shelved = subst (λ (l : List Placed). HasShelved (outlets_of disk out) l
+        (shelf_in shelver.shelf.now (lent_to shelver)) (shelf_in shelver.shelf.now (lent_to shelver))) (sym no_files)
         (shelved_none (outlets_of disk out) shelver.shelf.now (lent_to shelver));
   }
 
   pub shelver_ready : (shelver : Shelver D O) → LayersStandFor shelver.layers.now []
       → numbers shelver.counts ≡ shelver.layers.now.numbers
-      → (first : Shelver D O) × ShelverTook disk out first [] shelver
+      → (first : Shelver D O) × ShelverTook (outlets_of disk out) first [] shelver
   shelver_ready shelver stands counted = (shelver, shelver_begun shelver stands counted)
 
   module _ {before now : Shelver D O} {arrivals : List Arrival}
-      (took : ShelverTook disk out before arrivals now) where
+      (took : ShelverTook (outlets_of disk out) before arrivals now) where
     -- the layers may take one more
     pub few : FRAME_BYTES * (length arrivals + 1) ≤ 2 ^ 48
         → now.layers.now.numbers.restored + now.layers.now.numbers.lost < 2 ^ 48
@@ -114,13 +93,13 @@ module _ {D O : Type 0} (disk : DiskOf D) (out : SinkOf O) where
         )
 
     -- memory for reading on was refused
-    pub shelver_refused : ShelverStopped disk out before arrivals NoMemory now
+    pub shelver_refused : ShelverStopped (outlets_of disk out) before arrivals NoMemory now
     shelver_refused =
         let files = placed_of_outcomes (outcomes_of_arrivals arrivals) in
         record {
           on_same = took.on_same;
-          stopped = subst (λ (l : List Placed). StopsShelving (outlets_of disk out) NoMemory
-              l before.shelf.now (lent_to before) (lent_to now)) (append-nil files)
+          stopped = subst (λ (l : List Placed). StopsShelving (outlets_of disk out) NoMemory l
+              (shelf_in before.shelf.now (lent_to before)) (lent_to now)) (append-nil files)
               (stopped_after (outlets_of disk out) took.shelved
               (no_line (outlets_of disk out) [] now.shelf.now (lent_to now)));
           worked = arrivals;
@@ -128,7 +107,8 @@ module _ {D O : Type 0} (disk : DiskOf D) (out : SinkOf O) where
           split = sym (append-nil arrivals);
           one = omega arith;
           keeps = λ initial start so_far.
-              subst (λ (l : List Placed). AreAcknowledged (outlets_of disk out) initial files l start (lent_to now))
+              subst (λ (l : List Placed). AreAcknowledged (outlets_of disk out) (files_onto initial l) files start
+              (lent_to now))
               (append-nil files)
               ((no_line (outlets_of disk out) [] now.shelf.now (lent_to now)).keeps initial files start
               (took.shelved.shelved initial [] start so_far));
@@ -150,28 +130,29 @@ module _ {D O : Type 0} (disk : DiskOf D) (out : SinkOf O) where
       -- its files were shelved
       pub shelver_more : LayersStandFor now'.layers.now (outcomes_of_arrivals arrivals ++ arrival.outcome ∷ [])
           → numbers now'.counts ≡ now'.layers.now.numbers
-          → Gains (outlets_of disk out) (outcomes_of_arrivals arrivals) arrival.outcome
-          now.shelf.now now'.shelf.now (lent_to now) (lent_to now')
-          → ShelverTook disk out before (arrivals ++ arrival ∷ []) now'
+          → Gains (outlets_of disk out) (one_more (outcomes_of_arrivals arrivals) arrival.outcome)
+          (shelf_in now.shelf.now (lent_to now)) (shelf_in now'.shelf.now (lent_to now'))
+          → ShelverTook (outlets_of disk out) before (arrivals ++ arrival ∷ []) now'
       shelver_more stands counted gains = record {
         on_same = both;
         stands = subst (λ (l : List Outcome). LayersStandFor now'.layers.now l) (sym (outcomes-push arrivals arrival))
             stands;
         counted = counted;
-        shelved = subst (λ (l : List Placed). HasShelved (outlets_of disk out) l before.shelf.now
-            now'.shelf.now (lent_to before) (lent_to now')) (sym gains.files ∙ is)
+        shelved = subst (λ (l : List Placed). HasShelved (outlets_of disk out) l
+            (shelf_in before.shelf.now (lent_to before)) (shelf_in now'.shelf.now (lent_to now')))
+            (sym gains.files ∙ is)
             (shelved_on (outlets_of disk out) took.shelved gains.shelved);
       }
 
       -- they were not
       pub shelver_stopped : (cause : Cause)
-          → GainsNoMore (outlets_of disk out) cause (outcomes_of_arrivals arrivals)
-          arrival.outcome now.shelf.now (lent_to now) (lent_to now')
-          → ShelverStopped disk out before (arrivals ++ arrival ∷ []) cause now'
+          → GainsNoMore (outlets_of disk out) cause (one_more (outcomes_of_arrivals arrivals) arrival.outcome)
+          (shelf_in now.shelf.now (lent_to now)) (lent_to now')
+          → ShelverStopped (outlets_of disk out) before (arrivals ++ arrival ∷ []) cause now'
       shelver_stopped cause gains = record {
         on_same = both;
         stopped = subst (λ (l : List Placed). StopsShelving (outlets_of disk out) cause l
-            before.shelf.now (lent_to before) (lent_to now')) (sym gains.files ∙ is)
+            (shelf_in before.shelf.now (lent_to before)) (lent_to now')) (sym gains.files ∙ is)
             (stopped_after (outlets_of disk out) took.shelved gains.stopped);
         worked = arrivals;
         late = arrival ∷ [];
@@ -179,7 +160,8 @@ module _ {D O : Type 0} (disk : DiskOf D) (out : SinkOf O) where
         one = omega arith;
         keeps = λ initial start so_far.
             let files = placed_of_outcomes (outcomes_of_arrivals arrivals) in
-            subst (λ (l : List Placed). AreAcknowledged (outlets_of disk out) initial files l start (lent_to now'))
+            subst (λ (l : List Placed). AreAcknowledged (outlets_of disk out) (files_onto initial l) files start
+            (lent_to now'))
             (sym gains.files ∙ is)
             (gains.stopped.keeps initial files start (took.shelved.shelved initial [] start so_far));
       }
@@ -187,13 +169,15 @@ module _ {D O : Type 0} (disk : DiskOf D) (out : SinkOf O) where
 -- ---- the whole input
 
 module _ {S D O : Type 0} (source : SourceOf S) (disk : DiskOf D) (out : SinkOf O) (input : Input) (limit : ℕ)
-    {s s' : S} {before now : Shelver D O} (begun : ShelverTook disk out before [] before) where
+    {s s' : S} {before now : Shelver D O} (begun : ShelverTook (outlets_of disk out) before [] before) where
   -- all files were shelved
   pub received_all : (leeway : Leeway) (sums : ReceiveCounts)
-      → TakesAll (course_of source (ShelverTook disk out) input limit leeway) sums.totals (lent s before) (lent s' now)
+      → TakesAll (course_of source (ShelverTook (outlets_of disk out)) input limit leeway) sums.totals
+      (lent s before) (lent s' now)
       → sums.counts ≡ now.counts
-      → ReadsAll (world_of source disk out) input limit leeway sums before.shelf.now now.shelf.now
-      (outside s before.disk.now before.out.now) (outside s' now.disk.now now.out.now)
+      → ReadsAll (world_of source disk out) (reception input limit leeway) sums
+      (shelf_in before.shelf.now (outside s before.disk.now before.out.now))
+      (shelf_in now.shelf.now (outside s' now.disk.now now.out.now))
   received_all leeway sums all same =
       let took = all.taken before begun in
       record {
@@ -201,24 +185,26 @@ module _ {S D O : Type 0} (source : SourceOf S) (disk : DiskOf D) (out : SinkOf 
         ends = all.ends;
         counts = ap numbers same ∙ took.counted ∙ took.stands.numbers
             ∙ ap (λ (l : List Outcome). numbers_of l) (sym (outcomes_are input all.bytes));
-        shelved = subst (λ (l : List Placed). HasShelved (outlets_of disk out) l before.shelf.now
-            now.shelf.now (lent_to before) (lent_to now)) (sym (files_all input all.bytes)) took.shelved;
+        shelved = subst (λ (l : List Placed). HasShelved (outlets_of disk out) l
+            (shelf_in before.shelf.now (lent_to before)) (shelf_in now.shelf.now (lent_to now)))
+            (sym (files_all input all.bytes)) took.shelved;
         in_time = all_come_first source input leeway.when_asked all.bytes s s' all.in_time;
       }
 
   -- they were not
   pub received_some : (leeway : Leeway) (cause : Cause)
-      → TakesSome (course_of source (ShelverTook disk out) input limit leeway) (ShelverStopped disk out) cause
+      → TakesSome (course_of source (ShelverTook (outlets_of disk out)) input limit leeway)
+      (ShelverStopped (outlets_of disk out)) cause
       (lent s before) (lent s' now)
-      → ReadsSome (world_of source disk out) input limit leeway cause before.shelf.now
-      (outside s before.disk.now before.out.now) (outside s' now.disk.now now.out.now)
+      → ReadsSome (world_of source disk out) (reception input limit leeway) cause
+      (shelf_in before.shelf.now (outside s before.disk.now before.out.now)) (outside s' now.disk.now now.out.now)
   received_some leeway cause some =
       let halted = some.stops before begun in
       let stopped = halted.stopped in
       let first = files_first input some.bytes some.passed some.rest some.split in
       let timely : (initial : InitialShelf) (start : Outlets D O)
-      → ShelvesSoFar (outlets_of disk out) initial [] before.shelf.now start (lent_to before)
-      → FewWait (outlets_of disk out) initial input leeway some.bytes start (lent_to now) =
+      → ShelvesSoFar (outlets_of disk out) initial [] start (shelf_in before.shelf.now (lent_to before))
+      → FewWait (outlets_of disk out) initial (taken_bytes input leeway some.bytes) start (lent_to now) =
       λ initial start so_far. record {
         worked = outcomes_of_arrivals halted.worked;
         late = outcomes_of_arrivals (halted.late ++ some.rest);
@@ -242,15 +228,16 @@ module _ {S D O : Type 0} (source : SourceOf S) (disk : DiskOf D) (out : SinkOf 
               halted.one,
               length-map halted.worked (λ (a : Arrival). a.outcome),
             )) (cases_lt count 1);
-        acknowledged = subst (λ (l : List Placed). AreAcknowledged (outlets_of disk out) initial
-            (placed_of_outcomes (outcomes_of_arrivals halted.worked)) l start (lent_to now)) (sym first.1)
+        acknowledged = subst (λ (l : List Placed). AreAcknowledged (outlets_of disk out) (files_onto initial l)
+            (placed_of_outcomes (outcomes_of_arrivals halted.worked)) start (lent_to now)) (sym first.1)
             (acknowledged_more (outlets_of disk out) initial first.0 (halted.keeps initial start so_far));
       } in
       record {
         bytes = some.bytes;
         read = some.read;
-        stopped = subst (λ (l : List Placed). StopsShelving (outlets_of disk out) cause l before.shelf.now
-            (lent_to before) (lent_to now)) (sym first.1) (stopped_before (outlets_of disk out) first.0 stopped);
+        stopped = subst (λ (l : List Placed). StopsShelving (outlets_of disk out) cause l
+            (shelf_in before.shelf.now (lent_to before)) (lent_to now)) (sym first.1)
+            (stopped_before (outlets_of disk out) first.0 stopped);
         files = placed_of_outcomes (outcomes_of_arrivals some.passed);
         early = stopped;
         first = λ line symbols told few calm.
@@ -258,6 +245,7 @@ module _ {S D O : Type 0} (source : SourceOf S) (disk : DiskOf D) (out : SinkOf 
             files_first input (some.bytes ++ source.left s') some.passed later.0 later.1;
         timely = timely;
         in_time = λ initial start so_far. worked_in_time source input leeway.when_asked some.bytes s s'
-            (outlets_of disk out) initial start (lent_to now) some.passed some.rest halted.worked halted.late some.split
+            (outlets_of disk out) initial start (lent_to now) some.passed some.rest halted.worked halted.late
+            some.split
             halted.split halted.one (timely initial start so_far) refl some.in_time;
       }

@@ -1,22 +1,6 @@
 -- Of the outcomes of the bytes taken all but the last few are worked through.
-use Rattle.std.proofs.Common.{
-  ◌≡◌,
-  ◌≤◌,
-  ℕ,
-  List,
-  ◌++◌,
-  length,
-  take,
-  drop,
-  sym,
-  ◌∙◌,
-  ap,
-  subst,
-  arith,
-  append_assoc,
-  length-append,
-  length-drop,
-}
+use Rattle.std.proofs.Common.{◌≡◌, ◌≤◌, ℕ, List, ◌++◌, length, take, drop, sym, ◌∙◌, ap, subst}
+use Rattle.std.proofs.Common.{arith, append_assoc, length-append, length-drop}
 use Rattle.std.proofs.Math.Seq.{take-append_seam}
 use Rattle.std.proofs.lemmas.List.{length-map, map-append, take-append-drop, take-map}
 use Rattle.lr_bits.specs.declared.outcome.Outcome.{Outcome}
@@ -39,18 +23,18 @@ use Rattle.lr_reading.proofs.Fronts.{front_of}
 use Rattle.lr_shelf.specs.InitialShelves.{InitialShelf}
 use Rattle.lr_vc.specs.Runs.{AreChannelFrames}
 use Rattle.lr_receiving.specs.Inputs.{files_of_bytes}
-use Rattle.lr_receiving.specs.Receive.{AreWorkedBut, PutsNoFileOff}
-use Rattle.lr_receiving.specs.Reception.{FewWait, FilesComeFirstBut}
-use Rattle.lr_receiving.specs.Shelving.{AreAcknowledged}
+use Rattle.lr_receiving.specs.Receive.{AreWorkedBut, PutsNoFileOff, waiting_of, taken_by}
+use Rattle.lr_receiving.specs.Reception.{FewWait, FilesComeFirstBut, taken_bytes}
+use Rattle.lr_receiving.specs.Shelving.{AreAcknowledged, files_onto}
 use Rattle.lr_receiving.proofs.Acknowledging.{acknowledged_first}
 use Rattle.lr_receiving.proofs.FirstFiles.{all_frames_whole, files_first}
 
 module _ {D O : Type 0} (world : OutletsOf D O) (initial : InitialShelf) (input : Input) (leeway : Leeway)
-    (bytes : List ℕ) (w w' : Outlets D O) (few : FewWait world initial input leeway bytes w w') where
+    (bytes : List ℕ) (w w' : Outlets D O) (few : FewWait world initial (taken_bytes input leeway bytes) w w') where
   -- the first outcomes, where no more of them are worked through
   pub acknowledged_front : (worked others : List Outcome) → outcomes_of_bytes input bytes ≡ worked ++ others
       → length worked ≤ length few.worked
-      → AreAcknowledged world initial (placed_of_outcomes worked) (files_of_bytes input bytes) w w'
+      → AreAcknowledged world (files_onto initial (files_of_bytes input bytes)) (placed_of_outcomes worked) w w'
   acknowledged_front worked others split le =
       let between = drop (length worked) few.worked in
       let front = front_of worked others few.worked few.late (sym split ∙ few.split) le in
@@ -61,13 +45,13 @@ module _ {D O : Type 0} (world : OutletsOf D O) (initial : InitialShelf) (input 
       let more = go_on worked between
       (subst (λ (l : List Outcome). AreChannelFrames (frames_of_outcomes l)) (sym front) frames) in
       acknowledged_first world initial (placed_of_outcomes worked) more.more_files
-      (subst (λ (l : List Placed). AreAcknowledged world initial l (files_of_bytes input bytes) w w')
+      (subst (λ (l : List Placed). AreAcknowledged world (files_onto initial (files_of_bytes input bytes)) l w w')
       (ap placed_of_outcomes (sym front) ∙ more.files) few.acknowledged)
 
   -- and where that many come after them
   pub acknowledged_before : (worked waiting : List Outcome) → outcomes_of_bytes input bytes ≡ worked ++ waiting
       → leeway.at_end ≤ length waiting
-      → AreAcknowledged world initial (placed_of_outcomes worked) (files_of_bytes input bytes) w w'
+      → AreAcknowledged world (files_onto initial (files_of_bytes input bytes)) (placed_of_outcomes worked) w w'
   acknowledged_before worked waiting split many =
       acknowledged_front worked waiting split (omega (
         arith,
@@ -81,7 +65,7 @@ module _ {D O : Type 0} (world : OutletsOf D O) (initial : InitialShelf) (input 
   -- and where they have ended so long before the last byte
   pub acknowledged_long : (worked waiting : List Outcome) → outcomes_of_bytes input bytes ≡ worked ++ waiting
       → HaveEnded input leeway.ahead bytes (length worked)
-      → AreAcknowledged world initial (placed_of_outcomes worked) (files_of_bytes input bytes) w w'
+      → AreAcknowledged world (files_onto initial (files_of_bytes input bytes)) (placed_of_outcomes worked) w w'
   acknowledged_long worked waiting split ended =
       acknowledged_front worked waiting split (few.close (length worked) (omega (
         arith,
@@ -138,25 +122,31 @@ module _ {S : Type 0} (source : SourceOf S) (input : Input) (most : ℕ) (bytes 
 
   module _ {D O : Type 0} (world : OutletsOf D O) (initial : InitialShelf) (w w' : Outlets D O) where
     -- they are acknowledged, where all files are
-    pub all_in_time : AreAcknowledged world initial (files_of_bytes input bytes) (files_of_bytes input bytes) w w'
+    pub all_in_time : AreAcknowledged world (files_onto initial (files_of_bytes input bytes))
+        (files_of_bytes input bytes) w w'
         → WhenLastAsked source (FilesComeFirstBut input most (files_of_bytes input bytes)) bytes s s'
-        → WhenLastAsked source (AreWorkedBut world initial input most (files_of_bytes input bytes) w w') bytes s s'
+        → WhenLastAsked source (AreWorkedBut world (files_onto initial (files_of_bytes input bytes))
+        (waiting_of input most) w w') bytes s s'
     all_in_time all = when_too source (FilesComeFirstBut input most (files_of_bytes input bytes))
-        (AreWorkedBut world initial input most (files_of_bytes input bytes) w w') bytes s s' known
+        (AreWorkedBut world (files_onto initial (files_of_bytes input bytes)) (waiting_of input most) w w') bytes s
+        s' known
       where
         known : (given : List ℕ) → FilesComeFirstBut input most (files_of_bytes input bytes) given
-            → AreWorkedBut world initial input most (files_of_bytes input bytes) w w' given
+            → AreWorkedBut world (files_onto initial (files_of_bytes input bytes)) (waiting_of input most) w w' given
         known given due worked waiting split many =
             let first = due worked waiting split many in
             acknowledged_first world initial (placed_of_outcomes worked) first.0
-            (subst (λ (l : List Placed). AreAcknowledged world initial l (files_of_bytes input bytes) w w') first.1 all)
+            (subst (λ (l : List Placed). AreAcknowledged world (files_onto initial (files_of_bytes input bytes)) l w
+            w') first.1
+            all)
 
     -- and where those of all arrivals passed are, but for the last one
     module _ (passed rest done late : List Arrival) (split : arrivals_of input bytes ≡ passed ++ rest)
         (parts : passed ≡ done ++ late) (one : length late ≤ 1) {leeway : Leeway}
-        (few : FewWait world initial input leeway bytes w w') (is : few.worked ≡ outcomes_of_arrivals done) where
+        (few : FewWait world initial (taken_bytes input leeway bytes) w w')
+        (is : few.worked ≡ outcomes_of_arrivals done) where
       known_before : (given : List ℕ) → ComesFirstBut input most 1 passed given
-          → AreWorkedBut world initial input most (files_of_bytes input bytes) w w' given
+          → AreWorkedBut world (files_onto initial (files_of_bytes input bytes)) (waiting_of input most) w w' given
       known_before given due worked waiting apart many =
           let at = parted input given worked waiting apart in
           let then = due at.first at.rest at.split (subst (λ (k : ℕ). AreAllThatWait input most given k)
@@ -180,9 +170,11 @@ module _ {S : Type 0} (source : SourceOf S) (input : Input) (most : ℕ) (bytes 
           ))
 
       pub worked_in_time : WhenLastAsked source (ComesFirstBut input most 1 passed) bytes s s'
-          → WhenLastAsked source (AreWorkedBut world initial input most (files_of_bytes input bytes) w w') bytes s s'
+          → WhenLastAsked source (AreWorkedBut world (files_onto initial (files_of_bytes input bytes))
+          (waiting_of input most) w w') bytes s s'
       worked_in_time = when_too source (ComesFirstBut input most 1 passed)
-          (AreWorkedBut world initial input most (files_of_bytes input bytes) w w') bytes s s' known_before
+          (AreWorkedBut world (files_onto initial (files_of_bytes input bytes)) (waiting_of input most) w w') bytes s
+          s' known_before
 
 -- ---- both
 
@@ -190,17 +182,18 @@ module _ {S : Type 0} (source : SourceOf S) (input : Input) (most : ℕ) (bytes 
 module _ {S D O : Type 0} (world : World S D O) (input : Input) (workers : ℕ) (initial : InitialShelf)
     (bytes : List ℕ) (w w' : Outside S D O) (d : D) where
   from_there : {first files : List Placed}
-      → AreAcknowledged (world_outlets world) initial first files (outlets d w.out) (outlets_in w')
-      → AreAcknowledged (world_outlets world) initial first files (outlets_in w) (outlets_in w')
+      → AreAcknowledged (world_outlets world) (files_onto initial files) first (outlets d w.out) (outlets_in w')
+      → AreAcknowledged (world_outlets world) (files_onto initial files) first (outlets_in w) (outlets_in w')
   from_there known =
       record { others = known.others; split = known.split; held = known.held; told = known.told }
 
-  pub none_put_off : FewWait (world_outlets world) initial input (leeway_for input workers) bytes
+  pub none_put_off : FewWait (world_outlets world) initial (taken_bytes input (leeway_for input workers) bytes)
       (outlets d w.out) (outlets_in w')
-      → WhenLastAsked world.source (AreWorkedBut (world_outlets world) initial input
-      (most_when_asked input workers) (files_of_bytes input bytes) (outlets d w.out) (outlets_in w')) bytes
+      → WhenLastAsked world.source (AreWorkedBut (world_outlets world)
+      (files_onto initial (files_of_bytes input bytes)) (waiting_of input (most_when_asked input workers))
+      (outlets d w.out) (outlets_in w')) bytes
       w.source w'.source
-      → PutsNoFileOff world input workers initial bytes w w'
+      → PutsNoFileOff world (taken_by input workers bytes) initial w w'
   none_put_off few in_time =
       let files = files_of_bytes input bytes in
       let most = most_when_asked input workers in
@@ -214,8 +207,10 @@ module _ {S D O : Type 0} (world : World S D O) (input : Input) (workers : ℕ) 
             (acknowledged_long (world_outlets world) initial input (leeway_for input workers) bytes
             (outlets d w.out) (outlets_in w') few worked waiting split ended);
         in_time = when_too world.source
-            (AreWorkedBut (world_outlets world) initial input most files (outlets d w.out) (outlets_in w'))
-            (AreWorkedBut (world_outlets world) initial input most files (outlets_in w) (outlets_in w')) bytes
+            (AreWorkedBut (world_outlets world) (files_onto initial files) (waiting_of input most) (outlets d w.out)
+            (outlets_in w'))
+            (AreWorkedBut (world_outlets world) (files_onto initial files) (waiting_of input most) (outlets_in w)
+            (outlets_in w')) bytes
             w.source w'.source
             (λ given due worked waiting split enough. from_there (due worked waiting split enough)) in_time;
       }

@@ -1,30 +1,7 @@
 -- How `trial` ends, from the making of its shelf on.
-use Rattle.std.proofs.Common.{
-  ◌≡◌,
-  ◌⊎◌,
-  inl,
-  inr,
-  ⊎_elim,
-  ℕ,
-  ◌≤◌,
-  List,
-  length-append,
-  [],
-  ◌∷◌,
-  length,
-  refl,
-  sym,
-  ◌∙◌,
-  ap,
-  subst,
-  arith,
-  Result,
-  Ok,
-  Err,
-  IfErr,
-  OnOk,
-  OnErr,
-}
+use Rattle.std.proofs.Common.{◌≡◌, ◌⊎◌, inl, inr, ⊎_elim, ℕ, ◌≤◌, List, length-append, [], ◌∷◌}
+use Rattle.std.proofs.Common.{length, refl, sym, ◌∙◌, ap, subst, arith, Result, Ok, Err, IfErr}
+use Rattle.std.proofs.Common.{OnOk, OnErr}
 use Rattle.lr_bits.specs.Faults.{Rose}
 use Rattle.lr_bits.specs.declared.placed.Placed.{Placed}
 use Rattle.lr_io.specs.declared.sink.Sink.{Ghosts as SinkOf}
@@ -53,18 +30,8 @@ use Rattle.lr_receiving.specs.Filling.{FillEnds, Fills, IsWithdrawn, LeavesBlank
 use Rattle.lr_causes.specs.Counts.{CountsTell}
 use Rattle.lr_receiving.specs.First.{SourceBesides}
 use Rattle.lr_shelf.specs.InitialShelves.{with_files}
-use Rattle.lr_receiving.specs.Trial.{
-  trial_capacity,
-  StandsForPart,
-  GotFiles,
-  IsLeftByTrial,
-  IsBare,
-  HoldsTrialPart,
-  DiskEnds,
-  LeavesDisk,
-  OutEnds,
-  TrialRun,
-}
+use Rattle.lr_receiving.specs.Trial.{trial_capacity, StandsForPart, GotFiles, IsLeftByTrial, IsBare}
+use Rattle.lr_receiving.specs.Trial.{HoldsTrialPart, DiskEnds, LeavesDisk, OutEnds, TrialRun}
 use Rattle.lr_receiving.proofs.Causing.{first_disk, first_later, first_refused, first_stays}
 use Rattle.lr_receiving.proofs.Changing.{change_cut}
 use Rattle.lr_receiving.proofs.ShelvingOne.{same_of}

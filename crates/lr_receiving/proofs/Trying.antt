@@ -1,35 +1,7 @@
 -- What `trial` leaves of the disk once its shelf is made, at each exit.
-use Rattle.std.proofs.Common.{
-  ◌≡◌,
-  ◌⊎◌,
-  inl,
-  inr,
-  ℕ,
-  ◌<◌,
-  ◌≤◌,
-  false,
-  List,
-  [],
-  ◌∷◌,
-  ◌++◌,
-  length,
-  map,
-  refl,
-  sym,
-  ◌∙◌,
-  ap,
-  subst,
-  arith,
-  append_assoc,
-  append-nil,
-  length-append,
-  Result,
-  Ok,
-  Err,
-  IfOk,
-  IfErr,
-  OnOk,
-}
+use Rattle.std.proofs.Common.{◌≡◌, ◌⊎◌, inl, inr, ℕ, ◌<◌, ◌≤◌, false, List, [], ◌∷◌, ◌++◌, length}
+use Rattle.std.proofs.Common.{map, refl, sym, ◌∙◌, ap, subst, arith, append_assoc, append-nil}
+use Rattle.std.proofs.Common.{length-append, Result, Ok, Err, IfOk, IfErr, OnOk}
 use Rattle.lr_bits.specs.Faults.{Rose}
 use Rattle.lr_bits.specs.declared.placed.Placed.{Placed}
 use Rattle.lr_io.specs.declared.source.Source.{Ghosts as SourceOf}
@@ -44,11 +16,9 @@ use Rattle.lr_shelf.specs.Kept.{kept_by}
 use Rattle.lr_shelf.specs.Shelf.{IsDurable, IsSettled}
 use Rattle.lr_shelf.specs.declared.shelf.Shelf.{Shelf}
 use Rattle.lr_shelf.specs.declared.error.ShelfError.{ShelfError}
-use Rattle.lr_shelf.specs.declared.error.ShelfError.TheVariants.{
-  Disk as Disk',
-  NotAShelf as NotAShelf',
-  NoMemory as NoMemory',
-}
+use Rattle.lr_shelf.specs.declared.error.ShelfError.TheVariants.{Disk as Disk'}
+use Rattle.lr_shelf.specs.declared.error.ShelfError.TheVariants.{NotAShelf as NotAShelf'}
+use Rattle.lr_shelf.specs.declared.error.ShelfError.TheVariants.{NoMemory as NoMemory'}
 use Rattle.lr_disk.specs.Pending.{EachImageSince, NothingPending}
 use Rattle.lr_disk.proofs.Moments.{joined, weaker}
 use Rattle.lr_forms.specs.declared.forms.Stop.{Stop}
@@ -64,12 +34,12 @@ use Rattle.lr_forms.specs.declared.forms.Input.TheVariants.{Symbols}
 use Rattle.lr_causes.specs.Causes.{counts}
 use Rattle.lr_refusals.specs.Errors.{cause_of}
 use Rattle.lr_receiving.specs.Inputs.{files_of_bytes}
-use Rattle.lr_reading.specs.Reading.{IsRead, EndsFor}
+use Rattle.lr_reading.specs.Reading.{IsRead, EndsFor, within}
 use Rattle.lr_receiving.specs.Receive.{receive_last}
-use Rattle.lr_receiving.specs.Reception.{sums_line, ReadsAll, ReadsSome}
+use Rattle.lr_receiving.specs.Reception.{sums_line, ReadsAll, ReadsSome, reception}
 use Rattle.lr_shelf.specs.InitialShelves.{OfItems, HoldsStill, with_files, StandsForPrefix, LeavesPrefixes}
-use Rattle.lr_receiving.specs.Shelving.{StopsBy}
-use Rattle.lr_receiving.specs.Shelved.{MayStop, StopsTrial, ShelvesSoFar}
+use Rattle.lr_receiving.specs.Shelving.{StopsBy, files_onto}
+use Rattle.lr_receiving.specs.Shelved.{MayStop, StopsTrial, ShelvesSoFar, shelf_in}
 use Rattle.lr_receiving.specs.Trial.{trial_capacity, GotFiles, StandsForPart, HoldsTrialPart}
 use Rattle.lr_receiving.specs.Filling.{FillEnds, FillsDisk, StopsFilling}
 use Rattle.lr_receiving.proofs.Causing.{first_later, first_refused, none_rose}
@@ -182,7 +152,8 @@ module _ {D : Type 0} (disk : DiskOf D) (symbols : List ℕ) (d1 : D)
       same_count = same_of disk d1 d2 result2 shelf is2 loads.calls.counted
 
       begun : disk.tells d1
-          → ShelvesSoFar (outlets_of disk out) (OfItems trial_capacity []) [] shelf (outlets d1 o) (outlets d2 o)
+          → ShelvesSoFar (outlets_of disk out) (OfItems trial_capacity []) [] (outlets d1 o)
+          (shelf_in shelf (outlets d2 o))
       begun told =
           let settled = subst (λ (r : Result Shelf ShelfError). IfOk r
           (λ x. IsSettled disk trial_capacity [] x d2)) is2
@@ -262,8 +233,8 @@ module _ {D : Type 0} (disk : DiskOf D) (symbols : List ℕ) (d1 : D)
       module _ (calm : Rose (source.faults s) (source.faults s') → ⊥)
           (fit : end_of (with_files [] (files_of_bytes (Symbols STANDARD) symbols)) ≤ trial_capacity)
           (leeway : Leeway) (cause : Cause)
-          (some : ReadsSome (world_of source disk out) (Symbols STANDARD) limit leeway cause shelf
-          (outside s d2 o) (outside s' d' o')) where
+          (some : ReadsSome (world_of source disk out) (reception (Symbols STANDARD) limit leeway) cause
+          (shelf_in shelf (outside s d2 o)) (outside s' d' o')) where
         split : symbols ≡ some.bytes ++ source.left s'
         split = split_of some.bytes some.read
 
@@ -291,8 +262,8 @@ module _ {D : Type 0} (disk : DiskOf D) (symbols : List ℕ) (d1 : D)
             omega (arith, le, over, fit)
 
         stopped_ends : (c : Cause) → (disk.tells d1
-            → StopsBy (outlets_of disk out) (OfItems trial_capacity []) c
-            some.files (outlets d1 o) (outlets d' o')) → StopsTrial c
+            → StopsBy (outlets_of disk out) (files_onto (OfItems trial_capacity []) some.files) c (outlets d1 o)
+            (outlets d' o')) → StopsTrial c
             → FillEnds disk symbols c d1 d'
         stopped_ends (Failed Disk) why kind = tt
         stopped_ends NoMemory why kind = λ told.
@@ -339,8 +310,8 @@ module _ {D : Type 0} (disk : DiskOf D) (symbols : List ℕ) (d1 : D)
 
       -- all of them are shelved
       module _ (leeway : Leeway) (sums : ReceiveCounts) (shelf' : Shelf)
-          (all : ReadsAll (world_of source disk out) (Symbols STANDARD) limit leeway sums shelf
-          shelf' (outside s d2 o) (outside s' d' o'))
+          (all : ReadsAll (world_of source disk out) (reception (Symbols STANDARD) limit leeway) sums
+          (shelf_in shelf (outside s d2 o)) (shelf_in shelf' (outside s' d' o')))
           (calm : Rose (source.faults s) (source.faults s') → ⊥) where
         split_all : symbols ≡ all.bytes ++ source.left s'
         split_all = split_of all.bytes all.ends.read
@@ -348,7 +319,8 @@ module _ {D : Type 0} (disk : DiskOf D) (symbols : List ℕ) (d1 : D)
         no_longer : length all.bytes ≤ length symbols
         no_longer = omega (arith, ap length split_all, length-append all.bytes (source.left s'))
 
-        at_end : (stop : Stop) → EndsFor source stop limit all.bytes s s' → (stop ≡ End) × (all.bytes ≡ symbols)
+        at_end : (stop : Stop) → EndsFor source stop (within limit all.bytes) s s' → (stop ≡ End)
+            × (all.bytes ≡ symbols)
         at_end End why = (refl, sym (split_all ∙ ap (λ l. all.bytes ++ l) (why.1 given) ∙ append-nil all.bytes))
         at_end Limit why = absurd (omega (arith, why.0, no_longer, few))
         at_end Fault why = absurd (calm why.1)
@@ -363,7 +335,7 @@ module _ {D : Type 0} (disk : DiskOf D) (symbols : List ℕ) (d1 : D)
 
         so_far : disk.tells d1
             → ShelvesSoFar (outlets_of disk out) (OfItems trial_capacity [])
-            (files_of_bytes (Symbols STANDARD) all.bytes) shelf' (outlets d1 o) (outlets d' o')
+            (files_of_bytes (Symbols STANDARD) all.bytes) (outlets d1 o) (shelf_in shelf' (outlets d' o'))
         so_far told = all.shelved.shelved (OfItems trial_capacity []) [] (outlets d1 o) (begun told)
 
         durable : disk.tells d1
@@ -403,36 +375,22 @@ module _ {D : Type 0} (disk : DiskOf D) (symbols : List ℕ) (d1 : D)
         }
 
       -- ---- for either answer
-      abbrev AnswersAll : Leeway → Shelf → Result ReceiveCounts Cause → Type 0
-      AnswersAll leeway shelf' answer = IfOk answer
-          (λ sums. ReadsAll (world_of source disk out) (Symbols STANDARD) limit leeway sums shelf
-          shelf' (outside s d2 o) (outside s' d' o'))
-
-      abbrev AnswersSome : Leeway → Result ReceiveCounts Cause → Type 0
-      AnswersSome leeway answer = IfErr answer
-          (λ cause. ReadsSome (world_of source disk out) (Symbols STANDARD) limit leeway cause shelf
-          (outside s d2 o) (outside s' d' o'))
-
-      pub lines : (leeway : Leeway) (shelf' : Shelf) (answer : Result ReceiveCounts Cause)
-          → AnswersAll leeway shelf' answer
-          → (Rose (source.faults s) (source.faults s') → ⊥)
-          → IfOk answer (λ sums. sums_line sums ≡ receive_last (Symbols STANDARD) symbols End)
-      lines leeway shelf' (Ok sums) all calm = line leeway sums shelf' all calm
-      lines leeway shelf' (Err cause) all calm = tt
-
-      pub all_done : (leeway : Leeway) (shelf' : Shelf) (answer : Result ReceiveCounts Cause)
-          → AnswersAll leeway shelf' answer
-          → (Rose (source.faults s) (source.faults s') → ⊥) → OnOk answer (FillsDisk disk symbols Done d1 d')
-      all_done leeway shelf' (Ok sums) all calm = finished leeway sums shelf' all calm
-      all_done leeway shelf' (Err cause) all calm = tt
-
-      pub some_done : (leeway : Leeway) (answer : Result ReceiveCounts Cause) → AnswersSome leeway answer
+      pub stream_ends : (leeway : Leeway) (shelf' : Shelf) (answer : Result ReceiveCounts Cause)
+          → IfOk answer (λ sums. ReadsAll (world_of source disk out) (reception (Symbols STANDARD) limit leeway) sums
+          (shelf_in shelf (outside s d2 o)) (shelf_in shelf' (outside s' d' o')))
+          → IfErr answer (λ cause. ReadsSome (world_of source disk out) (reception (Symbols STANDARD) limit leeway)
+          cause (shelf_in shelf (outside s d2 o)) (outside s' d' o'))
           → (Rose (source.faults s) (source.faults s') → ⊥)
           → end_of (with_files [] (files_of_bytes (Symbols STANDARD) symbols)) ≤ trial_capacity
-          → ((x : O) → out.faults x ≡ 0) → IfErr answer (λ cause. StopsFilling disk symbols cause d1 d')
-      some_done leeway (Ok sums) some calm fit sure = tt
-      some_done leeway (Err cause) some calm fit sure =
-          stopped calm fit leeway cause some sure
-          (subst (λ (r : Result Shelf ShelfError). IfOk r (λ x. (kept_by x).failed ≡ false)) is2 loads.working)
-
--- the last line wasn't put, after all was shelved
+          → ((x : O) → out.faults x ≡ 0)
+          → IfOk answer (λ sums. sums_line sums ≡ receive_last (Symbols STANDARD) symbols End)
+          × OnOk answer (FillsDisk disk symbols Done d1 d')
+          × IfErr answer (λ cause. StopsFilling disk symbols cause d1 d')
+      stream_ends leeway shelf' (Ok sums) all some calm fit sure =
+          (line leeway sums shelf' all calm, finished leeway sums shelf' all calm, tt)
+      stream_ends leeway shelf' (Err cause) all some calm fit sure = (
+        tt,
+        tt,
+        stopped calm fit leeway cause some sure
+            (subst (λ (r : Result Shelf ShelfError). IfOk r (λ x. (kept_by x).failed ≡ false)) is2 loads.working),
+      )

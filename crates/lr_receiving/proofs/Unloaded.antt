@@ -14,11 +14,9 @@ use Rattle.lr_shelf.specs.Load.{Loads, IsLoadRefusal, MayRefuseAt}
 use Rattle.lr_shelf.specs.Shelf.{IsDurable, IsSettled, KeepsWay}
 use Rattle.lr_shelf.specs.declared.shelf.Shelf.{Shelf}
 use Rattle.lr_shelf.specs.declared.error.ShelfError.{ShelfError}
-use Rattle.lr_shelf.specs.declared.error.ShelfError.TheVariants.{
-  Disk as Disk',
-  NotAShelf as NotAShelf',
-  NoMemory as NoMemory',
-}
+use Rattle.lr_shelf.specs.declared.error.ShelfError.TheVariants.{Disk as Disk'}
+use Rattle.lr_shelf.specs.declared.error.ShelfError.TheVariants.{NotAShelf as NotAShelf'}
+use Rattle.lr_shelf.specs.declared.error.ShelfError.TheVariants.{NoMemory as NoMemory'}
 use Rattle.lr_causes.specs.declared.cause.Cause.{Cause}
 use Rattle.lr_causes.specs.declared.cause.Cause.TheVariants.{Done, Failed, NoMemory, Refused}
 use Rattle.lr_causes.specs.declared.cause.Party.TheVariants.{Source, Disk}
@@ -35,23 +33,19 @@ use Rattle.lr_receiving.specs.Inputs.{files_of_bytes}
 use Rattle.lr_shelf.specs.InitialShelves.{InitialShelf, OfItems, OfWay, HoldsStill, IsSettledOn, StandsWith}
 use Rattle.lr_shelf.specs.InitialShelves.{LeavesPrefixes}
 use Rattle.lr_receiving.specs.Onto.{ChangesFor, ChangesImagesFor}
-use Rattle.lr_receiving.specs.Shelved.{ShelvesSoFar}
-use Rattle.lr_receiving.specs.Receive.{Ends, Receives, IsWorkDone, EndsWork, IsUntouched, PutsNoFileOff, ReceiveRun}
-use Rattle.lr_receiving.specs.Reception.{EndsRun}
+use Rattle.lr_receiving.specs.Shelved.{ShelvesSoFar, shelf_in}
+use Rattle.lr_receiving.specs.Receive.{Ends, Receives, IsWorkDone, EndsWork, IsUntouched}
+use Rattle.lr_receiving.specs.Receive.{PutsNoFileOff, ReceiveRun, run_onto, taken_by, receive_query}
+use Rattle.lr_receiving.specs.Reception.{EndsRun, reception}
 use Rattle.lr_receiving.proofs.Headline.{receives}
 use Rattle.lr_receiving.proofs.ReceiveEnding.{got_none, loaded}
 use Rattle.lr_receiving.proofs.ShelvingOne.{same_of}
 use Rattle.lr_receiving.proofs.Taking.{no_bytes}
 use Rattle.lr_receiving.proofs.Timely.{none_put_off}
-use Rattle.lr_shelf.proofs.InitialPrefixes.{
-  front_none,
-  begun_items,
-  begun_way,
-  still_holds,
-  still_left,
-  settled_on_items,
-}
+use Rattle.lr_shelf.proofs.InitialPrefixes.{front_none, begun_items, begun_way, still_holds}
+use Rattle.lr_shelf.proofs.InitialPrefixes.{still_left, settled_on_items}
 use Rattle.lr_receiving.proofs.Loading.{ended_before, may_refuse, load_cause, load_room, load_work, run_cause}
+use Rattle.lr_reading.specs.Runs.{input_read}
 use Rattle.lr_receiving.proofs.Loading.{run_kind, full_reads, nothing_waits}
 
 -- ---- the shelf was to be loaded
@@ -80,9 +74,9 @@ module _ {S D O : Type 0} (world : World S D O) (input : Input) (workers limit :
     loading : EachImageSince world.disk w.disk d1 (StandsWith initial [])
     loading = still_left world.disk initial w.disk d1 (loads.unwritten told) stands only
 
-    none : (cause : Cause) → Ends world input initial limit [] cause w read_only
+    none : (cause : Cause) → Ends world (run_onto initial (input_read input limit [])) cause w read_only
         → CountsTell SourceBesides cause (counts_in world w) (counts_in world read_only)
-        → Receives world input initial limit [] cause w read_only
+        → Receives world (run_onto initial (input_read input limit [])) cause w read_only
     none cause ends first =
         receives world input initial limit [] w read_only cause
         (subst (λ (l : List Placed). LeavesPrefixes world.disk initial l w.disk d1) (sym (no_bytes input))
@@ -91,7 +85,7 @@ module _ {S D O : Type 0} (world : World S D O) (input : Input) (workers limit :
 
     nothing : (e : ShelfError) → result ≡ Err e → IsLoadRefusal world.disk w.disk e
         → ((at : ℕ) → IsNoShelfAt (world.disk.contents w.disk) at → ⊥)
-        → Receives world input initial limit [] (cause_of e) w read_only
+        → Receives world (run_onto initial (input_read input limit [])) (cause_of e) w read_only
     nothing Disk' is refusal shelf = none (Failed Disk) (record {
       done = [];
       rest = [];
@@ -132,7 +126,7 @@ module _ {S D O : Type 0} (world : World S D O) (input : Input) (workers limit :
 
   -- it wasn't
   pub not_loaded : (e : ShelfError) → result ≡ Err e → IsLoadRefusal world.disk w.disk e
-      → ReceiveRun world input workers limit (cause_of e) w read_only
+      → ReceiveRun world (receive_query input workers limit) (cause_of e) w read_only
   not_loaded e is refusal = record {
     causes = load_cause world.disk w.disk e refusal;
     first = first_of e is refusal;
@@ -176,185 +170,187 @@ module _ {S D O : Type 0} (world : World S D O) (input : Input) (workers limit :
   module _ (only_now : (d : D) (c : List ℕ) → world.disk.tells d → world.disk.left_since d (world.disk.moment d) c
       → world.disk.may_leave d c)
       (shelf : Shelf) (is : result ≡ Ok shelf) (w' : Outside S D O) (cause : Cause)
-      (run : EndsRun world input limit (leeway_for input workers) cause shelf read_only w') where
-    if_ok : (P : Shelf → Type 0) → IfOk result P → P shelf
-    if_ok P holds = subst (λ (r : Result Shelf ShelfError). IfOk r P) is holds
+      (run : EndsRun world (reception input limit (leeway_for input workers)) cause (shelf_in shelf read_only) w')
+    where
+      if_ok : (P : Shelf → Type 0) → IfOk result P → P shelf
+      if_ok P holds = subst (λ (r : Result Shelf ShelfError). IfOk r P) is holds
 
-    same_count : world.disk.faults d1 ≡ world.disk.faults w.disk
-    same_count = same_of world.disk w.disk d1 result shelf is loads.calls.counted
+      same_count : world.disk.faults d1 ≡ world.disk.faults w.disk
+      same_count = same_of world.disk w.disk d1 result shelf is loads.calls.counted
 
-    working : (kept_by shelf).failed ≡ false
-    working = if_ok (λ x. (kept_by x).failed ≡ false) loads.working
+      working : (kept_by shelf).failed ≡ false
+      working = if_ok (λ x. (kept_by x).failed ≡ false) loads.working
 
-    is_way : world.disk.tells w.disk → IsWay (world.disk.contents w.disk) (kept_by shelf).way
-    is_way told =
-        subst (λ (l : List ℕ). IsWay l (kept_by shelf).way) (loads.unwritten told).contents
-        (if_ok (KeepsWay (world.disk.contents d1)) (loads.way told))
+      is_way : world.disk.tells w.disk → IsWay (world.disk.contents w.disk) (kept_by shelf).way
+      is_way told =
+          subst (λ (l : List ℕ). IsWay l (kept_by shelf).way) (loads.unwritten told).contents
+          (if_ok (KeepsWay (world.disk.contents d1)) (loads.way told))
 
-    -- the first event decides
-    first_run : CountsTell SourceBesides cause (counts_in world w) (counts_in world w')
-    first_run = first_later cause (world.source.faults w.source) (world.source.faults w'.source)
-        (world.disk.faults w.disk) (world.disk.faults d1) (world.disk.faults w'.disk)
-        (world.out.faults w.out) (world.out.faults w.out) (world.out.faults w'.out) same_count
-        refl (run.first working)
+      -- the first event decides
+      first_run : CountsTell SourceBesides cause (counts_in world w) (counts_in world w')
+      first_run = first_later cause (world.source.faults w.source) (world.source.faults w'.source)
+          (world.disk.faults w.disk) (world.disk.faults d1) (world.disk.faults w'.disk)
+          (world.out.faults w.out) (world.out.faults w.out) (world.out.faults w'.out) same_count
+          refl (run.first working)
 
-    -- on an initial shelf that the shelf was loaded from
-    onto : (initial : InitialShelf) (told : world.disk.tells w.disk)
-        → StandsWith initial [] (world.disk.contents w.disk)
-        → NothingPending world.disk w.disk
-        → IsSettledOn initial [] world.disk shelf d1
-        → Receives world input initial limit run.bytes cause w w'
-    onto initial told stands only settled =
-        let begun = loaded (world_outlets world) initial (outlets_in w) d1 shelf settled
-        (loading initial told stands only) same_count in
-        let all = run.ends initial (outlets_in w) begun in
-        receives world input initial limit run.bytes w w' cause all.0 all.1 first_run
+      -- on an initial shelf that the shelf was loaded from
+      onto : (initial : InitialShelf) (told : world.disk.tells w.disk)
+          → StandsWith initial [] (world.disk.contents w.disk)
+          → NothingPending world.disk w.disk
+          → IsSettledOn initial [] world.disk shelf d1
+          → Receives world (run_onto initial (input_read input limit run.bytes)) cause w w'
+      onto initial told stands only settled =
+          let begun = loaded (world_outlets world) initial (outlets_in w) d1 shelf settled
+          (loading initial told stands only) same_count in
+          let all = run.ends initial (outlets_in w) begun in
+          receives world input initial limit run.bytes w w' cause all.0 all.1 first_run
 
-    onto_shelf : (capacity : ℕ) (items : List Item) → world.disk.tells w.disk
-        → IsDurable world.disk capacity items w.disk
-        → Receives world input (OfItems capacity items) limit run.bytes cause w w'
-    onto_shelf capacity items told durable =
-        onto (OfItems capacity items) told (begun_items capacity items (world.disk.contents w.disk) durable.stands)
-        durable.durable
-        (settled_on_items world.disk capacity items shelf d1
-        (if_ok (λ x. IsSettled world.disk capacity items x d1) (loads.settled capacity items told durable.stands)))
+      onto_shelf : (capacity : ℕ) (items : List Item) → world.disk.tells w.disk
+          → IsDurable world.disk capacity items w.disk
+          → Receives world (run_onto (OfItems capacity items) (input_read input limit run.bytes)) cause w w'
+      onto_shelf capacity items told durable =
+          onto (OfItems capacity items) told (begun_items capacity items (world.disk.contents w.disk) durable.stands)
+          durable.durable
+          (settled_on_items world.disk capacity items shelf d1
+          (if_ok (λ x. IsSettled world.disk capacity items x d1) (loads.settled capacity items told durable.stands)))
 
-    onto_way : (way : Way) → world.disk.tells w.disk → IsWay (world.disk.contents w.disk) way
-        → NothingPending world.disk w.disk
-        → Receives world input (OfWay way (world.disk.contents w.disk)) limit run.bytes cause w w'
-    onto_way way told way_is only =
-        let begins = begun_way way (world.disk.contents w.disk) way_is in
-        let same : (kept_by shelf).way ≡ way =
-        (has_one_way (world.disk.contents w.disk)).way (kept_by shelf).way way (is_way told) way_is in
-        onto (OfWay way (world.disk.contents w.disk)) told begins only
-        (record {
-          told = loads.calls.told told;
-          kept = record { way = same; working = working };
-          on_disk = still (OfWay way (world.disk.contents w.disk)) told begins only;
-        })
+      onto_way : (way : Way) → world.disk.tells w.disk → IsWay (world.disk.contents w.disk) way
+          → NothingPending world.disk w.disk
+          → Receives world (run_onto (OfWay way (world.disk.contents w.disk)) (input_read input limit run.bytes)) cause
+          w w'
+      onto_way way told way_is only =
+          let begins = begun_way way (world.disk.contents w.disk) way_is in
+          let same : (kept_by shelf).way ≡ way =
+          (has_one_way (world.disk.contents w.disk)).way (kept_by shelf).way way (is_way told) way_is in
+          onto (OfWay way (world.disk.contents w.disk)) told begins only
+          (record {
+            told = loads.calls.told told;
+            kept = record { way = same; working = working };
+            on_disk = still (OfWay way (world.disk.contents w.disk)) told begins only;
+          })
 
-    -- also where something was pending on the disk: it was synced first
-    settled_after : (initial : InitialShelf) → world.disk.tells w.disk
-        → StandsWith initial [] (world.disk.contents w.disk)
-        → IsSettledOn initial [] world.disk shelf d1
-    settled_after (OfItems capacity items) told stands =
-        settled_on_items world.disk capacity items shelf d1
-        (if_ok (λ x. IsSettled world.disk capacity items x d1) (loads.settled capacity items told
-        (subst (StandsForShelf (world.disk.contents w.disk) capacity) (append-nil items) stands)))
-    settled_after (OfWay way old) told stands = record {
-      told = loads.calls.told told;
-      kept = record {
-        way = (has_one_way (world.disk.contents w.disk)).way (kept_by shelf).way way (is_way told) stands.is_way;
-        working = working;
-      };
-      on_disk = record {
-        stands = subst (StandsWith (OfWay way old) []) (sym (loads.unwritten told).contents) stands;
-        durable = subst (λ (r : Result Shelf ShelfError). OnOk r (NothingPending world.disk d1)) is
-            (loads.synced told);
-      };
-    }
+      -- also where something was pending on the disk: it was synced first
+      settled_after : (initial : InitialShelf) → world.disk.tells w.disk
+          → StandsWith initial [] (world.disk.contents w.disk)
+          → IsSettledOn initial [] world.disk shelf d1
+      settled_after (OfItems capacity items) told stands =
+          settled_on_items world.disk capacity items shelf d1
+          (if_ok (λ x. IsSettled world.disk capacity items x d1) (loads.settled capacity items told
+          (subst (StandsForShelf (world.disk.contents w.disk) capacity) (append-nil items) stands)))
+      settled_after (OfWay way old) told stands = record {
+        told = loads.calls.told told;
+        kept = record {
+          way = (has_one_way (world.disk.contents w.disk)).way (kept_by shelf).way way (is_way told) stands.is_way;
+          working = working;
+        };
+        on_disk = record {
+          stands = subst (StandsWith (OfWay way old) []) (sym (loads.unwritten told).contents) stands;
+          durable = subst (λ (r : Result Shelf ShelfError). OnOk r (NothingPending world.disk d1)) is
+              (loads.synced told);
+        };
+      }
 
-    still_after : (initial : InitialShelf) (c : Cause) (before : Outside S D O) → IsWorkDone c
-        → Ends world input initial limit run.bytes c before w'
-        → HoldsStill initial (files_of_bytes input run.bytes) world.disk w'.disk
-    still_after initial Done before done (inl ends) = ends.durable
-    still_after initial Done before done (inr ends) = ends.durable
-    still_after initial (Failed Source) before done ends = ends.durable
-    still_after initial _ before done ends = absurd done
+      still_after : (initial : InitialShelf) (c : Cause) (before : Outside S D O) → IsWorkDone c
+          → Ends world (run_onto initial (input_read input limit run.bytes)) c before w'
+          → HoldsStill initial (files_of_bytes input run.bytes) world.disk w'.disk
+      still_after initial Done before done (inl ends) = ends.durable
+      still_after initial Done before done (inr ends) = ends.durable
+      still_after initial (Failed Source) before done ends = ends.durable
+      still_after initial _ before done ends = absurd done
 
-    -- from the disk as it was loaded
-    begun_after : (initial : InitialShelf) → world.disk.tells w.disk
-        → StandsWith initial [] (world.disk.contents w.disk)
-        → ShelvesSoFar (world_outlets world) initial [] shelf (outlets d1 w.out) (outlets d1 w.out)
-    begun_after initial told stands =
-        let settled = settled_after initial told stands in
-        loaded (world_outlets world) initial (outlets d1 w.out) d1 shelf settled
-        (stays world.disk only_now d1 (StandsWith initial []) settled.told
-        (λ c left. subst (StandsWith initial []) (sym (settled.on_disk.durable c left)) settled.on_disk.stands))
-        refl
+      -- from the disk as it was loaded
+      begun_after : (initial : InitialShelf) → world.disk.tells w.disk
+          → StandsWith initial [] (world.disk.contents w.disk)
+          → ShelvesSoFar (world_outlets world) initial [] (outlets d1 w.out) (shelf_in shelf (outlets d1 w.out))
+      begun_after initial told stands =
+          let settled = settled_after initial told stands in
+          loaded (world_outlets world) initial (outlets d1 w.out) d1 shelf settled
+          (stays world.disk only_now d1 (StandsWith initial []) settled.told
+          (λ c left. subst (StandsWith initial []) (sym (settled.on_disk.durable c left)) settled.on_disk.stands))
+          refl
 
-    keeps_up_run : (initial : InitialShelf) → world.disk.tells w.disk
-        → StandsWith initial [] (world.disk.contents w.disk)
-        → PutsNoFileOff world input workers initial run.bytes w w'
-    keeps_up_run initial told stands =
-        let all = run.ends initial (outlets d1 w.out) (begun_after initial told stands) in
-        none_put_off world input workers initial run.bytes w w' d1 all.2 all.3
+      keeps_up_run : (initial : InitialShelf) → world.disk.tells w.disk
+          → StandsWith initial [] (world.disk.contents w.disk)
+          → PutsNoFileOff world (taken_by input workers run.bytes) initial w w'
+      keeps_up_run initial told stands =
+          let all = run.ends initial (outlets d1 w.out) (begun_after initial told stands) in
+          none_put_off world input workers initial run.bytes w w' d1 all.2 all.3
 
-    ended_run : IsWorkDone cause → EndsWork world input limit run.bytes cause w w'
-    ended_run done =
-        let there = run.ended done in
-        record {
-          stop = there.0;
-          is = there.1;
-          number = length (kept_by shelf).way.entries;
-          work = record { reason = there.2.reason; got = there.2.got };
-          numbered = λ way told has.
-              ap (λ (x : Way). length x.entries)
-              ((has_one_way (world.disk.contents w.disk)).way (kept_by shelf).way way (is_way told) has);
-          stand = λ initial told stands.
-              still_after initial cause (outside w.source d1 w.out) done
-              (run.ends initial (outlets d1 w.out) (begun_after initial told stands)).1;
-        }
+      ended_run : IsWorkDone cause → EndsWork world (input_read input limit run.bytes) cause w w'
+      ended_run done =
+          let there = run.ended done in
+          record {
+            stop = there.0;
+            is = there.1;
+            number = length (kept_by shelf).way.entries;
+            work = record { reason = there.2.reason; got = there.2.got };
+            numbered = λ way told has.
+                ap (λ (x : Way). length x.entries)
+                ((has_one_way (world.disk.contents w.disk)).way (kept_by shelf).way way (is_way told) has);
+            stand = λ initial told stands.
+                still_after initial cause (outside w.source d1 w.out) done
+                (run.ends initial (outlets d1 w.out) (begun_after initial told stands)).1;
+          }
 
-    changes_run : (way : Way) → world.disk.tells w.disk → IsWay (world.disk.contents w.disk) way
-        → ChangesFor way (files_of_bytes input run.bytes) (world.disk.contents w.disk)
-        (world.disk.contents w'.disk)
-    changes_run way told has =
-        let files = files_of_bytes input run.bytes in
-        subst (λ (x : Way). ChangesFor x files (world.disk.contents w.disk) (world.disk.contents w'.disk))
-        ((has_one_way (world.disk.contents w.disk)).way (kept_by shelf).way way (is_way told) has)
-        (subst (λ (l : List ℕ). ChangesFor (kept_by shelf).way files l (world.disk.contents w'.disk))
-        (loads.unwritten told).contents (run.outside (loads.calls.told told)))
+      changes_run : (way : Way) → world.disk.tells w.disk → IsWay (world.disk.contents w.disk) way
+          → ChangesFor way (files_of_bytes input run.bytes) (world.disk.contents w.disk)
+          (world.disk.contents w'.disk)
+      changes_run way told has =
+          let files = files_of_bytes input run.bytes in
+          subst (λ (x : Way). ChangesFor x files (world.disk.contents w.disk) (world.disk.contents w'.disk))
+          ((has_one_way (world.disk.contents w.disk)).way (kept_by shelf).way way (is_way told) has)
+          (subst (λ (l : List ℕ). ChangesFor (kept_by shelf).way files l (world.disk.contents w'.disk))
+          (loads.unwritten told).contents (run.outside (loads.calls.told told)))
 
-    images_run : (way : Way) → world.disk.tells w.disk → IsWay (world.disk.contents w.disk) way
-        → NothingPending world.disk w.disk
-        → ChangesImagesFor world.disk way (files_of_bytes input run.bytes) w.disk w'.disk
-    images_run way told has only =
-        let files = files_of_bytes input run.bytes in
-        let read = loads.unwritten told in
-        let old = world.disk.contents w.disk in
-        let loading = loading_images way files told only in
-        let same_way : (kept_by shelf).way ≡ way =
-        (has_one_way old).way (kept_by shelf).way way (is_way told) has in
-        ⊎_elim
-        (λ same. subst (λ (x : D). ChangesImagesFor world.disk way files w.disk x) (sym same) loading)
-        (λ then.
-        joined world.disk.moment world.disk.left_since w.disk d1 w'.disk _ loading
-        (weaker world.disk.moment world.disk.left_since d1 w'.disk _ _
-        (λ c changes.
-        subst (λ (x : Way). ChangesFor x files old c) same_way
-        (subst (λ (l : List ℕ). ChangesFor (kept_by shelf).way files l c) read.contents changes)) then))
-        (run.moments (loads.calls.told told) (λ c image. only c (read.images c image) ∙ sym read.contents))
+      images_run : (way : Way) → world.disk.tells w.disk → IsWay (world.disk.contents w.disk) way
+          → NothingPending world.disk w.disk
+          → ChangesImagesFor world.disk way (files_of_bytes input run.bytes) w.disk w'.disk
+      images_run way told has only =
+          let files = files_of_bytes input run.bytes in
+          let read = loads.unwritten told in
+          let old = world.disk.contents w.disk in
+          let loading = loading_images way files told only in
+          let same_way : (kept_by shelf).way ≡ way =
+          (has_one_way old).way (kept_by shelf).way way (is_way told) has in
+          ⊎_elim
+          (λ same. subst (λ (x : D). ChangesImagesFor world.disk way files w.disk x) (sym same) loading)
+          (λ then.
+          joined world.disk.moment world.disk.left_since w.disk d1 w'.disk _ loading
+          (weaker world.disk.moment world.disk.left_since d1 w'.disk _ _
+          (λ c changes.
+          subst (λ (x : Way). ChangesFor x files old c) same_way
+          (subst (λ (l : List ℕ). ChangesFor (kept_by shelf).way files l c) read.contents changes)) then))
+          (run.moments (loads.calls.told told) (λ c image. only c (read.images c image) ∙ sym read.contents))
 
-    pub loaded_run : ReceiveRun world input workers limit cause w w'
-    loaded_run = record {
-      causes = run_cause cause run.kind;
-      first = first_run;
-      bytes = run.bytes;
-      read = run.read;
-      told_by_disk = λ t. run.told_by_disk (loads.calls.told t);
-      untold_by_disk = λ t. loads.calls.untold (run.untold_by_disk t);
-      told_by_out = run.told_by_out;
-      untold_by_out = run.untold_by_out;
-      onto_shelf = onto_shelf;
-      onto_way = onto_way;
-      keeps_up = λ initial told stands only. keeps_up_run initial told stands;
-      refused = λ at named. absurd (run_kind cause run.kind at named);
-      broken = λ at told no.
-          absurd (subst (λ (r : Result Shelf ShelfError). MatchResult r (λ _. ⊥) (MayRefuseAt at)) is
-          (loads.broken at told no));
-      full = λ needed most named told.
-          record { way = (kept_by shelf).way; is_way = is_way told; full = run.over.full needed most named };
-      nothing_fits = λ needed most named tells empty.
-          let full = run.over.full needed most named in
-          full_reads world.source input limit run.bytes w.source w'.source run.read tells
-          empty full.done full.next full.rest full.split;
-      room = λ done told. record { way = (kept_by shelf).way; is_way = is_way told; room = run.over.room done };
-      only_read = λ none told.
-          subst (λ (x : D). IsUnwritten world.disk w.disk x) (sym (run.over.same_disk none)) (loads.unwritten told);
-      silent = run.over.silent;
-      unasked = λ none failed. absurd (run.over.kind none failed);
-      ended = ended_run;
-      outside = changes_run;
-      outside_any_moment = images_run;
-    }
+      pub loaded_run : ReceiveRun world (receive_query input workers limit) cause w w'
+      loaded_run = record {
+        causes = run_cause cause run.kind;
+        first = first_run;
+        bytes = run.bytes;
+        read = run.read;
+        told_by_disk = λ t. run.told_by_disk (loads.calls.told t);
+        untold_by_disk = λ t. loads.calls.untold (run.untold_by_disk t);
+        told_by_out = run.told_by_out;
+        untold_by_out = run.untold_by_out;
+        onto_shelf = onto_shelf;
+        onto_way = onto_way;
+        keeps_up = λ initial told stands only. keeps_up_run initial told stands;
+        refused = λ at named. absurd (run_kind cause run.kind at named);
+        broken = λ at told no.
+            absurd (subst (λ (r : Result Shelf ShelfError). MatchResult r (λ _. ⊥) (MayRefuseAt at)) is
+            (loads.broken at told no));
+        full = λ needed most named told.
+            record { way = (kept_by shelf).way; is_way = is_way told; full = run.over.full needed most named };
+        nothing_fits = λ needed most named tells empty.
+            let full = run.over.full needed most named in
+            full_reads world.source input limit run.bytes w.source w'.source run.read tells
+            empty full.done full.next full.rest full.split;
+        room = λ done told. record { way = (kept_by shelf).way; is_way = is_way told; room = run.over.room done };
+        only_read = λ none told.
+            subst (λ (x : D). IsUnwritten world.disk w.disk x) (sym (run.over.same_disk none)) (loads.unwritten told);
+        silent = run.over.silent;
+        unasked = λ none failed. absurd (run.over.kind none failed);
+        ended = ended_run;
+        outside = changes_run;
+        outside_any_moment = images_run;
+      }

@@ -1,41 +1,14 @@
 -- A shelf on which nothing stands is taken away.
-use Rattle.std.proofs.Common.{
-  ◌≡◌,
-  ◌≢◌,
-  ◌⊎◌,
-  inl,
-  inr,
-  ℕ,
-  ◌+◌,
-  ◌-◌,
-  ◌<◌,
-  ◌≤◌,
-  min,
-  List,
-  [],
-  ◌∷◌,
-  ◌++◌,
-  length,
-  slice_index,
-  map,
-  take,
-  refl,
-  sym,
-  ◌∙◌,
-  ap,
-  subst,
-  arith,
-  append_assoc,
-  length-append,
-  length-take,
-}
+use Rattle.std.proofs.Common.{◌≡◌, ◌≢◌, ◌⊎◌, inl, inr, ℕ, ◌+◌, ◌-◌, ◌<◌, ◌≤◌, min, List, [], ◌∷◌}
+use Rattle.std.proofs.Common.{◌++◌, length, slice_index, map, take, refl, sym, ◌∙◌, ap, subst}
+use Rattle.std.proofs.Common.{arith, append_assoc, length-append, length-take}
 use Rattle.std.proofs.lemmas.Bool.{cases_lt}
 use Rattle.std.proofs.Math.Seq.{take-append-add}
 use Rattle.lr_disk.specs.declared.disk.Disk.{Ghosts as DiskOf}
 use Rattle.lr_disk.specs.Disk.{Cut}
 use Rattle.lr_disk.specs.Reads.{IsUnwritten}
 use Rattle.lr_disk.specs.Pending.{EachImageSince, NothingPending}
-use Rattle.lr_disk.proofs.Moments.{joined, weaker}
+use Rattle.lr_disk.proofs.Moments.{Cut-refl, joined, weaker}
 use Rattle.lr_shelf_format.specs.Gates.{front}
 use Rattle.lr_shelf_format.specs.Header.{header_bytes}
 use Rattle.lr_shelf_format.specs.Items.{Item, item_bytes}
@@ -43,7 +16,6 @@ use Rattle.lr_shelf_format.specs.ShelfBytes.{StandsForShelf}
 use Rattle.lr_shelf_format.specs.Walk.{IsOpen}
 use Rattle.lr_shelf_format.proofs.ReadingLemmas.{is_one_walk, length-front}
 use Rattle.lr_shelf.specs.Init.{IsBlank}
-use Rattle.lr_shelf.proofs.Initing.{Cut-refl}
 use Rattle.lr_shelf.specs.Shelf.{IsDurable}
 use Rattle.lr_receiving.specs.Filling.{IsWithdrawn, LeavesBlankOrItems}
 use Rattle.lr_receiving.specs.Trial.{trial_capacity, IsBare}

@@ -15,14 +15,8 @@ use Rattle.lr_causes.specs.Outside.{Outlets, OutletsOf, outlet_counts}
 use Rattle.lr_causes.specs.Counts.{CountsTell}
 use Rattle.lr_receiving.specs.First.{SourceBesides}
 use Rattle.lr_receiving.specs.Shelved.{StopsTrial}
-use Rattle.lr_receiving.specs.Trial.{
-  trial_capacity,
-  GotFiles,
-  IsBare,
-  HoldsTrialPart,
-  DiskEnds,
-  OutEnds,
-}
+use Rattle.lr_receiving.specs.Trial.{trial_capacity, GotFiles, IsBare, HoldsTrialPart, DiskEnds}
+use Rattle.lr_receiving.specs.Trial.{OutEnds}
 
 module _ {D : Type 0} (disk : DiskOf D) (symbols : List ℕ) where
   -- how it leaves the disk, for each cause that it may have: as the whole call, but at want of memory perhaps no file

@@ -10,12 +10,16 @@ use Rattle.lr_causes.specs.declared.cause.Party.TheVariants.{Output}
 use Rattle.lr_forms.specs.declared.forms.Output.{Output as Form}
 use Rattle.lr_forms.specs.declared.forms.Output.TheVariants.{Symbols, Units}
 use Rattle.lr_forms.specs.declared.forms.UnitForm.TheVariants.{Blocks, Frames}
+use Rattle.lr_receiving.specs.declared.test_stream.TestFrames.{TestFrames}
 
--- the first frames of the test stream of this start, in each form; frames have no wrong bytes
-unfoldable pub made_bytes : Form → ℕ → ℕ → ℕ → List ℕ
-made_bytes Symbols start wrong frames = bytes_of_symbols (symbol_stream start wrong frames)
-made_bytes (Units Blocks) start wrong frames = block_stream start wrong frames
-made_bytes (Units Frames) start wrong frames = frame_stream start frames
+abbrev pub test_frames : (start frames wrong : ℕ) → TestFrames
+test_frames start frames wrong = record { start = start; frames = frames; wrong = wrong }
+
+-- the frames of a test stream in each form; as frames they have no wrong bytes
+unfoldable pub made_bytes : Form → TestFrames → List ℕ
+made_bytes Symbols made = bytes_of_symbols (symbol_stream made.start made.wrong made.frames)
+made_bytes (Units Blocks) made = block_stream made.start made.wrong made.frames
+made_bytes (Units Frames) made = frame_stream made.start made.frames
 
 -- how the call ends: `out` got these bytes, or it failed and got a prefix of them that isn't all of them
 module _ {O : Type 0} (out : SinkOf O) (bytes : List ℕ) where

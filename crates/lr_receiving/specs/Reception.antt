@@ -20,7 +20,7 @@ use Rattle.lr_forms.specs.declared.forms.Input.{Input}
 use Rattle.lr_forms.specs.declared.forms.Stop.{Stop}
 use Rattle.lr_forms.specs.declared.forms.Input.TheVariants.{Symbols}
 use Rattle.lr_reading.specs.Inputs.{outcomes_of_bytes}
-use Rattle.lr_reading.specs.Runs.{ReadsInput}
+use Rattle.lr_reading.specs.Runs.{ReadsInput, input_read}
 use Rattle.lr_receiving.specs.Inputs.{files_of_bytes}
 use Rattle.lr_causes.specs.Causes.{IsEarlier, cause_at}
 use Rattle.lr_causes.specs.Outside.{Outlets, OutletsOf, Outside, World, counts_in, outlets_in, outside, world_outlets}
@@ -33,8 +33,9 @@ use Rattle.lr_reading.specs.Readers.{AreAllThatWait, HaveEnded, Leeway}
 use Rattle.lr_reading.specs.Reading.{IsRead, WhenLastAsked}
 use Rattle.lr_causes.specs.Puts.{Puts, PutStops}
 use Rattle.lr_receiving.specs.Receive.{counts_line, AreWorkedBut, DoesWork, IsWorkDone, Ends}
-use Rattle.lr_receiving.specs.Shelved.{HasShelved, MayStop, ShelvesSoFar, StopsShelving}
-use Rattle.lr_receiving.specs.Shelving.{AreAcknowledged}
+use Rattle.lr_receiving.specs.Receive.{work_done, run_onto, waiting_of}
+use Rattle.lr_receiving.specs.Shelved.{HasShelved, MayStop, ShelfIn, ShelvesSoFar, StopsShelving, shelf_in, way_in}
+use Rattle.lr_receiving.specs.Shelving.{AreAcknowledged, files_onto}
 
 -- the last line of what was read and counted
 abbrev pub sums_line : ReceiveCounts → List ℕ
@@ -50,26 +51,45 @@ module _ {O : Type 0} (out : SinkOf O) (sums : ReceiveCounts) where
   LastStops cause o o' = PutStops out (sums_line sums) cause o o'
 
 -- over every disk: how a run ends onto the shelf that was loaded
-pub record EndsOver {D O : Type 0} (cause : Cause) (files : List Placed)
-    (shelf : Shelf) (w w' : Outlets D O) : Type 0 where
+pub record EndsOver {D O : Type 0} (cause : Cause) (files : List Placed) (old : ShelfIn (Outlets D O))
+    (w' : Outlets D O) : Type 0 where
   pub full : (needed most : ℕ) → cause ≡ Refused (Capacity needed most)
-      → IsFullWith (kept_by shelf).way needed most files
-  pub room : IsWorkDone cause → HasRoom (kept_by shelf).way files
-  pub same_disk : files ≡ [] → w'.disk ≡ w.disk
-  pub silent : files ≡ [] → IsEarlier cause → w'.out ≡ w.out
+      → IsFullWith (way_in old) needed most files
+  pub room : IsWorkDone cause → HasRoom (way_in old) files
+  pub same_disk : files ≡ [] → w'.disk ≡ old.lent.disk
+  pub silent : files ≡ [] → IsEarlier cause → w'.out ≡ old.lent.out
   pub kind : files ≡ [] → cause ≡ Failed Disk → ⊥
+
+-- how an input is read: its form, how many bytes of it are taken at most, and how many frames may wait
+pub record Reception : Type 0 where
+  pub input : Input
+  pub limit : ℕ
+  pub leeway : Leeway
+
+abbrev pub reception : Input → ℕ → Leeway → Reception
+reception input limit leeway = record { input = input; limit = limit; leeway = leeway }
+
+-- the bytes that were taken of an input, and how many frames of them may wait
+pub record TakenBytes : Type 0 where
+  pub input : Input
+  pub leeway : Leeway
+  pub bytes : List ℕ
+
+abbrev pub taken_bytes : Input → Leeway → List ℕ → TakenBytes
+taken_bytes input leeway bytes = record { input = input; leeway = leeway; bytes = bytes }
 
 -- of the outcomes of these bytes all but the last few are worked through, and so are all whose frames or blocks ended
 -- so long before the last byte: their files are acknowledged
-pub record FewWait {D O : Type 0} (world : OutletsOf D O) (initial : InitialShelf) (input : Input) (leeway : Leeway)
-    (bytes : List ℕ) (w w' : Outlets D O) : Type 0 where
+pub record FewWait {D O : Type 0} (world : OutletsOf D O) (initial : InitialShelf) (taken : TakenBytes)
+    (w w' : Outlets D O) : Type 0 where
   pub worked : List Outcome
   pub late : List Outcome
-  pub split : outcomes_of_bytes input bytes ≡ worked ++ late
-  pub few : length late ≤ leeway.at_end
-  pub close : (count : ℕ) → count ≤ length (outcomes_of_bytes input bytes)
-      → HaveEnded input leeway.ahead bytes count → count ≤ length worked
-  pub acknowledged : AreAcknowledged world initial (placed_of_outcomes worked) (files_of_bytes input bytes) w w'
+  pub split : outcomes_of_bytes taken.input taken.bytes ≡ worked ++ late
+  pub few : length late ≤ taken.leeway.at_end
+  pub close : (count : ℕ) → count ≤ length (outcomes_of_bytes taken.input taken.bytes)
+      → HaveEnded taken.input taken.leeway.ahead taken.bytes count → count ≤ length worked
+  pub acknowledged : AreAcknowledged world (files_onto initial (files_of_bytes taken.input taken.bytes))
+      (placed_of_outcomes worked) w w'
 
 -- the files of the outcomes of these bytes, but for the last ones, those that may wait, are the first ones of these
 abbrev pub FilesComeFirstBut : Input → ℕ → List Placed → List ℕ → Type 0
@@ -78,65 +98,72 @@ FilesComeFirstBut input most files bytes =
     → AreAllThatWait input most bytes (length waiting)
     → (later : List Placed) × (files ≡ placed_of_outcomes worked ++ later)
 
-module _ {S D O : Type 0} (world : World S D O) (input : Input) (limit : ℕ) where
+module _ {S D O : Type 0} (world : World S D O) (how : Reception) where
   -- the input ended, and all its files are shelved, whatever shelf they came onto
-  pub record ReadsAll (leeway : Leeway) (sums : ReceiveCounts) (shelf shelf' : Shelf) (w w' : Outside S D O) : Type
-      0 where
+  pub record ReadsAll (sums : ReceiveCounts) (old new : ShelfIn (Outside S D O)) : Type 0 where
     pub bytes : List ℕ
-    pub ends : ReadsInput world.source input limit sums.totals bytes w.source w'.source
-    pub counts : numbers sums.counts ≡ numbers_of (outcomes_of_bytes input bytes)
-    pub shelved : HasShelved (world_outlets world) (files_of_bytes input bytes)
-        shelf shelf' (outlets_in w) (outlets_in w')
+    pub ends : ReadsInput world.source (input_read how.input how.limit bytes) sums.totals old.lent.source
+        new.lent.source
+    pub counts : numbers sums.counts ≡ numbers_of (outcomes_of_bytes how.input bytes)
+    pub shelved : HasShelved (world_outlets world) (files_of_bytes how.input bytes)
+        (shelf_in old.shelf (outlets_in old.lent)) (shelf_in new.shelf (outlets_in new.lent))
     pub in_time : WhenLastAsked world.source
-        (FilesComeFirstBut input leeway.when_asked (files_of_bytes input bytes)) bytes w.source w'.source
+        (FilesComeFirstBut how.input how.leeway.when_asked (files_of_bytes how.input bytes)) bytes old.lent.source
+        new.lent.source
 
   -- shelving stopped among the files of these bytes
-  pub record ReadsSome (leeway : Leeway) (cause : Cause) (shelf : Shelf) (w w' : Outside S D O) : Type 0 where
+  pub record ReadsSome (cause : Cause) (old : ShelfIn (Outside S D O)) (w' : Outside S D O) : Type 0 where
     pub bytes : List ℕ
-    pub read : IsRead world.source limit bytes w.source w'.source
-    pub stopped : StopsShelving (world_outlets world) cause (files_of_bytes input bytes)
-        shelf (outlets_in w) (outlets_in w')
+    pub read : IsRead world.source how.limit bytes old.lent.source w'.source
+    pub stopped : StopsShelving (world_outlets world) cause (files_of_bytes how.input bytes)
+        (shelf_in old.shelf (outlets_in old.lent)) (outlets_in w')
     -- more sharply: among these files, up to those of the last outcome
     pub files : List Placed
-    pub early : StopsShelving (world_outlets world) cause files shelf (outlets_in w) (outlets_in w')
+    pub early : StopsShelving (world_outlets world) cause files (shelf_in old.shelf (outlets_in old.lent))
+        (outlets_in w')
     -- of symbols they are the first ones of all that the source gives, where it had not failed nor reached the limit
-    pub first : (line : LineCode) → input ≡ Symbols line → world.source.tells w.source
-        → length bytes < limit
-        → (Rose (world.source.faults w.source) (world.source.faults w'.source) → ⊥)
+    pub first : (line : LineCode) → how.input ≡ Symbols line → world.source.tells old.lent.source
+        → length bytes < how.limit
+        → (Rose (world.source.faults old.lent.source) (world.source.faults w'.source) → ⊥)
         → (rest : List Placed)
-        × (files_of_bytes input (bytes ++ world.source.left w'.source) ≡ files ++ rest)
+        × (files_of_bytes how.input (bytes ++ world.source.left w'.source) ≡ files ++ rest)
     pub timely : (initial : InitialShelf) (before : Outlets D O)
-        → ShelvesSoFar (world_outlets world) initial [] shelf before (outlets_in w)
-        → FewWait (world_outlets world) initial input leeway bytes before (outlets_in w')
+        → ShelvesSoFar (world_outlets world) initial [] before (shelf_in old.shelf (outlets_in old.lent))
+        → FewWait (world_outlets world) initial (taken_bytes how.input how.leeway bytes) before (outlets_in w')
     pub in_time : (initial : InitialShelf) (before : Outlets D O)
-        → ShelvesSoFar (world_outlets world) initial [] shelf before (outlets_in w)
-        → WhenLastAsked world.source (AreWorkedBut (world_outlets world) initial input leeway.when_asked
-        (files_of_bytes input bytes) before (outlets_in w')) bytes w.source w'.source
+        → ShelvesSoFar (world_outlets world) initial [] before (shelf_in old.shelf (outlets_in old.lent))
+        → WhenLastAsked world.source (AreWorkedBut (world_outlets world)
+        (files_onto initial (files_of_bytes how.input bytes)) (waiting_of how.input how.leeway.when_asked) before
+        (outlets_in w')) bytes old.lent.source w'.source
 
   -- how a run ends that took some bytes, whatever shelf it was onto, and what a crash may leave of it
-  pub record EndsRun (leeway : Leeway) (cause : Cause) (shelf : Shelf) (w w' : Outside S D O) : Type 0 where
+  pub record EndsRun (cause : Cause) (old : ShelfIn (Outside S D O)) (w' : Outside S D O) : Type 0 where
     pub bytes : List ℕ
-    pub read : IsRead world.source limit bytes w.source w'.source
+    pub read : IsRead world.source how.limit bytes old.lent.source w'.source
     pub kind : MayStop cause ⊎ IsWorkDone cause
-    pub told_by_disk : world.disk.tells w.disk → world.disk.tells w'.disk
-    pub untold_by_disk : world.disk.tells w'.disk → world.disk.tells w.disk
-    pub told_by_out : world.out.tells w.out → world.out.tells w'.out
-    pub untold_by_out : world.out.tells w'.out → world.out.tells w.out
-    pub first : (kept_by shelf).failed ≡ false
-        → CountsTell SourceBesides cause (counts_in world w) (counts_in world w')
+    pub told_by_disk : world.disk.tells old.lent.disk → world.disk.tells w'.disk
+    pub untold_by_disk : world.disk.tells w'.disk → world.disk.tells old.lent.disk
+    pub told_by_out : world.out.tells old.lent.out → world.out.tells w'.out
+    pub untold_by_out : world.out.tells w'.out → world.out.tells old.lent.out
+    pub first : (kept_by old.shelf).failed ≡ false
+        → CountsTell SourceBesides cause (counts_in world old.lent) (counts_in world w')
     pub ends : (initial : InitialShelf) (before : Outlets D O)
-        → ShelvesSoFar (world_outlets world) initial [] shelf before (outlets_in w)
-        → LeavesPrefixes world.disk initial (files_of_bytes input bytes) before.disk w'.disk
-        × Ends world input initial limit bytes cause (outside w.source before.disk before.out) w'
-        × FewWait (world_outlets world) initial input leeway bytes before (outlets_in w')
-        × WhenLastAsked world.source (AreWorkedBut (world_outlets world) initial input leeway.when_asked
-        (files_of_bytes input bytes) before (outlets_in w')) bytes w.source w'.source
-    pub over : EndsOver cause (files_of_bytes input bytes) shelf (outlets_in w) (outlets_in w')
+        → ShelvesSoFar (world_outlets world) initial [] before (shelf_in old.shelf (outlets_in old.lent))
+        → LeavesPrefixes world.disk initial (files_of_bytes how.input bytes) before.disk w'.disk
+        × Ends world (run_onto initial (input_read how.input how.limit bytes)) cause
+        (outside old.lent.source before.disk before.out) w'
+        × FewWait (world_outlets world) initial (taken_bytes how.input how.leeway bytes) before (outlets_in w')
+        × WhenLastAsked world.source (AreWorkedBut (world_outlets world)
+        (files_onto initial (files_of_bytes how.input bytes)) (waiting_of how.input how.leeway.when_asked) before
+        (outlets_in w')) bytes old.lent.source w'.source
+    pub over : EndsOver cause (files_of_bytes how.input bytes) (shelf_in old.shelf (outlets_in old.lent))
+        (outlets_in w')
     pub ended : IsWorkDone cause → (stop : Stop) × (cause ≡ cause_at stop)
-        × DoesWork world input limit bytes (length (kept_by shelf).way.entries) stop w w'
-    pub outside : world.disk.tells w.disk
-        → ChangesFor (kept_by shelf).way (files_of_bytes input bytes) (world.disk.contents w.disk)
+        × DoesWork world (work_done (input_read how.input how.limit bytes) (length (way_in old).entries) stop)
+        old.lent w'
+    pub outside : world.disk.tells old.lent.disk
+        → ChangesFor (way_in old) (files_of_bytes how.input bytes) (world.disk.contents old.lent.disk)
         (world.disk.contents w'.disk)
-    pub moments : world.disk.tells w.disk → NothingPending world.disk w.disk
-        → (w'.disk ≡ w.disk)
-        ⊎ ChangesImagesFor world.disk (kept_by shelf).way (files_of_bytes input bytes) w.disk w'.disk
+    pub moments : world.disk.tells old.lent.disk → NothingPending world.disk old.lent.disk
+        → (w'.disk ≡ old.lent.disk)
+        ⊎ ChangesImagesFor world.disk (way_in old) (files_of_bytes how.input bytes) old.lent.disk w'.disk

@@ -10,17 +10,9 @@ use Rattle.lr_causes.specs.declared.cause.Cause.TheVariants.{Failed, NoMemory, R
 use Rattle.lr_causes.specs.declared.cause.Party.TheVariants.{Disk, Output}
 use Rattle.lr_causes.specs.declared.cause.Refusal.TheVariants.{Capacity}
 use Rattle.lr_causes.specs.Outside.{Outlets, OutletsOf}
-use Rattle.lr_shelf.specs.InitialShelves.{
-  InitialShelf,
-  HoldsPrefix,
-  HoldsStill,
-  LeavesPrefixes,
-  StandsWith,
-  capacity_of,
-  end_with_files,
-  next_number,
-  told_end,
-}
+use Rattle.lr_shelf.specs.InitialShelves.{InitialShelf, HoldsPrefix, HoldsStill, LeavesPrefixes}
+use Rattle.lr_shelf.specs.InitialShelves.{StandsWith, capacity_of, end_with_files, next_number}
+use Rattle.lr_shelf.specs.InitialShelves.{told_end}
 
 -- the lines of files, the first of which has that number on the shelf
 unfoldable pub shelved_lines : ℕ → List Placed → List ℕ
@@ -43,66 +35,82 @@ module _ {O : Type 0} (out : SinkOf O) where
   abbrev pub GotPart : List ℕ → List ℕ → O → O → Type 0
   GotPart text line o o' = out.tells o → PutsPart line (out.contents o ++ text) (out.contents o')
 
-module _ {D O : Type 0} (world : OutletsOf D O) (initial : InitialShelf) where
+-- what stood there before, and the files that come onto it
+pub record FilesOnto : Type 0 where
+  pub initial : InitialShelf
+  pub files : List Placed
+
+abbrev pub files_onto : InitialShelf → List Placed → FilesOnto
+files_onto initial files = record { initial = initial; files = files }
+
+-- where the next file would end, and the capacity
+pub record Shortage : Type 0 where
+  pub needed : ℕ
+  pub most : ℕ
+
+abbrev pub shortage_of : ℕ → ℕ → Shortage
+shortage_of needed most = record { needed = needed; most = most }
+
+module _ {D O : Type 0} (world : OutletsOf D O) (all : FilesOnto) where
   -- The first ones of these files are acknowledged: the contents and each crash image hold them all, and perhaps files
   -- after them, and `out` got their lines, and perhaps more.
-  pub record AreAcknowledged (first files : List Placed) (w w' : Outlets D O) : Type 0 where
+  pub record AreAcknowledged (first : List Placed) (w w' : Outlets D O) : Type 0 where
     pub others : List Placed
-    pub split : files ≡ first ++ others
-    pub held : HoldsPrefix world.disk initial files (length first) w'.disk
+    pub split : all.files ≡ first ++ others
+    pub held : HoldsPrefix world.disk all.initial all.files (length first) w'.disk
     pub told : world.out.tells w.out → (text : List ℕ)
         × (world.out.contents w'.out
-        ≡ world.out.contents w.out ++ (shelved_lines (next_number initial) first ++ text))
+        ≡ world.out.contents w.out ++ (shelved_lines (next_number all.initial) first ++ text))
 
   -- the disk failed: these files are acknowledged, and one more may stand there
-  pub record DiskStops (files : List Placed) (w w' : Outlets D O) : Type 0 where
+  pub record DiskStops (w w' : Outlets D O) : Type 0 where
     pub done : List Placed
     pub rest : List Placed
-    pub split : files ≡ done ++ rest
-    pub contents : StandsForOneFileMore initial done rest (world.disk.contents w'.disk)
+    pub split : all.files ≡ done ++ rest
+    pub contents : StandsForOneFileMore all.initial done rest (world.disk.contents w'.disk)
     pub images : (c : List ℕ) → world.disk.may_leave w'.disk c
-        → StandsForOneFileMore initial done rest c
-    pub got : GotText world.out (shelved_lines (next_number initial) done) w.out w'.out
+        → StandsForOneFileMore all.initial done rest c
+    pub got : GotText world.out (shelved_lines (next_number all.initial) done) w.out w'.out
 
   -- memory was refused: these files are acknowledged, and they alone stand there
-  pub record MemoryStops (files : List Placed) (w w' : Outlets D O) : Type 0 where
+  pub record MemoryStops (w w' : Outlets D O) : Type 0 where
     pub done : List Placed
     pub rest : List Placed
-    pub split : files ≡ done ++ rest
-    pub durable : HoldsStill initial done world.disk w'.disk
-    pub got : GotText world.out (shelved_lines (next_number initial) done) w.out w'.out
+    pub split : all.files ≡ done ++ rest
+    pub durable : HoldsStill all.initial done world.disk w'.disk
+    pub got : GotText world.out (shelved_lines (next_number all.initial) done) w.out w'.out
 
   -- the next file doesn't fit
-  pub record FullStops (needed most : ℕ) (files : List Placed) (w w' : Outlets D O) : Type 0 where
+  pub record FullStops (shortage : Shortage) (w w' : Outlets D O) : Type 0 where
     pub done : List Placed
     pub next : Placed
     pub rest : List Placed
-    pub split : files ≡ done ++ next ∷ rest
-    pub durable : HoldsStill initial done world.disk w'.disk
-    pub got : GotText world.out (shelved_lines (next_number initial) done) w.out w'.out
-    pub needs : needed ≡ told_end initial (done ++ next ∷ [])
-    pub of : most ≡ capacity_of initial
-    pub over : capacity_of initial < end_with_files initial (done ++ next ∷ [])
+    pub split : all.files ≡ done ++ next ∷ rest
+    pub durable : HoldsStill all.initial done world.disk w'.disk
+    pub got : GotText world.out (shelved_lines (next_number all.initial) done) w.out w'.out
+    pub needs : shortage.needed ≡ told_end all.initial (done ++ next ∷ [])
+    pub of : shortage.most ≡ capacity_of all.initial
+    pub over : capacity_of all.initial < end_with_files all.initial (done ++ next ∷ [])
 
   -- `out` failed in the line of a file that is shelved
-  pub record LineStops (files : List Placed) (w w' : Outlets D O) : Type 0 where
+  pub record LineStops (w w' : Outlets D O) : Type 0 where
     pub done : List Placed
     pub last : Placed
     pub rest : List Placed
-    pub split : files ≡ (done ++ last ∷ []) ++ rest
-    pub durable : HoldsStill initial (done ++ last ∷ []) world.disk w'.disk
-    pub part : GotPart world.out (shelved_lines (next_number initial) done)
-        (shelved_line (next_number initial + length done) last.file) w.out w'.out
+    pub split : all.files ≡ (done ++ last ∷ []) ++ rest
+    pub durable : HoldsStill all.initial (done ++ last ∷ []) world.disk w'.disk
+    pub part : GotPart world.out (shelved_lines (next_number all.initial) done)
+        (shelved_line (next_number all.initial + length done) last.file) w.out w'.out
 
   -- how shelving these files stops, for each cause that may stop it
-  abbrev pub StopsBy : Cause → List Placed → Outlets D O → Outlets D O → Type 0
-  StopsBy (Failed Disk) files w w' = DiskStops files w w'
-  StopsBy (Failed Output) files w w' = LineStops files w w'
-  StopsBy NoMemory files w w' = MemoryStops files w w'
-  StopsBy (Refused (Capacity needed most)) files w w' = FullStops needed most files w w'
-  StopsBy _ files w w' = ⊥
+  abbrev pub StopsBy : Cause → Outlets D O → Outlets D O → Type 0
+  StopsBy (Failed Disk) w w' = DiskStops w w'
+  StopsBy (Failed Output) w w' = LineStops w w'
+  StopsBy NoMemory w w' = MemoryStops w w'
+  StopsBy (Refused (Capacity needed most)) w w' = FullStops (shortage_of needed most) w w'
+  StopsBy _ w w' = ⊥
 
   -- shelving stopped
-  pub record Stops (cause : Cause) (files : List Placed) (w w' : Outlets D O) : Type 0 where
-    pub any_moment : LeavesPrefixes world.disk initial files w.disk w'.disk
-    pub why : StopsBy cause files w w'
+  pub record Stops (cause : Cause) (w w' : Outlets D O) : Type 0 where
+    pub any_moment : LeavesPrefixes world.disk all.initial all.files w.disk w'.disk
+    pub why : StopsBy cause w w'

@@ -1,11 +1,13 @@
 //! `receive`: the mission files of the input go onto the shelf.
 ghost use Rattle.std.specs.Prelude.{◌≡◌, ◌≤◌, ◌^◌, ℕ, [], IfOk, IfErr};
-ghost use Rattle.lr_causes.specs.Outside.{outside, world_of};
+ghost use Rattle.lr_receiving.specs.Shelved.{shelf_in};
+ghost use Rattle.lr_causes.specs.Outside.{outside, world_of, outlets_of};
+ghost use Rattle.lr_forms.specs.declared.forms.Input.{Input as Input'};
 ghost use Rattle.lr_reading.specs.Leading.{MayLead, Leads};
 ghost use Rattle.lr_reading.specs.Readers.{Leeway, leeway_for};
 ghost use Rattle.lr_reading.specs.Runs.{IsLed, course_of, lent};
-ghost use Rattle.lr_receiving.specs.Receive.{ReceiveRun};
-ghost use Rattle.lr_receiving.specs.Reception.{ReadsAll, ReadsSome, EndsRun, PutsLast, LastStops};
+ghost use Rattle.lr_receiving.specs.Receive.{ReceiveRun, receive_query};
+ghost use Rattle.lr_receiving.specs.Reception.{ReadsAll, ReadsSome, EndsRun, PutsLast, LastStops, reception};
 ghost use Rattle.lr_receiving.specs.ShelverTaken.{ShelverTook, ShelverStopped};
 
 use crate::receive_counts::ReceiveCounts;
@@ -25,37 +27,37 @@ use std::alloc::Global;
 use std::sync::Wait;
 use std::thread::Threads;
 
-/// Shelves all files of this input, through which the call `read` leads.
+/// Shelves all files of the input through which the call `read` leads.
 pub(crate) fn receive_all<
     S: Source,
     D: Disk,
     O: Sink,
     F: FnOnce(&mut S, &mut Shelver<'_, D, O>) -> Result<ReadCounts, Cause>,
 >(
-    alloc: Global,
-    input: Input,
-    most: u64,
     shelf: &mut Shelf,
     source: &mut S,
     disk: &mut D,
     out: &mut O,
     read: F,
 ) -> Result<ReceiveCounts, Cause>
-    requires ready { MayLead (F.pre read) (ShelverTook D.Disk O.Sink) }
-    ensures all { (leeway : Leeway) → Leads (F.post read)
-        (course_of S.Source (ShelverTook D.Disk O.Sink) input most leeway) (ShelverStopped D.Disk O.Sink)
-        → IfOk result (λ sums. ReadsAll (world_of S.Source D.Disk O.Sink) input most leeway sums shelf.old shelf.new
-        (outside source.old disk.old out.old) (outside source.new disk.new out.new)) }
-    ensures some { (leeway : Leeway) → Leads (F.post read)
-        (course_of S.Source (ShelverTook D.Disk O.Sink) input most leeway) (ShelverStopped D.Disk O.Sink)
+    requires ready { MayLead (F.pre read) (ShelverTook (outlets_of D.Disk O.Sink)) }
+    ensures all { (input : Input') (most : ℕ) (leeway : Leeway) → Leads (F.post read)
+        (course_of S.Source (ShelverTook (outlets_of D.Disk O.Sink)) input most leeway)
+        (ShelverStopped (outlets_of D.Disk O.Sink))
+        → IfOk result (λ sums. ReadsAll (world_of S.Source D.Disk O.Sink) (reception input most leeway) sums
+        (shelf_in shelf.old (outside source.old disk.old out.old))
+        (shelf_in shelf.new (outside source.new disk.new out.new))) }
+    ensures some { (input : Input') (most : ℕ) (leeway : Leeway) → Leads (F.post read)
+        (course_of S.Source (ShelverTook (outlets_of D.Disk O.Sink)) input most leeway)
+        (ShelverStopped (outlets_of D.Disk O.Sink))
         → IfErr result
-        (λ cause. ReadsSome (world_of S.Source D.Disk O.Sink) input most leeway cause shelf.old
-        (outside source.old disk.old out.old) (outside source.new disk.new out.new)) }
+        (λ cause. ReadsSome (world_of S.Source D.Disk O.Sink) (reception input most leeway) cause
+        (shelf_in shelf.old (outside source.old disk.old out.old)) (outside source.new disk.new out.new)) }
 {
+    let alloc = shelf.allocator();
     let mut layers = Layers::new(alloc);
     let mut files = Vec::new(alloc);
     let mut shelver = Shelver {
-        alloc,
         counts: layers.counts(),
         layers: &mut layers,
         files: &mut files,
@@ -101,23 +103,16 @@ fn receive_onto<
     D: Disk,
     O: Sink,
     F: FnOnce(&mut S, &mut Shelver<'_, D, O>) -> Result<ReadCounts, Cause>,
->(
-    alloc: Global,
-    input: Input,
-    most: u64,
-    shelf: &mut Shelf,
-    source: &mut S,
-    disk: &mut D,
-    out: &mut O,
-    read: F,
-) -> Cause
-    requires ready { MayLead (F.pre read) (ShelverTook D.Disk O.Sink) }
-    ensures { (leeway : Leeway) → Leads (F.post read)
-        (course_of S.Source (ShelverTook D.Disk O.Sink) input most leeway) (ShelverStopped D.Disk O.Sink)
-        → EndsRun (world_of S.Source D.Disk O.Sink) input most leeway result
-        shelf.old (outside source.old disk.old out.old) (outside source.new disk.new out.new) }
+>(shelf: &mut Shelf, source: &mut S, disk: &mut D, out: &mut O, read: F) -> Cause
+    requires ready { MayLead (F.pre read) (ShelverTook (outlets_of D.Disk O.Sink)) }
+    ensures { (input : Input') (most : ℕ) (leeway : Leeway) → Leads (F.post read)
+        (course_of S.Source (ShelverTook (outlets_of D.Disk O.Sink)) input most leeway)
+        (ShelverStopped (outlets_of D.Disk O.Sink))
+        → EndsRun (world_of S.Source D.Disk O.Sink) (reception input most leeway) result
+        (shelf_in shelf.old (outside source.old disk.old out.old)) (outside source.new disk.new out.new) }
 {
-    let sums = match receive_all(alloc, input, most, shelf, source, disk, out, read) {
+    let alloc = shelf.allocator();
+    let sums = match receive_all(shelf, source, disk, out, read) {
         Ok(sums) => sums,
         Err(cause) => return cause,
     };
@@ -134,24 +129,16 @@ fn receive_with<
     D: Disk,
     O: Sink,
     F: FnOnce(&mut S, &mut Shelver<'_, D, O>) -> Result<ReadCounts, Cause>,
->(
-    alloc: Global,
-    input: Input,
-    most: u64,
-    source: &mut S,
-    disk: &mut D,
-    out: &mut O,
-    read: F,
-) -> Cause
-    requires ready { MayLead (F.pre read) (ShelverTook D.Disk O.Sink) }
-    ensures { (workers : ℕ) → Leads (F.post read)
-        (course_of S.Source (ShelverTook D.Disk O.Sink) input most (leeway_for input workers))
-        (ShelverStopped D.Disk O.Sink)
-        → ReceiveRun (world_of S.Source D.Disk O.Sink) input workers most result
+>(alloc: Global, source: &mut S, disk: &mut D, out: &mut O, read: F) -> Cause
+    requires ready { MayLead (F.pre read) (ShelverTook (outlets_of D.Disk O.Sink)) }
+    ensures { (input : Input') (workers most : ℕ) → Leads (F.post read)
+        (course_of S.Source (ShelverTook (outlets_of D.Disk O.Sink)) input most (leeway_for input workers))
+        (ShelverStopped (outlets_of D.Disk O.Sink))
+        → ReceiveRun (world_of S.Source D.Disk O.Sink) (receive_query input workers most) result
         (outside source.old disk.old out.old) (outside source.new disk.new out.new) }
 {
     match Shelf::load(alloc, disk) {
-        Ok(mut shelf) => receive_onto(alloc, input, most, &mut shelf, source, disk, out, read),
+        Ok(mut shelf) => receive_onto(&mut shelf, source, disk, out, read),
         Err(error) => shelf_cause(error),
     }
 }
@@ -167,7 +154,7 @@ pub fn receive_alone<S: Source, D: Disk, O: Sink>(
     out: &mut O,
 ) -> Cause
     requires few { most ≤ 2 ^ 48 }
-    ensures { ReceiveRun (world_of S.Source D.Disk O.Sink) input 1 most result
+    ensures { ReceiveRun (world_of S.Source D.Disk O.Sink) (receive_query input 1 most) result
         (outside source.old disk.old out.old) (outside source.new disk.new out.new) }
 {
     let reader = match Reader::<FrameWork>::new(alloc, input, 1, most, &()) {
@@ -176,16 +163,14 @@ pub fn receive_alone<S: Source, D: Disk, O: Sink>(
     };
     receive_with(
         alloc,
-        input,
-        most,
         source,
         disk,
         out,
         |source, shelver| -> Result<ReadCounts, Cause>
             requires { ((reader.workers ≡ 1) × (reader.most ≤ 2 ^ 48))
-                × ((first : _) × ShelverTook D.Disk O.Sink first [] shelver.old) }
-            ensures { IsLed (course_of S.Source (ShelverTook D.Disk O.Sink) reader.input reader.most
-                (leeway_for reader.input reader.workers)) (ShelverStopped D.Disk O.Sink) result
+                × ((first : _) × ShelverTook (outlets_of D.Disk O.Sink) first [] shelver.old) }
+            ensures { IsLed (course_of S.Source (ShelverTook (outlets_of D.Disk O.Sink)) reader.input reader.most
+                (leeway_for reader.input reader.workers)) (ShelverStopped (outlets_of D.Disk O.Sink)) result
                 (lent source.old shelver.old) (lent source.new shelver.new) }
         { reader.read_alone(source, shelver) },
     )
@@ -206,7 +191,7 @@ pub fn receive<R: Threads + Wait + Sync, H: Hand, S: Source, D: Disk, O: Sink>(
 ) -> Cause
     requires few { most ≤ 2 ^ 48 }
     requires workers { (1 ≤ workers) × (workers ≤ MOST_WORKERS) }
-    ensures { ReceiveRun (world_of S.Source D.Disk O.Sink) input workers most result
+    ensures { ReceiveRun (world_of S.Source D.Disk O.Sink) (receive_query input workers most) result
         (outside source.old disk.old out.old) (outside source.new disk.new out.new) }
 {
     let reader = match Reader::<H>::new(alloc, input, workers, most, tools) {
@@ -215,16 +200,14 @@ pub fn receive<R: Threads + Wait + Sync, H: Hand, S: Source, D: Disk, O: Sink>(
     };
     receive_with(
         alloc,
-        input,
-        most,
         source,
         disk,
         out,
         |source, shelver| -> Result<ReadCounts, Cause>
             requires { (reader.most ≤ 2 ^ 48) × ((first : _)
-                × ShelverTook D.Disk O.Sink first [] shelver.old) }
-            ensures { IsLed (course_of S.Source (ShelverTook D.Disk O.Sink) reader.input reader.most
-                (leeway_for reader.input reader.workers)) (ShelverStopped D.Disk O.Sink) result
+                × ShelverTook (outlets_of D.Disk O.Sink) first [] shelver.old) }
+            ensures { IsLed (course_of S.Source (ShelverTook (outlets_of D.Disk O.Sink)) reader.input reader.most
+                (leeway_for reader.input reader.workers)) (ShelverStopped (outlets_of D.Disk O.Sink)) result
                 (lent source.old shelver.old) (lent source.new shelver.new) }
         { reader.read(rt, source, shelver) },
     )

@@ -7,12 +7,10 @@ use lr_io::Sink;
 use lr_layers::{Counts, Layers};
 use lr_reading::{Arrival, Consumer};
 use lr_shelf::Shelf;
-use std::alloc::Global;
 
 /// Shelves the files that end with each outcome, and puts their lines.
 #[derive(Drop)]
 pub(crate) struct Shelver<'a, D, O> {
-    pub alloc: Global,
     /// What the layers counted so far.
     pub counts: Counts,
     pub layers: &'a mut Layers,
@@ -25,19 +23,19 @@ pub(crate) struct Shelver<'a, D, O> {
 
 impl<'a, D: Disk, O: Sink> Consumer for Shelver<'a, D, O> {
     ghost use Rattle.std.specs.Prelude.{◌^◌};
+    ghost use Rattle.lr_causes.specs.Outside.{outlets_of};
     ghost use Rattle.lr_receiving.specs.ShelverTaken.{ShelverTook, ShelverStopped};
 
     type Cause = Cause;
 
     ghost most = { 2 ^ 48 };
 
-    ghost took = { λ c arrivals now. ShelverTook D.Disk O.Sink c arrivals now };
+    ghost took = { λ c arrivals now. ShelverTook (outlets_of D.Disk O.Sink) c arrivals now };
 
-    ghost stopped = { λ c arrivals cause now. ShelverStopped D.Disk O.Sink c arrivals cause now };
+    ghost stopped = { λ c arrivals cause now. ShelverStopped (outlets_of D.Disk O.Sink) c arrivals cause now };
 
     fn take(&mut self, arrival: &Arrival) -> Result<(), Cause> {
         shelve_outcome(
-            self.alloc,
             &arrival.outcome,
             self.layers,
             self.files,

@@ -4,7 +4,7 @@ ghost use Rattle.lr_make.specs.Stream.{frame_stream, block_stream, symbol_stream
 ghost use Rattle.lr_make.specs.Symbols.{bytes_of_symbols};
 ghost use Rattle.lr_causes.specs.declared.cause.Party.TheVariants.{Output as OutputParty};
 ghost use Rattle.lr_causes.specs.Causes.{IsCaused, counts};
-ghost use Rattle.lr_receiving.specs.Made.{made_bytes, MakeEnds};
+ghost use Rattle.lr_receiving.specs.Made.{made_bytes, MakeEnds, test_frames};
 ghost use Rattle.lr_causes.specs.Puts.{Puts, PutFails};
 
 use lr_bits::{BLOCK_BYTES, FRAME_BYTES, FRAME_SYMBOLS};
@@ -12,6 +12,14 @@ use lr_causes::{Cause, put_text};
 use lr_forms::{Output, UnitForm};
 use lr_io::Sink;
 use lr_make::{Maker, put_bytes};
+
+/// The first frames of a test stream, and how many bytes are wrong in each word of their blocks.
+#[derive(Clone, Copy)]
+pub(crate) struct TestFrames {
+    pub start: u64,
+    pub frames: u64,
+    pub wrong: u8,
+}
 
 fn make_frames<O: Sink>(start: u64, frames: u64, out: &mut O) -> Result<(), Cause>
     ensures put { IfOk result (λ _. Puts O.Sink (frame_stream start frames) out.old out.new) }
@@ -96,10 +104,10 @@ fn make_units<O: Sink>(
     out: &mut O,
 ) -> Result<(), Cause>
     requires { wrong ≤ 16 }
-    ensures put { IfOk result (λ _. Puts O.Sink (made_bytes (Output.Units form) start wrong frames)
+    ensures put { IfOk result (λ _. Puts O.Sink (made_bytes (Output.Units form) (test_frames start frames wrong))
         out.old out.new) }
     ensures failed { OnErr result
-        (PutFails O.Sink (made_bytes (Output.Units form) start wrong frames) out.old out.new) }
+        (PutFails O.Sink (made_bytes (Output.Units form) (test_frames start frames wrong)) out.old out.new) }
     ensures cause { IfErr result (λ cause. cause ≡ Cause.Failed OutputParty) }
 {
     match form {
@@ -114,7 +122,7 @@ pub fn make<O: Sink>(start: u64, frames: u64, wrong: u8, form: Output, out: &mut
     requires { wrong ≤ 16 }
     ensures cause { IsCaused result (counts 0 0 (O.faults out.old))
         (counts 0 0 (O.faults out.new)) }
-    ensures ends { MakeEnds O.Sink (made_bytes form start wrong frames) result out.old out.new }
+    ensures ends { MakeEnds O.Sink (made_bytes form (test_frames start frames wrong)) result out.old out.new }
 {
     match form {
         Output::Symbols => cause_of(make_symbols(start, frames, wrong, out)),

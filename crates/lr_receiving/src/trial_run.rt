@@ -10,7 +10,7 @@ ghost use Rattle.lr_make.specs.Received.{IsReceivedAs};
 ghost use Rattle.lr_receiving.specs.Filling.{FillsDisk, Fills, StopsFilling};
 ghost use Rattle.lr_shelf.specs.InitialShelves.{with_files};
 ghost use Rattle.lr_receiving.specs.Inputs.{files_of_bytes};
-ghost use Rattle.lr_receiving.specs.Made.{made_bytes};
+ghost use Rattle.lr_receiving.specs.Made.{made_bytes, test_frames};
 ghost use Rattle.lr_receiving.specs.Receive.{receive_last};
 ghost use Rattle.lr_receiving.specs.Reception.{sums_line};
 ghost use Rattle.lr_reading.specs.Leading.{MayLead, Leads};
@@ -26,6 +26,7 @@ ghost use Rattle.lr_causes.specs.Outside.{outlets, outlets_of};
 use crate::receive_counts::ReceiveCounts;
 use crate::reception::{put_last, receive_all};
 use crate::shelver::Shelver;
+use crate::test_stream::TestFrames;
 use crate::withdrawal::withdraw;
 use lr_bits::{FRAME_SYMBOLS, NoMemory};
 use lr_causes::Cause;
@@ -50,7 +51,7 @@ fn stream(alloc: Global, start: u64, frames: u64, wrong: u8) -> Result<Vec<u8>, 
     requires few { frames ≤ 1024 }
     requires wrong { wrong ≤ 16 }
     ensures bytes { IfOk result (λ bytes. bytes.items
-        ≡ made_bytes Output.Symbols start wrong frames) }
+        ≡ made_bytes Output.Symbols (test_frames start frames wrong)) }
     ensures received { (k : ℕ) → k < frames
         → IfOk result (λ _. IsReceivedAs wrong (frame_at start k) (block_at start wrong k)) }
 {
@@ -73,10 +74,10 @@ fn shelve_stream<
     D: Disk,
     F: FnOnce(&mut SureSource, &mut Shelver<'_, D, SureSink>) -> Result<ReadCounts, Cause>,
 >(alloc: Global, symbols: Vec<u8>, disk: &mut D, read: F) -> Result<ReceiveCounts, Cause>
-    requires ready { MayLead (F.pre read) (ShelverTook D.Disk sure_sink) }
+    requires ready { MayLead (F.pre read) (ShelverTook (outlets_of D.Disk sure_sink)) }
     requires leads { (leeway : Leeway) × Leads (F.post read)
-        (course_of sure_source (ShelverTook D.Disk sure_sink) (Symbols standard) most_bytes leeway)
-        (ShelverStopped D.Disk sure_sink) }
+        (course_of sure_source (ShelverTook (outlets_of D.Disk sure_sink)) (Symbols standard) most_bytes leeway)
+        (ShelverStopped (outlets_of D.Disk sure_sink)) }
     requires few { length symbols.items < most_bytes }
     requires fit { end_of (with_files [] (files_of_bytes (Symbols standard) symbols.items))
         ≤ trial_capacity }
@@ -93,17 +94,7 @@ fn shelve_stream<
     };
     let mut source = SureSource::of(symbols);
     let mut lines = SureSink::new();
-    let input = Input::Symbols(STANDARD);
-    receive_all(
-        alloc,
-        input,
-        MOST_BYTES,
-        &mut shelf,
-        &mut source,
-        disk,
-        &mut lines,
-        read,
-    )
+    receive_all(&mut shelf, &mut source, disk, &mut lines, read)
 }
 
 /// Puts the files of these symbols onto the empty shelf on the disk, and then the last line.
@@ -112,10 +103,10 @@ fn fill<
     O: Sink,
     F: FnOnce(&mut SureSource, &mut Shelver<'_, D, SureSink>) -> Result<ReadCounts, Cause>,
 >(alloc: Global, symbols: Vec<u8>, disk: &mut D, out: &mut O, read: F) -> Cause
-    requires ready { MayLead (F.pre read) (ShelverTook D.Disk sure_sink) }
+    requires ready { MayLead (F.pre read) (ShelverTook (outlets_of D.Disk sure_sink)) }
     requires leads { (leeway : Leeway) × Leads (F.post read)
-        (course_of sure_source (ShelverTook D.Disk sure_sink) (Symbols standard) most_bytes leeway)
-        (ShelverStopped D.Disk sure_sink) }
+        (course_of sure_source (ShelverTook (outlets_of D.Disk sure_sink)) (Symbols standard) most_bytes leeway)
+        (ShelverStopped (outlets_of D.Disk sure_sink)) }
     requires few { length symbols.items < most_bytes }
     requires fit { end_of (with_files [] (files_of_bytes (Symbols standard) symbols.items))
         ≤ trial_capacity }
@@ -139,17 +130,18 @@ fn trial_with<
     D: Disk,
     O: Sink,
     F: FnOnce(&mut SureSource, &mut Shelver<'_, D, SureSink>) -> Result<ReadCounts, Cause>,
->(alloc: Global, start: u64, frames: u64, wrong: u8, disk: &mut D, out: &mut O, read: F) -> Cause
-    requires few { frames ≤ 1024 }
-    requires wrong { wrong ≤ 16 }
-    requires ready { MayLead (F.pre read) (ShelverTook D.Disk sure_sink) }
+>(alloc: Global, made: TestFrames, disk: &mut D, out: &mut O, read: F) -> Cause
+    requires few { made.frames ≤ 1024 }
+    requires wrong { made.wrong ≤ 16 }
+    requires ready { MayLead (F.pre read) (ShelverTook (outlets_of D.Disk sure_sink)) }
     requires leads { (leeway : Leeway) × Leads (F.post read)
-        (course_of sure_source (ShelverTook D.Disk sure_sink) (Symbols standard) most_bytes leeway)
-        (ShelverStopped D.Disk sure_sink) }
-    ensures { TrialRun (outlets_of D.Disk O.Sink) (made_bytes Output.Symbols start wrong frames)
+        (course_of sure_source (ShelverTook (outlets_of D.Disk sure_sink)) (Symbols standard) most_bytes leeway)
+        (ShelverStopped (outlets_of D.Disk sure_sink)) }
+    ensures { TrialRun (outlets_of D.Disk O.Sink)
+        (made_bytes Output.Symbols (test_frames made.start made.frames made.wrong))
         result (outlets disk.old out.old) (outlets disk.new out.new) }
 {
-    let symbols = match stream(alloc, start, frames, wrong) {
+    let symbols = match stream(alloc, made.start, made.frames, made.wrong) {
         Ok(symbols) => symbols,
         Err(NoMemory) => return Cause::NoMemory,
     };
@@ -176,7 +168,7 @@ pub fn trial_alone<D: Disk, O: Sink>(
 ) -> Cause
     requires few { frames ≤ 1024 }
     requires wrong { wrong ≤ 16 }
-    ensures { TrialRun (outlets_of D.Disk O.Sink) (made_bytes Output.Symbols start wrong frames)
+    ensures { TrialRun (outlets_of D.Disk O.Sink) (made_bytes Output.Symbols (test_frames start frames wrong))
         result (outlets disk.old out.old) (outlets disk.new out.new) }
 {
     let input = Input::Symbols(STANDARD);
@@ -186,16 +178,18 @@ pub fn trial_alone<D: Disk, O: Sink>(
     };
     trial_with(
         alloc,
-        start,
-        frames,
-        wrong,
+        TestFrames {
+            start,
+            frames,
+            wrong,
+        },
         disk,
         out,
         |source, shelver| -> Result<ReadCounts, Cause>
             requires { ((reader.workers ≡ 1) × (reader.most ≤ 2 ^ 48))
-                × ((first : _) × ShelverTook D.Disk sure_sink first [] shelver.old) }
-            ensures { IsLed (course_of sure_source (ShelverTook D.Disk sure_sink) reader.input reader.most
-                (leeway_for reader.input reader.workers)) (ShelverStopped D.Disk sure_sink) result
+                × ((first : _) × ShelverTook (outlets_of D.Disk sure_sink) first [] shelver.old) }
+            ensures { IsLed (course_of sure_source (ShelverTook (outlets_of D.Disk sure_sink)) reader.input reader.most
+                (leeway_for reader.input reader.workers)) (ShelverStopped (outlets_of D.Disk sure_sink)) result
                 (lent source.old shelver.old) (lent source.new shelver.new) }
         { reader.read_alone(source, shelver) },
     )
@@ -216,7 +210,7 @@ pub fn trial<R: Threads + Wait + Sync, H: Hand, D: Disk, O: Sink>(
     requires few { frames ≤ 1024 }
     requires wrong { wrong ≤ 16 }
     requires workers { (1 ≤ workers) × (workers ≤ MOST_WORKERS) }
-    ensures { TrialRun (outlets_of D.Disk O.Sink) (made_bytes Output.Symbols start wrong frames)
+    ensures { TrialRun (outlets_of D.Disk O.Sink) (made_bytes Output.Symbols (test_frames start frames wrong))
         result (outlets disk.old out.old) (outlets disk.new out.new) }
 {
     let input = Input::Symbols(STANDARD);
@@ -226,16 +220,18 @@ pub fn trial<R: Threads + Wait + Sync, H: Hand, D: Disk, O: Sink>(
     };
     trial_with(
         alloc,
-        start,
-        frames,
-        wrong,
+        TestFrames {
+            start,
+            frames,
+            wrong,
+        },
         disk,
         out,
         |source, shelver| -> Result<ReadCounts, Cause>
             requires { (reader.most ≤ 2 ^ 48) × ((first : _)
-                × ShelverTook D.Disk sure_sink first [] shelver.old) }
-            ensures { IsLed (course_of sure_source (ShelverTook D.Disk sure_sink) reader.input reader.most
-                (leeway_for reader.input reader.workers)) (ShelverStopped D.Disk sure_sink) result
+                × ShelverTook (outlets_of D.Disk sure_sink) first [] shelver.old) }
+            ensures { IsLed (course_of sure_source (ShelverTook (outlets_of D.Disk sure_sink)) reader.input reader.most
+                (leeway_for reader.input reader.workers)) (ShelverStopped (outlets_of D.Disk sure_sink)) result
                 (lent source.old shelver.old) (lent source.new shelver.new) }
         { reader.read(rt, source, shelver) },
     )

@@ -5,7 +5,7 @@ use Rattle.lr_shelf_format.specs.Way.{Sound}
 use Rattle.lr_shelf_format.specs.declared.stored.Stored.{Stored}
 use Rattle.lr_shelf.specs.Asked.{entry_of}
 use Rattle.lr_shelf.specs.Calls.{IsFaultCounted}
-use Rattle.lr_shelf.specs.Kept.{kept_by}
+use Rattle.lr_shelf.specs.Kept.{kept_by, shelf_on}
 use Rattle.lr_shelf.specs.Read.{Finds, Gets, IsGetRefusal}
 use Rattle.lr_shelf.specs.declared.error.ShelfError.{ShelfError}
 use Rattle.lr_shelf.specs.declared.error.ShelfError.TheVariants.{Discarded}
@@ -22,7 +22,7 @@ of_gone (Ok file) is = cc (is)
 of_gone (Err error) is = ap Err is
 
 module _ {D : Type 0} (disk : DiskOf D) (number : ℕ) (old new : Shelf) (d d' : D) (got : Result Stored ShelfError)
-    (gets : Gets disk number old new d d' got) where
+    (gets : Gets disk number (shelf_on old d) (shelf_on new d') got) where
   pub gives_file : (file : Stored) → IsFileOrGone got (Ok (Some file))
       → Finds disk (entry_of (kept_by old) number) d (Some (Sound file))
   gives_file file is =

@@ -1,71 +1,44 @@
 -- The cause of what a shelf, an image or an assembly of segments was refused for.
 use Rattle.std.specs.Prelude.{◌≡◌, Option, Some, None, Result, Ok, Err}
 use Rattle.lr_image.specs.declared.fault.ImageFault.{ImageFault}
-use Rattle.lr_image.specs.declared.fault.ImageFault.TheVariants.{
-  Headers as Headers',
-  NotImage as NotImage',
-  NoStructure as NoStructure',
-  Encrypted as Encrypted',
-  Compression as Compression',
-  Depth as Depth',
-  Empty as Empty',
-  TooLarge as TooLarge',
-  Flags as Flags',
-  BlockSize as BlockSize',
-  LinesPerPacket as LinesPerPacket',
-  Rice as Rice',
-  Short as Short',
-  NoMemory as NoImageMemory,
-}
+use Rattle.lr_image.specs.declared.fault.ImageFault.TheVariants.{Headers as Headers'}
+use Rattle.lr_image.specs.declared.fault.ImageFault.TheVariants.{NotImage as NotImage'}
+use Rattle.lr_image.specs.declared.fault.ImageFault.TheVariants.{NoStructure as NoStructure'}
+use Rattle.lr_image.specs.declared.fault.ImageFault.TheVariants.{Encrypted as Encrypted'}
+use Rattle.lr_image.specs.declared.fault.ImageFault.TheVariants.{Compression as Compression'}
+use Rattle.lr_image.specs.declared.fault.ImageFault.TheVariants.{Depth as Depth', Empty as Empty'}
+use Rattle.lr_image.specs.declared.fault.ImageFault.TheVariants.{TooLarge as TooLarge'}
+use Rattle.lr_image.specs.declared.fault.ImageFault.TheVariants.{Flags as Flags'}
+use Rattle.lr_image.specs.declared.fault.ImageFault.TheVariants.{BlockSize as BlockSize'}
+use Rattle.lr_image.specs.declared.fault.ImageFault.TheVariants.{LinesPerPacket as LinesPerPacket'}
+use Rattle.lr_image.specs.declared.fault.ImageFault.TheVariants.{Rice as Rice', Short as Short'}
+use Rattle.lr_image.specs.declared.fault.ImageFault.TheVariants.{NoMemory as NoImageMemory}
 use Rattle.lr_segment.specs.declared.fault.AssembleFault.{AssembleFault}
-use Rattle.lr_segment.specs.declared.fault.AssembleFault.TheVariants.{
-  Empty as NoWhole,
-  TooLarge as LargeWhole,
-  Depths as OtherDepth,
-  Outside as PastWhole,
-  NoMemory as NoWholeMemory,
-}
+use Rattle.lr_segment.specs.declared.fault.AssembleFault.TheVariants.{Empty as NoWhole}
+use Rattle.lr_segment.specs.declared.fault.AssembleFault.TheVariants.{TooLarge as LargeWhole}
+use Rattle.lr_segment.specs.declared.fault.AssembleFault.TheVariants.{Depths as OtherDepth}
+use Rattle.lr_segment.specs.declared.fault.AssembleFault.TheVariants.{Outside as PastWhole}
+use Rattle.lr_segment.specs.declared.fault.AssembleFault.TheVariants.{NoMemory as NoWholeMemory}
 use Rattle.lr_shelf.specs.declared.error.ShelfError.{ShelfError}
-use Rattle.lr_shelf.specs.declared.error.ShelfError.TheVariants.{
-  Disk as Disk',
-  NotAShelf as NotAShelf',
-  NotEmpty as NotEmpty',
-  Capacity as Capacity',
-  NoSuchFile as NoSuchFile',
-  Crc as Crc',
-  NoMemory as NoMemory',
-  Failed as Failed',
-  Discarded as Discarded',
-}
+use Rattle.lr_shelf.specs.declared.error.ShelfError.TheVariants.{Disk as Disk'}
+use Rattle.lr_shelf.specs.declared.error.ShelfError.TheVariants.{NotAShelf as NotAShelf'}
+use Rattle.lr_shelf.specs.declared.error.ShelfError.TheVariants.{NotEmpty as NotEmpty'}
+use Rattle.lr_shelf.specs.declared.error.ShelfError.TheVariants.{Capacity as Capacity'}
+use Rattle.lr_shelf.specs.declared.error.ShelfError.TheVariants.{NoSuchFile as NoSuchFile'}
+use Rattle.lr_shelf.specs.declared.error.ShelfError.TheVariants.{Crc as Crc', NoMemory as NoMemory'}
+use Rattle.lr_shelf.specs.declared.error.ShelfError.TheVariants.{Failed as Failed'}
+use Rattle.lr_shelf.specs.declared.error.ShelfError.TheVariants.{Discarded as Discarded'}
 use Rattle.lr_causes.specs.declared.cause.Cause.{Cause}
 use Rattle.lr_causes.specs.declared.cause.Cause.TheVariants.{Failed, NoMemory, Refused}
 use Rattle.lr_causes.specs.declared.cause.Party.TheVariants.{Disk}
-use Rattle.lr_causes.specs.declared.cause.Refusal.TheVariants.{
-  NotAShelf,
-  NoSuchFile,
-  Capacity,
-  NotEmpty,
-  BadChecksum,
-  Discarded,
-}
+use Rattle.lr_causes.specs.declared.cause.Refusal.TheVariants.{NotAShelf, NoSuchFile, Capacity}
+use Rattle.lr_causes.specs.declared.cause.Refusal.TheVariants.{NotEmpty, BadChecksum, Discarded}
 use Rattle.lr_causes.specs.declared.fault.ExportFault.{ExportFault}
-use Rattle.lr_causes.specs.declared.fault.ExportFault.TheVariants.{
-  Headers,
-  NotImage,
-  NoStructure,
-  Encrypted,
-  Compression,
-  Depth,
-  Empty,
-  TooLarge,
-  Flags,
-  BlockSize,
-  LinesPerPacket,
-  Rice,
-  Short,
-  Depths,
-  Outside,
-}
+use Rattle.lr_causes.specs.declared.fault.ExportFault.TheVariants.{Headers, NotImage, NoStructure}
+use Rattle.lr_causes.specs.declared.fault.ExportFault.TheVariants.{Encrypted, Compression, Depth}
+use Rattle.lr_causes.specs.declared.fault.ExportFault.TheVariants.{Empty, TooLarge, Flags}
+use Rattle.lr_causes.specs.declared.fault.ExportFault.TheVariants.{BlockSize, LinesPerPacket, Rice}
+use Rattle.lr_causes.specs.declared.fault.ExportFault.TheVariants.{Short, Depths, Outside}
 
 -- the cause of what a call on a shelf answers; a shelf that failed before answers as a disk that fails
 abbrev pub cause_of : ShelfError → Cause

@@ -20,7 +20,7 @@ abbrev pub PiecesMake : Structure → Lossless → (number done wanted : ℕ) �
     → Result (List ℕ) ImageFault → Type 0
 PiecesMake s l number done wanted pieces (Ok pixels) = GiveLines (line_form s l) l.lines wanted pieces pixels
 PiecesMake s l number done wanted pieces (Err fault) =
-    PiecesFail (line_form s l) l.lines number done wanted pieces fault
+    PiecesFail (line_form s l) l.lines (record { number = number; done = done; wanted = wanted }) pieces fault
 
 -- what the strips of the pieces make, the pieces do
 pub coded_make : (s : Structure) (l : Lossless) (number done wanted : ℕ) (pieces : List (List ℕ))

@@ -64,6 +64,18 @@ pixels_join s field front more from lines begins is gives =
           ∙ ap (λ l. l ++ (gives.rest ++ back)) (sym (flat_map-append bits front more));
     }
 
+-- the pixels so far, and then those of the strip that comes next
+next_pixels : (s : Structure) (field front more : List ℕ) (count from done : ℕ) → 1 ≤ s.lines - from
+    → done ≡ min from s.lines → BeginsWithPixels s.bits (s.columns * done) (bits_of field) front
+    → All IsStrip (plain_strips s field (suc count) from)
+    → GivesPixels (plain_strip s field from (min (strip_lines s) (s.lines - from))) more
+    → BeginsWithPixels s.bits (s.columns * (done + min (strip_lines s) (s.lines - from))) (bits_of field)
+    (front ++ more)
+next_pixels s field front more count from done left at begins are gives =
+    let here : done ≡ from = omega arith in
+    rw here (pixels_join s field front more from (min (strip_lines s) (s.lines - from)) (rw here at begins)
+    (All-head IsStrip _ _ are) gives)
+
 counts_on : (s : Structure) (from count : ℕ) → suc count ≡ plain_count s (s.lines - from)
     → count ≡ plain_count s (s.lines - (from + strip_lines s))
 counts_on s from count counts =
@@ -91,38 +103,20 @@ plain_make s field front zero from number done (Err fault) counts at begins are 
     let none : s.lines - from ≡ 0 = no_line s (s.lines - from) counts in
     omega (arith, make.0)
 plain_make s field front (suc count) from number done (Ok pixels) counts at begins are make =
-    let each = strip_lines s in
-    let lines = min each (s.lines - from) in
-    let left : 1 ≤ s.lines - from = some_line s (s.lines - from) count counts in
-    let here : done ≡ from = omega arith in
-    let strip = plain_strip s field from lines in
-    let others = plain_strips s field count (from + each) in
-    let joined = pixels_join s field front make.front from lines
-    (subst (λ (n : ℕ). BeginsWithPixels s.bits (s.columns * n) (bits_of field) front) here begins)
-    (All-head IsStrip strip others are) make.gives in
-    let so_far : BeginsWithPixels s.bits (s.columns * (done + lines)) (bits_of field) (front ++ make.front) =
-    subst (λ (n : ℕ). BeginsWithPixels s.bits (s.columns * (n + lines)) (bits_of field) (front ++ make.front))
-    (sym here) joined in
+    let left = some_line s (s.lines - from) count counts in
     subst (λ (l : List ℕ). BeginsWithPixels s.bits (s.columns * s.lines) (bits_of field) l)
     (append_assoc front make.front make.back ∙ ap (λ l. front ++ l) (sym make.are_pixels))
-    (plain_make s field (front ++ make.front) count (from + each) (number + 1) (done + lines) (Ok make.back)
-    (counts_on s from count counts) (omega arith) so_far (All-tail IsStrip strip others are) make.others)
+    (plain_make s field (front ++ make.front) count (from + strip_lines s) (number + 1) _ (Ok make.back)
+    (counts_on s from count counts) (omega arith)
+    (next_pixels s field front make.front count from done left at begins are make.gives)
+    (All-tail IsStrip _ _ are) make.others)
 plain_make s field front (suc count) from number done (Err fault) counts at begins are (inl fail) = fail.fails
 plain_make s field front (suc count) from number done (Err fault) counts at begins are (inr later) =
-    let each = strip_lines s in
-    let lines = min each (s.lines - from) in
-    let left : 1 ≤ s.lines - from = some_line s (s.lines - from) count counts in
-    let here : done ≡ from = omega arith in
-    let strip = plain_strip s field from lines in
-    let others = plain_strips s field count (from + each) in
-    let joined = pixels_join s field front later.front from lines
-    (subst (λ (n : ℕ). BeginsWithPixels s.bits (s.columns * n) (bits_of field) front) here begins)
-    (All-head IsStrip strip others are) later.gives in
-    let so_far : BeginsWithPixels s.bits (s.columns * (done + lines)) (bits_of field) (front ++ later.front) =
-    subst (λ (n : ℕ). BeginsWithPixels s.bits (s.columns * (n + lines)) (bits_of field) (front ++ later.front))
-    (sym here) joined in
-    plain_make s field (front ++ later.front) count (from + each) (number + 1) (done + lines) (Err fault)
-    (counts_on s from count counts) (omega arith) so_far (All-tail IsStrip strip others are) later.later
+    let left = some_line s (s.lines - from) count counts in
+    plain_make s field (front ++ later.front) count (from + strip_lines s) (number + 1) _ (Err fault)
+    (counts_on s from count counts) (omega arith)
+    (next_pixels s field front later.front count from done left at begins are later.gives)
+    (All-tail IsStrip _ _ are) later.later
 
 -- ---- what the strips are
 

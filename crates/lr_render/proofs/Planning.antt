@@ -17,7 +17,7 @@ use Rattle.lr_image.specs.Places.{first_piece_place}
 use Rattle.lr_image.specs.Images.{HasImageFault, HasLayout, HasPixels, IsImageOf, data_field, data_pieces}
 use Rattle.lr_image.proofs.PieceLemmas.{first_in}
 use Rattle.lr_image.proofs.WholePixels.{makes_picture}
-use Rattle.lr_render.specs.Giving.{CanBeCut, GivesOne, GivesStrip, strips_left}
+use Rattle.lr_render.specs.Giving.{CanBeCut, GivesOne, GivesStrip, GivingStep, strips_left}
 use Rattle.lr_render.specs.Keeping.{CanCount, HasFewLines, TakesStrip, TakesAfter}
 use Rattle.lr_render.specs.Laws.{RefusalsAreFaults}
 use Rattle.lr_render.specs.Making.{StripsMake}
@@ -92,10 +92,12 @@ module _ {file : File} {layout : Layout} {giving : Giving} {keeping : Keeping}
 
   -- ---- giving
 
+  abbrev given_to : Giving → GivingStep
+  given_to new =
+      record { old = giving; new = new; before = strips_left file layout giving; after = strips_left file layout new }
+
   -- one strip more was given
-  pub one_given : (new : Giving) (strip : StripSource)
-      → GivesOne file layout.shape.structure (strips_left file layout giving) (strips_left file layout new) giving new
-      strip
+  pub one_given : (new : Giving) (strip : StripSource) → GivesOne file layout.shape.structure (given_to new) strip
       → IsPlan file layout new keeping × IsStripAt (plan_view file layout giving keeping) giving.strips strip
   one_given new strip one =
       let strips = strips_of file layout in
@@ -118,16 +120,14 @@ module _ {file : File} {layout : Layout} {giving : Giving} {keeping : Keeping}
       )
 
   pub given_plan : (result : Result (Option StripSource) NoMemory) (new : Giving)
-      → IfOk result (GivesStrip file layout.shape.structure (strips_left file layout giving)
-      (strips_left file layout new) giving new)
+      → IfOk result (GivesStrip file layout.shape.structure (given_to new))
       → OnErr result (new ≡ giving) → IsPlan file layout new keeping
   given_plan (Ok (Some strip)) new gives same = (one_given new strip gives).0
   given_plan (Ok None) new gives same = subst (λ (g : Giving). IsPlan file layout g keeping) (sym gives.1) is
   given_plan (Err refused) new gives same = subst (λ (g : Giving). IsPlan file layout g keeping) (sym same) is
 
   pub given_next : (result : Result (Option StripSource) NoMemory) (new : Giving)
-      → IfOk result (GivesStrip file layout.shape.structure (strips_left file layout giving)
-      (strips_left file layout new) giving new)
+      → IfOk result (GivesStrip file layout.shape.structure (given_to new))
       → IfOk result (GivesNext (plan_view file layout giving keeping) (plan_view file layout new keeping))
   given_next (Ok (Some strip)) new gives = (
     (one_given new strip gives).1,
@@ -152,7 +152,7 @@ module _ {file : File} {layout : Layout} {giving : Giving} {keeping : Keeping}
     left = left_from (strips_of file layout) keeping.strips strip at
 
     few_by : (fault : Option ImageFault)
-        → HasCome layout.shape.structure (strips_of file layout) keeping.strips keeping.lines keeping.pixels fault
+        → HasCome layout.shape.structure (strips_of file layout) keeping fault
         → HasFewLines keeping strip fault
     few_by None come =
         let fit = fits_one layout.shape.structure (strips_of file layout) keeping.strips keeping.lines keeping.pixels
@@ -167,9 +167,9 @@ module _ {file : File} {layout : Layout} {giving : Giving} {keeping : Keeping}
     }
 
     come_by : (new : Keeping) (fault : Option ImageFault)
-        → HasCome layout.shape.structure (strips_of file layout) keeping.strips keeping.lines keeping.pixels fault
+        → HasCome layout.shape.structure (strips_of file layout) keeping fault
         → TakesAfter keeping new strip fault → new.strips ≡ keeping.strips + 1
-        → HasCome layout.shape.structure (strips_of file layout) new.strips new.lines new.pixels new.fault
+        → HasCome layout.shape.structure (strips_of file layout) new new.fault
     come_by new None come (inl one) count =
         let s = layout.shape.structure in
         let strips = strips_of file layout in
@@ -218,12 +218,12 @@ module _ {file : File} {layout : Layout} {giving : Giving} {keeping : Keeping}
 
   pub known_fault : (fault : ImageFault) → keeping.fault ≡ Some fault → HasImageFault file fault
   known_fault fault known = fault_is fault (subst (λ (f : Option ImageFault). HasCome layout.shape.structure
-      (strips_of file layout) keeping.strips keeping.lines keeping.pixels f) known is.come)
+      (strips_of file layout) keeping f) known is.come)
 
   module _ (all : keeping.strips ≡ length (strips_of file layout)) (none : keeping.fault ≡ None) where
     has_kept : HasKept layout.shape.structure (strips_of file layout) keeping.strips keeping.lines keeping.pixels
-    has_kept = subst (λ (f : Option ImageFault). HasCome layout.shape.structure (strips_of file layout) keeping.strips
-        keeping.lines keeping.pixels f) none is.come
+    has_kept = subst (λ (f : Option ImageFault). HasCome layout.shape.structure (strips_of file layout) keeping f)
+        none is.come
 
     none_left : drop keeping.strips (strips_of file layout) ≡ []
     none_left = drop_all keeping.strips (strips_of file layout) (omega (arith, all))

@@ -34,15 +34,20 @@ abbrev pub strips_left : File → Layout → Giving → List StripSource
 strips_left file layout now = strips_after layout.shape.structure layout.shape.lossless
     (data_field file layout.header_bytes) now.lines (pieces_at file now.place)
 
--- of the strips that were to be given the first one was, and these are left
-pub record GivesOne (file : File) (s : Structure) (before after : List StripSource) (old new : Giving)
-    (strip : StripSource) : Type 0 where
-  pub first : before ≡ strip ∷ after
-  pub count : new.strips ≡ old.strips + 1
-  pub within : IsWithin file s new
+-- how far strips were given, and which were left to be given, before a call and after it
+pub record GivingStep : Type 0 where
+  pub old : Giving
+  pub new : Giving
+  pub before : List StripSource
+  pub after : List StripSource
+
+-- of the strips that were to be given the first one was, and the others are left
+pub record GivesOne (file : File) (s : Structure) (step : GivingStep) (strip : StripSource) : Type 0 where
+  pub first : step.before ≡ strip ∷ step.after
+  pub count : step.new.strips ≡ step.old.strips + 1
+  pub within : IsWithin file s step.new
 
 -- or there was none
-abbrev pub GivesStrip : File → Structure → (before after : List StripSource) → (old new : Giving)
-    → Option StripSource → Type 0
-GivesStrip file s before after old new (Some strip) = GivesOne file s before after old new strip
-GivesStrip file s before after old new None = (before ≡ []) × (new ≡ old)
+abbrev pub GivesStrip : File → Structure → GivingStep → Option StripSource → Type 0
+GivesStrip file s step (Some strip) = GivesOne file s step strip
+GivesStrip file s step None = (step.before ≡ []) × (step.new ≡ step.old)

@@ -42,9 +42,9 @@ pub record HasKept (s : Structure) (strips : List StripSource) (kept lines : ℕ
       → StripsMake s 0 0 strips (in_front pixels outcome)
 
 -- or one of them had a fault, and then that is what all make
-abbrev pub HasCome : Structure → List StripSource → ℕ → ℕ → List ℕ → Option ImageFault → Type 0
-HasCome s strips kept lines pixels None = HasKept s strips kept lines pixels
-HasCome s strips kept lines pixels (Some fault) = StripsMake s 0 0 strips (Err fault)
+abbrev pub HasCome : Structure → List StripSource → Keeping → Option ImageFault → Type 0
+HasCome s strips keeping None = HasKept s strips keeping.strips keeping.lines keeping.pixels
+HasCome s strips keeping (Some fault) = StripsMake s 0 0 strips (Err fault)
 
 pub record IsPlan (file : File) (layout : Layout) (giving : Giving) (keeping : Keeping) : Type 0 where
   pub has_layout : HasLayout file layout
@@ -55,5 +55,4 @@ pub record IsPlan (file : File) (layout : Layout) (giving : Giving) (keeping : K
   pub few_kept : keeping.strips ≤ giving.strips
   pub few_given : giving.strips ≤ length (strips_of file layout)
   pub to_come : drop giving.strips (strips_of file layout) ≡ strips_left file layout giving
-  pub come : HasCome layout.shape.structure (strips_of file layout) keeping.strips keeping.lines keeping.pixels
-      keeping.fault
+  pub come : HasCome layout.shape.structure (strips_of file layout) keeping keeping.fault

@@ -35,8 +35,12 @@ impl Giving {
     ) -> Result<Option<Strip>, NoMemory>
         requires cut { CanBeCut file.now layout }
         requires within { IsWithin file.now layout.shape.structure self.old }
-        ensures ok { IfOk result (GivesStrip file.now layout.shape.structure (strips_left file.now layout self.old)
-            (strips_left file.now layout self.new) self.old self.new) }
+        ensures ok { IfOk result (GivesStrip file.now layout.shape.structure (record {
+          old = self.old;
+          new = self.new;
+          before = strips_left file.now layout self.old;
+          after = strips_left file.now layout self.new;
+        })) }
         ensures err { OnErr result (self.new ≡ self.old) }
     {
         match layout.shape.lossless {
@@ -55,10 +59,12 @@ impl Giving {
         requires cut { CanBeCut file.now layout }
         requires plain { layout.shape.lossless ≡ None }
         requires within { IsWithin file.now layout.shape.structure self.old }
-        ensures ok { IfOk result (GivesStrip file.now layout.shape.structure
-            (strips_after layout.shape.structure None (data_field file.now layout.header_bytes) self.old.lines [])
-            (strips_after layout.shape.structure None (data_field file.now layout.header_bytes) self.new.lines [])
-            self.old self.new) }
+        ensures ok { IfOk result (GivesStrip file.now layout.shape.structure (record {
+          old = self.old;
+          new = self.new;
+          before = strips_after layout.shape.structure None (data_field file.now layout.header_bytes) self.old.lines [];
+          after = strips_after layout.shape.structure None (data_field file.now layout.header_bytes) self.new.lines [];
+        })) }
         ensures err { OnErr result (self.new ≡ self.old) }
     {
         let structure = layout.shape.structure;
@@ -85,11 +91,14 @@ impl Giving {
         requires cut { CanBeCut file.now layout }
         requires coded { layout.shape.lossless ≡ Some lossless }
         requires within { IsWithin file.now layout.shape.structure self.old }
-        ensures ok { IfOk result (GivesStrip file.now layout.shape.structure
-            (coded_strips layout.shape.structure lossless (layout.shape.structure.lines - self.old.lines)
-            (pieces_at file.now self.old.place))
-            (coded_strips layout.shape.structure lossless (layout.shape.structure.lines - self.new.lines)
-            (pieces_at file.now self.new.place)) self.old self.new) }
+        ensures ok { IfOk result (GivesStrip file.now layout.shape.structure (record {
+          old = self.old;
+          new = self.new;
+          before = coded_strips layout.shape.structure lossless (layout.shape.structure.lines - self.old.lines)
+              (pieces_at file.now self.old.place);
+          after = coded_strips layout.shape.structure lossless (layout.shape.structure.lines - self.new.lines)
+              (pieces_at file.now self.new.place);
+        })) }
         ensures err { OnErr result (self.new ≡ self.old) }
     {
         let structure = layout.shape.structure;

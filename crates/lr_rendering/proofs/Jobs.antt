@@ -1,22 +1,6 @@
 -- The jobs that were given and kept, step by step.
 use Rattle.std.proofs.Common.{◌≡◌, inl, inr, ◌<◌, ◌≤◌, ◌+◌, ℕ, zero, suc, Bool, true, false}
-use Rattle.std.proofs.Common.{
-  Some,
-  None,
-  List,
-  [],
-  ◌∷◌,
-  ◌++◌,
-  length,
-  take,
-  drop,
-  refl,
-  sym,
-  ap,
-  ◌∙◌,
-  subst,
-  arith,
-}
+use Rattle.std.proofs.Common.{Some, None, List, [], ◌∷◌, ◌++◌, length, take, drop, refl, sym, ap, ◌∙◌, subst, arith}
 use Rattle.std.proofs.Common.{append-nil, append_assoc, length-append, length-drop, true≢false}
 use Rattle.std.proofs.lemmas.List.{drop-append-le}
 use Rattle.lr_bits.specs.File.{File}
@@ -27,57 +11,16 @@ use Rattle.lr_render.specs.declared.strip.StripSource.{StripSource}
 use Rattle.lr_rounds.specs.JobSources.{IsDoneNext}
 use Rattle.lr_shelf_format.specs.declared.stored.Stored.{Stored}
 use Rattle.lr_rendering.specs.Leading.{Ahead, HasStripJobs, Imageless, Pending, Vacant, pending_in}
-use Rattle.lr_rendering.specs.Queues.{
-  AllGiven,
-  EachUnderWay,
-  FirstKeeps,
-  FirstWaits,
-  QueueGivesNone,
-  QueueGivesOne,
-  IsImageUnderWay,
-  LastGives,
-  LastIs,
-  MayKeepFirst,
-  OnlyLastGives,
-  TakesFirst,
-  all_left,
-  all_waiting,
-  files_under_way,
-  image_of,
-  strips_left_in,
-  waiting_in,
-}
-use Rattle.lr_rendering.specs.declared.under_way.UnderWay.{UnderWay}
+use Rattle.lr_rendering.specs.Queues.{AllGiven, EachUnderWay, FirstKeeps, FirstWaits, QueueGivesNone, QueueGivesOne}
+use Rattle.lr_rendering.specs.Queues.{IsImageUnderWay, LastGives, LastIs, MayKeepFirst, OnlyLastGives, TakesFirst}
+use Rattle.lr_rendering.specs.Queues.{all_left, all_waiting, files_under_way, image_of, strips_left_in, waiting_in}
+use Rattle.lr_rendering.specs.declared.queue.UnderWay.{UnderWay}
 use Rattle.lr_rendering.proofs.Lists.{drop_at, heads, tails}
-use Rattle.lr_rendering.proofs.Queueing.{
-  each_front,
-  each_push,
-  left-push,
-  waiting-push,
-  files-push,
-  given_front,
-  given_last,
-  given_push,
-  only_tail,
-  first_push,
-  gives_is,
-  gives_waiting,
-  gives_left,
-  gives_going,
-  gives_file,
-  ends_is,
-  ends_left,
-  ends_waiting,
-  ends_all,
-  ends_file,
-  keeps_is,
-  oldest_waits,
-  none_waits,
-  keeps_waiting,
-  keeps_left,
-  keeps_file,
-  keeps_all,
-}
+use Rattle.lr_rendering.proofs.Queueing.{each_front, each_push, left-push, waiting-push, files-push, given_front}
+use Rattle.lr_rendering.proofs.Queueing.{given_last, given_push, only_tail, first_push, gives_is, gives_waiting}
+use Rattle.lr_rendering.proofs.Queueing.{gives_left, gives_going, gives_file, ends_is, ends_left, ends_waiting}
+use Rattle.lr_rendering.proofs.Queueing.{ends_all, ends_file, keeps_is, oldest_waits, none_waits, keeps_waiting}
+use Rattle.lr_rendering.proofs.Queueing.{keeps_left, keeps_file, keeps_all}
 
 -- the last image became another one of the same file
 last_files : {Becomes : UnderWay → UnderWay → Type 0} (old new : List UnderWay) (is : LastIs old new Becomes)

@@ -1,7 +1,11 @@
 pub mod Jobs
 pub mod Leading
+pub mod ReadingOn
+pub mod Stopping
+pub mod UnderWay
 pub mod Driven
 pub mod Lists
 pub mod Queueing
 pub mod Reading
 pub mod Settling
+pub mod Rendered

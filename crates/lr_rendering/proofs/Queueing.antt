@@ -1,21 +1,7 @@
 -- What strips that are given and kept make of the images under way.
 use Rattle.std.proofs.Common.{◌≡◌, inr, ◌<◌, ◌≤◌, ◌+◌, ◌-◌, Bool, true, false, cond}
 use Rattle.std.proofs.Common.{Option, Some, None, Result, Ok, Err, IfOk}
-use Rattle.std.proofs.Common.{
-  List,
-  [],
-  ◌∷◌,
-  ◌++◌,
-  length,
-  take,
-  drop,
-  refl,
-  sym,
-  ap,
-  ◌∙◌,
-  subst,
-  arith,
-}
+use Rattle.std.proofs.Common.{List, [], ◌∷◌, ◌++◌, length, take, drop, refl, sym, ap, ◌∙◌, subst, arith}
 use Rattle.std.proofs.Common.{append-nil, append_assoc, length-take, length-drop, true≢false}
 use Rattle.std.proofs.lemmas.List.{drop-append-le}
 use Rattle.lr_bits.specs.File.{File}
@@ -23,24 +9,10 @@ use Rattle.lr_bits.specs.declared.refusals.NoMemory.{NoMemory}
 use Rattle.lr_gatecore.proofs.Lists.{at_length}
 use Rattle.lr_render.specs.Plans.{IsStripAt, planned_strips}
 use Rattle.lr_render.specs.declared.strip.StripSource.{StripSource}
-use Rattle.lr_rendering.specs.Queues.{
-  AllGiven,
-  EachUnderWay,
-  FirstWaits,
-  QueueGivesNext,
-  QueueGivesNone,
-  QueueGivesOne,
-  IsImageUnderWay,
-  KeepsOne,
-  LastGives,
-  OnlyLastGives,
-  all_left,
-  all_waiting,
-  files_under_way,
-  strips_left_in,
-  waiting_in,
-}
-use Rattle.lr_rendering.specs.declared.under_way.UnderWay.{UnderWay}
+use Rattle.lr_rendering.specs.Queues.{AllGiven, EachUnderWay, FirstWaits, QueueGivesNext, QueueGivesNone}
+use Rattle.lr_rendering.specs.Queues.{QueueGivesOne, IsImageUnderWay, KeepsOne, LastGives, OnlyLastGives, all_left}
+use Rattle.lr_rendering.specs.Queues.{all_waiting, files_under_way, strips_left_in, waiting_in}
+use Rattle.lr_rendering.specs.declared.queue.UnderWay.{UnderWay}
 use Rattle.lr_rendering.proofs.Lists.{take_at, drop_at, elem_at, at_first}
 
 -- ---- one image at the end

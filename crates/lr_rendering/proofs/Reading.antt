@@ -1,36 +1,13 @@
 -- What is read at an entry, or why nothing is.
-use Rattle.std.proofs.Common.{
-  ◌≡◌,
-  ◌<◌,
-  ℕ,
-  true,
-  false,
-  Some,
-  None,
-  Err,
-  length,
-  refl,
-  sym,
-  ap,
-  arith,
-}
+use Rattle.std.proofs.Common.{◌≡◌, ◌<◌, ℕ, true, false, Some, None, Err, length, refl, sym, ap, arith}
 use Rattle.lr_disk.specs.declared.disk.Disk.{Ghosts as DiskOf}
 use Rattle.lr_shelf_format.specs.declared.stored.Stored.{Stored}
 use Rattle.lr_shelf.specs.Calls.{IsFaultCounted}
 use Rattle.lr_shelf.specs.Kept.{KeptShelf}
 use Rattle.lr_shelf.specs.Read.{IsGetRefusal}
 use Rattle.lr_shelf.specs.declared.error.ShelfError.{ShelfError}
-use Rattle.lr_shelf.specs.declared.error.ShelfError.TheVariants.{
-  Disk,
-  NotAShelf as NotAShelf',
-  NotEmpty,
-  Capacity,
-  NoSuchFile,
-  Crc,
-  NoMemory,
-  Failed,
-  Discarded,
-}
+use Rattle.lr_shelf.specs.declared.error.ShelfError.TheVariants.{Disk, NotAShelf as NotAShelf', NotEmpty, Capacity}
+use Rattle.lr_shelf.specs.declared.error.ShelfError.TheVariants.{NoSuchFile, Crc, NoMemory, Failed, Discarded}
 use Rattle.lr_refusals.specs.Errors.{cause_of}
 use Rattle.lr_causes.specs.declared.cause.Refusal.TheVariants.{NotAShelf}
 use Rattle.lr_commands.specs.Queries.{Wrong}

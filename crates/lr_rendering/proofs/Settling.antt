@@ -1,21 +1,6 @@
 -- Entries that were read ahead are settled, one after another.
 use Rattle.std.proofs.Common.{◌≡◌, ◌<◌, ◌≤◌, ◌+◌, ℕ, cond, not, Some}
-use Rattle.std.proofs.Common.{
-  Result,
-  Ok,
-  Err,
-  List,
-  [],
-  ◌∷◌,
-  ◌++◌,
-  length,
-  refl,
-  sym,
-  ap,
-  ◌∙◌,
-  subst,
-  arith,
-}
+use Rattle.std.proofs.Common.{Result, Ok, Err, List, [], ◌∷◌, ◌++◌, length, refl, sym, ap, ◌∙◌, subst, arith}
 use Rattle.std.proofs.Common.{append-nil}
 use Rattle.std.proofs.lemmas.List.Sums.{sum_by_push}
 use Rattle.lr_bits.specs.File.{File}
@@ -30,23 +15,11 @@ use Rattle.lr_causes.specs.Puts.{Puts}
 use Rattle.lr_commands.specs.declared.opened.Opened.{Opened}
 use Rattle.lr_commands.specs.Queries.{Absent, EntryView, Whole}
 use Rattle.lr_commands.specs.Files.{files_of}
-use Rattle.lr_commands.specs.Render.{image_text, images_in, is_image, render_query, skipped_in}
+use Rattle.lr_rendering.specs.Render.{image_text, images_in, is_image, render_query, skipped_in}
 use Rattle.lr_commands.proofs.Filing.{files_of-absent, files_of-whole}
 use Rattle.lr_commands.proofs.Taking.{so_more}
-use Rattle.lr_rendering.specs.Leading.{
-  Ahead,
-  AreAhead,
-  Imageless,
-  IsTally,
-  Pending,
-  Settles,
-  AheadStandsAt,
-  Vacant,
-  count_in,
-  imageless_in,
-  pending_in,
-  way_in,
-}
+use Rattle.lr_rendering.specs.Leading.{Ahead, AreAhead, Imageless, IsTally, Pending, Settles, settled_to}
+use Rattle.lr_rendering.specs.Leading.{AheadStandsAt, Vacant, count_in, imageless_in, pending_in, way_in}
 use Rattle.lr_rendering.specs.Outcomes.{tally_with}
 use Rattle.lr_rendering.specs.declared.render_source.RenderSource.{RenderSource}
 use Rattle.lr_rendering.specs.declared.tally.Tally.{Tally}
@@ -56,13 +29,19 @@ use Rattle.lr_rendering.specs.declared.tally.Tally.{Tally}
 abbrev pub opened_with : Stored → Result Picture ImageFault → Opened
 opened_with stored outcome = record { stored = stored; image = Some outcome }
 
-images-push : (files : List Opened) (opened : Opened)
-    → images_in (files ++ opened ∷ []) ≡ images_in files + cond (is_image opened.image) 1 0
-images-push files opened = sum_by_push (λ (o : Opened). cond (is_image o.image) 1 0) files opened
+-- a whole entry more is counted by its image
+images_more : (read : List EntryView) (opened : Opened)
+    → images_in (files_of (read ++ Whole opened ∷ [])) ≡ images_in (files_of read) + cond (is_image opened.image) 1 0
+images_more read opened =
+    ap images_in (files_of-whole read opened)
+    ∙ sum_by_push (λ (o : Opened). cond (is_image o.image) 1 0) (files_of read) opened
 
-skipped-push : (files : List Opened) (opened : Opened)
-    → skipped_in (files ++ opened ∷ []) ≡ skipped_in files + cond (not (is_image opened.image)) 1 0
-skipped-push files opened = sum_by_push (λ (o : Opened). cond (not (is_image o.image)) 1 0) files opened
+skipped_more : (read : List EntryView) (opened : Opened)
+    → skipped_in (files_of (read ++ Whole opened ∷ []))
+    ≡ skipped_in (files_of read) + cond (not (is_image opened.image)) 1 0
+skipped_more read opened =
+    ap skipped_in (files_of-whole read opened)
+    ∙ sum_by_push (λ (o : Opened). cond (not (is_image o.image)) 1 0) (files_of read) opened
 
 tally_vacant : (rest : List Ahead) (tally : Tally) (read : List EntryView) → IsTally (Vacant ∷ rest) tally read
     → IsTally rest tally (read ++ Absent ∷ [])
@@ -77,18 +56,8 @@ tally_imageless : (stored : Stored) (fault : ImageFault) (rest : List Ahead) (ta
 tally_imageless stored fault rest tally read is =
     let opened = opened_with stored (Err fault) in
     record {
-      images = omega (
-        arith,
-        is.images,
-        ap images_in (files_of-whole read opened),
-        images-push (files_of read) opened,
-      );
-      skipped = omega (
-        arith,
-        is.skipped,
-        ap skipped_in (files_of-whole read opened),
-        skipped-push (files_of read) opened,
-      );
+      images = omega (arith, is.images, images_more read opened);
+      skipped = omega (arith, is.skipped, skipped_more read opened);
     }
 
 tally_pending : (stored : Stored) (outcome : Result Picture ImageFault) (rest : List Ahead) (tally : Tally)
@@ -97,34 +66,14 @@ tally_pending : (stored : Stored) (outcome : Result Picture ImageFault) (rest : 
 tally_pending stored (Ok picture) rest tally read is =
     let opened = opened_with stored (Ok picture) in
     record {
-      images = omega (
-        arith,
-        is.images,
-        ap images_in (files_of-whole read opened),
-        images-push (files_of read) opened,
-      );
-      skipped = omega (
-        arith,
-        is.skipped,
-        ap skipped_in (files_of-whole read opened),
-        skipped-push (files_of read) opened,
-      );
+      images = omega (arith, is.images, images_more read opened);
+      skipped = omega (arith, is.skipped, skipped_more read opened);
     }
 tally_pending stored (Err fault) rest tally read is =
     let opened = opened_with stored (Err fault) in
     record {
-      images = omega (
-        arith,
-        is.images,
-        ap images_in (files_of-whole read opened),
-        images-push (files_of read) opened,
-      );
-      skipped = omega (
-        arith,
-        is.skipped,
-        ap skipped_in (files_of-whole read opened),
-        skipped-push (files_of read) opened,
-      );
+      images = omega (arith, is.images, images_more read opened);
+      skipped = omega (arith, is.skipped, skipped_more read opened);
     }
 
 -- ---- the entries ahead
@@ -141,8 +90,8 @@ module _ {D O : Type 0} (disk : DiskOf D) (out : SinkOf O) (start : RenderSource
       record { told = λ t. t; untold = λ t. t; put = λ t. sym (append-nil (out.contents o)); kept = refl }
 
   module _ (number : ℕ) (more : number < count_in start) (o : O) where
-    vacant : (rest : List Ahead) (tally : Tally) → Settles disk out start (Vacant ∷ rest) tally number o
-        → AheadStandsAt disk way d number Vacant → Settles disk out start rest tally (number + 1) o
+    vacant : (rest : List Ahead) (tally : Tally) → Settles disk out start (settled_to (Vacant ∷ rest) tally number) o
+        → AheadStandsAt disk way d number Vacant → Settles disk out start (settled_to rest tally (number + 1)) o
     vacant rest tally so stands =
         so_more disk out render_query way (record { from = 0; to = count_in start }) d start.out.now
         (IsTally (Vacant ∷ rest) tally) number o o so more d (λ t. t) (λ t. refl) (IsTally rest tally) d (record {
@@ -153,8 +102,9 @@ module _ {D O : Type 0} (disk : DiskOf D) (out : SinkOf O) (start : RenderSource
         })
 
     imageless : (stored : Stored) (fault : ImageFault) (rest : List Ahead) (tally : Tally)
-        → Settles disk out start (Imageless stored fault ∷ rest) tally number o
-        → AheadStandsAt disk way d number (Imageless stored fault) → Settles disk out start rest tally (number + 1) o
+        → Settles disk out start (settled_to (Imageless stored fault ∷ rest) tally number) o
+        → AheadStandsAt disk way d number (Imageless stored fault)
+        → Settles disk out start (settled_to rest tally (number + 1)) o
     imageless stored fault rest tally so stands =
         so_more disk out render_query way (record { from = 0; to = count_in start }) d start.out.now
         (IsTally (Imageless stored fault ∷ rest) tally) number o o so more d (λ t. t) (λ t. refl)
@@ -167,10 +117,10 @@ module _ {D O : Type 0} (disk : DiskOf D) (out : SinkOf O) (start : RenderSource
 
     -- the image at the entry was put, if there is one
     pub pending : (stored : Stored) (outcome : Result Picture ImageFault) (rest : List Ahead) (tally : Tally) (o' : O)
-        → Settles disk out start (Pending stored ∷ rest) tally number o
+        → Settles disk out start (settled_to (Pending stored ∷ rest) tally number) o
         → AheadStandsAt disk way d number (Pending stored) → HasOutcome stored.file outcome
         → Puts out (image_text (Some outcome)) o o'
-        → Settles disk out start rest (tally_with outcome tally) (number + 1) o'
+        → Settles disk out start (settled_to rest (tally_with outcome tally) (number + 1)) o'
     pending stored outcome rest tally o' so stands has puts =
         so_more disk out render_query way (record { from = 0; to = count_in start }) d start.out.now
         (IsTally (Pending stored ∷ rest) tally) number o o' so more d (λ t. t) (λ t. refl)
@@ -182,8 +132,7 @@ module _ {D O : Type 0} (disk : DiskOf D) (out : SinkOf O) (start : RenderSource
         })
 
   -- the entry of the first image under way, and what is ahead of it
-  pub record FirstPending (ahead : List Ahead) (tally : Tally) (end : ℕ) (o : O) (file : File) (files : List File)
-      : Type 0 where
+  pub record FirstPending (tally : Tally) (end : ℕ) (o : O) (file : File) (files : List File) : Type 0 where
     pub number : ℕ
     pub stored : Stored
     pub rest : List Ahead
@@ -192,43 +141,21 @@ module _ {D O : Type 0} (disk : DiskOf D) (out : SinkOf O) (start : RenderSource
     pub stands : AheadStandsAt disk way d number (Pending stored)
     pub are_ahead : AreAhead disk way d (number + 1) rest
     pub reached : number + 1 + length rest ≡ end
-    pub settles : Settles disk out start (Pending stored ∷ rest) tally number o
+    pub settles : Settles disk out start (settled_to (Pending stored ∷ rest) tally number) o
 
   pub first_pending : (ahead : List Ahead) (tally : Tally) (number end : ℕ) (o : O) (file : File) (files : List File)
       → number + length ahead ≡ end → end ≤ count_in start → AreAhead disk way d number ahead
-      → Settles disk out start ahead tally number o → pending_in ahead ≡ file ∷ files
-      → FirstPending ahead tally end o file files
+      → Settles disk out start (settled_to ahead tally number) o → pending_in ahead ≡ file ∷ files
+      → FirstPending tally end o file files
   first_pending [] tally number end o file files reached inside are so is = absurd (no_files is) where
     no_files : {l : List File} → [] ≡ file ∷ l → ⊥
     no_files same = cc (same)
   first_pending (Vacant ∷ ahead) tally number end o file files reached inside are so is =
-      let later = first_pending ahead tally (number + 1) end o file files (omega (arith, reached)) inside are.1
-      (vacant number (omega (arith, reached, inside)) o ahead tally so are.0) is in
-      record {
-        number = later.number;
-        stored = later.stored;
-        rest = later.rest;
-        file_is = later.file_is;
-        files_are = later.files_are;
-        stands = later.stands;
-        are_ahead = later.are_ahead;
-        reached = later.reached;
-        settles = later.settles;
-      }
+      first_pending ahead tally (number + 1) end o file files (omega (arith, reached)) inside are.1
+      (vacant number (omega (arith, reached, inside)) o ahead tally so are.0) is
   first_pending (Imageless stored fault ∷ ahead) tally number end o file files reached inside are so is =
-      let later = first_pending ahead tally (number + 1) end o file files (omega (arith, reached)) inside are.1
-      (imageless number (omega (arith, reached, inside)) o stored fault ahead tally so are.0) is in
-      record {
-        number = later.number;
-        stored = later.stored;
-        rest = later.rest;
-        file_is = later.file_is;
-        files_are = later.files_are;
-        stands = later.stands;
-        are_ahead = later.are_ahead;
-        reached = later.reached;
-        settles = later.settles;
-      }
+      first_pending ahead tally (number + 1) end o file files (omega (arith, reached)) inside are.1
+      (imageless number (omega (arith, reached, inside)) o stored fault ahead tally so are.0) is
   first_pending (Pending stored ∷ ahead) tally number end o file files reached inside are so is = record {
     number = number;
     stored = stored;
@@ -249,10 +176,11 @@ module _ {D O : Type 0} (disk : DiskOf D) (out : SinkOf O) (start : RenderSource
 
   -- where no image is under way, all entries that were read are settled
   pub none_pending : (ahead : List Ahead) (tally : Tally) (number end : ℕ) (o : O) → number + length ahead ≡ end
-      → end ≤ count_in start → AreAhead disk way d number ahead → Settles disk out start ahead tally number o
-      → pending_in ahead ≡ [] → Settles disk out start [] tally end o
+      → end ≤ count_in start → AreAhead disk way d number ahead
+      → Settles disk out start (settled_to ahead tally number) o
+      → pending_in ahead ≡ [] → Settles disk out start (settled_to [] tally end) o
   none_pending [] tally number end o reached inside are so is =
-      subst (λ (n : ℕ). Settles disk out start [] tally n o) (omega (arith, reached)) so
+      subst (λ (n : ℕ). Settles disk out start (settled_to [] tally n) o) (omega (arith, reached)) so
   none_pending (Vacant ∷ ahead) tally number end o reached inside are so is =
       none_pending ahead tally (number + 1) end o (omega (arith, reached)) inside are.1
       (vacant number (omega (arith, reached, inside)) o ahead tally so are.0) is

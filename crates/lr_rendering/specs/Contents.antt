@@ -12,7 +12,7 @@ use Rattle.lr_causes.specs.declared.cause.Cause.TheVariants.{Failed, NoMemory, R
 use Rattle.lr_causes.specs.declared.cause.Party.TheVariants.{Disk}
 use Rattle.lr_causes.specs.declared.cause.Refusal.{Refusal}
 use Rattle.lr_commands.specs.Queries.{IsSeen, EntryView, entry_at, fate_of}
-use Rattle.lr_commands.specs.Render.{render_query}
+use Rattle.lr_rendering.specs.Render.{render_query}
 use Rattle.lr_rendering.specs.declared.content.Content.{Content}
 use Rattle.lr_rendering.specs.declared.content.Content.TheVariants.{Gone as AGone, NoImage, Image}
 

@@ -7,6 +7,7 @@ use Rattle.lr_disk.specs.declared.disk.Disk.{Ghosts as DiskOf}
 use Rattle.lr_causes.specs.declared.cause.Cause.{Cause}
 use Rattle.lr_causes.specs.declared.cause.Cause.TheVariants.{DoneWith}
 use Rattle.lr_causes.specs.declared.note.Note.TheVariants.{Rendered}
+use Rattle.lr_rounds.specs.JobSources.{led}
 use Rattle.lr_rounds.specs.WorkerPools.{PoolView}
 use Rattle.lr_rendering.specs.Leading.{Stands, StopsFor}
 use Rattle.lr_rendering.specs.declared.render_source.RenderSource.{RenderSource}
@@ -26,7 +27,7 @@ module _ {D O : Type 0} (disk : DiskOf D) (out : SinkOf O) where
 
   -- it may be called with this pool, where nothing was read
   abbrev pub MayDrive : (PoolView → MutBor (RenderSource D O) → Type 0) → PoolView → Type 0
-  MayDrive pre pool = (source : MutBor (RenderSource D O)) → Stands disk out source.now source.now [] 0
+  MayDrive pre pool = (source : MutBor (RenderSource D O)) → Stands disk out (led source.now [] 0) source.now
       → pre pool source
 
   abbrev pub Drives : (PoolView → MutBor (RenderSource D O) → Result (Unit {0}) Cause → MutBor (RenderSource D O)

@@ -1,20 +1,6 @@
 -- How the entries of a shelf are led through a ring. No clause of a public call cites this.
-use Rattle.std.specs.Prelude.{
-  ◌≡◌,
-  ◌<◌,
-  ◌≤◌,
-  ◌+◌,
-  ◌-◌,
-  ◌*◌,
-  ℕ,
-  false,
-  Option,
-  Some,
-  None,
-  List,
-  [],
-  ◌∷◌,
-}
+use Rattle.std.specs.Prelude.{◌≡◌, ◌<◌, ◌≤◌, ◌+◌, ◌-◌, ◌*◌, ℕ, true, false, Option, Some, None}
+use Rattle.std.specs.Prelude.{List, [], ◌∷◌}
 use Rattle.std.specs.Prelude.{◌++◌, length, drop}
 use Rattle.std.specs.VecDeque.{deque_capacity}
 use Rattle.lr_bits.specs.File.{File}
@@ -24,34 +10,27 @@ use Rattle.lr_disk.specs.declared.disk.Disk.{Ghosts as DiskOf}
 use Rattle.lr_image.specs.Images.{HasImageFault}
 use Rattle.lr_image.specs.declared.fault.ImageFault.{ImageFault}
 use Rattle.lr_render.specs.declared.strip.StripSource.{StripSource}
+use Rattle.lr_rounds.specs.JobSources.{Led, SourceTerms}
 use Rattle.lr_shelf_format.specs.Way.{Way}
 use Rattle.lr_shelf_format.specs.declared.stored.Stored.{Stored}
 use Rattle.lr_shelf.specs.Kept.{kept_by}
 use Rattle.lr_causes.specs.declared.cause.Cause.{Cause}
 use Rattle.lr_causes.specs.declared.cause.Refusal.{Refusal}
-use Rattle.lr_commands.specs.Queries.{EntryView}
+use Rattle.lr_commands.specs.Queries.{EntryView, query_on}
 use Rattle.lr_commands.specs.Files.{files_of}
 use Rattle.lr_causes.specs.Outside.{outlets, outlets_of}
-use Rattle.lr_commands.specs.Reached.{SoFar}
-use Rattle.lr_commands.specs.Render.{images_in, render_query, skipped_in}
+use Rattle.lr_commands.specs.Reached.{SoFar, entries_run}
+use Rattle.lr_rendering.specs.Render.{images_in, render_query, skipped_in}
 use Rattle.lr_commands.specs.Runs.{RunsOn}
 use Rattle.lr_rendering.specs.declared.sizes.TheConstants.{MOST_ENTRIES, MOST_STRIPS}
 use Rattle.lr_rendering.specs.Contents.{ReadsFile, FindsGone, IsRefusedAt}
-use Rattle.lr_rendering.specs.Queues.{
-  AllGiven,
-  EachUnderWay,
-  FirstWaits,
-  OnlyLastGives,
-  all_left,
-  all_waiting,
-  files_under_way,
-  image_of,
-}
+use Rattle.lr_rendering.specs.Queues.{AllGiven, EachUnderWay, FirstWaits, OnlyLastGives, all_left}
+use Rattle.lr_rendering.specs.Queues.{all_waiting, files_under_way, image_of}
 use Rattle.lr_rendering.specs.declared.content.Content.{Content}
 use Rattle.lr_rendering.specs.declared.content.Content.TheVariants.{Gone, NoImage, Image}
 use Rattle.lr_rendering.specs.declared.render_source.RenderSource.{RenderSource}
 use Rattle.lr_rendering.specs.declared.tally.Tally.{Tally}
-use Rattle.lr_rendering.specs.declared.under_way.UnderWay.{UnderWay}
+use Rattle.lr_rendering.specs.declared.queue.UnderWay.{UnderWay}
 
 -- ---- entries that were read ahead
 
@@ -89,9 +68,18 @@ module _ {D : Type 0} (disk : DiskOf D) (way : Way) (d : D) where
   AreAhead number (one ∷ ahead) = AheadStandsAt number one × AreAhead (number + 1) ahead
 
   -- what waits to be refused is refused at the entry of this number
-  abbrev pub MayWait : (count number : ℕ) → Option Refusal → Type 0
-  MayWait count number None = Unit {0}
-  MayWait count number (Some refusal) = (number < count) × IsRefusedAt disk way number d refusal
+  abbrev pub MayWait : ℕ → Option Refusal → Type 0
+  MayWait number None = Unit {0}
+  MayWait number (Some refusal) = (number < length way.entries) × IsRefusedAt disk way number d refusal
+
+-- how far the entries are settled: up to this number. Those after it were read ahead, and this was counted
+pub record Settled : Type 0 where
+  pub ahead : List Ahead
+  pub tally : Tally
+  pub number : ℕ
+
+abbrev pub settled_to : List Ahead → Tally → ℕ → Settled
+settled_to ahead tally number = record { ahead = ahead; tally = tally; number = number }
 
 -- what was counted of the settled entries, and of those ahead
 pub record IsTally (ahead : List Ahead) (tally : Tally) (read : List EntryView) : Type 0 where
@@ -194,37 +182,47 @@ module _ {D O : Type 0} (disk : DiskOf D) (out : SinkOf O) where
     pub unwritten : disk.tells start.disk.now → IsUnwritten disk start.disk.now now.disk.now
     pub faults : disk.faults now.disk.now ≡ disk.faults start.disk.now
 
-  -- the entries before this number are settled: the texts of their images were put
-  abbrev pub Settles : RenderSource D O → List Ahead → Tally → ℕ → O → Type 0
-  Settles start ahead tally number o =
-      SoFar disk out render_query (way_in start) (record { from = 0; to = count_in start }) start.disk.now
-      start.out.now (IsTally ahead tally) number o
+  -- so far the entries are settled: the texts of their images were put
+  abbrev pub Settles : RenderSource D O → Settled → O → Type 0
+  Settles start so_far o =
+      SoFar (outlets_of disk out) (entries_run render_query (way_in start) (record { from = 0; to = count_in start })
+      (IsTally so_far.ahead so_far.tally)) (outlets start.disk.now start.out.now) so_far.number o
 
-  -- the job source was the first one, and has given these jobs and kept what came of the first `kept` of them
-  pub record RenderGoes (start now : RenderSource D O) (jobs : List StripSource) (kept : ℕ) : Type 0 where
-    pub same_disk : now.disk.ghost_name ≡ start.disk.ghost_name
-    pub same_out : now.out.ghost_name ≡ start.out.ghost_name
-    pub may : MayBeLed start
-    pub reads : OnlyReadsDisk start now
+  -- the job source was the first one, has given the jobs led, and kept what came of those kept
+  pub record RenderGoes (led : Led (RenderSource D O) StripSource) (now : RenderSource D O) : Type 0 where
+    pub same_disk : now.disk.ghost_name ≡ led.start.disk.ghost_name
+    pub same_out : now.out.ghost_name ≡ led.start.out.ghost_name
+    pub may : MayBeLed led.start
+    pub reads : OnlyReadsDisk led.start now
     pub ahead : List Ahead
     pub settled : ℕ
-    pub are_ahead : AreAhead disk (way_in start) start.disk.now settled ahead
+    pub are_ahead : AreAhead disk (way_in led.start) led.start.disk.now settled ahead
     pub reached : settled + length ahead ≡ now.next
-    pub inside : now.next ≤ count_in start
-    pub settles : Settles start ahead now.tally settled now.out.now
-    pub refusal : MayWait disk (way_in start) start.disk.now (count_in start) now.next now.refusal
-    pub has_jobs : HasStripJobs jobs kept now.next ahead (images_under_way now)
+    pub inside : now.next ≤ count_in led.start
+    pub settles : Settles led.start (settled_to ahead now.tally settled) now.out.now
+    pub refusal : MayWait disk (way_in led.start) led.start.disk.now now.next now.refusal
+    pub has_jobs : HasStripJobs led.jobs led.kept now.next ahead (images_under_way now)
     pub counted : now.tally.images + now.tally.skipped + length (images_under_way now) ≤ now.next
     pub room : 0 < deque_capacity now.queue.images
 
   -- and its first image isn't complete
-  pub record Stands (start now : RenderSource D O) (jobs : List StripSource) (kept : ℕ) : Type 0 where
-    pub goes : RenderGoes start now jobs kept
+  pub record Stands (led : Led (RenderSource D O) StripSource) (now : RenderSource D O) : Type 0 where
+    pub goes : RenderGoes led now
     pub first : FirstWaits (images_under_way now)
 
   -- the job source was the first one, and stopped for this cause
   pub record StopsFor (start : RenderSource D O) (cause : Cause) (now : RenderSource D O) : Type 0 where
     pub same_disk : now.disk.ghost_name ≡ start.disk.ghost_name
     pub same_out : now.out.ghost_name ≡ start.out.ghost_name
-    pub runs : RunsOn (outlets_of disk out) render_query (way_in start) cause
+    pub runs : RunsOn (outlets_of disk out) (query_on render_query (way_in start)) cause
         (outlets start.disk.now start.out.now) (outlets now.disk.now now.out.now)
+
+  -- the terms on which it gives strips and keeps what is rendered
+  abbrev pub render_terms : SourceTerms (RenderSource D O) StripSource Cause
+  render_terms = record {
+    stands = Stands;
+    stopped = StopsFor;
+    is_over = IsRenderOver;
+    left = jobs_left;
+    at_once = λ now. true;
+  }

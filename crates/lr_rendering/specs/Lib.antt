@@ -3,3 +3,5 @@ pub mod Leading
 pub mod Driven
 pub mod Outcomes
 pub mod Queues
+pub mod Render
+pub mod Rendered

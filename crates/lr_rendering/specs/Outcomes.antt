@@ -7,7 +7,7 @@ use Rattle.lr_image.specs.Images.{HasOutcome}
 use Rattle.lr_image.specs.declared.fault.ImageFault.{ImageFault}
 use Rattle.lr_causes.specs.Puts.{Puts}
 use Rattle.lr_causes.specs.declared.cause.Cause.{Cause}
-use Rattle.lr_commands.specs.Render.{image_text}
+use Rattle.lr_rendering.specs.Render.{image_text}
 use Rattle.lr_commands.specs.Steps.{TextStops}
 use Rattle.lr_rendering.specs.declared.tally.Tally.{Tally}
 

@@ -1,27 +1,11 @@
 -- The images under way: which strips they gave, and which of these wait. No clause of a public call cites this.
-use Rattle.std.specs.Prelude.{
-  ◌≡◌,
-  ◌<◌,
-  ◌≤◌,
-  ◌+◌,
-  ◌-◌,
-  ◌⊎◌,
-  ℕ,
-  true,
-  false,
-  cond,
-  Option,
-  Some,
-  None,
-  List,
-  [],
-  ◌∷◌,
-}
+use Rattle.std.specs.Prelude.{◌≡◌, ◌<◌, ◌≤◌, ◌+◌, ◌-◌, ◌⊎◌, ℕ, true, false, cond, Option, Some}
+use Rattle.std.specs.Prelude.{None, List, [], ◌∷◌}
 use Rattle.std.specs.Prelude.{◌++◌, length, take, drop}
 use Rattle.lr_bits.specs.File.{File}
 use Rattle.lr_render.specs.Plans.{IsStripAt, PlanView, planned_strips}
 use Rattle.lr_render.specs.declared.strip.StripSource.{StripSource}
-use Rattle.lr_rendering.specs.declared.under_way.UnderWay.{UnderWay}
+use Rattle.lr_rendering.specs.declared.queue.UnderWay.{UnderWay}
 
 -- ---- an image
 

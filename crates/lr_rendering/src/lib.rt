@@ -8,12 +8,13 @@
 #![tactic(auto)]
 
 mod content;
+mod laws;
 mod outcome;
 mod queue;
 mod render_source;
 mod run;
 mod sizes;
 mod tally;
-mod under_way;
 
+pub use laws::render_puts_images;
 pub use run::{render, render_alone};

@@ -2,13 +2,42 @@
 ghost use Rattle.std.specs.Prelude.{◌≡◌, ◌<◌, ◌≤◌, ◌++◌, ◌∷◌, ◌↔◌, [], IfOk, IsTrue, MatchOption, OnErr, OnOk, length};
 ghost use Rattle.std.specs.VecDeque.{deque_capacity, deque_len};
 ghost use Rattle.lr_rendering.specs.Queues.{EachUnderWay, FirstKeeps, FirstWaits, LastGives, MayKeepFirst};
-ghost use Rattle.lr_rendering.specs.Queues.{TakesFirst, image_of};
+ghost use Rattle.lr_rendering.specs.Queues.{IsImageUnderWay, QueueGivesNext, TakesFirst, image_of};
 
-use crate::under_way::UnderWay;
 use lr_bits::NoMemory;
 use lr_render::{DoneStrip, Plan, Strip};
 use std::alloc::Global;
 use std::collections::VecDeque;
+
+/// An image of which strips are to be given or kept.
+#[derive(Drop)]
+pub(crate) struct UnderWay {
+    pub plan: Plan,
+    /// How many of its strips were given and not yet kept.
+    pub waiting: u32,
+    /// Whether all of its strips were given.
+    pub all_given: bool,
+}
+
+impl UnderWay {
+    /// Its next strip, if one is left.
+    fn next_strip(&mut self) -> Result<Option<Strip>, NoMemory>
+        requires { IsImageUnderWay self.old }
+        ensures gives { IfOk result (QueueGivesNext self.old self.new) }
+        ensures refused { OnErr result (self.new ≡ self.old) }
+    {
+        if self.all_given {
+            return Ok(None);
+        }
+        let next = self.plan.next_strip()?;
+        if next.is_some() {
+            self.waiting += 1;
+        } else {
+            self.all_given = true;
+        }
+        Ok(next)
+    }
+}
 
 /// The images under way. What comes of strips is kept by the first one, and strips are given by the last one.
 #[derive(Drop)]
@@ -61,10 +90,12 @@ impl Queue {
         ensures refused { OnErr result (self.new.images.items ≡ self.old.images.items) }
         ensures room { deque_capacity self.new.images ≡ deque_capacity self.old.images }
     {
-        match self.images.front_mut() {
-            Some(first) => first.keep(strip),
-            None => unreachable!(),
-        }
+        let Some(first) = self.images.front_mut() else {
+            unreachable!()
+        };
+        first.plan.keep(strip)?;
+        first.waiting -= 1;
+        Ok(())
     }
 
     /// Takes the plan of the first image out, if all of its strips were given and kept.
@@ -76,7 +107,7 @@ impl Queue {
         ensures room { deque_capacity self.new.images ≡ deque_capacity self.old.images }
     {
         match self.images.front() {
-            Some(first) if first.is_complete() => {}
+            Some(first) if first.all_given && first.waiting == 0 => {}
             _ => return None,
         }
         match self.images.pop_front() {

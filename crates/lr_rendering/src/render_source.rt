@@ -1,6 +1,7 @@
 //! The entries of a shelf are led through a ring, strip by strip, and their images put.
-ghost use Rattle.std.specs.Prelude.{◌≡◌, ◌<◌, ◌≤◌, [], ℕ, List, IfErr, MatchBool, OnOk, Some, None};
+ghost use Rattle.std.specs.Prelude.{◌≡◌, ◌<◌, ◌≤◌, [], IfErr, MatchBool, OnOk, Some, None};
 ghost use Rattle.std.specs.VecDeque.{deque_capacity, deque_len};
+ghost use Rattle.lr_rounds.specs.JobSources.{Led};
 ghost use Rattle.lr_render.specs.declared.strip.StripSource.{StripSource};
 ghost use Rattle.lr_causes.specs.declared.cause.Cause.TheVariants.{Refused};
 ghost use Rattle.lr_causes.specs.declared.cause.Refusal.{Refusal};
@@ -48,15 +49,12 @@ impl<'d, 'o, D: Disk, O: Sink> RenderSource<'d, 'o, D, O> {
 
     /// Takes out each image at the front of which all strips were given and kept, and puts it.
     fn put_complete(&mut self) -> Result<(), Cause>
-        requires { (start : RenderSource D O) × (jobs : List StripSource) × (kept : ℕ)
-            × RenderGoes D.Disk O.Sink start self.old jobs kept }
-        ensures puts { (start : RenderSource D O) (jobs : List StripSource) (kept : ℕ)
-            → RenderGoes D.Disk O.Sink start self.old jobs kept
-            → OnOk result (Stands D.Disk O.Sink start self.new jobs kept) }
+        requires { (led : Led (RenderSource D O) StripSource) × RenderGoes D.Disk O.Sink led self.old }
+        ensures puts { (led : Led (RenderSource D O) StripSource) → RenderGoes D.Disk O.Sink led self.old
+            → OnOk result (Stands D.Disk O.Sink led self.new) }
         ensures same { OnOk result (PutsImages self.old self.new) }
-        ensures stops { (start : RenderSource D O) (jobs : List StripSource) (kept : ℕ)
-            → RenderGoes D.Disk O.Sink start self.old jobs kept
-            → IfErr result (λ cause. StopsFor D.Disk O.Sink start cause self.new) }
+        ensures stops { (led : Led (RenderSource D O) StripSource) → RenderGoes D.Disk O.Sink led self.old
+            → IfErr result (λ cause. StopsFor D.Disk O.Sink led.start cause self.new) }
     {
         while let Some(plan) = self.queue.take_complete() {
             put_outcome(self.alloc, plan, &mut self.tally, self.out)?;
@@ -66,19 +64,16 @@ impl<'d, 'o, D: Disk, O: Sink> RenderSource<'d, 'o, D, O> {
 
     /// Reads the next entry. All strips of the images under way were given.
     fn read_next(&mut self) -> Result<(), Cause>
-        requires going { (start : RenderSource D O) × (jobs : List StripSource) × (kept : ℕ)
-            × RenderGoes D.Disk O.Sink start self.old jobs kept }
+        requires going { (led : Led (RenderSource D O) StripSource) × RenderGoes D.Disk O.Sink led self.old }
         requires given { AllGiven (images_under_way self.old) }
         requires none { self.old.refusal ≡ None }
         requires more { self.old.next < count_in self.old }
         requires room { deque_len self.old.queue.images < deque_capacity self.old.queue.images }
-        ensures reads { (start : RenderSource D O) (jobs : List StripSource) (kept : ℕ)
-            → RenderGoes D.Disk O.Sink start self.old jobs kept
-            → OnOk result (RenderGoes D.Disk O.Sink start self.new jobs kept) }
+        ensures reads { (led : Led (RenderSource D O) StripSource) → RenderGoes D.Disk O.Sink led self.old
+            → OnOk result (RenderGoes D.Disk O.Sink led self.new) }
         ensures one { OnOk result (ReadsOne self.old self.new) }
-        ensures stops { (start : RenderSource D O) (jobs : List StripSource) (kept : ℕ)
-            → RenderGoes D.Disk O.Sink start self.old jobs kept
-            → IfErr result (λ cause. StopsFor D.Disk O.Sink start cause self.new) }
+        ensures stops { (led : Led (RenderSource D O) StripSource) → RenderGoes D.Disk O.Sink led self.old
+            → IfErr result (λ cause. StopsFor D.Disk O.Sink led.start cause self.new) }
     {
         match read_content(self.alloc, self.next, &mut self.shelf, self.disk) {
             Ok(content) => {
@@ -127,18 +122,9 @@ impl<'d, 'o, D: Disk, O: Sink> RenderSource<'d, 'o, D, O> {
 impl<'d, 'o, D: Disk, O: Sink> JobSource<RenderWork> for RenderSource<'d, 'o, D, O> {
     type Cause = Cause;
 
-    ghost use Rattle.std.specs.Prelude.{true};
-    ghost use Rattle.lr_rendering.specs.Leading.{IsRenderOver, StopsFor, jobs_left};
+    ghost use Rattle.lr_rendering.specs.Leading.{render_terms};
 
-    ghost stands = { λ start now jobs kept. Stands D.Disk O.Sink start now jobs kept };
-
-    ghost stopped = { λ start cause now. StopsFor D.Disk O.Sink start cause now };
-
-    ghost is_over = { λ now. IsRenderOver now };
-
-    ghost left = { λ now. jobs_left now };
-
-    ghost at_once = { λ now. true };
+    ghost terms = { render_terms D.Disk O.Sink };
 
     fn next(&mut self) -> Result<NextJob<Strip>, Cause> {
         'entries: loop {

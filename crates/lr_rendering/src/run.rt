@@ -1,11 +1,13 @@
 //! `render`: the images of all files.
 ghost use Rattle.std.specs.Prelude.{◌≡◌, ◌<◌, ◌≤◌, ◌-◌, [], false, length, IfOk};
 ghost use Rattle.std.specs.VecDeque.{deque_capacity};
+ghost use Rattle.lr_commands.specs.Queries.{query_on};
+ghost use Rattle.lr_rounds.specs.JobSources.{led};
 ghost use Rattle.lr_rounds.specs.WorkerPools.{pool_with};
 ghost use Rattle.lr_shelf.specs.Kept.{kept_by};
 ghost use Rattle.lr_causes.specs.Outside.{outlets, outlets_of};
-ghost use Rattle.lr_commands.specs.Render.{render_query};
-ghost use Rattle.lr_commands.specs.Rendered.{Renders};
+ghost use Rattle.lr_rendering.specs.Render.{render_query};
+ghost use Rattle.lr_rendering.specs.Rendered.{Renders};
 ghost use Rattle.lr_commands.specs.Runs.{RunsOn, RunsOver};
 ghost use Rattle.lr_rendering.specs.Leading.{Stands};
 ghost use Rattle.lr_rendering.specs.Driven.{RenderComesTo, IsFreshQueue, Drives, MayDrive};
@@ -54,7 +56,7 @@ fn go_alone<D: Disk, O: Sink>(
     entries: &mut RenderSource<'_, '_, D, O>,
 ) -> Result<(), Cause>
     requires alone { pool.seats ≡ 0 }
-    requires begins { Stands D.Disk O.Sink entries.old entries.old [] 0 }
+    requires begins { Stands D.Disk O.Sink (led entries.old [] 0) entries.old }
     ensures { RenderComesTo D.Disk O.Sink result entries.old entries.new }
 {
     drive_alone(pool, entries)
@@ -66,7 +68,7 @@ fn go_by_all<R: Threads + Wait + Sync, D: Disk, O: Sink>(
     pool: WorkerPool<RenderWork>,
     entries: &mut RenderSource<'_, '_, D, O>,
 ) -> Result<(), Cause>
-    requires { Stands D.Disk O.Sink entries.old entries.old [] 0 }
+    requires { Stands D.Disk O.Sink (led entries.old [] 0) entries.old }
     ensures { RenderComesTo D.Disk O.Sink result entries.old entries.new }
 {
     match drive(rt, pool, entries) {
@@ -86,7 +88,7 @@ fn render_entries<
     requires fresh { IsFreshQueue parts.queue }
     requires ready { MayDrive D.Disk O.Sink (F.pre go) parts.pool }
     requires drives { Drives D.Disk O.Sink (F.post go) }
-    ensures { RunsOn (outlets_of D.Disk O.Sink) render_query (kept_by shelf).way result
+    ensures { RunsOn (outlets_of D.Disk O.Sink) (query_on render_query (kept_by shelf).way) result
         (outlets disk.old out.old) (outlets disk.new out.new) }
 {
     if shelf.len() >= MOST_ENTRIES {
@@ -163,7 +165,7 @@ pub fn render_alone<D: Disk, O: Sink>(alloc: Global, disk: &mut D, out: &mut O) 
         disk,
         out,
         |pool, entries| -> Result<(), Cause>
-            requires { (pool.seats ≡ 0) × Stands D.Disk O.Sink entries.old entries.old [] 0 }
+            requires { (pool.seats ≡ 0) × Stands D.Disk O.Sink (led entries.old [] 0) entries.old }
             ensures { RenderComesTo D.Disk O.Sink result entries.old entries.new }
         { go_alone(pool, entries) },
     )
@@ -190,7 +192,7 @@ pub fn render<R: Threads + Wait + Sync, D: Disk, O: Sink>(
         disk,
         out,
         |pool, entries| -> Result<(), Cause>
-            requires { Stands D.Disk O.Sink entries.old entries.old [] 0 }
+            requires { Stands D.Disk O.Sink (led entries.old [] 0) entries.old }
             ensures { RenderComesTo D.Disk O.Sink result entries.old entries.new }
         { go_by_all(rt, pool, entries) },
     )

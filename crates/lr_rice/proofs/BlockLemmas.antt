@@ -9,32 +9,27 @@ use Rattle.std.proofs.lemmas.Nat.{mul-le}
 use Rattle.std.proofs.lemmas.Bool.Decides.{nat_tests}
 use Rattle.lr_rice.specs.declared.choice.BlockOption.{BlockOption}
 use Rattle.lr_rice.specs.declared.choice.BlockOption.TheVariants.{ZeroBlock, SecondExtension, Split, Uncoded}
-use Rattle.lr_rice.specs.CodedLines.{AreValues, IsOption, Zeros, Pairs, Halves, Numbers, body_string, greatest}
+use Rattle.lr_rice.specs.CodedLines.{AreValues, BlockSite, IsOption, Zeros, Pairs, Halves, Numbers, body_string}
+use Rattle.lr_rice.specs.CodedLines.{greatest}
 use Rattle.lr_rice.specs.CodedLines.{pairs_string, places, run_of, values_of}
 use Rattle.lr_rice.specs.Samples.{IsRun, IsSingle, ReadsBlock, WritesPart, places_after, plain_part, sample_after}
 use Rattle.lr_rice.specs.Samples.{samples_from, whole_block}
 use Rattle.lr_rice.proofs.SampleLemmas.{sample_after-zeros}
 
-pub plain_block : (bits block : ℕ) (first : Bool) (option : BlockOption) (string rest values all : List ℕ)
-    → IsSingle option → (option ≡ SecondExtension → ⊥) → IsOption bits option →
-    AreValues bits block first values → string ≡ body_string bits true (plain_part option values) ++ rest
-    → all ≡ whole_block first values →
-    ReadsBlock bits block first 1 option string rest all
-plain_block bits block first ZeroBlock string rest values all single other is_option are is same = absurd single
-plain_block bits block first SecondExtension string rest values all single other is_option are is same =
-    absurd (other refl)
-plain_block bits block first (Split k) string rest values all single other is_option are is same =
+pub plain_block : (site : BlockSite) (option : BlockOption) (string rest values all : List ℕ)
+    → IsSingle option → (option ≡ SecondExtension → ⊥) → IsOption site.bits option →
+    AreValues site values → string ≡ body_string site.bits true (plain_part option values) ++ rest
+    → all ≡ whole_block site.first values → ReadsBlock site option string rest all
+plain_block site ZeroBlock string rest values all single other is_option are is same = absurd single
+plain_block site SecondExtension string rest values all single other is_option are is same = absurd (other refl)
+plain_block site (Split k) string rest values all single other is_option are is same =
     record {
       part = Halves k values;
-      reads = record {
-        is_part = (is_option, are);
-        in_option = refl;
-        is_string = is;
-      };
+      reads = record { is_part = (is_option, are); in_option = refl; is_string = is };
       one = refl;
       are_places = same;
     }
-plain_block bits block first Uncoded string rest values all single other is_option are is same =
+plain_block site Uncoded string rest values all single other is_option are is same =
     record {
       part = Numbers values;
       reads = record { is_part = are; in_option = refl; is_string = is };
@@ -42,16 +37,17 @@ plain_block bits block first Uncoded string rest values all single other is_opti
       are_places = same;
     }
 
-pub pairs_block : (bits block : ℕ) (string rest values : List ℕ) → length values ≡ block →
-    ((k : ℕ) → k < length values → get_or values k 0 ≤ greatest bits) → string ≡ pairs_string values ++ rest →
-    ReadsBlock bits block false 1 SecondExtension string rest values
-pairs_block bits block string rest values size small is =
+pub pairs_block : (site : BlockSite) (string rest values : List ℕ) → length values ≡ site.block →
+    ((k : ℕ) → k < length values → get_or values k 0 ≤ greatest site.bits) → string ≡ pairs_string values ++ rest →
+    ReadsBlock (record site { first = false }) SecondExtension string rest values
+pairs_block site string rest values size small is =
     record {
       part = Pairs 0 values;
       reads = record {
         is_part = record {
           whole = size ∙ omega arith;
-          small = λ k d inside. subst (λ v. v ≤ greatest bits) (get_or_default values k 0 d inside) (small k inside);
+          small = λ k d inside. subst (λ v. v ≤ greatest site.bits) (get_or_default values k 0 d inside)
+              (small k inside);
         };
         in_option = refl;
         is_string = is;
@@ -60,17 +56,18 @@ pairs_block bits block string rest values size small is =
       are_places = refl;
     }
 
-pub leading_block : (bits block : ℕ) (string rest values : List ℕ) → length values ≡ block → 1 ≤ block →
-    ((k : ℕ) → k < length values → 0 < k → get_or values k 0 ≤ greatest bits) → string ≡ pairs_string values ++ rest →
-    ReadsBlock bits block true 1 SecondExtension string rest (set values 0 0)
-leading_block bits block string rest [] size some small is = absurd (omega arith)
-leading_block bits block string rest (lead ∷ values) size some small is =
+pub leading_block : (site : BlockSite) (string rest values : List ℕ) → length values ≡ site.block → 1 ≤ site.block →
+    ((k : ℕ) → k < length values → 0 < k → get_or values k 0 ≤ greatest site.bits) →
+    string ≡ pairs_string values ++ rest →
+    ReadsBlock (record site { first = true }) SecondExtension string rest (set values 0 0)
+leading_block site string rest [] size some small is = absurd (omega arith)
+leading_block site string rest (lead ∷ values) size some small is =
     record {
       part = Pairs lead values;
       reads = record {
         is_part = record {
           whole = omega arith;
-          small = λ k d inside. subst (λ v. v ≤ greatest bits) (get_or_default values k 0 d inside)
+          small = λ k d inside. subst (λ v. v ≤ greatest site.bits) (get_or_default values k 0 d inside)
               (small (suc k) (omega arith) (omega arith));
         };
         in_option = refl;
@@ -112,24 +109,23 @@ whole_block-zeros false n some = ap (λ k. replicate k 0) (omega arith)
 whole_block-zeros true zero some = absurd (omega arith)
 whole_block-zeros true (suc n) some = ap (λ k. 0 ∷ replicate k 0) (omega arith)
 
-pub run_written : (bits block : ℕ) (first : Bool) (left p : ℕ) (string rest old new : List ℕ) (blocks : ℕ)
-    → 1 ≤ left → 1 ≤ block → p ≤ greatest bits →
-    IsRun left blocks string rest
-    → new ≡ places_after old (samples_from (greatest bits) p (replicate (blocks * block) 0)) →
-    WritesPart bits block first left ZeroBlock p string rest old new blocks p
-run_written bits block first left p string rest old new blocks some wide in_range run written =
-    let span : 1 ≤ run_of left run.number = run_of-pos left run.number some in
-    let values = whole_block first (values_of block first left (Zeros run.number)) in
-    let all : values ≡ replicate (blocks * block) 0 =
-    whole_block-zeros first (run_of left run.number * block)
-    (omega (arith, mul-le 1 1 (run_of left run.number) block span wide))
-    ∙ ap (λ n. replicate (n * block) 0) run.is_run in
+pub run_written : (site : BlockSite) (p : ℕ) (string rest old new : List ℕ) (blocks : ℕ)
+    → 1 ≤ site.left → 1 ≤ site.block → p ≤ greatest site.bits → IsRun site.left blocks string rest
+    → new ≡ places_after old (samples_from (greatest site.bits) p (replicate (blocks * site.block) 0)) →
+    WritesPart site ZeroBlock string rest
+    (record { before = p; old = old; new = new; blocks = blocks; last = p })
+run_written site p string rest old new blocks some wide in_range run written =
+    let span : 1 ≤ run_of site.left run.number = run_of-pos site.left run.number some in
+    let most = greatest site.bits in
+    let all : whole_block site.first (values_of site (Zeros run.number)) ≡ replicate (blocks * site.block) 0 =
+    whole_block-zeros site.first (run_of site.left run.number * site.block)
+    (omega (arith, mul-le 1 1 (run_of site.left run.number) site.block span wide))
+    ∙ ap (λ n. replicate (n * site.block) 0) run.is_run in
     record {
       part = Zeros run.number;
       reads = record { is_part = omega (arith, run.is_run, run.left_is); in_option = refl; is_string = run.is_string };
       spans = run.is_run;
-      written = written ∙ ap (λ l. places_after old (samples_from (greatest bits) p l)) (sym all);
-      is_last = λ enough. sym (ap (sample_after (greatest bits) p) all
-          ∙ sample_after-zeros (greatest bits) p (blocks * block));
+      written = written ∙ ap (λ l. places_after old (samples_from most p l)) (sym all);
+      is_last = λ enough. sym (ap (sample_after most p) all ∙ sample_after-zeros most p (blocks * site.block));
       in_range = in_range;
     }

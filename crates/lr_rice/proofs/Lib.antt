@@ -1,4 +1,6 @@
 pub mod BlockLemmas
+pub mod EachItem
+pub mod EachPart
 pub mod EachString
 pub mod ItemLemmas
 pub mod LineLemmas

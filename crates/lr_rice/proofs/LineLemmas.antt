@@ -14,10 +14,11 @@ use Rattle.lr_bits.specs.Bits.{number_bits}
 use Rattle.lr_rice.specs.declared.choice.BlockOption.{BlockOption}
 use Rattle.lr_rice.specs.declared.fault.Cause.TheVariants.{Ended}
 use Rattle.lr_rice.specs.CodedLines.{Follow, Form, IsLine, IsOption, IsPart, Part, Zeros, Pairs, Halves, Numbers}
+use Rattle.lr_rice.specs.CodedLines.{site_at}
 use Rattle.lr_rice.specs.CodedLines.{block_count, greatest, head_string, identifier, left_in_segment, part_string}
 use Rattle.lr_rice.specs.CodedLines.{body_string, places, run_of, span_of, string_from, values_from, values_of}
 use Rattle.lr_rice.specs.LineFaults.{LineFails, NoIdentifier}
-use Rattle.lr_rice.specs.Samples.{WritesPart, places_after, sample_after, samples_from, whole_block}
+use Rattle.lr_rice.specs.Samples.{WritesPart, Written, places_after, sample_after, samples_from, whole_block}
 use Rattle.lr_rice.proofs.BlockLemmas.{run_of-pos}
 use Rattle.lr_rice.proofs.SampleLemmas.{HaveValues-samples_from, length-samples_from, sample_after-append}
 use Rattle.lr_rice.proofs.SampleLemmas.{sample_of-zero, samples_from-append, samples_from-cons}
@@ -26,14 +27,14 @@ use Rattle.lr_rice.proofs.SampleLemmas.{sample_of-zero, samples_from-append, sam
 abbrev pub places_from : Form → ℕ → List Part → List ℕ
 places_from form at [] = []
 places_from form at (part ∷ parts) =
-    whole_block (at == 0) (values_of form.block (at == 0) (left_in_segment form at) part) ++ places_from form
+    whole_block (at == 0) (values_of (site_at form at) part) ++ places_from form
     (at + span_of (left_in_segment form at) part) parts
 
 -- ---- one part more
 
 pub Follow-more : (form : Form) (start : ℕ) (parts : List Part) (at : ℕ) (part : Part)
     → Follow form start parts at → at < block_count form →
-    IsPart form.bits form.block (at == 0) (left_in_segment form at) part
+    IsPart (site_at form at) part
     → Follow form start (parts ++ part ∷ []) (at + span_of (left_in_segment form at) part)
 Follow-more form start [] at part follow before is =
     subst (λ a. Follow form a (part ∷ []) (at + span_of (left_in_segment form at) part)) (sym follow)
@@ -62,16 +63,16 @@ string_from-more form reference start (first ∷ parts) at part follow =
 pub places_from-more : (form : Form) (start : ℕ) (parts : List Part) (at : ℕ) (part : Part)
     → Follow form start parts at →
     places_from form start (parts ++ part ∷ []) ≡ places_from form start parts ++ whole_block (at == 0)
-    (values_of form.block (at == 0) (left_in_segment form at) part)
+    (values_of (site_at form at) part)
 places_from-more form start [] at part follow =
-    let whole = λ (a : ℕ). whole_block (a == 0) (values_of form.block (a == 0) (left_in_segment form a) part) in
+    let whole = λ (a : ℕ). whole_block (a == 0) (values_of (site_at form a) part) in
     append-nil (whole start) ∙ ap whole follow
 places_from-more form start (first ∷ parts) at part follow =
-    let front = whole_block (start == 0) (values_of form.block (start == 0) (left_in_segment form start) first) in
+    let front = whole_block (start == 0) (values_of (site_at form start) first) in
     let next = start + span_of (left_in_segment form start) first in
     ap (λ l. front ++ l) (places_from-more form next parts at part follow.1.1)
     ∙ sym (append_assoc front (places_from form next parts)
-    (whole_block (at == 0) (values_of form.block (at == 0) (left_in_segment form at) part)))
+    (whole_block (at == 0) (values_of (site_at form at) part)))
 
 -- ---- sizes
 
@@ -86,7 +87,7 @@ span-pos form at (Numbers values) before = omega arith
 
 -- no part ends after the line
 pub span-inside : (form : Form) (at : ℕ) (part : Part) → at < block_count form
-    → IsPart form.bits form.block (at == 0) (left_in_segment form at) part →
+    → IsPart (site_at form at) part →
     at + span_of (left_in_segment form at) part ≤ block_count form
 span-inside form at (Zeros m) before is = omega (arith, is)
 span-inside form at (Pairs lead values) before is = omega arith
@@ -99,8 +100,8 @@ whole-length true block span values wide some size = omega (arith, size, mul-le 
 whole-length false block span values wide some size = omega (arith, size)
 
 pub part-length : (form : Form) (at : ℕ) (part : Part) → 1 ≤ form.block → at < block_count form
-    → IsPart form.bits form.block (at == 0) (left_in_segment form at) part →
-    length (whole_block (at == 0) (values_of form.block (at == 0) (left_in_segment form at) part)) ≡ span_of
+    → IsPart (site_at form at) part →
+    length (whole_block (at == 0) (values_of (site_at form at) part)) ≡ span_of
     (left_in_segment form at) part * form.block
 part-length form at (Zeros m) wide before is =
     let left = left_in_segment form at in
@@ -119,7 +120,7 @@ pub places-length : (form : Form) (start : ℕ) (parts : List Part) (at : ℕ) �
 places-length form start [] at wide follow = omega (arith, ap (λ (a : ℕ). a * form.block) follow)
 places-length form start (part ∷ parts) at wide follow =
     let span = span_of (left_in_segment form start) part in
-    let front = whole_block (start == 0) (values_of form.block (start == 0) (left_in_segment form start) part) in
+    let front = whole_block (start == 0) (values_of (site_at form start) part) in
     let later = places-length form (start + span) parts at wide follow.1.1 in
     omega (
       arith,
@@ -131,9 +132,9 @@ places-length form start (part ∷ parts) at wide follow =
 -- ---- values
 
 values-small : (form : Form) (at : ℕ) (part : Part)
-    → IsPart form.bits form.block (at == 0) (left_in_segment form at) part →
-    (k : ℕ) → k < length (values_of form.block (at == 0) (left_in_segment form at) part)
-    → get_or (values_of form.block (at == 0) (left_in_segment form at) part) k 0 ≤ greatest form.bits
+    → IsPart (site_at form at) part →
+    (k : ℕ) → k < length (values_of (site_at form at) part)
+    → get_or (values_of (site_at form at) part) k 0 ≤ greatest form.bits
 values-small form at (Zeros m) is k inside =
     let n = places form.block (at == 0) (run_of (left_in_segment form at) m) in
     omega (arith, get_or-replicate {A = ℕ} n k 0 0 (omega (arith, length-replicate {A = ℕ} n 0)))
@@ -145,7 +146,7 @@ pub values_from-small : (form : Form) (start : ℕ) (parts : List Part) (at : �
     (k : ℕ) → k < length (values_from form start parts) → get_or (values_from form start parts) k 0 ≤ greatest form.bits
 values_from-small form start [] at follow k inside = absurd (omega arith)
 values_from-small form start (part ∷ parts) at follow k inside =
-    let front = values_of form.block (start == 0) (left_in_segment form start) part in
+    let front = values_of (site_at form start) part in
     let next = start + span_of (left_in_segment form start) part in
     let later = values_from form next parts in
     elim (cases_lt k (length front)) [
@@ -170,7 +171,7 @@ later-places : (form : Form) (start : ℕ) (parts : List Part) (at : ℕ) → 1 
 later-places form start [] at behind follow = refl
 later-places form start (part ∷ parts) at behind follow =
     let next = start + span_of (left_in_segment form start) part in
-    let values = values_of form.block (start == 0) (left_in_segment form start) part in
+    let values = values_of (site_at form start) part in
     ap (λ l. l ++ places_from form next parts) (whole_block-later (start == 0) values (not_first start behind))
     ∙ ap (λ l. values ++ l) (later-places form next parts at (omega arith) follow.1.1)
 
@@ -178,7 +179,7 @@ pub places-values : (form : Form) (parts : List Part) (at : ℕ) → 1 ≤ at �
     → places_from form 0 parts ≡ 0 ∷ values_from form 0 parts
 places-values form [] at some follow = absurd (omega arith)
 places-values form (part ∷ parts) at some follow =
-    ap (λ l. 0 ∷ values_of form.block true (left_in_segment form 0) part ++ l)
+    ap (λ l. 0 ∷ values_of (site_at form 0) part ++ l)
     (later-places form (0 + span_of (left_in_segment form 0) part) parts at
     (omega (arith, span-pos form 0 part follow.0)) follow.1.1)
 
@@ -301,15 +302,15 @@ pub part_done : (form : Form) (reference : ℕ) (string now rest old out new : L
     (at last blocks next start : ℕ) →
     1 ≤ form.block → form.columns ≡ length old → Reached form reference string now old out option at last →
     start ≡ at * form.block → start ≤ length old
-    → WritesPart form.bits form.block (at == 0) (left_in_segment form at) option last now rest
-    (drop start out) new blocks next →
+    → WritesPart (site_at form at) option now rest
+    (record { before = last; old = drop start out; new = new; blocks = blocks; last = next }) →
     Done form reference string rest old (take start out ++ new) (at + blocks) next
 part_done form reference string now rest old out new option at last blocks next start wide columns reached
     start_is inside part =
     let most = greatest form.bits in
     let parts = reached.parts in
     let left = left_in_segment form at in
-    let values = whole_block (at == 0) (values_of form.block (at == 0) left part.part) in
+    let values = whole_block (at == 0) (values_of (site_at form at) part.part) in
     let so_far = places_from form 0 parts in
     let is_part = part.reads.is_part in
     let more = places_from-more form 0 parts at part.part reached.follow in
@@ -357,18 +358,23 @@ part_done form reference string now rest old out new option at last blocks next 
       reference_in_range = reached.reference_in_range;
     }
 
-pub part_put : (form : Form) (reference : ℕ) (string now rest old out new : List ℕ) (option : BlockOption)
-    (at last blocks next left : ℕ) →
-    1 ≤ form.block → form.columns ≡ length old → length out ≡ length old
-    → Reached form reference string now old out option at last →
-    left ≡ left_in_segment form at →
-    WritesPart form.bits form.block (at == 0) left option last now rest
-    (take (length out - at * form.block) (drop (at * form.block) out)) new blocks next →
+pub part_put : {form : Form} {reference : ℕ} {string now rest old out new : List ℕ} {option : BlockOption}
+    {at last blocks next left : ℕ} → Reached form reference string now old out option at last →
+    WritesPart (record (site_at form at) { left = left }) option now rest (record {
+      before = last;
+      old = take (length out - at * form.block) (drop (at * form.block) out);
+      new = new;
+      blocks = blocks;
+      last = next;
+    }) →
+    left ≡ left_in_segment form at → 1 ≤ form.block → form.columns ≡ length old → length out ≡ length old →
     Done form reference string rest old (put_mid (at * form.block) (length out - at * form.block) out new)
     (at + blocks) next
-part_put form reference string now rest old out new option at last blocks next left wide columns size reached
-    left_is part =
+part_put {form} {reference} {string} {now} {rest} {old} {out} {new} {option} {at} {last} {blocks} {next} {left} reached
+    part left_is wide columns size =
     let start = at * form.block in
+    let written : List ℕ → Written =
+    λ l. record { before = last; old = l; new = new; blocks = blocks; last = next } in
     let inside : start ≤ length old = omega (arith, block-before form at wide reached.before, columns) in
     let none : post_of start (length out - start) out ≡ [] = drop_all (length out - start) (drop start out)
     (omega (arith, length-drop start out)) in
@@ -379,19 +385,17 @@ part_put form reference string now rest old out new option at last blocks next l
     subst (λ l. Done form reference string rest old l (at + blocks) next) (sym put)
     (part_done form reference string now rest old out new option at last blocks next start wide columns reached
     refl inside
-    (subst (λ k. WritesPart form.bits form.block (at == 0) k option last now rest
-    (drop start out) new blocks next) left_is
-    (subst (λ l. WritesPart form.bits form.block (at == 0) left option last now rest l new blocks next) slice part)))
+    (subst (λ k. WritesPart (record (site_at form at) { left = k }) option now rest (written (drop start out))) left_is
+    (subst (λ l. WritesPart (record (site_at form at) { left = left }) option now rest (written l)) slice part)))
 
 pub block_count-pos : (form : Form) → 1 ≤ form.block → 1 ≤ form.columns → 0 < block_count form
 block_count-pos form wide some = le-div 1 (form.columns + form.block - 1) form.block wide (omega arith)
 
 -- the line is there
-pub line_read : (form : Form) (reference : ℕ) (string rest old new : List ℕ) (at last : ℕ) → 1 ≤ form.block
-    → form.columns ≡ length old →
-    Done form reference string rest old new at last → block_count form ≤ at
-    → (coding : List ℕ) × IsLine form new coding × (string ≡ coding ++ rest)
-line_read form reference string rest old new at last wide columns done end =
+pub line_read : {form : Form} {reference : ℕ} {string rest old new : List ℕ} {at last : ℕ} →
+    Done form reference string rest old new at last → 1 ≤ form.block → form.columns ≡ length old →
+    block_count form ≤ at → (coding : List ℕ) × IsLine form new coding × (string ≡ coding ++ rest)
+line_read {form} {reference} {string} {rest} {old} {new} {at} {last} done wide columns end =
     let most = greatest form.bits in
     let parts = done.parts in
     let values = values_from form 0 parts in
@@ -432,11 +436,11 @@ line_read form reference string rest old new at last wide columns done end =
     )
 
 -- the next head is there
-pub goes_on : (form : Form) (reference : ℕ) (string now rest old new : List ℕ) (option : BlockOption)
-    (at last : ℕ) → Done form reference string now old new at last → at < block_count form →
+pub goes_on : {form : Form} {reference : ℕ} {string now rest old new : List ℕ} {option : BlockOption}
+    {at last : ℕ} → Done form reference string now old new at last → at < block_count form →
     IsOption form.bits option → now ≡ identifier form.bits option ++ rest
     → Reached form reference string rest old new option at last
-goes_on form reference string now rest old new option at last done before is_option more =
+goes_on {form} {reference} {string} {now} {rest} {old} {new} {option} {at} {last} done before is_option more =
     let later : head_string form.bits (at == 0) reference option ≡ identifier form.bits option =
     ap (λ first. head_string form.bits first reference option) (not_first at done.some)
     ∙ append-nil (identifier form.bits option) in
@@ -456,10 +460,10 @@ goes_on form reference string now rest old new option at last done before is_opt
 -- ---- faults
 
 -- the first identifier, or the reference, isn't there
-pub no_next : (form : Form) (reference : ℕ) (string now old new : List ℕ) (at last : ℕ)
+pub no_next : {form : Form} {reference : ℕ} {string now old new : List ℕ} {at last : ℕ}
     → Done form reference string now old new at last → at < block_count form →
     NoIdentifier form.bits now → LineFails form string Ended
-no_next form reference string now old new at last done before none =
+no_next {form} {reference} {string} {now} {old} {new} {at} {last} done before none =
     record {
       reference = reference;
       in_range = done.reference_in_range;

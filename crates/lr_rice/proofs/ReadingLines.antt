@@ -13,7 +13,8 @@ use Rattle.lr_rice.specs.declared.fault.Cause.{Cause}
 use Rattle.lr_rice.specs.declared.fault.Cause.TheVariants.{Ended, RunPastSegment}
 use Rattle.lr_rice.specs.declared.fault.RiceFault.{RiceFault}
 use Rattle.lr_rice.specs.declared.fault.RiceFault.TheVariants.{NoMemory}
-use Rattle.lr_rice.specs.CodedLines.{AreLines, Follow, Form, IsLine, IsOption, IsPart, Part, Zeros, Pairs, Halves}
+use Rattle.lr_rice.specs.CodedLines.{AreLines, AreValues, BlockSite, Follow, Form, IsLine, IsOption, IsPart, Part}
+use Rattle.lr_rice.specs.CodedLines.{Zeros, Pairs, Halves, site_at}
 use Rattle.lr_rice.specs.CodedLines.{Numbers, block_count, body_string, greatest, identifier, left_in_segment}
 use Rattle.lr_rice.specs.CodedLines.{option_of, part_string, places, run_of, span_of, string_from, values_from}
 use Rattle.lr_rice.specs.CodedLines.{values_of}
@@ -51,14 +52,17 @@ abbrev run_at : Bool → ℕ → List ℕ → List ℕ → Body
 run_at true run values rest = Ok (run, values, rest)
 run_at false run values rest = Err RunPastSegment
 
-abbrev take_body : ℕ → ℕ → Bool → ℕ → BlockOption → List ℕ → Body
-take_body bits block first left ZeroBlock string =
-    chain (take_sequence string) (λ x. run_at (nat_le (run_of left x.0) left) (run_of left x.0)
-    (replicate (places block first (run_of left x.0)) 0) x.1)
-take_body bits block first left SecondExtension string = unlead first (take_pairs bits first (block / 2) string)
-take_body bits block first left (Split zero) string = one (take_values bits (places block first 1) string)
-take_body bits block first left (Split (suc k)) string = one (take_splits bits (suc k) (places block first 1) string)
-take_body bits block first left Uncoded string = one (take_numbers bits (places block first 1) string)
+abbrev after_run : BlockSite → ℕ × List ℕ → Body
+after_run site x =
+    let run = run_of site.left x.0 in
+    run_at (nat_le run site.left) run (replicate (places site.block site.first run) 0) x.1
+
+abbrev take_body : BlockSite → BlockOption → List ℕ → Body
+take_body site ZeroBlock string = chain (take_sequence string) (after_run site)
+take_body site SecondExtension string = unlead site.first (take_pairs site.bits site.first (site.block / 2) string)
+take_body site (Split zero) string = one (take_values site.bits (places site.block site.first 1) string)
+take_body site (Split (suc k)) string = one (take_splits site.bits (suc k) (places site.block site.first 1) string)
+take_body site Uncoded string = one (take_numbers site.bits (places site.block site.first 1) string)
 
 each : (bits : ℕ) (values : List ℕ) → All (λ v. v ≤ greatest bits) values → (k : ℕ) → k < length values
     → get_or values k 0 ≤ greatest bits
@@ -70,62 +74,64 @@ lead_each most lead values small zero inside (inl none) = absurd (omega arith)
 lead_each most lead values small zero inside (inr none) = cc
 lead_each most lead values small (suc k) inside asked = small k 0 (omega arith)
 
-take_body-is : (bits block : ℕ) (first : Bool) (left : ℕ) (part : Part) (rest : List ℕ) → 1 ≤ block
-    → block % 2 ≡ 0 → IsPart bits block first left part →
-    take_body bits block first left (option_of part) (body_string bits first part ++ rest) ≡ Ok
-    (span_of left part, values_of block first left part, rest)
-take_body-is bits block first left (Zeros m) rest wide even is =
-    let run = run_of left m in
-    ap (λ x. chain x (λ y. run_at (nat_le (run_of left y.0) left) (run_of left y.0)
-    (replicate (places block first (run_of left y.0)) 0) y.1)) (take_sequence-is m rest)
-    ∙ ap (λ b. run_at b run (replicate (places block first run) 0) rest) (le-leb run left is)
-take_body-is bits block true left (Pairs lead values) rest wide even is =
-    ap (unlead true) (take_pairs-is bits true (block / 2) (lead ∷ values) rest (omega (arith, is.whole))
-    (lead_each (greatest bits) lead values is.small))
-take_body-is bits block false left (Pairs lead values) rest wide even is =
-    ap (unlead false) (take_pairs-is bits false (block / 2) values rest (omega (arith, is.whole))
+pairs-are : (site : BlockSite) (first : Bool) (lead : ℕ) (values rest : List ℕ) → 1 ≤ site.block
+    → site.block % 2 ≡ 0 → AreValues (record site { first = first }) values →
+    take_body (record site { first = first }) SecondExtension (body_string site.bits first (Pairs lead values) ++ rest)
+    ≡ Ok (1, values, rest)
+pairs-are site true lead values rest wide even is =
+    ap (unlead true) (take_pairs-is site.bits true (site.block / 2) (lead ∷ values) rest (omega (arith, is.whole))
+    (lead_each (greatest site.bits) lead values is.small))
+pairs-are site false lead values rest wide even is =
+    ap (unlead false) (take_pairs-is site.bits false (site.block / 2) values rest (omega (arith, is.whole))
     (λ k inside asked. is.small k 0 inside))
-take_body-is bits block first left (Halves zero values) rest wide even is =
-    ap (λ n. one (take_values bits n (body_string bits first (Halves 0 values) ++ rest))) (sym is.1.whole)
-    ∙ ap (λ l. one (take_values bits (length values) (l ++ rest))) (split_by_none values)
-    ∙ ap one (take_values-is bits values rest (each bits values is.1.small))
-take_body-is bits block first left (Halves (suc k) values) rest wide even is =
-    ap (λ n. one (take_splits bits (suc k) n (body_string bits first (Halves (suc k) values) ++ rest))) (sym is.1.whole)
-    ∙ ap one (take_splits-is bits (suc k) values rest (each bits values is.1.small))
-take_body-is bits block first left (Numbers values) rest wide even is =
-    ap (λ n. one (take_numbers bits n (body_string bits first (Numbers values) ++ rest))) (sym is.whole)
-    ∙ ap one (take_numbers-is bits values rest (each bits values is.small))
 
-take_values_fail : (bits block : ℕ) (first : Bool) (left k : ℕ) (string : List ℕ) (cause : Cause)
-    → ValuesFail bits (places block first 1) (Split k) string cause →
-    take_body bits block first left (Split k) string ≡ Err cause
-take_values_fail bits block first left zero string cause fails =
-    ap one (take_values-fails bits (places block first 1) string cause fails)
-take_values_fail bits block first left (suc k) string cause fails =
-    ap one (take_splits-fails bits (suc k) (places block first 1) string cause fails)
+take_body-is : (site : BlockSite) (part : Part) (rest : List ℕ) → 1 ≤ site.block → site.block % 2 ≡ 0
+    → IsPart site part →
+    take_body site (option_of part) (body_string site.bits site.first part ++ rest)
+    ≡ Ok (span_of site.left part, values_of site part, rest)
+take_body-is site (Zeros m) rest wide even is =
+    let run = run_of site.left m in
+    ap (λ x. chain x (after_run site)) (take_sequence-is m rest)
+    ∙ ap (λ b. run_at b run (replicate (places site.block site.first run) 0) rest) (le-leb run site.left is)
+take_body-is site (Pairs lead values) rest wide even is = pairs-are site site.first lead values rest wide even is
+take_body-is site (Halves zero values) rest wide even is =
+    ap (λ n. one (take_values site.bits n (body_string site.bits site.first (Halves 0 values) ++ rest)))
+    (sym is.1.whole)
+    ∙ ap (λ l. one (take_values site.bits (length values) (l ++ rest))) (split_by_none values)
+    ∙ ap one (take_values-is site.bits values rest (each site.bits values is.1.small))
+take_body-is site (Halves (suc k) values) rest wide even is =
+    ap (λ n. one (take_splits site.bits (suc k) n (body_string site.bits site.first (Halves (suc k) values) ++ rest)))
+    (sym is.1.whole)
+    ∙ ap one (take_splits-is site.bits (suc k) values rest (each site.bits values is.1.small))
+take_body-is site (Numbers values) rest wide even is =
+    ap (λ n. one (take_numbers site.bits n (body_string site.bits site.first (Numbers values) ++ rest))) (sym is.whole)
+    ∙ ap one (take_numbers-is site.bits values rest (each site.bits values is.small))
 
-take_body-fails : (bits block : ℕ) (first : Bool) (left : ℕ) (option : BlockOption) (string : List ℕ)
-    (cause : Cause) → BodyFails bits block first left option string cause →
-    take_body bits block first left option string ≡ Err cause
-take_body-fails bits block first left ZeroBlock string cause (inl none) =
-    ap (λ x. chain x (λ y. run_at (nat_le (run_of left y.0) left) (run_of left y.0)
-    (replicate (places block first (run_of left y.0)) 0) y.1)) (take_sequence-ends string none.0)
-    ∙ ap Err (sym none.1)
-take_body-fails bits block first left ZeroBlock string cause (inr there) =
+take_values_fail : (site : BlockSite) (k : ℕ) (string : List ℕ) (cause : Cause)
+    → ValuesFail site.bits (places site.block site.first 1) (Split k) string cause →
+    take_body site (Split k) string ≡ Err cause
+take_values_fail site zero string cause fails =
+    ap one (take_values-fails site.bits (places site.block site.first 1) string cause fails)
+take_values_fail site (suc k) string cause fails =
+    ap one (take_splits-fails site.bits (suc k) (places site.block site.first 1) string cause fails)
+
+take_body-fails : (site : BlockSite) (option : BlockOption) (string : List ℕ) (cause : Cause)
+    → BodyFails site option string cause → take_body site option string ≡ Err cause
+take_body-fails site ZeroBlock string cause (inl none) =
+    ap (λ x. chain x (after_run site)) (take_sequence-ends string none.0) ∙ ap Err (sym none.1)
+take_body-fails site ZeroBlock string cause (inr there) =
     let m = there.0 in
     let rest = there.1 in
-    let run = run_of left m in
-    ap (take_body bits block first left ZeroBlock) there.2
-    ∙ ap (λ x. chain x (λ y. run_at (nat_le (run_of left y.0) left) (run_of left y.0)
-    (replicate (places block first (run_of left y.0)) 0) y.1)) (take_sequence-is m rest)
-    ∙ ap (λ b. run_at b run (replicate (places block first run) 0) rest) (lt-leb run left there.3)
+    let run = run_of site.left m in
+    ap (take_body site ZeroBlock) there.2
+    ∙ ap (λ x. chain x (after_run site)) (take_sequence-is m rest)
+    ∙ ap (λ b. run_at b run (replicate (places site.block site.first run) 0) rest) (lt-leb run site.left there.3)
     ∙ ap Err (sym there.4)
-take_body-fails bits block first left SecondExtension string cause fails =
-    ap (unlead first) (take_pairs-fails bits first (block / 2) string cause fails)
-take_body-fails bits block first left (Split k) string cause fails =
-    take_values_fail bits block first left k string cause fails
-take_body-fails bits block first left Uncoded string cause fails =
-    ap one (take_numbers-ends bits (places block first 1) string fails.0) ∙ ap Err (sym fails.1)
+take_body-fails site SecondExtension string cause fails =
+    ap (unlead site.first) (take_pairs-fails site.bits site.first (site.block / 2) string cause fails)
+take_body-fails site (Split k) string cause fails = take_values_fail site k string cause fails
+take_body-fails site Uncoded string cause fails =
+    ap one (take_numbers-ends site.bits (places site.block site.first 1) string fails.0) ∙ ap Err (sym fails.1)
 
 -- ---- parts: the reference, their values, and what is left
 
@@ -156,7 +162,7 @@ after_body go at reference b = with_values b.1 (go (at + b.0) reference b.2)
 
 abbrev after_reference : Form → (ℕ → ℕ → List ℕ → Body) → ℕ → BlockOption → ℕ × List ℕ → Body
 after_reference form go at option r =
-    chain (take_body form.bits form.block (at == 0) (left_in_segment form at) option r.1) (after_body go at r.0)
+    chain (take_body (site_at form at) option r.1) (after_body go at r.0)
 
 abbrev after_option : Form → (ℕ → ℕ → List ℕ → Body) → ℕ → ℕ → BlockOption × List ℕ → Body
 after_option form go at reference o =
@@ -174,24 +180,22 @@ lt-true a b less = le-leb (suc a) b less
 lt-false : (a b : ℕ) → b ≤ a → nat_lt a b ≡ false
 lt-false a b more = lt-leb (suc a) b (omega arith)
 
-is_option_of : (bits block : ℕ) (first : Bool) (left : ℕ) (part : Part) → IsPart bits block first left part
-    → IsOption bits (option_of part)
-is_option_of bits block first left (Zeros m) is = tt
-is_option_of bits block first left (Pairs lead values) is = tt
-is_option_of bits block first left (Halves k values) is = is.0
-is_option_of bits block first left (Numbers values) is = tt
+is_option_of : (site : BlockSite) (part : Part) → IsPart site part → IsOption site.bits (option_of part)
+is_option_of site (Zeros m) is = tt
+is_option_of site (Pairs lead values) is = tt
+is_option_of site (Halves k values) is = is.0
+is_option_of site (Numbers values) is = tt
 
 -- one part is read
 part_step : (form : Form) (fuel at before reference : ℕ) (part : Part) (later rest : List ℕ) → IsForm form
     → at < block_count form → reference ≤ greatest form.bits →
     ((at == 0) ≡ false → before ≡ reference)
-    → IsPart form.bits form.block (at == 0) (left_in_segment form at) part → IsOption form.bits (option_of part) →
+    → IsPart (site_at form at) part → IsOption form.bits (option_of part) →
     take_parts form (suc fuel) at before ((part_string form.bits (at == 0) reference part ++ later) ++ rest)
-    ≡ with_values (values_of form.block (at == 0) (left_in_segment form at) part)
+    ≡ with_values (values_of (site_at form at) part)
     (take_parts form fuel (at + span_of (left_in_segment form at) part) reference (later ++ rest))
 part_step form fuel at before reference part later rest is_form inside in_range kept is is_option =
     let first = at == 0 in
-    let left = left_in_segment form at in
     let go = take_parts form fuel in
     let option = option_of part in
     let name = identifier form.bits option in
@@ -208,7 +212,7 @@ part_step form fuel at before reference part later rest is_form inside in_range 
     ∙ ap (λ x. chain x (after_option form go at before)) (take_option-is form.bits option (number ++ behind) is_option)
     ∙ ap (λ x. chain x (after_reference form go at option))
     (take_reference-is first form.bits before reference behind in_range kept)
-    ∙ ap (λ x. chain x (after_body go at reference)) (take_body-is form.bits form.block first left part
+    ∙ ap (λ x. chain x (after_body go at reference)) (take_body-is (site_at form at) part
     (later ++ rest) (omega (arith, is_form.least_block)) is_form.even is)
 
 Follow-length : (form : Form) (at : ℕ) (parts : List Part) (end : ℕ) → Follow form at parts end
@@ -235,10 +239,10 @@ take_parts-is form (suc fuel) at before reference [] rest is_form follow enough 
     ∙ ap (λ r. Ok (r, [], rest)) (kept (not_first at some))
 take_parts-is form (suc fuel) at before reference (part ∷ parts) rest is_form follow enough in_range kept =
     let next = at + span_of (left_in_segment form at) part in
-    let values = values_of form.block (at == 0) (left_in_segment form at) part in
+    let values = values_of (site_at form at) part in
     part_step form fuel at before reference part
     (string_from form reference next parts) rest is_form follow.0 in_range kept follow.1.0
-    (is_option_of form.bits form.block (at == 0) (left_in_segment form at) part follow.1.0)
+    (is_option_of (site_at form at) part follow.1.0)
     ∙ ap (with_values values) (take_parts-is form fuel next reference reference parts rest is_form follow.1.1
     (omega arith) in_range (λ later. refl))
 
@@ -256,7 +260,7 @@ take_parts-fails : (form : Form) (fuel at before reference : ℕ) (parts : List 
     (cause : Cause) → IsForm form → Follow form at parts end →
     end < block_count form → length parts < fuel → reference ≤ greatest form.bits
     → ((at == 0) ≡ false → before ≡ reference) →
-    PartFails form.bits form.block (end == 0) (left_in_segment form end) rest cause
+    PartFails (site_at form end) rest cause
     → take_parts form fuel at before (string_from form reference at parts ++ rest) ≡ Err cause
 take_parts-fails form zero at before reference parts end rest cause is_form follow inside enough in_range kept
     fails = absurd (omega arith)
@@ -267,8 +271,8 @@ take_parts-fails form
     (after_option form go at before) =
     ap (λ b. gate b before rest (chain (take_option form.bits rest) (after_option form go at before)))
     (lt-true at (block_count form) (omega (arith, follow))) in
-    let here : PartFails form.bits form.block (at == 0) (left_in_segment form at) rest cause =
-    subst (λ (k : ℕ). PartFails form.bits form.block (k == 0) (left_in_segment form k) rest cause) (sym follow) fails in
+    let here : PartFails (site_at form at) rest cause =
+    subst (λ (k : ℕ). PartFails (site_at form k) rest cause) (sym follow) fails in
     elim here [
       | inl none ↦ opened ∙ ap (λ x. chain x (after_option form go at before))
           (take_option-ends form.bits rest none.0) ∙ ap Err (sym none.1)
@@ -296,16 +300,16 @@ take_parts-fails form
             ∙ ap (λ x. chain x (after_reference form go at option))
             (take_given first form.bits before named tail body.4)
             ∙ ap (λ x. chain x (after_body go at given))
-            (take_body-fails form.bits form.block first (left_in_segment form at) option tail cause body.6)
+            (take_body-fails (site_at form at) option tail cause body.6)
       ]
     ]
 take_parts-fails form (suc fuel) at before reference
     (part ∷ parts) end rest cause is_form follow inside enough in_range kept fails =
     let next = at + span_of (left_in_segment form at) part in
-    let values = values_of form.block (at == 0) (left_in_segment form at) part in
+    let values = values_of (site_at form at) part in
     part_step form fuel at before reference part
     (string_from form reference next parts) rest is_form follow.0 in_range kept follow.1.0
-    (is_option_of form.bits form.block (at == 0) (left_in_segment form at) part follow.1.0)
+    (is_option_of (site_at form at) part follow.1.0)
     ∙ ap (with_values values)
     (take_parts-fails form fuel next reference reference parts end rest cause is_form follow.1.1 inside
     (omega arith) in_range (λ later. refl) fails)

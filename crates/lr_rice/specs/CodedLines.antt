@@ -32,6 +32,19 @@ segment_blocks = 64
 abbrev pub left_in_segment : Form → ℕ → ℕ
 left_in_segment form at = min (segment_blocks - at % segment_blocks) (block_count form - at)
 
+-- where a part stands: how many bits a sample has, and how many samples a block; whether it is the line's first part;
+-- and how many blocks are left in its segment, its own first one counted
+pub record BlockSite : Type 0 where
+  pub bits : ℕ
+  pub block : ℕ
+  pub first : Bool
+  pub left : ℕ
+
+-- the part that begins with the block of this place
+abbrev pub site_at : Form → ℕ → BlockSite
+site_at form at =
+    record { bits = form.bits; block = form.block; first = at == 0; left = left_in_segment form at }
+
 -- ---- identifiers
 
 -- the bits of an identifier; that of a zero block or a second extension has one more
@@ -78,22 +91,22 @@ span_of left part = 1
 abbrev pub places : ℕ → Bool → ℕ → ℕ
 places block first span = span * block - (if first then 1 else 0)
 
-abbrev pub values_of : ℕ → Bool → ℕ → Part → List ℕ
-values_of block first left (Zeros m) = replicate (places block first (run_of left m)) 0
-values_of block first left (Pairs lead values) = values
-values_of block first left (Halves k values) = values
-values_of block first left (Numbers values) = values
+abbrev pub values_of : BlockSite → Part → List ℕ
+values_of site (Zeros m) = replicate (places site.block site.first (run_of site.left m)) 0
+values_of site (Pairs lead values) = values
+values_of site (Halves k values) = values
+values_of site (Numbers values) = values
 
 -- the values of one block
-pub record AreValues (bits block : ℕ) (first : Bool) (values : List ℕ) : Type 0 where
-  pub whole : length values ≡ places block first 1
-  pub small : All (λ value. value ≤ greatest bits) values
+pub record AreValues (site : BlockSite) (values : List ℕ) : Type 0 where
+  pub whole : length values ≡ places site.block site.first 1
+  pub small : All (λ value. value ≤ greatest site.bits) values
 
-abbrev pub IsPart : ℕ → ℕ → Bool → ℕ → Part → Type 0
-IsPart bits block first left (Zeros m) = run_of left m ≤ left
-IsPart bits block first left (Pairs lead values) = AreValues bits block first values
-IsPart bits block first left (Halves k values) = IsOption bits (Split k) × AreValues bits block first values
-IsPart bits block first left (Numbers values) = AreValues bits block first values
+abbrev pub IsPart : BlockSite → Part → Type 0
+IsPart site (Zeros m) = run_of site.left m ≤ site.left
+IsPart site (Pairs lead values) = AreValues site values
+IsPart site (Halves k values) = IsOption site.bits (Split k) × AreValues site values
+IsPart site (Numbers values) = AreValues site values
 
 -- ---- their strings
 
@@ -129,14 +142,14 @@ part_string bits first reference part =
 abbrev pub Follow : Form → ℕ → List Part → ℕ → Type 0
 Follow form at [] end = at ≡ end
 Follow form at (part ∷ parts) end =
-    (at < block_count form) × (IsPart form.bits form.block (at == 0) (left_in_segment form at) part
+    (at < block_count form) × (IsPart (site_at form at) part
     × Follow form (at + span_of (left_in_segment form at) part) parts end)
 
 -- their values and their strings, joined
 abbrev pub values_from : Form → ℕ → List Part → List ℕ
 values_from form at [] = []
 values_from form at (part ∷ parts) =
-    values_of form.block (at == 0) (left_in_segment form at) part
+    values_of (site_at form at) part
     ++ values_from form (at + span_of (left_in_segment form at) part) parts
 
 abbrev pub string_from : Form → ℕ → ℕ → List Part → List ℕ

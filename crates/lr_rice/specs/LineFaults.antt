@@ -1,7 +1,7 @@
 -- The faults of coded lines: that of the first item, in the order of the bits, which can't be read. Items are
 -- identifiers, references, sequences and numbers. A mapped value is tested once its last bit is there, both values of a
 -- pair once the pair's sequence is there, and the run of a zero block once its sequence is there.
-use Rattle.std.specs.Prelude.{◌≡◌, ◌<◌, ◌≤◌, ◌⊎◌, ℕ, zero, suc, ◌+◌, ◌*◌, ◌/◌, ◌^◌, ◌==◌, Bool, false, List, [], ◌∷◌}
+use Rattle.std.specs.Prelude.{◌≡◌, ◌<◌, ◌≤◌, ◌⊎◌, ℕ, zero, suc, ◌+◌, ◌*◌, ◌/◌, ◌^◌, Bool, false, List, [], ◌∷◌}
 use Rattle.std.specs.Prelude.{◌++◌, length, IsTrue, IsFalse}
 use Rattle.std.specs.List.{All, flat_map}
 use Rattle.lr_bits.specs.Bits.{number_bits, zeros_and_one}
@@ -11,8 +11,9 @@ use Rattle.lr_rice.specs.declared.fault.Cause.{Cause}
 use Rattle.lr_rice.specs.declared.fault.Cause.TheVariants.{Ended, OutOfRange, RunPastSegment}
 use Rattle.lr_rice.specs.declared.fault.RiceFault.{RiceFault}
 use Rattle.lr_rice.specs.declared.fault.RiceFault.TheVariants as fault
-use Rattle.lr_rice.specs.CodedLines.{Form, Part, Follow, AreLines, IsOption, block_count, greatest, head_string}
-use Rattle.lr_rice.specs.CodedLines.{identifier, left_in_segment, pair_number, places, run_of, short_width, string_from}
+use Rattle.lr_rice.specs.CodedLines.{AreLines, BlockSite, Follow, Form, IsOption, Part, block_count, greatest}
+use Rattle.lr_rice.specs.CodedLines.{head_string, identifier, pair_number, places, run_of, short_width, site_at}
+use Rattle.lr_rice.specs.CodedLines.{string_from}
 
 -- no sequence ends in the string
 abbrev pub NoSequence : List ℕ → Type 0
@@ -67,11 +68,10 @@ RunFails left string cause =
     × (cause ≡ RunPastSegment))
 
 -- what stands after the identifier and the reference can't be read
-abbrev pub BodyFails : ℕ → ℕ → Bool → ℕ → BlockOption → List ℕ → Cause → Type 0
-BodyFails bits block first left ZeroBlock string cause = RunFails left string cause
-BodyFails bits block first left SecondExtension string cause = PairsFail bits first (block / 2) string cause
-BodyFails bits block first left (Split k) string cause = ValuesFail bits (places block first 1) (Split k) string cause
-BodyFails bits block first left Uncoded string cause = ValuesFail bits (places block first 1) Uncoded string cause
+abbrev pub BodyFails : BlockSite → BlockOption → List ℕ → Cause → Type 0
+BodyFails site ZeroBlock string cause = RunFails site.left string cause
+BodyFails site SecondExtension string cause = PairsFail site.bits site.first (site.block / 2) string cause
+BodyFails site option string cause = ValuesFail site.bits (places site.block site.first 1) option string cause
 
 -- The identifier isn't there: too few bits are left for a short one, or that bit isn't there which tells a zero block
 -- from a second extension.
@@ -79,13 +79,14 @@ abbrev pub NoIdentifier : ℕ → List ℕ → Type 0
 NoIdentifier bits string = (length string < short_width bits) ⊎ (string ≡ number_bits (short_width bits) 0)
 
 -- the next part can't be read
-abbrev pub PartFails : ℕ → ℕ → Bool → ℕ → List ℕ → Cause → Type 0
-PartFails bits block first left string cause =
-    (NoIdentifier bits string × (cause ≡ Ended))
-    ⊎ ((option : BlockOption) × (rest : List ℕ) × IsOption bits option × IsTrue first
-    × (string ≡ identifier bits option ++ rest) × (length rest < bits) × (cause ≡ Ended))
-    ⊎ ((option : BlockOption) × (reference : ℕ) × (rest : List ℕ) × IsOption bits option × (reference ≤ greatest bits)
-    × (string ≡ head_string bits first reference option ++ rest) × BodyFails bits block first left option rest cause)
+abbrev pub PartFails : BlockSite → List ℕ → Cause → Type 0
+PartFails site string cause =
+    (NoIdentifier site.bits string × (cause ≡ Ended))
+    ⊎ ((option : BlockOption) × (rest : List ℕ) × IsOption site.bits option × IsTrue site.first
+    × (string ≡ identifier site.bits option ++ rest) × (length rest < site.bits) × (cause ≡ Ended))
+    ⊎ ((option : BlockOption) × (reference : ℕ) × (rest : List ℕ) × IsOption site.bits option
+    × (reference ≤ greatest site.bits) × (string ≡ head_string site.bits site.first reference option ++ rest)
+    × BodyFails site option rest cause)
 
 -- the line can't be read: parts of it are there, but not the next one
 pub record LineFails (form : Form) (string : List ℕ) (cause : Cause) : Type 0 where
@@ -97,7 +98,7 @@ pub record LineFails (form : Form) (string : List ℕ) (cause : Cause) : Type 0 
   pub before : at < block_count form
   pub rest : List ℕ
   pub is_string : string ≡ string_from form reference 0 parts ++ rest
-  pub fails : PartFails form.bits form.block (at == 0) (left_in_segment form at) rest cause
+  pub fails : PartFails (site_at form at) rest cause
 
 -- the fault of this cause in this line
 abbrev pub fault_in : ℕ → Cause → RiceFault

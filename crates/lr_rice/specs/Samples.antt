@@ -4,8 +4,9 @@ use Rattle.std.specs.Prelude.{◌∷◌, ◌++◌, length, take, drop}
 use Rattle.lr_rice.specs.declared.choice.BlockOption.{BlockOption}
 use Rattle.lr_rice.specs.declared.choice.BlockOption.TheVariants.{ZeroBlock, Split, Uncoded}
 use Rattle.lr_bits.specs.Bits.{zeros_and_one}
-use Rattle.lr_rice.specs.CodedLines.{Part, Halves, Numbers, IsPart, body_string, greatest, option_of, run_of, span_of}
-use Rattle.lr_rice.specs.CodedLines.{values_of}
+use Rattle.lr_rice.specs.declared.site.Site.{Site}
+use Rattle.lr_rice.specs.CodedLines.{BlockSite, Part, Halves, Numbers, IsPart, body_string, greatest, option_of, run_of}
+use Rattle.lr_rice.specs.CodedLines.{span_of, values_of}
 
 -- the sample after the sample p, of a range from 0 to `most`, that has this mapped value
 unfoldable pub sample_of : ℕ → ℕ → ℕ → ℕ
@@ -47,33 +48,44 @@ abbrev pub plain_part : BlockOption → List ℕ → Part
 plain_part (Split k) values = Halves k values
 plain_part option values = Numbers values
 
+-- what the program keeps of where a part stands
+abbrev pub site_of : Site → BlockSite
+site_of site = record { bits = site.bits; block = site.block; first = site.first; left = site.left }
+
 -- a part in this option was read from `string`, before `rest`
-pub record ReadsPart (bits block : ℕ) (first : Bool) (left : ℕ) (option : BlockOption) (string rest : List ℕ)
-    (part : Part) : Type 0 where
-  pub is_part : IsPart bits block first left part
+pub record ReadsPart (site : BlockSite) (option : BlockOption) (string rest : List ℕ) (part : Part) : Type 0 where
+  pub is_part : IsPart site part
   pub in_option : option_of part ≡ option
-  pub is_string : string ≡ body_string bits first part ++ rest
+  pub is_string : string ≡ body_string site.bits site.first part ++ rest
 
 -- a block was read, and these are the values of its places
-pub record ReadsBlock (bits block : ℕ) (first : Bool) (left : ℕ) (option : BlockOption)
-    (string rest places : List ℕ) : Type 0 where
+pub record ReadsBlock (site : BlockSite) (option : BlockOption) (string rest places : List ℕ) : Type 0 where
   pub part : Part
-  pub reads : ReadsPart bits block first left option string rest part
-  pub one : span_of left part ≡ 1
-  pub are_places : places ≡ whole_block first (values_of block first left part)
+  pub reads : ReadsPart site option string rest part
+  pub one : span_of site.left part ≡ 1
+  pub are_places : places ≡ whole_block site.first (values_of site part)
 
--- a part was read, which stands for this many blocks, and the samples after p were written over the places; `last` is
--- the last of them, if all have a place
-pub record WritesPart (bits block : ℕ) (first : Bool) (left : ℕ) (option : BlockOption) (p : ℕ)
-    (string rest old new : List ℕ) (blocks last : ℕ) : Type 0 where
+-- samples of this many blocks, which were written over the old places; `before` is the sample before them, and `last`
+-- the last of them
+pub record Written : Type 0 where
+  pub before : ℕ
+  pub old : List ℕ
+  pub new : List ℕ
+  pub blocks : ℕ
+  pub last : ℕ
+
+-- a part was read, and its samples were written; the last one is known, if all have a place
+pub record WritesPart (site : BlockSite) (option : BlockOption) (string rest : List ℕ) (samples : Written)
+    : Type 0 where
   pub part : Part
-  pub reads : ReadsPart bits block first left option string rest part
-  pub spans : span_of left part ≡ blocks
-  pub written : new ≡ places_after old
-      (samples_from (greatest bits) p (whole_block first (values_of block first left part)))
-  pub is_last : length (whole_block first (values_of block first left part)) ≤ length old →
-      last ≡ sample_after (greatest bits) p (whole_block first (values_of block first left part))
-  pub in_range : last ≤ greatest bits
+  pub reads : ReadsPart site option string rest part
+  pub spans : span_of site.left part ≡ samples.blocks
+  pub written : samples.new ≡ places_after samples.old
+      (samples_from (greatest site.bits) samples.before (whole_block site.first (values_of site part)))
+  pub is_last : length (whole_block site.first (values_of site part)) ≤ length samples.old →
+      samples.last
+      ≡ sample_after (greatest site.bits) samples.before (whole_block site.first (values_of site part))
+  pub in_range : samples.last ≤ greatest site.bits
 
 -- a sequence was read that stands for this many blocks, which are left in the segment
 pub record IsRun (left blocks : ℕ) (string rest : List ℕ) : Type 0 where

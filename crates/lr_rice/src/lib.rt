@@ -17,6 +17,7 @@ mod line;
 mod lines;
 mod part;
 mod samples;
+mod site;
 mod values;
 
 pub use choice::BlockOption;

@@ -1,12 +1,13 @@
 //! The engine that decodes one line, part by part.
 
-ghost use Rattle.std.specs.Prelude.{◌≡◌, ◌<◌, ◌≤◌, ◌*◌, ◌-◌, ◌%◌, ◌^◌, ◌++◌, ℕ, List, IfErr, OnOk, length};
+ghost use Rattle.std.specs.Prelude.{◌≡◌, ◌<◌, ◌≤◌, ◌*◌, ◌-◌, ◌%◌, ◌++◌, ℕ, List, IfErr, OnOk, length};
 ghost use Rattle.lr_rice.specs.CodedLines.{IsLine, form_of};
 ghost use Rattle.lr_rice.specs.LineFaults.{LineFails};
 
 use crate::Cause;
 use crate::choice::read_identifier;
-use crate::part::{Site, decode_part};
+use crate::part::decode_part;
+use crate::site::Site;
 use lr_bits::BitReader;
 
 /// The blocks of a segment, which a run of zero blocks never passes (CCSDS 121.0-B).

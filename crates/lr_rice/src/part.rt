@@ -1,36 +1,16 @@
 //! A part of a line: a run of zero blocks, or one block.
 
-ghost use Rattle.std.specs.Prelude.{◌≡◌, ◌<◌, ◌≤◌, ◌*◌, ◌-◌, ◌%◌, ◌^◌, ◌++◌, IfErr, IfOk, length};
-ghost use Rattle.lr_bits.specs.Bits.{zeros_and_one};
+ghost use Rattle.std.specs.Prelude.{◌<◌, ◌≤◌, ◌*◌, ◌-◌, IfErr, IfOk};
 ghost use Rattle.lr_rice.specs.CodedLines.{IsOption, greatest};
 ghost use Rattle.lr_rice.specs.LineFaults.{BodyFails, RunFails};
-ghost use Rattle.lr_rice.specs.Samples.{IsRun, IsSingle, WritesPart};
+ghost use Rattle.lr_rice.specs.Samples.{IsRun, IsSingle, WritesPart, site_of};
 ghost use Rattle.lr_rice.specs.declared.choice.BlockOption.TheVariants.{ZeroBlock};
 
 use crate::samples::{most_of, repeat_sample, write_samples};
+use crate::site::Site;
 use crate::values::read_block;
 use crate::{BlockOption, Cause};
 use lr_bits::BitReader;
-
-/// What stands where in a line.
-#[derive(Clone, Copy)]
-pub(crate) struct Site {
-    /// How many bits a sample has.
-    pub bits: u32,
-    /// How many samples a block has.
-    pub block: u32,
-    /// Whether it is the first block of the line.
-    pub first: bool,
-    /// How many blocks are left in the segment.
-    pub left: u32,
-    ghost least_bits: { 5 ≤ bits },
-    ghost most_bits: { bits ≤ 16 },
-    ghost least_block: { 2 ≤ block },
-    ghost most_block: { block ≤ 64 },
-    ghost even: { block % 2 ≡ 0 },
-    ghost least_left: { 1 ≤ left },
-    ghost most_left: { left ≤ 64 },
-}
 
 /// How many blocks were decoded, and their last sample.
 #[derive(Drop)]
@@ -50,9 +30,14 @@ pub(crate) fn decode_part(
 ) -> Result<Decoded, Cause>
     requires sample { p ≤ greatest site.bits }
     requires option { IsOption site.bits option }
-    ensures ok { IfOk result (λ decoded. WritesPart site.bits site.block site.first site.left option p
-        reader.old reader.new out.old out.new decoded.blocks decoded.last) }
-    ensures err { IfErr result (λ cause. BodyFails site.bits site.block site.first site.left option reader.old cause) }
+    ensures ok { IfOk result (λ decoded. WritesPart (site_of site) option reader.old reader.new (record {
+      before = p;
+      old = out.old;
+      new = out.new;
+      blocks = decoded.blocks;
+      last = decoded.last;
+    })) }
+    ensures err { IfErr result (λ cause. BodyFails (site_of site) option reader.old cause) }
 {
     match option {
         BlockOption::ZeroBlock => decode_run(reader, site, p, out),
@@ -68,9 +53,14 @@ fn decode_run(
     out: &mut [u16],
 ) -> Result<Decoded, Cause>
     requires { p ≤ greatest site.bits }
-    ensures ok { IfOk result (λ decoded. WritesPart site.bits site.block site.first site.left ZeroBlock p
-        reader.old reader.new out.old out.new decoded.blocks decoded.last) }
-    ensures err { IfErr result (BodyFails site.bits site.block site.first site.left ZeroBlock reader.old) }
+    ensures ok { IfOk result (λ decoded. WritesPart (site_of site) ZeroBlock reader.old reader.new (record {
+      before = p;
+      old = out.old;
+      new = out.new;
+      blocks = decoded.blocks;
+      last = decoded.last;
+    })) }
+    ensures err { IfErr result (BodyFails (site_of site) ZeroBlock reader.old) }
 {
     let most = most_of(site.bits);
     let blocks = read_run(reader, site.left)?;
@@ -89,14 +79,19 @@ fn decode_block(
     requires sample { p ≤ greatest site.bits }
     requires option { IsOption site.bits option }
     requires single { IsSingle option }
-    ensures ok { IfOk result (λ decoded. WritesPart site.bits site.block site.first site.left option p
-        reader.old reader.new out.old out.new decoded.blocks decoded.last) }
-    ensures err { IfErr result (λ cause. BodyFails site.bits site.block site.first site.left option reader.old cause) }
+    ensures ok { IfOk result (λ decoded. WritesPart (site_of site) option reader.old reader.new (record {
+      before = p;
+      old = out.old;
+      new = out.new;
+      blocks = decoded.blocks;
+      last = decoded.last;
+    })) }
+    ensures err { IfErr result (λ cause. BodyFails (site_of site) option reader.old cause) }
 {
     let most = most_of(site.bits);
     let mut values = [0; 64];
     let places = &mut values[..site.block as usize];
-    read_block(reader, site.bits, option, site.first, places)?;
+    read_block(reader, site, option, places)?;
     let last = write_samples(most, p, places, out);
     Ok(Decoded { blocks: 1, last })
 }

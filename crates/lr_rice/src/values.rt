@@ -1,46 +1,47 @@
 //! The mapped values of a block, in each option.
 
-ghost use Rattle.std.specs.Prelude.{◌≡◌, ◌<◌, ◌≤◌, ◌⊎◌, ℕ, ◌+◌, ◌*◌, ◌-◌, ◌/◌, ◌%◌, ◌^◌, ◌++◌, All, IfErr, IfOk};
+ghost use Rattle.std.specs.Prelude.{◌≡◌, ◌<◌, ◌≤◌, ◌⊎◌, ℕ, ◌+◌, ◌*◌, ◌-◌, ◌/◌, ◌%◌, ◌^◌, ◌++◌, All, IfErr};
 ghost use Rattle.std.specs.Prelude.{IsFalse, IsTrue, false, true, List, OnErr, OnOk, length, map, slice_index};
 ghost use Rattle.std.specs.List.{flat_map};
 ghost use Rattle.lr_bits.specs.Bits.{number_bits, zeros_and_one};
 ghost use Rattle.lr_rice.specs.CodedLines.{IsOption, body_string, greatest, pair_number, pairs_string};
 ghost use Rattle.lr_rice.specs.LineFaults.{BodyFails, LowBitsFail, NoSequence, PairsFail, SequencesFail, ValuesFail};
 ghost use Rattle.lr_rice.specs.declared.fault.Cause.TheVariants.{OutOfRange};
-ghost use Rattle.lr_rice.specs.Samples.{IsPlain, IsSingle, ReadsBlock, plain_part};
+ghost use Rattle.lr_rice.specs.Samples.{IsPlain, IsSingle, ReadsBlock, plain_part, site_of};
 
 use crate::samples::most_of;
+use crate::site::Site;
 use crate::{BlockOption, Cause};
 use lr_bits::{BitReader, Ended};
 
 /// Reads the values of a block: those of all places, where the first place of a line has the value 0.
 pub(crate) fn read_block(
     reader: &mut BitReader<'_>,
-    bits: u32,
+    site: Site,
     option: BlockOption,
-    first: bool,
     places: &mut [u64],
 ) -> Result<(), Cause>
-    requires least { 5 ≤ bits }
-    requires most { bits ≤ 16 }
-    requires some { 2 ≤ length places.old }
-    requires few { length places.old ≤ 64 }
-    requires even { length places.old % 2 ≡ 0 }
+    requires size { length places.old ≡ site.block }
     requires clear { slice_index places.old 0 ≡ 0 }
-    requires option { IsOption bits option }
+    requires option { IsOption site.bits option }
     requires single { IsSingle option }
-    ensures ok { OnOk result (ReadsBlock bits (length places.old) first 1 option reader.old reader.new places.new) }
-    ensures err { IfErr result (λ cause. BodyFails bits (length places.old) first 1 option reader.old cause) }
+    ensures ok { OnOk result (ReadsBlock (site_of site) option reader.old reader.new places.new) }
+    ensures err { IfErr result (λ cause. BodyFails (site_of site) option reader.old cause) }
 {
     match option {
         BlockOption::SecondExtension => {
-            read_pairs(reader, bits, first, places)?;
-            if first {
+            read_pairs(reader, site.bits, site.first, places)?;
+            if site.first {
                 places[0] = 0;
             }
             Ok(())
         }
-        plain => read_values(reader, bits, plain, &mut places[usize::from(first)..]),
+        plain => read_values(
+            reader,
+            site.bits,
+            plain,
+            &mut places[usize::from(site.first)..],
+        ),
     }
 }
 

@@ -9,7 +9,8 @@ use Rattle.std.proofs.lemmas.List.{replicate-append-replicate, take-append-drop}
 use Rattle.std.proofs.lemmas.Nat.{mod_below, mul-le}
 use Rattle.lr_rice.specs.declared.choice.BlockOption.{BlockOption}
 use Rattle.lr_rice.specs.declared.choice.BlockOption.TheVariants.{ZeroBlock, SecondExtension, Split, Uncoded}
-use Rattle.lr_rice.specs.CodedLines.{AreValues, Follow, Form, IsOption, IsPart, Part, Zeros, block_count, greatest}
+use Rattle.lr_rice.specs.CodedLines.{AreValues, BlockSite, Follow, Form, IsOption, IsPart, Part, Zeros, block_count}
+use Rattle.lr_rice.specs.CodedLines.{greatest, site_at}
 use Rattle.lr_rice.specs.CodedLines.{left_in_segment, part_string, places, run_of, span_of, string_from, values_of}
 use Rattle.lr_rice.specs.Samples.{IsSingle, whole_block}
 use Rattle.lr_rice.proofs.BlockLemmas.{whole_block-zeros}
@@ -135,26 +136,25 @@ values-small true here most small k d inside =
 values-small false here most small k d inside = subst (λ v. v ≤ most) (get_or_default here k 0 d inside)
     (small k inside)
 
-single-valid : (bits block : ℕ) (first : Bool) (left : ℕ) (option : BlockOption) (values : List ℕ) → IsSingle option
-    → IsOption bits option → AreValues bits block first values →
-    IsPart bits block first left (block_in option values)
-single-valid bits block first left ZeroBlock values single is are = absurd single
-single-valid bits block first left SecondExtension values single is are = are
-single-valid bits block first left (Split k) values single is are = (is, are)
-single-valid bits block first left Uncoded values single is are = are
+single-valid : (site : BlockSite) (option : BlockOption) (values : List ℕ) → IsSingle option
+    → IsOption site.bits option → AreValues site values → IsPart site (block_in option values)
+single-valid site ZeroBlock values single is are = absurd single
+single-valid site SecondExtension values single is are = are
+single-valid site (Split k) values single is are = (is, are)
+single-valid site Uncoded values single is are = are
 
-single-values : (block : ℕ) (first : Bool) (left : ℕ) (option : BlockOption) (values : List ℕ) → IsSingle option
-    → values_of block first left (block_in option values) ≡ values
-single-values block first left ZeroBlock values single = absurd single
-single-values block first left SecondExtension values single = refl
-single-values block first left (Split k) values single = refl
-single-values block first left Uncoded values single = refl
+single-values : (site : BlockSite) (option : BlockOption) (values : List ℕ) → IsSingle option
+    → values_of site (block_in option values) ≡ values
+single-values site ZeroBlock values single = absurd single
+single-values site SecondExtension values single = refl
+single-values site (Split k) values single = refl
+single-values site Uncoded values single = refl
 
 pub record Good (form : Form) (all : List ℕ) (at : ℕ) (part : Part) : Type 0 where
-  pub valid : IsPart form.bits form.block (at == 0) (left_in_segment form at) part
+  pub valid : IsPart (site_at form at) part
   pub some : 1 ≤ span_of (left_in_segment form at) part
   pub inside : at + span_of (left_in_segment form at) part ≤ block_count form
-  pub values : whole_block (at == 0) (values_of form.block (at == 0) (left_in_segment form at) part)
+  pub values : whole_block (at == 0) (values_of (site_at form at) part)
       ≡ take (span_of (left_in_segment form at) part * form.block) (drop (at * form.block) all)
 
 good_run : (form : Form) (all : List ℕ) (at run : ℕ) → ArePlaces form all → at < block_count form
@@ -189,7 +189,7 @@ good_single form all at option are inside single is_option =
     let one : span_of left (block_in option values) ≡ 1 = span_of-block_in left option values in
     let wide : 1 * form.block ≡ form.block = omega arith in
     record {
-      valid = single-valid form.bits form.block first left option values single is_option
+      valid = single-valid (site_at form at) option values single is_option
           (record {
             whole = values-length first here form.block size;
             small =
@@ -198,7 +198,7 @@ good_single form all at option are inside single is_option =
           });
       some = omega (arith, one);
       inside = omega (arith, one);
-      values = ap (whole_block first) (single-values form.block first left option values single)
+      values = ap (whole_block first) (single-values (site_at form at) option values single)
           ∙ lead_back first here (omega (arith, size, are.wide)) (block-clear form all at are)
           ∙ ap (λ n. take n (drop (at * form.block) all)) (sym (ap (λ r. r * form.block) one ∙ wide));
     }

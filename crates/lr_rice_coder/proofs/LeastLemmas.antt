@@ -1,226 +1,30 @@
 -- No coding of a line's values is shorter than the shortest string.
-use Rattle.std.proofs.Common.{◌≡◌, ℕ, zero, suc, ◌+◌, ◌-◌, ◌*◌, ◌/◌, ◌%◌, ◌^◌, ◌<◌, ◌≤◌, Bool, true, false, List, []}
-use Rattle.std.proofs.Common.{◌∷◌, ◌++◌, length, take, drop, replicate, refl, sym, ap, ◌∙◌, subst, arith, inl, inr}
+use Rattle.std.proofs.Common.{◌≡◌, ℕ, zero, suc, ◌+◌, ◌-◌, ◌*◌, ◌%◌, ◌<◌, ◌≤◌, Bool, true, false, List, []}
+use Rattle.std.proofs.Common.{◌∷◌, length, take, drop, replicate, refl, sym, ap, ◌∙◌, subst, arith, inl, inr}
 use Rattle.std.proofs.Common.{length-append}
-use Rattle.std.specs.Prelude.{◌==◌, if◌then◌else◌}
-use Rattle.std.specs.List.{flat_map}
+use Rattle.std.specs.Prelude.{◌==◌}
 use Rattle.std.proofs.lemmas.Bool.{cases_lt, cases_Bool}
-use Rattle.std.proofs.lemmas.Bool.Decides.{nat_tests}
 use Rattle.std.proofs.lemmas.List.{drop-drop, drop-take, drop-replicate, take_at, drop_at, take-take, take-replicate}
 use Rattle.std.proofs.lemmas.Nat.{mod_below, mul-le}
-use Rattle.lr_bits.specs.Bits.{number_bits, zeros_and_one}
 use Rattle.lr_bits.proofs.ReaderLemmas.{length-number_bits}
-use Rattle.lr_rice.specs.declared.choice.BlockOption.TheVariants.{SecondExtension, Split, Uncoded}
 use Rattle.lr_rice.specs.CodedLines.{Follow, Form, IsPart, Part, Zeros, Pairs, Halves, Numbers, block_count}
-use Rattle.lr_rice.specs.CodedLines.{body_string, identifier, left_in_segment, option_of, pair_number, pairs_string}
-use Rattle.lr_rice.specs.CodedLines.{part_string, places, run_of, short_width, span_of, string_from, values_of}
+use Rattle.lr_rice.specs.CodedLines.{left_in_segment, option_of}
+use Rattle.lr_rice.specs.CodedLines.{site_at, part_string, run_of, short_width, span_of, string_from, values_of}
 use Rattle.lr_rice.specs.Samples.{IsSingle, whole_block}
 use Rattle.lr_rice.proofs.BlockLemmas.{run_of-pos, whole_block-zeros}
-use Rattle.lr_rice.proofs.ItemLemmas.{length-flat_map_numbers}
 use Rattle.lr_rice.proofs.LineLemmas.{not_first, part-length, places-values, places_from, block_count-pos}
-use Rattle.lr_rice_coder.specs.Shortest.{all_zero, shortest_option, places_of_block, block_in, block_values, cost_of}
+use Rattle.lr_rice_coder.specs.Shortest.{all_zero, shortest_option, places_of_block, block_in, block_values}
 use Rattle.lr_rice_coder.specs.Shortest.{line_places, next_part, parts_from, run_number, zero_run}
 use Rattle.lr_rice_coder.specs.Laws.{NoCodingIsShorter}
 use Rattle.lr_rice_coder.specs.Writing.{ArePlaces}
 use Rattle.lr_rice_coder.proofs.CodingLemmas.{fuel-any, next_good, replicate-all_zero}
-use Rattle.lr_rice_coder.proofs.OptionLemmas.{shortest_option-both, shortest_option-least}
-use Rattle.lr_rice_coder.proofs.CostLemmas.{length-zeros_and_one, short-least}
+use Rattle.lr_rice_coder.proofs.CostLemmas.{short-least}
 use Rattle.lr_rice_coder.proofs.LawLemmas.{block-even, block-wide, row_places}
-use Rattle.lr_rice_coder.proofs.PartLemmas.{next_part-block, next_part-run, option_of-block_in, parts_from-end}
+use Rattle.lr_rice_coder.proofs.PartLemmas.{next_part-block, next_part-run, parts_from-end}
 use Rattle.lr_rice_coder.proofs.PartLemmas.{parts_from-next, run_of-number, span_of-block_in, zero_run-le}
 use Rattle.lr_rice_coder.proofs.WriterLemmas.{zero_run-more, zero_run-none, zero_run-stop}
-
--- ---- numbers of runs
-
-number-least : (left m run : ℕ) → 1 ≤ run → run ≤ left → run_of left m ≡ run → run_number left run ≤ m
-number-least left m run some inside is = grind (arith, nat_tests)
-
-run-short : (left m : ℕ) → run_of left m < left → run_of left m ≤ m + 1
-run-short left m less = grind (arith, nat_tests)
-
-number-most : (left run : ℕ) → run_number left run ≤ run
-number-most left run = grind (arith, nat_tests)
-
-number-end : (left : ℕ) → run_number left left ≤ 4
-number-end left = grind (arith, nat_tests)
-
-number-inside : (left run : ℕ) → run < left → run ≤ run_number left run + 1
-number-inside left run less = grind (arith, nat_tests)
-
-number-split : (left m run : ℕ) → 1 ≤ run_of left m → run_of left m < run → run ≤ left
-    → run_number left run ≤ m + run_number (left - run_of left m) (run - run_of left m) + 5
-number-split left m run some less inside =
-    let first = run_of left m in
-    let short = run-short left m (omega arith) in
-    elim (cases_lt run left) [
-      | inl before ↦ omega (
-        arith,
-        number-most left run,
-        number-inside (left - first) (run - first) (omega arith),
-        short,
-      )
-      | inr end ↦
-          let same : run ≡ left = omega arith in
-          omega (arith, ap (run_number left) same, number-end left)
-    ]
-
-number-single : (left run : ℕ) → 2 ≤ run → run ≤ left → run_number left run ≤ run_number (left - 1) (run - 1) + 2
-number-single left run some inside = grind (arith, nat_tests)
-
-number-one : (left : ℕ) → 1 ≤ left → run_number left 1 ≡ 0
-number-one left some = grind (arith, nat_tests)
-
--- ---- lengths of parts
-
-abbrev extra : ℕ → Bool → ℕ → ℕ
-extra bits first reference = length (if first then number_bits bits reference else [])
-
-length-part : (bits : ℕ) (first : Bool) (reference : ℕ) (part : Part) →
-    length (part_string bits first reference part)
-    ≡ length (identifier bits (option_of part)) + extra bits first reference + length (body_string bits first part)
-length-part bits first reference part =
-    let name = identifier bits (option_of part) in
-    let number : List ℕ = if first then number_bits bits reference else [] in
-    length-append (name ++ number) (body_string bits first part)
-    ∙ ap (λ n. n + length (body_string bits first part)) (length-append name number)
-
-length-run : (bits : ℕ) (first : Bool) (reference m : ℕ)
-    → length (part_string bits first reference (Zeros m)) ≡ short_width bits + 1 + extra bits first reference + (m + 1)
-length-run bits first reference m =
-    omega (
-      arith,
-      length-part bits first reference (Zeros m),
-      length-number_bits (short_width bits + 1) 0,
-      length-zeros_and_one m,
-    )
-
-pairs-long : (values : List ℕ) → length values % 2 ≡ 0 → length values ≤ 2 * length (pairs_string values)
-pairs-long [] even = omega arith
-pairs-long (a ∷ []) even = absurd (omega arith)
-pairs-long (a ∷ b ∷ values) even =
-    omega (
-      arith,
-      length-append (zeros_and_one (pair_number a b)) (pairs_string values),
-      length-zeros_and_one (pair_number a b),
-      pairs-long values (omega arith),
-    )
-
-sequences-long : (k : ℕ) (values : List ℕ) → length values ≤ length (flat_map (λ v. zeros_and_one (v / 2 ^ k)) values)
-sequences-long k [] = omega arith
-sequences-long k (value ∷ values) =
-    omega (
-      arith,
-      length-append (zeros_and_one (value / 2 ^ k)) (flat_map (λ v. zeros_and_one (v / 2 ^ k)) values),
-      length-zeros_and_one (value / 2 ^ k),
-      sequences-long k values,
-    )
-
-behind_lead : (first : Bool) (block : ℕ) (values : List ℕ) → length values ≡ places block first 1
-    → block ≤ length values + 1
-behind_lead true block values size = omega (arith, size)
-behind_lead false block values size = omega (arith, size)
-
--- a block that isn't part of a zero block has four bits or more after its head
-single-long : (bits block : ℕ) (first : Bool) (left reference : ℕ) (part : Part) → 8 ≤ block → block % 2 ≡ 0
-    → 5 ≤ bits → IsSingle (option_of part) → IsPart bits block first left part →
-    short_width bits + extra bits first reference + 4 ≤ length (part_string bits first reference part)
-single-long bits block first left reference (Zeros m) wide even deep single is = absurd single
-single-long bits block true left reference (Pairs lead values) wide even deep single is =
-    omega (
-      arith,
-      length-part bits true reference (Pairs lead values),
-      length-number_bits (short_width bits + 1) 1,
-      pairs-long (lead ∷ values) (omega (arith, is.whole)),
-      is.whole,
-    )
-single-long bits block false left reference (Pairs lead values) wide even deep single is =
-    omega (
-      arith,
-      length-part bits false reference (Pairs lead values),
-      length-number_bits (short_width bits + 1) 1,
-      pairs-long values (omega (arith, is.whole)),
-      is.whole,
-    )
-single-long bits block first left reference (Halves k values) wide even deep single is =
-    omega (
-      arith,
-      length-part bits first reference (Halves k values),
-      length-number_bits (short_width bits) (k + 1),
-      sequences-long k values,
-      behind_lead first block values is.1.whole,
-      length-append (flat_map (λ v. zeros_and_one (v / 2 ^ k)) values) (flat_map (number_bits k) values),
-    )
-single-long bits block first left reference (Numbers values) wide even deep single is =
-    omega (
-      arith,
-      length-part bits first reference (Numbers values),
-      length-number_bits (short_width bits) (2 ^ short_width bits - 1),
-      length-flat_map_numbers bits values,
-      behind_lead first block values is.whole,
-      mul-le 7 1 (length values) bits (omega (arith, behind_lead first block values is.whole)) (omega arith),
-    )
-
--- another number in the place of the reference makes no pair shorter
-pair-least : (lead b : ℕ) → pair_number 0 b ≤ pair_number lead b
-pair-least lead b = omega (arith, mul-le b (b + 1) (lead + b) (lead + b + 1) (omega arith) (omega arith))
-
-lead-least : (lead : ℕ) (values : List ℕ) → length (pairs_string (0 ∷ values)) ≤ length (pairs_string (lead ∷ values))
-lead-least lead [] = omega arith
-lead-least lead (b ∷ values) =
-    omega (
-      arith,
-      length-append (zeros_and_one (pair_number 0 b)) (pairs_string values),
-      length-append (zeros_and_one (pair_number lead b)) (pairs_string values),
-      length-zeros_and_one (pair_number 0 b),
-      length-zeros_and_one (pair_number lead b),
-      pair-least lead b,
-    )
-
-other_cost : (bits : ℕ) (first : Bool) (reference : ℕ) (here : List ℕ) (left block : ℕ) (part : Part)
-    → IsSingle (option_of part) → IsPart bits block first left part →
-    values_of block first left part ≡ block_values first here
-    → cost_of bits first here (shortest_option bits first here) + extra bits first reference
-    ≤ length (part_string bits first reference part)
-other_cost bits first reference here left block (Zeros m) single is same = absurd single
-other_cost bits true reference here left block (Pairs lead values) single is same =
-    let least = shortest_option-least bits true here SecondExtension tt tt in
-    let body : length (body_string bits true (block_in SecondExtension (block_values true here)))
-    ≡ length (pairs_string (0 ∷ values)) = ap (λ l. length (pairs_string (0 ∷ l))) (sym same) in
-    omega (arith, length-part bits true reference (Pairs lead values), least, body, lead-least lead values)
-other_cost bits false reference here left block (Pairs lead values) single is same =
-    let least = shortest_option-least bits false here SecondExtension tt tt in
-    let body : length (body_string bits false (block_in SecondExtension (block_values false here)))
-    ≡ length (pairs_string values) = ap (λ l. length (pairs_string l)) (sym same) in
-    omega (arith, length-part bits false reference (Pairs lead values), least, body)
-other_cost bits first reference here left block (Halves k values) single is same =
-    let least = shortest_option-least bits first here (Split k) tt is.0 in
-    let body : length (body_string bits first (Halves k (block_values first here)))
-    ≡ length (body_string bits first (Halves k values)) =
-    ap (λ l. length (body_string bits first (Halves k l))) (sym same) in
-    omega (arith, length-part bits first reference (Halves k values), least, body)
-other_cost bits first reference here left block (Numbers values) single is same =
-    let least = shortest_option-least bits first here Uncoded tt tt in
-    let body : length (body_string bits first (Numbers (block_values first here)))
-    ≡ length (body_string bits first (Numbers values)) =
-    ap (λ l. length (body_string bits first (Numbers l))) (sym same) in
-    omega (arith, length-part bits first reference (Numbers values), least, body)
-
--- a block in its best option is no longer than in another one
-single-least : (bits : ℕ) (first : Bool) (reference : ℕ) (here : List ℕ) (left block : ℕ) (part : Part)
-    → IsSingle (option_of part) → IsPart bits block first left part →
-    values_of block first left part ≡ block_values first here →
-    length (part_string bits first reference (block_in (shortest_option bits first here) (block_values first here)))
-    ≤ length (part_string bits first reference part)
-single-least bits first reference here left block part single is same =
-    let best = shortest_option bits first here in
-    let both = shortest_option-both bits first here in
-    let part_is : length (part_string bits first reference (block_in best (block_values first here)))
-    ≡ cost_of bits first here best + extra bits first reference =
-    length-part bits first reference (block_in best (block_values first here))
-    ∙ ap (λ o. length (identifier bits o) + extra bits first reference + length
-    (body_string bits first (block_in best (block_values first here))))
-    (option_of-block_in best (block_values first here) both.0) ∙ omega arith in
-    omega (arith, part_is, other_cost bits first reference here left block part single is same)
+use Rattle.lr_rice_coder.proofs.PartLengths.{extra, length-part, length-run, number-least, number-one, number-single}
+use Rattle.lr_rice_coder.proofs.PartLengths.{number-split, single-least, single-long}
 
 -- ---- the best length from a block on
 
@@ -395,8 +199,8 @@ unwhole false values here same = same
 
 key_single : (form : Form) (all : List ℕ) (reference at : ℕ) (part : Part) → ArePlaces form all
     → at < block_count form → 8 ≤ form.block → form.block % 2 ≡ 0 → 5 ≤ form.bits → 1 ≤ left_in_segment form at →
-    IsSingle (option_of part) → IsPart form.bits form.block (at == 0) (left_in_segment form at) part →
-    whole_block (at == 0) (values_of form.block (at == 0) (left_in_segment form at) part)
+    IsSingle (option_of part) → IsPart (site_at form at) part →
+    whole_block (at == 0) (values_of (site_at form at) part)
     ≡ places_of_block form.block all at →
     best form all reference at ≤ length (part_string form.bits (at == 0) reference part) + best form all reference
     (at + 1)
@@ -405,7 +209,7 @@ key_single form all reference at part are before wide even deep some_left single
     let first = at == 0 in
     let here = places_of_block form.block all at in
     let run = zero_run form.block all left at in
-    let long = single-long form.bits form.block first left reference part wide even deep single is in
+    let long = single-long (site_at form at) reference part wide even deep single is in
     elim (cases_lt run 1) [
       | inl none ↦
           let next = next_part-block form all at (omega arith) in
@@ -423,8 +227,8 @@ key_single form all reference at part are before wide even deep some_left single
           omega (
             arith,
             mine,
-            single-least form.bits first reference here left form.block part single is
-                (unwhole first (values_of form.block first left part) here same),
+            single-least (site_at form at) reference here part single is
+                (unwhole first (values_of (site_at form at) part) here same),
           )
       | inr some ↦
           let mine = best-run form all reference at run are before refl some in
@@ -453,8 +257,8 @@ one_block block all at =
 
 key : (form : Form) (all : List ℕ) (reference at : ℕ) (part : Part) → ArePlaces form all → at < block_count form
     → 8 ≤ form.block → form.block % 2 ≡ 0 → 5 ≤ form.bits →
-    IsPart form.bits form.block (at == 0) (left_in_segment form at) part →
-    whole_block (at == 0) (values_of form.block (at == 0) (left_in_segment form at) part)
+    IsPart (site_at form at) part →
+    whole_block (at == 0) (values_of (site_at form at) part)
     ≡ take (span_of (left_in_segment form at) part * form.block) (drop (at * form.block) all) →
     best form all reference at ≤ length (part_string form.bits (at == 0) reference part) + best form all reference
     (at + span_of (left_in_segment form at) part)
@@ -462,7 +266,7 @@ key form all reference at (Zeros m) are before wide even deep is same =
     let left = left_in_segment form at in
     let some : 1 ≤ left = omega (arith, mod_below at 64 (omega arith)) in
     let r = run_of left m in
-    let zeros : whole_block (at == 0) (values_of form.block (at == 0) left (Zeros m)) ≡ replicate (r * form.block) 0 =
+    let zeros : whole_block (at == 0) (values_of (site_at form at) (Zeros m)) ≡ replicate (r * form.block) 0 =
     whole_block-zeros (at == 0) (r * form.block) (omega (
       arith,
       mul-le 1 1 r form.block (run_of-pos left m some) (omega arith),
@@ -487,7 +291,7 @@ best-least form all reference at [] are wide even deep follow same =
 best-least form all reference at (part ∷ parts) are wide even deep follow same =
     let left = left_in_segment form at in
     let span = span_of left part in
-    let values = whole_block (at == 0) (values_of form.block (at == 0) left part) in
+    let values = whole_block (at == 0) (values_of (site_at form at) part) in
     let later = places_from form (at + span) parts in
     let rest = drop (at * form.block) all in
     let size : length values ≡ span * form.block = part-length form at part (omega (arith, wide)) follow.0 follow.1.0 in

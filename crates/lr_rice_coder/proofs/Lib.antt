@@ -9,6 +9,7 @@ pub mod NewImages
 pub mod OneRepack
 pub mod OptionLemmas
 pub mod PartLemmas
+pub mod PartLengths
 pub mod RecordLemmas
 pub mod RepackLemmas
 pub mod SearchLemmas

@@ -15,7 +15,7 @@ use Rattle.lr_image.specs.declared.fault.ImageFault.{ImageFault}
 use Rattle.lr_image.proofs.OneReading.{outcomes_are_one}
 use Rattle.lr_rice_coder.specs.Coded.{IsCodedLine}
 use Rattle.lr_rice_coder.specs.Laws.{RepacksAreOne}
-use Rattle.lr_rice_coder.specs.Refusals.{AreShort, HasLongLine, HasRepackFault}
+use Rattle.lr_rice_coder.specs.Refusals.{AreShort, HasLongLine, HasLongLineAt, HasRepackFault}
 use Rattle.lr_rice_coder.specs.Repacked.{AreCodedLines, IsRepacked, IsSource, file_size, first_body, first_size}
 use Rattle.lr_rice_coder.specs.Repacked.{form_with, new_records, records_size, repacked_file, rows_of}
 use Rattle.lr_rice_coder.specs.declared.fault.RepackFault.{RepackFault}
@@ -64,23 +64,13 @@ first_long picture block line other one two =
 
 -- ---- what is known of a file that has come so far
 
--- its lines are short enough
-record IsLined (file : File) (block : ℕ) (picture : Picture) (header : Header) : Type 0 where
-  source : IsSource file picture header
-  short : AreShort picture block picture.lines
-
-lined : (file new : File) (block : ℕ) (re : IsRepacked file block new) → IsLined file block re.picture re.header
-lined file new block re = record {
-  source = re.source;
-  short = short_so_far re.picture block re.picture.lines re.lines re.coded;
-}
-
-no_long_line : {A : Type 0} (file : File) (block line : ℕ) (p q : Picture) (h k : Header) → IsLined file block p h
-    → IsSource file q k → HasLongLine q block line → A
-no_long_line file block line p q h k is source has =
-    let same = pictures_one file q p source.is_image is.source.is_image in
-    let long : HasLongLine p block line = subst (λ (x : Picture). HasLongLine x block line) same has in
-    absurd (is.short line long.inside long.long)
+-- where all lines of its image are short enough, no line is refused
+no_long_line : {A : Type 0} (file : File) (block line : ℕ) (p : Picture) (header : Header) → IsSource file p header
+    → AreShort p block p.lines → HasLongLineAt file block line → A
+no_long_line file block line p header source short at =
+    let same = pictures_one file at.picture p at.source.is_image source.is_image in
+    let has : HasLongLine p block line = subst (λ (x : Picture). HasLongLine x block line) same at.has in
+    absurd (short line has.inside has.long)
 
 same_header : (file : File) (p q : Picture) (h k : Header) → IsSource file p h → IsSource file q k → h ≡ k
 same_header file p q h k one other = headers_are_one (proper_of file) h k one.is_header other.is_header
@@ -142,8 +132,8 @@ not_both file new block (fault.Image cause) re has = no_fault file re.picture ca
 not_both file new block (fault.Depth bits) re has =
     deep_enough file re.picture has.picture re.source.is_image re.source.deep has.is_image has.few
 not_both file new block (fault.Line line) re has =
-    no_long_line file block line re.picture has.picture re.header has.header
-    (lined file new block re) has.source has.has
+    no_long_line file block line re.picture re.header re.source
+    (short_so_far re.picture block re.picture.lines re.lines re.coded) has
 not_both file new block (fault.Header size) re has =
     let same = same_header file re.picture has.picture re.header has.header re.source has.source in
     absurd (omega (arith, fits_body file new block re, has.long, has.size_is, ap first_size same))
@@ -196,33 +186,13 @@ refusals_one file block (fault.Line a) (fault.Line b) h k =
     let same = pictures_one file h.picture k.picture h.source.is_image k.source.is_image in
     ap fault.Line (first_long k.picture block a b (subst (λ (x : Picture). HasLongLine x block a) same h.has) k.has)
 refusals_one file block (fault.Line a) (fault.Header b) h k =
-    no_long_line file block a k.picture h.picture k.header h.header (record {
-      source = k.source;
-      short =
-          k.short;
-    }) h.source
-    h.has
+    no_long_line file block a k.picture k.header k.source k.short h
 refusals_one file block (fault.Line a) (fault.File b) h k =
-    no_long_line file block a k.picture h.picture k.header h.header (record {
-      source = k.source;
-      short =
-          k.short;
-    }) h.source
-    h.has
+    no_long_line file block a k.picture k.header k.source k.short h
 refusals_one file block (fault.Header a) (fault.Line b) h k =
-    no_long_line file block b h.picture k.picture h.header k.header (record {
-      source = h.source;
-      short =
-          h.short;
-    }) k.source
-    k.has
+    no_long_line file block b h.picture h.header h.source h.short k
 refusals_one file block (fault.File a) (fault.Line b) h k =
-    no_long_line file block b h.picture k.picture h.header k.header (record {
-      source = h.source;
-      short =
-          h.short;
-    }) k.source
-    k.has
+    no_long_line file block b h.picture h.header h.source h.short k
 refusals_one file block (fault.Header a) (fault.Header b) h k =
     let same = same_header file h.picture k.picture h.header k.header h.source k.source in
     ap fault.Header (h.size_is ∙ ap first_size same ∙ sym k.size_is)

@@ -14,14 +14,8 @@ use Rattle.lr_rice.specs.CodedLines.{run_of, span_of, string_from}
 use Rattle.std.proofs.lemmas.Nat.{div-add-mod'}
 use Rattle.lr_rice.specs.Samples.{IsSingle}
 use Rattle.lr_rice.proofs.LineLemmas.{blocks-cover}
-use Rattle.lr_rice_coder.specs.Shortest.{
-  all_zero,
-  shortest_option,
-  places_of_block,
-  block_in,
-  block_values,
-  line_places,
-}
+use Rattle.lr_rice_coder.specs.Shortest.{all_zero, shortest_option, places_of_block, block_in}
+use Rattle.lr_rice_coder.specs.Shortest.{block_values, line_places}
 use Rattle.lr_rice_coder.specs.Shortest.{mapped_from, next_part, parts_from, places_past, run_number, shortest_string}
 use Rattle.lr_rice_coder.specs.Shortest.{zero_run}
 

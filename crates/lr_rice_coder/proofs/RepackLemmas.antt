@@ -84,7 +84,8 @@ same_file file header s pixels others block lines is =
     ap (λ (o : List ℕ). file_with file s block o lines) is
 
 pub repacked : (file : File) (picture : Picture) (header : Header) (s : Structure) (pixels others : List ℕ) (block : ℕ)
-    (new : File) → IsReadFile file picture header s pixels others → MakesFile file s pixels block others new
+    (new : File) → IsReadFile file picture header s pixels others → MakesFile file s pixels
+    (record { block = block; others = others }) new
     → IsRepacked file block new
 repacked file picture header s pixels others block new is makes = record {
   picture = picture_with s pixels;

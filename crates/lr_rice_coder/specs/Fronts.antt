@@ -71,13 +71,18 @@ pub record HoldsLines (picture : Picture) (block first : ℕ) (held : LineBytes)
   pub bytes : first ≤ most_body_bytes → first + held.size ≤ most_file_bytes → held.bytes ≡ concat lines
   pub few : held.size < 2 ^ 32
 
+-- what the new header says: how many samples a block has, and the records that stay
+pub record NewRecords : Type 0 where
+  pub block : ℕ
+  pub others : List ℕ
+
 -- the file was made of the image's lines
-pub record MakesFile (file : File) (s : Structure) (pixels : List ℕ) (block : ℕ) (others : List ℕ)
-    (new : File) : Type 0 where
+pub record MakesFile (file : File) (s : Structure) (pixels : List ℕ) (records : NewRecords) (new : File)
+    : Type 0 where
   pub counter : counter_of file < 65536
   pub lines : List (List ℕ)
-  pub coded : AreCodedLines (picture_with s pixels) block lines
-  pub is_new : new ≡ file_with file s block others lines
+  pub coded : AreCodedLines (picture_with s pixels) records.block lines
+  pub is_new : new ≡ file_with file s records.block records.others lines
   pub is_file : IsFile new
 
 -- why they weren't; want of memory may come at any time

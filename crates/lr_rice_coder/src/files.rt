@@ -68,7 +68,8 @@ fn code_image(
     others: &[u8],
 ) -> Result<MissionFile, RepackFault>
     requires { IsCodedImage structure image.pixels block }
-    ensures ok { IfOk result (MakesFile file.now structure image.pixels block others.now) }
+    ensures ok { IfOk result (MakesFile file.now structure image.pixels
+        (record { block = block; others = others.now })) }
     ensures err { IfErr result (MakingFails (picture_with structure image.pixels) block others.now) }
 {
     let first = NEW_BYTES + others.len();

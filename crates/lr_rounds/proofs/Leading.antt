@@ -7,33 +7,16 @@ use Rattle.lr_gate.proofs.Fewer.{same_left}
 use Rattle.lr_gate.specs.Calls.{HasFinished}
 use Rattle.lr_gate.specs.Left.{unfinished_count}
 use Rattle.lr_gate.specs.Shows.{count_of}
-use Rattle.lr_gate.specs.Seats.{
-  cells_of,
-  workers_of,
-  IsConductorOf,
-  view_of,
-  put_count,
-  TakesOldest,
-  Helps,
-  SomeUnfinished,
-}
+use Rattle.lr_gate.specs.Seats.{cells_of, workers_of, IsConductorOf, view_of, put_count, TakesOldest, Helps}
+use Rattle.lr_gate.specs.Seats.{SomeUnfinished}
 use Rattle.lr_gate.specs.Steps.{after_put}
 use Rattle.lr_gate.specs.declared.gate.Conductor.{Conductor}
 use Rattle.lr_gate.specs.declared.gate.Gate.{Gate}
 use Rattle.lr_gate.specs.declared.view.View.{View}
 use Rattle.lr_rounds.specs.declared.job_source.NextJob.{NextJob}
-use Rattle.lr_rounds.specs.JobSources.{
-  Gives,
-  IsDoneNext,
-  MayGive,
-  MayKeep,
-  HasGivenNothing,
-  EndsWell,
-  GivesJob,
-  GivesNone,
-  Keeps,
-}
-use Rattle.lr_rounds.specs.Rounds.{rounds_left, SameJobs, KeepsNone, PutsNone, MayGoOn}
+use Rattle.lr_rounds.specs.JobSources.{Led, SourceTerms, led, Gives, IsDoneNext, MayGive, MayKeep, HasGivenNothing}
+use Rattle.lr_rounds.specs.JobSources.{EndsWell, GivesJob, GivesNone, Keeps}
+use Rattle.lr_rounds.specs.Rounds.{RoundState, round_state, rounds_left, SameJobs, KeepsNone, PutsNone, MayGoOn}
 use Rattle.lr_rounds.specs.declared.round.Traffic.{Traffic}
 use Rattle.lr_rounds.proofs.Left.{unfinished_more, unfinished_less}
 
@@ -43,68 +26,57 @@ pub done_next : {J D : Type 0} (gives : J → D) (n : ℕ) (v w : View J) (done 
 done_next gives n v w done takes = (takes.0, takes.1, takes.2)
 
 -- what the job source has to give, by its variant
-pub offered : {L J : Type 0} (stands : L → L → List J → ℕ → Type 0) (is_over : L → Type 0) (left : L → ℕ)
-    (before now : L) (offer variant : NextJob J) → offer ≡ variant
-    → ((start : L) (jobs : List J) (kept : ℕ) → stands start before jobs kept
-    → Gives stands is_over left jobs kept start before now offer)
-    → (start : L) (jobs : List J) (kept : ℕ) → stands start before jobs kept
-    → Gives stands is_over left jobs kept start before now variant
-offered {L} {J} stands is_over left before now offer variant is gives = λ start jobs kept so.
-    subst (λ (o : NextJob J). Gives stands is_over left jobs kept start before now o) is (gives start jobs kept so)
+pub offered : {L J Cause : Type 0} (terms : SourceTerms L J Cause) (before now : L) (offer variant : NextJob J)
+    → offer ≡ variant → ((so_far : Led L J) → terms.stands so_far before → Gives terms so_far before now offer)
+    → (so_far : Led L J) → terms.stands so_far before → Gives terms so_far before now variant
+offered terms before now offer variant is gives =
+    λ so_far so. subst (Gives terms so_far before now) is (gives so_far so)
 
-module _ {L W J D : Type 0} (stands : L → L → List J → ℕ → Type 0) (is_over : L → Type 0) (left : L → ℕ)
-    (gate : Gate W J D) {conductor : Conductor W J D} {traffic : Traffic} {entry before : L}
-    (may : MayGoOn stands is_over gate conductor traffic entry before) where
-  pub may_give : MayGive stands before
-  may_give = (
-    may.ready.0,
-    (view_of conductor).jobs,
-    (view_of conductor).taken,
-    may.led may.ready.0 may.ready.1,
-  )
+module _ {L W J D Cause : Type 0} (terms : SourceTerms L J Cause) (gate : Gate W J D) {entry : L}
+    {old : RoundState L W J D} (may : MayGoOn terms gate entry old) where
+  -- what was led so far, from a start on
+  abbrev so_far_from : L → Led L J
+  so_far_from start = led start (view_of old.conductor).jobs (view_of old.conductor).taken
+
+  pub may_give : MayGive terms old.source
+  may_give = (so_far_from may.ready.0, may.led_on may.ready.0 may.ready.1)
 
   pub may_keep : (gives : J → D) (done : D)
-      → IsDoneNext gives (view_of conductor).jobs (view_of conductor).taken done → MayKeep stands gives done before
-  may_keep gives done next = (
-    may.ready.0,
-    (view_of conductor).jobs,
-    (view_of conductor).taken,
-    may.led may.ready.0 may.ready.1,
-    next,
-  )
+      → IsDoneNext gives (view_of old.conductor).jobs (view_of old.conductor).taken done
+      → MayKeep terms gives done old.source
+  may_keep gives done next = (so_far_from may.ready.0, may.led_on may.ready.0 may.ready.1, next)
 
   -- ---- what came of a job was kept
 
   module _ (gives : J → D) (done : D) (conductor' : Conductor W J D) (traffic' : Traffic) (now : L)
-      (takes : TakesOldest gives (cells_of gate) (view_of conductor) (view_of conductor') done)
-      (keeps : (start : L) (jobs : List J) (kept : ℕ) → stands start before jobs kept
-      → IsDoneNext gives jobs kept done → Keeps stands is_over left jobs kept start before now)
-      (waiting : traffic'.waiting ≡ traffic.waiting - 1) (over : traffic'.over ≡ traffic.over) where
-    next : IsDoneNext gives (view_of conductor).jobs (view_of conductor).taken done
-    next = done_next gives (cells_of gate) (view_of conductor) (view_of conductor') done takes
+      (takes : TakesOldest gives (cells_of gate) (view_of old.conductor) (view_of conductor') done)
+      (keeps : (so_far : Led L J) → terms.stands so_far old.source
+      → IsDoneNext gives so_far.jobs so_far.kept done → Keeps terms so_far old.source now)
+      (waiting : traffic'.waiting ≡ old.traffic.waiting - 1) (over : traffic'.over ≡ old.traffic.over) where
+    next : IsDoneNext gives (view_of old.conductor).jobs (view_of old.conductor).taken done
+    next = done_next gives (cells_of gate) (view_of old.conductor) (view_of conductor') done takes
 
-    kept_from : (start : L) → HasGivenNothing stands start entry
-        → Keeps stands is_over left (view_of conductor).jobs (view_of conductor).taken start before now
-    kept_from start begins =
-        keeps start (view_of conductor).jobs (view_of conductor).taken (may.led start begins) next
+    kept_from : (start : L) → HasGivenNothing terms start entry → Keeps terms (so_far_from start) old.source now
+    kept_from start begins = keeps (so_far_from start) (may.led_on start begins) next
 
-    jobs_same : (view_of conductor').jobs ≡ (view_of conductor).jobs
+    jobs_same : (view_of conductor').jobs ≡ (view_of old.conductor).jobs
     jobs_same = ap (λ (v : View J). v.jobs) takes.3.1
 
-    taken_more : (view_of conductor').taken ≡ (view_of conductor).taken + 1
+    taken_more : (view_of conductor').taken ≡ (view_of old.conductor).taken + 1
     taken_more = ap (λ (v : View J). v.taken) takes.3.1
 
-    some_waiting : (view_of conductor).taken < put_count (view_of conductor)
-    some_waiting = at_length (view_of conductor).jobs (view_of conductor).taken takes.0 takes.1
+    some_waiting : (view_of old.conductor).taken < put_count (view_of old.conductor)
+    some_waiting = at_length (view_of old.conductor).jobs (view_of old.conductor).taken takes.0 takes.1
 
-    pub goes_on_kept : IsConductorOf gate conductor' → MayGoOn stands is_over gate conductor' traffic' entry now
+    pub goes_on_kept : IsConductorOf gate conductor' → MayGoOn terms gate entry (round_state conductor' traffic' now)
     goes_on_kept mine = record {
       mine = mine;
       running = ap (λ (v : View J). v.stopped) takes.3.1 ∙ may.running;
       ready = may.ready;
-      led = λ start begins.
-          subst (λ (jobs : List J). stands start now jobs (view_of conductor').taken) (sym jobs_same)
-          (subst (stands start now (view_of conductor).jobs) (sym taken_more) (kept_from start begins).one_more);
+      led_on = λ start begins.
+          subst (λ (jobs : List J). terms.stands (led start jobs (view_of conductor').taken) now) (sym jobs_same)
+          (subst (λ (kept : ℕ). terms.stands (led start (view_of old.conductor).jobs kept) now) (sym taken_more)
+          (kept_from start begins).one_more);
       waiting = omega (
         arith,
         waiting,
@@ -116,11 +88,11 @@ module _ {L W J D : Type 0} (stands : L → L → List J → ℕ → Type 0) (is
       over = λ said. (kept_from may.ready.0 may.ready.1).still_over (may.over (sym over ∙ said));
     }
 
-    pub fewer_kept : rounds_left left conductor' traffic' now < rounds_left left conductor traffic before
+    pub fewer_kept : rounds_left terms (round_state conductor' traffic' now) < rounds_left terms old
     fewer_kept = omega (
       arith,
       (kept_from may.ready.0 may.ready.1).no_more,
-      same_left (view_of conductor) (view_of conductor') jobs_same (ap (λ (v : View J). v.finished) takes.3.1),
+      same_left (view_of old.conductor) (view_of conductor') jobs_same (ap (λ (v : View J). v.finished) takes.3.1),
       ap (λ (l : List J). length l) jobs_same,
       taken_more,
       some_waiting,
@@ -129,43 +101,44 @@ module _ {L W J D : Type 0} (stands : L → L → List J → ℕ → Type 0) (is
 
   -- ---- a job was put
 
-  module _ (job : J) (now : L) (gives : (start : L) (jobs : List J) (kept : ℕ) → stands start before jobs kept
-      → GivesJob stands is_over left jobs kept start before now job) where
-    given_from : (start : L) → HasGivenNothing stands start entry
-        → GivesJob stands is_over left (view_of conductor).jobs (view_of conductor).taken start before now job
-    given_from start begins = gives start (view_of conductor).jobs (view_of conductor).taken (may.led start begins)
+  module _ (job : J) (now : L) (gives : (so_far : Led L J) → terms.stands so_far old.source
+      → GivesJob terms so_far old.source now job) where
+    given_from : (start : L) → HasGivenNothing terms start entry
+        → GivesJob terms (so_far_from start) old.source now job
+    given_from start begins = gives (so_far_from start) (may.led_on start begins)
 
-    pub few_put : put_count (view_of conductor) < MOST_JOBS
+    pub few_put : put_count (view_of old.conductor) < MOST_JOBS
     few_put = (given_from may.ready.0 may.ready.1).few
 
     module _ (conductor' : Conductor W J D) (traffic' : Traffic)
-        (is : view_of conductor' ≡ after_put (view_of conductor) job)
-        (waiting : traffic'.waiting ≡ traffic.waiting + 1) (over : traffic'.over ≡ traffic.over)
-        (going : traffic.over ≡ false) where
-      jobs_more : (view_of conductor').jobs ≡ (view_of conductor).jobs ++ job ∷ []
+        (is : view_of conductor' ≡ after_put (view_of old.conductor) job)
+        (waiting : traffic'.waiting ≡ old.traffic.waiting + 1) (over : traffic'.over ≡ old.traffic.over)
+        (going : old.traffic.over ≡ false) where
+      jobs_more : (view_of conductor').jobs ≡ (view_of old.conductor).jobs ++ job ∷ []
       jobs_more = ap (λ (v : View J). v.jobs) is
 
-      longer : put_count (view_of conductor') ≡ put_count (view_of conductor) + 1
-      longer = ap (λ (l : List J). length l) jobs_more ∙ length-append (view_of conductor).jobs (job ∷ [])
+      longer : put_count (view_of conductor') ≡ put_count (view_of old.conductor) + 1
+      longer = ap (λ (l : List J). length l) jobs_more ∙ length-append (view_of old.conductor).jobs (job ∷ [])
 
-      pub goes_on_put : IsConductorOf gate conductor' → MayGoOn stands is_over gate conductor' traffic' entry now
+      pub goes_on_put : IsConductorOf gate conductor' → MayGoOn terms gate entry (round_state conductor' traffic' now)
       goes_on_put mine = record {
         mine = mine;
         running = ap (λ (v : View J). v.stopped) is ∙ may.running;
         ready = may.ready;
-        led = λ start begins.
-            subst (stands start now (view_of conductor').jobs) (sym (ap (λ (v : View J). v.taken) is))
-            (subst (λ (jobs : List J). stands start now jobs (view_of conductor).taken) (sym jobs_more)
+        led_on = λ start begins.
+            subst (λ (kept : ℕ). terms.stands (led start (view_of conductor').jobs kept) now)
+            (sym (ap (λ (v : View J). v.taken) is))
+            (subst (λ (jobs : List J). terms.stands (led start jobs (view_of old.conductor).taken) now) (sym jobs_more)
             (given_from start begins).one_more);
         waiting = omega (arith, waiting, longer, ap (λ (v : View J). v.taken) is, may.waiting);
         over = λ said. absurd (let clash : false ≡ true = sym going ∙ sym over ∙ said in cc);
       }
 
-      pub fewer_put : rounds_left left conductor' traffic' now < rounds_left left conductor traffic before
+      pub fewer_put : rounds_left terms (round_state conductor' traffic' now) < rounds_left terms old
       fewer_put = omega (
         arith,
         (given_from may.ready.0 may.ready.1).fewer,
-        unfinished_more (view_of conductor) (view_of conductor') (ap (λ (v : View J). v.finished) is) job jobs_more,
+        unfinished_more (view_of old.conductor) (view_of conductor') (ap (λ (v : View J). v.finished) is) job jobs_more,
         longer,
         ap (λ (v : View J). v.taken) is,
         ap {B = ℕ} (λ (b : Bool). cond b 0 1) over,
@@ -173,90 +146,91 @@ module _ {L W J D : Type 0} (stands : L → L → List J → ℕ → Type 0) (is
 
   -- ---- no job was put
 
-  module _ (now : L) (same : (start : L) (jobs : List J) (kept : ℕ) → stands start before jobs kept
-      → GivesNone stands is_over left jobs kept start before now) where
-    none_from : (start : L) → HasGivenNothing stands start entry
-        → GivesNone stands is_over left (view_of conductor).jobs (view_of conductor).taken start before now
-    none_from start begins = same start (view_of conductor).jobs (view_of conductor).taken (may.led start begins)
+  module _ (now : L) (same : (so_far : Led L J) → terms.stands so_far old.source
+      → GivesNone terms so_far old.source now) where
+    none_from : (start : L) → HasGivenNothing terms start entry → GivesNone terms (so_far_from start) old.source now
+    none_from start begins = same (so_far_from start) (may.led_on start begins)
 
-    pub no_more : left now ≤ left before
+    pub no_more : terms.left now ≤ terms.left old.source
     no_more = (none_from may.ready.0 may.ready.1).no_more
 
-    stands_as_before : (traffic' : Traffic) → traffic'.waiting ≡ traffic.waiting
-        → (traffic'.over ≡ true → is_over now) → MayGoOn stands is_over gate conductor traffic' entry now
+    stands_as_before : (traffic' : Traffic) → traffic'.waiting ≡ old.traffic.waiting
+        → (traffic'.over ≡ true → terms.is_over now) → MayGoOn terms gate entry (round_state old.conductor traffic' now)
     stands_as_before traffic' waiting over = record {
       mine = may.mine;
       running = may.running;
       ready = may.ready;
-      led = λ start begins. (none_from start begins).same;
+      led_on = λ start begins. (none_from start begins).same;
       waiting = omega (arith, waiting, may.waiting);
       over = over;
     }
 
     -- none for now
-    pub goes_on_later : traffic.over ≡ false → MayGoOn stands is_over gate conductor traffic entry now
+    pub goes_on_later : old.traffic.over ≡ false → MayGoOn terms gate entry (round_state old.conductor old.traffic now)
     goes_on_later going =
-        stands_as_before traffic refl (λ said. absurd (let clash : false ≡ true = sym going ∙ said in cc))
+        stands_as_before old.traffic refl (λ said. absurd (let clash : false ≡ true = sym going ∙ said in cc))
 
     -- none from now on
-    pub goes_on_over : is_over now
-        → MayGoOn stands is_over gate conductor (record traffic { over = true }) entry now
-    goes_on_over ends = stands_as_before (record traffic { over = true }) refl (λ said. ends)
+    pub goes_on_over : terms.is_over now
+        → MayGoOn terms gate entry (round_state old.conductor (record old.traffic { over = true }) now)
+    goes_on_over ends = stands_as_before (record old.traffic { over = true }) refl (λ said. ends)
 
-    pub fewer_over : traffic.over ≡ false
-        → rounds_left left conductor (record traffic { over = true }) now < rounds_left left conductor traffic before
+    pub fewer_over : old.traffic.over ≡ false
+        → rounds_left terms (round_state old.conductor (record old.traffic { over = true }) now) < rounds_left terms old
     fewer_over going = omega (arith, no_more, ap {B = ℕ} (λ (b : Bool). cond b 0 1) going)
 
   -- ---- no job was put, and none taken
 
   pub goes_on_same : (conductor' : Conductor W J D) (traffic' : Traffic) (now : L) → IsConductorOf gate conductor'
-      → SameJobs (view_of conductor) (view_of conductor') → traffic' ≡ traffic → now ≡ before
-      → MayGoOn stands is_over gate conductor' traffic' entry now
+      → SameJobs (view_of old.conductor) (view_of conductor') → traffic' ≡ old.traffic → now ≡ old.source
+      → MayGoOn terms gate entry (round_state conductor' traffic' now)
   goes_on_same conductor' traffic' now mine same same_traffic same_source =
-      subst (λ (t : Traffic). MayGoOn stands is_over gate conductor' t entry now) (sym same_traffic)
-      (subst (MayGoOn stands is_over gate conductor' traffic entry) (sym same_source) (record {
+      subst (λ (t : Traffic). MayGoOn terms gate entry (round_state conductor' t now)) (sym same_traffic)
+      (subst (λ (l : L). MayGoOn terms gate entry (round_state conductor' old.traffic l)) (sym same_source) (record {
         mine = mine;
         running = same.stopped ∙ may.running;
         ready = may.ready;
-        led = λ start begins.
-            subst (λ (jobs : List J). stands start before jobs (view_of conductor').taken) (sym same.jobs)
-            (subst (stands start before (view_of conductor).jobs) (sym same.taken) (may.led start begins));
+        led_on = λ start begins.
+            subst (λ (jobs : List J). terms.stands (led start jobs (view_of conductor').taken) old.source)
+            (sym same.jobs) (subst (λ (kept : ℕ). terms.stands (led start (view_of old.conductor).jobs kept) old.source)
+            (sym same.taken) (may.led_on start begins));
         waiting = omega (arith, same.taken, may.waiting, ap (λ (l : List J). length l) same.jobs);
         over = may.over;
       }))
 
   -- ---- the end
 
-  pub ends_well : traffic.over ≡ true → traffic.waiting ≡ 0 → (start : L) → HasGivenNothing stands start entry
-      → EndsWell stands is_over start before
+  pub ends_well : old.traffic.over ≡ true → old.traffic.waiting ≡ 0 → (start : L) → HasGivenNothing terms start entry
+      → EndsWell terms start old.source
   ends_well said none start begins = record {
-    jobs = (view_of conductor).jobs;
-    all_kept = subst (stands start before (view_of conductor).jobs)
-        (let all : (view_of conductor).taken ≡ length (view_of conductor).jobs =
+    jobs = (view_of old.conductor).jobs;
+    all_kept = subst (λ (kept : ℕ). terms.stands (led start (view_of old.conductor).jobs kept) old.source)
+        (let all : (view_of old.conductor).taken ≡ length (view_of old.conductor).jobs =
         omega (arith, none, may.waiting) in all)
-        (may.led start begins);
+        (may.led_on start begins);
     over = may.over said;
   }
 
 -- ---- a round in which neither the job source kept nor gave anything
 
-module _ {L W J D : Type 0} (left : L → ℕ) (gate : Gate W J D) {first second third : Conductor W J D}
-    {traffic again last : Traffic} {before mid now : L}
-    (kept : KeepsNone gate first second traffic again before mid)
-    (put : PutsNone left second third again last mid now) where
+module _ {L W J D Cause : Type 0} (terms : SourceTerms L J Cause) (gate : Gate W J D)
+    {first second third : RoundState L W J D} (kept : KeepsNone gate first second)
+    (put : PutsNone terms second third) where
+  third_is : view_of third.conductor ≡ view_of second.conductor
+  third_is = ap (λ (k : Conductor W J D). view_of k) put.same
+
   -- a job was done
   pub fewer_helped : (n : ℕ) (fourth : Conductor W J D) (did : Bool)
-      → Helps n (view_of third) (view_of fourth) did → did ≡ true
-      → rounds_left left fourth last now < rounds_left left first traffic before
+      → Helps n (view_of third.conductor) (view_of fourth) did → did ≡ true
+      → rounds_left terms (round_state fourth third.traffic third.source) < rounds_left terms first
   fewer_helped n fourth did helps is =
-      let done : Helps n (view_of third) (view_of fourth) true =
-      subst (Helps n (view_of third) (view_of fourth)) is helps in
-      let third_is : view_of third ≡ view_of second = ap (λ (k : Conductor W J D). view_of k) put.same in
+      let done : Helps n (view_of third.conductor) (view_of fourth) true =
+      subst (Helps n (view_of third.conductor) (view_of fourth)) is helps in
       omega (
         arith,
-        unfinished_less n (view_of third) (view_of fourth) done,
+        unfinished_less n (view_of third.conductor) (view_of fourth) done,
         ap (λ (v : View J). unfinished_count v) third_is,
-        same_left (view_of first) (view_of second) kept.same.jobs kept.finished,
+        same_left (view_of first.conductor) (view_of second.conductor) kept.same.jobs kept.finished,
         ap (λ (v : View J). length v.jobs) done.2,
         ap (λ (v : View J). v.taken) done.2,
         ap (λ (v : View J). length v.jobs) third_is,
@@ -264,35 +238,32 @@ module _ {L W J D : Type 0} (left : L → ℕ) (gate : Gate W J D) {first second
         ap (λ (l : List J). length l) kept.same.jobs,
         kept.same.taken,
         put.no_more,
-        ap left kept.same_source,
+        ap terms.left kept.same_source,
         ap {B = ℕ} (λ (t : Traffic). cond t.over 0 1) put.same_traffic,
         ap {B = ℕ} (λ (t : Traffic). cond t.over 0 1) kept.same_traffic,
       )
 
   -- where no one else works, some job can be done
-  pub never_waits : workers_of gate ≡ 0 → (did : Bool) → IsTrue did ↔ SomeUnfinished (view_of third) → did ≡ false
-      → (view_of first).taken < put_count (view_of first) → ⊥
+  pub never_waits : workers_of gate ≡ 0 → (did : Bool) → IsTrue did ↔ SomeUnfinished (view_of third.conductor)
+      → did ≡ false → (view_of first.conductor).taken < put_count (view_of first.conductor) → ⊥
   never_waits alone did iff none some_left =
-      let third_is : view_of third ≡ view_of second = ap (λ (k : Conductor W J D). view_of k) put.same in
-      let open_job : ¬ HasFinished (view_of first) (view_of first).taken = ⊎_elim
-      (λ (e : put_count (view_of first) ≡ (view_of first).taken). absurd (omega (arith, e, some_left)))
-      (λ u. u) (kept.alone alone) in
-      let unfinished : SomeUnfinished (view_of second) = (
-        (view_of first).taken,
-        subst (λ (l : List J). (view_of first).taken < length l) (sym kept.same.jobs) some_left,
-        λ fin. open_job (subst (λ (l : List ℕ). count_of (view_of first).taken l ≢ 0) kept.finished fin),
+      let open_job : ¬ HasFinished (view_of first.conductor) (view_of first.conductor).taken = ⊎_elim
+      (λ (e : put_count (view_of first.conductor) ≡ (view_of first.conductor).taken).
+      absurd (omega (arith, e, some_left))) (λ u. u) (kept.alone alone) in
+      let unfinished : SomeUnfinished (view_of second.conductor) = (
+        (view_of first.conductor).taken,
+        subst (λ (l : List J). (view_of first.conductor).taken < length l) (sym kept.same.jobs) some_left,
+        λ fin. open_job (subst (λ (l : List ℕ). count_of (view_of first.conductor).taken l ≢ 0) kept.finished fin),
       ) in
       let yes : did ≡ true = iff.1 (subst (λ (v : View J). SomeUnfinished v) (sym third_is) unfinished) in
       let clash : false ≡ true = sym none ∙ yes in cc
 
 -- a job was put, or none: no more is left to do
-pub none_more : {L W J D : Type 0} (left : L → ℕ) (first second : Conductor W J D) (traffic again : Traffic)
-    (before now : L) (did : Bool)
-    → (did ≡ true → rounds_left left second again now < rounds_left left first traffic before)
-    → (did ≡ false → PutsNone left first second traffic again before now)
-    → rounds_left left second again now ≤ rounds_left left first traffic before
-none_more left first second traffic again before now true fewer none = let less = fewer refl in omega (arith, less)
-none_more {L} {W} {J} {D} left first second traffic again before now false fewer none =
+pub none_more : {L W J D Cause : Type 0} (terms : SourceTerms L J Cause) (old new : RoundState L W J D) (did : Bool)
+    → (did ≡ true → rounds_left terms new < rounds_left terms old) → (did ≡ false → PutsNone terms old new)
+    → rounds_left terms new ≤ rounds_left terms old
+none_more terms old new true fewer none = let less = fewer refl in omega (arith, less)
+none_more {L} {W} {J} {D} terms old new false fewer none =
     let put = none refl in
     omega (
       arith,

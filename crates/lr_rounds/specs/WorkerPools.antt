@@ -14,13 +14,13 @@ pub record PoolView : Type 0 where
 abbrev pub pool_with : ℕ → PoolView
 pool_with seats = record { seats = seats; cells = 2 * (seats + 1) + 2 }
 
--- The ring is empty and has these cells. Each of its workers has a seat and a work
+-- The ring is empty and has the pool's cells. Each of its workers has a seat and a work
 pub record IsFreshRing {W J D : Type 0} (gate : Gate W J D) (conductor : Conductor W J D)
-    (seats : List (WorkerSeat W J D)) (seat_count work_count cells : ℕ) : Type 0 where
-  pub size : cells_of gate ≡ cells
-  pub some : 0 < cells
+    (seats : List (WorkerSeat W J D)) (work_count : ℕ) (pool : PoolView) : Type 0 where
+  pub size : cells_of gate ≡ pool.cells
+  pub some : 0 < pool.cells
   pub conductor_is : IsConductorOf gate conductor
   pub empty : view_of conductor ≡ opening_view (workers_of gate)
   pub seats_are : All (IsSeatOf gate) seats
-  pub as_many : seat_count ≡ workers_of gate
+  pub as_many : pool.seats ≡ workers_of gate
   pub works_are : work_count ≡ workers_of gate

@@ -18,12 +18,12 @@ fn go_alone<W: Work, L: JobSource<W>>(
     cells: u32,
     source: &mut L,
 ) -> Result<(), L::Cause>
-    requires going { MayRound L.stands L.is_over cells gate.now conductor.old source.old }
+    requires going { MayRound L.terms cells gate.now conductor.old source.old }
     requires alone { workers_of gate.now ≡ 0 }
-    ensures all { (start : L) → HasGivenNothing L.stands start source.old
-        → IfOk result (λ _. EndsWell L.stands L.is_over start source.new) }
-    ensures stopped { (start : L) → HasGivenNothing L.stands start source.old
-        → IfErr result (λ cause. L.stopped start cause source.new) }
+    ensures all { (start : L) → HasGivenNothing L.terms start source.old
+        → IfOk result (λ _. EndsWell L.terms start source.new) }
+    ensures stopped { (start : L) → HasGivenNothing L.terms start source.old
+        → IfErr result (λ cause. L.terms.stopped start cause source.new) }
 {
     let mut traffic = Traffic {
         waiting: 0,
@@ -45,11 +45,11 @@ pub fn drive_alone<W: Work + Drop, L: JobSource<W>>(
     source: &mut L,
 ) -> Result<(), L::Cause>
     requires alone { pool.seats ≡ 0 }
-    requires ready { (start : L) × HasGivenNothing L.stands start source.old }
-    ensures all { (start : L) → HasGivenNothing L.stands start source.old
-        → IfOk result (λ _. EndsWell L.stands L.is_over start source.new) }
-    ensures stopped { (start : L) → HasGivenNothing L.stands start source.old
-        → IfErr result (λ cause. L.stopped start cause source.new) }
+    requires ready { (start : L) × HasGivenNothing L.terms start source.old }
+    ensures all { (start : L) → HasGivenNothing L.terms start source.old
+        → IfOk result (λ _. EndsWell L.terms start source.new) }
+    ensures stopped { (start : L) → HasGivenNothing L.terms start source.old
+        → IfErr result (λ cause. L.terms.stopped start cause source.new) }
 {
     let WorkerPool {
         gate,

@@ -1,7 +1,7 @@
 //! A job source is led with workers beside the caller.
 ghost use Rattle.std.specs.Prelude.{◌≡◌, IfOk, IfErr};
 ghost use Rattle.lr_rounds.specs.JobSources.{HasGivenNothing, EndsWell, IsDriveFault};
-ghost use Rattle.lr_rounds.specs.Rounds.{MayRound, HasRounded};
+ghost use Rattle.lr_rounds.specs.Rounds.{IsRunning, MayRound, HasRounded};
 
 use crate::alone::drive_alone;
 use crate::drive_fault::DriveFault;
@@ -25,8 +25,9 @@ fn go_on<R: Wait, W: Work, L: JobSource<W>>(
     cells: u32,
     source: &mut L,
 ) -> Result<(), L::Cause>
-    requires { MayRound L.stands L.is_over cells gate.now conductor.old source.old }
-    ensures { HasRounded L.stands L.is_over L.stopped gate.now conductor.new result source.old source.new }
+    requires { MayRound L.terms cells gate.now conductor.old source.old }
+    ensures running { IsRunning gate.now conductor.new }
+    ensures rounds { HasRounded L.terms result source.old source.new }
 {
     let mut traffic = Traffic {
         waiting: 0,
@@ -61,15 +62,15 @@ where
     ghost use Rattle.lr_rounds.specs.JobSources.{HasGivenNothing, EndsWell};
     ghost use Rattle.lr_rounds.specs.Rounds.{MayConduct};
 
-    ghost needs = { λ body conductor. MayConduct L.stands L.is_over L.stopped conductor body.source.now
+    ghost needs = { λ body conductor. MayConduct L.terms conductor body.source.now
         (F.pre body.make_rounds) (F.post body.make_rounds) };
 
     ghost conducts = { λ body before after. record {
       same : after.body.source.ghost_name ≡ body.source.ghost_name;
-      all : (start : L) → HasGivenNothing L.stands start body.source.now
-          → IfOk after.answer (λ _. EndsWell L.stands L.is_over start after.body.source.now);
-      stopped : (start : L) → HasGivenNothing L.stands start body.source.now
-          → IfErr after.answer (λ cause. L.stopped start cause after.body.source.now);
+      all : (start : L) → HasGivenNothing L.terms start body.source.now
+          → IfOk after.answer (λ _. EndsWell L.terms start after.body.source.now);
+      stopped : (start : L) → HasGivenNothing L.terms start body.source.now
+          → IfErr after.answer (λ cause. L.terms.stopped start cause after.body.source.now);
     } };
 
     /// Makes rounds until the job source is over, or stops.
@@ -101,11 +102,11 @@ pub fn drive_beside<R: Threads + Wait + Sync, W: Work + Send + Drop, L: JobSourc
     pool: WorkerPool<W>,
     source: &mut L,
 ) -> Result<(), DriveFault<L::Cause>>
-    requires { (start : L) × HasGivenNothing L.stands start source.old }
-    ensures all { (start : L) → HasGivenNothing L.stands start source.old
-        → IfOk result (λ _. EndsWell L.stands L.is_over start source.new) }
-    ensures undriven { (start : L) → HasGivenNothing L.stands start source.old
-        → IfErr result (λ why. IsDriveFault L.stopped why start source.old source.new) }
+    requires { (start : L) × HasGivenNothing L.terms start source.old }
+    ensures all { (start : L) → HasGivenNothing L.terms start source.old
+        → IfOk result (λ _. EndsWell L.terms start source.new) }
+    ensures undriven { (start : L) → HasGivenNothing L.terms start source.old
+        → IfErr result (λ why. IsDriveFault L.terms why start source.old source.new) }
 {
     let WorkerPool {
         gate,
@@ -122,9 +123,8 @@ pub fn drive_beside<R: Threads + Wait + Sync, W: Work + Send + Drop, L: JobSourc
             (),
             L::Cause,
         >
-            requires { MayRound L.stands L.is_over cells ring.now conductor.old source.old }
-            ensures { HasRounded L.stands L.is_over L.stopped ring.entry.now conductor.new result source.old
-                source.new }
+            requires { MayRound L.terms cells ring.now conductor.old source.old }
+            ensures { IsRunning ring.entry.now conductor.new × HasRounded L.terms result source.old source.new }
         { go_on(rt, ring, conductor, own, cells, source) },
     };
     match with_pool(rt, ring, conductor, seats, works, own, body) {
@@ -174,11 +174,11 @@ pub fn drive<R: Threads + Wait + Sync, W: Work + Send + Drop, L: JobSource<W>>(
     pool: WorkerPool<W>,
     source: &mut L,
 ) -> Result<(), DriveFault<L::Cause>>
-    requires { (start : L) × HasGivenNothing L.stands start source.old }
-    ensures all { (start : L) → HasGivenNothing L.stands start source.old
-        → IfOk result (λ _. EndsWell L.stands L.is_over start source.new) }
-    ensures undriven { (start : L) → HasGivenNothing L.stands start source.old
-        → IfErr result (λ why. IsDriveFault L.stopped why start source.old source.new) }
+    requires { (start : L) × HasGivenNothing L.terms start source.old }
+    ensures all { (start : L) → HasGivenNothing L.terms start source.old
+        → IfOk result (λ _. EndsWell L.terms start source.new) }
+    ensures undriven { (start : L) → HasGivenNothing L.terms start source.old
+        → IfErr result (λ why. IsDriveFault L.terms why start source.old source.new) }
 {
     if !pool.is_alone() {
         return drive_beside(rt, pool, source);

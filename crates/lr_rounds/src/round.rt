@@ -8,9 +8,10 @@ ghost use Rattle.lr_rounds.specs.Rounds.{
   KeepsNone,
   PutsNone,
   PutsOneOrNone,
-  PutsLast,
+  PutsAfterLooking,
   TakesOne,
   rounds_left,
+  round_state,
 };
 ghost use Rattle.lr_rounds.specs.declared.round.Round.TheVariants.{Worked, Waits};
 
@@ -44,19 +45,20 @@ fn keep_oldest<W: Work, L: JobSource<W>>(
     source: &mut L,
     traffic: &mut Traffic,
 ) -> Result<bool, L::Cause>
-    requires { (entry : L) × MayGoOn L.stands L.is_over gate.now conductor.old traffic.old entry source.old }
+    requires { (entry : L) × MayGoOn L.terms gate.now entry (round_state conductor.old traffic.old source.old) }
     ensures mine { IsConductorOf gate.now conductor.new }
     ensures running { (view_of conductor.new).stopped ≡ false }
-    ensures goes { (entry : L) → MayGoOn L.stands L.is_over gate.now conductor.old traffic.old entry source.old
-        → IfOk result (λ _. MayGoOn L.stands L.is_over gate.now conductor.new traffic.new entry source.new) }
-    ensures stops { (entry : L) → MayGoOn L.stands L.is_over gate.now conductor.old traffic.old entry source.old
-        → IfErr result (λ cause. RoundStops L.stands L.stopped cause entry source.new) }
+    ensures goes { (entry : L) → MayGoOn L.terms gate.now entry (round_state conductor.old traffic.old source.old)
+        → IfOk result (λ _. MayGoOn L.terms gate.now entry (round_state conductor.new traffic.new source.new)) }
+    ensures stops { (entry : L) → MayGoOn L.terms gate.now entry (round_state conductor.old traffic.old source.old)
+        → IfErr result (λ cause. RoundStops L.terms cause entry source.new) }
     ensures fewer { IfOk result (λ did. did ≡ true
-        → rounds_left L.left conductor.new traffic.new source.new
-        < rounds_left L.left conductor.old traffic.old source.old) }
+        → rounds_left L.terms (round_state conductor.new traffic.new source.new)
+        < rounds_left L.terms (round_state conductor.old traffic.old source.old)) }
     ensures one { IfOk result (λ did. did ≡ true → TakesOne (view_of conductor.old) (view_of conductor.new)) }
     ensures none { IfOk result (λ did. did ≡ false
-        → KeepsNone gate.now conductor.old conductor.new traffic.old traffic.new source.old source.new) }
+        → KeepsNone gate.now (round_state conductor.old traffic.old source.old)
+        (round_state conductor.new traffic.new source.new)) }
 {
     let Some(done) = conductor.take(gate) else {
         return Ok(false);
@@ -75,21 +77,22 @@ fn put_next<W: Work, L: JobSource<W>>(
     source: &mut L,
     traffic: &mut Traffic,
 ) -> Result<bool, L::Cause>
-    requires going { (entry : L) × MayGoOn L.stands L.is_over gate.now conductor.old traffic.old entry source.old }
+    requires going { (entry : L) × MayGoOn L.terms gate.now entry (round_state conductor.old traffic.old source.old) }
     requires cells { cells ≡ cells_of gate.now }
     requires some { 0 < cells }
     ensures mine { IsConductorOf gate.now conductor.new }
     ensures running { (view_of conductor.new).stopped ≡ false }
-    ensures goes { (entry : L) → MayGoOn L.stands L.is_over gate.now conductor.old traffic.old entry source.old
-        → IfOk result (λ _. MayGoOn L.stands L.is_over gate.now conductor.new traffic.new entry source.new) }
-    ensures stops { (entry : L) → MayGoOn L.stands L.is_over gate.now conductor.old traffic.old entry source.old
-        → IfErr result (λ cause. RoundStops L.stands L.stopped cause entry source.new) }
+    ensures goes { (entry : L) → MayGoOn L.terms gate.now entry (round_state conductor.old traffic.old source.old)
+        → IfOk result (λ _. MayGoOn L.terms gate.now entry (round_state conductor.new traffic.new source.new)) }
+    ensures stops { (entry : L) → MayGoOn L.terms gate.now entry (round_state conductor.old traffic.old source.old)
+        → IfErr result (λ cause. RoundStops L.terms cause entry source.new) }
     ensures fewer { IfOk result (λ did. did ≡ true
-        → rounds_left L.left conductor.new traffic.new source.new
-        < rounds_left L.left conductor.old traffic.old source.old) }
+        → rounds_left L.terms (round_state conductor.new traffic.new source.new)
+        < rounds_left L.terms (round_state conductor.old traffic.old source.old)) }
     ensures one { OnOk result (PutsOneOrNone (view_of conductor.old) (view_of conductor.new)) }
     ensures none { IfOk result (λ did. did ≡ false
-        → PutsNone L.left conductor.old conductor.new traffic.old traffic.new source.old source.new) }
+        → PutsNone L.terms (round_state conductor.old traffic.old source.old)
+        (round_state conductor.new traffic.new source.new)) }
 {
     if traffic.over || traffic.waiting >= cells {
         return Ok(false);
@@ -120,19 +123,19 @@ fn refill<W: Work, L: JobSource<W>>(
     source: &mut L,
     traffic: &mut Traffic,
 ) -> Result<(), L::Cause>
-    requires going { (entry : L) × MayGoOn L.stands L.is_over gate.now conductor.old traffic.old entry source.old }
+    requires going { (entry : L) × MayGoOn L.terms gate.now entry (round_state conductor.old traffic.old source.old) }
     requires cells { cells ≡ cells_of gate.now }
     requires some { 0 < cells }
     ensures mine { IsConductorOf gate.now conductor.new }
     ensures running { (view_of conductor.new).stopped ≡ false }
-    ensures goes { (entry : L) → MayGoOn L.stands L.is_over gate.now conductor.old traffic.old entry source.old
-        → OnOk result (MayGoOn L.stands L.is_over gate.now conductor.new traffic.new entry source.new) }
-    ensures stops { (entry : L) → MayGoOn L.stands L.is_over gate.now conductor.old traffic.old entry source.old
-        → IfErr result (λ cause. RoundStops L.stands L.stopped cause entry source.new) }
+    ensures goes { (entry : L) → MayGoOn L.terms gate.now entry (round_state conductor.old traffic.old source.old)
+        → OnOk result (MayGoOn L.terms gate.now entry (round_state conductor.new traffic.new source.new)) }
+    ensures stops { (entry : L) → MayGoOn L.terms gate.now entry (round_state conductor.old traffic.old source.old)
+        → IfErr result (λ cause. RoundStops L.terms cause entry source.new) }
     ensures one { OnOk result (PutsOneOrNone (view_of conductor.old) (view_of conductor.new)) }
-    ensures unasked { OnOk result ((L.at_once source.old ≡ true) ⊎ (conductor.new ≡ conductor.old)) }
-    ensures no_more { OnOk result (rounds_left L.left conductor.new traffic.new source.new
-        ≤ rounds_left L.left conductor.old traffic.old source.old) }
+    ensures unasked { OnOk result ((L.terms.at_once source.old ≡ true) ⊎ (conductor.new ≡ conductor.old)) }
+    ensures no_more { OnOk result (rounds_left L.terms (round_state conductor.new traffic.new source.new)
+        ≤ rounds_left L.terms (round_state conductor.old traffic.old source.old)) }
 {
     if !source.gives_at_once() {
         return Ok(());
@@ -151,19 +154,19 @@ pub(crate) fn next_round<W: Work, L: JobSource<W>>(
     source: &mut L,
     traffic: &mut Traffic,
 ) -> Result<Round, L::Cause>
-    requires going { (entry : L) × MayGoOn L.stands L.is_over gate.now conductor.old traffic.old entry source.old }
+    requires going { (entry : L) × MayGoOn L.terms gate.now entry (round_state conductor.old traffic.old source.old) }
     requires cells { cells ≡ cells_of gate.now }
     requires some { 0 < cells }
     ensures mine { IsConductorOf gate.now conductor.new }
     ensures running { (view_of conductor.new).stopped ≡ false }
-    ensures goes { (entry : L) → MayGoOn L.stands L.is_over gate.now conductor.old traffic.old entry source.old
-        → IfOk result (λ round. Goes L.stands L.is_over gate.now round conductor.new traffic.new entry source.new) }
-    ensures stops { (entry : L) → MayGoOn L.stands L.is_over gate.now conductor.old traffic.old entry source.old
-        → IfErr result (λ cause. RoundStops L.stands L.stopped cause entry source.new) }
+    ensures goes { (entry : L) → MayGoOn L.terms gate.now entry (round_state conductor.old traffic.old source.old)
+        → IfOk result (λ round. Goes L.terms gate.now entry (round_state conductor.new traffic.new source.new) round) }
+    ensures stops { (entry : L) → MayGoOn L.terms gate.now entry (round_state conductor.old traffic.old source.old)
+        → IfErr result (λ cause. RoundStops L.terms cause entry source.new) }
     ensures fewer { IfOk result (λ round. round ≡ Worked
-        → rounds_left L.left conductor.new traffic.new source.new
-        < rounds_left L.left conductor.old traffic.old source.old) }
-    ensures puts_last { OnOk result (PutsLast cells ((wanting : L) × (L.at_once wanting ≡ true))
+        → rounds_left L.terms (round_state conductor.new traffic.new source.new)
+        < rounds_left L.terms (round_state conductor.old traffic.old source.old)) }
+    ensures puts_last { OnOk result (PutsAfterLooking cells ((wanting : L) × (L.terms.at_once wanting ≡ true))
         (view_of conductor.old) (view_of conductor.new)) }
     ensures alone { workers_of gate.now ≡ 0 → IfOk result (λ round. round ≢ Waits) }
 {

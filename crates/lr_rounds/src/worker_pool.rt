@@ -26,8 +26,8 @@ impl<W: Work> Model for WorkerPool<W> {
 
     ghost view = { λ c. record { seats = vec_len c.seats; cells = c.cells } };
 
-    ghost invariant = { λ c. IsFreshRing c.gate c.conductor c.seats.items (vec_len c.seats)
-        (vec_len c.works) c.cells };
+    ghost invariant = { λ c. IsFreshRing c.gate c.conductor c.seats.items (vec_len c.works)
+        (record { seats = vec_len c.seats; cells = c.cells }) };
 }
 
 impl<W: Work + Drop> WorkerPool<W> {

@@ -1,33 +1,11 @@
 -- Where a codeword lies within sixteen places of a word: what each step of restoring finds.
-use Rattle.std.proofs.Common.{
-  ◌≡◌,
-  ◌≢◌,
-  ℕ,
-  zero,
-  suc,
-  refl,
-  ◌+◌,
-  ◌-◌,
-  ◌*◌,
-  ◌<◌,
-  ◌≤◌,
-  List,
-  [],
-  ◌∷◌,
-  length,
-  get_or,
-  slice_index,
-  sym,
-  ap,
-  ◌∙◌,
-  arith,
-  inl,
-  inr,
-}
+use Rattle.std.proofs.Common.{◌≡◌, ◌≢◌, ℕ, zero, suc, refl, ◌+◌, ◌-◌, ◌*◌, ◌<◌, ◌≤◌, List, [], ◌∷◌, length, get_or}
+use Rattle.std.proofs.Common.{slice_index, sym, ap, ◌∙◌, arith, inl, inr}
 use Rattle.std.specs.Int.Bits.{bit_xor, xor_lt}
 use Rattle.std.proofs.lemmas.Bool.{cases_eq}
 use Rattle.lr_gf.specs.Dual.{conventional_of}
 use Rattle.lr_gf.specs.Field.{times, power, value_of}
+use Rattle.lr_gf.specs.Sums.{sum_of}
 use Rattle.lr_gf.specs.Systems.{IsInKernel, IsSolution}
 use Rattle.lr_gf.proofs.Laws.{below}
 use Rattle.lr_gf.proofs.SumLaws.{sum_of-same}
@@ -60,43 +38,40 @@ pub record Found (w cs ps : List ℕ) (count : ℕ) (s : ℕ → ℕ) (key : ℕ
   pub list : IsRootList cs WORD_BYTES count ps
   pub few : count ≤ 16
 
-off_roots : (w c cs ps : List ℕ) (count : ℕ) (s : ℕ → ℕ) (key : ℕ → ℕ → ℕ) → Found w cs ps count s key → IsRestored w c
-    → (p : ℕ) → p < WORD_BYTES → value_of cs (locator p) ≢ 0 → difference w c p ≡ 0
-off_roots w c cs ps count s key f r p h ne =
-    elim (cases_eq (difference w c p) 0) [
-      | inl e ↦ e
-      | inr differs ↦ absurd (ne (error_is_root cs (difference w c) s f.long (λ q k. value-lt cs (locator q))
-          (λ q k. difference-lt w c q)
-          (omega (arith, weight-distance WORD_BYTES w c, r.near))
-          (λ j k. f.values j k ∙ syndromes_of_difference w c r.is_codeword j k)
-          (λ i hi.
-          sum_of-same 17 (λ k. times (s (i + (16 - k))) (get_or cs k 0)) (λ k. times (key i k) (get_or cs k 0))
-          (λ k hk. ap (λ z. times z (get_or cs k 0)) (sym (f.filled i k hi hk)))
-          ∙ f.kernel.sent i hi)
-          p h differs))
-    ]
+module _ {w c cs ps : List ℕ} {count : ℕ} {s : ℕ → ℕ} {key : ℕ → ℕ → ℕ} (f : Found w cs ps count s key)
+    (r : IsRestored w c) where
+  differences : (j : ℕ) → j < CHECK_BYTES → s j ≡ sum_of WORD_BYTES (λ p. times (difference w c p)
+      (power (locator p) (112 + j)))
+  differences j k = f.values j k ∙ syndromes_of_difference w c r.is_codeword j k
 
-pub there_is_a_solution : (w c cs ps : List ℕ) (count : ℕ) (s : ℕ → ℕ) (key m : ℕ → ℕ → ℕ)
-    → Found w cs ps count s key → IsRestored w c
-    → HasEquations count ps s m → IsSolution count m (λ l. difference w c (get_or ps l 0))
-there_is_a_solution w c cs ps count s key m f r q =
-    error_values_solve cs ps count (difference w c) s m f.few f.list (off_roots w c cs ps count s key f r)
-    (λ j k. f.values j k ∙ syndromes_of_difference w c r.is_codeword j k) q
+  off_roots : (p : ℕ) → p < WORD_BYTES → value_of cs (locator p) ≢ 0 → difference w c p ≡ 0
+  off_roots p h ne =
+      elim (cases_eq (difference w c p) 0) [
+        | inl e ↦ e
+        | inr differs ↦ absurd (ne (error_is_root cs (difference w c) s f.long (λ q k. value-lt cs (locator q))
+            (λ q k. difference-lt w c q) (omega (arith, weight-distance WORD_BYTES w c, r.near)) differences
+            (λ i hi.
+            sum_of-same 17 (λ k. times (s (i + (16 - k))) (get_or cs k 0)) (λ k. times (key i k) (get_or cs k 0))
+            (λ k hk. ap (λ z. times z (get_or cs k 0)) (sym (f.filled i k hi hk)))
+            ∙ f.kernel.sent i hi)
+            p h differs))
+      ]
 
-pub it_is_the_codeword : (w c cs ps ys fixed : List ℕ) (count : ℕ) (s : ℕ → ℕ) (key m : ℕ → ℕ → ℕ)
-    → Found w cs ps count s key → IsRestored w c
-    → HasEquations count ps s m → IsSolution count m (slice_index ys) → ((k : ℕ) → slice_index ys k < 256)
-    → IsWord fixed
-    → ((l : ℕ) → l < count → conventional_of (slice_index fixed (slice_index ps l))
-    ≡ bit_xor (conventional_of (slice_index w (slice_index ps l))) (slice_index ys l))
-    → ((p : ℕ) → ((l : ℕ) → l < count → slice_index ps l ≢ p) → slice_index fixed p ≡ slice_index w p) → fixed ≡ c
-it_is_the_codeword w c cs ps ys fixed count s key m f r q sol small word changed kept =
-    corrected_is w fixed c cs ps count (slice_index ys) word r.is_word f.list (off_roots w c cs ps count s key f r)
-    (solution_is_error_values cs ps count (difference w c) s (slice_index ys) m f.few f.list
-    (off_roots w c cs ps count s key f r)
-    (λ j k. f.values j k ∙ syndromes_of_difference w c r.is_codeword j k) q (λ p k. difference-lt w c p)
-    (λ l k. small l) sol)
-    changed kept
+  module _ {m : ℕ → ℕ → ℕ} (q : HasEquations count ps s m) where
+    pub there_is_a_solution : IsSolution count m (λ l. difference w c (get_or ps l 0))
+    there_is_a_solution = error_values_solve cs ps count (difference w c) s m f.few f.list off_roots differences q
+
+    pub it_is_the_codeword : (ys fixed : List ℕ) → IsSolution count m (slice_index ys)
+        → ((k : ℕ) → slice_index ys k < 256) → IsWord fixed
+        → ((l : ℕ) → l < count → conventional_of (slice_index fixed (slice_index ps l))
+        ≡ bit_xor (conventional_of (slice_index w (slice_index ps l))) (slice_index ys l))
+        → ((p : ℕ) → ((l : ℕ) → l < count → slice_index ps l ≢ p) → slice_index fixed p ≡ slice_index w p)
+        → fixed ≡ c
+    it_is_the_codeword ys fixed sol small word changed kept =
+        corrected_is w fixed c cs ps count (slice_index ys) word r.is_word f.list off_roots
+        (solution_is_error_values cs ps count (difference w c) s (slice_index ys) m f.few f.list off_roots differences q
+        (λ p k. difference-lt w c p) (λ l k. small l) sol)
+        changed kept
 
 -- a word doesn't differ from itself
 pub distance-self : (n : ℕ) (a : List ℕ) → distance n a a ≡ 0

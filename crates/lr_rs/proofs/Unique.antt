@@ -1,23 +1,6 @@
 -- Two codewords that differ in at most 32 places are equal.
-use Rattle.std.proofs.Common.{
-  ◌≡◌,
-  ℕ,
-  zero,
-  suc,
-  ◌+◌,
-  ◌-◌,
-  ◌*◌,
-  ◌<◌,
-  ◌≤◌,
-  List,
-  slice_index,
-  sym,
-  ap,
-  ◌∙◌,
-  arith,
-  inl,
-  inr,
-}
+use Rattle.std.proofs.Common.{◌≡◌, ℕ, zero, suc, ◌+◌, ◌-◌, ◌*◌, ◌<◌, ◌≤◌, List, slice_index, sym, ap, ◌∙◌, arith, inl}
+use Rattle.std.proofs.Common.{inr}
 use Rattle.std.specs.Int.Bits.{bit_xor, xor_assoc, xor_comm, xor_self, xor_lt}
 use Rattle.std.proofs.lemmas.Bool.{cases_eq}
 use Rattle.std.proofs.lemmas.List.{same_lists, get_or_default}
@@ -27,15 +10,8 @@ use Rattle.lr_gf.specs.Dual.{conventional_of, dual_of}
 use Rattle.lr_gf.proofs.Laws.{times-add-left}
 use Rattle.lr_gf.proofs.Powers.{power-mul}
 use Rattle.lr_gf.proofs.DualLaws.{dual-conventional, conventional-lt}
-use Rattle.lr_gf.proofs.SumLaws.{
-  sum_of-same,
-  sum_of-add,
-  same_from_sum,
-  weight-le,
-  weight-add,
-  weight-suc_zero,
-  weight-suc_le,
-}
+use Rattle.lr_gf.proofs.SumLaws.{sum_of-same, sum_of-add, same_from_sum, weight-le, weight-add, weight-suc_zero}
+use Rattle.lr_gf.proofs.SumLaws.{weight-suc_le}
 use Rattle.lr_gf.proofs.Vanishing.{vanishing}
 use Rattle.lr_rs.specs.Words.{locator, word_value, IsCodeword, distance, IsWord, AtMostOneIsRestored}
 use Rattle.lr_rs.proofs.Locators.{locators}

@@ -13,17 +13,8 @@ use Rattle.lr_image.specs.Picture.{IsPicture}
 use Rattle.lr_image.specs.Shapes.{most_pixels}
 use Rattle.lr_segment.specs.declared.rows.Place.{Place}
 use Rattle.lr_segment.specs.Rows.{IsBeside, IsCovered, IsIn, IsOverwritten}
-use Rattle.lr_segment.specs.Canvas.{
-  AddsMember,
-  Canvas,
-  canvas,
-  IsCanvas,
-  Member,
-  CanvasStandsFor,
-  covered_of,
-  covers,
-  pixel_given_by,
-}
+use Rattle.lr_segment.specs.Canvas.{AddsMember, Canvas, canvas, IsCanvas, Member, CanvasStandsFor, covered_of, covers}
+use Rattle.lr_segment.specs.Canvas.{pixel_given_by}
 use Rattle.lr_segment.specs.Canvas.{own_pixel, pixel_at, pixels_of}
 
 replicate-map : {X : Type 0} (x : X) (n : ℕ) → replicate n x ≡ map (λ k. x) (range_with_len 0 n)
@@ -270,14 +261,9 @@ adds_by c m place lines segment old new held noted is picture depth whole column
     covered over notes =
     let there : place ≡ place_of_member c.columns m = place_from whole column line width in
     let over' : IsOverwritten (place_of_member c.columns m) m.picture.lines m.picture.pixels c.pixels new =
-    subst (λ (p : Place). IsOverwritten p m.picture.lines m.picture.pixels c.pixels new) there
-    (subst (λ (n : ℕ). IsOverwritten place n m.picture.pixels c.pixels new) rows
-    (subst (λ (s : List ℕ). IsOverwritten place lines s c.pixels new) pixels
-    (subst (λ (o : List ℕ). IsOverwritten place lines segment o new) before over))) in
+    rw (there, rows, pixels, before) at over in
     let notes' : IsCovered (place_of_member c.columns m) m.picture.lines c.covered noted =
-    subst (λ (p : Place). IsCovered p m.picture.lines c.covered noted) there
-    (subst (λ (n : ℕ). IsCovered place n c.covered noted) rows
-    (subst (λ (o : List Bool). IsCovered place lines o noted) covered notes)) in
+    rw (there, rows, covered) at notes in
     record {
       canvas_is = canvas_more c m new noted is picture depth over' notes';
       adds = adds c m new noted is over' notes';

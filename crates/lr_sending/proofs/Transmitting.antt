@@ -27,7 +27,7 @@ use Rattle.lr_commands.specs.declared.opened.Opened.{Opened}
 use Rattle.lr_commands.specs.declared.range.Range.{Range}
 use Rattle.lr_commands.specs.Queries.{IsSeen, EntryView, Whole, Wrong, Absent, entry_at}
 use Rattle.lr_commands.specs.Files.{files_of, no_image}
-use Rattle.lr_commands.specs.Read.{AreSeen, GathersOver}
+use Rattle.lr_commands.specs.Read.{AreSeen, GathersOver, entries_seen}
 use Rattle.lr_commands.specs.Steps.{PutsText, TextStops}
 use Rattle.lr_commands.proofs.Filing.{files_of-absent, files_of-whole}
 use Rattle.lr_commands.proofs.Reading.{concat-push}
@@ -39,7 +39,8 @@ use Rattle.lr_uplink.proofs.Receiving.{sent_files_are_received}
 use Rattle.lr_uplink.proofs.UnderWay.{frames_stay, sent-more}
 use Rattle.lr_sending.specs.Received.{AreFilesBetween, IsTransmitted}
 use Rattle.lr_sending.specs.Standing.{HasSent, IsUplinkAt, history_at, rest_bytes}
-use Rattle.lr_sending.specs.Transmit.{added_bytes, sent_entry_text, block_for, blocks_for, files_read, frame_bytes}
+use Rattle.lr_sending.specs.Transmit.{added_bytes, sent_entry_text, block_for, blocks_for}
+use Rattle.lr_sending.specs.Transmit.{files_read, frame_bytes, sending}
 use Rattle.lr_sending.specs.Transmit.{sent_bytes, transmit_query}
 use Rattle.lr_sending.proofs.Sending.{frames-front}
 
@@ -143,7 +144,7 @@ nothing_sent line wrong = nothing_coded line.marks line.inverted wrong
 
 module _ {D : Type 0} (disk : DiskOf D) (d : D) (line : LineCode) (wrong from : ℕ) (to : ℕ) (way : Way) (start : ℕ)
     (read : List EntryView) (texts : List (List ℕ))
-    (are : AreSeen disk d (transmit_query from to wrong line) way start read texts) where
+    (are : AreSeen disk d (entries_seen (transmit_query (sending from to wrong line)) way start read) texts) where
   -- the files of the first entries
   abbrev first_files : ℕ → List File
   first_files n = files_read (files_of (take n read))
@@ -247,14 +248,15 @@ files_between bytes way (suc left) number (seen ∷ read) all stand sound =
 module _ {D O : Type 0} (world : OutletsOf D O) where
   pub transmitted : (line : LineCode) (from to wrong : ℕ) (put : List ℕ) (w w' : Outlets D O)
       → world.out.contents w'.out ≡ world.out.contents w.out ++ put
-      → GathersOver world.disk w.disk (transmit_query from to wrong line)
+      → GathersOver world.disk w.disk (transmit_query (sending from to wrong line))
       (λ (uplink : Uplink) read. HasSent line wrong (files_read (files_of read)) uplink) put
-      → IsTransmitted world line from to wrong w w'
+      → IsTransmitted world (sending from to wrong line) w w'
   transmitted line from to wrong put w w' got over =
       let has = over.has in
       let way = over.way in
       let files : List File = files_read (files_of has.read) in
-      let between = some_range from to (length way.entries) (nat_le from to && nat_le to (length way.entries)) has.range
+      let between = some_range from to (length way.entries) (nat_le from to && nat_le to (length way.entries))
+      has.range
       has.allowed in
       let start : has.range.from ≡ from = between.0 in
       let none : has.last ≡ [] = sym (ok_same [] has.last has.last_is) in

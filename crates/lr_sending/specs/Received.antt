@@ -1,7 +1,6 @@
 -- What `transmit` put once it is done, and what a receiver makes of it.
 use Rattle.std.specs.Prelude.{◌≡◌, ◌⊎◌, ◌+◌, ◌-◌, ◌++◌, ◌∷◌, ℕ, zero, suc, Some, List, []}
 use Rattle.lr_bits.specs.File.{File}
-use Rattle.lr_conv.specs.declared.line.LineCode.{LineCode}
 use Rattle.lr_frame.specs.Outcomes.{outcomes_of_symbols}
 use Rattle.lr_lock.specs.Symbols.{symbols_of}
 use Rattle.lr_shelf_format.specs.Way.{Gone, IsFound, IsWay, Sound, Way}
@@ -12,7 +11,7 @@ use Rattle.lr_causes.specs.Outside.{Outlets, OutletsOf}
 use Rattle.lr_causes.specs.declared.cause.Cause.{Cause}
 use Rattle.lr_commands.specs.Queries.{entry_at}
 use Rattle.lr_commands.specs.Read.{IsDone}
-use Rattle.lr_sending.specs.Transmit.{sent_bytes}
+use Rattle.lr_sending.specs.Transmit.{Sending, sent_bytes}
 
 -- a sound file stands at the entry, and it is the first of these
 pub record FileThen (bytes : List ℕ) (entry : Entry) (Others : List File → Type 0) (files : List File) : Type 0 where
@@ -29,17 +28,17 @@ AreFilesBetween bytes way (suc left) number files =
     (IsFound bytes (entry_at way number) (Some Gone) × AreFilesBetween bytes way left (number + 1) files)
     ⊎ FileThen bytes (entry_at way number) (AreFilesBetween bytes way left (number + 1)) files
 
-module _ {D O : Type 0} (world : OutletsOf D O) (line : LineCode) (from to wrong : ℕ) where
+module _ {D O : Type 0} (world : OutletsOf D O) (asked : Sending) where
   -- What was put is what some files are sent as, and a receiver of it finds them. Where the disk tells its contents,
   -- they are those of the entries from one number up to another.
   pub record IsTransmitted (w w' : Outlets D O) : Type 0 where
     pub put : List ℕ
     pub got : world.out.contents w'.out ≡ world.out.contents w.out ++ put
     pub files : List File
-    pub sent_as : put ≡ sent_bytes line wrong files
-    pub received : AreFilesOf (outcomes_of_symbols line (symbols_of put)) files
+    pub sent_as : put ≡ sent_bytes asked.line asked.wrong files
+    pub received : AreFilesOf (outcomes_of_symbols asked.line (symbols_of put)) files
     pub are : world.disk.tells w.disk → (way : Way) × IsWay (world.disk.contents w.disk) way
-        × AreFilesBetween (world.disk.contents w.disk) way (to - from) from files
+        × AreFilesBetween (world.disk.contents w.disk) way (asked.to - asked.from) asked.from files
 
   -- Where the call is done, over every disk, this is what it put.
   abbrev pub Transmits : Cause → Outlets D O → Outlets D O → Type 0

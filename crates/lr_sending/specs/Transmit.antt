@@ -47,15 +47,25 @@ sent_entry_text line wrong before file =
 abbrev pub files_read : List Opened → List File
 files_read read = map (λ opened. opened.stored.file) read
 
-abbrev pub transmit_files_query : (from to wrong : ℕ) → LineCode → FileQuery
-transmit_files_query from to wrong line = record {
-  range = entries_between from to;
+-- the entries that are sent, from one number up to another, with this many wrong bytes in each word, by this line code
+pub record Sending : Type 0 where
+  pub from : ℕ
+  pub to : ℕ
+  pub wrong : ℕ
+  pub line : LineCode
+
+abbrev pub sending : (from to wrong : ℕ) → LineCode → Sending
+sending from to wrong line = record { from = from; to = to; wrong = wrong; line = line }
+
+abbrev pub transmit_files_query : Sending → FileQuery
+transmit_files_query asked = record {
+  range = entries_between asked.from asked.to;
   looks = no_image;
-  entry_text = λ read n opened. sent_entry_text line wrong (files_read read) opened.stored.file;
+  entry_text = λ read n opened. sent_entry_text asked.line asked.wrong (files_read read) opened.stored.file;
   gone = λ n. no_text;
   last = λ way read. no_text;
   tells = no_note;
 }
 
-abbrev pub transmit_query : (from to wrong : ℕ) → LineCode → Query
-transmit_query from to wrong line = query_of_files (transmit_files_query from to wrong line)
+abbrev pub transmit_query : Sending → Query
+transmit_query asked = query_of_files (transmit_files_query asked)

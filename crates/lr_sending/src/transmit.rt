@@ -9,7 +9,7 @@ ghost use Rattle.lr_commands.specs.Runs.{RunsOver};
 ghost use Rattle.lr_commands.specs.Steps.{PutsText, TextStops};
 ghost use Rattle.lr_sending.specs.Received.{Transmits};
 ghost use Rattle.lr_sending.specs.Standing.{HasSent, IsUplinkAt, rest_bytes};
-ghost use Rattle.lr_sending.specs.Transmit.{sent_entry_text, transmit_query};
+ghost use Rattle.lr_sending.specs.Transmit.{sent_entry_text, transmit_query, sending};
 
 use lr_bits::{BLOCK_BYTES, FRAME_BYTES, FRAME_SYMBOLS, MissionFile, NoMemory};
 use lr_causes::{Cause, Note, Party, Refusal, put_text};
@@ -96,7 +96,7 @@ impl ReadsEntries for TransmitRange {
 
     type Gathered = Uplink;
 
-    ghost query = { λ s. transmit_query s.from s.to s.wrong s.line };
+    ghost query = { λ s. transmit_query (sending s.from s.to s.wrong s.line) };
 
     ghost gathers = { λ s uplink read. HasSent s.line s.wrong (files_read (files_of read)) uplink };
 
@@ -110,7 +110,6 @@ impl ReadsEntries for TransmitRange {
 
     fn entry<D: Disk, O: Sink>(
         &self,
-        _: Global,
         number: u64,
         uplink: &mut Uplink,
         shelf: &mut Shelf,
@@ -149,9 +148,9 @@ pub fn transmit<D: Disk, O: Sink>(
     out: &mut O,
 ) -> Cause
     requires { wrong ≤ 16 }
-    ensures runs { RunsOver (outlets_of D.Disk O.Sink) (transmit_query from to wrong line) result
+    ensures runs { RunsOver (outlets_of D.Disk O.Sink) (transmit_query (sending from to wrong line)) result
         (outlets disk.old out.old) (outlets disk.new out.new) }
-    ensures sent { Transmits (outlets_of D.Disk O.Sink) line from to wrong result
+    ensures sent { Transmits (outlets_of D.Disk O.Sink) (sending from to wrong line) result
         (outlets disk.old out.old) (outlets disk.new out.new) }
 {
     let command = TransmitRange {

@@ -6,8 +6,10 @@ use Rattle.std.proofs.Common.{ltb, eqb, eq-eqb, ltb-true, Contains}
 use Rattle.std.specs.Prelude.{All}
 use Rattle.std.specs.List.{AllByRecursion as Each, concat, enumerate_from, list_all, range_with_len}
 use Rattle.std.proofs.lemmas.Bool.{and_parts, cases_eq, cond_both, false≢true}
-use Rattle.std.proofs.lemmas.List.{drop-append-le, take-append-le, take_at}
+use Rattle.std.proofs.lemmas.List.{drop-append-le, length-map, take-append-le, take_at}
 use Rattle.std.proofs.lemmas.List.Elements.{All-from_recursion, All-tail, All-head}
+use Rattle.std.proofs.lemmas.List.Folds.{concat-append}
+use Rattle.std.proofs.lemmas.Simd.{map-map}
 use Rattle.lr_bits.specs.Packet.{Packet, length_field_at}
 use Rattle.lr_bits.specs.declared.sizes.TheConstants.{FILL_CHANNEL, ZONE_BYTES}
 use Rattle.lr_vc.specs.Frame.{Fields}
@@ -21,10 +23,6 @@ use Rattle.lr_sent.specs.Carried.{TellsItsLength, IsEdge, frames_of_channel, Are
 use Rattle.lr_sent.specs.Carried.{PacketsWereSent}
 
 -- ---- lists
-
-pub concat-append : (xs ys : List (List ℕ)) → concat (xs ++ ys) ≡ concat xs ++ concat ys
-concat-append [] ys = refl
-concat-append (x ∷ xs) ys = ap (λ zs. x ++ zs) (concat-append xs ys) ∙ sym (append_assoc x (concat xs) (concat ys))
 
 pub All_right : {X : Type 0} (P : X → Type 0) (xs ys : List X) → All P (xs ++ ys) → All P ys
 All_right P [] ys h = h
@@ -151,14 +149,6 @@ unfolding zones_of
 zones_of_run [] = refl
 zones_of_run (f ∷ fs) = ap (λ xs. f.1.zone ++ xs) (zones_of_run fs)
 
-pointers_of_run : (run : Run) → map (λ frame. frame.pointer) (map (λ f. f.1) run) ≡ map (λ f. f.1.pointer) run
-pointers_of_run [] = refl
-pointers_of_run (f ∷ fs) = ap (λ ps. f.1.pointer ∷ ps) (pointers_of_run fs)
-
-length_of_run : (run : Run) → length (map (λ f. f.1) run) ≡ length run
-length_of_run [] = refl
-length_of_run (f ∷ fs) = ap suc (length_of_run fs)
-
 -- frames that are counted on are one run
 one_run : (f : ℕ × Fields) (fs : List (ℕ × Fields)) → AreCountedOn (map (λ f. f.1) (f ∷ fs))
     → runs_of (f ∷ fs) ≡ (f ∷ fs) ∷ []
@@ -237,9 +227,10 @@ module _ (channel : ℕ) (frames : List Fields) (packets : List (List ℕ)) (tel
     run_pointers zone inside points =
         let same : map (λ frame. frame.pointer) (frames_of_channel channel frames)
         ≡ map (λ (f : ℕ × Fields). f.1.pointer) run =
-        ap (map (λ (frame : Fields). frame.pointer)) (sym run_frames) ∙ pointers_of_run run in
+        ap (map (λ (frame : Fields). frame.pointer)) (sym run_frames)
+        ∙ map-map (λ (frame : Fields). frame.pointer) (λ (f : ℕ × Fields). f.1) run in
         let long : length (frames_of_channel channel frames) ≡ length run =
-        ap length (sym run_frames) ∙ length_of_run run in
+        ap length (sym run_frames) ∙ length-map run (λ (f : ℕ × Fields). f.1) in
         subst (λ (ps : List ℕ). get_or ps zone 0 < ZONE_BYTES
         → IsEdge packets (ZONE_BYTES * zone + get_or ps zone 0)) same
         (carry.pointers zone (omega arith)) points

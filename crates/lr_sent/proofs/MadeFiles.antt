@@ -42,7 +42,7 @@ use Rattle.lr_make.proofs.Rounds.{frame_at-turn, frame_at-images}
 use Rattle.lr_sent.specs.Carried.{TellsItsLength, frames_of_channel, CarryPackets}
 use Rattle.lr_sent.specs.Made.{made_outcomes, room_for_file, room_of_files, MadeFilesFit}
 use Rattle.lr_sent.proofs.Carrying.{packets_were_sent, packets_by_channels}
-use Rattle.lr_sent.proofs.MadeFrames.{packet_frame_reads, fill_frame_reads}
+use Rattle.lr_sent.proofs.MadeFrames.{Reads, packet_frame_reads, fill_frame_reads}
 use Rattle.lr_sent.proofs.MadePackets.{image_tells, image_long, image_not_alone, text_tells, text_long}
 use Rattle.lr_sent.proofs.MadeZones.{first_packets, sent_frame, carry, length-zone}
 
@@ -184,39 +184,28 @@ module _ (start : ℕ) where
     channel : (made_frame k).vc ≡ vc
     long : length (made_frame k).zone ≡ ZONE_BYTES
 
+  sent_as : (k : ℕ) {frame zone : List ℕ} {vc counter pointer : ℕ} → Reads frame vc counter pointer zone →
+      frame_at start k ≡ frame → length zone ≡ ZONE_BYTES → IsSent k vc
+  sent_as k reads same long = record {
+    version = ap version_of same ∙ reads.version;
+    channel = ap (λ z. (fields_of z).vc) same ∙ reads.channel;
+    long = ap (λ z. length (fields_of z).zone) same ∙ ap length reads.zone_is ∙ long;
+  }
+
   sent_image : (k : ℕ) → k % 4 < 2 → IsSent k 0
   sent_image k turn =
-      let reads = packet_frame_reads 0 images (image_frames k) (omega arith) in
-      let same = frame_at-images start k turn in
-      record {
-        version = ap version_of same ∙ reads.version;
-        channel = ap (λ z. (fields_of z).vc) same ∙ reads.channel;
-        long = ap (λ z. length (fields_of z).zone) same ∙ ap length reads.zone_is
-            ∙ length-zone images (length-image_packet start) (image_frames k);
-      }
+      sent_as k (packet_frame_reads 0 images (image_frames k) (omega arith)) (frame_at-images start k turn)
+      (length-zone images (length-image_packet start) (image_frames k))
 
   sent_text : (k : ℕ) → k % 4 ≡ 2 → IsSent k 5
   unfolding frame_of_round
   sent_text k turn =
-      let reads = packet_frame_reads 5 texts (k / 4) (omega arith) in
-      let same : frame_at start k ≡ packet_frame 5 texts (k / 4) = frame_at-turn start k 2 turn in
-      record {
-        version = ap version_of same ∙ reads.version;
-        channel = ap (λ z. (fields_of z).vc) same ∙ reads.channel;
-        long = ap (λ z. length (fields_of z).zone) same ∙ ap length reads.zone_is
-            ∙ length-zone texts (length-text_packet (text_start start)) (k / 4);
-      }
+      sent_as k (packet_frame_reads 5 texts (k / 4) (omega arith)) (frame_at-turn start k 2 turn)
+      (length-zone texts (length-text_packet (text_start start)) (k / 4))
 
   sent_fill : (k : ℕ) → k % 4 ≡ 3 → IsSent k FILL_CHANNEL
   sent_fill k turn =
-      let reads = fill_frame_reads (k / 4) in
-      let same = fill_frame_at k turn in
-      record {
-        version = ap version_of same ∙ reads.version;
-        channel = ap (λ z. (fields_of z).vc) same ∙ reads.channel;
-        long = ap (λ z. length (fields_of z).zone) same ∙ ap length reads.zone_is
-            ∙ length-replicate {A = ℕ} ZONE_BYTES 0;
-      }
+      sent_as k (fill_frame_reads (k / 4)) (fill_frame_at k turn) (length-replicate {A = ℕ} ZONE_BYTES 0)
 
   sent_any : (k : ℕ) → (vc : ℕ) × IsSent k vc
   sent_any k =

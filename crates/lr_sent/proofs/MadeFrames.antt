@@ -1,6 +1,8 @@
 -- The fields of the frames of the test stream.
 use Rattle.std.proofs.Common.{◌≡◌, ℕ, ◌+◌, ◌-◌, ◌*◌, ◌/◌, ◌%◌, ◌^◌, ◌<◌, ◌≤◌, List, [], ◌∷◌, ◌++◌, length, drop}
-use Rattle.std.proofs.Common.{get_or, inl, inr, sym, ap, ◌∙◌, arith, replicate, unwrap_or, Bool}
+use Rattle.std.proofs.Common.{get_or, inl, inr, sym, ap, ap₂, ◌∙◌, refl, zero, suc, arith, replicate, unwrap_or, Bool}
+use Rattle.std.proofs.Math.Nat.{div-div-eq-div-mul, div-one, mul_assoc, pow-suc}
+use Rattle.std.proofs.lemmas.Nat.{mod-pow-add, pow-add}
 use Rattle.lr_bits.specs.Bits.{field_of}
 use Rattle.lr_bits.specs.declared.sizes.TheConstants.{CHANNELS, FILL_CHANNEL, FRAME_COUNTS, ZONE_BYTES}
 use Rattle.lr_bits.proofs.BitsLemmas.{field_of-none, field_of-more}
@@ -12,64 +14,62 @@ use Rattle.lr_make.proofs.Heads.{frame_of-bytes}
 
 -- ---- fields in bytes
 
+doubled : (n m x y b w d : ℕ) → n ≡ m * 2 + b → m ≡ x + y → w ≡ x * 2 → d ≡ y * 2 + b → n ≡ w + d
+doubled n m x y b w d e f g h = omega arith
+
+-- k bits more, those of one byte after which `low` of its bits are left
+pub bits_more : (bytes : List ℕ) (bit width j low k : ℕ) → bit + width + k + low ≡ 8 * j + 8 → k + low ≤ 8 →
+    j < length bytes →
+    field_of bytes bit (width + k) ≡ field_of bytes bit width * 2 ^ k + get_or bytes j 0 / 2 ^ low % 2 ^ k
+bits_more bytes bit width j low zero e few inside =
+    let none : width + 0 ≡ width = omega arith in ap (field_of bytes bit) none ∙ omega arith
+bits_more bytes bit width j low (suc k) e few inside =
+    let byte = get_or bytes j 0 / 2 ^ low in
+    let place : (bit + (width + k)) / 8 ≡ j = omega arith in
+    let left : 7 - (bit + (width + k)) % 8 ≡ low = omega arith in
+    let half : get_or bytes j 0 / 2 ^ (low + 1) ≡ byte / 2 =
+    ap (λ n. get_or bytes j 0 / n) (pow-add 2 low 1) ∙ sym (div-div-eq-div-mul (get_or bytes j 0) (2 ^ low) 2) in
+    let before : field_of bytes bit (width + k) ≡ field_of bytes bit width * 2 ^ k + byte / 2 % 2 ^ k =
+    bits_more bytes bit width j (low + 1) k (omega arith) (omega arith) inside
+    ∙ ap (λ n. field_of bytes bit width * 2 ^ k + n % 2 ^ k) half in
+    let one : field_of bytes bit (width + k + 1) ≡ field_of bytes bit (width + k) * 2 + byte % 2 =
+    field_of-more bytes bit (width + k) (omega arith)
+    ∙ ap₂ (λ n m. field_of bytes bit (width + k) * 2 + get_or bytes n 0 / 2 ^ m % 2) place left in
+    let more : width + suc k ≡ width + k + 1 = omega arith in
+    let double : field_of bytes bit width * 2 ^ suc k ≡ field_of bytes bit width * 2 ^ k * 2 =
+    ap (λ n. field_of bytes bit width * n) (pow-suc 2 k) ∙ sym (mul_assoc (field_of bytes bit width) (2 ^ k) 2) in
+    let digits : byte % 2 ^ suc k ≡ byte / 2 % 2 ^ k * 2 + byte % 2 =
+    ap (λ n. byte % n) (pow-suc 2 k ∙ sym (pow-add 2 k 1)) ∙ mod-pow-add byte k 1 in
+    ap (field_of bytes bit) more ∙ doubled _ _ _ _ _ _ _ one before double digits
+
+-- a field of which k bits end a byte and the other eight are the byte after it
+pub bits_of_two : (bytes : List ℕ) (bit j k : ℕ) → bit + k ≡ 8 * j + 8 → k ≤ 8 → j + 1 < length bytes →
+    field_of bytes bit (k + 8) ≡ get_or bytes j 0 % 2 ^ k * 256 + get_or bytes (j + 1) 0 % 256
+bits_of_two bytes bit j k e few inside =
+    let all : k ≡ 0 + k = omega arith in
+    let front : field_of bytes bit k ≡ get_or bytes j 0 % 2 ^ k =
+    ap (field_of bytes bit) all ∙ bits_more bytes bit 0 j 0 k (omega arith) (omega arith) (omega arith)
+    ∙ ap₂ (λ n m. n * 2 ^ k + m % 2 ^ k) (field_of-none bytes bit) (div-one (get_or bytes j 0)) ∙ omega arith in
+    omega (arith, bits_more bytes bit k (j + 1) 0 8 (omega arith) (omega arith) inside, front)
+
 module _ (bytes : List ℕ) (long : 8 ≤ length bytes) where
   version_bits : field_of bytes 0 2 ≡ get_or bytes 0 0 / 64 % 4
-  version_bits =
-      let f1 = field_of-more bytes 0 0 (omega arith) in
-      let f2 = field_of-more bytes 0 1 (omega arith) in
-      omega (arith, field_of-none bytes 0)
+  version_bits = omega (arith, field_of-none bytes 0, bits_more bytes 0 0 0 6 2 refl (omega arith) (omega arith))
 
   channel_bits : field_of bytes 10 6 ≡ get_or bytes 1 0 % 64
-  channel_bits =
-      let f1 = field_of-more bytes 10 0 (omega arith) in
-      let f2 = field_of-more bytes 10 1 (omega arith) in
-      let f3 = field_of-more bytes 10 2 (omega arith) in
-      let f4 = field_of-more bytes 10 3 (omega arith) in
-      let f5 = field_of-more bytes 10 4 (omega arith) in
-      let f6 = field_of-more bytes 10 5 (omega arith) in
-      omega (arith, field_of-none bytes 10)
-
-  -- one bit more, that of a byte
-  bit_more : (bit width more j i : ℕ) → more ≡ width + 1 → bit + width ≡ 8 * j + i → i < 8 → j < 8 →
-      field_of bytes bit more ≡ field_of bytes bit width * 2 + get_or bytes j 0 / 2 ^ (7 - i) % 2
-  bit_more bit width more j i m e l k =
-      let byte : (bit + width) / 8 ≡ j = omega arith in
-      let low : (bit + width) % 8 ≡ i = omega arith in
-      ap (field_of bytes bit) m ∙ field_of-more bytes bit width (omega arith)
-      ∙ ap (λ z. field_of bytes bit width * 2 + get_or bytes z 0 / 2 ^ (7 - (bit + width) % 8) % 2) byte
-      ∙ ap (λ z. field_of bytes bit width * 2 + get_or bytes j 0 / 2 ^ (7 - z) % 2) low
-
-  -- eight bits more, those of one byte
-  byte_more : (bit width j : ℕ) → bit + width ≡ 8 * j → j < 8 →
-      field_of bytes bit (width + 8) ≡ field_of bytes bit width * 256 + get_or bytes j 0 % 256
-  byte_more bit width j e l =
-      let f0 = bit_more bit width (width + 1) j 0 (omega arith) (omega arith) (omega arith) (omega arith) in
-      let f1 = bit_more bit (width + 1) (width + 2) j 1 (omega arith) (omega arith) (omega arith) (omega arith) in
-      let f2 = bit_more bit (width + 2) (width + 3) j 2 (omega arith) (omega arith) (omega arith) (omega arith) in
-      let f3 = bit_more bit (width + 3) (width + 4) j 3 (omega arith) (omega arith) (omega arith) (omega arith) in
-      let f4 = bit_more bit (width + 4) (width + 5) j 4 (omega arith) (omega arith) (omega arith) (omega arith) in
-      let f5 = bit_more bit (width + 5) (width + 6) j 5 (omega arith) (omega arith) (omega arith) (omega arith) in
-      let f6 = bit_more bit (width + 6) (width + 7) j 6 (omega arith) (omega arith) (omega arith) (omega arith) in
-      let f7 = bit_more bit (width + 7) (width + 8) j 7 (omega arith) (omega arith) (omega arith) (omega arith) in
-      omega arith
+  channel_bits = omega (arith, field_of-none bytes 10, bits_more bytes 10 0 1 0 6 refl (omega arith) (omega arith))
 
   counter_bits : field_of bytes 16 24 ≡ (get_or bytes 2 0 % 256 * 256 + get_or bytes 3 0 % 256) * 256
       + get_or bytes 4 0 % 256
   counter_bits =
       omega (
         arith,
-        field_of-none bytes 16,
-        byte_more 16 0 2 (omega arith) (omega arith),
-        byte_more 16 8 3 (omega arith) (omega arith),
-        byte_more 16 16 4 (omega arith) (omega arith),
+        bits_of_two bytes 16 2 8 refl (omega arith) (omega arith),
+        bits_more bytes 16 16 4 0 8 refl (omega arith) (omega arith),
       )
 
   pointer_bits : field_of bytes 53 11 ≡ get_or bytes 6 0 % 8 * 256 + get_or bytes 7 0 % 256
-  pointer_bits =
-      let f1 = field_of-more bytes 53 0 (omega arith) in
-      let f2 = field_of-more bytes 53 1 (omega arith) in
-      let f3 = field_of-more bytes 53 2 (omega arith) in
-      omega (arith, field_of-none bytes 53, byte_more 53 3 7 (omega arith) (omega arith))
+  pointer_bits = bits_of_two bytes 53 6 3 refl (omega arith) (omega arith)
 
 -- a frame is read as these
 pub record Reads (frame : List ℕ) (vc counter pointer : ℕ) (zone : List ℕ) : Type 0 where

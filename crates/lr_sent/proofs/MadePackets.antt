@@ -7,20 +7,18 @@ use Rattle.lr_bits.specs.Bits.{field_of}
 use Rattle.lr_bits.specs.Crc.{crc_of}
 use Rattle.lr_bits.specs.declared.sizes.TheConstants.{FRAME_COUNTS, SEQUENCE_COUNTS}
 use Rattle.lr_bits.specs.Sizes.{most_body_bytes}
-use Rattle.lr_bits.proofs.BitsLemmas.{field_of-none, field_of-more}
+use Rattle.lr_bits.proofs.BitsLemmas.{field_of-none}
 use Rattle.lr_vc.proofs.Starts.{length_field}
 use Rattle.lr_make.specs.Packets.{head_for_body, head_with, packet_for_body}
 use Rattle.lr_make.specs.Files.{image_body, image_flags, image_packet, text_headers, text_bytes, text_packet}
 use Rattle.lr_make.proofs.Drawn.{length-drawn_bytes, length-text_bytes}
 use Rattle.lr_make.proofs.Heads.{length-head_of, length-image_headers, length-text_headers}
 use Rattle.lr_sent.specs.Carried.{TellsItsLength}
+use Rattle.lr_sent.proofs.MadeFrames.{bits_more}
 
 -- the sequence flags stand in byte 2
 flags_bits : (bytes : List ℕ) → 6 ≤ length bytes → field_of bytes 16 2 ≡ get_or bytes 2 0 / 64 % 4
-flags_bits bytes l =
-    let f1 = field_of-more bytes 16 0 (omega arith) in
-    let f2 = field_of-more bytes 16 1 (omega arith) in
-    omega (arith, field_of-none bytes 16)
+flags_bits bytes l = omega (arith, field_of-none bytes 16, bits_more bytes 16 0 2 6 2 refl (omega arith) (omega arith))
 
 module _ (apid flags count : ℕ) (body : List ℕ) where
   pub length-packet : length (packet_for_body apid flags count body) ≡ length body + 8

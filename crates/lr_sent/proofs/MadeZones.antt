@@ -14,7 +14,7 @@ use Rattle.lr_make.specs.Frames.{packet_frame}
 use Rattle.lr_make.specs.Zones.{joined_packets, zone_at, is_start, pointer_at}
 use Rattle.lr_make.proofs.Joining.{HaveBytes, joined-front, length-joined-least}
 use Rattle.lr_sent.specs.Carried.{IsEdge, AreCountedOn, CarryPackets}
-use Rattle.lr_sent.proofs.Carrying.{concat-append}
+use Rattle.std.proofs.lemmas.List.Folds.{concat-append}
 use Rattle.lr_sent.proofs.MadeFrames.{packet_frame_reads}
 
 any_range : (p : ℕ → Bool) (a n : ℕ) → list_any p (range_with_len a n) ≡ true → (k : ℕ) × (a ≤ k) × (k < a + n)

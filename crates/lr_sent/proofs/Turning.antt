@@ -1,9 +1,9 @@
 -- Levels that are turned: what follows a level 1 where bits are changes of level.
 use Rattle.std.proofs.Common.{◌≡◌, ℕ, zero, suc, ◌+◌, ◌-◌, ◌%◌, ◌<◌, ◌≤◌, Bool, true, false, not, ◌&&◌, nat_eq, cond}
 use Rattle.std.proofs.Common.{List, [], ◌∷◌, ◌++◌, length, drop, get_or, map, refl, sym, ap, ap₂, ◌∙◌, arith}
-use Rattle.std.proofs.Common.{length-append, inl, inr}
+use Rattle.std.proofs.Common.{◌*◌, length-append, inl, inr}
 use Rattle.std.proofs.lemmas.Bool.{cases_eq, eq-eqb, ne_eqb}
-use Rattle.std.proofs.lemmas.List.{length-map, map-append}
+use Rattle.std.proofs.lemmas.List.{get_or-map, length-map, map-append}
 use Rattle.lr_conv.specs.Convolution.{bit, code, earlier_bit, first_generator, first_symbol, generator_sum}
 use Rattle.lr_conv.specs.Convolution.{second_generator, second_symbol, symbols}
 use Rattle.lr_conv.specs.Levels.{changed_by, last_level, levels, marks_of}
@@ -84,18 +84,13 @@ tail_turned line past before six last =
 
 -- ---- symbols
 
-get_or-not : (t : List Bool) (k : ℕ) → k < length t → get_or (map not t) k false ≡ not (get_or t k false)
-get_or-not [] k inside = absurd (omega arith)
-get_or-not (b ∷ t) zero inside = refl
-get_or-not (b ∷ t) (suc k) inside = get_or-not t k (omega arith)
-
 bit-not : (b : Bool) → bit (not b) + bit b ≡ 1
 bit-not true = refl
 bit-not false = refl
 
--- five bits of which each is turned have the other parity
-other_parity : (m n : ℕ) → m + n ≡ 5 → nat_eq (m % 2) 1 ≡ not (nat_eq (n % 2) 1)
-other_parity m n e =
+-- an odd number of bits of which each is turned have the other parity
+other_parity : (m n k : ℕ) → m + n ≡ 2 * k + 1 → nat_eq (m % 2) 1 ≡ not (nat_eq (n % 2) 1)
+other_parity m n k e =
     elim (cases_eq (n % 2) 1) [
       | inl odd ↦ ne_eqb (m % 2) 1 (λ o. omega (arith, o, odd, e)) ∙ ap not (sym (eq-eqb (n % 2) 1 odd))
       | inr even ↦ eq-eqb (m % 2) 1 (omega (arith, even, e)) ∙ ap not (sym (ne_eqb (n % 2) 1 even))
@@ -105,34 +100,27 @@ module _ (t : List Bool) (i : ℕ) (inside : 6 + i < length t) where
   one_turned : (places : ℕ) → earlier_bit (map not t) i places + earlier_bit t i places ≡ 1
   one_turned places =
       let low : 6 + i - places < length t = omega arith in
-      ap (λ b. bit b + earlier_bit t i places) (get_or-not t (6 + i - places) low)
+      ap (λ b. bit b + earlier_bit t i places) (get_or-map not t (6 + i - places) false false low)
       ∙ bit-not (get_or t (6 + i - places) false)
 
   first_turned : first_symbol (map not t) i ≡ not (first_symbol t i)
   first_turned =
-      other_parity (generator_sum first_generator (map not t) i) (generator_sum first_generator t i)
+      other_parity (generator_sum first_generator (map not t) i) (generator_sum first_generator t i) 2
       (omega (arith, one_turned 0, one_turned 1, one_turned 2, one_turned 3, one_turned 6))
 
   second_turned : (line : LineCode) → second_symbol line (map not t) i ≡ not (second_symbol line t i)
   second_turned line = second_by line.inverted
     where
-      with_one : (m n : ℕ) → m + n ≡ 5 → nat_eq ((1 + m) % 2) 1 ≡ not (nat_eq ((1 + n) % 2) 1)
-      with_one m n e =
-          elim (cases_eq ((1 + n) % 2) 1) [
-            | inl odd ↦ ne_eqb ((1 + m) % 2) 1 (λ o. omega (arith, o, odd, e))
-                ∙ ap not (sym (eq-eqb ((1 + n) % 2) 1 odd))
-            | inr even ↦ eq-eqb ((1 + m) % 2) 1 (omega (arith, even, e)) ∙ ap not (sym (ne_eqb ((1 + n) % 2) 1 even))
-          ]
-
       sums : generator_sum second_generator (map not t) i + generator_sum second_generator t i ≡ 5
       sums = omega (arith, one_turned 0, one_turned 2, one_turned 3, one_turned 5, one_turned 6)
 
       second_by : (inverted : Bool) →
           nat_eq ((bit inverted + generator_sum second_generator (map not t) i) % 2) 1
           ≡ not (nat_eq ((bit inverted + generator_sum second_generator t i) % 2) 1)
-      second_by true = with_one (generator_sum second_generator (map not t) i) (generator_sum second_generator t i) sums
+      second_by true = other_parity (1 + generator_sum second_generator (map not t) i)
+          (1 + generator_sum second_generator t i) 3 (omega (arith, sums))
       second_by false = other_parity (0 + generator_sum second_generator (map not t) i)
-          (0 + generator_sum second_generator t i) (omega (arith, sums))
+          (0 + generator_sum second_generator t i) 2 (omega (arith, sums))
 
 symbols_turned : (line : LineCode) (t : List Bool) (n : ℕ) → 6 + n ≤ length t → symbols line (map not t) n
     ≡ map not (symbols line t n)

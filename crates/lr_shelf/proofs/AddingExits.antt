@@ -1,23 +1,6 @@
 -- The ways out of `append` and `discard`.
-use Rattle.std.proofs.Common.{
-  ◌≡◌,
-  ◌≢◌,
-  inl,
-  inr,
-  ℕ,
-  ◌+◌,
-  ◌≤◌,
-  Bool,
-  true,
-  false,
-  List,
-  [],
-  ◌∷◌,
-  ◌++◌,
-  length,
-  take,
-  drop,
-}
+use Rattle.std.proofs.Common.{◌≡◌, ◌≢◌, inl, inr, ℕ, ◌+◌, ◌≤◌, Bool, true, false, List, [], ◌∷◌}
+use Rattle.std.proofs.Common.{◌++◌, length, take, drop}
 use Rattle.std.proofs.Common.{Result, Ok, Err, refl, sym, ◌∙◌, ap, subst, arith, length-append}
 use Rattle.lr_bits.specs.Faults.{Rose}
 use Rattle.lr_disk.specs.declared.disk.Disk.{Ghosts as DiskOf}
@@ -32,31 +15,15 @@ use Rattle.lr_shelf_format.proofs.ItemLemmas.{length-item_bytes}
 use Rattle.lr_shelf.specs.Adding.{IsReady, StaysOutside, WithOrWithout}
 use Rattle.lr_shelf.specs.Adds.{Adds, last_gate, new_end}
 use Rattle.lr_shelf.specs.Calls.{IsFaultCounted}
-use Rattle.lr_shelf.specs.Kept.{KeptShelf, kept_by, kept_with}
+use Rattle.lr_shelf.specs.Kept.{KeptShelf, kept_by, kept_with, shelf_on}
 use Rattle.lr_shelf.specs.Shelf.{HasEitherWay, IsSettled, KeepsWay, StandsForEither}
 use Rattle.lr_shelf.specs.declared.error.ShelfError.{ShelfError}
-use Rattle.lr_shelf.specs.declared.error.ShelfError.TheVariants.{
-  Disk,
-  NotAShelf,
-  NotEmpty,
-  Capacity,
-  NoSuchFile,
-  Crc,
-  NoMemory,
-  Failed,
-  Discarded,
-}
+use Rattle.lr_shelf.specs.declared.error.ShelfError.TheVariants.{Disk, NotAShelf, NotEmpty}
+use Rattle.lr_shelf.specs.declared.error.ShelfError.TheVariants.{Capacity, NoSuchFile, Crc}
+use Rattle.lr_shelf.specs.declared.error.ShelfError.TheVariants.{NoMemory, Failed, Discarded}
 use Rattle.lr_shelf.specs.declared.shelf.Shelf.{Shelf}
-use Rattle.lr_shelf.proofs.AddingLemmas.{
-  either_one,
-  kept_after,
-  ready_there,
-  ready_way,
-  shut_last,
-  way_after,
-  way_either,
-  with_it,
-}
+use Rattle.lr_shelf.proofs.AddingLemmas.{either_one, kept_after, ready_there, ready_way, shut_last}
+use Rattle.lr_shelf.proofs.AddingLemmas.{way_after, way_either, with_it}
 
 -- what a shelf keeps, of its parts
 abbrev pub kept_made : ℕ → List Entry → ℕ → Bool → KeptShelf
@@ -85,7 +52,7 @@ module _ {A : Type 0} {D : Type 0} (disk : DiskOf D)
 
   -- refused before the disk is written
   pub refused : (after : Shelf) (error : ShelfError) → error ≢ Disk → kept_by after ≡ kept_by shelf
-      → Adds disk {A = A} item shelf after d d (Err error)
+      → Adds disk {A = A} item (shelf_on shelf d) (shelf_on after d) (Err error)
   refused after error other same = record {
     calls = record { told = λ told. told; untold = λ told. told; counted = same_count A (disk.faults d) error other };
     untouched = inr (refl, same);
@@ -180,7 +147,8 @@ module _ {D : Type 0} (disk : DiskOf D) (item : Item) (is : IsItem item) (shelf 
       → ((before item : List ℕ) → disk.tells d
       → IsReady before item staged (last_gate (kept_by shelf)) (disk.contents d)
       → IsClosedAfter (before ++ 1 ∷ item) (disk.contents d'))
-      → kept_by after ≡ kept_with item (kept_by shelf) → Adds disk {A = A} item shelf after d d' (Ok answer)
+      → kept_by after ≡ kept_with item (kept_by shelf) → Adds disk {A = A} item (shelf_on shelf d)
+      (shelf_on after d') (Ok answer)
   put {A = A} answer after count works stands durable done one = record {
     calls = record { told = told; untold = untold; counted = count };
     untouched = tt;
@@ -236,7 +204,8 @@ module _ {D : Type 0} (disk : DiskOf D) (item : Item) (is : IsItem item) (shelf 
       → ((before item : List ℕ) → disk.tells d
       → IsReady before item staged (last_gate (kept_by shelf)) (disk.contents d)
       → WithOrWithout before item (disk.contents d'))
-      → kept_by after ≡ record (kept_by shelf) { failed = true } → Adds disk {A = A} item shelf after d d' (Err Disk)
+      → kept_by after ≡ record (kept_by shelf) { failed = true }
+      → Adds disk {A = A} item (shelf_on shelf d) (shelf_on after d') (Err Disk)
   stopped {A = A} after later rose left keeps = record {
     calls = record { told = told; untold = untold; counted = (later, rose) };
     untouched = inl refl;

@@ -1,37 +1,11 @@
 -- What was read is of bytes, and an item of bytes with the right checksum holds a file.
-use Rattle.std.proofs.Common.{
-  ◌≡◌,
-  ◌<◌,
-  ◌+◌,
-  ℕ,
-  false,
-  Some,
-  None,
-  All,
-  List,
-  take,
-  drop,
-  refl,
-  sym,
-  subst,
-  Bool,
-  true,
-  slice_index,
-  ◌==◌,
-  arith,
-  ap,
-}
+use Rattle.std.proofs.Common.{◌≡◌, ◌<◌, ◌+◌, ℕ, false, Some, None, All, List, take, drop, refl, sym}
+use Rattle.std.proofs.Common.{subst, Bool, true, slice_index, ◌==◌, arith, ap}
 use Rattle.std.proofs.Math.Seq.{take-add}
 use Rattle.std.proofs.lemmas.Bool.{eqb-false, eqb-true}
 use Rattle.std.proofs.lemmas.List.{drop-drop}
 use Rattle.std.proofs.lemmas.List.Elements.{All-append, All-take}
-use Rattle.lr_shelf_format.specs.Items.{
-  Begins,
-  HasForm,
-  Holds,
-  computed_checksum,
-  stored_checksum,
-}
+use Rattle.lr_shelf_format.specs.Items.{Begins, HasForm, Holds, computed_checksum, stored_checksum}
 use Rattle.lr_shelf_format.specs.Record.{file_of_body, head_of, origin_of}
 use Rattle.lr_shelf_format.specs.Way.{HasRecord, Sound, IsFound, item_at}
 use Rattle.lr_shelf_format.specs.declared.entry.Entry.{Entry}

@@ -1,23 +1,6 @@
 -- The entries that a shelf keeps.
-use Rattle.std.proofs.Common.{
-  ◌≡◌,
-  ◌<◌,
-  ◌≤◌,
-  ◌+◌,
-  true,
-  ℕ,
-  zero,
-  suc,
-  List,
-  [],
-  ◌∷◌,
-  ◌++◌,
-  length,
-  get_or,
-  set,
-  ap,
-  arith,
-}
+use Rattle.std.proofs.Common.{◌≡◌, ◌<◌, ◌≤◌, ◌+◌, true, ℕ, zero, suc, List, [], ◌∷◌, ◌++◌, length}
+use Rattle.std.proofs.Common.{get_or, set, ap, arith}
 use Rattle.lr_shelf_format.specs.Items.{extent_of}
 use Rattle.lr_shelf_format.specs.Way.{entries_with, entries_with_gone}
 use Rattle.lr_shelf_format.specs.declared.entry.Entry.{Entry}

@@ -1,28 +1,6 @@
 -- What the first twenty bytes of a disk tell.
-use Rattle.std.proofs.Common.{
-  ◌≡◌,
-  ◌≤◌,
-  ◌↔◌,
-  inl,
-  inr,
-  ℕ,
-  List,
-  Option,
-  Some,
-  None,
-  IfSome,
-  IfNone,
-  MatchOption,
-  IsTrue,
-  is_some,
-  length,
-  take,
-  refl,
-  sym,
-  ◌∙◌,
-  ap,
-  arith,
-}
+use Rattle.std.proofs.Common.{◌≡◌, ◌≤◌, ◌↔◌, inl, inr, ℕ, List, Option, Some, None, IfSome, IfNone}
+use Rattle.std.proofs.Common.{MatchOption, IsTrue, is_some, length, take, refl, sym, ◌∙◌, ap, arith}
 use Rattle.std.proofs.lemmas.List.{take-take}
 use Rattle.lr_shelf_format.specs.Header.{HasHeader}
 use Rattle.lr_shelf.specs.Init.{IsTaken}

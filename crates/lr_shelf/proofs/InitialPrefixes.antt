@@ -14,20 +14,9 @@ use Rattle.lr_shelf.specs.Prefixes.{way_with_files}
 use Rattle.lr_shelf.specs.Kept.{kept_by}
 use Rattle.lr_shelf.specs.Shelf.{IsSettled}
 use Rattle.lr_shelf.specs.declared.shelf.Shelf.{Shelf}
-use Rattle.lr_shelf.specs.InitialShelves.{
-  InitialShelf,
-  OfItems,
-  OfWay,
-  HoldsStill,
-  IsSettledOn,
-  KeepsOn,
-  LeavesPrefixes,
-  StandsForPrefix,
-  StandsWith,
-  StandsWithEither,
-  way_on,
-  with_files,
-}
+use Rattle.lr_shelf.specs.InitialShelves.{InitialShelf, OfItems, OfWay, HoldsStill, IsSettledOn}
+use Rattle.lr_shelf.specs.InitialShelves.{KeepsOn, LeavesPrefixes, StandsForPrefix, StandsWith}
+use Rattle.lr_shelf.specs.InitialShelves.{StandsWithEither, way_on, with_files}
 use Rattle.lr_shelf.proofs.AddingLemmas.{way_of-push}
 use Rattle.lr_shelf.proofs.InitialShelves.{of_items}
 

@@ -15,34 +15,17 @@ use Rattle.lr_shelf_format.specs.Way.{Way, way_with}
 use Rattle.lr_shelf_format.specs.declared.header.TheConstants.{MOST_CAPACITY}
 use Rattle.lr_shelf.specs.Adds.{Adds, needed_by, new_end}
 use Rattle.lr_shelf.specs.Append.{item_for}
-use Rattle.lr_shelf.specs.Kept.{KeptShelf, kept_by}
+use Rattle.lr_shelf.specs.Kept.{KeptShelf, kept_by, shelf_on}
 use Rattle.lr_shelf.specs.Shelf.{IsSettled, StandsForEither}
 use Rattle.lr_shelf.specs.declared.error.ShelfError.{ShelfError}
 use Rattle.lr_shelf.specs.declared.shelf.Shelf.{Shelf}
-use Rattle.lr_shelf.proofs.Prefixes.{
-  capacity_stays,
-  either_left,
-  either_moments,
-  either_now,
-  end_with-append,
-  entries_after_files,
-  one_after,
-  way_end,
-  way_with_files-push,
-}
+use Rattle.lr_shelf.proofs.Prefixes.{capacity_stays, either_left, either_moments, either_now}
+use Rattle.lr_shelf.proofs.Prefixes.{end_with-append, entries_after_files, one_after, way_end}
+use Rattle.lr_shelf.proofs.Prefixes.{way_with_files-push}
 use Rattle.lr_shelf.proofs.ItemsKept.{entry_count_is}
-use Rattle.lr_shelf.specs.InitialShelves.{
-  InitialShelf,
-  OfItems,
-  OfWay,
-  IsSettledOn,
-  StandsWithEither,
-  capacity_of,
-  end_with_files,
-  next_number,
-  told_end,
-  with_files,
-}
+use Rattle.lr_shelf.specs.InitialShelves.{InitialShelf, OfItems, OfWay, IsSettledOn}
+use Rattle.lr_shelf.specs.InitialShelves.{StandsWithEither, capacity_of, end_with_files}
+use Rattle.lr_shelf.specs.InitialShelves.{next_number, told_end, with_files}
 
 -- ---- items
 
@@ -154,7 +137,8 @@ module _ {D A : Type 0} (disk : DiskOf D)
     (counts_now : (d : D) (t : ℕ) (c : List ℕ) → disk.tells d → t ≤ disk.moment d → disk.may_leave d c
     → disk.left_since d t c)
     (done : List Placed) (placed : Placed) (shelf shelf' : Shelf) (d d' : D) where
-  module _ (result : Result A ShelfError) (adds : Adds disk (item_for placed) shelf shelf' d d' result) where
+  module _ (result : Result A ShelfError) (adds : Adds disk (item_for placed) (shelf_on shelf d)
+      (shelf_on shelf' d') result) where
     pub moments_on : (initial : InitialShelf) → IsSettledOn initial done disk shelf d
         → EachImageSince disk d d' (StandsWithEither initial done placed)
     moments_on (OfItems capacity items) s =
@@ -183,11 +167,13 @@ module _ {D A : Type 0} (disk : DiskOf D)
         s.on_disk.stands s.on_disk.durable result adds
 
   -- the file was appended
-  pub settled_on : (answer : A) → Adds disk (item_for placed) shelf shelf' d d' (Ok answer) → (initial : InitialShelf)
+  pub settled_on : (answer : A) → Adds disk (item_for placed) (shelf_on shelf d) (shelf_on shelf' d') (Ok answer)
+      → (initial : InitialShelf)
       → IsSettledOn initial done disk shelf d → IsSettledOn initial (done ++ placed ∷ []) disk shelf' d'
   settled_on answer adds (OfItems capacity items) s =
       of_items disk (done ++ placed ∷ []) shelf' d' capacity items
-      (subst (λ (l : List Item). IsSettled disk capacity l shelf' d') (sym (with_files-append items done (placed ∷ [])))
+      (subst (λ (l : List Item). IsSettled disk capacity l shelf' d') (sym (with_files-append items done
+      (placed ∷ [])))
       (adds.acknowledged capacity (with_files items done) (to_items disk done shelf d capacity items s)))
   settled_on answer adds (OfWay way old) s = record {
     told = adds.calls.told s.told;

@@ -1,41 +1,12 @@
 -- The entries of a shelf of items.
-use Rattle.std.proofs.Common.{
-  ◌≡◌,
-  ◌+◌,
-  ◌<◌,
-  false,
-  ℕ,
-  zero,
-  suc,
-  Some,
-  List,
-  [],
-  ◌∷◌,
-  ◌++◌,
-  length,
-  map,
-  take,
-  drop,
-  All,
-  refl,
-  sym,
-}
+use Rattle.std.proofs.Common.{◌≡◌, ◌+◌, ◌<◌, false, ℕ, zero, suc, Some, List, [], ◌∷◌, ◌++◌, length}
+use Rattle.std.proofs.Common.{map, take, drop, All, refl, sym}
 use Rattle.std.proofs.Common.{ap, ◌∙◌, subst, arith, append_assoc, length-append}
 use Rattle.std.specs.List.{slice_get}
 use Rattle.std.proofs.lemmas.List.{drop_at, take_at}
 use Rattle.lr_shelf_format.specs.Header.{header_bytes}
-use Rattle.lr_shelf_format.specs.Items.{
-  IsItem,
-  IsProper,
-  Item,
-  old_item,
-  add_item,
-  discard_item,
-  entry_count,
-  extent_of,
-  head_of_item,
-  item_bytes,
-}
+use Rattle.lr_shelf_format.specs.Items.{IsItem, IsProper, Item, old_item, add_item, discard_item}
+use Rattle.lr_shelf_format.specs.Items.{entry_count, extent_of, head_of_item, item_bytes}
 use Rattle.lr_shelf_format.specs.ShelfBytes.{StandsForShelf, entries_of, steps_of}
 use Rattle.lr_shelf_format.specs.Walk.{Step, heads_of}
 use Rattle.lr_shelf_format.specs.Way.{Way, entries_after, entries_with, entries_with_gone, entry_in, item_at}

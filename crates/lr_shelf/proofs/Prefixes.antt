@@ -17,7 +17,7 @@ use Rattle.lr_shelf.specs.Adding.{WithOrWithout}
 use Rattle.lr_shelf.specs.Adds.{Adds, last_gate}
 use Rattle.lr_shelf.specs.Append.{item_for}
 use Rattle.lr_shelf.specs.Prefixes.{HasFilesAfter, end_with, gated_file, room_for, way_with_files}
-use Rattle.lr_shelf.specs.Kept.{KeptShelf, kept_by}
+use Rattle.lr_shelf.specs.Kept.{KeptShelf, kept_by, shelf_on}
 use Rattle.lr_shelf.specs.Shelf.{HasEitherWay, KeepsWay}
 use Rattle.lr_shelf.specs.declared.error.ShelfError.{ShelfError}
 use Rattle.lr_shelf.specs.declared.shelf.Shelf.{Shelf}
@@ -180,7 +180,7 @@ module _ {D : Type 0} (disk : DiskOf D)
       bytes)
 
   module _ {A : Type 0} (result : Result A ShelfError)
-      (adds : Adds disk (item_for placed) shelf shelf' d d' result) where
+      (adds : Adds disk (item_for placed) (shelf_on shelf d) (shelf_on shelf' d') result) where
     pub either_moments : EachImageSince disk d d' (HasEitherAfter way old files placed)
     either_moments =
         let ways = adds.way_any_moment told keeps only in
@@ -203,7 +203,8 @@ module _ {D : Type 0} (disk : DiskOf D)
     either_now = either_left (disk.contents d') (leaves_contents d' (adds.calls.told told))
 
   -- the file was appended
-  pub one_after : {A : Type 0} (answer : A) → Adds disk (item_for placed) shelf shelf' d d' (Ok answer)
+  pub one_after : {A : Type 0} (answer : A) → Adds disk (item_for placed) (shelf_on shelf d) (shelf_on shelf' d')
+      (Ok answer)
       → HasFilesAfter way old (files ++ placed ∷ []) (disk.contents d')
   one_after answer adds = ⊎_elim not_there (λ has'. has') (either_now (Ok answer) adds)
     where

@@ -7,19 +7,11 @@ use Rattle.lr_shelf.specs.Adds.{Adds, needed_by, new_end}
 use Rattle.lr_shelf.specs.Append.{Appends, IsAppendRefusal, item_for}
 use Rattle.lr_shelf.specs.Asked.{IsAskable, IsEntryRefusal, entry_of}
 use Rattle.lr_shelf.specs.Discards.{Discards, IsDiscardError}
-use Rattle.lr_shelf.specs.Kept.{KeptShelf, kept_by}
+use Rattle.lr_shelf.specs.Kept.{KeptShelf, kept_by, shelf_on}
 use Rattle.lr_shelf.specs.declared.error.ShelfError.{ShelfError}
-use Rattle.lr_shelf.specs.declared.error.ShelfError.TheVariants.{
-  Disk,
-  NotAShelf,
-  NotEmpty,
-  Capacity,
-  NoSuchFile,
-  Crc,
-  NoMemory,
-  Failed,
-  Discarded,
-}
+use Rattle.lr_shelf.specs.declared.error.ShelfError.TheVariants.{Disk, NotAShelf, NotEmpty}
+use Rattle.lr_shelf.specs.declared.error.ShelfError.TheVariants.{Capacity, NoSuchFile, Crc}
+use Rattle.lr_shelf.specs.declared.error.ShelfError.TheVariants.{NoMemory, Failed, Discarded}
 use Rattle.lr_shelf.specs.declared.shelf.Shelf.{Shelf}
 use Rattle.lr_shelf.proofs.AddingExits.{refused}
 use Rattle.lr_shelf.proofs.ItemsKept.{entry_count_is}
@@ -117,8 +109,9 @@ not_disk number kept error is same = absurd (subst (IsEntryRefusal kept number) 
 
 module _ {D : Type 0} (disk : DiskOf D) where
   pub append_err : (placed : Placed) (old new : Shelf) (d d' : D) (error : ShelfError)
-      → Adds disk {A = ℕ} (item_for placed) old new d d' (Err error)
-      → IsAppendRefusal (item_for placed) (kept_by old) error → Appends disk placed old new d d' (Err error)
+      → Adds disk {A = ℕ} (item_for placed) (shelf_on old d) (shelf_on new d') (Err error)
+      → IsAppendRefusal (item_for placed) (kept_by old) error
+      → Appends disk placed (shelf_on old d) (shelf_on new d') (Err error)
   append_err placed old new d d' error adds is = record {
     adds = adds;
     refused = is;
@@ -129,9 +122,9 @@ module _ {D : Type 0} (disk : DiskOf D) where
   }
 
   pub append_ok : (placed : Placed) (old new : Shelf) (d d' : D) (number : ℕ)
-      → Adds disk (item_for placed) old new d d' (Ok number) → (kept_by old).failed ≡ false
+      → Adds disk (item_for placed) (shelf_on old d) (shelf_on new d') (Ok number) → (kept_by old).failed ≡ false
       → new_end (item_for placed) (kept_by old) ≤ (kept_by old).way.capacity
-      → number ≡ length (kept_by old).way.entries → Appends disk placed old new d d' (Ok number)
+      → number ≡ length (kept_by old).way.entries → Appends disk placed (shelf_on old d) (shelf_on new d') (Ok number)
   append_ok placed old new d d' number adds works fits is = record {
     adds = adds;
     refused = tt;
@@ -142,8 +135,8 @@ module _ {D : Type 0} (disk : DiskOf D) where
   }
 
   pub discard_err : (number : ℕ) (old new : Shelf) (d d' : D) (error : ShelfError)
-      → Adds disk {A = Unit {0}} (discard_item number) old new d d' (Err error)
-      → IsDiscardError number (kept_by old) error → Discards disk number old new d d' (Err error)
+      → Adds disk {A = Unit {0}} (discard_item number) (shelf_on old d) (shelf_on new d') (Err error)
+      → IsDiscardError number (kept_by old) error → Discards disk number (shelf_on old d) (shelf_on new d') (Err error)
   discard_err number old new d d' error adds is = record {
     adds = adds;
     refused = is;
@@ -154,9 +147,9 @@ module _ {D : Type 0} (disk : DiskOf D) where
   }
 
   pub discard_ok : (number : ℕ) (old new : Shelf) (d d' : D) (answer : Unit {0})
-      → Adds disk (discard_item number) old new d d' (Ok answer) → IsAskable (kept_by old) number
+      → Adds disk (discard_item number) (shelf_on old d) (shelf_on new d') (Ok answer) → IsAskable (kept_by old) number
       → new_end (discard_item number) (kept_by old) ≤ (kept_by old).way.capacity
-      → Discards disk number old new d d' (Ok answer)
+      → Discards disk number (shelf_on old d) (shelf_on new d') (Ok answer)
   discard_ok number old new d d' answer adds askable fits = record {
     adds = adds;
     refused = tt;
@@ -171,13 +164,13 @@ module _ {D : Type 0} (disk : DiskOf D)
   -- before the disk is written
   pub append_refused : (placed : Placed) (old new : Shelf) (d : D) (error : ShelfError)
       → IsAppendRefusal (item_for placed) (kept_by old) error → error ≢ Disk → kept_by new ≡ kept_by old
-      → Appends disk placed old new d d (Err error)
+      → Appends disk placed (shelf_on old d) (shelf_on new d) (Err error)
   append_refused placed old new d error is other same =
       append_err disk placed old new d d error (refused disk only_now (item_for placed) old d new error other same) is
 
   pub discard_refused : (number : ℕ) (old new : Shelf) (d : D) (error : ShelfError)
       → IsDiscardError number (kept_by old) error → error ≢ Disk → kept_by new ≡ kept_by old
-      → Discards disk number old new d d (Err error)
+      → Discards disk number (shelf_on old d) (shelf_on new d) (Err error)
   discard_refused number old new d error is other same =
       discard_err disk number old new d d error
       (refused disk only_now (discard_item number) old d new error other same) is

@@ -7,7 +7,7 @@ use Rattle.lr_disk.specs.Pending.{EachImageSince, NothingPending}
 use Rattle.lr_shelf_format.specs.Items.{Item, extent_of, head_of_item, item_bytes}
 use Rattle.lr_shelf.specs.Adding.{StaysOutside, WithOrWithout}
 use Rattle.lr_shelf.specs.Calls.{Calls}
-use Rattle.lr_shelf.specs.Kept.{KeptShelf, kept_by, kept_with}
+use Rattle.lr_shelf.specs.Kept.{KeptShelf, ShelfOn, kept_on, kept_with}
 use Rattle.lr_shelf.specs.Shelf.{HasEitherWay, IsSettled, KeepsWay, StandsForEither}
 use Rattle.lr_shelf.specs.declared.error.ShelfError.{ShelfError}
 use Rattle.lr_shelf.specs.declared.error.ShelfError.TheVariants.{Disk}
@@ -26,40 +26,44 @@ abbrev pub last_gate : KeptShelf → ℕ
 last_gate kept = kept.way.end - 1
 
 module _ {D : Type 0} (disk : DiskOf D) where
-  pub record Adds {A : Type 0} (item : Item) (old new : Shelf) (d d' : D) (result : Result A ShelfError) : Type 0 where
-    pub calls : Calls disk d d' result
+  pub record Adds {A : Type 0} (item : Item) (old new : ShelfOn D) (result : Result A ShelfError) : Type 0 where
+    pub calls : Calls disk old.disk new.disk result
     -- what a refusal leaves, and what the shelf keeps after Ok
-    pub untouched : IfErr result (λ error. (error ≡ Disk) ⊎ ((d' ≡ d) × (kept_by new ≡ kept_by old)))
-    pub failed : result ≡ Err Disk → kept_by new ≡ record (kept_by old) { failed = true }
-    pub working : OnOk result ((kept_by old).failed ≡ false)
-    pub kept : OnOk result (kept_by new ≡ kept_with item (kept_by old))
+    pub untouched : IfErr result (λ error. (error ≡ Disk) ⊎ ((new.disk ≡ old.disk) × (kept_on new ≡ kept_on old)))
+    pub failed : result ≡ Err Disk → kept_on new ≡ record (kept_on old) { failed = true }
+    pub working : OnOk result ((kept_on old).failed ≡ false)
+    pub kept : OnOk result (kept_on new ≡ kept_with item (kept_on old))
     -- over every disk that tells its contents: the bytes before the gate and after the new end stay, at each return
     -- and in each image, and after Ok the gate is open, the item stands after it and then a closed gate, and nothing
     -- is pending
-    pub outside : disk.tells d
-        → StaysOutside (last_gate (kept_by old)) (new_end item (kept_by old)) (disk.contents d) (disk.contents d')
-    pub outside_any_moment : disk.tells d → NothingPending disk d
-        → EachImageSince disk d d'
-        (StaysOutside (last_gate (kept_by old)) (new_end item (kept_by old)) (disk.contents d))
-    pub stands : disk.tells d
-        → OnOk result (take (2 + extent_of (head_of_item item)) (drop (last_gate (kept_by old)) (disk.contents d'))
-        ≡ 1 ∷ (item_bytes item ++ 0 ∷ []))
-    pub durable : disk.tells d → OnOk result (NothingPending disk d')
+    pub outside : disk.tells old.disk
+        → StaysOutside (last_gate (kept_on old)) (new_end item (kept_on old)) (disk.contents old.disk)
+        (disk.contents new.disk)
+    pub outside_any_moment : disk.tells old.disk → NothingPending disk old.disk
+        → EachImageSince disk old.disk new.disk
+        (StaysOutside (last_gate (kept_on old)) (new_end item (kept_on old)) (disk.contents old.disk))
+    pub stands : disk.tells old.disk
+        → OnOk result (take (2 + extent_of (head_of_item item))
+        (drop (last_gate (kept_on old)) (disk.contents new.disk)) ≡ 1 ∷ (item_bytes item ++ 0 ∷ []))
+    pub durable : disk.tells old.disk → OnOk result (NothingPending disk new.disk)
     -- over a disk whose way the shelf keeps, whatever its records hold and wherever it ends: what is there at the
     -- return, and what a stop at any moment leaves, as ways and as bytes
-    pub way : disk.tells d → KeepsWay (disk.contents d) old → OnOk result (KeepsWay (disk.contents d') new)
-    pub either_way : disk.tells d → KeepsWay (disk.contents d) old
-        → HasEitherWay (kept_by old).way item (disk.contents d')
-    pub way_any_moment : disk.tells d → KeepsWay (disk.contents d) old → NothingPending disk d
-        → EachImageSince disk d d' (HasEitherWay (kept_by old).way item)
-    pub bytes_any_moment : disk.tells d → KeepsWay (disk.contents d) old → NothingPending disk d
-        → EachImageSince disk d d'
-        (WithOrWithout (take (last_gate (kept_by old)) (disk.contents d)) (item_bytes item))
+    pub way : disk.tells old.disk → KeepsWay (disk.contents old.disk) old.shelf
+        → OnOk result (KeepsWay (disk.contents new.disk) new.shelf)
+    pub either_way : disk.tells old.disk → KeepsWay (disk.contents old.disk) old.shelf
+        → HasEitherWay (kept_on old).way item (disk.contents new.disk)
+    pub way_any_moment : disk.tells old.disk → KeepsWay (disk.contents old.disk) old.shelf
+        → NothingPending disk old.disk
+        → EachImageSince disk old.disk new.disk (HasEitherWay (kept_on old).way item)
+    pub bytes_any_moment : disk.tells old.disk → KeepsWay (disk.contents old.disk) old.shelf
+        → NothingPending disk old.disk
+        → EachImageSince disk old.disk new.disk
+        (WithOrWithout (take (last_gate (kept_on old)) (disk.contents old.disk)) (item_bytes item))
     -- over a shelf of these items: what a stop at any moment leaves, and what is there at the return
-    pub any_moment : (capacity : ℕ) (items : List Item) → IsSettled disk capacity items old d
-        → EachImageSince disk d d' (StandsForEither capacity items item)
-    pub acknowledged : (capacity : ℕ) (items : List Item) → IsSettled disk capacity items old d
-        → OnOk result (IsSettled disk capacity (items ++ item ∷ []) new d')
-    pub either : (capacity : ℕ) (items : List Item) → IsSettled disk capacity items old d
-        → StandsForEither capacity items item (disk.contents d')
-        × ((c : List ℕ) → disk.may_leave d' c → StandsForEither capacity items item c)
+    pub any_moment : (capacity : ℕ) (items : List Item) → IsSettled disk capacity items old.shelf old.disk
+        → EachImageSince disk old.disk new.disk (StandsForEither capacity items item)
+    pub acknowledged : (capacity : ℕ) (items : List Item) → IsSettled disk capacity items old.shelf old.disk
+        → OnOk result (IsSettled disk capacity (items ++ item ∷ []) new.shelf new.disk)
+    pub either : (capacity : ℕ) (items : List Item) → IsSettled disk capacity items old.shelf old.disk
+        → StandsForEither capacity items item (disk.contents new.disk)
+        × ((c : List ℕ) → disk.may_leave new.disk c → StandsForEither capacity items item c)

@@ -1,5 +1,5 @@
 -- What files come onto, and what stands there with them.
-use Rattle.std.specs.Prelude.{◌≡◌, ◌≢◌, ◌⊎◌, ◌<◌, ◌≤◌, ◌++◌, ◌∷◌, ℕ, false, min, List, [], length, map}
+use Rattle.std.specs.Prelude.{◌≡◌, ◌⊎◌, ◌<◌, ◌≤◌, ◌++◌, ◌∷◌, ℕ, false, min, List, [], length, map}
 use Rattle.lr_bits.specs.declared.placed.Placed.{Placed}
 use Rattle.lr_bits.specs.Sizes.{most_u64}
 use Rattle.lr_disk.specs.declared.disk.Disk.{Ghosts as DiskOf}
@@ -62,11 +62,6 @@ told_end (OfWay way bytes) files = min (end_with way.end files) most_u64
 abbrev pub AllHaveRoom : InitialShelf → List Placed → Type 0
 AllHaveRoom (OfItems capacity items) files = end_of (with_files items files) ≤ capacity
 AllHaveRoom (OfWay way bytes) files = HasRoom way files
-
--- there is none for some of them
-abbrev pub SomeLackRoom : InitialShelf → List Placed → Type 0
-SomeLackRoom (OfItems capacity items) files = capacity < end_of (with_files items files)
-SomeLackRoom (OfWay way bytes) files = (files ≢ []) × (way.capacity < end_with way.end files)
 
 -- the way that a shelf in memory keeps then
 abbrev pub way_on : InitialShelf → List Placed → Way

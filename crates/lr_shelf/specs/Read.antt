@@ -8,18 +8,11 @@ use Rattle.lr_shelf_format.specs.declared.entry.Entry.{Entry}
 use Rattle.lr_shelf_format.specs.declared.stored.Stored.{Stored}
 use Rattle.lr_shelf.specs.Asked.{IsAskable, IsEntryRefusal, entry_of}
 use Rattle.lr_shelf.specs.Calls.{ReadsDisk}
-use Rattle.lr_shelf.specs.Kept.{KeptShelf, kept_by}
+use Rattle.lr_shelf.specs.Kept.{KeptShelf, ShelfOn, kept_on}
 use Rattle.lr_shelf.specs.Shelf.{IsSettled}
 use Rattle.lr_shelf.specs.declared.error.ShelfError.{ShelfError}
-use Rattle.lr_shelf.specs.declared.error.ShelfError.TheVariants.{
-  Disk,
-  NotAShelf,
-  NoSuchFile,
-  Crc,
-  NoMemory,
-  Failed,
-  Discarded,
-}
+use Rattle.lr_shelf.specs.declared.error.ShelfError.TheVariants.{Disk, NotAShelf, NoSuchFile, Crc}
+use Rattle.lr_shelf.specs.declared.error.ShelfError.TheVariants.{NoMemory, Failed, Discarded}
 use Rattle.lr_shelf.specs.declared.shelf.Shelf.{Shelf}
 
 module _ {D : Type 0} (disk : DiskOf D) (entry : Entry) (d : D) where
@@ -57,21 +50,21 @@ module _ {D : Type 0} (disk : DiskOf D) (kept : KeptShelf) (number : ℕ) (d : D
   IsCheckRefusal error = IsGetRefusal error
 
 module _ {D : Type 0} (disk : DiskOf D) where
-  pub record Checks (number : ℕ) (old new : Shelf) (d d' : D) (result : Result (Unit {0}) ShelfError) : Type 0 where
-    pub reads : ReadsDisk disk d d' result
-    pub kept : kept_by new ≡ kept_by old
-    pub refused : IfErr result (IsCheckRefusal disk (kept_by old) number d)
-    pub askable : OnOk result (IsAskable (kept_by old) number)
-    pub sound : OnOk result (FindsSound disk (entry_of (kept_by old) number) d)
+  pub record Checks (number : ℕ) (old new : ShelfOn D) (result : Result (Unit {0}) ShelfError) : Type 0 where
+    pub reads : ReadsDisk disk old.disk new.disk result
+    pub kept : kept_on new ≡ kept_on old
+    pub refused : IfErr result (IsCheckRefusal disk (kept_on old) number old.disk)
+    pub askable : OnOk result (IsAskable (kept_on old) number)
+    pub sound : OnOk result (FindsSound disk (entry_of (kept_on old) number) old.disk)
     -- `get` would answer this file, if memory is to be had
-    pub file : OnOk result (FindsFile disk (entry_of (kept_by old) number) d)
+    pub file : OnOk result (FindsFile disk (entry_of (kept_on old) number) old.disk)
 
-  pub record Gets (number : ℕ) (old new : Shelf) (d d' : D) (result : Result Stored ShelfError) : Type 0 where
-    pub reads : ReadsDisk disk d d' result
-    pub kept : kept_by new ≡ kept_by old
-    pub refused : IfErr result (IsGetRefusal disk (kept_by old) number d)
-    pub askable : OnOk result (IsAskable (kept_by old) number)
-    pub stored : IfOk result (λ stored. Finds disk (entry_of (kept_by old) number) d (Some (Sound stored)))
+  pub record Gets (number : ℕ) (old new : ShelfOn D) (result : Result Stored ShelfError) : Type 0 where
+    pub reads : ReadsDisk disk old.disk new.disk result
+    pub kept : kept_on new ≡ kept_on old
+    pub refused : IfErr result (IsGetRefusal disk (kept_on old) number old.disk)
+    pub askable : OnOk result (IsAskable (kept_on old) number)
+    pub stored : IfOk result (λ stored. Finds disk (entry_of (kept_on old) number) old.disk (Some (Sound stored)))
     -- over a shelf of these items
-    pub settled : (capacity : ℕ) (items : List Item) → IsSettled disk capacity items old d
+    pub settled : (capacity : ℕ) (items : List Item) → IsSettled disk capacity items old.shelf old.disk
         → IfOk result (λ stored. slice_get (entries_of items) number ≡ Some (item_of_stored stored))

@@ -10,12 +10,13 @@ use lr_shelf_format::discard_of;
 
 impl Shelf {
     ghost use Rattle.lr_shelf.specs.Discards.{Discards};
+    ghost use Rattle.lr_shelf.specs.Kept.{shelf_on};
 
     /// Discards the file of this number, and takes no memory. Refused, in this order, with `Failed`, `NoSuchFile`,
     /// `Discarded`, `Capacity`, after which disk and shelf are as before, and with `Disk`, after which the shelf
     /// answers `Failed` until it is loaded again.
     pub fn discard<D: Disk>(&mut self, disk: &mut D, number: u64) -> Result<(), ShelfError>
-        ensures { Discards D.Disk number self.old self.new disk.old disk.new result }
+        ensures { Discards D.Disk number (shelf_on self.old disk.old) (shelf_on self.new disk.new) result }
     {
         let _entry = self.entry(number)?;
         let staged = discard_of(number);

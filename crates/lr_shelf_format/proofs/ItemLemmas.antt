@@ -1,42 +1,9 @@
 -- What the first bytes of an item tell, and items read back.
-use Rattle.std.proofs.Common.{
-  ◌≡◌,
-  ◌<◌,
-  ◌≤◌,
-  ◌+◌,
-  ◌-◌,
-  ◌*◌,
-  ℕ,
-  List,
-  [],
-  ◌∷◌,
-  ◌++◌,
-  length,
-  slice_index,
-  take,
-  drop,
-  refl,
-  sym,
-  ap,
-  ◌∙◌,
-  subst,
-  arith,
-  append_assoc,
-  length-append,
-  length-drop,
-  take-append-drop,
-  ◌^◌,
-}
-use Rattle.std.proofs.lemmas.List.{
-  take_at,
-  drop_at,
-  drop-drop,
-  drop-take,
-  take-take,
-  take_all,
-  get_or-take,
-  append_cancel_left,
-}
+use Rattle.std.proofs.Common.{◌≡◌, ◌<◌, ◌≤◌, ◌+◌, ◌-◌, ◌*◌, ℕ, List, [], ◌∷◌, ◌++◌, length, slice_index, take, drop}
+use Rattle.std.proofs.Common.{refl, sym, ap, ◌∙◌, subst, arith, append_assoc, length-append, length-drop}
+use Rattle.std.proofs.Common.{take-append-drop, ◌^◌}
+use Rattle.std.proofs.lemmas.List.{take_at, drop_at, drop-drop, drop-take, take-take, take_all, get_or-take}
+use Rattle.std.proofs.lemmas.List.{append_cancel_left}
 use Rattle.std.proofs.Math.Seq.{take-add}
 use Rattle.byteorder.specs.Endian.{big_bytes, big_number}
 use Rattle.byteorder.specs.Numbers.{big_number-reads_back, big_from-take}
@@ -44,59 +11,18 @@ use Rattle.lr_bits.specs.Crc.{crc_of}
 use Rattle.lr_bits.specs.File.{File, IsFile}
 use Rattle.lr_bits.specs.declared.placed.Origin.{Origin}
 use Rattle.std.proofs.Common.{Some, None}
-use Rattle.lr_shelf_format.specs.Items.{
-  Begins,
-  HasBody,
-  HasForm,
-  Holds,
-  IsItem,
-  Item,
-  old_item,
-  add_item,
-  discard_item,
-  old_bytes,
-  add_bytes,
-  discard_bytes,
-  item_bytes,
-  extent_of,
-  head_of_item,
-  stored_checksum,
-  computed_checksum,
-  item_of,
-}
-use Rattle.lr_shelf_format.specs.Record.{
-  file_of_body,
-  IsHead,
-  body_of,
-  bytes_of_head,
-  head_of,
-  head_of_file,
-  origin_bytes,
-  origin_of,
-  with_checksum,
-}
+use Rattle.lr_shelf_format.specs.Items.{Begins, HasBody, HasForm, Holds, IsItem, Item, old_item, add_item}
+use Rattle.lr_shelf_format.specs.Items.{discard_item, old_bytes, add_bytes, discard_bytes, item_bytes, extent_of}
+use Rattle.lr_shelf_format.specs.Items.{head_of_item, stored_checksum, computed_checksum, item_of}
+use Rattle.lr_shelf_format.specs.Record.{file_of_body, IsHead, body_of, bytes_of_head, head_of, head_of_file}
+use Rattle.lr_shelf_format.specs.Record.{origin_bytes, origin_of, with_checksum}
 use Rattle.lr_shelf_format.specs.declared.item.ItemHead.{ItemHead}
 use Rattle.lr_shelf_format.specs.declared.item.ItemHead.TheVariants.{Old, Add, Discard}
 use Rattle.lr_shelf_format.specs.declared.record.RecordHead.{RecordHead}
-use Rattle.lr_shelf_format.proofs.NumberLemmas.{
-  AreBytes,
-  AreBytes-drop,
-  bytes_of_two,
-  fields_back,
-  first_one,
-  origin_back,
-  eight_low,
-}
-use Rattle.lr_shelf_format.proofs.RecordLemmas.{
-  IsFile-from,
-  IsHead-file,
-  body_of-from,
-  file_from-body,
-  head_of-fields,
-  head_of_file-from,
-  length-body_of,
-  origin_of-bytes,
-}
+use Rattle.lr_shelf_format.proofs.NumberLemmas.{AreBytes, AreBytes-drop, bytes_of_two, fields_back, first_one}
+use Rattle.lr_shelf_format.proofs.NumberLemmas.{origin_back, eight_low}
+use Rattle.lr_shelf_format.proofs.RecordLemmas.{IsFile-from, IsHead-file, body_of-from, file_from-body}
+use Rattle.lr_shelf_format.proofs.RecordLemmas.{head_of-fields, head_of_file-from, length-body_of, origin_of-bytes}
 
 -- ---- heads
 
@@ -110,16 +36,7 @@ head_of-take xs =
     ap (big_number 4) (drop-take 3 8 xs) ∙ big_from-take 0 4 8 (drop 3 xs) (omega arith) in
     let size : big_number 4 (drop 7 (take 11 xs)) ≡ big_number 4 (drop 7 xs) = ap (big_number 4) (drop-take 7 4 xs)
     ∙ big_from-take 0 4 4 (drop 7 xs) (omega arith) in
-    head_made vc apid packets size
-  where
-    head_made : {a b c d a' b' c' d' : ℕ} → a ≡ a' → b ≡ b' → c ≡ c' → d ≡ d'
-        → ◌≡◌ {A = RecordHead} (record { vc = a; apid = b; packets = c; bytes = d })
-        (record { vc = a'; apid = b'; packets = c'; bytes = d' })
-    head_made {b = b} {c = c} {d = d} {a' = a'} {b' = b'} {c' = c'} p q r s =
-        ap (λ n. record { vc = n; apid = b; packets = c; bytes = d }) p
-        ∙ ap (λ n. record { vc = a'; apid = n; packets = c; bytes = d }) q
-        ∙ ap (λ n. record { vc = a'; apid = b'; packets = n; bytes = d }) r
-        ∙ ap (λ n. record { vc = a'; apid = b'; packets = c'; bytes = n }) s
+    λ i. record { vc = vc i; apid = apid i; packets = packets i; bytes = size i }
 
 -- the same first eleven bytes, or more of them, give the same head
 pub head_of-same : (n : ℕ) (xs ys : List ℕ) → 11 ≤ n → take n xs ≡ take n ys → head_of xs ≡ head_of ys

@@ -1,32 +1,6 @@
 -- Numbers in bytes, and bytes of numbers.
-use Rattle.std.proofs.Common.{
-  ◌≡◌,
-  ◌<◌,
-  ◌≤◌,
-  ◌+◌,
-  ◌*◌,
-  ◌/◌,
-  ◌%◌,
-  ℕ,
-  zero,
-  suc,
-  List,
-  [],
-  ◌∷◌,
-  ◌++◌,
-  length,
-  slice_index,
-  take,
-  drop,
-  All,
-  refl,
-  sym,
-  ap,
-  ◌∙◌,
-  arith,
-  length-drop,
-  ◌^◌,
-}
+use Rattle.std.proofs.Common.{◌≡◌, ◌<◌, ◌≤◌, ◌+◌, ◌*◌, ◌/◌, ◌%◌, ℕ, zero, suc, List, [], ◌∷◌, ◌++◌, length}
+use Rattle.std.proofs.Common.{slice_index, take, drop, All, refl, sym, ap, ◌∙◌, arith, length-drop, ◌^◌}
 use Rattle.std.specs.List.{flat_map}
 use Rattle.std.proofs.lemmas.List.{drop-drop, get_or-drop}
 use Rattle.std.proofs.Math.Seq.{take-add}
@@ -83,10 +57,7 @@ big_bytes-four a b c d fa fb fc fd =
     let second : n / 65536 % 256 ≡ b = omega arith in
     let third : n / 256 % 256 ≡ c = omega arith in
     let fourth : n % 256 ≡ d = omega arith in
-    ap (λ x. x ∷ n / 65536 % 256 ∷ n / 256 % 256 ∷ n % 256 ∷ []) first
-    ∙ ap (λ x. a ∷ x ∷ n / 256 % 256 ∷ n % 256 ∷ []) second
-    ∙ ap (λ x. a ∷ b ∷ x ∷ n % 256 ∷ []) third
-    ∙ ap (λ x. a ∷ b ∷ c ∷ x ∷ []) fourth
+    λ i. first i ∷ second i ∷ third i ∷ fourth i ∷ []
 
 -- the bytes of the number in four bytes
 pub bytes_of_four : (xs : List ℕ) → AreBytes xs → 4 ≤ length xs → big_bytes 4 (big_number 4 xs) ≡ take 4 xs
@@ -111,12 +82,7 @@ eight_high h l fh fl =
     let p2 : n / 65536 % 256 ≡ l / 65536 % 256 = omega arith in
     let p1 : n / 256 % 256 ≡ l / 256 % 256 = omega arith in
     let p0 : n % 256 ≡ l % 256 = omega arith in
-    eight p7 p6 p5 p4 p3 p2 p1 p0
-  where
-    eight : {a b c d e f g i a' b' c' d' e' f' g' i' : ℕ} → a ≡ a' → b ≡ b' → c ≡ c' → d ≡ d' → e ≡ e' → f ≡ f'
-        → g ≡ g' → i ≡ i'
-        → ◌≡◌ {A = List ℕ} (a ∷ b ∷ c ∷ d ∷ e ∷ f ∷ g ∷ i ∷ []) (a' ∷ b' ∷ c' ∷ d' ∷ e' ∷ f' ∷ g' ∷ i' ∷ [])
-    eight pa pb pc pd pe pf pg pi = rw (pa, pb, pc, pd, pe, pf, pg, pi) refl
+    λ i. p7 i ∷ p6 i ∷ p5 i ∷ p4 i ∷ p3 i ∷ p2 i ∷ p1 i ∷ p0 i ∷ []
 
 eight_split : (xs : List ℕ) → 8 ≤ length xs → big_number 8 xs ≡ big_number 4 xs * 2 ^ 32 + big_number 4 (drop 4 xs)
 eight_split [] long = absurd (omega arith)
@@ -185,10 +151,7 @@ fields_back bytes fit long =
     ∙ ap (λ l. take 2 (drop 1 bytes) ++ take 8 l) (drop-drop 2 1 bytes) in
     let all : take 11 bytes ≡ take 1 bytes ++ take 10 (drop 1 bytes) = take-add 1 10 bytes in
     let front = slice_index bytes 0 in
-    ap (λ l. front ∷ (l ++
-    (big_bytes 4 (big_number 4 (drop 3 bytes)) ++ big_bytes 4 (big_number 4 (drop 7 bytes))))) apid
-    ∙ ap (λ l. front ∷ (take 2 (drop 1 bytes) ++ (l ++ big_bytes 4 (big_number 4 (drop 7 bytes))))) packets
-    ∙ ap (λ l. front ∷ (take 2 (drop 1 bytes) ++ (take 4 (drop 3 bytes) ++ l))) size
+    (λ i. front ∷ (apid i ++ (packets i ++ size i)))
     ∙ ap (λ l. front ∷ (take 2 (drop 1 bytes) ++ l)) (sym seven)
     ∙ ap (λ l. front ∷ l) (sym three)
     ∙ ap (λ l. l ++ take 10 (drop 1 bytes)) (sym (first_one bytes (omega arith)))
@@ -202,7 +165,5 @@ origin_back bytes fit long =
     let corrected = bytes_of_eight (drop 16 bytes) (AreBytes-drop 16 bytes fit) (omega (arith, length-drop 16 bytes)) in
     let two : take 16 (drop 8 bytes) ≡ take 8 (drop 8 bytes) ++ take 8 (drop 16 bytes) = take-add 8 8 (drop 8 bytes)
     ∙ ap (λ l. take 8 (drop 8 bytes) ++ take 8 l) (drop-drop 8 8 bytes) in
-    ap (λ l. l ++ (big_bytes 8 (big_number 8 (drop 8 bytes)) ++ big_bytes 8 (big_number 8 (drop 16 bytes)))) first
-    ∙ ap (λ l. take 8 bytes ++ (l ++ big_bytes 8 (big_number 8 (drop 16 bytes)))) last
-    ∙ ap (λ l. take 8 bytes ++ (take 8 (drop 8 bytes) ++ l)) corrected
+    (λ i. first i ++ (last i ++ corrected i))
     ∙ ap (λ l. take 8 bytes ++ l) (sym two) ∙ sym (take-add 8 16 bytes)

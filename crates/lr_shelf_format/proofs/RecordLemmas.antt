@@ -1,27 +1,6 @@
 -- The fields and the body of a record read back, and the file that is read of a body.
-use Rattle.std.proofs.Common.{
-  ◌≡◌,
-  ◌<◌,
-  ◌+◌,
-  ◌*◌,
-  ℕ,
-  List,
-  ◌++◌,
-  length,
-  take,
-  drop,
-  map,
-  All,
-  refl,
-  sym,
-  ap,
-  ◌∙◌,
-  subst,
-  arith,
-  append_assoc,
-  length-append,
-  length-drop,
-}
+use Rattle.std.proofs.Common.{◌≡◌, ◌<◌, ◌+◌, ◌*◌, ℕ, List, ◌++◌, length, take, drop, map, All, refl, sym, ap, ◌∙◌}
+use Rattle.std.proofs.Common.{subst, arith, append_assoc, length-append, length-drop}
 use Rattle.std.specs.List.{flat_map}
 use Rattle.std.proofs.lemmas.List.{take_at, drop_at, length-map, length-take-le}
 use Rattle.std.proofs.Math.Seq.{take-add}
@@ -29,35 +8,14 @@ use Rattle.byteorder.specs.Endian.{big_bytes, big_number}
 use Rattle.byteorder.specs.Numbers.{big_number-reads_back}
 use Rattle.lr_bits.specs.File.{File, IsFile, MakeFile, bytes_of, file_of}
 use Rattle.lr_bits.specs.declared.placed.Origin.{Origin}
-use Rattle.lr_bits.proofs.FileLemmas.{
-  MakeFile-parts,
-  file_of-parts,
-  bytes_of-file_of,
-  lengths_of-file_of,
-  length-pieces_of,
-  IsFile-file_of,
-}
+use Rattle.lr_bits.proofs.FileLemmas.{MakeFile-parts, file_of-parts, bytes_of-file_of, lengths_of-file_of}
+use Rattle.lr_bits.proofs.FileLemmas.{length-pieces_of, IsFile-file_of}
 use Rattle.lr_shelf_format.specs.Items.{HasBody, IsOrigin}
-use Rattle.lr_shelf_format.specs.Record.{
-  IsHead,
-  body_of,
-  file_of_body,
-  bytes_of_head,
-  head_of,
-  head_of_file,
-  numbers_in,
-  origin_bytes,
-  origin_of,
-}
+use Rattle.lr_shelf_format.specs.Record.{IsHead, body_of, file_of_body, bytes_of_head, head_of, head_of_file}
+use Rattle.lr_shelf_format.specs.Record.{numbers_in, origin_bytes, origin_of}
 use Rattle.lr_shelf_format.specs.declared.record.RecordHead.{RecordHead}
-use Rattle.lr_shelf_format.proofs.NumberLemmas.{
-  AreBytes,
-  AreBytes-drop,
-  length-numbers_in,
-  length-pairs,
-  numbers_in-pairs,
-  pairs-numbers_in,
-}
+use Rattle.lr_shelf_format.proofs.NumberLemmas.{AreBytes, AreBytes-drop, length-numbers_in, length-pairs}
+use Rattle.lr_shelf_format.proofs.NumberLemmas.{numbers_in-pairs, pairs-numbers_in}
 
 -- ---- what was written is read
 
@@ -66,8 +24,7 @@ IsHead-file file is = record {
   channel = is.channel;
   application = is.application;
   some = is.some;
-  few =
-      is.few;
+  few = is.few;
   least = is.least;
   most = is.most;
 }
@@ -83,16 +40,7 @@ head_of-fields file more is =
     let packets : big_number 4 (big_bytes 4 k ++ (big_bytes 4 t ++ more)) ≡ k =
     big_number-reads_back 4 k (big_bytes 4 t ++ more) (omega (arith, is.few)) in
     let bytes : big_number 4 (big_bytes 4 t ++ more) ≡ t = big_number-reads_back 4 t more (omega (arith, is.most)) in
-    ap (λ n. record {
-      vc = file.vc;
-      apid = n;
-      packets =
-          big_number 4 (big_bytes 4 k ++ (big_bytes 4 t ++ more));
-      bytes = big_number 4 (big_bytes 4 t ++ more);
-    }) apid
-    ∙ ap (λ n. record { vc = file.vc; apid = file.apid; packets = n; bytes = big_number 4 (big_bytes 4 t ++ more) })
-    packets
-    ∙ ap (λ n. record { vc = file.vc; apid = file.apid; packets = k; bytes = n }) bytes
+    λ i. record { vc = file.vc; apid = apid i; packets = packets i; bytes = bytes i }
 
 -- the origin reads back
 pub origin_of-bytes : (origin : Origin) (more : List ℕ) → IsOrigin origin
@@ -107,14 +55,7 @@ origin_of-bytes origin more is =
     big_number-reads_back 8 b (big_bytes 8 c ++ more) (omega (arith, is.last)) in
     let corrected : big_number 8 (big_bytes 8 c ++ more) ≡ c =
     big_number-reads_back 8 c more (omega (arith, is.corrected)) in
-    ap (λ n. record {
-      first = n;
-      last = big_number 8 (big_bytes 8 b ++ (big_bytes 8 c ++ more));
-      corrected =
-          big_number 8 (big_bytes 8 c ++ more);
-    }) first
-    ∙ ap (λ n. record { first = a; last = n; corrected = big_number 8 (big_bytes 8 c ++ more) }) last
-    ∙ ap (λ n. record { first = a; last = b; corrected = n }) corrected
+    λ i. record { first = first i; last = last i; corrected = corrected i }
 
 pub length-body_of : (file : File) → length (body_of file) ≡ 2 * length file.bodies + length (bytes_of file)
 length-body_of file =
@@ -201,9 +142,8 @@ module _ (head : RecordHead) (place : ℕ) (bytes : List ℕ) (is : IsHead head)
       ∙ length-numbers_in head.packets (drop place bytes) in
       let file = file_of head.vc head.apid (numbers_in head.packets (drop place bytes))
       (take head.bytes (drop (2 * head.packets) (drop place bytes))) in
-      ap (λ n. record { vc = head.vc; apid = head.apid; packets = n; bytes = length (bytes_of file) }) many
-      ∙ ap (λ n. record { vc = head.vc; apid = head.apid; packets = head.packets; bytes = n })
-      (ap length joined ∙ size_of)
+      let size : length (bytes_of file) ≡ head.bytes = ap length joined ∙ size_of in
+      λ i. record { vc = head.vc; apid = head.apid; packets = many i; bytes = size i }
 
   pub body_of-from : AreBytes bytes
       → body_of (file_of_body head (drop place bytes)) ≡ take (2 * head.packets + head.bytes) (drop place bytes)

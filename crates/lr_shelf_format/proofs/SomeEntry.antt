@@ -3,15 +3,8 @@ use Rattle.std.proofs.Common.{◌≡◌, ◌⊎◌, inl, inr, ◌<◌, ◌≤◌
 use Rattle.std.proofs.Common.{None, List, [], ◌∷◌, length, sum, slice_index, drop, All, refl, subst, arith}
 use Rattle.std.proofs.lemmas.Bool.{cases_eq}
 use Rattle.std.proofs.lemmas.List.Elements.{All-take}
-use Rattle.lr_shelf_format.specs.Items.{
-  Begins,
-  HasBody,
-  HasForm,
-  Holds,
-  IsFileRecord,
-  computed_checksum,
-  stored_checksum,
-}
+use Rattle.lr_shelf_format.specs.Items.{Begins, HasBody, HasForm, Holds, IsFileRecord, computed_checksum}
+use Rattle.lr_shelf_format.specs.Items.{stored_checksum}
 use Rattle.lr_shelf_format.specs.Record.{file_of_body, numbers_in, origin_of}
 use Rattle.lr_shelf_format.specs.Way.{Bad, EntryState, Gone, HasRecord, IsFound, Sound, item_at}
 use Rattle.lr_shelf_format.specs.declared.entry.Entry.{Entry}

@@ -1,59 +1,14 @@
 -- That each list of bytes has a way, or a place at which it is no shelf.
-use Rattle.std.proofs.Common.{
-  ◌≡◌,
-  ◌⊎◌,
-  inl,
-  inr,
-  ◌<◌,
-  ◌≤◌,
-  ◌+◌,
-  ◌^◌,
-  Bool,
-  true,
-  false,
-  ℕ,
-  zero,
-  suc,
-  List,
-  [],
-  ◌∷◌,
-  ◌++◌,
-  length,
-  slice_index,
-  take,
-  drop,
-  refl,
-  sym,
-  ap,
-  ◌∙◌,
-  subst,
-  arith,
-}
+use Rattle.std.proofs.Common.{◌≡◌, ◌⊎◌, inl, inr, ◌<◌, ◌≤◌, ◌+◌, ◌^◌, Bool, true, false, ℕ, zero, suc, List, [], ◌∷◌}
+use Rattle.std.proofs.Common.{◌++◌, length, slice_index, take, drop, refl, sym, ap, ◌∙◌, subst, arith}
 use Rattle.std.specs.Str.{bytes_eq}
 use Rattle.std.proofs.lemmas.Bool.{both_ways, cases_Bool, cases_eq, cases_lt}
 use Rattle.std.proofs.lemmas.Slice.Eq.{bytes_eq-Decides}
 use Rattle.byteorder.specs.Endian.{big_number}
 use Rattle.lr_shelf_format.specs.Header.{HasHeader, header_bytes}
-use Rattle.lr_shelf_format.specs.Items.{
-  Begins,
-  IsProper,
-  MayFollow,
-  discard_bytes,
-  entry_count,
-  extent_of,
-  is_gone,
-}
+use Rattle.lr_shelf_format.specs.Items.{Begins, IsProper, MayFollow, discard_bytes, entry_count, extent_of, is_gone}
 use Rattle.lr_shelf_format.specs.Record.{IsHead, head_of}
-use Rattle.lr_shelf_format.specs.Walk.{
-  IsBrokenAt,
-  IsOpen,
-  IsPath,
-  IsWalk,
-  LeadsToNextGate,
-  Step,
-  heads_of,
-  next_gate,
-}
+use Rattle.lr_shelf_format.specs.Walk.{IsBrokenAt, IsOpen, IsPath, IsWalk, LeadsToNextGate, Step, heads_of, next_gate}
 use Rattle.lr_shelf_format.specs.Way.{IsNoShelfAt, IsWay, Way, entries_on}
 use Rattle.lr_shelf_format.specs.declared.header.TheConstants.{MOST_CAPACITY}
 use Rattle.lr_shelf_format.specs.declared.item.ItemHead.{ItemHead}

@@ -1,27 +1,6 @@
 -- Ways from gate to gate: how they go on, and that there is one.
-use Rattle.std.proofs.Common.{
-  ◌≡◌,
-  ◌<◌,
-  ◌≤◌,
-  ◌+◌,
-  ◌-◌,
-  ℕ,
-  List,
-  [],
-  ◌∷◌,
-  ◌++◌,
-  length,
-  slice_index,
-  take,
-  drop,
-  refl,
-  sym,
-  ap,
-  ◌∙◌,
-  subst,
-  arith,
-  append_assoc,
-}
+use Rattle.std.proofs.Common.{◌≡◌, ◌<◌, ◌≤◌, ◌+◌, ◌-◌, ℕ, List, [], ◌∷◌, ◌++◌, length, slice_index, take, drop, refl}
+use Rattle.std.proofs.Common.{sym, ap, ◌∙◌, subst, arith, append_assoc}
 use Rattle.std.proofs.lemmas.List.{append-nil, drop-take, get_or-take, map_push}
 use Rattle.lr_shelf_format.specs.Items.{AreProper, Begins, IsProper, MayFollow}
 use Rattle.lr_shelf_format.specs.Walk.{IsBrokenAt, IsOpen, IsPath, IsWalk, LeadsToNextGate, Step, heads_of, next_gate}
@@ -100,28 +79,17 @@ same_ends bytes before from to to' (step ∷ steps) (step' ∷ steps') path path
     (next_gate step') to to' steps steps' path2 path'.2 proper2 proper'.1 ends2 ends2' in
     (ap (λ s. s ∷ steps) same ∙ ap (λ ss. step' ∷ ss) others.0, others.1)
 
--- ---- one walk, or one place where it is broken
+-- ---- no walk where one is broken
 
 module _ (bytes : List ℕ) where
   walk_ends : (steps : List Step) (last : ℕ) → IsWalk bytes steps last → IsEnd bytes (heads_of steps) last
   walk_ends steps last walk head leads may = walk.closed leads.is_open
-
-  pub walk_is : (steps steps' : List Step) (last last' : ℕ) → IsWalk bytes steps last → IsWalk bytes steps' last'
-      → (steps ≡ steps') × (last ≡ last')
-  walk_is steps steps' last last' walk walk' =
-      same_ends bytes [] 19 last last' steps steps' walk.path walk'.path walk.proper walk'.proper
-      (walk_ends steps last walk) (walk_ends steps' last' walk')
 
   pub not_both : (steps : List Step) (last at : ℕ) → IsWalk bytes steps last → IsBrokenAt bytes at → ⊥
   not_both steps last at walk broken =
       let same = same_ends bytes [] 19 last at steps broken.steps walk.path broken.path walk.proper broken.proper
       (walk_ends steps last walk) broken.broken in
       walk.closed (subst (λ n. IsOpen bytes n) (sym same.1) broken.is_open)
-
-  pub broken_is : (at at' : ℕ) → IsBrokenAt bytes at → IsBrokenAt bytes at' → at ≡ at'
-  broken_is at at' broken broken' =
-      (same_ends bytes [] 19 at at' broken.steps broken'.steps broken.path broken'.path broken.proper broken'.proper
-      broken.broken broken'.broken).1
 
 -- ---- bytes that begin alike
 

@@ -7,33 +7,12 @@ use Rattle.std.proofs.lemmas.List.{append-nil}
 use Rattle.std.proofs.Math.Dec.{eqb-suc-suc, eqb-suc-zero, eqb-zero-suc}
 use Rattle.lr_bits.specs.File.{File}
 use Rattle.lr_bits.specs.declared.placed.Origin.{Origin}
-use Rattle.lr_shelf_format.specs.Items.{
-  AreProper,
-  Holds,
-  IsProper,
-  MayFollow,
-  entry_count,
-  extent_of,
-  head_of_item,
-  is_gone,
-  item_bytes,
-  item_of_file,
-  item_of_stored,
-}
+use Rattle.lr_shelf_format.specs.Items.{AreProper, Holds, IsProper, MayFollow, entry_count, extent_of, head_of_item}
+use Rattle.lr_shelf_format.specs.Items.{is_gone, item_bytes, item_of_file, item_of_stored}
 use Rattle.lr_shelf_format.specs.ShelfBytes.{steps_of}
 use Rattle.lr_shelf_format.specs.Walk.{IsOpen, IsWalk, Step, heads_of}
-use Rattle.lr_shelf_format.specs.Way.{
-  Sound,
-  Bad,
-  Gone,
-  HasOneWay,
-  HasWay,
-  IsFoundOnce,
-  IsNoShelfAt,
-  IsWay,
-  MayJoin,
-  Way,
-}
+use Rattle.lr_shelf_format.specs.Way.{Sound, Bad, Gone, HasOneWay, HasWay, IsFoundOnce, IsNoShelfAt, IsWay, MayJoin}
+use Rattle.lr_shelf_format.specs.Way.{Way}
 use Rattle.lr_shelf_format.specs.Way.{entries_after, entries_on, entries_with, entries_with_gone, entry_in, item_at}
 use Rattle.lr_shelf_format.specs.declared.entry.Entry.{Entry}
 use Rattle.lr_shelf_format.specs.declared.item.ItemHead.{ItemHead}

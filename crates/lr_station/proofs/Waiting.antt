@@ -1,24 +1,6 @@
 -- Where few frames may wait, more may.
-use Rattle.std.proofs.Common.{
-  ◌≤◌,
-  ◌+◌,
-  ◌*◌,
-  ◌==◌,
-  if◌then◌else◌,
-  ℕ,
-  Bool,
-  true,
-  false,
-  List,
-  Option,
-  Some,
-  None,
-  arith,
-  inl,
-  inr,
-  ⊎_elim,
-  length,
-}
+use Rattle.std.proofs.Common.{◌≤◌, ◌+◌, ◌*◌, ◌==◌, if◌then◌else◌, ℕ, Bool, true, false, List}
+use Rattle.std.proofs.Common.{Option, Some, None, arith, inl, inr, ⊎_elim, length}
 use Rattle.lr_causes.specs.Outside.{Outside, World, outlets_in, world_outlets, world_pipe, pipe_in}
 use Rattle.lr_printing.specs.Decode.{decode_text, decode_due, decode_last}
 use Rattle.lr_printing.proofs.DecodeText.{fewer_due}
@@ -29,13 +11,14 @@ use Rattle.lr_forms.specs.declared.forms.Input.TheVariants.{Symbols, Units}
 use Rattle.lr_reading.specs.Readers.{HaveEnded, most_ahead, most_waiting, most_when_asked}
 use Rattle.lr_reading.proofs.Asking.{when_too}
 use Rattle.lr_receiving.specs.Inputs.{files_of_bytes}
-use Rattle.lr_receiving.specs.Receive.{AreWorkedBut, PutsNoFileOff, ReceiveRun}
+use Rattle.lr_receiving.specs.Receive.{AreWorkedBut, PutsNoFileOff, ReceiveRun, waiting_of, taken_by, receive_query}
 use Rattle.lr_shelf.specs.InitialShelves.{InitialShelf}
 use Rattle.lr_station.specs.Effects.{IsKnownAlone, alone}
 use Rattle.lr_station.specs.Runs.{Runs}
 use Rattle.lr_words.specs.Commands.{IsInRange}
 use Rattle.lr_words.specs.declared.command.Command.{Command}
 use Rattle.lr_words.specs.declared.command.Command.TheVariants.{Downlinks, Intake}
+use Rattle.lr_receiving.specs.Shelving.{files_onto}
 use Rattle.lr_words.specs.declared.command.IntakeAction.TheVariants.{Decode, Receive}
 
 -- where more work
@@ -70,23 +53,25 @@ module _ {S D O : Type 0} {world : World S D O} {input : Input} {w w' : Outside 
     (le : most_waiting input few ≤ most_waiting input many)
     (le_asked : most_when_asked input few ≤ most_when_asked input many)
     (le_ahead : most_ahead input few ≤ most_ahead input many) where
-  fewer_wait : {initial : InitialShelf} {bytes : List ℕ} → PutsNoFileOff world input few initial bytes w w'
-      → PutsNoFileOff world input many initial bytes w w'
+  fewer_wait : {initial : InitialShelf} {bytes : List ℕ} → PutsNoFileOff world (taken_by input few bytes) initial w w'
+      → PutsNoFileOff world (taken_by input many bytes) initial w w'
   fewer_wait {initial} {bytes} keeps = record {
     timely = λ worked waiting split enough. keeps.timely worked waiting split (omega (arith, le, enough));
     timely_in_bytes = λ worked waiting split ended. keeps.timely_in_bytes worked waiting split
         (ended_less input (most_ahead input few) (most_ahead input many) bytes (length worked) le_ahead ended);
-    in_time = when_too world.source (AreWorkedBut (world_outlets world) initial input (most_when_asked input few)
-        (files_of_bytes input bytes) (outlets_in w) (outlets_in w')) (AreWorkedBut (world_outlets world) initial input
-        (most_when_asked input many) (files_of_bytes input bytes) (outlets_in w) (outlets_in w')) bytes w.source
+    in_time = when_too world.source
+        (AreWorkedBut (world_outlets world) (files_onto initial (files_of_bytes input bytes))
+        (waiting_of input (most_when_asked input few)) (outlets_in w) (outlets_in w'))
+        (AreWorkedBut (world_outlets world) (files_onto initial (files_of_bytes input bytes))
+        (waiting_of input (most_when_asked input many)) (outlets_in w) (outlets_in w')) bytes w.source
         w'.source (λ given due worked waiting split enough. due worked waiting split (⊎_elim
         (λ (all : most_when_asked input many ≤ length waiting). inl (omega (arith, le_asked, all)))
         (λ noise. inr noise) enough))
         keeps.in_time;
   }
 
-  pub run_within : {limit : ℕ} {cause : Cause} → ReceiveRun world input few limit cause w w'
-      → ReceiveRun world input many limit cause w w'
+  pub run_within : {limit : ℕ} {cause : Cause} → ReceiveRun world (receive_query input few limit) cause w w'
+      → ReceiveRun world (receive_query input many limit) cause w w'
   run_within {limit} {cause} run = record {
     causes = run.causes;
     first = run.first;

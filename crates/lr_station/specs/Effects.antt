@@ -1,6 +1,5 @@
 -- What a command does to the outside. Several commands do the same, with other texts.
 use Rattle.std.specs.Prelude.{ℕ, List, Option, Some, None}
-use Rattle.lr_forms.specs.declared.forms.Stop.{Stop}
 use Rattle.lr_commands.specs.Queries.{Query}
 use Rattle.lr_commands.specs.Assemble.{assemble_query}
 use Rattle.lr_commands.specs.Export.{export_query}
@@ -8,28 +7,19 @@ use Rattle.lr_commands.specs.Extract.{extract_query}
 use Rattle.lr_commands.specs.List.{list_query}
 use Rattle.lr_commands.specs.Show.{show_query}
 use Rattle.lr_commands.specs.Verify.{verify_query}
-use Rattle.lr_forms.specs.declared.forms.Input.{Input}
 use Rattle.lr_forms.specs.declared.forms.Output.TheVariants.{Symbols}
-use Rattle.lr_printing.specs.Decode.{decode_text, decode_due, decode_last}
-use Rattle.lr_printing.specs.Frames.{frames_text, frames_last}
-use Rattle.lr_printing.specs.Packets.{packets_text, packets_last}
-use Rattle.lr_receiving.specs.Made.{made_bytes}
+use Rattle.lr_printing.specs.Decode.{decode_printed}
+use Rattle.lr_printing.specs.Frames.{frames_printed}
+use Rattle.lr_printing.specs.Packets.{packets_printed}
+use Rattle.lr_printing.specs.Printing.{Printed}
+use Rattle.lr_receiving.specs.Made.{made_bytes, test_frames}
+use Rattle.lr_receiving.specs.Receive.{ReceiveQuery, receive_query}
+use Rattle.lr_sending.specs.Transmit.{Sending, sending}
 use Rattle.lr_conv.specs.declared.line.LineCode.{LineCode}
 use Rattle.lr_words.specs.declared.command.Command.{Command}
-use Rattle.lr_words.specs.declared.command.Command.TheVariants.{
-  Init,
-  Frames,
-  Intake,
-  Downlinks,
-  OnShelf,
-  OnFile,
-  Render,
-  Assemble,
-  Transmit,
-  Repack,
-  Make,
-  Trial,
-}
+use Rattle.lr_words.specs.declared.command.Command.TheVariants.{Init, Frames, Intake, Downlinks}
+use Rattle.lr_words.specs.declared.command.Command.TheVariants.{OnShelf, OnFile, Render, Assemble}
+use Rattle.lr_words.specs.declared.command.Command.TheVariants.{Transmit, Repack, Make, Trial}
 use Rattle.lr_words.specs.declared.command.FileAction.TheVariants.{Extract, Show, Export, Discard}
 use Rattle.lr_words.specs.declared.command.FrameLines.TheVariants.{Frames as EachFrame, Packets as EachPacket}
 use Rattle.lr_words.specs.declared.command.IntakeAction.TheVariants.{Decode, Receive}
@@ -38,11 +28,10 @@ use Rattle.lr_words.specs.declared.command.ShelfAction.TheVariants.{List as List
 pub data Effect : Type 0 where
   -- an empty shelf of this many bytes is made
   MakesShelf : (capacity : ℕ) → Effect
-  -- these lines of the bytes read are put, those that are due before more bytes are asked for, and this last line; at
-  -- most `most` bytes are taken
-  PutsLines : (lines due : List ℕ → List ℕ) (last : List ℕ → Stop → List ℕ) (most : ℕ) → Effect
-  -- the mission files of the bytes read come onto the shelf, while this many work on windows
-  Shelves : (input : Input) (workers most : ℕ) → Effect
+  -- lines of the bytes read are put
+  PutsLines : (printed : Printed) → Effect
+  -- the mission files of the bytes read come onto the shelf
+  Shelves : (asked : ReceiveQuery) → Effect
   -- the mission files of the recordings of a bundle come onto the shelf, symbols of this line code
   Merges : (line : LineCode) → Effect
   -- this is asked of the entries of the shelf
@@ -50,7 +39,7 @@ pub data Effect : Type 0 where
   -- the images of all files are put
   Draws : Effect
   -- the files of these entries are put as symbols
-  Sends : (from to wrong : ℕ) (line : LineCode) → Effect
+  Sends : (asked : Sending) → Effect
   -- the entry of this number is closed
   DiscardsEntry : (number : ℕ) → Effect
   -- the image of the file of this number is coded anew in blocks of this many samples, and the new file is added
@@ -63,11 +52,10 @@ pub data Effect : Type 0 where
 -- How many work on windows changes nothing of what is said, but for how many frames may wait where symbols are read.
 abbrev pub effect_of : Command → Effect
 effect_of (Init capacity) = MakesShelf capacity
-effect_of (Frames EachFrame most) = PutsLines frames_text frames_text frames_last most
-effect_of (Frames EachPacket most) = PutsLines packets_text packets_text packets_last most
-effect_of (Intake Decode input workers most) =
-    PutsLines (decode_text input) (decode_due input workers) (decode_last input) most
-effect_of (Intake Receive input workers most) = Shelves input workers most
+effect_of (Frames EachFrame most) = PutsLines (frames_printed most)
+effect_of (Frames EachPacket most) = PutsLines (packets_printed most)
+effect_of (Intake Decode input workers most) = PutsLines (decode_printed input workers most)
+effect_of (Intake Receive input workers most) = Shelves (receive_query input workers most)
 effect_of (Downlinks line) = Merges line
 effect_of (OnFile Extract number) = Asks (extract_query number)
 effect_of (OnShelf ListAll) = Asks list_query
@@ -76,11 +64,11 @@ effect_of (OnShelf Verify) = Asks verify_query
 effect_of (OnFile Export number) = Asks (export_query number)
 effect_of (Render workers) = Draws
 effect_of (Assemble from to apid image) = Asks (assemble_query from to apid image)
-effect_of (Transmit from to wrong line) = Sends from to wrong line
+effect_of (Transmit from to wrong line) = Sends (sending from to wrong line)
 effect_of (OnFile Discard number) = DiscardsEntry number
 effect_of (Repack number block) = Repacks number block
-effect_of (Make start frames wrong form) = PutsBytes (made_bytes form start wrong frames)
-effect_of (Trial start frames wrong workers) = RunsTrial (made_bytes Symbols start wrong frames)
+effect_of (Make start frames wrong form) = PutsBytes (made_bytes form (test_frames start frames wrong))
+effect_of (Trial start frames wrong workers) = RunsTrial (made_bytes Symbols (test_frames start frames wrong))
 
 -- a command that is known on the caller's thread alone
 abbrev pub IsKnownAlone : Option Command → Type 0

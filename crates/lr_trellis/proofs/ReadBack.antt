@@ -13,7 +13,7 @@ use Rattle.lr_conv.specs.declared.line.LineCode.{LineCode}
 use Rattle.lr_conv.proofs.Lines.{length-levels, level_of_bit_of, levels-append, levels-cons, levels-nil}
 use Rattle.lr_trellis.specs.Path.{bytes_of_bits, bytes_from}
 use Rattle.lr_trellis.specs.Trellis.{is_odd, read_back, state_before}
-use Rattle.lr_trellis.specs.Words.{IsReadBack, decisions}
+use Rattle.lr_trellis.specs.Words.{IsReadBack, Stretch, decisions}
 use Rattle.lr_trellis.proofs.Words.{odd_before, state_before_low}
 
 -- ---- bits
@@ -199,9 +199,12 @@ bytes_of-append (suc n) e x size =
     ∙ ap (λ z. z ++ bytes_of_bits x) (sym (bytes_of-eight (take 8 e) (drop 8 e) front))
     ∙ ap (λ z. bytes_of_bits z ++ bytes_of_bits x) whole
 
+abbrev pub stretch : ℕ → ℕ → ℕ → Stretch
+stretch first after before = record { first = first; after = after; before = before }
+
 module _ (line : LineCode) (words : List ℕ) where
   pub all_bytes : (first start k here : ℕ) (out : List ℕ) → k ≡ 0 →
-      StillRead line (decisions words) first start k here out → IsReadBack line words first start here out
+      StillRead line (decisions words) first start k here out → IsReadBack line words (stretch first start here) out
   all_bytes first start k here out none still =
       let read = subst (λ m. BytesRead line (decisions words) first start m here out still.read.0) none still.read.1 in
       let down : first + 8 * 0 ≡ first = omega arith in
@@ -215,11 +218,12 @@ module _ (line : LineCode) (words : List ℕ) where
 
   -- two halves that meet in a state are one
   pub halves_joined : (start joint meeting here half : ℕ) (low high : List ℕ) → 0 < half → length low ≡ half →
-      joint ≡ meeting → IsReadBack line words 0 meeting here low → IsReadBack line words (8 * half) start joint high →
-      IsReadBack line words 0 start here (low ++ high)
+      joint ≡ meeting → IsReadBack line words (stretch 0 meeting here) low
+      → IsReadBack line words (stretch (8 * half) start joint) high →
+      IsReadBack line words (stretch 0 start here) (low ++ high)
   halves_joined start joint meeting here half low high some long same lower above =
-      let upper : IsReadBack line words (8 * half) start meeting high =
-      subst (λ s. IsReadBack line words (8 * half) start s high) same above in
+      let upper : IsReadBack line words (stretch (8 * half) start meeting) high =
+      subst (λ s. IsReadBack line words (stretch (8 * half) start s) high) same above in
       let size : length (low ++ high) ≡ half + length high = length-append low high ∙ ap (λ n. n + length high) long in
       let bits : length (lower.bits ++ upper.bits) ≡ length lower.bits + length upper.bits =
       length-append lower.bits upper.bits in

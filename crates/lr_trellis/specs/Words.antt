@@ -55,11 +55,16 @@ state_back older first (suc n) s = state_back older first n (state_before (older
 abbrev pub byte_of_levels : LineCode → ℕ → ℕ → ℕ
 byte_of_levels line newest older = if line.marks then bit_xor newest (newest / 2 + 128 * older) else newest
 
--- The bytes are those of some bits, which are read back from a state after them down to the step `first`; `before` is
--- the state there.
-pub record IsReadBack (line : LineCode) (words : List ℕ) (first after before : ℕ) (bytes : List ℕ) : Type 0 where
+-- a stretch of a path: its first step, the state after its last step, and the one before its first
+pub record Stretch : Type 0 where
+  pub first : ℕ
+  pub after : ℕ
+  pub before : ℕ
+
+-- the bytes are those of some bits, which are read back along this stretch
+pub record IsReadBack (line : LineCode) (words : List ℕ) (stretch : Stretch) (bytes : List ℕ) : Type 0 where
   pub bits : List Bool
   pub size : length bits ≡ 8 * length bytes
   pub packed : bytes ≡ bytes_of_bits bits
-  pub path : read_back (decisions words) (first + 8 * length bytes) after ≡
-      reverse (levels line (is_odd before) bits) ++ read_back (decisions words) first before
+  pub path : read_back (decisions words) (stretch.first + 8 * length bytes) stretch.after ≡
+      reverse (levels line (is_odd stretch.before) bits) ++ read_back (decisions words) stretch.first stretch.before

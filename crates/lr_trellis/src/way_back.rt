@@ -74,7 +74,7 @@ fn bytes_in_order(
     requires state { state < 64 }
     requires words { first + 8 * length out.old ≤ length words.now }
     ensures state { result < 64 }
-    ensures read { IsReadBack line words.now first state result out.new }
+    ensures read { IsReadBack line words.now (record { first = first; after = state; before = result }) out.new }
 {
     let mut state = state;
     for k in (0..out.len()).rev() {
@@ -141,8 +141,9 @@ fn halves_back(
     requires words { 16 * length low.old ≤ length words.now }
     ensures low_state { result.0 < 64 }
     ensures high_state { result.1 < 64 }
-    ensures low { IsReadBack line words.now 0 states.0 result.0 low.new }
-    ensures high { IsReadBack line words.now (8 * length low.old) states.1 result.1 high.new }
+    ensures low { IsReadBack line words.now (record { first = 0; after = states.0; before = result.0 }) low.new }
+    ensures high { IsReadBack line words.now
+        (record { first = 8 * length low.old; after = states.1; before = result.1 }) high.new }
 {
     let half = low.len();
     let mut states = states;
@@ -166,7 +167,7 @@ pub(crate) fn bytes_back(line: LineCode, words: &[u64], state: usize, out: &mut 
     requires state { state < 64 }
     requires words { 8 * length out.old ≤ length words.now }
     ensures state { result < 64 }
-    ensures read { IsReadBack line words.now 0 state result out.new }
+    ensures read { IsReadBack line words.now (record { first = 0; after = state; before = result }) out.new }
 {
     let half = out.len() / 2;
     if out.len() % 2 == 1 || 8 * half < MEETING_STEPS {

@@ -3,6 +3,7 @@ use lr_bits::NoMemory;
 use lr_disk::MemDisk;
 use lr_io::{MemSink, MemSource, Source};
 use lr_station::station_alone;
+use lr_trials_wanted::owned_words;
 use std::alloc::{AllocError, Global};
 
 /// Why a trial stopped before its end.
@@ -70,14 +71,6 @@ pub(crate) fn reading<'a>(words: &'a [&'a str], frames: &'a [&'a [u8]]) -> Call<
         out_fails: NEVER,
         err_room: ERR_ROOM,
     }
-}
-
-fn owned_words(alloc: Global, words: &[&str]) -> Result<Vec<String>, AllocError> {
-    let mut all = Vec::new(alloc);
-    for word in words {
-        all.push(String::from_str(alloc, word)?)?;
-    }
-    Ok(all)
 }
 
 /// The bytes of these frames.

@@ -3,8 +3,8 @@ use crate::short::ShortSource;
 use lr_disk::MemDisk;
 use lr_io::{MemSink, MemSource};
 use lr_station::station_alone;
-use lr_trials_wanted::{is_status, is_text};
-use std::alloc::{AllocError, Global};
+use lr_trials_wanted::{is_status, is_text, owned_words};
+use std::alloc::Global;
 use std::test::Fail;
 
 /// What a call reads: its words and bytes, the length of its reads, and the place at which the source fails once.
@@ -56,14 +56,6 @@ pub fn refused_with(status: u8, line: &str) -> Outcome<'_> {
         status,
         line,
     }
-}
-
-fn owned_words(alloc: Global, words: &[&str]) -> Result<Vec<String>, AllocError> {
-    let mut all = Vec::new(alloc);
-    for word in words {
-        all.push(String::from_str(alloc, word)?)?;
-    }
-    Ok(all)
 }
 
 /// What came of a call.

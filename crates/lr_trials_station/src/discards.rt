@@ -1,5 +1,5 @@
 //! `discard`, and the commands after it.
-use crate::sessions::{Left, OVER, QUIET, Run, Session, hold};
+use crate::sessions::{GONE, Left, OVER, QUIET, Run, Session, hold};
 use crate::shelves::TWO_FILES;
 use lr_trials_wanted::lines;
 use std::test::Fail;
@@ -7,12 +7,6 @@ use std::test::Fail;
 const DISCARDED: Run = Run {
     words: &["discard", "0"],
     out: lines!(discarded 0;),
-    ..QUIET
-};
-
-const GONE: Run = Run {
-    status: 13,
-    line: lines!(station: discarded;),
     ..QUIET
 };
 

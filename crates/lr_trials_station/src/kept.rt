@@ -1,6 +1,6 @@
 //! `verify` and `extract` of a shelf that is there, and what a stop leaves.
 use crate::call::Room;
-use crate::sessions::{Left, OVER, Piece, QUIET, Run, Session, hold};
+use crate::sessions::{BAD, Left, OVER, Piece, QUIET, Run, Session, hold};
 use crate::shelves::{FRAMES, RECEIVED_7, TWO_FILES};
 use crate::stated::{FILE_7, FILE_8};
 use lr_trials_wanted::lines;
@@ -28,12 +28,6 @@ const NO_GATE: &[u8] = b"\x5ALRSHELF\x02\x00\x00\x00\x00\x00\x00\x03\xE8\xE5\x04
 
 const VERIFIED: Run = Run {
     words: &["verify"],
-    ..QUIET
-};
-
-const BAD: Run = Run {
-    status: 12,
-    line: lines!(station: bad checksum;),
     ..QUIET
 };
 

@@ -1,5 +1,5 @@
 //! `list` and `show` of a shelf that is there.
-use crate::sessions::{OVER, QUIET, Run, Session, hold};
+use crate::sessions::{BAD, GONE, OVER, QUIET, Run, SECOND_DISCARDED, Session, hold};
 use crate::shelves::{MADE, RECEIVED_7, TWO_FILES};
 use lr_trials_wanted::lines;
 use std::test::Fail;
@@ -58,12 +58,6 @@ static RECEIVED: [Session; 1] = [Session {
     ..OVER
 }];
 
-const BAD: Run = Run {
-    status: 12,
-    line: lines!(station: bad checksum;),
-    ..QUIET
-};
-
 static WRONG_CHECKSUM: [Session; 1] = [Session {
     disk: &TWO_FILES,
     byte: Some((135, 0xA5)),
@@ -85,16 +79,10 @@ static WRONG_CHECKSUM: [Session; 1] = [Session {
 static DISCARDED: [Session; 1] = [Session {
     disk: &TWO_FILES,
     runs: &[
-        Run {
-            words: &["discard", "1"],
-            out: lines!(discarded 1;),
-            ..QUIET
-        },
+        SECOND_DISCARDED,
         Run {
             words: &["show", "1"],
-            status: 13,
-            line: lines!(station: discarded;),
-            ..QUIET
+            ..GONE
         },
     ],
     ..OVER

@@ -2,7 +2,7 @@
 use crate::call::{AMPLE, Input, NEVER, Printed, Room, call, written_bytes};
 use crate::stated::FRAME;
 use lr_disk::MemDisk;
-use lr_trials_wanted::{Differing, difference};
+use lr_trials_wanted::{Differing, difference, lines};
 use std::alloc::{AllocError, Global};
 use std::test::Fail;
 
@@ -57,6 +57,27 @@ pub const QUIET: Run = Run {
     status: 0,
     line: "",
     left: Left::Any,
+};
+
+/// A call on a file whose checksum is wrong.
+pub const BAD: Run = Run {
+    status: 12,
+    line: lines!(station: bad checksum;),
+    ..QUIET
+};
+
+/// A call on a file that is discarded.
+pub const GONE: Run = Run {
+    status: 13,
+    line: lines!(station: discarded;),
+    ..QUIET
+};
+
+/// The second file is discarded.
+pub const SECOND_DISCARDED: Run = Run {
+    words: &["discard", "1"],
+    out: lines!(discarded 1;),
+    ..QUIET
 };
 
 /// Calls over a disk of these bytes, of which one may be another, that has this much room and allows this many calls.

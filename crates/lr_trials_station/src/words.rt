@@ -1,6 +1,7 @@
 //! Which words are read, and as which command.
 use lr_conv::LineCode;
 use lr_forms::{Input, Output, UnitForm};
+use lr_trials_wanted::words_of;
 use lr_words::{
     Command, FileAction, FrameLines, IntakeAction, ShelfAction, read_words, writes_shelf,
 };
@@ -468,14 +469,6 @@ fn is_told(told: Told, names: &[&str], numbers: &[u64]) -> bool {
         }
     }
     true
-}
-
-fn words_of(alloc: Global, line: &str) -> Result<Vec<String>, AllocError> {
-    let mut words = Vec::new(alloc);
-    for word in line.split(' ') {
-        words.push(String::from_str(alloc, word)?)?;
-    }
-    Ok(words)
 }
 
 /// A number with a space in it.

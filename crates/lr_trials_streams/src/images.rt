@@ -3,7 +3,9 @@ use crate::made::{LARGE, LINES, MADE, USAGE};
 use lr_bits::crc16;
 use lr_disk::MemDisk;
 use lr_trials_station::call::{AMPLE, Input, NEVER, printed_on, written_bytes, written_on};
-use lr_trials_station::sessions::{OVER, QUIET, Run, Session, hold, hold_on};
+use lr_trials_station::sessions::{
+    BAD, GONE, OVER, QUIET, Run, SECOND_DISCARDED, Session, hold, hold_on,
+};
 use lr_trials_station::shelves::{FRAMES, TWO_FILES, empty_shelf};
 use lr_trials_station::stated::{FRAME, header, idle};
 use lr_trials_wanted::{is_text, lines};
@@ -378,12 +380,6 @@ const NOT_EXPORTED: [Run; 2] = [
     },
 ];
 
-const BAD: Run = Run {
-    status: 12,
-    line: lines!(station: bad checksum;),
-    ..QUIET
-};
-
 static NOT_THERE: [Session; 2] = [
     Session {
         disk: &TWO_FILES,
@@ -403,16 +399,10 @@ static NOT_THERE: [Session; 2] = [
     Session {
         disk: &TWO_FILES,
         runs: &[
-            Run {
-                words: &["discard", "1"],
-                out: lines!(discarded 1;),
-                ..QUIET
-            },
+            SECOND_DISCARDED,
             Run {
                 words: &["export", "1"],
-                status: 13,
-                line: lines!(station: discarded;),
-                ..QUIET
+                ..GONE
             },
         ],
         ..OVER

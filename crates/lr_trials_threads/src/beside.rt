@@ -13,6 +13,12 @@ use std::sync::{Arc, Wait};
 use std::test::Fail;
 use std::thread::Threads;
 
+// How often a work looks for one that comes: beside other programs it may take its time.
+const LOOKS_FOR_ANOTHER: u32 = 100_000_000;
+
+// How often a work looks where no other comes.
+const LOOKS_ALONE: u32 = 1_000;
+
 // A pool with this number of seats.
 fn pool_of(alloc: Global, seats: usize) -> Result<WorkerPool<Same>, NoMemory>
     requires { seats ≤ MOST_HANDS }
@@ -68,8 +74,9 @@ impl Flags {
         })
     }
 
-    fn work(&self) -> Result<Meeting, NoMemory> {
+    fn work(&self, looks: u32) -> Result<Meeting, NoMemory> {
         Ok(Meeting {
+            looks,
             met: Arc::try_clone(&self.met)?,
             too_late: Arc::try_clone(&self.too_late)?,
         })
@@ -80,8 +87,8 @@ impl Flags {
 fn meets<R: Threads + Wait + Sync>(rt: &R, alloc: Global) -> Result<bool, NoMemory> {
     let flags = Flags::new(alloc)?;
     let mut works = Vec::with_capacity(alloc, 1)?;
-    works.push_reserved(flags.work()?);
-    let pool = WorkerPool::new(alloc, works, flags.work()?)?;
+    works.push_reserved(flags.work(LOOKS_FOR_ANOTHER)?);
+    let pool = WorkerPool::new(alloc, works, flags.work(LOOKS_FOR_ANOTHER)?)?;
     let mut roll = Roll::new(10, 10);
     let led = drive(rt, pool, &mut roll).is_ok();
     Ok(led && roll.is_complete() && !flags.too_late.load(SeqCst))
@@ -90,7 +97,7 @@ fn meets<R: Threads + Wait + Sync>(rt: &R, alloc: Global) -> Result<bool, NoMemo
 // Whether a caller who works alone is noticed: what waits for another waits too long.
 fn is_noticed_alone(alloc: Global) -> Result<bool, NoMemory> {
     let flags = Flags::new(alloc)?;
-    let pool = WorkerPool::new(alloc, Vec::new(alloc), flags.work()?)?;
+    let pool = WorkerPool::new(alloc, Vec::new(alloc), flags.work(LOOKS_ALONE)?)?;
     let mut roll = Roll::new(10, 10);
     let led = drive_alone(pool, &mut roll).is_ok();
     Ok(led && roll.is_complete() && flags.too_late.load(SeqCst))

@@ -16,6 +16,9 @@ use std::test::Fail;
 use std::thread;
 use std::thread::Threads;
 
+/// How often job 0 looks for job 1: beside other programs that may take its time.
+const LOOKS: u32 = 100_000_000;
+
 /// Hands jobs back as they are. Job 0 waits until job 1 has begun, and the work notes it where that takes too long.
 #[derive(Drop)]
 struct Meeting {
@@ -25,10 +28,11 @@ struct Meeting {
 
 impl Meeting {
     fn wait(&mut self) {
-        for _ in 0..100_000_000u64 {
+        for _ in 0..LOOKS {
             if self.met.load(SeqCst) {
                 return;
             }
+            thread::yield_now();
         }
         self.too_late = true;
     }

@@ -34,18 +34,17 @@ pub struct Roll {
 
 impl<W: Work<Job = u32, Done = u32>> JobSource<W> for Roll {
     ghost use Rattle.std.specs.Prelude.{◌≡◌, ◌-◌, length};
+    ghost use Rattle.lr_rounds.specs.JobSources.{SourceTerms};
 
     type Cause = Refused;
 
-    ghost stands = { λ start now jobs kept. (now.given ≡ length jobs) × (now.kept ≡ kept) };
-
-    ghost stopped = { λ start cause now. Unit {0} };
-
-    ghost is_over = { λ now. now.given ≡ now.limit };
-
-    ghost left = { λ now. now.limit - now.given };
-
-    ghost at_once = { λ now. now.is_eager };
+    ghost terms = { record {
+      stands = λ led now. (now.given ≡ length led.jobs) × (now.kept ≡ led.kept);
+      stopped = λ start cause now. Unit {0};
+      is_over = λ now. now.given ≡ now.limit;
+      left = λ now. now.limit - now.given;
+      at_once = λ now. now.is_eager;
+    } };
 
     fn next(&mut self) -> Result<NextJob<u32>, Refused> {
         if self.given == self.limit {

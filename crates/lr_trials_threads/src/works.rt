@@ -4,6 +4,7 @@ use std::alloc::Global;
 use std::sync::Arc;
 use std::sync::atomic::AtomicBool;
 use std::sync::atomic::Ordering::SeqCst;
+use std::thread;
 
 /// Hands numbers back at once.
 #[derive(Drop)]
@@ -21,22 +22,22 @@ impl Work for Same {
     }
 }
 
-/// How often a work that waits looks whether another came.
-const PATIENCE: u64 = 100_000_000;
-
 /// Hands numbers back, of which 0 waits until another work was given 1. It notes where that takes too long.
 #[derive(Drop)]
 pub struct Meeting {
+    /// How often it looks whether the other came. It gives the processor away after each look.
+    pub looks: u32,
     pub met: Arc<AtomicBool, Global>,
     pub too_late: Arc<AtomicBool, Global>,
 }
 
 impl Meeting {
     fn wait(&self) {
-        for _ in 0..PATIENCE {
+        for _ in 0..self.looks {
             if self.met.load(SeqCst) {
                 return;
             }
+            thread::yield_now();
         }
         self.too_late.store(true, SeqCst);
     }

@@ -1,9 +1,12 @@
-//! What tests want: the printed lines by name, and what a test says where something else came than it wanted.
+//! What tests want: the printed lines by name, what a test says where something else came than it wanted, and the words
+//! of a call.
 #![tactic(auto)]
 
 mod texts;
+mod words;
 
 use std::test::Fail;
+pub use words::{owned_words, words_of};
 
 /// The most bytes of a line that a failure shows.
 const SHOWN: usize = 180;

@@ -3,7 +3,8 @@ use lr_disk::MemDisk;
 use lr_io::{MemSink, MemSource};
 use lr_station::{station, station_alone};
 use lr_trials_station::short::ShortSource;
-use std::alloc::{AllocError, Global};
+use lr_trials_wanted::words_of;
+use std::alloc::Global;
 use std::sync::Wait;
 use std::test::Fail;
 use std::thread::Threads;
@@ -48,15 +49,6 @@ impl Printed {
             && self.out.as_slice() == other.out.as_slice()
             && self.err.as_slice() == other.err.as_slice()
     }
-}
-
-/// The words of a line, which stand one space apart.
-pub fn words_of(alloc: Global, line: &str) -> Result<Vec<String>, AllocError> {
-    let mut words = Vec::new(alloc);
-    for word in line.split(' ') {
-        words.push(String::from_str(alloc, word)?)?;
-    }
-    Ok(words)
 }
 
 /// A source of the given bytes, in short reads, that fails once at the given place.

@@ -3,13 +3,13 @@ ghost use Rattle.std.specs.Prelude.{◌≡◌};
 
 use crate::calls::{
     Printed, call, disk_of_calls, empty_shelf, err_of, faultless, out_of, source_of, symbols,
-    words_of,
 };
 use lr_bits::NoMemory;
 use lr_disk::MemDisk;
 use lr_frame::{FrameDone, FrameWork, Hand};
 use lr_lock::Window;
 use lr_station::station_with;
+use lr_trials_wanted::words_of;
 use std::alloc::Global;
 use std::sync::atomic::Ordering::SeqCst;
 use std::sync::atomic::{AtomicBool, AtomicU32};
@@ -19,7 +19,7 @@ use std::thread;
 use std::thread::Threads;
 
 /// How often a hand looks for the others before it gives up.
-const LOOKS: u32 = 10_000_000;
+const LOOKS: u32 = 100_000_000;
 
 /// What the hands share: how many must meet, how many windows were begun, and whether a hand waited too long.
 #[derive(Drop)]

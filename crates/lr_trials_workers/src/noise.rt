@@ -1,12 +1,13 @@
 // Files that a transmission ends with don't wait for the noise after it, however slow the hands are.
 ghost use Rattle.std.specs.Prelude.{◌≡◌};
 
-use crate::calls::{empty_shelf, err_of, symbols, words_of};
+use crate::calls::{empty_shelf, err_of, symbols};
 use lr_bits::{Failed, NoMemory};
 use lr_frame::{FrameDone, FrameWork, Hand};
 use lr_io::{MemSink, MemSource, Sink, Source};
 use lr_lock::Window;
 use lr_station::station_with;
+use lr_trials_wanted::words_of;
 use std::alloc::Global;
 use std::sync::atomic::AtomicU32;
 use std::sync::atomic::Ordering::SeqCst;

@@ -1,11 +1,9 @@
 //! `render` writes the pictures of the test stream, the same ones whoever decodes their strips.
-use crate::calls::{
-    Printed, call_alone, empty_shelf, err_of, faultless, source_of, symbols, words_of,
-};
+use crate::calls::{Printed, call_alone, empty_shelf, err_of, faultless, source_of, symbols};
 use lr_disk::MemDisk;
 use lr_io::MemSink;
 use lr_station::station;
-use lr_trials_wanted::{is_text, lines};
+use lr_trials_wanted::{is_text, lines, words_of};
 use std::alloc::Global;
 use std::sync::Wait;
 use std::test::Fail;

@@ -6,17 +6,8 @@ use Rattle.std.proofs.Common.{length-append, length-drop, true≢false}
 use Rattle.std.specs.Prelude.{find}
 use Rattle.std.specs.List.{concat, list_any, range_with_len}
 use Rattle.std.specs.Option.{option_map}
-use Rattle.std.proofs.lemmas.Bool.{
-  leb-true,
-  and_from,
-  and_parts,
-  cases_Bool,
-  cases_eq,
-  cases_lt,
-  or_left,
-  or_right,
-  or_from,
-}
+use Rattle.std.proofs.lemmas.Bool.{leb-true, and_from, and_parts, cases_Bool, cases_eq, cases_lt, or_left, or_right}
+use Rattle.std.proofs.lemmas.Bool.{or_from}
 use Rattle.std.proofs.lemmas.List.{drop-append-le, map-id, take-append-le}
 use Rattle.std.proofs.lemmas.List.FromFn.{map-range_with_len_more}
 use Rattle.lr_bits.specs.declared.sizes.TheConstants.{ZONE_BYTES}
@@ -24,7 +15,7 @@ use Rattle.lr_make.specs.Zones.{is_start, joined_packets, pointer_at, zone_at}
 use Rattle.lr_uplink.specs.Sent.{is_in_zone, packet_starts_from, sent_pointer_at, sent_zone_at}
 use Rattle.lr_uplink.specs.Agreeing.{ZonesAgree, first_packets}
 use Rattle.lr_make.proofs.Joining.{HaveBytes, joined-front, joined-more, length-joined-least, length-joined-le}
-use Rattle.lr_sent.proofs.Carrying.{concat-append}
+use Rattle.std.proofs.lemmas.List.Folds.{concat-append}
 
 -- how many bytes the first k packets have
 abbrev starts : (ℕ → List ℕ) → ℕ → ℕ

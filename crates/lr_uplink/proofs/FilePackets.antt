@@ -14,7 +14,7 @@ use Rattle.lr_packet.specs.declared.packet.PacketFault.{PacketFault}
 use Rattle.lr_packet.specs.Verdict.{Good, good_packets, verdict_of}
 use Rattle.lr_packet.proofs.VerdictLemmas.{good_packets-append}
 use Rattle.lr_sent.specs.Carried.{TellsItsLength}
-use Rattle.lr_sent.proofs.Carrying.{concat-append}
+use Rattle.std.proofs.lemmas.List.Folds.{concat-append}
 use Rattle.lr_sent.proofs.MadePackets.{length-packet, tells}
 use Rattle.lr_vc.proofs.Lists.{Each-append, Each-map, Each-range}
 use Rattle.lr_uplink.specs.Packets.{flags_at, body_packet, body_packets, idle_packet, bytes_left, idle_packets, filled}

@@ -9,6 +9,8 @@ use Rattle.std.specs.List.{AllByRecursion as Each, concat, range_with_len}
 use Rattle.std.proofs.lemmas.Bool.{cases_eq, cases_Bool, and_parts}
 use Rattle.std.proofs.lemmas.List.{map-append, take-append-drop, length-take-le}
 use Rattle.std.proofs.lemmas.List.Elements.{All-push}
+use Rattle.std.proofs.lemmas.Simd.{map-map}
+use Rattle.lr_vc.proofs.Lists.{Each_right}
 use Rattle.lr_bits.specs.File.{File}
 use Rattle.lr_bits.specs.Packet.{Packet}
 use Rattle.lr_bits.specs.declared.sizes.TheConstants.{CHANNELS, FILL_CHANNEL, FRAME_COUNTS, ZONE_BYTES}
@@ -23,15 +25,8 @@ use Rattle.lr_sent.specs.Carried.{TellsItsLength}
 use Rattle.lr_sent.proofs.MadeFrames.{Reads, frame_reads}
 use Rattle.lr_uplink.specs.Packets.{file_packets}
 use Rattle.lr_uplink.specs.Received.{IsSendable}
-use Rattle.lr_uplink.specs.Sent.{
-  packet_starts_from,
-  is_in_zone,
-  sent_zone_at,
-  sent_pointer_at,
-  sent_frame_at,
-  sent_frames_of,
-  file_frames,
-}
+use Rattle.lr_uplink.specs.Sent.{packet_starts_from, is_in_zone, sent_zone_at, sent_pointer_at, sent_frame_at}
+use Rattle.lr_uplink.specs.Sent.{sent_frames_of, file_frames}
 use Rattle.lr_uplink.specs.Sent.{frames_before, packets_before, sent_after}
 use Rattle.lr_uplink.proofs.FilePackets.{file_tells, file_fills}
 use Rattle.lr_uplink.proofs.Walking.{on}
@@ -148,16 +143,13 @@ module _ (vc counter : ℕ) (packets : List (List ℕ)) (channel : vc < FILL_CHA
     nothing [] tells e = refl
     nothing (packet ∷ back) tells e = absurd (omega (arith, length-append packet (concat back), tells.0))
 
-    right : (xs ys : List (List ℕ)) → Each TellsItsLength (xs ++ ys) → Each TellsItsLength ys
-    right [] ys h = h
-    right (x ∷ xs) ys h = right xs ys h.1
-
     all_done : (done met : List (List ℕ)) → Stage packets done met (ZONE_BYTES * total) → (packets ≡ done) × (met ≡ [])
     all_done done met s = elim s [
       | inl b ↦
           let none : length (concat b.back) ≡ 0 =
           omega (arith, whole, ap (λ ps. length (concat ps)) b.split, concat-both done b.back, b.size) in
-          let empty = nothing b.back (right done b.back (subst (Each TellsItsLength) b.split tell)) none in
+          let empty = nothing b.back (Each_right TellsItsLength done b.back
+          (subst (Each TellsItsLength) b.split tell)) none in
           (b.split ∙ ap (λ ps. done ++ ps) empty ∙ append-nil done, b.none)
       | inr w ↦
           absurd (omega (
@@ -256,10 +248,6 @@ pub record Received (history : List Fields) (later : List Fields) (packets : Lis
   pub closed : AreClosed (history ++ later)
   pub frames : AreChannelFrames (history ++ later)
 
-map-map : (f : List ℕ → Fields) (g : ℕ → List ℕ) (ks : List ℕ) → map f (map g ks) ≡ map (λ k. f (g k)) ks
-map-map f g [] = refl
-map-map f g (k ∷ ks) = ap (λ (fs : List Fields). f (g k) ∷ fs) (map-map f g ks)
-
 file_received : (vc counter : ℕ) (packets : List (List ℕ)) (history : List Fields) → vc < FILL_CHANNEL →
     Each TellsItsLength packets → length (concat packets) ≡ ZONE_BYTES * (length (concat packets) / ZONE_BYTES) →
     AreChannelFrames history → AreClosed history →
@@ -275,7 +263,8 @@ file_received vc counter packets history channel tell whole frames closed =
       none =
           refl;
     }) in
-    let taken = take_frames vc counter packets channel tell total whole total 0 history [] [] (omega arith) frames start
+    let taken = take_frames vc counter packets channel tell total whole total 0 history [] [] (omega arith) frames
+    start
     (closed vc) (met_none history vc ((counter + 0) % FRAME_COUNTS) (closed vc)) in
     let same = map-map fields_of (sent_frame_at vc counter packets) (range_with_len 0 total) in
     subst (λ (fs : List Fields). Received history fs (map (on vc) packets)) (sym same) (record {

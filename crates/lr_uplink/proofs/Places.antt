@@ -1,16 +1,17 @@
 -- Where bodies stand in a file, and its packets one after another.
 use Rattle.std.proofs.Common.{◌≡◌, ℕ, zero, suc, ◌+◌, ◌-◌, ◌*◌, ◌%◌, ◌<◌, ◌≤◌, false, cond, eqb, ltb, List, [], ◌∷◌}
 use Rattle.std.proofs.Common.{◌++◌, map, length, take, drop, get_or, refl, sym, ap, ◌∙◌, subst, arith, append-nil}
-use Rattle.std.proofs.Common.{length-append, length-drop, drop-drop, drop_at, drop-cons, add-one, Option, Some, None}
+use Rattle.std.proofs.Common.{length-append, length-drop, drop-cons, add-one, Option, Some, None}
 use Rattle.std.specs.List.{AllByRecursion as Each, concat, range_with_len}
 use Rattle.std.proofs.lemmas.Bool.{cond_both}
 use Rattle.std.proofs.lemmas.List.{take_at, take-append-drop, length-take-le, get_or_append_left, get_or-append-add}
+use Rattle.std.proofs.lemmas.List.{drop_all}
 use Rattle.std.proofs.lemmas.List.FromFn.{length-map-range_with_len, get_or-map-range_with_len}
 use Rattle.lr_bits.specs.File.{File, bytes_of}
 use Rattle.lr_bits.specs.declared.sizes.TheConstants.{SEQUENCE_COUNTS, ZONE_BYTES}
 use Rattle.lr_vc.specs.Frame.{Fields}
 use Rattle.lr_sent.specs.Carried.{TellsItsLength}
-use Rattle.lr_sent.proofs.Carrying.{concat-append}
+use Rattle.std.proofs.lemmas.List.Folds.{concat-append}
 use Rattle.lr_sent.proofs.MadePackets.{length-packet}
 use Rattle.lr_uplink.specs.declared.packet.Packet.{Packet}
 use Rattle.lr_uplink.specs.Packets.{flags_at, body_packet, body_packets, idle_packet, idle_packets, bytes_left}
@@ -18,15 +19,9 @@ use Rattle.lr_uplink.specs.Packets.{file_packets}
 use Rattle.lr_uplink.specs.Pieces.{IsPacketOf}
 use Rattle.lr_uplink.specs.Sent.{sent_zone_at, sent_pointer_at}
 use Rattle.lr_uplink.proofs.Flowing.{zone_long, zone_stream}
-use Rattle.lr_uplink.proofs.Zones.{Within, first_pointer, no_start, next_start}
+use Rattle.lr_uplink.proofs.Zones.{Within, drop-behind, first_pointer, no_start, next_start}
 
 -- ---- lists of lists
-
--- after some bytes
-pub drop-behind : (xs ys : List ℕ) (k n : ℕ) → n ≡ length xs + k → drop n (xs ++ ys) ≡ drop k ys
-drop-behind xs ys k n e =
-    ap (λ m. drop m (xs ++ ys)) e ∙ sym (drop-drop k (length xs) (xs ++ ys))
-    ∙ ap (drop k) (drop_at xs ys (length xs) refl)
 
 -- one more of them
 pub take_more_of : (i : ℕ) (xs : List (List ℕ)) →
@@ -89,13 +84,7 @@ body_at apid count bodies i inside =
 bodies_total : (apid count : ℕ) (bodies : List (List ℕ)) (a n : ℕ) → a + n ≡ length bodies →
     length (concat (map (body_packet apid count bodies) (range_with_len a n)))
     ≡ length (concat (drop a bodies)) + 8 * n
-bodies_total apid count bodies a zero e = omega (arith, ap (λ ys. length (concat ys)) (none a bodies (omega arith)))
-  where
-    none : (k : ℕ) (ys : List (List ℕ)) → length ys ≤ k → drop k ys ≡ []
-    none zero [] h = refl
-    none (suc k) [] h = refl
-    none zero (y ∷ ys) h = absurd (omega arith)
-    none (suc k) (y ∷ ys) h = none k ys (omega arith)
+bodies_total apid count bodies a zero e = omega (arith, ap (λ ys. length (concat ys)) (drop_all a bodies (omega arith)))
 bodies_total apid count bodies a (suc n) e =
     let own = body_packet apid count bodies a in
     let rest = concat (map (body_packet apid count bodies) (range_with_len (a + 1) n)) in

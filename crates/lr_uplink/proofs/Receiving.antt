@@ -23,25 +23,15 @@ use Rattle.lr_vc.specs.Packets.{packets_of}
 use Rattle.lr_vc.specs.Runs.{AreChannelFrames}
 use Rattle.lr_uplink.specs.Packets.{file_packets}
 use Rattle.lr_uplink.specs.Received.{IsSendable, FilesAreReceived, SentFilesAreReceived}
-use Rattle.lr_uplink.specs.Sent.{
-  sent_frame_at,
-  sent_frames_of,
-  file_frames,
-  frames_before,
-  packets_before,
-  sent_after,
-  sent,
-}
+use Rattle.lr_uplink.specs.Sent.{sent_frame_at, sent_frames_of, file_frames, frames_before, packets_before}
+use Rattle.lr_uplink.specs.Sent.{sent_after, sent}
 use Rattle.lr_uplink.proofs.FilePackets.{goods_of, file_good}
 use Rattle.lr_uplink.proofs.Flowing.{read_frame, packets_after, files_received, no_packets}
 use Rattle.lr_uplink.proofs.Joining.{file_joined}
+use Rattle.lr_vc.proofs.Lists.{Each-append}
 use Rattle.lr_uplink.proofs.Walking.{on}
 
 -- ---- versions
-
-Each-both : (P : List ℕ → Type 0) (xs ys : List (List ℕ)) → Each P xs → Each P ys → Each P (xs ++ ys)
-Each-both P [] ys _ k = k
-Each-both P (x ∷ xs) ys h k = (h.0, Each-both P xs ys h.1 k)
 
 frames_version : (vc counter : ℕ) (packets : List (List ℕ)) → vc < CHANNELS → (a n : ℕ) →
     Each (λ frame. version_of frame ≡ 1) (map (sent_frame_at vc counter packets) (range_with_len a n))
@@ -56,7 +46,7 @@ sent_version before [] each = tt
 sent_version before (file ∷ files) each =
     let packets = file_packets (packets_before file.vc file.apid before) file in
     let channel : file.vc < CHANNELS = omega (arith, each.0.channel) in
-    Each-both (λ frame. version_of frame ≡ 1) (file_frames before file) (sent_after (before ++ file ∷ []) files)
+    Each-append (λ frame. version_of frame ≡ 1) (file_frames before file) (sent_after (before ++ file ∷ []) files)
     (frames_version file.vc (frames_before file.vc before) packets channel 0 (length (concat packets) / ZONE_BYTES))
     (sent_version (before ++ file ∷ []) files each.1)
 

@@ -22,15 +22,8 @@ use Rattle.lr_uplink.specs.declared.sending.Sending.{Sending}
 use Rattle.lr_uplink.specs.declared.uplink.Uplink.{Uplink}
 use Rattle.lr_uplink.specs.Packets.{flags_at, body_packet, body_packets, file_packets, filled}
 use Rattle.lr_uplink.specs.Pieces.{SetsCount}
-use Rattle.lr_uplink.specs.Sent.{
-  sent_zone_at,
-  sent_pointer_at,
-  sent_frame_at,
-  sent_frames_of,
-  frame_count,
-  frames_before,
-  packets_before,
-}
+use Rattle.lr_uplink.specs.Sent.{sent_zone_at, sent_pointer_at, sent_frame_at, sent_frames_of, frame_count}
+use Rattle.lr_uplink.specs.Sent.{frames_before, packets_before}
 use Rattle.lr_uplink.specs.Sent.{file_frames, sent_after, sent}
 use Rattle.lr_uplink.specs.Progress.{IsSending, CountsStandFor, IsFileUnderWay, IsAtRest, SentFramesStandFor}
 use Rattle.lr_uplink.specs.Standing.{History, UplinkStandsFor}
@@ -175,7 +168,7 @@ loaded counters files given file sending count rest is s =
 
 -- ---- a file that is being sent
 
-module _ (counters : List ℕ) (sending : Sending) (files : List File) (given : ℕ)
+module _ {counters : List ℕ} {sending : Sending} {files : List File} {given : ℕ}
     (way : IsFileUnderWay counters sending files given) where
   abbrev before : List File
   before = way.before
@@ -320,7 +313,7 @@ module _ (counters : List ℕ) (sending : Sending) (files : List File) (given : 
 pub given_most : (counters : List ℕ) (o : Option Sending) (files : List File) (given : ℕ) →
     SentFramesStandFor counters o files given → given ≤ length (sent files)
 given_most counters None files given rest = omega (arith, rest.count)
-given_most counters (Some sending) files given way = omega (arith, is_left counters sending files given way)
+given_most counters (Some sending) files given way = omega (arith, is_left way)
 
 -- fewer than 2^32 frames are left
 pub few_left : (counters : List ℕ) (o : Option Sending) (files : List File) (given : ℕ) →
@@ -345,7 +338,7 @@ pub rests : (counters : List ℕ) (o : Option Sending) (files : List File) (give
     SentFramesStandFor counters o files given → given ≡ length (sent files) → IsAtRest counters files given
 rests counters None files given rest all = rest
 rests counters (Some sending) files given way all =
-    absurd (omega (arith, is_left counters sending files given way, all))
+    absurd (omega (arith, is_left way, all))
 
 -- ---- blocks
 

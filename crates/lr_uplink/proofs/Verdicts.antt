@@ -10,14 +10,15 @@ use Rattle.lr_bits.specs.Bits.{field_of}
 use Rattle.lr_bits.specs.Crc.{crc_of}
 use Rattle.lr_bits.specs.declared.sizes.TheConstants.{IDLE_APPLICATION, SEQUENCE_COUNTS, FRAME_COUNTS}
 use Rattle.lr_bits.specs.Sizes.{most_body_bytes}
-use Rattle.lr_bits.proofs.BitsLemmas.{field_of-none, field_of-more}
-use Rattle.lr_bits.proofs.CrcLemmas.{crc_is_the_remainder}
+use Rattle.lr_bits.proofs.BitsLemmas.{field_of-none}
+use Rattle.lr_bits.proofs.CrcRest.{crc_is_the_remainder}
 use Rattle.lr_packet.specs.declared.packet.PacketFault.{PacketFault}
 use Rattle.lr_packet.specs.declared.packet.PacketFault.TheVariants.{Version, Idle, TooShort, Crc}
 use Rattle.lr_packet.specs.Verdict.{Good, data_of, packet_body, stored_of, good_of, verdict_of}
 use Rattle.lr_make.specs.Packets.{head_with, packet_for_body}
 use Rattle.lr_make.proofs.Heads.{drop-head_of}
 use Rattle.lr_sent.specs.Carried.{TellsItsLength}
+use Rattle.lr_sent.proofs.MadeFrames.{bits_more, bits_of_two}
 use Rattle.lr_sent.proofs.MadePackets.{length-packet, flags_are}
 use Rattle.lr_vc.proofs.Starts.{length_field}
 use Rattle.lr_uplink.specs.Packets.{idle_packet}
@@ -27,50 +28,13 @@ use Rattle.lr_uplink.proofs.Walking.{on}
 
 module _ (bytes : List ℕ) (long : 6 ≤ length bytes) where
   version_bits : field_of bytes 0 3 ≡ get_or bytes 0 0 / 32 % 8
-  version_bits =
-      let f1 = field_of-more bytes 0 0 (omega arith) in
-      let f2 = field_of-more bytes 0 1 (omega arith) in
-      let f3 = field_of-more bytes 0 2 (omega arith) in
-      omega (arith, field_of-none bytes 0)
+  version_bits = omega (arith, field_of-none bytes 0, bits_more bytes 0 0 0 5 3 refl (omega arith) (omega arith))
 
-  -- eleven bits, of which the first three end a byte
   application_bits : field_of bytes 5 11 ≡ get_or bytes 0 0 % 8 * 256 + get_or bytes 1 0 % 256
-  application_bits =
-      let f1 = field_of-more bytes 5 0 (omega arith) in
-      let f2 = field_of-more bytes 5 1 (omega arith) in
-      let f3 = field_of-more bytes 5 2 (omega arith) in
-      let f4 = field_of-more bytes 5 3 (omega arith) in
-      let f5 = field_of-more bytes 5 4 (omega arith) in
-      let f6 = field_of-more bytes 5 5 (omega arith) in
-      let f7 = field_of-more bytes 5 6 (omega arith) in
-      let f8 = field_of-more bytes 5 7 (omega arith) in
-      let f9 = field_of-more bytes 5 8 (omega arith) in
-      let f10 = field_of-more bytes 5 9 (omega arith) in
-      let f11 = field_of-more bytes 5 10 (omega arith) in
-      omega (arith, field_of-none bytes 5)
-
-  -- fourteen bits, of which the first six end a byte
-  count_front : field_of bytes 18 6 ≡ get_or bytes 2 0 % 64
-  count_front =
-      let f1 = field_of-more bytes 18 0 (omega arith) in
-      let f2 = field_of-more bytes 18 1 (omega arith) in
-      let f3 = field_of-more bytes 18 2 (omega arith) in
-      let f4 = field_of-more bytes 18 3 (omega arith) in
-      let f5 = field_of-more bytes 18 4 (omega arith) in
-      let f6 = field_of-more bytes 18 5 (omega arith) in
-      omega (arith, field_of-none bytes 18)
+  application_bits = bits_of_two bytes 5 0 3 refl (omega arith) (omega arith)
 
   count_bits : field_of bytes 18 14 ≡ get_or bytes 2 0 % 64 * 256 + get_or bytes 3 0 % 256
-  count_bits =
-      let f1 = field_of-more bytes 18 6 (omega arith) in
-      let f2 = field_of-more bytes 18 7 (omega arith) in
-      let f3 = field_of-more bytes 18 8 (omega arith) in
-      let f4 = field_of-more bytes 18 9 (omega arith) in
-      let f5 = field_of-more bytes 18 10 (omega arith) in
-      let f6 = field_of-more bytes 18 11 (omega arith) in
-      let f7 = field_of-more bytes 18 12 (omega arith) in
-      let f8 = field_of-more bytes 18 13 (omega arith) in
-      omega (arith, count_front)
+  count_bits = bits_of_two bytes 18 2 6 refl (omega arith) (omega arith)
 
 -- ---- the packet of a body
 

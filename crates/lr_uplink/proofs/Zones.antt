@@ -20,7 +20,7 @@ use Rattle.lr_vc.proofs.Carried.{completed_packet-by, completed_packet-long, con
 use Rattle.lr_vc.proofs.Carried.{continued_packet-short}
 use Rattle.lr_vc.proofs.Lists.{Each_left, Each_right}
 use Rattle.lr_sent.specs.Carried.{TellsItsLength}
-use Rattle.lr_sent.proofs.Carrying.{concat-append}
+use Rattle.std.proofs.lemmas.List.Folds.{concat-append}
 use Rattle.lr_uplink.specs.Sent.{packet_starts_from, is_in_zone, sent_pointer_at}
 use Rattle.lr_uplink.proofs.Walking.{on, packet_ends, packet_there, walk}
 
@@ -104,6 +104,12 @@ record Begun (channel : ℕ) (packets done : List (List ℕ)) (zone : List ℕ) 
   inside : packets_inside channel zone q ≡ map (on channel) ended
   opened : map (λ s. drop s zone) (starts_unfinished zone q) ≡ open_packets
   stage : Stage packets (done ++ ended) open_packets place
+
+-- what is left after some bytes
+pub drop-behind : (xs ys : List ℕ) (k n : ℕ) → n ≡ length xs + k → drop n (xs ++ ys) ≡ drop k ys
+drop-behind xs ys k n e =
+    ap (λ m. drop m (xs ++ ys)) e ∙ sym (drop-drop k (length xs) (xs ++ ys))
+    ∙ ap (drop k) (drop_at xs ys (length xs) refl)
 
 pub concat-both : (xs ys : List (List ℕ)) → length (concat (xs ++ ys)) ≡ length (concat xs) + length (concat ys)
 concat-both xs ys = ap length (concat-append xs ys) ∙ length-append (concat xs) (concat ys)
@@ -372,7 +378,7 @@ module _ (packets : List (List ℕ)) (tell : Each TellsItsLength packets) where
           (eq-eqb at (length w.bytes + frame.pointer) (omega (arith, end, w.part)))) in
           let rest : drop q frame.zone ++ later ≡ concat w.back =
           sym (drop-append-le q frame.zone later (omega arith))
-          ∙ sym (drop-bytes w.bytes (frame.zone ++ later) q (length w.packet) (omega (arith, w.part)))
+          ∙ sym (drop-behind w.bytes (frame.zone ++ later) q (length w.packet) (omega (arith, w.part)))
           ∙ ap (drop (length w.packet)) (sym (append_assoc w.bytes frame.zone later) ∙ joined)
           ∙ drop_at w.packet (concat w.back) (length w.packet) refl in
           let b = begun frame.vc t q (done ++ w.packet ∷ []) w.back frame.zone later long (omega arith) done_split
@@ -391,11 +397,6 @@ module _ (packets : List (List ℕ)) (tell : Each TellsItsLength packets) where
             stage = subst (λ ps. Stage packets ps b.open_packets (ZONE_BYTES * t + ZONE_BYTES))
                 (append_assoc done (w.packet ∷ []) b.ended) b.stage;
           }
-        where
-          drop-bytes : (xs ys : List ℕ) (k n : ℕ) → n ≡ length xs + k → drop n (xs ++ ys) ≡ drop k ys
-          drop-bytes xs ys k n e =
-              ap (λ m. drop m (xs ++ ys)) e ∙ sym (drop-drop k (length xs) (xs ++ ys))
-              ∙ ap (drop k) (drop_at xs ys (length xs) refl)
 
       within_step : Step packets done met frame (ZONE_BYTES * t + ZONE_BYTES)
       within_step = elim (cases_lt (length w.bytes + ZONE_BYTES) (length w.packet)) [

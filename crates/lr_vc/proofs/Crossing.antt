@@ -2,6 +2,7 @@
 use Rattle.std.proofs.Common.{◌≡◌, ℕ, ◌+◌, ◌-◌, ◌*◌, ◌/◌, ◌<◌, ◌≤◌, Bool, true, false, cond, not, ◌&&◌, [], ◌∷◌, ◌++◌}
 use Rattle.std.proofs.Common.{length, drop, refl, sym, ap, ap₂, ◌∙◌, subst, ⊎_elim, arith, length-append, length-drop}
 use Rattle.std.proofs.Common.{ltb, leb, eqb, lt-ltb, le-ltb, le-leb, eq-eqb, ne_eqb}
+use Rattle.std.proofs.Math.Bool.{and-true}
 use Rattle.std.proofs.lemmas.List.{drop-append-le}
 use Rattle.std.proofs.lemmas.List.Folds.{list_all-append}
 use Rattle.std.proofs.lemmas.Bool.{and_parts, and_left, and_right, lt-leb, cases_lt, cases_eq, cases_Bool}
@@ -40,10 +41,6 @@ swap_tests true true false = refl
 swap_tests true false q = refl
 swap_tests false true q = refl
 swap_tests false false q = refl
-
-and_true : (b : Bool) → (b && true) ≡ b
-and_true true = refl
-and_true false = refl
 
 eqb_same : (a b c d : ℕ) → (a ≡ b → c ≡ d) → (c ≡ d → a ≡ b) → eqb a b ≡ eqb c d
 eqb_same a b c d h k =
@@ -247,7 +244,7 @@ module _ (run : Run) (f : ℕ × Fields) (zones : AreZones run) (long : length f
       (Each_weaker (λ u. u < length run) (λ u. agrees grown e u ≡ agrees run e u) old (zones_after run s)
       (zones_after_within run s)))
       new
-      ∙ and_true (list_all (agrees run e) (zones_after run s)) in
+      ∙ and-true (list_all (agrees run e) (zones_after run s)) in
       ap (λ zs. is_whole zs s && list_all (agrees grown (packet_end zs s)) (zones_after grown s)) (zones_of-more run f)
       ∙ ap₂ (λ w k. w && list_all (agrees grown k) (zones_after grown s))
       (is_whole-append Z f.1.zone s whole ∙ sym whole) end
@@ -329,7 +326,7 @@ module _ (run : Run) (f : ℕ × Fields) (zones : AreZones run) (long : length f
       (ne_eqb (place_of run u) f.0 (apart u inside))
       ∙ sym (and_left (is_open run s) E (not_open s whole)))
       (λ part. ends_in_part f.0 s h part ∙ ap (λ b. is_delivered grown s && b) (eq-eqb f.0 f.0 refl)
-      ∙ and_true (is_delivered grown s) ∙ is_delivered_new s h part)
+      ∙ and-true (is_delivered grown s) ∙ is_delivered_new s h part)
       (cases_Bool (is_whole Z s))
 
   -- (E) the starts in the new zone
@@ -354,7 +351,7 @@ module _ (run : Run) (f : ℕ × Fields) (zones : AreZones run) (long : length f
       is_open_is grown (ZONE_BYTES * length run + q)
       ∙ ap₂ (λ w us. not w && list_all (λ u. eqb (pointer_of grown u) NO_PACKET_START) us) (whole_last q)
       (zones_after-last q h)
-      ∙ and_true (not (is_whole f.1.zone q))
+      ∙ and-true (not (is_whole f.1.zone q))
 
   is_delivered-last : (q : ℕ) → q < ZONE_BYTES → is_delivered (run ++ f ∷ [])
       (ZONE_BYTES * length run + q) ≡ is_whole f.1.zone q
@@ -364,7 +361,7 @@ module _ (run : Run) (f : ℕ × Fields) (zones : AreZones run) (long : length f
       ap₂ (λ w us. w && list_all (agrees grown (packet_end (zones_of grown) (ZONE_BYTES * length run + q))) us)
       (whole_last q)
       (zones_after-last q h)
-      ∙ and_true (is_whole f.1.zone q)
+      ∙ and-true (is_whole f.1.zone q)
 
   pub ends_in-last : (place q : ℕ) → q < ZONE_BYTES →
       ends_in (run ++ f ∷ []) place (ZONE_BYTES * length run + q) ≡ (is_whole f.1.zone q && eqb f.0 place)

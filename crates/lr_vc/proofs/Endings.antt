@@ -2,6 +2,7 @@
 use Rattle.std.proofs.Common.{◌≡◌, ℕ, ◌+◌, ◌*◌, ◌<◌, ◌≤◌, Bool, true, false, cond, not, ◌&&◌, List, [], ◌∷◌, ◌++◌, map}
 use Rattle.std.proofs.Common.{length, drop, filter, flat_map, refl, sym, ap, ap₂, ◌∙◌, arith, append-nil, ltb, eqb}
 use Rattle.std.proofs.Common.{eq-eqb, ne_eqb, drop-drop, drop_at}
+use Rattle.std.proofs.Math.Bool.{and-true}
 use Rattle.std.proofs.lemmas.List.{map-append, drop-append-le}
 use Rattle.std.proofs.lemmas.List.Elements.{filter-append}
 use Rattle.std.proofs.lemmas.Bool.{and_parts, and_right, cond_both}
@@ -60,10 +61,6 @@ unfolding ends_in is_delivered
 ends_whole run place s e =
     let d : is_delivered run s ≡ true = (and_parts (is_delivered run s) _ e).0 in
     (and_parts (is_whole (zones_of run) s) _ d).0
-
-and_true : (b : Bool) → (b && true) ≡ b
-and_true true = refl
-and_true false = refl
 
 module _ (run : Run) (f : ℕ × Fields) (zones : AreZones run) (long : length f.1.zone ≡ ZONE_BYTES) where
   firsts : List ℕ
@@ -148,7 +145,7 @@ module _ (run : Run) (f : ℕ × Fields) (zones : AreZones run) (long : length f
       (Each_weaker (λ q. q < ZONE_BYTES) (λ q. (E (n + q) ≡ is_whole z q) × (pk (n + q) ≡ packet_at channel z q))
       (λ q h. (
         ends_in-last run f zones long f.0 q h ∙ ap (λ b. is_whole z q && b) (eq-eqb f.0 f.0 refl)
-            ∙ and_true (is_whole z q),
+            ∙ and-true (is_whole z q),
         ap (λ zs. packet_at channel zs (n + q)) (zones_of-more run f)
             ∙ packet_at-behind channel (zones_of run) z n q (length-zones_of run zones),
       ))

@@ -1,8 +1,9 @@
 -- Lists in general: what holds of each element, filters, and ranges that grow at their end.
 use Rattle.std.proofs.Common.{◌≡◌, ℕ, zero, suc, ◌+◌, ◌<◌, ◌≤◌, Bool, true, false, cond, ◌&&◌, List, [], ◌∷◌, ◌++◌, map}
-use Rattle.std.proofs.Common.{length, filter, flat_map, refl, sym, ap, ap₂, ◌∙◌, arith, append-nil, add-one, add-zero}
+use Rattle.std.proofs.Common.{length, filter, flat_map, refl, sym, ap, ap₂, ◌∙◌, arith, append-nil}
 use Rattle.std.proofs.Common.{true≢false, take, length-take}
-use Rattle.std.proofs.lemmas.List.{take-append-le}
+use Rattle.std.proofs.lemmas.List.{map-id, take-append-le}
+use Rattle.std.proofs.lemmas.List.FromFn.{map-range_with_len_more}
 use Rattle.std.specs.List.{AllByRecursion as Each, list_all, range_with_len, enumerate_from}
 
 module _ {X : Type 0} where
@@ -103,14 +104,10 @@ module _ {X Y : Type 0} where
       (map f (filter (λ x. p (f x)) xs)) ≡ map f (cond b (x ∷ filter (λ x. p (f x)) xs)
       (filter (λ x. p (f x)) xs))) [ true ↦ refl | false ↦ refl ])
 
-range_suc : (a n : ℕ) → range_with_len a (suc n) ≡ range_with_len a n ++ (a + n) ∷ []
-range_suc a zero = ap (λ k. k ∷ []) (sym (add-zero a))
-range_suc a (suc n) =
-    let next : (a + 1) + n ≡ a + suc n = omega arith in
-    ap (λ ys. a ∷ ys) (range_suc (a + 1) n ∙ ap (λ k. range_with_len (a + 1) n ++ k ∷ []) next)
-
 pub range_more : (a n : ℕ) → range_with_len a (n + 1) ≡ range_with_len a n ++ (a + n) ∷ []
-range_more a n = ap (λ k. range_with_len a k) (add-one n) ∙ range_suc a n
+range_more a n =
+    sym (map-id (range_with_len a (n + 1))) ∙ map-range_with_len_more (λ k. k) a n (a + n) refl
+    ∙ ap (λ ks. ks ++ (a + n) ∷ []) (map-id (range_with_len a n))
 
 pub Each-range : (P : ℕ → Type 0) (a n : ℕ) → ((k : ℕ) → a ≤ k → k < a + n → P k) → Each P (range_with_len a n)
 Each-range P a zero h = tt

@@ -77,10 +77,6 @@ pub has_header_true : (xs : List ℕ) (s : ℕ) → has_header xs s ≡ true →
 unfolding has_header
 has_header_true xs s e = leb-true (s + 6) (length xs) e
 
-pub has_header_false : (xs : List ℕ) (s : ℕ) → has_header xs s ≡ false → length xs < s + 6
-unfolding has_header
-has_header_false xs s e = leb-false (s + 6) (length xs) e
-
 pub has_header_if : (xs : List ℕ) (s : ℕ) → s + 6 ≤ length xs → has_header xs s ≡ true
 unfolding has_header
 has_header_if xs s h = le-leb (s + 6) (length xs) h

@@ -1,24 +1,6 @@
 -- What the start of a zone says, in the terms of its pointer.
-use Rattle.std.proofs.Common.{
-  Bool,
-  List,
-  [],
-  cond,
-  eqb,
-  false,
-  ltb,
-  not,
-  suc,
-  true,
-  ℕ,
-  ◌&&◌,
-  ◌+◌,
-  ◌-◌,
-  ◌<◌,
-  ◌∷◌,
-  ◌≡◌,
-  ◌≤◌,
-}
+use Rattle.std.proofs.Common.{Bool, List, [], cond, eqb, false, ltb, not, suc, true, ℕ, ◌&&◌, ◌+◌, ◌-◌, ◌<◌, ◌∷◌, ◌≡◌}
+use Rattle.std.proofs.Common.{◌≤◌}
 use Rattle.std.proofs.Common.{◌++◌, map, filter, drop, refl, ap, sym, ◌∙◌, lt-ltb, arith}
 use Rattle.std.proofs.lemmas.Bool.Decides.{nat_tests}
 use Rattle.lr_bits.specs.declared.sizes.TheConstants.{NO_PACKET_START, ZONE_BYTES}

@@ -5,20 +5,9 @@ use Rattle.clap.specs.Words.{Text}
 use Rattle.lr_words.specs.Commands.{given_by, command_of, command_shaped}
 use Rattle.lr_words.specs.Shapes.{shape_named}
 use Rattle.lr_words.specs.declared.shape.Shape.{Shape}
-use Rattle.lr_words.specs.declared.shape.Shape.TheVariants.{
-  Capacity,
-  Nothing,
-  Number,
-  Symbols,
-  Intake,
-  Line,
-  Workers,
-  Segments,
-  Sent,
-  Block,
-  Made,
-  Tried,
-}
+use Rattle.lr_words.specs.declared.shape.Shape.TheVariants.{Capacity, Nothing, Number, Symbols}
+use Rattle.lr_words.specs.declared.shape.Shape.TheVariants.{Intake, Line, Workers, Segments, Sent}
+use Rattle.lr_words.specs.declared.shape.Shape.TheVariants.{Block, Made, Tried}
 
 pub same_given : (shape : Shape) (a b : Text → Option Text) → ((id : Text) → a id ≡ b id)
     → given_by shape a ≡ given_by shape b

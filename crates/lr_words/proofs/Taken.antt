@@ -1,137 +1,38 @@
 -- Where `clap` states no fault, it states that the words are taken.
-use Rattle.std.proofs.Common.{
-  ◌≡◌,
-  ◌∙◌,
-  ◌≤◌,
-  ◌==◌,
-  ◌&&◌,
-  ◌||◌,
-  ℕ,
-  zero,
-  suc,
-  Bool,
-  true,
-  false,
-  not,
-  List,
-  [],
-  ◌∷◌,
-  length,
-  Option,
-  Some,
-  None,
-  is_some,
-  refl,
-  sym,
-  arith,
-  nat_lt,
-  cond,
-}
+use Rattle.std.proofs.Common.{◌≡◌, ◌∙◌, ◌≤◌, ◌==◌, ◌&&◌, ◌||◌, ℕ, zero, suc, Bool, true, false, not}
+use Rattle.std.proofs.Common.{List, [], ◌∷◌, length, Option, Some, None, is_some, refl, sym, arith}
+use Rattle.std.proofs.Common.{nat_lt, cond}
 use Rattle.std.specs.Prelude.{slice_get}
 use Rattle.std.specs.List.{list_all, list_any}
 use Rattle.std.specs.Option.{option_map_or}
 use Rattle.std.specs.Str.{chars}
-use Rattle.std.proofs.lemmas.Bool.{
-  and_parts,
-  and_from,
-  or_parts,
-  or_left,
-  false_from_ne_true,
-  not_from_false,
-  eqb-true,
-  ltb-false,
-  le-leb,
-}
+use Rattle.std.proofs.lemmas.Bool.{and_parts, and_from, or_parts, or_left, false_from_ne_true}
+use Rattle.std.proofs.lemmas.Bool.{not_from_false, eqb-true, ltb-false, le-leb}
 use Rattle.clap.specs.Words.{App, Row, Rule, Shape, Text, built, is_simple, takes, fault_of, is_simple_and_free}
 use Rattle.clap.specs.Lexer.{short_of}
 use Rattle.clap.specs.Facts.{parser_of_value, unwrap_or_range}
 use Rattle.clap.specs.ValueTests.{accepts}
 use Rattle.clap.specs.Kinds.{Kinds, check_kinds, or_else, range_kinds, values_kinds}
 use Rattle.clap.specs.Simple.{argument_words}
-use Rattle.clap.specs.Walk.{
-  Held,
-  Step,
-  Waiting,
-  Walk,
-  action_of,
-  arg_by_id,
-  arg_by_index,
-  arg_by_long,
-  arg_by_short,
-  attached_value,
-  finished,
-  has_row,
-  is_empty,
-  most_values,
-  nothing_held,
-  reacted,
-  settled,
-  subcommand_met,
-  takes_values,
-  values_or_missing,
-  walk,
-  walk_from,
-  walked,
-  word_met,
-}
+use Rattle.clap.specs.Walk.{Held, Step, Waiting, Walk, action_of, arg_by_id, arg_by_index}
+use Rattle.clap.specs.Walk.{arg_by_long, arg_by_short, attached_value, finished, has_row, is_empty}
+use Rattle.clap.specs.Walk.{most_values, nothing_held, reacted, settled, subcommand_met}
+use Rattle.clap.specs.Walk.{takes_values, values_or_missing, walk, walk_from, walked, word_met}
 use Rattle.clap.specs.Walk.{idle, option, positional, next, trailing, subcommand, value}
-use Rattle.clap.specs.Takes.{
-  action_passes,
-  bundle_step_passes,
-  count_passes,
-  default_passes,
-  flag_word_passes,
-  flags_pass,
-  is_given,
-  level_passes,
-  long_passes,
-  option_passes,
-  other_passes,
-  positional_passes,
-  react_passes,
-  set_passes,
-  settle_passes,
-  short_passes,
-  step_passes,
-  turn_passes,
-  use_passes,
-  walk_passes,
-  word_passes,
-}
-use Rattle.clap.specs.Faults.{
-  action_fault,
-  bundle_step_fault,
-  count_fault,
-  flag_word_fault,
-  flags_fault,
-  level_fault,
-  long_fault,
-  option_fault,
-  other_fault,
-  positional_fault,
-  react_fault,
-  set_fault,
-  settle_fault,
-  short_fault,
-  step_fault,
-  stray_fault,
-  turn_fault,
-  use_fault,
-  walk_fault,
-  word_fault,
-}
+use Rattle.clap.specs.Takes.{action_passes, bundle_step_passes, count_passes, default_passes}
+use Rattle.clap.specs.Takes.{flag_word_passes, flags_pass, is_given, level_passes, long_passes}
+use Rattle.clap.specs.Takes.{option_passes, other_passes, positional_passes, react_passes}
+use Rattle.clap.specs.Takes.{set_passes, settle_passes, short_passes, step_passes, turn_passes}
+use Rattle.clap.specs.Takes.{use_passes, walk_passes, word_passes}
+use Rattle.clap.specs.Faults.{action_fault, bundle_step_fault, count_fault, flag_word_fault}
+use Rattle.clap.specs.Faults.{flags_fault, level_fault, long_fault, option_fault, other_fault}
+use Rattle.clap.specs.Faults.{positional_fault, react_fault, set_fault, settle_fault, short_fault}
+use Rattle.clap.specs.Faults.{step_fault, stray_fault, turn_fault, use_fault, walk_fault}
+use Rattle.clap.specs.Faults.{word_fault}
 use Rattle.clap.specs.declared.builder.action.ArgAction.{ArgAction}
-use Rattle.clap.specs.declared.builder.action.ArgAction.TheVariants.{
-  Set,
-  Append,
-  SetTrue,
-  SetFalse,
-  Count,
-  Help,
-  HelpShort,
-  HelpLong,
-  Version,
-}
+use Rattle.clap.specs.declared.builder.action.ArgAction.TheVariants.{Set, Append, SetTrue, SetFalse}
+use Rattle.clap.specs.declared.builder.action.ArgAction.TheVariants.{Count, Help, HelpShort}
+use Rattle.clap.specs.declared.builder.action.ArgAction.TheVariants.{HelpLong, Version}
 use Rattle.clap.specs.declared.builder.value_parser.ValueParser.{ValueParser}
 use Rattle.clap.specs.declared.error.kind.ErrorKind.{ErrorKind}
 use Rattle.clap.specs.declared.error.kind.ErrorKind.TheVariants as kind

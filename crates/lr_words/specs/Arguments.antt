@@ -2,20 +2,9 @@
 use Rattle.std.specs.Prelude.{true, List, [], ◌∷◌, Some, codes}
 use Rattle.clap.specs.Words.{App, Rule, Text, new_app, new_rule, with_rule}
 use Rattle.lr_words.specs.declared.shape.Shape.{Shape}
-use Rattle.lr_words.specs.declared.shape.Shape.TheVariants.{
-  Capacity,
-  Nothing,
-  Number,
-  Symbols,
-  Intake,
-  Line,
-  Workers,
-  Segments,
-  Sent,
-  Block,
-  Made,
-  Tried,
-}
+use Rattle.lr_words.specs.declared.shape.Shape.TheVariants.{Capacity, Nothing, Number, Symbols}
+use Rattle.lr_words.specs.declared.shape.Shape.TheVariants.{Intake, Line, Workers, Segments, Sent}
+use Rattle.lr_words.specs.declared.shape.Shape.TheVariants.{Block, Made, Tried}
 
 -- an argument that has to be there, by its place
 abbrev pub place : Text → Rule

@@ -1,26 +1,6 @@
 -- Which command the words give, if they give one.
-use Rattle.std.specs.Prelude.{
-  ◌-◌,
-  ◌≡◌,
-  ◌⊎◌,
-  ◌≤◌,
-  ◌^◌,
-  ◌==◌,
-  ℕ,
-  Bool,
-  false,
-  List,
-  [],
-  ◌∷◌,
-  Option,
-  Some,
-  None,
-  IsSome,
-  if◌then◌else◌,
-  option_map,
-  option_and_then,
-  codes,
-}
+use Rattle.std.specs.Prelude.{◌-◌, ◌≡◌, ◌⊎◌, ◌≤◌, ◌^◌, ◌==◌, ℕ, Bool, false, List, [], ◌∷◌, Option}
+use Rattle.std.specs.Prelude.{Some, None, IsSome, if◌then◌else◌, option_map, option_and_then, codes}
 use Rattle.clap.specs.Words.{Text}
 use Rattle.lr_bits.specs.Sizes.{most_u64}
 use Rattle.lr_conv.specs.declared.line.LineCode.{LineCode}
@@ -34,37 +14,15 @@ use Rattle.lr_words.specs.Shapes.{shape_named, can_write, runs_alone}
 use Rattle.lr_words.specs.Values.{coded_input, any_input, output_of, most_of, workers_given, line_code_given}
 use Rattle.lr_words.specs.Words.{is_taken, argument_value}
 use Rattle.lr_words.specs.declared.shape.Shape.{Shape}
-use Rattle.lr_words.specs.declared.shape.Shape.TheVariants.{
-  Capacity,
-  Nothing,
-  Number,
-  Symbols,
-  Intake as IntakeWords,
-  Line,
-  Workers,
-  Segments,
-  Sent,
-  Block,
-  Made,
-  Tried,
-}
+use Rattle.lr_words.specs.declared.shape.Shape.TheVariants.{Capacity, Nothing, Number, Symbols}
+use Rattle.lr_words.specs.declared.shape.Shape.TheVariants.{Intake as IntakeWords, Line, Workers}
+use Rattle.lr_words.specs.declared.shape.Shape.TheVariants.{Segments, Sent, Block, Made, Tried}
 use Rattle.lr_words.specs.declared.command.IntakeAction.{IntakeAction}
 use Rattle.lr_words.specs.declared.command.IntakeAction.TheVariants.{Decode, Receive}
 use Rattle.lr_words.specs.declared.command.Command.{Command}
-use Rattle.lr_words.specs.declared.command.Command.TheVariants.{
-  Init,
-  Frames,
-  Intake,
-  Downlinks,
-  OnShelf,
-  OnFile,
-  Render,
-  Assemble,
-  Transmit,
-  Repack,
-  Make,
-  Trial,
-}
+use Rattle.lr_words.specs.declared.command.Command.TheVariants.{Init, Frames, Intake, Downlinks}
+use Rattle.lr_words.specs.declared.command.Command.TheVariants.{OnShelf, OnFile, Render, Assemble}
+use Rattle.lr_words.specs.declared.command.Command.TheVariants.{Transmit, Repack, Make, Trial}
 
 -- the greatest application identifier that isn't the one of idle packets
 abbrev pub most_apid : ℕ

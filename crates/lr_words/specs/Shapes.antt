@@ -3,20 +3,9 @@ use Rattle.std.specs.Prelude.{Bool, true, false, Option, Some, None, codes, ifâ—
 use Rattle.std.specs.Str.{bytes_eq}
 use Rattle.clap.specs.Words.{Text}
 use Rattle.lr_words.specs.declared.shape.Shape.{Shape}
-use Rattle.lr_words.specs.declared.shape.Shape.TheVariants.{
-  Capacity,
-  Nothing,
-  Number,
-  Symbols,
-  Intake,
-  Line,
-  Workers,
-  Segments,
-  Sent,
-  Block,
-  Made,
-  Tried,
-}
+use Rattle.lr_words.specs.declared.shape.Shape.TheVariants.{Capacity, Nothing, Number, Symbols}
+use Rattle.lr_words.specs.declared.shape.Shape.TheVariants.{Intake, Line, Workers, Segments, Sent}
+use Rattle.lr_words.specs.declared.shape.Shape.TheVariants.{Block, Made, Tried}
 use Rattle.lr_words.specs.declared.command.FileAction.TheVariants.{Extract, Show, Export, Discard}
 use Rattle.lr_words.specs.declared.command.FrameLines.TheVariants.{Frames, Packets}
 use Rattle.lr_words.specs.declared.command.IntakeAction.TheVariants.{Decode, Receive}

@@ -1,17 +1,6 @@
 -- The values of the options that several commands have, and what stands where an option isn't given.
-use Rattle.std.specs.Prelude.{
-  ℕ,
-  Bool,
-  true,
-  false,
-  Option,
-  Some,
-  None,
-  codes,
-  if◌then◌else◌,
-  option_map,
-  option_and_then,
-}
+use Rattle.std.specs.Prelude.{ℕ, Bool, true, false, Option, Some, None, codes, if◌then◌else◌}
+use Rattle.std.specs.Prelude.{option_map, option_and_then}
 use Rattle.std.specs.Str.{bytes_eq}
 use Rattle.clap.specs.Words.{Text}
 use Rattle.lr_conv.specs.declared.line.LineCode.{LineCode}

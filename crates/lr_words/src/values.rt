@@ -27,12 +27,10 @@ pub(crate) fn coded_input(matches: &ArgMatches, line: LineCode) -> Option<Input>
     let Some(text) = matches.get_str("input") else {
         return Some(Input::Symbols(line));
     };
-    if text == "symbols" {
-        Some(Input::Symbols(line))
-    } else if text == "blocks" {
-        Some(Input::Units(UnitForm::Blocks))
-    } else {
-        None
+    match text {
+        "symbols" => Some(Input::Symbols(line)),
+        "blocks" => Some(Input::Units(UnitForm::Blocks)),
+        _ => None,
     }
 }
 
@@ -43,14 +41,11 @@ pub(crate) fn any_input(matches: &ArgMatches, line: LineCode) -> Option<Input>
     let Some(text) = matches.get_str("input") else {
         return Some(Input::Symbols(line));
     };
-    if text == "symbols" {
-        Some(Input::Symbols(line))
-    } else if text == "blocks" {
-        Some(Input::Units(UnitForm::Blocks))
-    } else if text == "frames" {
-        Some(Input::Units(UnitForm::Frames))
-    } else {
-        None
+    match text {
+        "symbols" => Some(Input::Symbols(line)),
+        "blocks" => Some(Input::Units(UnitForm::Blocks)),
+        "frames" => Some(Input::Units(UnitForm::Frames)),
+        _ => None,
     }
 }
 
@@ -61,14 +56,11 @@ pub(crate) fn output_form(matches: &ArgMatches) -> Option<Output>
     let Some(text) = matches.get_str("output") else {
         return Some(Output::Symbols);
     };
-    if text == "symbols" {
-        Some(Output::Symbols)
-    } else if text == "blocks" {
-        Some(Output::Units(UnitForm::Blocks))
-    } else if text == "frames" {
-        Some(Output::Units(UnitForm::Frames))
-    } else {
-        None
+    match text {
+        "symbols" => Some(Output::Symbols),
+        "blocks" => Some(Output::Units(UnitForm::Blocks)),
+        "frames" => Some(Output::Units(UnitForm::Frames)),
+        _ => None,
     }
 }
 
@@ -79,12 +71,10 @@ fn marks(matches: &ArgMatches) -> Option<bool>
     let Some(text) = matches.get_str("line") else {
         return Some(false);
     };
-    if text == "nrz-l" {
-        Some(false)
-    } else if text == "nrz-m" {
-        Some(true)
-    } else {
-        None
+    match text {
+        "nrz-l" => Some(false),
+        "nrz-m" => Some(true),
+        _ => None,
     }
 }
 
@@ -95,12 +85,10 @@ fn inversion(matches: &ArgMatches) -> Option<bool>
     let Some(text) = matches.get_str("g2") else {
         return Some(true);
     };
-    if text == "inverted" {
-        Some(true)
-    } else if text == "plain" {
-        Some(false)
-    } else {
-        None
+    match text {
+        "inverted" => Some(true),
+        "plain" => Some(false),
+        _ => None,
     }
 }
 

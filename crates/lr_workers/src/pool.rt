@@ -39,6 +39,14 @@ pub struct Refused<W: Work, B: Body<W>> {
     pub body: B,
 }
 
+/// What the caller's thread begins with: its body, the conductor that it is given, and its work.
+#[derive(Drop)]
+struct CallerSide<W: Work, B: Body<W>> {
+    body: B,
+    conductor: Conductor<W>,
+    own: W,
+}
+
 /// A thread hands back a seat of the gate that its own seat was of.
 #[derive(Drop)]
 struct SameGate<W: Work>(Snapshot<WorkerSeat<W>>);
@@ -88,24 +96,27 @@ fn beside<'s, E, R: Threads + Wait + Sync, W: Work + Send + Drop, B: Body<W>>(
     scope: &'s Scope<'s, E>,
     rt: &'s R,
     gate: &'s Gate<W>,
-    mut conductor: Conductor<W>,
+    caller: CallerSide<W, B>,
     mut seats: Vec<WorkerSeat<W>>,
     mut works: Vec<W>,
-    own: W,
-    body: B,
 ) -> (Conducted<W, B>, Vec<WorkerSeat<W>>, Vec<W>)
-    requires mine { IsConductorOf gate.now conductor }
-    requires running { (view_of conductor).stopped ≡ false }
+    requires mine { IsConductorOf gate.now caller.conductor }
+    requires running { (view_of caller.conductor).stopped ≡ false }
     requires seats { All (IsSeatOf gate.now) seats.items }
     requires same { vec_len seats ≡ vec_len works }
-    requires needs { B.needs body conductor }
+    requires needs { B.needs caller.body caller.conductor }
     ensures mine { IsConductorOf gate.now result.0.conductor }
-    ensures conducts { IsConducted B.conducts body conductor result.0 }
+    ensures conducts { IsConducted B.conducts caller.body caller.conductor result.0 }
     ensures seats { All (IsSeatOf gate.now) result.1.items }
     ensures many { (vec_len result.1 ≡ vec_len seats) × (vec_len result.2 ≡ vec_len works) }
     ensures room { (vec_capacity result.1 ≡ vec_capacity seats) × (vec_capacity result.2 ≡ vec_capacity works) }
 {
     let Some(seat) = seats.pop() else {
+        let CallerSide {
+            body,
+            mut conductor,
+            own,
+        } = caller;
         let (body, own, answer) = body.conduct(gate, &mut conductor, own);
         conductor.stop(gate);
         let conducted = Conducted {
@@ -126,18 +137,14 @@ fn beside<'s, E, R: Threads + Wait + Sync, W: Work + Send + Drop, B: Body<W>>(
     { work_on(rt, gate, seat, work) };
     match scope.spawn_with(promise, run) {
         Ok(child) => {
-            let (conducted, mut seats, mut works) = beside(
-                scope, rt, gate, conductor, seats, works, own, body,
-            );
+            let (conducted, mut seats, mut works) = beside(scope, rt, gate, caller, seats, works);
             let (seat, work) = child.join(rt);
             seats.push_reserved(seat);
             works.push_reserved(work);
             (conducted, seats, works)
         }
         Err(refused) => {
-            let (conducted, mut seats, mut works) = beside(
-                scope, rt, gate, conductor, seats, works, own, body,
-            );
+            let (conducted, mut seats, mut works) = beside(scope, rt, gate, caller, seats, works);
             let (seat, work) = (refused.value)();
             seats.push_reserved(seat);
             works.push_reserved(work);
@@ -185,16 +192,12 @@ pub fn with_pool<R: Threads + Wait + Sync, W: Work + Send + Drop, B: Body<W>>(
                 × (vec_len result.1 ≡ vec_len seats) × (vec_len result.2 ≡ vec_len works) }
         {
             let _names = names;
-            beside(
-                scope,
-                rt,
-                gate,
+            let caller = CallerSide {
+                body: ManuallyDrop::into_inner(body),
                 conductor,
-                seats,
-                works,
                 own,
-                ManuallyDrop::into_inner(body),
-            )
+            };
+            beside(scope, rt, gate, caller, seats, works)
         },
     );
     Ok(Pooled {

@@ -1,15 +1,8 @@
 use Rattle.std.proofs.Common.{◌≡◌, rules}
 use Rattle.std.proofs.lemmas.Result.{err_from_is_err_and}
 use Rattle.lr_block.specs.Blocks.{word_of}
-use Rattle.lr_block.proofs.Interleaving.{
-  lost_first,
-  lost_second,
-  lost_third,
-  lost_fourth,
-  four_words,
-  restored_by_words,
-  changes_by_words,
-}
+use Rattle.lr_block.proofs.Interleaving.{lost_first, lost_second, lost_third, lost_fourth, four_words}
+use Rattle.lr_block.proofs.Interleaving.{restored_by_words, changes_by_words}
 use Rattle.lr_block.proofs.restoring.restore_words.Goals as goal
 
 pub returns-in_err-in_first-clause-lost : goal.returns-in_err-in_first-clause-lost

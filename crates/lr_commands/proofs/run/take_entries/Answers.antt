@@ -1,9 +1,7 @@
-use Rattle.std.proofs.Common.{◌≡◌, ◌∙◌, ◌+◌, ◌<◌, ◌^◌, sym, ap, subst, refl, arith, length, Ok, [], OnOk, IfErr}
+use Rattle.std.proofs.Common.{◌≡◌, ◌∙◌, ◌+◌, ◌<◌, ◌^◌, sym, ap, refl, arith, length}
 use Rattle.std.proofs.lemmas.Result.{err_from_is_err_and}
 use Rattle.lr_disk.proofs.Moments.{unwritten_joined, unwritten_yet}
 use Rattle.lr_shelf.specs.Kept.{KeptShelf, kept_by}
-use Rattle.lr_causes.specs.Outside.{outlets, outlets_of}
-use Rattle.lr_commands.specs.Steps.{PutsText, TextStops, TakesEntry, EntryStops}
 use Rattle.lr_commands.proofs.Texts.{on_err, on_noted, on_ok, on_sure}
 use Rattle.lr_commands.proofs.Taking.{so_first, so_more, not_allowed, entry_stopped, last_taken, last_stopped}
 use Rattle.lr_commands.proofs.Taking.{entry_undone, gathered_all, text_undone}
@@ -42,27 +40,21 @@ returns-in_err-entry-clause-stops g c =
     let inv = c.loop-number.invariant in
     let p = err_from_is_err_and c.from_residual.result c.from_residual.ensures.1 in
     let query = g.C.ReadsEntries.query c.args.command.now in
-    let way = (kept_by c.args.shelf.now).way in
     let e = c.in_err-entry.ensures in
     let allowed = ap query.range (sym c.len-count.ensures) ∙ sym c.range.ensures.is ∙ c.in-Some.is in
-    let stops =
-    subst
-    (λ (k : KeptShelf). EntryStops (outlets_of g.D.Disk g.O.Sink) query k.way inv.so_far.read c.loop-number.number
-    c.in_err-entry.field-0.0 (outlets c.loop-number.disk c.loop-number.out) (outlets c.entry.new.disk c.entry.new.out))
-    inv.kept
-    (e.stops inv.so_far.read inv.so_far.gathered) in
+    let way = ap (λ (k : KeptShelf). k.way) inv.kept in
+    let stops = rw way at (e.stops inv.so_far.read inv.so_far.gathered) in
     rw (p.1, p.2)
-    (entry_stopped g.D.Disk g.O.Sink query way c.args.disk.now c.args.out.now c.in-Some.range allowed
-    (g.C.ReadsEntries.gathers c.args.command.now c.loop-number.gathered) c.loop-number.number c.loop-number.disk
-    c.loop-number.out c.entry.new.out inv.so_far inv.told inv.untold inv.reads inv.disk_count c.entry.new.disk
-    c.loop-number-test.true e.reads.told e.reads.untold e.reads.unwritten c.in_err-entry.field-0.0 stops
-    (e.counted inv.so_far.read inv.so_far.gathered))
+    (entry_stopped g.D.Disk g.O.Sink query _ _ _ _ allowed _ _ _ _ c.entry.new.out inv.so_far inv.told inv.untold
+    inv.reads inv.disk_count c.entry.new.disk c.loop-number-test.true e.reads.told e.reads.untold e.reads.unwritten
+    c.in_err-entry.field-0.0 stops (e.counted inv.so_far.read inv.so_far.gathered))
 
 pub loop-number-preserved : goal.loop-number-preserved
 loop-number-preserved g c =
     let inv = c.loop-number.invariant in
     let e = c.in_ok-entry.ensures in
     let query = g.C.ReadsEntries.query c.args.command.now in
+    let way = ap (λ (k : KeptShelf). k.way) inv.kept in
     let few : length inv.so_far.read + 1 < 2 ^ 64 = omega (arith, inv.so_far.few, c.loop-number-test.true) in
     record {
       kept = e.reads.kept ∙ inv.kept;
@@ -77,51 +69,32 @@ loop-number-preserved g c =
           c.entry.new.out inv.so_far c.loop-number-test.true c.loop-number.disk
           inv.told (λ t. (inv.reads t).contents) (g.C.ReadsEntries.gathers c.args.command.now c.entry.new.gathered)
           c.entry.new.disk
-          (subst
-          (λ (k : KeptShelf). TakesEntry (outlets_of g.D.Disk g.O.Sink) query k.way inv.so_far.read c.loop-number.number
-          (g.C.ReadsEntries.gathers c.args.command.now c.entry.new.gathered)
-          (outlets c.loop-number.disk c.loop-number.out) (outlets c.entry.new.disk c.entry.new.out)) inv.kept
-          (e.takes inv.so_far.read few inv.so_far.gathered));
+          (rw way at (e.takes inv.so_far.read few inv.so_far.gathered));
     }
 
 pub returns-clause-takes : goal.returns-clause-takes
 returns-clause-takes g c =
     let inv = c.loop-number.invariant in
     let query = g.C.ReadsEntries.query c.args.command.now in
-    let way = (kept_by c.args.shelf.now).way in
     let allowed = ap query.range (sym c.len-count.ensures) ∙ sym c.range.ensures.is ∙ c.in-Some.is in
-    let takes =
-    subst
-    (λ (k : KeptShelf). OnOk c.last.result
-    (PutsText g.O.Sink (query.last k.way inv.so_far.read) c.loop-number.out c.last.new.out)) inv.kept
-    (c.last.ensures.takes inv.so_far.read inv.so_far.gathered) in
+    let way = ap (λ (k : KeptShelf). k.way) inv.kept in
+    let takes = rw way at (c.last.ensures.takes inv.so_far.read inv.so_far.gathered) in
     on_noted c.last.result
-    (λ puts. last_taken g.D.Disk g.O.Sink query way c.args.disk.now c.args.out.now c.in-Some.range allowed
-    (g.C.ReadsEntries.gathers c.args.command.now c.loop-number.gathered) c.loop-number.number c.loop-number.disk
-    c.loop-number.out c.last.new.out inv.so_far inv.told inv.untold inv.reads inv.disk_count
-    (c.loop-number.auto.number-end c.in-Some.ensures.ordered) c.loop-number-test.false puts)
+    (last_taken g.D.Disk g.O.Sink query _ _ _ _ allowed _ _ _ _ c.last.new.out inv.so_far inv.told inv.untold
+    inv.reads inv.disk_count (c.loop-number.auto.number-end c.in-Some.ensures.ordered) c.loop-number-test.false)
     takes (c.last.ensures.tells inv.so_far.read inv.so_far.gathered)
 
 pub returns-clause-stops : goal.returns-clause-stops
 returns-clause-stops g c =
     let inv = c.loop-number.invariant in
     let query = g.C.ReadsEntries.query c.args.command.now in
-    let way = (kept_by c.args.shelf.now).way in
     let allowed = ap query.range (sym c.len-count.ensures) ∙ sym c.range.ensures.is ∙ c.in-Some.is in
-    let stops =
-    subst
-    (λ (k : KeptShelf). IfErr c.last.result
-    (λ cause. TextStops g.O.Sink (query.last k.way inv.so_far.read) cause c.loop-number.out c.last.new.out)) inv.kept
-    (c.last.ensures.stops inv.so_far.read inv.so_far.gathered) in
-    let sure =
-    subst
-    (λ (k : KeptShelf). query.last k.way inv.so_far.read ≡ Ok [] → IfErr c.last.result (λ _. ⊥)) inv.kept
-    (c.last.ensures.sure inv.so_far.read inv.so_far.gathered) in
+    let way = ap (λ (k : KeptShelf). k.way) inv.kept in
+    let stops = simp way at (c.last.ensures.stops inv.so_far.read inv.so_far.gathered) in
+    let sure = rw way at (c.last.ensures.sure inv.so_far.read inv.so_far.gathered) in
     on_sure c.last.result
-    (last_stopped g.D.Disk g.O.Sink query way c.args.disk.now c.args.out.now c.in-Some.range allowed
-    (g.C.ReadsEntries.gathers c.args.command.now c.loop-number.gathered) c.loop-number.number c.loop-number.disk
-    c.loop-number.out c.last.new.out inv.so_far inv.told inv.untold inv.reads inv.disk_count
-    (c.loop-number.auto.number-end c.in-Some.ensures.ordered) c.loop-number-test.false)
+    (last_stopped g.D.Disk g.O.Sink query _ _ _ _ allowed _ _ _ _ c.last.new.out inv.so_far inv.told inv.untold
+    inv.reads inv.disk_count (c.loop-number.auto.number-end c.in-Some.ensures.ordered) c.loop-number-test.false)
     stops sure
 
 pub returns-in_err-entry-clause-undone : goal.returns-in_err-entry-clause-undone
@@ -147,17 +120,10 @@ pub returns-clause-gathers : goal.returns-clause-gathers
 returns-clause-gathers g c =
     let inv = c.loop-number.invariant in
     let query = g.C.ReadsEntries.query c.args.command.now in
-    let way = (kept_by c.args.shelf.now).way in
     let allowed = ap query.range (sym c.len-count.ensures) ∙ sym c.range.ensures.is ∙ c.in-Some.is in
-    let takes =
-    subst
-    (λ (k : KeptShelf). OnOk c.last.result
-    (PutsText g.O.Sink (query.last k.way inv.so_far.read) c.loop-number.out c.last.new.out)) inv.kept
-    (c.last.ensures.takes inv.so_far.read inv.so_far.gathered) in
+    let way = ap (λ (k : KeptShelf). k.way) inv.kept in
     on_ok c.last.result
-    (λ puts. gathered_all g.D.Disk g.O.Sink query way c.args.disk.now c.args.out.now c.in-Some.range allowed
-    (g.C.ReadsEntries.gathers c.args.command.now c.loop-number.gathered) c.loop-number.number c.loop-number.disk
-    c.loop-number.out c.last.new.out inv.so_far inv.told inv.untold inv.reads inv.disk_count
-    (c.loop-number.auto.number-end c.in-Some.ensures.ordered) c.loop-number-test.false puts
+    (λ puts. gathered_all g.D.Disk g.O.Sink query _ _ _ _ allowed _ _ _ _ c.last.new.out inv.so_far inv.told inv.untold
+    inv.reads inv.disk_count (c.loop-number.auto.number-end c.in-Some.ensures.ordered) c.loop-number-test.false puts
     (g.C.ReadsEntries.gathers c.args.command.now) c.loop-number.gathered inv.so_far.gathered)
-    takes
+    (rw way at (c.last.ensures.takes inv.so_far.read inv.so_far.gathered))

@@ -1,7 +1,8 @@
 use Rattle.std.proofs.Common.{◌≡◌}
 use Rattle.lr_disk.specs.Reads.{IsUnwritten}
 use Rattle.lr_shelf.specs.Kept.{kept_by}
-use Rattle.lr_commands.specs.Reached.{SoFar}
+use Rattle.lr_commands.specs.Reached.{SoFar, entries_run}
+use Rattle.lr_causes.specs.Outside.{outlets_of, outlets}
 use Rattle.lr_commands.proofs.run.take_entries.Given as goal
 
 abbrev pub invariant-loop-number : goal.invariant-loop-number
@@ -12,7 +13,8 @@ invariant-loop-number g l =
       untold : g.D.Disk.tells l.disk → g.D.Disk.tells l.fn.disk;
       reads : g.D.Disk.tells l.fn.disk → IsUnwritten g.D.Disk l.fn.disk l.disk;
       disk_count : g.D.Disk.faults l.disk ≡ g.D.Disk.faults l.fn.disk;
-      so_far : SoFar g.D.Disk g.O.Sink (g.C.ReadsEntries.query l.command) (kept_by l.fn.shelf).way
-          (record { from = l.initial.number; to = l.number-end }) l.fn.disk l.fn.out
-          (g.C.ReadsEntries.gathers l.command l.gathered) l.number l.out;
+      so_far : SoFar (outlets_of g.D.Disk g.O.Sink)
+          (entries_run (g.C.ReadsEntries.query l.command) (kept_by l.fn.shelf).way
+          (record { from = l.initial.number; to = l.number-end }) (g.C.ReadsEntries.gathers l.command l.gathered))
+          (outlets l.fn.disk l.fn.out) l.number l.out;
     }

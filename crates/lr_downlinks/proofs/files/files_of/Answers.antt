@@ -1,6 +1,6 @@
 use Rattle.std.proofs.Common.{List, sym, subst, ◌∙◌}
 use Rattle.lr_bits.specs.declared.placed.Placed.{Placed}
-use Rattle.lr_downlinks.specs.Decoding.{IsDecodedSoFar}
+use Rattle.lr_downlinks.specs.Decoding.{IsDecodedSoFar, coded_stream}
 use Rattle.lr_downlinks.proofs.Decoding.{decoded_all, decoded_more, decoded_none, outcomes_few}
 use Rattle.lr_downlinks.proofs.files.files_of.Goals as goal
 
@@ -8,7 +8,7 @@ pub windows-init : goal.windows-init
 windows-init c = record {
   decoded =
       subst (λ (l : List Placed).
-      IsDecodedSoFar c.args.line c.args.stream.now 0 c.in_ok-lock.lock c.new-layers.result l)
+      IsDecodedSoFar (coded_stream c.args.line c.args.stream.now) 0 c.in_ok-lock.lock c.new-layers.result l)
       (sym c.new-files.ensures.items)
       (decoded_none c.args.line c.args.stream.now c.in_ok-lock.lock c.new-layers.result c.in_ok-lock.ensures.stands
       c.in_ok-lock.ensures.line c.in_ok-lock.ensures.unfinished c.new-layers.ensures);

@@ -1,12 +1,13 @@
 use Rattle.std.proofs.Common.{ap, subst, ◌∙◌, sym, Ok, arith, length}
-use Rattle.lr_downlinks.specs.Appending.{AppendsNext}
+use Rattle.lr_downlinks.specs.Appending.{AppendsNext, downlink_files}
 use Rattle.lr_downlinks.proofs.Leftover.{all_there, goes_on, left_at, one_more, still_works, works_on}
 use Rattle.lr_downlinks.proofs.rest.append_left.Goals as goal
 
 pub files-smaller : goal.files-smaller
 files-smaller g c =
     let next = subst
-    (λ files. AppendsNext g.D.Disk c.args.downlink files c.files.book c.append_next.new.self c.append_next.result)
+    (λ files. AppendsNext g.D.Disk (downlink_files c.args.downlink files) c.files.book c.append_next.new.self
+    c.append_next.result)
     c.requires.files c.append_next.ensures.appends in
     let more = one_more g.D.Disk g.N.RunStart.start c.args.downlink c.files.book c.append_next.new.self
     c.append_next.result next (c.in-Ok-true.is ∙ ap Ok c.in-Ok-true.field-0-test) in
@@ -16,7 +17,8 @@ files-smaller g c =
 pub files-preserved : goal.files-preserved
 files-preserved g c =
     let next = subst
-    (λ files. AppendsNext g.D.Disk c.args.downlink files c.files.book c.append_next.new.self c.append_next.result)
+    (λ files. AppendsNext g.D.Disk (downlink_files c.args.downlink files) c.files.book c.append_next.new.self
+    c.append_next.result)
     c.requires.files c.append_next.ensures.appends in
     let on = goes_on g.D.Disk g.N.RunStart.start c.args.downlink c.files.book c.append_next.new.self
     c.append_next.result next in
@@ -30,7 +32,8 @@ files-preserved g c =
 pub returns-in-Ok-false : goal.returns-in-Ok-false
 returns-in-Ok-false g c =
     let next = subst
-    (λ files. AppendsNext g.D.Disk c.args.downlink files c.files.book c.append_next.new.self c.append_next.result)
+    (λ files. AppendsNext g.D.Disk (downlink_files c.args.downlink files) c.files.book c.append_next.new.self
+    c.append_next.result)
     c.requires.files c.append_next.ensures.appends in
     let on = goes_on g.D.Disk g.N.RunStart.start c.args.downlink c.files.book c.append_next.new.self
     c.append_next.result next in
@@ -50,7 +53,8 @@ returns-in-Ok-false g c =
 pub returns-in-Err : goal.returns-in-Err
 returns-in-Err g c =
     let next = subst
-    (λ files. AppendsNext g.D.Disk c.args.downlink files c.files.book c.append_next.new.self c.append_next.result)
+    (λ files. AppendsNext g.D.Disk (downlink_files c.args.downlink files) c.files.book c.append_next.new.self
+    c.append_next.result)
     c.requires.files c.append_next.ensures.appends in
     let on = goes_on g.D.Disk g.N.RunStart.start c.args.downlink c.files.book c.append_next.new.self
     c.append_next.result next in

@@ -4,7 +4,7 @@ use Rattle.lr_gate.proofs.round.go_between.Goals as goal
 
 pub returns-then-visit-clause-goes : goal.returns-then-visit-clause-goes
 returns-then-visit-clause-goes g c =
-    gone_works c.args.gate.now.cells c.args.seat.now.me c.loop-cell.seat.me c.visit.new.seat.me c.args.from
+    gone_works c.args.gate.now.cells c.args.seat.now.me c.loop-cell.seat.me c.visit.new.seat.me c.args.cells.from
     c.loop-cell.cell
     c.loop-cell.invariant.3 c.if-visit.ensures.visits
 
@@ -20,7 +20,7 @@ loop-cell-preserved g c = let old = c.loop-cell.invariant in let v = c.if-visit.
       },
       same.0 ∙ old.1,
       same.1 ∙ old.2,
-      gone_more c.args.gate.now.cells c.args.seat.now.me c.loop-cell.seat.me c.visit.new.seat.me c.args.from
+      gone_more c.args.gate.now.cells c.args.seat.now.me c.loop-cell.seat.me c.visit.new.seat.me c.args.cells.from
           c.loop-cell.cell
           old.3 v,
     )

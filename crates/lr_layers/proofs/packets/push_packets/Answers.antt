@@ -1,12 +1,11 @@
-use Rattle.std.proofs.Common.{◌≡◌, ◌≤◌, ◌+◌, ◌++◌, ◌∷◌, [], List, length, take, map, ap, ◌∙◌, sym, subst, arith}
+use Rattle.std.proofs.Common.{◌≡◌, ◌≤◌, ◌+◌, ◌++◌, ◌∷◌, [], List, length, take, ap, ◌∙◌, sym, subst, arith}
 use Rattle.std.proofs.Common.{length-append}
 use Rattle.std.specs.Prelude.{Bool, IsOk, if◌then◌else◌}
-use Rattle.std.proofs.lemmas.List.{take_all, map-append}
+use Rattle.std.proofs.lemmas.List.{take_all}
 use Rattle.lr_bits.specs.declared.outcome.Outcome.{Outcome}
 use Rattle.lr_packet.specs.Verdict.{Good, good_packets}
-use Rattle.lr_file.specs.Standing.{FilesStandFor}
-use Rattle.lr_layers.specs.Origins.{PlacedPacket, packet_of, at_place}
-use Rattle.lr_layers.specs.Starts.{IsNow, Joins, StartsStandFor}
+use Rattle.lr_layers.specs.Origins.{PlacedPacket, at_place}
+use Rattle.lr_layers.specs.Starts.{AtHand, IsNow, JoinerStandsFor, Joins}
 use Rattle.lr_layers.proofs.Joining.{joins_more, good_more, none_good, keeps_on}
 use Rattle.lr_layers.proofs.packets.push_packets.Goals as goal
 use Rattle.lr_layers.proofs.packets.push_packets.Goals.{then-branch, else-branch}
@@ -25,20 +24,14 @@ loop-raw-preserved c =
     let old = c.args.out.now.items in
     let between = c.loop-raw.out.items in
     let new = c.push_packet.new.out.items in
-    let files = c.push_packet.new.files in
-    let starts = c.push_packet.new.starts in
     let joins =
     λ (outcomes : List Outcome) (before : List PlacedPacket)
-    (stand : FilesStandFor c.args.files.now (map packet_of before))
-    (begun : StartsStandFor outcomes c.args.starts.now before) (is : IsNow outcomes c.args.now).
-    let a = so_far.joins outcomes before stand begun is in
-    let b = step.joins outcomes (before ++ at_place place first) a.files_stand a.starts_stand is in
-    subst (λ (l : List Good). Joins outcomes before (at_place place l) files starts old new) (sym more)
-    (subst (λ (l : List PlacedPacket). Joins outcomes before l files starts old new)
-    (sym (map-append _ first one))
-    (joins_more outcomes before (at_place place first)
-    (at_place place one) c.loop-raw.files files c.loop-raw.starts starts
-    old between new a b)) in
+    (stand : JoinerStandsFor c.args.joiner.now outcomes before) (is : IsNow outcomes c.args.now).
+    let at : AtHand = record { outcomes = outcomes; place = place; before = before } in
+    let a = so_far.joins outcomes before stand is in
+    let b = step.joins outcomes (before ++ at_place place first) a.stands is in
+    subst (λ (l : List Good). Joins at l c.push_packet.new.joiner old new) (sym more)
+    (joins_more at first one a b) in
     let kept = keeps_on old between new so_far.kept step.kept in
     let more_files : length new ≤ length between + length one =
     subst (λ k. length new ≤ length between + k) step.good step.few in
@@ -64,12 +57,11 @@ loop-raw-preserved c =
     ]
 
 pub returns-clause-joins : goal.returns-clause-joins
-returns-clause-joins c outcomes before stand begun is =
-    subst (λ l. Joins outcomes before (at_place c.args.now.start.place
-    (good_packets l)) c.loop-raw.files c.loop-raw.starts
-    c.args.out.now.items c.loop-raw.out.items)
+returns-clause-joins c outcomes before stand is =
+    let at : AtHand = record { outcomes = outcomes; place = c.args.now.start.place; before = before } in
+    subst (λ l. Joins at (good_packets l) c.loop-raw.joiner c.args.out.now.items c.loop-raw.out.items)
     (take_all c.loop-raw.raw-index c.args.packets.now c.loop-raw-test.false)
-    (c.loop-raw.invariant.joins outcomes before stand begun is)
+    (c.loop-raw.invariant.joins outcomes before stand is)
 
 pub returns-in_err-push_packet-clause-succeeds : goal.returns-in_err-push_packet-clause-succeeds
 returns-in_err-push_packet-clause-succeeds c none =

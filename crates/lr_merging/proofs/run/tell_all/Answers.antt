@@ -4,7 +4,7 @@ use Rattle.lr_causes.specs.declared.cause.Cause.{Cause}
 use Rattle.lr_causes.specs.Puts.{Puts}
 use Rattle.lr_causes.proofs.Joining.{fails_after}
 use Rattle.lr_merging.specs.Lines.{receipt_lines, last_line}
-use Rattle.lr_merging.specs.Told.{TellsAll}
+use Rattle.lr_merging.specs.Told.{TellsAll, receipted}
 use Rattle.lr_merging.proofs.run.tell_all.Goals as goal
 
 pub returns-in-Err-put_last : goal.returns-in-Err-put_last
@@ -13,7 +13,8 @@ returns-in-Err-put_last g c =
     let streams = c.args.bundle.now in
     let put = subst (λ (n : ℕ). Puts g.O.Sink (receipt_lines run.base run.order n) c.args.out.now
     c.put_receipts.new.out) c.streams.ensures.count c.in_default.ensures.put in
-    subst (λ (cause : Cause). TellsAll g.O.Sink streams run.base run.order cause c.args.out.now c.put_last.new.out)
+    subst (λ (cause : Cause). TellsAll g.O.Sink (receipted streams run.base run.order) cause c.args.out.now
+    c.put_last.new.out)
     (sym c.in-Err-put_last.ensures.cause)
     (fails_after g.O.Sink (receipt_lines run.base run.order (length streams)) (last_line streams run.order)
     c.args.out.now c.put_receipts.new.out c.put_last.new.out put c.in-Err-put_last.ensures.failed)

@@ -1,29 +1,23 @@
-use Rattle.std.proofs.lemmas.Result.{err_from_is_err_and}
 use Rattle.lr_printing.specs.Frames.{frames_text, frames_last}
 use Rattle.lr_printing.proofs.FramesGoOn.{frames_last_is}
-use Rattle.lr_printing.proofs.Lines.{none_read, all_put, last_stopped}
+use Rattle.lr_printing.proofs.Lines.{all_put, err_so, last_stopped, none_read}
 use Rattle.lr_printing.proofs.frame_lines.put_frames.Goals as goal
 
 pub returns-in_err-reader-clause-stopped : goal.returns-in_err-reader-clause-stopped
 returns-in_err-reader-clause-stopped g c =
-    let p = err_from_is_err_and c.from_residual.result c.from_residual.ensures.1 in
-    rw (p.1, p.2)
+    err_so _ c.from_residual.result c.from_residual.ensures.1
     (none_read g.S.Source g.O.Sink frames_text frames_text frames_last c.args.most c.args.source.now c.args.out.now)
 
 pub returns-in_err-put_last-clause-stopped : goal.returns-in_err-put_last-clause-stopped
 returns-in_err-put_last-clause-stopped g c =
-    let p = err_from_is_err_and c.from_residual-in_err-put_last.result c.from_residual-in_err-put_last.ensures.1 in
     let all = rw c.in_ok-reader.ensures at c.in_ok-totals.ensures.all in
-    rw (p.1, p.2)
-    (last_stopped g.S.Source g.O.Sink frames_text frames_text frames_last c.args.most all.0 all.1.read
-    c.in_ok-totals.totals.stop all.1.reason all.2 _
+    err_so _ c.from_residual-in_err-put_last.result c.from_residual-in_err-put_last.ensures.1
+    (last_stopped g.S.Source g.O.Sink frames_text frames_text frames_last c.args.most all.1 all.2
     (frames_last_is g.S.Source c.args.most c.in_ok-totals.totals all.0 _ _ all.1) all.3 c.put_last.new.out _
     c.in_err-put_last.ensures.stopped)
 
 pub returns-clause-all : goal.returns-clause-all
 returns-clause-all g c =
     let all = rw c.in_ok-reader.ensures at c.in_ok-totals.ensures.all in
-    all_put g.S.Source g.O.Sink frames_text frames_text frames_last c.args.most all.0 all.1.read
-    c.in_ok-totals.totals.stop
-    all.1.reason all.2 _ (frames_last_is g.S.Source c.args.most c.in_ok-totals.totals all.0 _ _ all.1)
-    c.in_ok-put_last.ensures.put
+    all_put g.S.Source g.O.Sink frames_text frames_text frames_last c.args.most all.1 all.2
+    (frames_last_is g.S.Source c.args.most c.in_ok-totals.totals all.0 _ _ all.1) c.in_ok-put_last.ensures.put

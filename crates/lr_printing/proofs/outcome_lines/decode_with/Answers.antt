@@ -16,8 +16,7 @@ returns-in-Ok-put_last g c workers leads =
     (decode_last c.args.input) c.args.most
     c.in-Ok.sums.0.stop _ _ _ _
     (all_put g.S.Source g.O.Sink (decode_text c.args.input) (decode_due c.args.input workers)
-    (decode_last c.args.input) c.args.most all.0 all.1.read
-    c.in-Ok.sums.0.stop all.1.reason all.3 _
+    (decode_last c.args.input) c.args.most all.1 all.3
     (decode_last_is g.S.Source c.args.input c.args.most c.in-Ok.sums.0 c.in-Ok.sums.1 all.0 _ _ all.1 all.2)
     c.in-Ok-put_last.ensures.put))
 
@@ -25,7 +24,6 @@ pub returns-in-Err-put_last : goal.returns-in-Err-put_last
 returns-in-Err-put_last g c workers leads =
     let all = c.in-Ok.ensures.all workers leads in
     last_stopped g.S.Source g.O.Sink (decode_text c.args.input) (decode_due c.args.input workers)
-    (decode_last c.args.input) c.args.most all.0
-    all.1.read c.in-Ok.sums.0.stop all.1.reason all.3 _
+    (decode_last c.args.input) c.args.most all.1 all.3
     (decode_last_is g.S.Source c.args.input c.args.most c.in-Ok.sums.0 c.in-Ok.sums.1 all.0 _ _ all.1 all.2)
     all.4 c.put_last.new.out _ c.in-Err-put_last.ensures.stopped

@@ -1,20 +1,5 @@
-use Rattle.std.proofs.Common.{
-  ◌≡◌,
-  ◌+◌,
-  ◌≤◌,
-  ◌∷◌,
-  ◌++◌,
-  [],
-  length,
-  take,
-  ap,
-  ◌∙◌,
-  sym,
-  arith,
-  append-nil,
-  append_assoc,
-  length-take-le,
-}
+use Rattle.std.proofs.Common.{◌≡◌, ◌+◌, ◌≤◌, ◌∷◌, ◌++◌, [], length, take, ap, ◌∙◌, sym, arith}
+use Rattle.std.proofs.Common.{append-nil, append_assoc, length-take-le}
 use Rattle.std.proofs.lemmas.List.{take_more}
 use Rattle.lr_catalog.specs.Packets.{packet_line}
 use Rattle.lr_printing.specs.Packets.{lines_from}

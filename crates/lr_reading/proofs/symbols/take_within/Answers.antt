@@ -1,21 +1,5 @@
-use Rattle.std.proofs.Common.{
-  ◌≤◌,
-  ℕ,
-  List,
-  [],
-  Result,
-  Ok,
-  Err,
-  IfOk,
-  OnErr,
-  ◌++◌,
-  take,
-  drop,
-  length,
-  length-append,
-  refl,
-  arith,
-}
+use Rattle.std.proofs.Common.{◌≤◌, ℕ, List, [], Result, Ok, Err, IfOk, OnErr, ◌++◌, take, drop}
+use Rattle.std.proofs.Common.{length, length-append, refl, arith}
 use Rattle.std.proofs.lemmas.List.{length-take-le}
 use Rattle.lr_bits.specs.declared.refusals.Failed.{Failed}
 use Rattle.lr_io.specs.declared.source.Source.{Ghosts as SourceOf}

@@ -10,7 +10,7 @@ returns-in-Err g c =
     1 c.args.most (outside c.args.source.now c.args.disk.now c.args.out.now)
 
 pub returns : goal.returns
-returns g c = c.receive_with.ensures 1 (
+returns g c = c.receive_with.ensures c.args.input 1 c.args.most (
     rw (
       sym (ap (λ (r : ReaderView). r.input) c.in-Ok.ensures),
       sym (ap (λ (r : ReaderView). r.most) c.in-Ok.ensures),

@@ -3,23 +3,25 @@ use Rattle.lr_causes.specs.Outside.{outside, world_of}
 use Rattle.lr_receiving.proofs.reception.receive_onto.Goals as goal
 
 pub returns-in-Err : goal.returns-in-Err
-returns-in-Err g c leeway leads =
-    ended_some (world_of g.S.Source g.D.Disk g.O.Sink) c.args.input c.args.most c.args.shelf.now
+returns-in-Err g c input most leeway leads =
+    ended_some (world_of g.S.Source g.D.Disk g.O.Sink) input most c.args.shelf.now
     (outside c.args.source.now c.args.disk.now c.args.out.now)
     (outside c.receive_all.new.source c.receive_all.new.disk c.receive_all.new.out) leeway _
-    (c.in-Err.ensures.some leeway leads)
+    (c.in-Err.ensures.some input most leeway leads)
 
 pub returns-in-Ok-put_last : goal.returns-in-Ok-put_last
-returns-in-Ok-put_last g c leeway leads =
+returns-in-Ok-put_last g c input most leeway leads =
     rw c.cause_at.ensures
-    (all_put (world_of g.S.Source g.D.Disk g.O.Sink) c.args.input c.args.most c.args.shelf.now
+    (all_put (world_of g.S.Source g.D.Disk g.O.Sink) input most c.args.shelf.now
     (outside c.args.source.now c.args.disk.now c.args.out.now)
     (outside c.receive_all.new.source c.receive_all.new.disk c.receive_all.new.out) leeway c.in-Ok.sums
-    c.receive_all.new.shelf (c.in-Ok.ensures.all leeway leads) c.put_last.new.out c.in-Ok-put_last.ensures.put)
+    c.receive_all.new.shelf (c.in-Ok.ensures.all input most leeway leads) c.put_last.new.out
+    c.in-Ok-put_last.ensures.put)
 
 pub returns-in-Err-put_last : goal.returns-in-Err-put_last
-returns-in-Err-put_last g c leeway leads =
-    last_stopped (world_of g.S.Source g.D.Disk g.O.Sink) c.args.input c.args.most c.args.shelf.now
+returns-in-Err-put_last g c input most leeway leads =
+    last_stopped (world_of g.S.Source g.D.Disk g.O.Sink) input most c.args.shelf.now
     (outside c.args.source.now c.args.disk.now c.args.out.now)
     (outside c.receive_all.new.source c.receive_all.new.disk c.receive_all.new.out) leeway c.in-Ok.sums
-    c.receive_all.new.shelf (c.in-Ok.ensures.all leeway leads) c.put_last.new.out _ c.in-Err-put_last.ensures.stopped
+    c.receive_all.new.shelf (c.in-Ok.ensures.all input most leeway leads) c.put_last.new.out _
+    c.in-Err-put_last.ensures.stopped

@@ -4,7 +4,7 @@ use Rattle.lr_catalog.specs.Files.{shelved_line}
 use Rattle.lr_causes.specs.declared.cause.Cause.TheVariants.{Failed}
 use Rattle.lr_causes.specs.declared.cause.Party.TheVariants.{Output}
 use Rattle.lr_causes.proofs.Results.{if_ok_on, if_err_one}
-use Rattle.lr_receiving.specs.Shelved.{StopsShelving}
+use Rattle.lr_receiving.specs.Shelved.{StopsShelving, shelf_in}
 use Rattle.lr_receiving.proofs.ShelvingOne.{no_line, one_cut, one_refused, one_shelved}
 use Rattle.lr_causes.specs.Outside.{outlets, outlets_of}
 use Rattle.lr_receiving.proofs.shelve.shelve.Goals as goal
@@ -34,8 +34,8 @@ returns-clause-shelved g c =
 pub returns-clause-stopped : goal.returns-clause-stopped
 returns-clause-stopped g c =
     let is : c.as_slice.result.now ≡ shelved_line c.len.result c.args.placed.now.file = search rules in
-    if_err_one (λ cause. StopsShelving (outlets_of g.D.Disk g.O.Sink) cause (c.args.placed.now
-    ∷ []) c.args.shelf.now (outlets c.args.disk.now c.args.out.now)
+    if_err_one (λ cause. StopsShelving (outlets_of g.D.Disk g.O.Sink) cause (c.args.placed.now ∷ [])
+    (shelf_in c.args.shelf.now (outlets c.args.disk.now c.args.out.now))
     (outlets c.append.new.disk c.put_text.new.out)) (Failed Output) c.put_text.result
     c.put_text.ensures.cause c.put_text.ensures.failed
     (one_cut g.D.Disk g.met.D.Disk.leaves_contents g.met.D.Disk.counts_now g.O.Sink c.args.placed.now

@@ -1,6 +1,6 @@
 use Rattle.std.proofs.Common.{◌<◌, ◌≤◌, length, arith}
 use Rattle.std.proofs.lemmas.Result.{err_from_is_err_and}
-use Rattle.lr_receiving.proofs.Pieces.{all_shelved, one_more, one_stopped, shelved_none}
+use Rattle.lr_receiving.proofs.Pieces.{all_shelved, one_file_more, one_stopped, shelved_none}
 use Rattle.lr_causes.specs.Outside.{outlets, outlets_of}
 use Rattle.lr_receiving.proofs.shelve.shelve_all.Goals as goal
 
@@ -15,7 +15,7 @@ pub loop-placed-preserved : goal.loop-placed-preserved
 loop-placed-preserved g c = record {
   so_far =
       let inside : c.loop-placed.placed-index < length c.args.files.now = omega arith in
-      one_more (outlets_of g.D.Disk g.O.Sink) c.args.files.now c.loop-placed.placed-index
+      one_file_more (outlets_of g.D.Disk g.O.Sink) c.args.files.now c.loop-placed.placed-index
       c.loop-placed.invariant.so_far
       c.placed-item.result inside c.placed-item.is c.in_ok-shelve.ensures.shelved;
 }

@@ -4,7 +4,7 @@ use Rattle.lr_shelf.specs.declared.shelf.Shelf.{Shelf}
 use Rattle.lr_shelf.specs.declared.error.ShelfError.{ShelfError}
 use Rattle.lr_forms.specs.declared.forms.TheConstants.{MOST_BYTES as most_bytes}
 use Rattle.lr_receiving.proofs.Causing.{none_rose}
-use Rattle.lr_receiving.proofs.Trying.{not_loaded, lines, all_done, some_done}
+use Rattle.lr_receiving.proofs.Trying.{not_loaded, stream_ends}
 use Rattle.lr_receiving.proofs.trial_run.shelve_stream.Goals as goal
 
 pub returns-in-Err-clause-stopped : goal.returns-in-Err-clause-stopped
@@ -15,26 +15,13 @@ returns-in-Err-clause-stopped g c =
     (subst (λ (r : Result Shelf ShelfError). IfErr r (IsLoadRefusal g.D.Disk c.args.disk.now))
     c.in-Err.is c.load.ensures.refused))
 
-pub returns-clause-line : goal.returns-clause-line
-returns-clause-line g c =
-    lines g.D.Disk c.args.symbols.items c.args.disk.now c.requires.empty c.load.new.disk c.load.result
+pub returns : goal.returns
+returns g c =
+    let ends =
+    stream_ends g.D.Disk c.args.symbols.items c.args.disk.now c.requires.empty c.load.new.disk c.load.result
     c.load.ensures _ _ most_bytes c.requires.few c.in-Ok.shelf c.in-Ok.is
     c.of-source.result c.receive_all.new.source tt c.of-source.ensures c.receive_all.new.disk c.new-lines.result
     c.receive_all.new.out c.requires.leads.0 c.receive_all.new.shelf c.receive_all.result
-    (c.receive_all.ensures.all c.requires.leads.0 c.requires.leads.1) none_rose
-
-pub returns-clause-done : goal.returns-clause-done
-returns-clause-done g c =
-    all_done g.D.Disk c.args.symbols.items c.args.disk.now c.requires.empty c.load.new.disk c.load.result
-    c.load.ensures _ _ most_bytes c.requires.few c.in-Ok.shelf c.in-Ok.is
-    c.of-source.result c.receive_all.new.source tt c.of-source.ensures c.receive_all.new.disk c.new-lines.result
-    c.receive_all.new.out c.requires.leads.0 c.receive_all.new.shelf c.receive_all.result
-    (c.receive_all.ensures.all c.requires.leads.0 c.requires.leads.1) none_rose
-
-pub returns-clause-stopped : goal.returns-clause-stopped
-returns-clause-stopped g c =
-    some_done g.D.Disk c.args.symbols.items c.args.disk.now c.requires.empty c.load.new.disk c.load.result
-    c.load.ensures _ _ most_bytes c.requires.few c.in-Ok.shelf c.in-Ok.is
-    c.of-source.result c.receive_all.new.source tt c.of-source.ensures c.receive_all.new.disk c.new-lines.result
-    c.receive_all.new.out c.requires.leads.0 c.receive_all.result
-    (c.receive_all.ensures.some c.requires.leads.0 c.requires.leads.1) none_rose c.requires.fit (λ x. refl)
+    (c.receive_all.ensures.all _ _ c.requires.leads.0 c.requires.leads.1)
+    (c.receive_all.ensures.some _ _ c.requires.leads.0 c.requires.leads.1) none_rose c.requires.fit (λ x. refl) in
+    record { line = ends.0; done = ends.1; stopped = ends.2 }

@@ -11,13 +11,19 @@ use Rattle.lr_receiving.proofs.trial_run.trial_with.Goals as goal
 
 pub fill-requires-clause-few : goal.fill-requires-clause-few
 fill-requires-clause-few g c =
-    omega (arith, c.requires.few, ap length c.in-Ok.ensures.bytes, made_length c.args.start c.args.wrong c.args.frames)
+    omega (
+      arith,
+      c.requires.few,
+      ap length c.in-Ok.ensures.bytes,
+      made_length c.args.made.start c.args.made.wrong
+          c.args.made.frames,
+    )
 
 pub fill-requires-clause-fit : goal.fill-requires-clause-fit
 fill-requires-clause-fit g c =
     subst (λ (l : List ℕ). end_of (with_files [] (files_of_bytes (Symbols STANDARD) l)) ≤ trial_capacity)
     (sym c.in-Ok.ensures.bytes)
-    (made_files_fit c.args.start c.args.wrong c.args.frames c.requires.few c.in-Ok.ensures.received)
+    (made_files_fit c.args.made.start c.args.made.wrong c.args.made.frames c.requires.few c.in-Ok.ensures.received)
 
 pub returns-in-Err-init : goal.returns-in-Err-init
 returns-in-Err-init g c =

@@ -1,4 +1,4 @@
-use Rattle.lr_rendering.proofs.Leading.{ends_well}
+use Rattle.lr_rendering.proofs.Stopping.{ends_well}
 use Rattle.lr_rendering.proofs.Driven.{comes_to_stop, comes_to_no_memory}
 use Rattle.lr_rendering.proofs.run.go_by_all.Goals as goal
 

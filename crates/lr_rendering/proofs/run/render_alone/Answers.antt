@@ -1,5 +1,5 @@
 use Rattle.lr_causes.specs.Outside.{outlets, outlets_of}
-use Rattle.lr_commands.proofs.Rendering.{has_rendered}
+use Rattle.lr_rendering.proofs.Rendered.{has_rendered}
 use Rattle.lr_rendering.proofs.run.render_alone.Goals as goal
 
 pub returns-clause-rendered : goal.returns-clause-rendered

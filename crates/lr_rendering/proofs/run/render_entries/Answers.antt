@@ -1,6 +1,6 @@
 use Rattle.std.proofs.Common.{rules, arith}
 use Rattle.lr_shelf.specs.Kept.{kept_by}
-use Rattle.lr_rendering.proofs.Leading.{nothing_put}
+use Rattle.lr_rendering.proofs.Stopping.{nothing_put}
 use Rattle.lr_rendering.proofs.Driven.{source_ready}
 use Rattle.lr_rendering.proofs.run.render_entries.Goals as goal
 

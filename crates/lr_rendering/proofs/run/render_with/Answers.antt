@@ -1,6 +1,6 @@
 use Rattle.lr_refusals.specs.Errors.{cause_of}
 use Rattle.lr_causes.specs.declared.cause.Cause.TheVariants.{NoMemory}
-use Rattle.lr_commands.specs.Render.{render_query}
+use Rattle.lr_rendering.specs.Render.{render_query}
 use Rattle.lr_commands.proofs.Loading.{not_started, not_loaded, loaded, over}
 use Rattle.lr_rendering.proofs.run.render_with.Goals as goal
 

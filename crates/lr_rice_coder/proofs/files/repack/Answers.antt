@@ -1,4 +1,4 @@
-use Rattle.std.proofs.Common.{◌≡◌, ◌<◌, ℕ, List, inl, inr, sym, ◌∙◌, refl, subst, arith, rules}
+use Rattle.std.proofs.Common.{◌≡◌, ℕ, List, inl, inr, sym, ◌∙◌, refl, subst, arith, rules}
 use Rattle.std.proofs.lemmas.Grind.{common_steps}
 use Rattle.std.specs.Prelude.{Result, Ok, Err, IfErr, IfOk}
 use Rattle.lr_bits.specs.File.{File, proper_of}
@@ -13,6 +13,7 @@ use Rattle.lr_rice_coder.specs.declared.fault.RepackFault.{RepackFault}
 use Rattle.lr_rice_coder.proofs.NewImages.{repacked_keeps_image, repacked_keeps_name}
 use Rattle.lr_rice_coder.proofs.RepackLemmas.{IsReadFile, can_be_coded, no_structure, refused, repacked}
 use Rattle.lr_rice_coder.proofs.files.repack.Goals as goal
+use Rattle.lr_rice_coder.proofs.files.repack.Goals.{After-as_slice}
 
 -- the header that was read is the file's
 header_is_of : (file : File) (header : Header) (proper : List ℕ) → proper ≡ proper_of file → IsHeaderOf proper header
@@ -26,29 +27,33 @@ unreachable-requires c =
     c.in-Ok-read.ensures.ok)
     (sym c.structure.ensures ∙ c.in_default-structure.is)
 
+-- the file as it was read
+is_read : (c : After-as_slice)
+    → IsReadFile c.args.file.now c.in-Ok.image c.in-Ok-read.records c.in-Some.structure c.in-Ok.image.pixels
+    c.as_slice.result.now
+is_read c = record {
+  image = c.in-Ok.ensures.ok;
+  deep = omega (arith, c.bits-bits.ensures.value, c.if-bits-lt-LEAST_BITS.false);
+  is_header = header_is_of c.args.file.now c.in-Ok-read.records c.proper.result.now c.proper.ensures.value
+      c.in-Ok-read.ensures.ok;
+  says = sym c.structure.ensures ∙ c.in-Some.is;
+  pixels_are = refl;
+  others_are = c.as_slice.ensures ∙ c.in-Ok-other_records.ensures;
+  columns = search rules;
+  lines = search rules;
+}
+
 pub code_image-requires : goal.code_image-requires
 code_image-requires c =
-    let columns : c.in-Some.structure.columns < 65536 = search rules in
-    let lines : c.in-Some.structure.lines < 65536 = search rules in
-    let is : IsReadFile c.args.file.now c.in-Ok.image c.in-Ok-read.records c.in-Some.structure c.in-Ok.image.pixels
-    c.as_slice.result.now = record {
-      image = c.in-Ok.ensures.ok;
-      deep = omega (arith, c.bits-bits.ensures.value, c.if-bits-lt-LEAST_BITS.false);
-      is_header = header_is_of c.args.file.now c.in-Ok-read.records c.proper.result.now c.proper.ensures.value
-          c.in-Ok-read.ensures.ok;
-      says = sym c.structure.ensures ∙ c.in-Some.is;
-      pixels_are = refl;
-      others_are = c.as_slice.ensures ∙ c.in-Ok-other_records.ensures;
-      columns = columns;
-      lines = lines;
-    } in
+    let is = is_read (goal.at.code_image-requires c).After-as_slice in
     can_be_coded c.args.file.now c.in-Ok.image c.in-Ok-read.records c.in-Some.structure c.in-Ok.image.pixels
     c.as_slice.result.now c.args.block is c.requires
 
 -- the outcome of the last step
 ok_of : (file : File) (block : ℕ) (s : Structure) (pixels others : List ℕ) (picture : Picture) (header : Header)
     (result : Result File RepackFault) → IsReadFile file picture header s pixels others
-    → IfOk result (MakesFile file s pixels block others) → IfOk result (IsRepacked file block)
+    → IfOk result (MakesFile file s pixels (record { block = block; others = others }))
+    → IfOk result (IsRepacked file block)
 ok_of file block s pixels others picture header (Ok new) is makes =
     repacked file picture header s pixels others block new is makes
 ok_of file block s pixels others picture header (Err fault) is makes = tt
@@ -72,39 +77,13 @@ name_of file block (Err fault) re = tt
 
 pub returns-clause-ok : goal.returns-clause-ok
 returns-clause-ok c =
-    let columns : c.in-Some.structure.columns < 65536 = search rules in
-    let lines : c.in-Some.structure.lines < 65536 = search rules in
-    let is : IsReadFile c.args.file.now c.in-Ok.image c.in-Ok-read.records c.in-Some.structure c.in-Ok.image.pixels
-    c.as_slice.result.now = record {
-      image = c.in-Ok.ensures.ok;
-      deep = omega (arith, c.bits-bits.ensures.value, c.if-bits-lt-LEAST_BITS.false);
-      is_header = header_is_of c.args.file.now c.in-Ok-read.records c.proper.result.now c.proper.ensures.value
-          c.in-Ok-read.ensures.ok;
-      says = sym c.structure.ensures ∙ c.in-Some.is;
-      pixels_are = refl;
-      others_are = c.as_slice.ensures ∙ c.in-Ok-other_records.ensures;
-      columns = columns;
-      lines = lines;
-    } in
+    let is = is_read (goal.at.returns-clause-ok c).After-as_slice in
     ok_of c.args.file.now c.args.block c.in-Some.structure c.in-Ok.image.pixels c.as_slice.result.now c.in-Ok.image
     c.in-Ok-read.records c.code_image.result is c.code_image.ensures.ok
 
 pub returns-clause-err : goal.returns-clause-err
 returns-clause-err c =
-    let columns : c.in-Some.structure.columns < 65536 = search rules in
-    let lines : c.in-Some.structure.lines < 65536 = search rules in
-    let is : IsReadFile c.args.file.now c.in-Ok.image c.in-Ok-read.records c.in-Some.structure c.in-Ok.image.pixels
-    c.as_slice.result.now = record {
-      image = c.in-Ok.ensures.ok;
-      deep = omega (arith, c.bits-bits.ensures.value, c.if-bits-lt-LEAST_BITS.false);
-      is_header = header_is_of c.args.file.now c.in-Ok-read.records c.proper.result.now c.proper.ensures.value
-          c.in-Ok-read.ensures.ok;
-      says = sym c.structure.ensures ∙ c.in-Some.is;
-      pixels_are = refl;
-      others_are = c.as_slice.ensures ∙ c.in-Ok-other_records.ensures;
-      columns = columns;
-      lines = lines;
-    } in
+    let is = is_read (goal.at.returns-clause-err c).After-as_slice in
     err_of c.args.file.now c.args.block c.in-Some.structure c.in-Ok.image.pixels c.as_slice.result.now c.in-Ok.image
     c.in-Ok-read.records c.code_image.result is c.code_image.ensures.err
 

@@ -5,14 +5,8 @@ use Rattle.std.proofs.lemmas.Nat.{pow_pos}
 use Rattle.lr_bits.specs.Bits.{zeros_and_one}
 use Rattle.lr_rice.specs.declared.choice.BlockOption.TheVariants.{ZeroBlock}
 use Rattle.lr_rice.specs.CodedLines.{Zeros, body_string, greatest, head_string, left_in_segment, part_string, span_of}
-use Rattle.lr_rice_coder.specs.Shortest.{
-  places_of_block,
-  block_in,
-  block_values,
-  next_part,
-  run_number,
-  shortest_option,
-}
+use Rattle.lr_rice_coder.specs.Shortest.{places_of_block, block_in, block_values, next_part}
+use Rattle.lr_rice_coder.specs.Shortest.{run_number, shortest_option}
 use Rattle.lr_rice_coder.specs.Shortest.{zero_run}
 use Rattle.lr_rice_coder.specs.Writing.{form_in}
 use Rattle.lr_rice_coder.proofs.PartLemmas.{cut-small, next_part-block, next_part-run, option_of-block_in}

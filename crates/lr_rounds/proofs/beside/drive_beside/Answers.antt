@@ -6,10 +6,8 @@ pub with_pool-requires-clause-needs : goal.with_pool-requires-clause-needs
 with_pool-requires-clause-needs g c κs within = record {
   cells = c.pool.inside.cells;
   gate = c.pool.inside.gate;
-  begins = may_begin g.L.JobSource.stands g.L.JobSource.is_over c.pool.inside.gate c.pool.inside.conductor
-      c.pool.inside.seats.items (vec_len c.pool.inside.seats) (vec_len c.pool.inside.works) c.pool.inside.cells
-      c.pool.invariant c.args.source.now
-      c.requires;
+  begins = may_begin g.L.JobSource.terms c.pool.inside.gate c.pool.inside.conductor c.pool.inside.seats.items
+      (vec_len c.pool.inside.works) _ c.pool.invariant c.args.source.now c.requires;
   may = λ conductor own source going. (going, (search rules, search rules, search rules, search rules));
   makes = λ conductor own source answer after own_after lead_after made. made;
 }

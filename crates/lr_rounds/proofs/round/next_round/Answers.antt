@@ -30,7 +30,7 @@ returns-then-branch-2-clause-goes g c = λ entry may.
 
 pub returns-then-help-clause-goes : goal.returns-then-help-clause-goes
 returns-then-help-clause-goes g c = λ entry may.
-    goes_on_same g.L.JobSource.stands g.L.JobSource.is_over g.L.JobSource.left c.args.gate.now
+    goes_on_same g.L.JobSource.terms c.args.gate.now
     (c.in_ok-put_next.ensures.goes entry (c.in_ok-keep_oldest.ensures.goes entry may))
     c.help.new.self c.put_next.new.traffic c.put_next.new.source c.help.ensures.mine
     (helped (cells_of c.args.gate.now) (view_of c.put_next.new.conductor) (view_of c.help.new.self) c.help.result
@@ -38,19 +38,19 @@ returns-then-help-clause-goes g c = λ entry may.
 
 pub returns-then-help-clause-fewer : goal.returns-then-help-clause-fewer
 returns-then-help-clause-fewer g c = λ did.
-    fewer_helped g.L.JobSource.left c.args.gate.now (c.in_ok-keep_oldest.ensures.none c.if-branch.false)
+    fewer_helped g.L.JobSource.terms c.args.gate.now (c.in_ok-keep_oldest.ensures.none c.if-branch.false)
     (c.in_ok-put_next.ensures.none c.if-branch-2.false) (cells_of c.args.gate.now) c.help.new.self c.help.result
     c.help.ensures.helps c.if-help.true
 
 pub returns-then-traffic-eq0-clause-goes : goal.returns-then-traffic-eq0-clause-goes
 returns-then-traffic-eq0-clause-goes g c = λ entry may.
-    ends_well g.L.JobSource.stands g.L.JobSource.is_over g.L.JobSource.left c.args.gate.now
+    ends_well g.L.JobSource.terms c.args.gate.now
     (c.in_ok-put_next.ensures.goes entry (c.in_ok-keep_oldest.ensures.goes entry may))
     c.if-traffic.true c.if-traffic-eq0.true
 
 pub returns-clause-goes : goal.returns-clause-goes
 returns-clause-goes g c = λ entry may.
-    goes_on_same g.L.JobSource.stands g.L.JobSource.is_over g.L.JobSource.left c.args.gate.now
+    goes_on_same g.L.JobSource.terms c.args.gate.now
     (c.in_ok-put_next.ensures.goes entry (c.in_ok-keep_oldest.ensures.goes entry may))
     c.help.new.self c.put_next.new.traffic c.put_next.new.source c.help.ensures.mine
     (helped (cells_of c.args.gate.now) (view_of c.put_next.new.conductor) (view_of c.help.new.self) c.help.result

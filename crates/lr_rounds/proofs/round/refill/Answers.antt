@@ -3,6 +3,5 @@ use Rattle.lr_rounds.proofs.round.refill.Goals as goal
 
 pub returns-clause-no_more : goal.returns-clause-no_more
 returns-clause-no_more g c =
-    none_more g.L.JobSource.left c.args.conductor.now c.put_next.new.conductor c.args.traffic.now c.put_next.new.traffic
-    c.args.source.now c.put_next.new.source c.in_ok-put_next.field-0 c.in_ok-put_next.ensures.fewer
+    none_more g.L.JobSource.terms _ _ c.in_ok-put_next.field-0 c.in_ok-put_next.ensures.fewer
     c.in_ok-put_next.ensures.none

@@ -1,9 +1,7 @@
 use Rattle.lr_shelf.proofs.WholeReading.{none_closed, none_short, read_there}
 use Rattle.lr_shelf.proofs.whole.read_whole.Goals as goal
-use Rattle.lr_shelf.proofs.whole.read_whole.Goals.{
-  then-read-size-via-then-read-size,
-  then-read-size-via-else-read-size+then-buffer-ne-OPEN_GATE,
-}
+use Rattle.lr_shelf.proofs.whole.read_whole.Goals.{then-read-size-via-then-read-size}
+use Rattle.lr_shelf.proofs.whole.read_whole.Goals.{then-read-size-via-else-read-size+then-buffer-ne-OPEN_GATE}
 
 pub returns-then-read-size-clause-whole : goal.returns-then-read-size-clause-whole
 returns-then-read-size-clause-whole g c told has =

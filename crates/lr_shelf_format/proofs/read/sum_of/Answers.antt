@@ -1,26 +1,5 @@
-use Rattle.std.proofs.Common.{
-  ◌≤◌,
-  rules,
-  ◌≡◌,
-  ◌-◌,
-  ◌*◌,
-  ◌<◌,
-  ℕ,
-  zero,
-  suc,
-  [],
-  ◌∷◌,
-  All,
-  length,
-  take,
-  drop,
-  sum,
-  ap,
-  subst,
-  ◌∙◌,
-  arith,
-  ◌+◌,
-}
+use Rattle.std.proofs.Common.{◌≤◌, rules, ◌≡◌, ◌-◌, ◌*◌, ◌<◌, ℕ, zero, suc, [], ◌∷◌, All, length, take, drop, sum, ap}
+use Rattle.std.proofs.Common.{subst, ◌∙◌, arith, ◌+◌}
 use Rattle.std.proofs.lemmas.List.{take_rest}
 use Rattle.byteorder.specs.Endian.{big_number}
 use Rattle.lr_bits.specs.Sizes.{most_body_bytes}

@@ -11,7 +11,8 @@ use Rattle.lr_trellis.specs.Path.{symbol_cost}
 use Rattle.lr_trellis.specs.Trellis.{branch_of, end_before, end_seven, is_odd, read_back}
 use Rattle.lr_trellis.specs.Words.{branch_by, decisions, end_cost, last_one, IsDecided}
 use Rattle.lr_trellis.proofs.Forward.{costs_fit}
-use Rattle.lr_trellis.proofs.Strings.{end_before_low, end_least, read_is_nearest}
+use Rattle.lr_trellis.proofs.Strings.{end_least, read_is_nearest}
+use Rattle.lr_trellis.proofs.StringParts.{end_before_low}
 use Rattle.lr_trellis.proofs.decode.last_state.Goals as goal
 
 pub end_state-end-requires-clause-costs : goal.end_state-end-requires-clause-costs

@@ -5,7 +5,7 @@ use Rattle.lr_conv.specs.declared.line.LineCode.{LineCode}
 use Rattle.lr_trellis.specs.Trellis.{end_before, end_seven}
 use Rattle.lr_trellis.specs.Words.{branch_by, pair_of, end_cost, last_one}
 use Rattle.lr_trellis.specs.declared.costs.TheConstants.{STEP_COST}
-use Rattle.lr_trellis.proofs.Strings.{end_before_low}
+use Rattle.lr_trellis.proofs.StringParts.{end_before_low}
 use Rattle.lr_trellis.proofs.ending.end_state.Goals as goal
 
 near_by : (m : Bool) → pair_of (2 * cond m 2 3) ≡ pair_of (cond m 4 6)

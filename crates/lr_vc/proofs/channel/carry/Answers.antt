@@ -1,65 +1,83 @@
-use Rattle.std.proofs.Common.{◌≡◌, ◌-◌, ◌<◌, ◌++◌, ◌∷◌, [], true, false, length, take, ap, ap₂, ◌∙◌, sym, subst}
-use Rattle.std.proofs.Common.{arith, rules}
-use Rattle.lr_bits.specs.Packet.{IsPacket}
+use Rattle.std.proofs.Common.{◌≡◌, ◌+◌, ◌-◌, ◌<◌, ◌≤◌, ◌++◌, ◌∷◌, [], ℕ, List, Bool, true, false, cond, length, take}
+use Rattle.std.proofs.Common.{ap, ap₂, ◌∙◌, sym, subst, arith, rules}
+use Rattle.lr_bits.specs.Packet.{Packet, IsPacket}
 use Rattle.lr_bits.specs.declared.sizes.TheConstants.{CHANNELS, ZONE_BYTES}
-use Rattle.lr_vc.specs.Packets.{packet_end}
+use Rattle.lr_vc.specs.Packets.{packet_at, packet_end}
+use Rattle.lr_vc.specs.Steps.{completed_packet, continued_packet, ends_at, is_nowhere}
 use Rattle.lr_vc.proofs.Lists.{append_none}
 use Rattle.lr_vc.proofs.Carried.{completed_packet-by, completed_packet-long, continued_packet-long}
 use Rattle.lr_vc.proofs.Carried.{continued_packet-other, continued_packet-short, packet_at-across, is_packet-across}
 use Rattle.lr_vc.proofs.ZoneStarts.{test, agrees_is, nowhere_not, nowhere_so}
+use Rattle.lr_vc.proofs.channel.carry.Goals.{After-zone_start-start}
 use Rattle.lr_vc.proofs.channel.carry.Goals as goal
+
+module _ (c : After-zone_start-start) where
+  abbrev b : List ℕ
+  b = c.args.bytes
+
+  abbrev z : List ℕ
+  z = c.args.frame.now.zone
+
+  abbrev p : ℕ
+  p = c.args.frame.now.pointer
+
+  abbrev so_far : ℕ
+  so_far = length c.as_slice-so_far.result.now
+
+  long : so_far ≡ length b
+  long = ap length c.as_slice-so_far.ensures
+
+  end : c.end_across-end.result ≡ packet_end (b ++ z) 0
+  end = c.end_across-end.ensures.end ∙ ap (λ s. packet_end (s ++ z) 0) c.as_slice.ensures
+
+  -- the packet reaches past the zone
+  none_ends : so_far + ZONE_BYTES < c.end_across-end.result → completed_packet c.args.frame.now.vc z p b ≡ []
+  none_ends past = completed_packet-long b z p c.args.frame.now.vc (omega (arith, long, end))
+
+  goes_on : so_far + ZONE_BYTES < c.end_across-end.result → is_nowhere c.zone_start-start.result ≡ true →
+      continued_packet z p b ≡ (b ++ z) ∷ []
+  goes_on past sure =
+      continued_packet-long b z p (omega (arith, long, end)) (nowhere_so p _ c.zone_start-start.ensures sure)
+
+  -- it ends by the zone's end
+  not_open : c.end_across-end.result ≤ so_far + ZONE_BYTES → continued_packet z p b ≡ []
+  not_open within = continued_packet-short b z p (omega (arith, long, end))
+
+  completed : (t : Bool) → t ≡ ends_at so_far c.end_across-end.result c.zone_start-start.result →
+      completed_packet c.args.frame.now.vc z p b ≡ cond t (packet_at c.args.frame.now.vc (b ++ z) 0 ∷ []) []
+  unfolding test
+  completed t is =
+      completed_packet-by b z p c.args.frame.now.vc t
+      (is ∙ agrees_is _ _ p _ c.zone_start-start.ensures ∙ ap₂ (λ e n. test e n p) end long)
+
+  same : (all : List ℕ) → so_far ≤ c.end_across-end.result → all ≡ b ++ take (c.end_across-end.result - so_far) z →
+      ◌≡◌ {A = Packet} (record { vc = c.args.frame.now.vc; bytes = all }) (packet_at c.args.frame.now.vc (b ++ z) 0)
+  same all behind copied =
+      packet_at-across b z p c.args.frame.now.vc c.end_across-end.result all end (omega (arith, long, behind))
+      (copied ∙ ap (λ n. b ++ take (c.end_across-end.result - n) z) long)
 
 pub returns-in_err-extend-clause-succeeds : goal.returns-in_err-extend-clause-succeeds
 returns-in_err-extend-clause-succeeds c ended none =
-    let b = c.args.bytes in
-    let z = c.args.frame.now.zone in
-    let p = c.args.frame.now.pointer in
-    let long : length c.as_slice-so_far.result.now ≡ length b = ap length c.as_slice-so_far.ensures in
-    let end : c.end_across-end.result ≡ packet_end (b ++ z) 0 =
-    c.end_across-end.ensures.end ∙ ap (λ s. packet_end (s ++ z) 0) c.as_slice.ensures in
-    let some = continued_packet-long b z p (omega arith)
-    (nowhere_so p _ c.zone_start-start.ensures (sym c.is_nowhere.ensures ∙ c.if-not-is_nowhere.false)) in
+    let some = goes_on (goal.at.returns-in_err-extend-clause-succeeds c).After-zone_start-start
+    c.if-end-so_far.true (sym c.is_nowhere.ensures ∙ c.if-not-is_nowhere.false) in
     absurd (cc (some, none))
 
 pub returns-in_err-extend-2-clause-succeeds : goal.returns-in_err-extend-2-clause-succeeds
-unfolding test
 returns-in_err-extend-2-clause-succeeds c none going =
-    let b = c.args.bytes in
-    let z = c.args.frame.now.zone in
-    let p = c.args.frame.now.pointer in
-    let long : length c.as_slice-so_far.result.now ≡ length b = ap length c.as_slice-so_far.ensures in
-    let end : c.end_across-end.result ≡ packet_end (b ++ z) 0 =
-    c.end_across-end.ensures.end ∙ ap (λ s. packet_end (s ++ z) 0) c.as_slice.ensures in
-    let value : c.agrees.result ≡ test (packet_end (b ++ z) 0) (length b) p =
-    c.agrees.ensures.value ∙ agrees_is _ _ p _ c.zone_start-start.ensures
-    ∙ ap₂ (λ e n. test e n p) end long in
-    let some = completed_packet-by b z p c.args.frame.now.vc true (sym c.if-not-agrees.false ∙ value) in
+    let some = completed (goal.at.returns-in_err-extend-2-clause-succeeds c).After-zone_start-start true
+    (sym c.if-not-agrees.false ∙ c.agrees.ensures.value) in
     absurd (cc (some, none))
 
 pub returns-in_err-push-clause-succeeds : goal.returns-in_err-push-clause-succeeds
-unfolding test
 returns-in_err-push-clause-succeeds c none going =
-    let b = c.args.bytes in
-    let z = c.args.frame.now.zone in
-    let p = c.args.frame.now.pointer in
-    let long : length c.as_slice-so_far.result.now ≡ length b = ap length c.as_slice-so_far.ensures in
-    let end : c.end_across-end.result ≡ packet_end (b ++ z) 0 =
-    c.end_across-end.ensures.end ∙ ap (λ s. packet_end (s ++ z) 0) c.as_slice.ensures in
-    let value : c.agrees.result ≡ test (packet_end (b ++ z) 0) (length b) p =
-    c.agrees.ensures.value ∙ agrees_is _ _ p _ c.zone_start-start.ensures
-    ∙ ap₂ (λ e n. test e n p) end long in
-    let some = completed_packet-by b z p c.args.frame.now.vc true (sym c.if-not-agrees.false ∙ value) in
+    let some = completed (goal.at.returns-in_err-push-clause-succeeds c).After-zone_start-start true
+    (sym c.if-not-agrees.false ∙ c.agrees.ensures.value) in
     absurd (cc (some, none))
 
 pub returns-then-not-is_nowhere-clause-packets : goal.returns-then-not-is_nowhere-clause-packets
 returns-then-not-is_nowhere-clause-packets c =
-    let b = c.args.bytes in
-    let z = c.args.frame.now.zone in
-    let long : length c.as_slice-so_far.result.now ≡ length b = ap length c.as_slice-so_far.ensures in
-    let end : c.end_across-end.result ≡ packet_end (b ++ z) 0 =
-    c.end_across-end.ensures.end ∙ ap (λ s. packet_end (s ++ z) 0) c.as_slice.ensures in
-    append_none c.args.packets.now.items _ (completed_packet-long b z c.args.frame.now.pointer c.args.frame.now.vc
-    (omega arith))
+    append_none c.args.packets.now.items _
+    (none_ends (goal.at.returns-then-not-is_nowhere-clause-packets c).After-zone_start-start c.if-end-so_far.true)
 
 pub returns-then-not-is_nowhere-clause-open_packet : goal.returns-then-not-is_nowhere-clause-open_packet
 returns-then-not-is_nowhere-clause-open_packet c =
@@ -69,99 +87,47 @@ returns-then-not-is_nowhere-clause-open_packet c =
 
 pub returns-then-end-so_far-clause-packets : goal.returns-then-end-so_far-clause-packets
 returns-then-end-so_far-clause-packets c =
-    let b = c.args.bytes in
-    let z = c.args.frame.now.zone in
-    let long : length c.as_slice-so_far.result.now ≡ length b = ap length c.as_slice-so_far.ensures in
-    let end : c.end_across-end.result ≡ packet_end (b ++ z) 0 =
-    c.end_across-end.ensures.end ∙ ap (λ s. packet_end (s ++ z) 0) c.as_slice.ensures in
-    append_none c.args.packets.now.items _ (completed_packet-long b z c.args.frame.now.pointer c.args.frame.now.vc
-    (omega arith))
+    append_none c.args.packets.now.items _
+    (none_ends (goal.at.returns-then-end-so_far-clause-packets c).After-zone_start-start c.if-end-so_far.true)
 
 pub returns-then-end-so_far-clause-open_packet : goal.returns-then-end-so_far-clause-open_packet
 returns-then-end-so_far-clause-open_packet c =
-    let b = c.args.bytes in
-    let z = c.args.frame.now.zone in
-    let long : length c.as_slice-so_far.result.now ≡ length b = ap length c.as_slice-so_far.ensures in
-    let end : c.end_across-end.result ≡ packet_end (b ++ z) 0 =
-    c.end_across-end.ensures.end ∙ ap (λ s. packet_end (s ++ z) 0) c.as_slice.ensures in
     ap (λ bytes. bytes ∷ []) c.in_ok-extend.ensures.ok
-    ∙ sym (continued_packet-long b z c.args.frame.now.pointer (omega arith)
-    (nowhere_so c.args.frame.now.pointer _ c.zone_start-start.ensures
-    (sym c.is_nowhere.ensures ∙ c.if-not-is_nowhere.false)))
+    ∙ sym (goes_on (goal.at.returns-then-end-so_far-clause-open_packet c).After-zone_start-start
+    c.if-end-so_far.true (sym c.is_nowhere.ensures ∙ c.if-not-is_nowhere.false))
 
 pub whole-requires : goal.whole-requires
 whole-requires c =
-    let b = c.args.bytes in
-    let z = c.args.frame.now.zone in
-    let zone_long : length z ≡ ZONE_BYTES = search rules in
+    let to = (goal.at.whole-requires c).After-zone_start-start in
+    let zone_long : length c.args.frame.now.zone ≡ ZONE_BYTES = search rules in
     let fits : c.args.frame.now.vc < CHANNELS = c.args.frame.now.vc_fits in
-    let long : length c.as_slice-so_far.result.now ≡ length b = ap length c.as_slice-so_far.ensures in
-    let end : c.end_across-end.result ≡ packet_end (b ++ z) 0 =
-    c.end_across-end.ensures.end ∙ ap (λ s. packet_end (s ++ z) 0) c.as_slice.ensures in
-    let behind = c.agrees.ensures.after c.if-not-agrees.false in
-    let within = c.agrees.ensures.within c.if-not-agrees.false in
-    let bytes : c.extend-2.new.self ≡ b ++ take (c.end_across-end.result - length b) z =
-    c.in_ok-extend-2.ensures.ok ∙ ap (λ n. b ++ take (c.end_across-end.result - n) z) long in
-    let same =
-    packet_at-across b z c.args.frame.now.pointer c.args.frame.now.vc c.end_across-end.result c.extend-2.new.self
-    end (omega (arith, behind)) bytes in
-    subst IsPacket (sym same) (is_packet-across b z c.args.frame.now.pointer c.args.frame.now.vc fits zone_long
-    (omega (arith, within)))
+    subst IsPacket
+    (sym (same to c.extend-2.new.self (c.agrees.ensures.after c.if-not-agrees.false) c.in_ok-extend-2.ensures.ok))
+    (is_packet-across c.args.bytes c.args.frame.now.zone c.args.frame.now.pointer c.args.frame.now.vc fits zone_long
+    (omega (arith, c.agrees.ensures.within c.if-not-agrees.false, long to, end to)))
 
 pub returns-then-not-agrees-clause-packets : goal.returns-then-not-agrees-clause-packets
-unfolding test
 returns-then-not-agrees-clause-packets c =
-    let b = c.args.bytes in
-    let z = c.args.frame.now.zone in
-    let p = c.args.frame.now.pointer in
-    let long : length c.as_slice-so_far.result.now ≡ length b = ap length c.as_slice-so_far.ensures in
-    let end : c.end_across-end.result ≡ packet_end (b ++ z) 0 =
-    c.end_across-end.ensures.end ∙ ap (λ s. packet_end (s ++ z) 0) c.as_slice.ensures in
-    let value : c.agrees.result ≡ test (packet_end (b ++ z) 0) (length b) p =
-    c.agrees.ensures.value ∙ agrees_is _ _ p _ c.zone_start-start.ensures
-    ∙ ap₂ (λ e n. test e n p) end long in
-    append_none c.args.packets.now.items _ (completed_packet-by b z p c.args.frame.now.vc false
-    (sym c.if-not-agrees.true ∙ value))
+    append_none c.args.packets.now.items _
+    (completed (goal.at.returns-then-not-agrees-clause-packets c).After-zone_start-start false
+    (sym c.if-not-agrees.true ∙ c.agrees.ensures.value))
 
 pub returns-then-not-agrees-clause-open_packet : goal.returns-then-not-agrees-clause-open_packet
 returns-then-not-agrees-clause-open_packet c =
-    let b = c.args.bytes in
-    let z = c.args.frame.now.zone in
-    let long : length c.as_slice-so_far.result.now ≡ length b = ap length c.as_slice-so_far.ensures in
-    let end : c.end_across-end.result ≡ packet_end (b ++ z) 0 =
-    c.end_across-end.ensures.end ∙ ap (λ s. packet_end (s ++ z) 0) c.as_slice.ensures in
-    sym (continued_packet-short b z c.args.frame.now.pointer (omega arith))
+    sym (not_open (goal.at.returns-then-not-agrees-clause-open_packet c).After-zone_start-start c.if-end-so_far.false)
 
 pub returns-clause-packets : goal.returns-clause-packets
-unfolding test
 returns-clause-packets c =
-    let b = c.args.bytes in
-    let z = c.args.frame.now.zone in
-    let p = c.args.frame.now.pointer in
-    let vc = c.args.frame.now.vc in
-    let long : length c.as_slice-so_far.result.now ≡ length b = ap length c.as_slice-so_far.ensures in
-    let end : c.end_across-end.result ≡ packet_end (b ++ z) 0 =
-    c.end_across-end.ensures.end ∙ ap (λ s. packet_end (s ++ z) 0) c.as_slice.ensures in
-    let value : c.agrees.result ≡ test (packet_end (b ++ z) 0) (length b) p =
-    c.agrees.ensures.value ∙ agrees_is _ _ p _ c.zone_start-start.ensures
-    ∙ ap₂ (λ e n. test e n p) end long in
-    let behind = c.agrees.ensures.after c.if-not-agrees.false in
-    let bytes : c.extend-2.new.self ≡ b ++ take (c.end_across-end.result - length b) z =
-    c.in_ok-extend-2.ensures.ok ∙ ap (λ n. b ++ take (c.end_across-end.result - n) z) long in
-    let same =
-    packet_at-across b z p vc c.end_across-end.result c.extend-2.new.self end (omega (arith, behind)) bytes in
-    c.in_ok-push.ensures.items ∙ ap (λ x. c.args.packets.now.items ++ x ∷ []) (c.whole.ensures ∙ same)
-    ∙ ap (λ ps. c.args.packets.now.items ++ ps) (sym (completed_packet-by b z p vc true
-    (sym c.if-not-agrees.false ∙ value)))
+    let to = (goal.at.returns-clause-packets c).After-zone_start-start in
+    c.in_ok-push.ensures.items
+    ∙ ap (λ x. c.args.packets.now.items ++ x ∷ []) (c.whole.ensures
+    ∙ same to c.extend-2.new.self (c.agrees.ensures.after c.if-not-agrees.false) c.in_ok-extend-2.ensures.ok)
+    ∙ ap (λ ps. c.args.packets.now.items ++ ps)
+    (sym (completed to true (sym c.if-not-agrees.false ∙ c.agrees.ensures.value)))
 
 pub returns-clause-open_packet : goal.returns-clause-open_packet
 returns-clause-open_packet c =
-    let b = c.args.bytes in
-    let z = c.args.frame.now.zone in
-    let long : length c.as_slice-so_far.result.now ≡ length b = ap length c.as_slice-so_far.ensures in
-    let end : c.end_across-end.result ≡ packet_end (b ++ z) 0 =
-    c.end_across-end.ensures.end ∙ ap (λ s. packet_end (s ++ z) 0) c.as_slice.ensures in
-    sym (continued_packet-short b z c.args.frame.now.pointer (omega arith))
+    sym (not_open (goal.at.returns-clause-open_packet c).After-zone_start-start c.if-end-so_far.false)
 
 pub returns-then-not-is_nowhere-clause-succeeds : goal.returns-then-not-is_nowhere-clause-succeeds
 returns-then-not-is_nowhere-clause-succeeds c = search (rules, arith)

@@ -12,29 +12,13 @@ use Rattle.lr_vc.proofs.channel.next_open.Goals as goal
 
 pub returns-in-Nowhere-clause-packets : goal.returns-in-Nowhere-clause-packets
 returns-in-Nowhere-clause-packets c =
-    let f = fields c.args.frame.now in
-    let late = nowhere_is_outside f.pointer (sym c.zone_start.ensures ∙ c.in-Nowhere.is) in
-    c.in_ok-carried.ensures.packets
-    ∙ ap (λ ps. c.args.packets.now.items ++ ps) (sym (packets_with-late f (option_to_list c.args.met) late))
-
-pub returns-in-Nowhere-clause-open_packet : goal.returns-in-Nowhere-clause-open_packet
-returns-in-Nowhere-clause-open_packet c =
-    let f = fields c.args.frame.now in
-    let late = nowhere_is_outside f.pointer (sym c.zone_start.ensures ∙ c.in-Nowhere.is) in
-    c.in_ok-carried.ensures.open_packet ∙ sym (open_after-late f (option_to_list c.args.met) late)
+    rw (packets_with-late (fields c.args.frame.now) (option_to_list c.args.met)
+    (nowhere_is_outside _ (sym c.zone_start.ensures ∙ c.in-Nowhere.is))) c.in_ok-carried.ensures.packets
 
 pub returns-in-Idle-clause-packets : goal.returns-in-Idle-clause-packets
 returns-in-Idle-clause-packets c =
-    let f = fields c.args.frame.now in
-    let late = idle_is_outside f.pointer (sym c.zone_start.ensures ∙ c.in-Idle.is) in
-    c.in_ok-carried.ensures.packets
-    ∙ ap (λ ps. c.args.packets.now.items ++ ps) (sym (packets_with-late f (option_to_list c.args.met) late))
-
-pub returns-in-Idle-clause-open_packet : goal.returns-in-Idle-clause-open_packet
-returns-in-Idle-clause-open_packet c =
-    let f = fields c.args.frame.now in
-    let late = idle_is_outside f.pointer (sym c.zone_start.ensures ∙ c.in-Idle.is) in
-    c.in_ok-carried.ensures.open_packet ∙ sym (open_after-late f (option_to_list c.args.met) late)
+    rw (packets_with-late (fields c.args.frame.now) (option_to_list c.args.met)
+    (idle_is_outside _ (sym c.zone_start.ensures ∙ c.in-Idle.is))) c.in_ok-carried.ensures.packets
 
 pub returns-in-At-clause-packets : goal.returns-in-At-clause-packets
 returns-in-At-clause-packets c =
@@ -56,6 +40,16 @@ returns-in-At-clause-open_packet c =
     let early = at_is_inside f.pointer _ (sym c.zone_start.ensures ∙ c.in-At.is) in
     let whole = open_after-early f (option_to_list c.args.met) early in
     IfOk-weaker c.open_inside.result _ _ (λ o e. e ∙ sym whole) c.open_inside.ensures.open_packet
+
+pub returns-in-Nowhere-clause-open_packet : goal.returns-in-Nowhere-clause-open_packet
+returns-in-Nowhere-clause-open_packet c =
+    rw (open_after-late (fields c.args.frame.now) (option_to_list c.args.met)
+    (nowhere_is_outside _ (sym c.zone_start.ensures ∙ c.in-Nowhere.is))) c.in_ok-carried.ensures.open_packet
+
+pub returns-in-Idle-clause-open_packet : goal.returns-in-Idle-clause-open_packet
+returns-in-Idle-clause-open_packet c =
+    rw (open_after-late (fields c.args.frame.now) (option_to_list c.args.met)
+    (idle_is_outside _ (sym c.zone_start.ensures ∙ c.in-Idle.is))) c.in_ok-carried.ensures.open_packet
 
 pub open_inside-requires : goal.open_inside-requires
 open_inside-requires c = at_is_inside c.args.frame.now.pointer _ (sym c.zone_start.ensures ∙ c.in-At.is)

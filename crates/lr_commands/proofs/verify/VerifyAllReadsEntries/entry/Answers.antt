@@ -4,15 +4,8 @@ use Rattle.lr_shelf.specs.Read.{IsCheckRefusal}
 use Rattle.lr_commands.specs.Verify.{verify_query}
 use Rattle.lr_commands.proofs.Filing.{get_stops, not_failed, shelf_counted}
 use Rattle.lr_commands.proofs.Texts.{on_ok, on_err}
-use Rattle.lr_commands.proofs.Verifying.{
-  check_refusal,
-  takes_right,
-  stops_right,
-  takes_wrong,
-  stops_wrong,
-  takes_gone,
-  stops_gone,
-}
+use Rattle.lr_commands.proofs.Verifying.{check_refusal, takes_right, stops_right, takes_wrong}
+use Rattle.lr_commands.proofs.Verifying.{stops_wrong, takes_gone, stops_gone}
 use Rattle.lr_commands.proofs.verify.VerifyAllReadsEntries.entry.Goals as goal
 
 pub returns-in-Ok-clause-takes : goal.returns-in-Ok-clause-takes

@@ -5,7 +5,7 @@ use Rattle.lr_disk.specs.MemDisk.{held_by}
 use Rattle.lr_disk.specs.Mem.{State, after_all, at_start, reach, span, state_at}
 use Rattle.lr_disk.specs.Stop.{IsLeftInside, StopsInside, inside, left_of_kind}
 use Rattle.lr_disk.specs.declared.past.Call.{Call}
-use Rattle.lr_disk.proofs.Steps.{reach_at, reach_take, span_at, span_take}
+use Rattle.lr_disk.proofs.Steps.{greatest_at, greatest_take, reach_more, span_more}
 use Rattle.lr_disk.proofs.StopLemmas.{stop_is_image}
 use Rattle.lr_disk.proofs.mem.MemDisk.image.Goals as goal
 
@@ -13,7 +13,7 @@ pub make_all-requires-clause-logged : goal.make_all-requires-clause-logged
 make_all-requires-clause-logged c =
     omega (
       arith,
-      reach_take c.args.call c.deref-3.result.now,
+      greatest_take reach reach_more c.args.call c.deref-3.result.now,
       ap reach c.deref-3.ensures.value,
       c.args.self.now.past.logged,
       ap length c.deref-2.ensures.value,
@@ -23,7 +23,7 @@ pub make_all-requires-clause-small : goal.make_all-requires-clause-small
 make_all-requires-clause-small c =
     omega (
       arith,
-      span_take c.args.call c.deref-3.result.now,
+      greatest_take span span_more c.args.call c.deref-3.result.now,
       ap span c.deref-3.ensures.value,
       c.args.self.now.small,
       c.in_ok-left.ensures.room,
@@ -37,14 +37,14 @@ stop_in-requires c =
       logged = subst (λ (one : Call). reach (one ∷ []) ≤ length c.deref-4.result.now) (sym c.index.ensures)
           (omega (
             arith,
-            reach_at calls c.args.call call c.requires.made,
+            greatest_at reach reach_more calls c.args.call call c.requires.made,
             c.args.self.now.past.logged,
             ap length c.deref-4.ensures.value,
           ));
       small = subst (λ (one : Call). span (one ∷ []) ≤ c.make_all.new.self.room) (sym c.index.ensures)
           (omega (
             arith,
-            span_at calls c.args.call call c.requires.made,
+            greatest_at span span_more calls c.args.call call c.requires.made,
             c.args.self.now.small,
             c.in_ok-left.ensures.room,
             c.make_all.ensures.room,

@@ -1,17 +1,19 @@
 use Rattle.std.proofs.Common.{arith, subst, sym, take, ◌∙◌}
 use Rattle.lr_disk.specs.Left.{ShowsLeft}
-use Rattle.lr_disk.specs.Mem.{State, after_all}
-use Rattle.lr_disk.proofs.Steps.{after_more, reach_at, span_at}
+use Rattle.lr_disk.specs.Mem.{State, after_all, reach, span}
+use Rattle.lr_disk.proofs.Steps.{after_more, greatest_at, reach_more, span_more}
 use Rattle.lr_disk.specs.declared.past.Call.TheVariants.{Kept}
 use Rattle.lr_disk.proofs.stop.Left.make_all.Goals as goal
 
 pub make-requires-clause-logged : goal.make-requires-clause-logged
 make-requires-clause-logged c =
-    omega (arith, c.requires.logged, reach_at c.args.calls.now c.loop-call.call-index Kept c.loop-call-test.true)
+    let within = greatest_at reach reach_more c.args.calls.now c.loop-call.call-index Kept c.loop-call-test.true in
+    omega (arith, c.requires.logged, within)
 
 pub make-requires-clause-small : goal.make-requires-clause-small
 make-requires-clause-small c =
-    omega (arith, c.requires.small, span_at c.args.calls.now c.loop-call.call-index Kept c.loop-call-test.true)
+    let within = greatest_at span span_more c.args.calls.now c.loop-call.call-index Kept c.loop-call-test.true in
+    omega (arith, c.requires.small, within)
 
 pub loop-call-preserved : goal.loop-call-preserved
 loop-call-preserved c = record {

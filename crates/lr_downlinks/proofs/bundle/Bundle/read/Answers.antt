@@ -4,11 +4,10 @@ use Rattle.lr_shelf_format.proofs.NumberLemmas.{AreBytes}
 use Rattle.lr_downlinks.specs.Readings.{AreFound, BreaksOff}
 use Rattle.lr_downlinks.specs.declared.fault.BundleFault.TheVariants.{Count, Ended, Rest}
 use Rattle.lr_downlinks.proofs.Bundling.{bad_count, cut_at, drop_size, ended_early, front_size, has_rest, no_bytes}
-use Rattle.lr_downlinks.proofs.Bundling.{one_reading, whole_bundle}
-use Rattle.lr_downlinks.proofs.bundle.Bundle.read.Goals.{
-  then-count-eq0-via-then-count-eq0,
-  then-count-eq0-via-else-count-eq0+then-count-gt-MOST_DOWNLINKS,
-}
+use Rattle.lr_downlinks.proofs.Bundling.{whole_bundle}
+use Rattle.lr_downlinks.proofs.BundleReading.{one_reading}
+use Rattle.lr_downlinks.proofs.bundle.Bundle.read.Goals.{then-count-eq0-via-then-count-eq0}
+use Rattle.lr_downlinks.proofs.bundle.Bundle.read.Goals.{then-count-eq0-via-else-count-eq0+then-count-gt-MOST_DOWNLINKS}
 use Rattle.lr_downlinks.proofs.bundle.Bundle.read.Goals as goal
 
 pub returns-in_default-clause-reading : goal.returns-in_default-clause-reading

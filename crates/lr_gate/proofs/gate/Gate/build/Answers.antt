@@ -1,7 +1,7 @@
 use Rattle.std.proofs.Common.{rules, arith, ◌≡◌, ◌∙◌, ℕ, ◌+◌, sym, ap, subst, replicate, length}
 use lib.ListN.{length-replicate}
 use Rattle.atomic_table.specs.Table.{opening}
-use Rattle.lr_gate.specs.declared.view.Size.{Size}
+use Rattle.lr_gatecore.specs.declared.ring_size.RingSize.{RingSize}
 use Rattle.lr_gate.specs.declared.slot_value.SlotValue.TheVariants.{Empty}
 use Rattle.lr_gate.specs.Shows.{Shows}
 use Rattle.lr_gate.specs.Steps.{new_view}
@@ -10,13 +10,13 @@ use Rattle.lr_gate.proofs.gate.Gate.build.Goals as goal
 
 pub new-requires : goal.new-requires
 new-requires g c = let n : ℕ = c.args.cells in
+    let size : RingSize = record { cells = n; workers = c.args.workers } in
     let items : c.in_ok-words.words.items ≡ replicate (n + 1) 0 = search rules in
     let ws : c.as_slice.result.now ≡ replicate (n + 1) 0 = c.as_slice.ensures.value ∙ items in
-    rw c.from.ensures
-    (subst (λ xs. Shows g.W.Work.gives n c.from-2.result (opening c.as_slice.result.now xs (new_view 0)))
+    subst (λ xs. Shows g.W.Work.gives size (opening c.as_slice.result.now xs (new_view 0)))
     (sym c.in_ok-slots.ensures)
-    (subst (λ ws. Shows g.W.Work.gives n c.from-2.result (opening ws (replicate n Empty) (new_view 0))) (sym ws)
-    (opens g.W.Work.gives c.from-2.result n c.requires.cells.0)))
+    (subst (λ ws. Shows g.W.Work.gives size (opening ws (replicate n Empty) (new_view 0))) (sym ws)
+    (opens g.W.Work.gives c.args.workers n c.requires.cells.0))
 
 pub load-requires : goal.load-requires
 load-requires g c = let n : ℕ = c.args.cells in let ok = c.in-Ok.ensures.ok in
@@ -26,7 +26,7 @@ load-requires g c = let n : ℕ = c.args.cells in let ok = c.in-Ok.ensures.ok in
       ok.2,
       omega (arith, ok.0, same),
       stocks_go _ _ _ _ _ _ _
-          (ok.1 ∙ (many ∙ (sym c.from.ensures ∙ ap (λ k. k.cells) (sym ok.5)))) ok.3 ok.4,
+          (ok.1 ∙ (many ∙ ap (λ k. k.cells) (sym ok.5))) ok.3 ok.4,
     )
 
 pub invariant_of-gate : goal.invariant_of-gate
@@ -38,12 +38,12 @@ invariant_of-gate g c =
     let same : length c.as_slice.result.now ≡ n + 1 = ap length c.as_slice.ensures.value ∙ long in
     record {
       sized = record {
-        slots = ok.1 ∙ (many ∙ sym c.from-3.ensures);
-        words = omega (arith, ok.0, same, c.from-3.ensures);
-        cells_are = ap (λ (size : Size). size.cells) ok.5 ∙ (c.from.ensures ∙ sym c.from-3.ensures);
-        workers_are = ap (λ (size : Size). size.workers) ok.5 ∙ (c.from-2.ensures ∙ sym c.from-4.ensures);
-        some_cell = omega (arith, c.requires.cells.0, c.from-3.ensures);
-        most_cells = omega (arith, c.requires.cells.1, c.from-3.ensures);
-        most_workers = omega (arith, c.requires.workers, c.from-4.ensures);
+        slots = ok.1 ∙ (many ∙ sym c.from.ensures);
+        words = omega (arith, ok.0, same, c.from.ensures);
+        cells_are = ap (λ (size : RingSize). size.cells) ok.5 ∙ sym c.from.ensures;
+        workers_are = ap (λ (size : RingSize). size.workers) ok.5 ∙ sym c.from-2.ensures;
+        some_cell = omega (arith, c.requires.cells.0, c.from.ensures);
+        most_cells = omega (arith, c.requires.cells.1, c.from.ensures);
+        most_workers = omega (arith, c.requires.workers, c.from-2.ensures);
       };
     }

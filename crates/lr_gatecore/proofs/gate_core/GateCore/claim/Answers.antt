@@ -8,12 +8,12 @@ use Rattle.lr_gatecore.proofs.gate_core.GateCore.claim.Goals as goal
 pub returns-then-is_some-clause-steps : goal.returns-then-is_some-clause-steps
 returns-then-is_some-clause-steps c = let old = c.self.inside in
     let busy = of_some c.place_of.result (sym c.is_some.ensures ∙ c.if-is_some.true) c.place_of.ensures.some in
-    rw (← c.self.view_is) (claim_busy old.cells old.workers old.taken busy.0 c.args.worker c.args.cell
+    rw (← c.self.view_is) (claim_busy old.size old.taken busy.0 c.args.worker c.args.cell
     old.window.items old.stopped busy.1)
 
 pub returns-then-not-is_at-clause-steps : goal.returns-then-not-is_at-clause-steps
 returns-then-not-is_at-clause-steps c = let old = c.self.inside in
-    rw (← c.self.view_is) (claim_other old.cells old.workers old.taken c.args.worker c.args.cell
+    rw (← c.self.view_is) (claim_other old.size old.taken c.args.worker c.args.cell
     old.window.items old.stopped c.self.invariant.some_cell (omega arith) c.self.invariant.fits
     (rw (c.from.ensures, c.from-cells.ensures) at c.if-not-is_at.ensures.no))
 
@@ -24,18 +24,18 @@ index_mut-requires c = let cells = c.from-cells.result in
 
 pub returns-clause-steps : goal.returns-clause-steps
 returns-clause-steps c = let old = c.self.inside in
-    rw (← c.self.view_is, c.from.ensures, c.from-cells.ensures) (claim_moves old.cells old.workers old.taken
+    rw (← c.self.view_is, c.from.ensures, c.from-cells.ensures) (claim_moves old.size old.taken
     c.args.worker c.args.cell old.window.items old.stopped c.self.invariant.some_cell (omega arith) (omega arith)
     (of_none c.place_of.result (sym c.is_some.ensures ∙ c.if-is_some.false) c.place_of.ensures.none)
     (rw (c.from.ensures, c.from-cells.ensures) at c.if-not-is_at.ensures.yes))
 
 pub invariant_of-self : goal.invariant_of-self
 invariant_of-self c = let old = c.self.inside in
-    let same = length-set old.window.items ((c.args.cell + old.cells - old.taken % old.cells) % old.cells)
-    (Busy c.args.worker) in
-    rw (c.from.ensures, c.from-cells.ensures) (kept_after old.cells old.workers old.taken old.taken old.stopped
+    let cells = old.size.cells in
+    let same = length-set old.window.items ((c.args.cell + cells - old.taken % cells) % cells) (Busy c.args.worker) in
+    rw (c.from.ensures, c.from-cells.ensures) (kept_after old.size old.taken old.taken old.stopped
     old.window.items _ _ _ (Claim c.args.worker c.args.cell) c.self.invariant
-    (claim_moves old.cells old.workers old.taken c.args.worker c.args.cell old.window.items old.stopped
+    (claim_moves old.size old.taken c.args.worker c.args.cell old.window.items old.stopped
     c.self.invariant.some_cell (omega arith) (omega arith)
     (of_none c.place_of.result (sym c.is_some.ensures ∙ c.if-is_some.false) c.place_of.ensures.none)
     (rw (c.from.ensures, c.from-cells.ensures) at c.if-not-is_at.ensures.yes))

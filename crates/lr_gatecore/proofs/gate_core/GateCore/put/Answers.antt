@@ -12,11 +12,11 @@ invariant_of-self c = let old = c.self.inside in let longer = length-append old.
     let past = length-append (replicate old.taken Done) old.window.items in
     let known = length-replicate old.taken Done in
     let all = ap (λ (core : Core). length core.machine.stages) c.self.view_is in
-    rw stages (kept_after old.cells old.workers old.taken old.taken old.stopped old.window.items
+    rw stages (kept_after old.size old.taken old.taken old.stopped old.window.items
     (old.window.items ++ Ready ∷ []) _ _ Put c.self.invariant
-    (put_moves old.cells old.workers old.taken old.window.items old.stopped (omega arith) (search rules))
+    (put_moves old.size old.taken old.window.items old.stopped (omega arith) (search rules))
     (omega arith) (omega arith) (omega arith))
 
 pub returns-clause-steps : goal.returns-clause-steps
 returns-clause-steps c = let old = c.self.inside in rw (← c.self.view_is, c.push_back_reserved.ensures.items)
-    (put_moves old.cells old.workers old.taken old.window.items old.stopped (omega arith) (search rules))
+    (put_moves old.size old.taken old.window.items old.stopped (omega arith) (search rules))

@@ -12,18 +12,17 @@ as_number false = (refl, omega arith)
 pub loop-event-preserved : goal.loop-event-preserved
 loop-event-preserved c = let kept = c.loop-event.invariant in let size = c.step.ensures.sizes in
     let b = as_number c.step.result in
-    let steps = rw (kept.0, kept.1) at c.step.ensures.steps in
-    let more = leads_end _ _ _ _ _ _ _ _ _ kept.4.1 steps in
-    let grown = put_more _ _ _ _ _ _ steps in (
-      size.0 ∙ kept.0,
-      size.1 ∙ kept.1,
-      omega (arith, grown, kept.2),
-      omega (arith, b.0, b.1, c.from-moved.ensures, kept.3),
+    let steps = rw kept.0 at c.step.ensures.steps in
+    let more = leads_end _ _ _ _ _ _ _ _ kept.3.1 steps in
+    let grown = put_more _ _ _ _ _ steps in (
+      size ∙ kept.0,
+      omega (arith, grown, kept.1),
+      omega (arith, b.0, b.1, c.from-moved.ensures, kept.2),
       (
         more.0,
-        subst (λ es. Leads c.args.self.now.cells c.args.self.now.workers c.args.self.now.machine es more.0
+        subst (λ es. Leads c.args.self.now.size c.args.self.now.machine es more.0
             c.step.new.self.machine)
             (sym (take_more c.args.events.now c.loop-event.event-index _ c.loop-event-test.true)) more.1,
-        omega (arith, b.0, c.from-moved.ensures, kept.4.2, more.2),
+        omega (arith, b.0, c.from-moved.ensures, kept.3.2, more.2),
       ),
     )

@@ -5,5 +5,5 @@ use Rattle.lr_layers.proofs.layers.Layers.new.Goals as goal
 
 pub returns : goal.returns
 returns c =
-    stands_for_none _ refl c.new.ensures c.new-2.ensures
-    (starts_none _ c.new-3.ensures.none c.new-3.ensures.once) refl refl
+    stands_for_none _ refl c.new-3.ensures c.new.ensures
+    (starts_none _ c.new-2.ensures.none c.new-2.ensures.once) refl refl

@@ -4,26 +4,23 @@ use Rattle.lr_reading.proofs.window_source.WindowSourceJobSourceHired.keep.Goals
 
 pub hand_over-requires-clause-may : goal.hand_over-requires-clause-may
 hand_over-requires-clause-may g c =
-    let r = c.requires in
-    may_hand_over g.S.Source g.C.Consumer.took g.C.Consumer.most r.3 c.args.done r.4
+    may_hand_over g.S.Source g.C.Consumer c.requires.1 c.args.done c.requires.2
 
 pub hand_over-requires-clause-room : goal.hand_over-requires-clause-room
 hand_over-requires-clause-room g c =
-    let r = c.requires in
-    spare_room g.S.Source g.C.Consumer.took g.C.Consumer.most r.3 c.args.done r.4
+    spare_room g.S.Source g.C.Consumer c.requires.1 c.args.done c.requires.2
 
 pub hand_over-requires-clause-few : goal.hand_over-requires-clause-few
 hand_over-requires-clause-few g c =
-    let r = c.requires in
-    few_frames g.S.Source g.C.Consumer.took g.C.Consumer.most r.3 c.args.done r.4
+    few_frames g.S.Source g.C.Consumer c.requires.1 c.args.done c.requires.2
 
 pub returns-clause-keeps : goal.returns-clause-keeps
-returns-clause-keeps g c = λ start jobs kept at next.
-    keeps_on_ok g.S.Source g.C.Consumer.took g.C.Consumer.most at c.args.done next _ refl refl refl refl
+returns-clause-keeps g c = λ led at next.
+    keeps_on_ok g.S.Source g.C.Consumer at c.args.done next _ refl refl refl refl
     c.hand_over.result c.hand_over.ensures.spare c.hand_over.ensures.room c.hand_over.ensures.same
     c.hand_over.ensures.takes
 
 pub returns-clause-stops : goal.returns-clause-stops
-returns-clause-stops g c = λ start jobs kept at next.
-    stops_on_err g.S.Source g.C.Consumer.took g.C.Consumer.most at c.args.done next _ refl refl refl refl
-    g.C.Consumer.stopped c.hand_over.result c.hand_over.ensures.stops
+returns-clause-stops g c = λ led at next.
+    stops_on_err g.S.Source g.C.Consumer at c.args.done next _ refl refl refl refl
+    c.hand_over.result c.hand_over.ensures.stops

@@ -5,8 +5,8 @@ use Rattle.lr_reading.proofs.WindowLeading.{gives}
 use Rattle.lr_reading.proofs.window_source.WindowSourceJobSourceHired.next.Goals as goal
 
 pub returns-clause-gives : goal.returns-clause-gives
-returns-clause-gives g c = λ start jobs kept at.
-    gives g.S.Source g.C.Consumer.took g.C.Consumer.most at _ refl refl refl refl c.next_window.result
-    (c.next_window.ensures.offers start.intake.now.feed.lock.line start.intake.now.feed.most
-    (progress (taken_since start.source.now at.bytes at.given) jobs kept) at.is_given)
+returns-clause-gives g c = λ led at.
+    gives g.S.Source g.C.Consumer at _ refl refl refl refl c.next_window.result
+    (c.next_window.ensures.offers led.start.intake.now.feed.lock.line led.start.intake.now.feed.most
+    (progress (taken_since led.start.source.now at.bytes at.given) led.jobs led.kept) at.is_given)
     c.next_window.ensures.less

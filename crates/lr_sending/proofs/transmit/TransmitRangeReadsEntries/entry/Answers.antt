@@ -11,7 +11,7 @@ use Rattle.lr_refusals.proofs.Entries.{gives_cause, gives_file, gives_gone}
 use Rattle.lr_shelf.specs.Kept.{kept_by}
 use Rattle.lr_shelf_format.specs.declared.stored.Stored.{Stored}
 use Rattle.lr_sending.specs.Standing.{HasSent}
-use Rattle.lr_sending.specs.Transmit.{transmit_files_query, files_read, transmit_query}
+use Rattle.lr_sending.specs.Transmit.{transmit_files_query, files_read, transmit_query, sending}
 use Rattle.lr_sending.proofs.transmit.TransmitRangeReadsEntries.entry.Goals as goal
 
 -- a file at whose image no one looks
@@ -32,7 +32,7 @@ returns-in-Ok-Some-clause-takes g c = λ read few gathered.
     on_both c.send_file.result
     (λ puts sent.
     takes_file g.D.Disk g.O.Sink (kept_by c.args.shelf.now) c.args.number c.args.disk.now c.requires.working
-    c.requires.there (transmit_files_query s.from s.to s.wrong s.line) read c.get.new.disk c.args.out.now
+    c.requires.there (transmit_files_query (sending s.from s.to s.wrong s.line)) read c.get.new.disk c.args.out.now
     c.send_file.new.out
     opened finds tt
     (λ files. HasSent s.line s.wrong (files_read files) c.send_file.new.uplink) puts
@@ -50,7 +50,7 @@ returns-in-Ok-Some-clause-stops g c = λ read gathered.
     (subst (λ (r : Result (Option Stored) Cause). IsFileOrGone c.get.result r) given c.file_or_gone.ensures) in
     on_err c.send_file.result
     (stops_file g.D.Disk g.O.Sink (kept_by c.args.shelf.now) c.args.number c.args.disk.now c.requires.working
-    c.requires.there (transmit_files_query s.from s.to s.wrong s.line) read c.get.new.disk c.args.out.now
+    c.requires.there (transmit_files_query (sending s.from s.to s.wrong s.line)) read c.get.new.disk c.args.out.now
     c.send_file.new.out (opened_of stored) finds tt)
     (c.send_file.ensures.stops s.line (files_read (files_of read)) gathered)
 
@@ -62,7 +62,8 @@ returns-in-Ok-None-clause-takes g c = λ read few gathered.
     c.get.result c.get.ensures
     (subst (λ (r : Result (Option Stored) Cause). IsFileOrGone c.get.result r) given c.file_or_gone.ensures) in
     takes_gone g.D.Disk g.O.Sink (kept_by c.args.shelf.now) c.args.number c.args.disk.now c.requires.working
-    c.requires.there (transmit_files_query s.from s.to s.wrong s.line) read c.get.new.disk c.args.out.now c.args.out.now
+    c.requires.there (transmit_files_query (sending s.from s.to s.wrong s.line)) read c.get.new.disk c.args.out.now
+    c.args.out.now
     gone
     (λ files. HasSent s.line s.wrong (files_read files) c.args.uplink.now)
     (record { text = []; is = refl; puts = puts_none g.O.Sink c.args.out.now }) gathered
@@ -76,5 +77,5 @@ returns-in-Err-clause-stops g c = λ read gathered.
     (subst (λ (r : Result (Option Stored) Cause). IsFileOrGone c.get.result r) c.in-Err.is c.file_or_gone.ensures) in
     rw refuses.cause_is
     (get_stops g.D.Disk g.O.Sink (kept_by c.args.shelf.now) c.args.number c.args.disk.now c.requires.working
-    c.requires.there (transmit_query s.from s.to s.wrong s.line) read c.get.new.disk c.args.out.now
+    c.requires.there (transmit_query (sending s.from s.to s.wrong s.line)) read c.get.new.disk c.args.out.now
     refuses.error (λ stored computed is. refl) refuses.stays refuses.refused)

@@ -6,9 +6,9 @@ pub overflow_add-self : goal.overflow_add-self
 overflow_add-self g c =
     let r = c.requires in
     let below : c.args.self.now.kept < c.args.self.now.given =
-    omega (arith, at_length r.1 r.2 r.4.0 r.4.1, r.3.0, r.3.1) in
+    omega (arith, at_length r.0.jobs r.0.kept r.2.0 r.2.1, r.1.0, r.1.1) in
     omega (arith, below)
 
 pub invariant_of-self-clause-behind : goal.invariant_of-self-clause-behind
 invariant_of-self-clause-behind g c =
-    let r = c.requires in omega (arith, at_length r.1 r.2 r.4.0 r.4.1, r.3.0, r.3.1)
+    let r = c.requires in omega (arith, at_length r.0.jobs r.0.kept r.2.0 r.2.1, r.1.0, r.1.1)
