@@ -42,8 +42,9 @@ scratch_folder() {
     obey
 }
 
+# (A program that is just ending may still write there while the folder goes, so it is tried once more.)
 clear_away() {
-    [ -z "$scratch" ] || rm -rf "$scratch"
+    [ -z "$scratch" ] || rm -rf "$scratch" 2> /dev/null || { sleep 0.5 && rm -rf "$scratch"; }
     [ -z "$part" ] || rm -f "$part"
 }
 
