@@ -90,6 +90,29 @@ fn work_on<R: Wait, W: Work>(
     (seat, work)
 }
 
+/// Runs the body of the caller's thread, and stops the gate.
+fn conduct<W: Work, B: Body<W>>(gate: &Gate<W>, caller: CallerSide<W, B>) -> Conducted<W, B>
+    requires mine { IsConductorOf gate.now caller.conductor }
+    requires running { (view_of caller.conductor).stopped ≡ false }
+    requires needs { B.needs caller.body caller.conductor }
+    ensures mine { IsConductorOf gate.now result.conductor }
+    ensures conducts { IsConducted B.conducts caller.body caller.conductor result }
+{
+    let CallerSide {
+        body,
+        mut conductor,
+        own,
+    } = caller;
+    let (body, own, answer) = body.conduct(gate, &mut conductor, own);
+    conductor.stop(gate);
+    Conducted {
+        body,
+        conductor,
+        own,
+        answer,
+    }
+}
+
 /// Starts a thread for each seat, runs the body, stops the gate, and takes the threads in again. A closure whose thread
 /// couldn't be started runs after the stop.
 fn beside<'s, E, R: Threads + Wait + Sync, W: Work + Send + Drop, B: Body<W>>(
@@ -112,20 +135,7 @@ fn beside<'s, E, R: Threads + Wait + Sync, W: Work + Send + Drop, B: Body<W>>(
     ensures room { (vec_capacity result.1 ≡ vec_capacity seats) × (vec_capacity result.2 ≡ vec_capacity works) }
 {
     let Some(seat) = seats.pop() else {
-        let CallerSide {
-            body,
-            mut conductor,
-            own,
-        } = caller;
-        let (body, own, answer) = body.conduct(gate, &mut conductor, own);
-        conductor.stop(gate);
-        let conducted = Conducted {
-            body,
-            conductor,
-            own,
-            answer,
-        };
-        return (conducted, seats, works);
+        return (conduct(gate, caller), seats, works);
     };
     let Some(work) = works.pop() else {
         unreachable!()
@@ -135,22 +145,15 @@ fn beside<'s, E, R: Threads + Wait + Sync, W: Work + Send + Drop, B: Body<W>>(
         requires { IsSeatOf gate.now seat }
         ensures { IsSeatOf gate.entry.now result.0 }
     { work_on(rt, gate, seat, work) };
-    match scope.spawn_with(promise, run) {
-        Ok(child) => {
-            let (conducted, mut seats, mut works) = beside(scope, rt, gate, caller, seats, works);
-            let (seat, work) = child.join(rt);
-            seats.push_reserved(seat);
-            works.push_reserved(work);
-            (conducted, seats, works)
-        }
-        Err(refused) => {
-            let (conducted, mut seats, mut works) = beside(scope, rt, gate, caller, seats, works);
-            let (seat, work) = (refused.value)();
-            seats.push_reserved(seat);
-            works.push_reserved(work);
-            (conducted, seats, works)
-        }
-    }
+    let started = scope.spawn_with(promise, run);
+    let (conducted, mut seats, mut works) = beside(scope, rt, gate, caller, seats, works);
+    let (seat, work) = match started {
+        Ok(child) => child.join(rt),
+        Err(refused) => (refused.value)(),
+    };
+    seats.push_reserved(seat);
+    works.push_reserved(work);
+    (conducted, seats, works)
 }
 
 /// Runs the body while a thread for each seat works. Then it stops the gate, takes the threads in and gives all back.
