@@ -88,7 +88,7 @@ both_kinds outcomes =
 abbrev one_if : Bool → ℕ
 one_if test = if test then 1 else 0
 
--- an outcome was counted, and so many good packets and files
+-- an outcome was counted, and this many good packets and files
 pub record Counts (old : CountsView) (outcome : Outcome) (good placed : ℕ) (new : CountsView) : Type 0 where
   restored : new.restored ≡ old.restored + one_if (is_restored outcome)
   lost : new.lost ≡ old.lost + one_if (not (is_restored outcome))

@@ -1,7 +1,7 @@
 //! What the commands put and answer, on a shelf of version 1 that goes on. Its bytes are those of `reference/shelf.py`.
 use crate::shared::{
-    OLD_SHELF, discards, disk, ended_with, extracts, is_end, lists, shows, sink, verifies,
-    with_byte, with_capacity, with_two,
+    OLD_SHELF, discards, disk, extracts, is_end, lists, shows, sink, verifies, with_byte,
+    with_capacity, with_two,
 };
 use lr_causes::{Cause, Refusal};
 use lr_disk::MemDisk;
@@ -85,7 +85,8 @@ fn without_first(alloc: Global) -> Result<MemDisk, Fail> {
     let mut made = with_two(alloc)?;
     let mut out = sink(alloc)?;
     let cause = discards(alloc, 0, &mut made, &mut out);
-    if ended_with(cause, &out, 0, lines!(discarded 0;).as_bytes()) && made.as_slice().len() == 141 {
+    let is_said = is_end(cause, &out, 0, lines!(discarded 0;).as_bytes())?;
+    if is_said && made.as_slice().len() == 141 {
         Ok(made)
     } else {
         Err(Fail::from("it wasn't discarded"))

@@ -27,23 +27,13 @@ fn proper(alloc: Global, records: &[u8]) -> Result<Vec<u8>, Fail> {
     Ok(bytes)
 }
 
-/// A record after the first one, and its line.
+/// The records after the first one, and the lines of the header.
 struct Case(&'static [u8], &'static str);
 
-/// Whether the lines of a header with this record after the first one are these.
-fn has_line(alloc: Global, record: &[u8], wanted: &str) -> Result<bool, Fail> {
-    let size = 16 + record.len() % 200;
-    let mut lines = format!(in alloc;
-        "record 0 length 16 primary type 2 header {size} bits 1600\n"
-    )?;
-    lines.push_str(wanted)?;
-    has_lines(alloc, &proper(alloc, record)?, lines.as_str())
-}
-
-/// Whether each record has its line. Where one hasn't, the failure says what differs.
+/// Whether each header has its lines. Where one hasn't, the failure says what differs.
 fn have_lines(alloc: Global, cases: &[Case]) -> Result<bool, Fail> {
-    for Case(record, wanted) in cases {
-        if !has_line(alloc, record, wanted)? {
+    for Case(records, wanted) in cases {
+        if !has_lines(alloc, &proper(alloc, records)?, wanted)? {
             return Ok(false);
         }
     }
@@ -53,19 +43,31 @@ fn have_lines(alloc: Global, cases: &[Case]) -> Result<bool, Fail> {
 static IMAGES: [Case; 4] = [
     Case(
         &[1, 0, 9, 8, 0, 64, 1, 0, 2],
-        lines!(record 1 length 9 image bits 8 columns 64 lines 256 compression 2;),
+        lines!(
+            record 0 length 16 primary type 2 header 25 bits 1600;
+            record 1 length 9 image bits 8 columns 64 lines 256 compression 2;
+        ),
     ),
     Case(
         &NAVIGATION,
-        lines!(record 2 length 51 navigation "geos\\x00(-75.2)" 20466275 -20466275 5500 -1;),
+        lines!(
+            record 0 length 16 primary type 2 header 67 bits 1600;
+            record 2 length 51 navigation "geos\\x00(-75.2)" 20466275 -20466275 5500 -1;
+        ),
     ),
     Case(
         &[128, 0, 17, 0, 1, 0, 2, 0, 3, 0, 4, 0, 5, 0, 6, 1, 0],
-        lines!(record 128 length 17 segment 1 2 3 4 5 6 256;),
+        lines!(
+            record 0 length 16 primary type 2 header 33 bits 1600;
+            record 128 length 17 segment 1 2 3 4 5 6 256;
+        ),
     ),
     Case(
         &[131, 0, 7, 0, 49, 16, 1],
-        lines!(record 131 length 7 lossless flags 49 block 16 lines 1;),
+        lines!(
+            record 0 length 16 primary type 2 header 23 bits 1600;
+            record 131 length 7 lossless flags 49 block 16 lines 1;
+        ),
     ),
 ];
 
@@ -74,35 +76,89 @@ static BLANK: [Case; 1] = [Case(
         2, 0, 51, 0, 0, 0, 0, 0, 0, 0, 0, 0, 0, 0, 0, 0, 0, 0, 0, 0, 0, 0, 0, 0, 0, 0, 0, 0, 0, 0,
         0, 0, 0, 0, 0, 0, 0, 0, 0, 0, 0, 0, 0, 0, 0, 0, 0, 0, 0, 0, 0,
     ],
-    lines!(record 2 length 51 navigation "" 0 0 0 0;),
+    lines!(
+        record 0 length 16 primary type 2 header 67 bits 1600;
+        record 2 length 51 navigation "" 0 0 0 0;
+    ),
 )];
 
 static TEXTS: [Case; 3] = [
     Case(
         &[4, 0, 10, b'A', b'\\', 0, b' ', b'~', 0x7F, 0xE9],
-        lines!(record 4 length 10 text "A\\x5C\\x00 ~\\x7F\\xE9";),
+        lines!(
+            record 0 length 16 primary type 2 header 26 bits 1600;
+            record 4 length 10 text "A\\x5C\\x00 ~\\x7F\\xE9";
+        ),
     ),
-    Case(&[3, 0, 4, b'#'], lines!(record 3 length 4 text "#";)),
-    Case(&[6, 0, 3], lines!(record 6 length 3 text "";)),
+    Case(
+        &[3, 0, 4, b'#'],
+        lines!(
+            record 0 length 16 primary type 2 header 20 bits 1600;
+            record 3 length 4 text "#";
+        ),
+    ),
+    Case(
+        &[6, 0, 3],
+        lines!(
+            record 0 length 16 primary type 2 header 19 bits 1600;
+            record 6 length 3 text "";
+        ),
+    ),
 ];
 
 static STAMPS_AND_OTHERS: [Case; 7] = [
     Case(
         &[5, 0, 10, 0x40, 0x11, 0x1F, 0x05, 0x26, 0x5B, 0xFF],
-        lines!(record 5 length 10 stamp "1970-01-01T23:59:59.999Z";),
+        lines!(
+            record 0 length 16 primary type 2 header 26 bits 1600;
+            record 5 length 10 stamp "1970-01-01T23:59:59.999Z";
+        ),
     ),
     Case(
         &[5, 0, 10, 0x41, 0, 7, 0, 0, 0, 9],
-        lines!(record 5 length 10 stamp form 65 days 7 milliseconds 9;),
+        lines!(
+            record 0 length 16 primary type 2 header 26 bits 1600;
+            record 5 length 10 stamp form 65 days 7 milliseconds 9;
+        ),
     ),
-    Case(&[7, 0, 4, 0], lines!(record 7 length 4 key;)),
-    Case(&[0, 0, 3], lines!(record 0 length 3 other;)),
-    Case(&[128, 0, 3], lines!(record 128 length 3 other;)),
-    Case(&[131, 0, 4, 1], lines!(record 131 length 4 other;)),
-    Case(&[200, 0, 3], lines!(record 200 length 3 other;)),
+    Case(
+        &[7, 0, 4, 0],
+        lines!(
+            record 0 length 16 primary type 2 header 20 bits 1600;
+            record 7 length 4 key;
+        ),
+    ),
+    Case(
+        &[0, 0, 3],
+        lines!(
+            record 0 length 16 primary type 2 header 19 bits 1600;
+            record 0 length 3 other;
+        ),
+    ),
+    Case(
+        &[128, 0, 3],
+        lines!(
+            record 0 length 16 primary type 2 header 19 bits 1600;
+            record 128 length 3 other;
+        ),
+    ),
+    Case(
+        &[131, 0, 4, 1],
+        lines!(
+            record 0 length 16 primary type 2 header 20 bits 1600;
+            record 131 length 4 other;
+        ),
+    ),
+    Case(
+        &[200, 0, 3],
+        lines!(
+            record 0 length 16 primary type 2 header 19 bits 1600;
+            record 200 length 3 other;
+        ),
+    ),
 ];
 
-/// Bytes after the first record, and the one line of the header.
+/// Faults, each of which is the one line of its header.
 static FAULTS: [Case; 3] = [
     Case(&[9, 0, 3, 4, 0, 2], lines!(header fault short 19;)),
     Case(&[9, 0, 3, 4, 0, 9], lines!(header fault overrun 19;)),
@@ -111,16 +167,6 @@ static FAULTS: [Case; 3] = [
         lines!(header fault length 5 11;),
     ),
 ];
-
-/// Whether a header with these bytes after the first record has this line alone.
-fn have_faults(alloc: Global, cases: &[Case]) -> Result<bool, Fail> {
-    for Case(records, wanted) in cases {
-        if !has_lines(alloc, &proper(alloc, records)?, wanted)? {
-            return Ok(false);
-        }
-    }
-    Ok(true)
-}
 
 #[test]
 fn images_have_their_lines(rt: HostRuntime) -> Result<(), Fail> {
@@ -150,6 +196,6 @@ fn stamps_and_other_records_have_their_lines(rt: HostRuntime) -> Result<(), Fail
 fn a_fault_has_one_line(rt: HostRuntime) -> Result<(), Fail> {
     assert!(rt; has_lines(rt.alloc(), &[0; 15], lines!(header fault ended 15;))?);
     assert!(rt; has_lines(rt.alloc(), &[0; 16], lines!(header fault not-primary;))?);
-    assert!(rt; have_faults(rt.alloc(), &FAULTS)?);
+    assert!(rt; have_lines(rt.alloc(), &FAULTS)?);
     Ok(())
 }

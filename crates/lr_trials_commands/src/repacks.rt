@@ -1,8 +1,6 @@
 //! Images of the shelf that are coded anew.
 use crate::image_files::file_of;
-use crate::shared::{
-    OLD_SHELF, add, discards, disk, ended_with, is_end, sink, verifies, with_room,
-};
+use crate::shared::{OLD_SHELF, add, discards, disk, is_end, sink, verifies, with_room};
 use lr_bits::{Origin, Placed};
 use lr_causes::Cause;
 use lr_commands::export::export;
@@ -68,7 +66,7 @@ fn puts(
 fn has_files(alloc: Global, made: &mut MemDisk, text: &str) -> Result<bool, Fail> {
     let mut out = sink(alloc)?;
     let cause = verifies(alloc, made, &mut out);
-    Ok(ended_with(cause, &out, 0, text.as_bytes()))
+    is_end(cause, &out, 0, text.as_bytes())
 }
 
 /// Whether the image of the file of this number is the one.
@@ -90,8 +88,11 @@ fn stops_at(alloc: Global, after: u64) -> Result<bool, Fail> {
     let mut made = image_shelf(alloc, 1_000, 1_000, 0)?;
     made.fail_at(after);
     let stopped = puts(alloc, 0, &mut made, 4, "")?;
-    let one = has_files(alloc, &mut made, ONE_FILE)?;
-    Ok(stopped && (one || has_files(alloc, &mut made, TWO_FILES)?))
+    let mut out = sink(alloc)?;
+    let cause = verifies(alloc, &mut made, &mut out);
+    let has_one = out.as_slice() == ONE_FILE.as_bytes();
+    let files = if has_one { ONE_FILE } else { TWO_FILES };
+    Ok(stopped && is_end(cause, &out, 0, files.as_bytes())?)
 }
 
 /// Whether a second file with the image of the first one is added.
@@ -231,9 +232,10 @@ fn four_bits_have_a_status_of_their_own(rt: HostRuntime) -> Result<(), Fail> {
 /// Whether an output that fails ends it in its line, and both files are there.
 fn output_ends_it(alloc: Global) -> Result<bool, Fail> {
     let mut made = image_shelf(alloc, 1_000, 1_000, 0)?;
-    let mut out: MemSink = with_room(alloc, 8)?;
+    let mut out: MemSink = with_room(alloc, 9)?;
     let cause = repacks(alloc, 0, &mut made, &mut out);
-    Ok(ended_with(cause, &out, 5, b"repacked") && has_files(alloc, &mut made, TWO_FILES)?)
+    let words = lines!(repacked..).as_bytes();
+    Ok(is_end(cause, &out, 5, words)? && has_files(alloc, &mut made, TWO_FILES)?)
 }
 
 /// Calls of the disk that fail, each in a run of its own.

@@ -87,12 +87,7 @@ pub(crate) fn with_room(alloc: Global, room: usize) -> Result<MemSink, Fail> {
     Ok(MemSink::of(alloc, Vec::new(alloc), room)?)
 }
 
-/// Whether a run ended with this status, and put this text.
-pub(crate) fn ended_with(cause: Cause, out: &MemSink, status: u8, text: &[u8]) -> bool {
-    cause.status() == status && out.as_slice() == text
-}
-
-/// The same. Where it didn't, the failure says what differs.
+/// Whether a run ended with this status, and put this text. Where it didn't, the failure says what differs.
 pub(crate) fn is_end(cause: Cause, out: &MemSink, status: u8, text: &[u8]) -> Result<bool, Fail> {
     Ok(is_status(cause.status(), status)? && is_text("out", out.as_slice(), text)?)
 }

@@ -1,6 +1,6 @@
 //! Runs that a failure of the disk or of the output ends.
 use crate::shared::{
-    OLD_SHELF, discards, disk, ended_with, extracts, sink, verifies, with_room, with_two,
+    OLD_SHELF, discards, disk, extracts, is_end, sink, verifies, with_room, with_two,
 };
 use lr_disk::MemDisk;
 use lr_trials_wanted::lines;
@@ -21,13 +21,9 @@ const FIRST_GONE: &str = lines!(
 fn is_discarded(alloc: Global, made: &mut MemDisk) -> Result<bool, Fail> {
     let mut out = sink(alloc)?;
     let cause = verifies(alloc, made, &mut out);
-    if ended_with(cause, &out, 0, FIRST_GONE.as_bytes()) {
-        Ok(true)
-    } else if out.as_slice() == BOTH.as_bytes() {
-        Ok(false)
-    } else {
-        Err(Fail::from("another shelf"))
-    }
+    let is_gone = out.as_slice() != BOTH.as_bytes();
+    let lines = if is_gone { FIRST_GONE } else { BOTH };
+    Ok(is_end(cause, &out, 0, lines.as_bytes())? && is_gone)
 }
 
 /// Discards file 0 with this many bytes of room for the line: whether the status is this one, and the file is gone.
@@ -35,7 +31,7 @@ fn discards_into(alloc: Global, room: usize, status: u8, put: &[u8]) -> Result<b
     let mut made = with_two(alloc)?;
     let mut out = with_room(alloc, room)?;
     let cause = discards(alloc, 0, &mut made, &mut out);
-    Ok(ended_with(cause, &out, status, put) && is_discarded(alloc, &mut made)?)
+    Ok(is_end(cause, &out, status, put)? && is_discarded(alloc, &mut made)?)
 }
 
 /// Discards file 0 where one call of the disk fails, counted from the run's first: status 4, and nothing is put.
@@ -46,10 +42,7 @@ fn stopped_at(alloc: Global, after: u64) -> Result<bool, Fail> {
     let mut out = sink(alloc)?;
     made.fail_at(after);
     let cause = discards(alloc, 0, &mut made, &mut out);
-    if !ended_with(cause, &out, 4, b"") {
-        return Err(Fail::from("another end"));
-    }
-    is_discarded(alloc, &mut made)
+    Ok(is_end(cause, &out, 4, b"")? && is_discarded(alloc, &mut made)?)
 }
 
 fn extracts_into(alloc: Global, room: usize, status: u8) -> Result<bool, Fail> {
@@ -63,7 +56,7 @@ fn extracts_into(alloc: Global, room: usize, status: u8) -> Result<bool, Fail> {
 fn the_line_comes_after_the_discard(rt: HostRuntime) -> Result<(), Fail> {
     let alloc = rt.alloc();
     assert!(rt; discards_into(alloc, 12, 0, lines!(discarded 0;).as_bytes())?);
-    assert!(rt; discards_into(alloc, 3, 5, b"dis")?);
+    assert!(rt; discards_into(alloc, 10, 5, lines!(discarded..).as_bytes())?);
     assert!(rt; discards_into(alloc, 0, 5, b"")?);
     Ok(())
 }

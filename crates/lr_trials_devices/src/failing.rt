@@ -61,7 +61,7 @@ fn out_fails(alloc: Global, job: &Job, place: u64) -> Result<Option<bool>, Troub
     if printed.status == 0 {
         return Ok(verdict_when_done(place < put));
     }
-    let wanted = if job.text.starts_with("shelved") {
+    let wanted = if job.text.starts_with(lines!(shelved..)) {
         line_count(&printed).saturating_add(1).min(job.whole)
     } else {
         job.whole
@@ -78,15 +78,15 @@ fn out_fails(alloc: Global, job: &Job, place: u64) -> Result<Option<bool>, Troub
 
 /// What `receive` prints of this many frames, up to the words of its last line.
 const LINES: [&str; 3] = [
-    "symbols ",
+    lines!(symbols..),
     lines!(
         shelved 0 vc 0 apid 100 counter 7 bytes 26 packets 1;
-        "symbols "
+        symbols ..
     ),
     lines!(
         shelved 0 vc 0 apid 100 counter 7 bytes 26 packets 1;
         shelved 1 vc 0 apid 100 counter 8 bytes 26 packets 1;
-        "symbols "
+        symbols ..
     ),
 ];
 
@@ -106,7 +106,7 @@ fn source_fails(alloc: Global, job: &Job, place: u64) -> Result<Option<bool>, Tr
     Ok(Some(
         ends_so(&printed, 3, lines!(station: source failed;))
             && out.starts_with(LINES[whole].as_bytes())
-            && out.ends_with(b" stop fault\n")
+            && out.ends_with(lines!(.. stop fault;).as_bytes())
             && line_count(&printed) == whole + 1
             && reached == Some(whole),
     ))

@@ -17,7 +17,7 @@ fn ends(alloc: Global, job: &Job) -> Result<bool, Trouble> {
     if ends_so(&printed, 0, "") {
         return Ok(reached == job.whole && is_out(&printed, job.text));
     }
-    let acknowledged = line_count(&printed) == reached || job.text.starts_with("symbols");
+    let acknowledged = line_count(&printed) == reached || job.text.starts_with(lines!(symbols..));
     Ok(
         ends_so(&printed, 9, lines!(station: no memory;))
             && is_front(&printed, job.text)

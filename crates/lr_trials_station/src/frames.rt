@@ -75,17 +75,17 @@ static FRONTS: [Session; 1] = [Session {
                 bytes: 500,
                 fault: 8,
             },
-            out: "frame 0 ",
+            out: lines!(frame 0 ..),
             ..OUTPUT_FAILS
         },
         Run {
             room: Room {
-                bytes: 30,
+                bytes: 33,
                 fault: NEVER,
             },
             out: lines!(
                 frame 0 version 0 refused;
-                "fram"
+                frames ..
             ),
             ..OUTPUT_FAILS
         },

@@ -283,7 +283,7 @@ static OUTPUT_FAILS: [Session; 1] = [Session {
         },
         out: lines!(
             file 0 ok;
-            "file "
+            file ..
         ),
         status: 5,
         line: lines!(station: output failed;),

@@ -217,7 +217,7 @@ static WITHOUT_A_LINE: [Session; 1] = [Session {
                 bytes: 10,
                 fault: NEVER,
             },
-            out: "shelved 0 ",
+            out: lines!(shelved 0 ..),
             status: 5,
             line: lines!(station: output failed;),
             ..RECEIVED_7

@@ -167,6 +167,7 @@ fn is_text_at(at: At, what: &str, came: &[u8], wanted: &[u8]) -> Result<(), Fail
     let Some(
         Differing {
             place,
+            before,
             came,
             wanted,
         },
@@ -180,8 +181,8 @@ fn is_text_at(at: At, what: &str, came: &[u8], wanted: &[u8]) -> Result<(), Fail
         reads,
     } = at;
     Err(Fail::new(format_args!(
-        "session {session}, call {call}, reads of {reads}: {what} differs from byte {place} on: {came:?} \
-         came, and not {wanted:?}"
+        "session {session}, call {call}, reads of {reads}: {what} differs from byte {place} on: \
+         after {before:?} came {came:?}, and not {wanted:?}"
     )))
 }
 

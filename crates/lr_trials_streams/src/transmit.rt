@@ -117,7 +117,7 @@ fn sent_again(alloc: Global, shelf: &mut MemDisk) -> Result<MemDisk, Fail> {
     hold_on(alloc, &mut other, &[SMALL], 0)?;
     let receive = ["receive", line, marks, g2, plain];
     let input = receiving(&receive, symbols);
-    let two = done_with("lost 0 packets 66 files 2 left 0 stop end\n");
+    let two = done_with(lines!(.. lost 0 packets 66 files 2 left 0 stop end;));
     if ends_on(alloc, &mut other, input, AMPLE, two)? {
         Ok(other)
     } else {

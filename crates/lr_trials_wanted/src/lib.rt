@@ -6,9 +6,10 @@ mod texts;
 mod words;
 
 use std::test::Fail;
+pub use texts::receipt_number;
 pub use words::{owned_words, words_of};
 
-/// The most bytes of a line that a failure shows.
+/// The most bytes of each text that a failure shows.
 const SHOWN: usize = 180;
 
 fn first_difference(came: &[u8], wanted: &[u8]) -> usize {
@@ -32,19 +33,25 @@ fn line_start(bytes: &[u8], place: usize) -> usize {
     start
 }
 
-/// The line that begins at a place, or its first bytes.
-fn line_at(bytes: &[u8], start: usize) -> &str {
-    let rest = &bytes[start.min(bytes.len())..];
-    let line = match rest.iter().position(|byte| *byte == b'\n') {
-        Some(end) => &rest[..end],
-        None => rest,
-    };
-    str::from_utf8(&line[..line.len().min(SHOWN)]).unwrap_or("bytes that are no text")
+fn text_of(bytes: &[u8]) -> &str {
+    str::from_utf8(bytes).unwrap_or("bytes that are no text")
 }
 
-/// Where bytes that came differ from those that were wanted: the place, and the line in which they do, of both.
+/// The rest of a line from a place on, with the line's end, or the first bytes of it.
+fn rest_of_line(bytes: &[u8], place: usize) -> &str {
+    let rest = &bytes[place.min(bytes.len())..];
+    let line = match rest.iter().position(|byte| *byte == b'\n') {
+        Some(end) => &rest[..=end],
+        None => rest,
+    };
+    text_of(&line[..line.len().min(SHOWN)])
+}
+
+/// Where bytes that came differ from those that were wanted: the first place at which they do, what stands before it in
+/// its line, and the rest of the line from there on, of both.
 pub struct Differing<'a> {
     pub place: usize,
+    pub before: &'a str,
     pub came: &'a str,
     pub wanted: &'a str,
 }
@@ -55,19 +62,22 @@ pub fn difference<'a>(came: &'a [u8], wanted: &'a [u8]) -> Option<Differing<'a>>
         return None;
     }
     let place = first_difference(came, wanted);
-    let start = line_start(came, place);
+    let front = &came[..place.min(came.len())];
+    let start = line_start(front, place).max(front.len().saturating_sub(SHOWN));
     Some(Differing {
         place,
-        came: line_at(came, start),
-        wanted: line_at(wanted, start),
+        before: text_of(&front[start.min(front.len())..]),
+        came: rest_of_line(came, place),
+        wanted: rest_of_line(wanted, place),
     })
 }
 
-/// Whether just these bytes came. Where others did, the failure has the line in which they differ, of both.
+/// Whether just these bytes came. Where others did, the failure has both from the first byte that differs.
 pub fn is_text(what: &str, came: &[u8], wanted: &[u8]) -> Result<bool, Fail> {
     let Some(
         Differing {
             place,
+            before,
             came,
             wanted,
         },
@@ -76,7 +86,7 @@ pub fn is_text(what: &str, came: &[u8], wanted: &[u8]) -> Result<bool, Fail> {
         return Ok(true);
     };
     Err(Fail::new(format_args!(
-        "{what} differs from byte {place} on: {came:?} came, and not {wanted:?}"
+        "{what} differs from byte {place} on: after {before:?} came {came:?}, and not {wanted:?}"
     )))
 }
 

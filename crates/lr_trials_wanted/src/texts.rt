@@ -1,12 +1,14 @@
 //! The printed lines, as tests want them. A line's words stand here alone, so a change of its text is one of this file.
+use std::alloc::Global;
+use std::test::Fail;
 
 /// The text of printed lines, each written as it is printed, with a `;` after it. A checksum, a word with a hyphen, and
-/// what comes from a file are texts: `bad stored "3B39" computed "3B38"`. Where a line is cut its part comes last, as a
-/// text. The line of a record with a word before each value needs no rule of its own.
+/// what comes from a file are texts: `bad stored "3B39" computed "3B38"`. A cut line comes last, with `..` after its
+/// first words; `..` also stands before the end of a line. The line of a record with a word before each value needs no
+/// rule of its own.
 #[macro_export]
 macro_rules! lines {
     (@ [$($done:tt)*]) => { concat!($($done)*) };
-    (@ [$($done:tt)*] $part:literal) => { concat!($($done)* $part) };
     (@ [$($done:tt)*] shelf capacity $capacity:literal; $($rest:tt)*) => {
         $crate::lines!(@ [$($done)* "shelf capacity ", $capacity, "\n",] $($rest)*)
     };
@@ -14,6 +16,20 @@ macro_rules! lines {
         bytes $bytes:literal packets $packets:literal; $($rest:tt)*) => {
         $crate::lines!(@ [$($done)* "shelved ", $number, " vc ", $vc, " apid ", $apid, " counter ",
             $counter, " bytes ", $bytes, " packets ", $packets, "\n",] $($rest)*)
+    };
+    (@ [$($done:tt)*] shelved ..) => { concat!($($done)* "shelved ") };
+    (@ [$($done:tt)*] shelved $number:literal ..) => { concat!($($done)* "shelved ", $number, " ") };
+    (@ [$($done:tt)*] symbols ..) => { concat!($($done)* "symbols ") };
+    (@ [$($done:tt)*] .. lost $lost:literal packets $packets:literal files $files:literal left
+        $left:literal stop $stop:ident; $($rest:tt)*) => {
+        $crate::lines!(@ [$($done)* " lost ", $lost, " packets ", $packets, " files ", $files, " left ",
+            $left, " stop ", stringify!($stop), "\n",] $($rest)*)
+    };
+    (@ [$($done:tt)*] .. left $left:literal stop $stop:ident; $($rest:tt)*) => {
+        $crate::lines!(@ [$($done)* " left ", $left, " stop ", stringify!($stop), "\n",] $($rest)*)
+    };
+    (@ [$($done:tt)*] .. stop $stop:ident; $($rest:tt)*) => {
+        $crate::lines!(@ [$($done)* " stop ", stringify!($stop), "\n",] $($rest)*)
     };
     (@ [$($done:tt)*] symbols $symbols:literal frames $frames:literal restored $restored:literal lost
         $lost:literal packets $packets:literal files $files:literal left $left:literal stop $stop:ident;
@@ -30,6 +46,10 @@ macro_rules! lines {
     (@ [$($done:tt)*] receipt $downlink:literal $place:literal number $number:literal; $($rest:tt)*) =>
         {
         $crate::lines!(@ [$($done)* "receipt ", $downlink, " ", $place, " number ", $number, "\n",] $($rest)*)
+    };
+    (@ [$($done:tt)*] receipt ..) => { concat!($($done)* "receipt ") };
+    (@ [$($done:tt)*] .. files $files:literal; $($rest:tt)*) => {
+        $crate::lines!(@ [$($done)* " files ", $files, "\n",] $($rest)*)
     };
     (@ [$($done:tt)*] downlinks $downlinks:literal symbols $symbols:literal files $files:literal;
         $($rest:tt)*) => {
@@ -56,6 +76,7 @@ macro_rules! lines {
         => {
         $crate::lines!(@ [$($done)* "files ", $files, " used ", $used, " capacity ", $capacity, "\n",] $($rest)*)
     };
+    (@ [$($done:tt)*] file ..) => { concat!($($done)* "file ") };
     (@ [$($done:tt)*] file $number:literal ok; $($rest:tt)*) => {
         $crate::lines!(@ [$($done)* "file ", $number, " ok\n",] $($rest)*)
     };
@@ -75,6 +96,8 @@ macro_rules! lines {
         $crate::lines!(@ [$($done)* "repacked ", $number, " as ", $new, " bytes ", $before, " to ",
             $after, "\n",] $($rest)*)
     };
+    (@ [$($done:tt)*] discarded ..) => { concat!($($done)* "discarded ") };
+    (@ [$($done:tt)*] repacked ..) => { concat!($($done)* "repacked ") };
     (@ [$($done:tt)*] rendered $images:literal skipped $skipped:literal; $($rest:tt)*) => {
         $crate::lines!(@ [$($done)* "rendered ", $images, " skipped ", $skipped, "\n",] $($rest)*)
     };
@@ -109,6 +132,8 @@ macro_rules! lines {
     (@ [$($done:tt)*] frame $frame:literal version $version:literal refused; $($rest:tt)*) => {
         $crate::lines!(@ [$($done)* "frame ", $frame, " version ", $version, " refused\n",] $($rest)*)
     };
+    (@ [$($done:tt)*] frame $frame:literal ..) => { concat!($($done)* "frame ", $frame, " ") };
+    (@ [$($done:tt)*] frames ..) => { concat!($($done)* "frames ") };
     (@ [$($done:tt)*] frames $frames:literal left $left:literal stop $stop:ident; $($rest:tt)*) => {
         $crate::lines!(@ [$($done)* "frames ", $frames, " left ", $left, " stop ", stringify!($stop),
             "\n",] $($rest)*)
@@ -214,6 +239,7 @@ macro_rules! lines {
     (@ [$($done:tt)*] station: capacity: needs $needed:literal of $capacity:literal; $($rest:tt)*) => {
         $crate::lines!(@ [$($done)* "station: capacity: needs ", $needed, " of ", $capacity, "\n",] $($rest)*)
     };
+    (@ [$($done:tt)*] station: capacity ..) => { concat!($($done)* "station: capacity: needs ") };
     (@ [$($done:tt)*] station: not empty, length $length:literal; $($rest:tt)*) => {
         $crate::lines!(@ [$($done)* "station: not empty, length ", $length, "\n",] $($rest)*)
     };
@@ -234,4 +260,18 @@ macro_rules! lines {
     };
     (@ $($wrong:tt)*) => { compile_error!("no printed line looks so") };
     ($($lines:tt)*) => { $crate::lines!(@ [] $($lines)*) };
+}
+
+/// The number in this line, where it is that of the receipt for this place of this downlink.
+pub fn receipt_number(
+    alloc: Global,
+    line: &str,
+    downlink: usize,
+    place: usize,
+) -> Result<Option<u64>, Fail> {
+    let words = format!(in alloc; "receipt {downlink} {place} number ")?;
+    Ok(
+        line.strip_prefix(words.as_str())
+            .and_then(|number| number.parse::<u64>().ok()),
+    )
 }

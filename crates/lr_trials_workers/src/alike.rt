@@ -88,7 +88,8 @@ fn blocks_need_no_worker(rt: HostRuntime) -> Result<(), Fail> {
     let alloc = rt.alloc();
     let mut disk = disk_of_calls(alloc, 0)?;
     let words = "decode --input blocks --workers 8";
+    let last = lines!(.. left 0 stop end;).as_bytes();
     let printed = call(&rt, alloc, &faultless(words, &[7; 1_020], 1_020), &mut disk)?;
-    assert!(rt; printed.status == 0 && printed.out.as_slice().ends_with(b" left 0 stop end\n"));
+    assert!(rt; printed.status == 0 && printed.out.as_slice().ends_with(last));
     Ok(())
 }

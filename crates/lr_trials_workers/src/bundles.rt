@@ -2,7 +2,7 @@
 use crate::calls::{
     Given, Printed, call, call_alone, disk_of_calls, empty_shelf, faultless, symbols,
 };
-use lr_trials_wanted::{is_status, is_text, lines};
+use lr_trials_wanted::{is_status, is_text, lines, receipt_number};
 use std::alloc::Global;
 use std::sync::Wait;
 use std::test::Fail;
@@ -41,11 +41,8 @@ fn numbers_in(alloc: Global, text: &str) -> Result<Vec<u64>, Fail> {
     let mut numbers = Vec::new(alloc);
     for line in text.lines() {
         let at = numbers.len();
-        let start = format!(in alloc; "receipt {} {} number ", at / 7, at % 7)?;
-        if let Some(number) = line.strip_prefix(start.as_str()) {
-            if let Ok(number) = number.parse::<u64>() {
-                numbers.push(number)?;
-            }
+        if let Some(number) = receipt_number(alloc, line, at / 7, at % 7)? {
+            numbers.push(number)?;
         }
     }
     Ok(numbers)
@@ -185,9 +182,19 @@ fn a_full_shelf_keeps_what_has_a_receipt(rt: HostRuntime) -> Result<(), Fail> {
         printed
             .err
             .as_slice()
-            .starts_with("station: capacity: needs ".as_bytes())
+            .starts_with(lines!(station: capacity ..).as_bytes())
     );
-    assert!(rt; printed.out.as_slice().starts_with("receipt ".as_bytes()));
-    assert!(rt; !printed.out.as_slice().ends_with("files 14\n".as_bytes()));
+    assert!(rt;
+        printed
+            .out
+            .as_slice()
+            .starts_with(lines!(receipt..).as_bytes())
+    );
+    assert!(rt;
+        !printed
+            .out
+            .as_slice()
+            .ends_with(lines!(.. files 14;).as_bytes())
+    );
     Ok(())
 }
