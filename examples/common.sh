@@ -2,7 +2,15 @@
 # shellcheck shell=sh
 
 # end STATUS: what a signal calls. A script with programs of its own to end has another one.
-end() { exit "$1"; }
+end() { leave "$1"; }
+
+# leave STATUS: ends the script after a signal. (A further signal would end it before its folder is gone: within the trap
+# for EXIT too.)
+leave() {
+    trap '' HUP INT TERM
+    clear_away
+    exit "$1"
+}
 
 # From here on a signal ends the script, with 128 and the signal's number.
 obey() {
@@ -44,8 +52,8 @@ scratch_folder() {
 
 # (A program that is just ending may still write there while the folder goes, so it is tried once more.)
 clear_away() {
-    [ -z "$scratch" ] || rm -rf "$scratch" 2> /dev/null || { sleep 0.5 && rm -rf "$scratch"; }
-    [ -z "$part" ] || rm -f "$part"
+    [ -z "${scratch-}" ] || rm -rf "$scratch" 2> /dev/null || { sleep 0.5 && rm -rf "$scratch"; }
+    [ -z "${part-}" ] || rm -f "$part"
 }
 
 # path WORD: this path, so that no program takes it for an option

@@ -22,6 +22,14 @@ folder=$(path "$1")
 capacity=$2
 rate=$3
 shift 3
+
+# end STATUS: after a signal. (Where no reception writes its lines yet, what passes them on would wait for one for ever.)
+end() {
+    [ -z "$receiving" ] || stop "$receiving"
+    [ ! -p "$scratch/lines" ] || exec 4<> "$scratch/lines"
+    leave "$1"
+}
+
 scratch_folder
 start
 mkfifo "$scratch/lines" || exit 1

@@ -16,7 +16,7 @@ start() {
 # end STATUS: after a signal
 end() {
     [ -z "$receiving" ] || stop "$receiving"
-    exit "$1"
+    leave "$1"
 }
 
 # shelf_at PREFIX PLACE: PREFIX.shelf, PREFIX-2.shelf and so on

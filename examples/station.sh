@@ -40,7 +40,7 @@ end() {
     [ -z "$receiving" ] || stop "$receiving"
     # (the latter before it has a session)
     [ -z "$feeding" ] || stop "$feeding" "-$feeding"
-    exit "$1"
+    leave "$1"
 }
 
 if [ "${1-}" = --feed ]; then

@@ -13,7 +13,8 @@ examples.py cadu < FRAMES
 examples.py publish PORT SIZE < FILE
     serves FILE on a TCP port as a publisher of nanomsg, in messages of SIZE bytes, to one subscriber
 examples.py signal NAME FOLDER WORDS
-    runs a program, sends it this signal once something stands in FOLDER, and prints its status as the shell would
+    runs a program, sends it this signal once something stands in FOLDER, and again until it ends, and prints its status
+    as the shell would
 """
 
 import hashlib
@@ -298,13 +299,16 @@ def send_signal(name, folder, *words):
     while not is_ready(folder) and time.time() < until:
         time.sleep(0.01)
     time.sleep(0.2)
-    started.send_signal(number)
-    try:
-        status = started.wait(20)
-        print(128 - status if status < 0 else status)
-    except subprocess.TimeoutExpired:
+    until = time.time() + 20
+    while started.poll() is None and time.time() < until:
+        started.send_signal(number)
+        time.sleep(0.01)
+    if started.poll() is None:
         started.kill()
         print("still at work after 20 seconds")
+        return
+    status = started.returncode
+    print(128 - status if status < 0 else status)
 
 
 commands = {
