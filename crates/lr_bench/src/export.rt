@@ -4,7 +4,7 @@ use crate::lines::{Shape, number_at, shape_of};
 use crate::shelf::Trouble;
 use crate::sums::{sum_with, sum_with_bytes};
 use lr_bits::{Bytes, Lengths, MissionFile, Origin, Placed};
-use lr_commands::export::export;
+use lr_cmd_shelf::export::export;
 use lr_disk::MemDisk;
 use lr_io::MemSink;
 use lr_shelf::Shelf;

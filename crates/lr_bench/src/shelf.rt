@@ -1,7 +1,7 @@
 //! Small files that are put on a new shelf, and shelves that are loaded and verified.
 
 use lr_bits::{Bytes, Lengths, MissionFile, NoMemory, Origin, Placed};
-use lr_commands::verify::verify;
+use lr_cmd_shelf::verify::verify;
 use lr_disk::{Disk, FileDisk, MemDisk};
 use lr_io::SureSink;
 use lr_shelf::{Shelf, ShelfError};

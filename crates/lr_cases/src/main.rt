@@ -1,13 +1,14 @@
-//! Draws histories of frames for `Channels`, lists of good packets for `Files`, strings for `decode_lines` and headers
-//! for `Records`, and prints for each kind how many there were, with a checksum of what came of them.
-//! `reference/packets.py`, `reference/files.py`, `reference/lines.py` and `reference/headers.py` draw the same ones,
-//! and compute the same lines from the definitions alone.
+//! Draws histories of frames for `Channels`, lists of good packets for `Files`, strings for `decode_lines`, headers for
+//! `Records` and histories of packets for `MendedFiles`, and prints for each kind how many there were, with a checksum
+//! of what came of them. `reference/packets.py`, `reference/files.py`, `reference/lines.py`, `reference/headers.py` and
+//! `reference/mend.py` draw the same ones, and compute the same lines from the definitions alone.
 #![tactic(auto)]
 
 mod draw;
 mod files;
 mod headers;
 mod lines;
+mod mended;
 mod packets;
 mod sender;
 
@@ -86,9 +87,28 @@ overrun {overrun} length {length} records {records} checksum {checksum}"
     }
 }
 
+fn print_mended(rt: &HostRuntime) -> io::Result<()> {
+    match mended::add_histories(rt.alloc()) {
+        Ok(tally) => {
+            let mended::Tally {
+                packets,
+                files,
+                fillers,
+                checksum,
+            } = tally;
+            let histories = mended::HISTORIES;
+            println!(rt;
+                "mended {histories} packets {packets} files {files} fillers {fillers} checksum {checksum}"
+            )
+        }
+        Err(_) => println!(rt; "no memory"),
+    }
+}
+
 fn main(rt: HostRuntime) -> io::Result<()> {
     print_packets(&rt)?;
     print_files(&rt)?;
     print_lines(&rt)?;
-    print_headers(&rt)
+    print_headers(&rt)?;
+    print_mended(&rt)
 }

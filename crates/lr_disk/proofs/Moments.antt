@@ -2,7 +2,7 @@
 use Rattle.std.proofs.Common.{◌≡◌, inl, inr, ⊎_elim, ℕ, ◌+◌, List, length, refl, sym, ◌∙◌, subst, arith}
 use Rattle.std.proofs.lemmas.List.{take_all}
 use Rattle.lr_disk.specs.Disk.{Cut, Elapses, FollowsWrite, LeavesOnly, NoOther, SameImages}
-use Rattle.lr_disk.specs.Reads.{IsUnwritten}
+use Rattle.lr_disk.specs.Reads.{IsOnlyRead, IsUnwritten}
 use Rattle.lr_disk.specs.declared.disk.Disk.{Ghosts as DiskOf}
 use Rattle.lr_disk.specs.Pending.{EachImageSince, NothingPending}
 
@@ -73,6 +73,21 @@ module _ {D : Type 0} (disk : DiskOf D)
     any_moment = one_call d d' (disk.may_leave d) told (λ c image. image) (λ c image. (images c).0 image) time;
   }
 
+  -- no call: the disk was only read
+  pub only_read_yet : (d : D) → disk.only_read d d → IsOnlyRead disk d d
+  only_read_yet d none = record { calls = none; unwritten = λ told. unwritten_yet d told }
+
+  -- one call that only reads
+  pub only_read_call : (d d' : D) → disk.only_read d d' → (disk.tells d → disk.contents d' ≡ disk.contents d)
+      → (disk.tells d → SameImages (disk.may_leave d) (disk.may_leave d'))
+      → (disk.tells d → Elapses (disk.moment d) (disk.moment d') (disk.left_since d) (disk.left_since d')
+      (disk.may_leave d'))
+      → IsOnlyRead disk d d'
+  only_read_call d d' reads contents images time = record {
+    calls = reads;
+    unwritten = λ told. unwritten_call d d' told (contents told) (images told) (time told);
+  }
+
 module _ {D : Type 0} (disk : DiskOf D) where
   -- one call after another
   pub unwritten_joined : (d mid d' : D) → IsUnwritten disk d mid → IsUnwritten disk mid d' → IsUnwritten disk d d'
@@ -85,6 +100,16 @@ module _ {D : Type 0} (disk : DiskOf D) where
         (λ c image. first.images c image)
         second.any_moment
         );
+  }
+
+module _ {D : Type 0} (disk : DiskOf D)
+    (reads_on : (d mid d' : D) → disk.only_read d mid → disk.only_read mid d' → disk.only_read d d') where
+  -- one run that only reads after another
+  pub only_read_joined : (d mid d' : D) → (disk.tells d → disk.tells mid) → IsOnlyRead disk d mid
+      → IsOnlyRead disk mid d' → IsOnlyRead disk d d'
+  only_read_joined d mid d' told first second = record {
+    calls = reads_on d mid d' first.calls second.calls;
+    unwritten = λ t. unwritten_joined disk d mid d' (first.unwritten t) (second.unwritten (told t));
   }
 
 -- ---- a cut

@@ -5,7 +5,7 @@ use Rattle.lr_bits.specs.declared.refusals.Failed.{Failed}
 use Rattle.lr_disk.specs.Disk.{Elapses, SameImages}
 use Rattle.lr_disk.specs.Reads.{IsCall, OnlyReads}
 use Rattle.lr_disk.specs.declared.disk.Disk.{Ghosts as DiskOf}
-use Rattle.lr_disk.proofs.Moments.{unwritten_call, unwritten_joined, unwritten_yet}
+use Rattle.lr_disk.proofs.Moments.{only_read_call, only_read_joined, only_read_yet}
 
 -- the cause of a run is that of its last call
 pub cause_joined : {T : Type 0} (before mid now : ℕ) (r : Result T Failed) → mid ≡ before → HasCause mid now r
@@ -15,32 +15,33 @@ cause_joined before mid now r same cause = subst (λ (n : ℕ). HasCause n now r
 module _ {D : Type 0} (disk : DiskOf D)
     (only_now : (d : D) (c : List ℕ) → disk.tells d → disk.left_since d (disk.moment d) c → disk.may_leave d c) where
   -- no call
-  pub reads_none : {T : Type 0} (d : D) (answer : T) → OnlyReads disk d d (Ok answer)
-  reads_none d answer = record {
+  pub no_call : {T : Type 0} (d : D) (answer : T) → disk.only_read d d → OnlyReads disk d d (Ok answer)
+  no_call d answer none = record {
     cause = record { later = omega arith; kept = refl; rose = tt };
     told = λ told. told;
     untold = λ told. told;
-    unwritten = λ told. unwritten_yet disk only_now d told;
+    only_read = only_read_yet disk only_now d none;
     kept = λ told c image. image;
   }
 
   -- one call
   pub reads_call : {T : Type 0} (d d' : D) (r : Result T Failed) → HasCause (disk.faults d) (disk.faults d') r
-      → (disk.tells d → disk.tells d') → (disk.tells d' → disk.tells d)
+      → disk.only_read d d' → (disk.tells d → disk.tells d') → (disk.tells d' → disk.tells d)
       → (disk.tells d → disk.contents d' ≡ disk.contents d)
       → (disk.tells d → SameImages (disk.may_leave d) (disk.may_leave d'))
       → (disk.tells d → Elapses (disk.moment d) (disk.moment d') (disk.left_since d) (disk.left_since d')
       (disk.may_leave d'))
       → OnlyReads disk d d' r
-  reads_call d d' r cause told untold contents crash time = record {
+  reads_call d d' r cause reads told untold contents crash time = record {
     cause = cause;
     told = told;
     untold = untold;
-    unwritten = λ t. unwritten_call disk only_now d d' t (contents t) (crash t) (time t);
+    only_read = only_read_call disk only_now d d' reads contents crash time;
     kept = λ t c image. (crash t c).1 image;
   }
 
-module _ {D : Type 0} (disk : DiskOf D) where
+module _ {D : Type 0} (disk : DiskOf D)
+    (reads_on : (d mid d' : D) → disk.only_read d mid → disk.only_read mid d' → disk.only_read d d') where
   -- one run after another
   pub reads_joined : {S T : Type 0} (d mid d' : D) (first : S) (r : Result T Failed)
       → OnlyReads disk d mid (Ok first) → OnlyReads disk mid d' r → OnlyReads disk d d' r
@@ -48,10 +49,11 @@ module _ {D : Type 0} (disk : DiskOf D) where
     cause = cause_joined (disk.faults d) (disk.faults mid) (disk.faults d') r one.cause.kept two.cause;
     told = λ t. two.told (one.told t);
     untold = λ t. one.untold (two.untold t);
-    unwritten = λ t. unwritten_joined disk d mid d' (one.unwritten t) (two.unwritten (one.told t));
+    only_read = only_read_joined disk reads_on d mid d' one.told one.only_read two.only_read;
     kept = λ t c image. two.kept (one.told t) c (one.kept t c image);
   }
 
+module _ {D : Type 0} (disk : DiskOf D) where
   -- the same run with another answer
   pub reads_answer : {S T : Type 0} (d d' : D) (first : S) (other : T) → OnlyReads disk d d' (Ok first)
       → OnlyReads disk d d' (Ok other)
@@ -59,7 +61,7 @@ module _ {D : Type 0} (disk : DiskOf D) where
     cause = record { later = one.cause.later; kept = one.cause.kept; rose = tt };
     told = one.told;
     untold = one.untold;
-    unwritten = one.unwritten;
+    only_read = one.only_read;
     kept = one.kept;
   }
 

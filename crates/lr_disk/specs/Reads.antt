@@ -13,6 +13,11 @@ module _ {D : Type 0} (disk : DiskOf D) where
     pub images : NoOther (disk.may_leave d) (disk.may_leave d')
     pub any_moment : EachImageSince disk d d' (disk.may_leave d)
 
+  -- The disk was only read, whatever it tells; and where it tells its contents, nothing was written.
+  pub record IsOnlyRead (d d' : D) : Type 0 where
+    pub calls : disk.only_read d d'
+    pub unwritten : disk.tells d → IsUnwritten d d'
+
   -- what every call keeps, whatever it answers
   pub record IsCall {T : Type 0} (d d' : D) (result : Result T Failed) : Type 0 where
     pub cause : HasCause (disk.faults d) (disk.faults d') result
@@ -24,5 +29,5 @@ module _ {D : Type 0} (disk : DiskOf D) where
     pub cause : HasCause (disk.faults d) (disk.faults d') result
     pub told : disk.tells d → disk.tells d'
     pub untold : disk.tells d' → disk.tells d
-    pub unwritten : disk.tells d → IsUnwritten d d'
+    pub only_read : IsOnlyRead d d'
     pub kept : disk.tells d → KeepsImages (disk.may_leave d) (disk.may_leave d')

@@ -194,8 +194,10 @@ impl Disk for MemDisk {
       Only,
       Elapses,
     };
+    ghost use Rattle.std.proofs.Common.{refl, ◌∙◌};
     ghost use Rattle.lr_disk.specs.Mem.{leaves_its_contents, counts_this_moment, only_this_moment};
     ghost use Rattle.lr_disk.specs.MemDisk.{
+      HasNoWrite,
       held_by,
       images_by,
       left_since as left_by,
@@ -218,17 +220,27 @@ impl Disk for MemDisk {
 
     ghost left_since = { left_by };
 
+    ghost only_read = { HasNoWrite };
+
     ghost leaves_contents = { λ d _. leaves_its_contents d.past.first.items d.past.log.items d.past.calls.items
         d.past.bytes.items d.past.same };
 
     ghost counts_now = { λ d t c _ le image. counts_this_moment d.past.first.items d.past.log.items
         d.past.calls.items t c le image };
 
+    ghost reads_none = { λ d. record { contents = refl; written = refl } };
+
+    ghost reads_on = { λ d e f first second. record {
+      contents = second.contents ∙ first.contents;
+      written = second.written ∙ first.written;
+    } };
+
     ghost only_now = { λ d c _ left. only_this_moment d.past.first.items d.past.log.items d.past.calls.items c left };
 
     /// It fails exactly where no call is left or it is stated to. This takes no memory, and neither do the other calls.
     fn length(&mut self) -> Result<u64, Failed>
         ensures cause { HasCause (faults_of self.old) (faults_of self.new) result }
+        ensures only_read { HasNoWrite self.old self.new }
         ensures errors { FailsAtOnce (faults_of self.old) (faults_of self.new) result }
         ensures size { IfOk result (λ n. n ≡ length (held_by self.old)) }
         ensures contents { held_by self.new ≡ held_by self.old }
@@ -249,6 +261,7 @@ impl Disk for MemDisk {
     fn read(&mut self, at: u64, into: &mut [u8]) -> Result<usize, Failed>
         requires { 0 < length into.old }
         ensures cause { HasCause (faults_of self.old) (faults_of self.new) result }
+        ensures only_read { HasNoWrite self.old self.new }
         ensures errors { FailsAtOnce (faults_of self.old) (faults_of self.new) result }
         ensures within { IfOk result (λ n. n ≤ length into.new) }
         ensures count { IfOk result (λ n. n ≡ min (length into.new) (length (held_by self.old) - at)) }
@@ -331,6 +344,7 @@ impl Disk for MemDisk {
     /// It fails exactly where no call is left or it is stated to.
     fn sync(&mut self) -> Result<(), Failed>
         ensures cause { HasCause (faults_of self.old) (faults_of self.new) result }
+        ensures only_read { HasNoWrite self.old self.new }
         ensures errors { FailsAtOnce (faults_of self.old) (faults_of self.new) result }
         ensures durable { OnOk result (Only (held_by self.new) (images_by self.new)) }
         ensures contents { held_by self.new ≡ held_by self.old }

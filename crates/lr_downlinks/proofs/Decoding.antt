@@ -15,7 +15,7 @@ use Rattle.lr_frame.specs.Outcomes.{outcome_in, outcome_of_window, outcomes_of_s
 use Rattle.lr_bits.specs.declared.sizes.TheConstants.{FRAME_SYMBOLS}
 use Rattle.lr_layers.proofs.Pushing.{both_kinds}
 use Rattle.lr_layers.specs.Layers.{numbers_of, CountsView}
-use Rattle.lr_layers.specs.Origins.{placed_of_outcomes, placed_packets}
+use Rattle.lr_layers.specs.Origins.{marked_of_outcomes, placed_of_outcomes, placed_packets}
 use Rattle.lr_layers.specs.Standing.{AddsFiles, KeptLayers, LayersStandFor}
 use Rattle.lr_lock.proofs.Bytes.{length-symbols_of, symbols_of-append}
 use Rattle.lr_lock.specs.Frames.{AreFrames}
@@ -208,7 +208,7 @@ module _ (line : LineCode) (stream : List ℕ) where
   -- nothing was fed yet
   pub decoded_none : (lock : LockState) (layers : KeptLayers) → LockStandsFor lock [] [] → lock.line ≡ line
       → lock.finished ≡ false → LayersStandFor layers [] → IsDecodedSoFar (coded_stream line stream) 0 lock layers []
-  unfolding outcomes_given placed_of_outcomes placed_packets
+  unfolding outcomes_given marked_of_outcomes placed_packets
   decoded_none lock layers stands line_is unfinished layers_stand = record {
     given = [];
     is_fed = record {

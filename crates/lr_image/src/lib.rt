@@ -32,4 +32,4 @@ pub use pieces::{PiecePlace, first_piece, next_piece};
 pub use plain::{missing_pixels, read_pixels};
 pub use reading::image_of;
 pub use room::room_for;
-pub use shape::{MOST_PIXELS, Shape};
+pub use shape::{MOST_PIXELS, Shape, shape_of};

@@ -21,7 +21,7 @@ pub struct Shape {
 }
 
 /// What the header of an image says, or the first fault of a header that isn't one.
-pub(crate) fn shape_of(records: &Records) -> Result<Shape, ImageFault>
+pub fn shape_of(records: &Records) -> Result<Shape, ImageFault>
     ensures value { result ≡ shape_of records.now }
     ensures sound { IfOk result IsShape }
 {

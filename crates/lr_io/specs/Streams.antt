@@ -1,13 +1,17 @@
 -- Readers and writers of std as sources and sinks.
-use Rattle.std.specs.Prelude.{ℕ, Option, List, [], IsSome, unwrap_or}
+use Rattle.std.specs.Prelude.{ℕ, Option, List, [], IsSome, Result, unwrap_or}
+use Rattle.lr_bits.specs.Faults.{FailsAtOnce, OneMore}
 use Rattle.lr_io.specs.declared.readers.StdReader.{StdReader}
 use Rattle.lr_io.specs.declared.sink.WriteSink.{WriteSink}
 use Rattle.lr_io.specs.declared.source.ReadSource.{ReadSource}
 use Rattle.lr_io.specs.declared.writers.StdWriter.{StdWriter}
 
--- the reader of std, and how many errors it gave
+-- the reader of std, how many reads it was asked for, and how many errors it gave
 abbrev pub std_reader_in : {T : Type 0} → StdReader T → T
 std_reader_in r = r.reader
+
+abbrev pub calls_read : {T : Type 0} → StdReader T → ℕ
+calls_read r = r.calls
 
 abbrev pub errors_read : {T : Type 0} → StdReader T → ℕ
 errors_read r = r.errors
@@ -25,6 +29,12 @@ reader_in s = s.reader
 
 abbrev pub read_faults : {T : Type 0} → ReadSource T → ℕ
 read_faults s = s.faults
+
+-- its reader was asked once, and gave an error where this is the answer
+pub record ReadsOnce {T E : Type 0} (calls errors : T → ℕ) (before : ReadSource T) (answer : Result ℕ E)
+    (now : ReadSource T) : Type 0 where
+  pub once : OneMore (calls before.reader) (calls now.reader)
+  pub failed : FailsAtOnce (errors before.reader) (errors now.reader) answer
 
 -- each reader of a type tells the bytes that it has left
 abbrev pub AllTell : {T : Type 0} → (T → Option (List ℕ)) → Type 0

@@ -10,6 +10,10 @@
 //! `ReadSource` and `WriteSink` stand on a `Reader` and a `Writer`, which count the errors that they gave. A call that
 //! succeeds met none of these, and one that fails met exactly one. `StdReader` and `StdWriter` make such ones of a
 //! reader and a writer of std.
+//!
+//! What a source says of one call, `asked`, is so of some of its states alone: of a `MemSource` those between which no
+//! stated place lies (`MayAnswer` of `specs/MemSource`), of a `ReadSource` those whose readers' counts of calls are one
+//! apart (`ReadsOnce` of `specs/Streams`). So a contract that speaks of the calls on any source says something of them.
 #![tactic(auto)]
 
 mod places;

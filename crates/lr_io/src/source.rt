@@ -37,8 +37,9 @@ pub trait Source {
         ensures asked { asked self.old result self.new };
 }
 
-/// A reader as a source. It tells what is left where each reader of its type does, and counts each `Err`. No error of
-/// the reader is passed over, and nothing is tried again after one. Nothing is known of `into` where the reader fails.
+/// A reader as a source. It tells what is left where each reader of its type does, and counts each `Err`. Each call
+/// asks the reader once: no error is passed over, and nothing is tried again after one. Nothing is known of `into`
+/// where the reader fails.
 #[derive(Drop)]
 pub struct ReadSource<T: Reader> {
     reader: T,
@@ -68,13 +69,15 @@ impl<T: Reader> ReadSource<T> {
 impl<T: Reader> Source for ReadSource<T> {
     ghost use Rattle.std.specs.Prelude.{◌≡◌, ◌↔◌, ◌≤◌, ◌<◌, ◌++◌, length, take, IfOk, OnErr};
     ghost use Rattle.lr_bits.specs.Faults.{HasCause, FailsAtOnce};
-    ghost use Rattle.lr_io.specs.Streams.{AllTell, left_in, read_faults, reader_in};
+    ghost use Rattle.lr_io.specs.Streams.{AllTell, ReadsOnce, left_in, read_faults, reader_in};
 
     ghost faults = { λ s. s.faults };
 
     ghost tells = { λ _. AllTell T.remaining };
 
     ghost left = { left_in T.remaining };
+
+    ghost asked = { ReadsOnce T.calls T.errors };
 
     fn take(&mut self, into: &mut [u8]) -> Result<usize, Failed>
         requires { 0 < length into.old }
@@ -86,6 +89,7 @@ impl<T: Reader> Source for ReadSource<T> {
         ensures failed { AllTell T.remaining
             → OnErr result (left_in T.remaining self.new ≡ left_in T.remaining self.old) }
         ensures errors { FailsAtOnce (T.errors (reader_in self.old)) (T.errors (reader_in self.new)) result }
+        ensures asked { ReadsOnce T.calls T.errors self.old result self.new }
     {
         match self.reader.read(into) {
             Ok(count) => Ok(count),
@@ -156,13 +160,15 @@ impl Source for MemSource {
     ghost use Rattle.lr_bits.specs.Faults.{HasCause};
     ghost use Rattle.lr_io.specs.Places.{MovesMost};
     ghost use Rattle.lr_io.specs.MemSource.{bytes_moved, left_of, cut_places, faults_of, failing_places};
-    ghost use Rattle.lr_io.specs.MemSource.{stopping_places};
+    ghost use Rattle.lr_io.specs.MemSource.{stopping_places, MayAnswer};
 
     ghost faults = { λ s. s.faults };
 
     ghost tells = { λ _. Unit {0} };
 
     ghost left = { left_of };
+
+    ghost asked = { MayAnswer };
 
     /// It fails exactly at a stated place that hasn't failed yet. Else it moves all that is wanted or left, or as many
     /// bytes as stand before the next such place or cut. It takes no memory.
@@ -183,6 +189,7 @@ impl Source for MemSource {
         ensures most { IfOk result (MovesMost (stopping_places self.old) (bytes_moved self.old)
             (min (length into.new) (length (left_of self.old)))) }
         ensures untouched { OnErr result (into.new ≡ into.old) }
+        ensures asked { MayAnswer self.old result self.new }
     {
         let place = self.at as u64;
         if self.failing.contains(&place) {

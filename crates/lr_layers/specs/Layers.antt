@@ -11,6 +11,7 @@ use Rattle.lr_vc.specs.Frame.{Fields, frame_of, fields_of, version_of}
 use Rattle.lr_vc.specs.Packets.{packets_of}
 use Rattle.lr_packet.specs.Verdict.{Good, good_packets}
 use Rattle.lr_file.specs.Files.{files_of_packets}
+use Rattle.lr_mend.specs.MendedFiles.{mended_files}
 
 -- the frame of version 1 that a block was restored to, if it was
 abbrev pub frame_in : Outcome → Option Fields
@@ -48,12 +49,17 @@ pub record CountsView : Type 0 where
   pub packets : ℕ
   pub files : ℕ
 
-abbrev pub numbers_of : List Outcome → CountsView
-numbers_of outcomes = record {
+-- where an image may have so many fillers
+abbrev pub mended_numbers_of : ℕ → List Outcome → CountsView
+mended_numbers_of mend outcomes = record {
   restored = count_by is_restored outcomes;
   lost = count_by (λ o. not (is_restored o)) outcomes;
   bad_versions = count_by is_bad_version outcomes;
   fill = count_by is_fill outcomes;
   packets = length (good_of_outcomes outcomes);
-  files = length (files_of_outcomes outcomes);
+  files = length (mended_files mend (good_of_outcomes outcomes));
 }
+
+-- where none is mended
+abbrev pub numbers_of : List Outcome → CountsView
+numbers_of outcomes = mended_numbers_of 0 outcomes

@@ -1,14 +1,15 @@
 -- The mission files in a list of outcomes, each with its origin: where in the list its packets end, and how many bytes
 -- were changed there. Places count the outcomes from 0.
 use Rattle.std.specs.Prelude.{ℕ, ◌+◌, ◌-◌, ◌==◌, ◌&&◌, List, [], ◌∷◌, ◌++◌, length, take, drop, map, filter, sum}
-use Rattle.std.specs.Prelude.{sum_by, slice_index}
+use Rattle.std.specs.Prelude.{sum_by, ◌||◌, Bool, Option, Some, None, unwrap_or, if◌then◌else◌}
 use Rattle.std.specs.Option.{option_to_list}
 use Rattle.lr_bits.specs.declared.outcome.Outcome.{Outcome}
 use Rattle.lr_bits.specs.declared.outcome.Outcome.TheVariants.{Restored, Lost}
 use Rattle.lr_bits.specs.declared.placed.Placed.{Placed}
-use Rattle.lr_bits.specs.File.{File}
 use Rattle.lr_packet.specs.Verdict.{Good}
-use Rattle.lr_file.specs.Files.{file_at}
+use Rattle.lr_bits.specs.declared.placed.Origin.{Origin}
+use Rattle.lr_mend.specs.declared.marks.MarkedFile.{MarkedFile}
+use Rattle.lr_mend.specs.MendedFiles.{file_of_packet, files_of_gap}
 use Rattle.lr_layers.specs.Layers.{good_of_outcomes}
 
 -- a good packet, and the place of the outcome in which it ends
@@ -49,29 +50,67 @@ corrected_between outcomes first last = sum_by corrected_in (take (last + 1 - fi
 abbrev pub placed_of_key : ℕ → ℕ → List PlacedPacket → List PlacedPacket
 placed_of_key vc apid placed = filter (λ p. (p.packet.vc == vc) && (p.packet.apid == apid)) placed
 
--- where the first packet of a file ends: the packets of the file are the last of these of its channel and application,
--- as many as it has bodies
-abbrev pub first_place : List PlacedPacket → File → ℕ
-first_place placed file =
-    let places = map (λ p. p.place) (placed_of_key file.vc file.apid placed) in
-    slice_index places (length places - length file.bodies)
+-- a packet begins a file: it is the first of several, or all of it
+abbrev pub begins : Good → Bool
+begins packet = packet.flags == 1 || packet.flags == 3
 
--- the file that ends with a packet, where these came before it
-abbrev pub placed_file : List Outcome → List PlacedPacket → PlacedPacket → File → Placed
-placed_file outcomes before last file =
-    let first = first_place (before ++ last ∷ []) file in
-    record {
-      file = file;
-      origin = record { first = first; last = last.place; corrected = corrected_between outcomes first last.place };
-    }
+-- the later one of two, if there is one
+abbrev pub later_of : Option PlacedPacket → Option PlacedPacket → Option PlacedPacket
+later_of first None = first
+later_of first (Some later) = Some later
 
--- for each packet in turn the file that ends with it, where others came before
-abbrev pub placed_files_after : List Outcome → List PlacedPacket → List PlacedPacket → List Placed
-placed_files_after outcomes before [] = []
-placed_files_after outcomes before (last ∷ packets) =
-    map (placed_file outcomes before last) (option_to_list (file_at (map packet_of before) last.packet))
-    ++ placed_files_after outcomes (before ++ last ∷ []) packets
+-- the latest of these packets that begins a file
+abbrev pub latest_start : List PlacedPacket → Option PlacedPacket
+latest_start [] = None
+latest_start (p ∷ ps) = later_of (if begins p.packet then Some p else None) (latest_start ps)
 
--- all files, in the order of their last packets
-unfoldable pub placed_of_outcomes : List Outcome → List Placed
-placed_of_outcomes outcomes = placed_files_after outcomes [] (placed_packets outcomes)
+-- The origin of a file whose end is found with a packet: from where the latest of these packets of its channel and
+-- application ended that begins a file, or from there where none does.
+abbrev pub origin_of : List Outcome → List PlacedPacket → PlacedPacket → Origin
+origin_of outcomes placed last =
+    let first = (unwrap_or (latest_start (placed_of_key last.packet.vc last.packet.apid placed)) last).place in
+    record { first = first; last = last.place; corrected = corrected_between outcomes first last.place }
+
+-- a file of mended packets with its origin, and how many fillers it has
+pub record MarkedPlaced : Type 0 where
+  pub placed : Placed
+  pub fillers : ℕ
+
+abbrev pub placed_in : MarkedPlaced → Placed
+placed_in marked = marked.placed
+
+abbrev pub fillers_in : MarkedPlaced → ℕ
+fillers_in marked = marked.fillers
+
+abbrev pub with_origin : Origin → MarkedFile → MarkedPlaced
+with_origin origin marked =
+    record { placed = record { file = marked.file; origin = origin }; fillers = marked.fillers }
+
+-- the files that end with the fillers before a packet, and with the packet, where these came before it
+abbrev pub placed_files_with : ℕ → List Outcome → List PlacedPacket → PlacedPacket → List MarkedPlaced
+placed_files_with mend outcomes before last =
+    map (with_origin (origin_of outcomes before last)) (files_of_gap mend (map packet_of before) last.packet)
+    ++ map (with_origin (origin_of outcomes (before ++ last ∷ []) last))
+    (option_to_list (file_of_packet mend (map packet_of before) last.packet))
+
+-- for each packet in turn the files that end with it, where others came before
+abbrev pub placed_files_after : ℕ → List Outcome → List PlacedPacket → List PlacedPacket → List MarkedPlaced
+placed_files_after mend outcomes before [] = []
+placed_files_after mend outcomes before (last ∷ packets) =
+    placed_files_with mend outcomes before last ++ placed_files_after mend outcomes (before ++ last ∷ []) packets
+
+-- all files, in the order of their last packets, where an image may have so many fillers
+unfoldable pub marked_of_outcomes : ℕ → List Outcome → List MarkedPlaced
+marked_of_outcomes mend outcomes = placed_files_after mend outcomes [] (placed_packets outcomes)
+
+-- the same without their numbers of fillers
+abbrev pub mended_of_outcomes : ℕ → List Outcome → List Placed
+mended_of_outcomes mend outcomes = map placed_in (marked_of_outcomes mend outcomes)
+
+-- how many fillers each of them has
+abbrev pub fillers_of_outcomes : ℕ → List Outcome → List ℕ
+fillers_of_outcomes mend outcomes = map fillers_in (marked_of_outcomes mend outcomes)
+
+-- all files, where none is mended
+abbrev pub placed_of_outcomes : List Outcome → List Placed
+placed_of_outcomes outcomes = mended_of_outcomes 0 outcomes

@@ -1,31 +1,19 @@
 -- What is kept of the packets that begin files, and what packets that are pushed one after another add. The contracts
 -- of the private functions cite these words.
-use Rattle.std.specs.Prelude.{◌≡◌, ℕ, ◌==◌, ◌||◌, ◌+◌, Bool, if◌then◌else◌, Option, Some, None, List, []}
-use Rattle.std.specs.Prelude.{◌∷◌, ◌++◌, map, sum_by, take}
+use Rattle.std.specs.Prelude.{◌≡◌, ℕ, ◌+◌, Bool, if◌then◌else◌, Some, List, []}
+use Rattle.std.specs.Prelude.{◌++◌, map, sum_by, take}
 use Rattle.std.specs.Option.{option_map}
 use Rattle.lr_bits.specs.declared.outcome.Outcome.{Outcome}
 use Rattle.lr_bits.specs.declared.placed.Placed.{Placed}
 use Rattle.lr_packet.specs.Verdict.{Good}
-use Rattle.lr_file.specs.Standing.{FilesStandFor, AreAscending, kept_of_key}
+use Rattle.lr_file.specs.Standing.{AreAscending, kept_of_key}
+use Rattle.lr_mend.specs.MendedFiles.{MendedStandFor}
 use Rattle.lr_file.specs.Steps.{SetsKey}
 use Rattle.lr_layers.specs.declared.starts.Start.{Start}
 use Rattle.lr_layers.specs.declared.starts.Now.{Now}
 use Rattle.lr_layers.specs.declared.packets.Joiner.{Joiner}
 use Rattle.lr_layers.specs.Origins.{PlacedPacket, packet_of, at_place, placed_of_key, placed_files_after, corrected_in}
-
--- a packet begins a file: it is the first of several, or all of it
-abbrev pub begins : Good → Bool
-begins packet = packet.flags == 1 || packet.flags == 3
-
--- the later one of two, if there is one
-abbrev pub later_of : Option PlacedPacket → Option PlacedPacket → Option PlacedPacket
-later_of first None = first
-later_of first (Some later) = Some later
-
--- the latest of these packets that begins a file
-abbrev pub latest_start : List PlacedPacket → Option PlacedPacket
-latest_start [] = None
-latest_start (p ∷ ps) = later_of (if begins p.packet then Some p else None) (latest_start ps)
+use Rattle.lr_layers.specs.Origins.{MarkedPlaced, begins, fillers_in, latest_start, placed_in}
 
 -- how many bytes were changed in the first outcomes
 unfoldable pub corrected_before : List Outcome → ℕ → ℕ
@@ -54,19 +42,35 @@ pub record IsNow (outcomes : List Outcome) (now : Now) : Type 0 where
 
 -- the open files and their starts are those of these packets, which end in some of the outcomes
 pub record JoinerStandsFor (joiner : Joiner) (outcomes : List Outcome) (packets : List PlacedPacket) : Type 0 where
-  pub files : FilesStandFor joiner.files (map packet_of packets)
+  pub files : MendedStandFor joiner.files (map packet_of packets)
   pub starts : StartsStandFor outcomes joiner.starts packets
 
--- the outcome at hand is the one at `place`, and these packets came before
+-- an image may have `mend` fillers, which are counted or not, the outcome at hand is the one at `place`, and these
+-- packets came before
 pub record AtHand : Type 0 where
+  pub mend : ℕ
+  pub counted : Bool
   pub outcomes : List Outcome
   pub place : ℕ
   pub before : List PlacedPacket
 
+-- the files that were found, and how many fillers each of them has, where that is counted
+pub record Found : Type 0 where
+  pub files : List Placed
+  pub fillers : List ℕ
+
+abbrev pub found : List Placed → List ℕ → Found
+found files fillers = record { files = files; fillers = fillers }
+
+-- with these more
+abbrev pub found_and : Bool → Found → List MarkedPlaced → Found
+found_and counted old more =
+    found (old.files ++ map placed_in more) (old.fillers ++ (if counted then map fillers_in more else []))
+
 -- good packets that end in the outcome at hand were joined, and the files that end with them appended, with their
 -- origins
-pub record Joins (at : AtHand) (good : List Good) (joiner : Joiner) (old new : List Placed) : Type 0 where
+pub record Joins (at : AtHand) (good : List Good) (joiner : Joiner) (old new : Found) : Type 0 where
   pub stands : JoinerStandsFor joiner at.outcomes (at.before ++ at_place at.place good)
-  pub more : List Placed
-  pub added : new ≡ old ++ more
-  pub all : placed_files_after at.outcomes at.before (at_place at.place good) ≡ more
+  pub more : List MarkedPlaced
+  pub added : new ≡ found_and at.counted old more
+  pub all : placed_files_after at.mend at.outcomes at.before (at_place at.place good) ≡ more

@@ -1,6 +1,6 @@
 //! A restored frame, and the packets that end in it.
 
-ghost use Rattle.std.specs.Prelude.{◌≡◌, ◌≤◌, ◌<◌, ◌+◌, ◌^◌, List, IfOk, IsOk, length, false};
+ghost use Rattle.std.specs.Prelude.{◌≡◌, ◌≤◌, ◌<◌, ◌+◌, ◌*◌, ◌^◌, List, IfOk, IsOk, length, false};
 ghost use Rattle.std.specs.Option.{option_map};
 ghost use Rattle.std.specs.Result.{result_ok};
 ghost use Rattle.lr_vc.specs.Frame.{Fields, frame_of};
@@ -9,7 +9,7 @@ ghost use Rattle.lr_vc.specs.Reading.{fields};
 ghost use Rattle.lr_vc.specs.Standing.{ChannelsStandFor};
 ghost use Rattle.lr_layers.specs.Standing.{numbers};
 ghost use Rattle.lr_layers.specs.Origins.{PlacedPacket};
-ghost use Rattle.lr_layers.specs.Starts.{IsNow, JoinerStandsFor};
+ghost use Rattle.lr_layers.specs.Starts.{IsNow, JoinerStandsFor, found};
 ghost use Rattle.lr_layers.specs.Steps.{CountsFrame, KeepsFilesBefore, AddsFrame};
 
 use crate::counts::{AddedCounts, Counts};
@@ -54,24 +54,48 @@ pub(crate) fn push_frame(
     frame: &TransferFrame,
     now: Now,
     layers: &mut FrameLayers,
+    counted: bool,
     out: &mut Vec<Placed>,
+    fillers: &mut Vec<u16>,
 ) -> Result<AddedCounts, NoMemory>
     ensures takes { (outcomes : List Outcome') (before : List PlacedPacket) (frames : List Fields)
         → ChannelsStandFor layers.old.channels frames → JoinerStandsFor layers.old.joiner outcomes before
         → IsNow outcomes now
-        → IfOk result (λ gained. AddsFrame (record { outcomes = outcomes; place = now.start.place; before = before })
+        → IfOk result (λ gained. AddsFrame (record {
+          mend = layers.old.joiner.files.images.most;
+          counted = counted;
+          outcomes = outcomes;
+          place = now.start.place;
+          before = before;
+        })
         frames (fields frame.now) layers.new
-        (record { old = out.old.items; new = out.new.items; counts = gained })) }
+        (record {
+          old = found out.old.items fillers.old.items;
+          new = found out.new.items fillers.new.items;
+          counts = gained;
+        })) }
+    ensures mend { layers.new.joiner.files.images.most ≡ layers.old.joiner.files.images.most }
     ensures fill { layers.old.channels.spent ≡ false → frame.now.vc ≡ FILL_CHANNEL → IsOk result }
     ensures few { IfOk result (λ gained. gained.packets ≤ MOST_ENDING_PACKETS) }
-    ensures few_new { IfOk result (λ _. length out.new.items ≤ length out.old.items + MOST_ENDING_PACKETS) }
-    ensures few_files { IfOk result (λ gained. gained.files ≤ gained.packets) }
-    ensures kept { KeepsFilesBefore out.old.items out.new.items }
+    ensures few_new { IfOk result (λ _. length out.new.items ≤ length out.old.items + 2 * MOST_ENDING_PACKETS) }
+    ensures few_files { IfOk result (λ gained. gained.files ≤ 2 * gained.packets) }
+    ensures plain_new { layers.old.joiner.files.images.most ≡ 0
+        → IfOk result (λ _. length out.new.items ≤ length out.old.items + MOST_ENDING_PACKETS) }
+    ensures plain_files { layers.old.joiner.files.images.most ≡ 0
+        → IfOk result (λ gained. gained.files ≤ gained.packets) }
+    ensures kept { KeepsFilesBefore (found out.old.items fillers.old.items) (found out.new.items fillers.new.items) }
 {
     layers.packets.clear();
     layers.channels.push(frame, &mut layers.packets)?;
     let before = out.as_slice().len();
-    let good = push_packets(&layers.packets, now, &mut layers.joiner, out)?;
+    let good = push_packets(
+        &layers.packets,
+        now,
+        &mut layers.joiner,
+        counted,
+        out,
+        fillers,
+    )?;
     Ok(AddedCounts {
         packets: good,
         files: (out.as_slice().len() - before) as u64,

@@ -1,27 +1,32 @@
 //! From outcomes to files.
 
-ghost use Rattle.std.specs.Prelude.{◌≡◌, ◌+◌, ◌^◌, ◌<◌, ◌≤◌, ◌++◌, ◌∷◌, [], List, OnOk, OnErr, IsOk, IsErr, length};
+ghost use Rattle.std.specs.Prelude.{◌≡◌, ◌+◌, ◌*◌, ◌^◌, ◌<◌, ◌≤◌, ◌++◌, ◌∷◌, [], ℕ, List, OnOk, OnErr, IsOk, IsErr};
+ghost use Rattle.std.specs.Prelude.{length};
 ghost use Rattle.std.specs.Prelude.{IsTrue, None, false, sum};
 ghost use Rattle.lr_bits.specs.declared.outcome.Outcome.{Outcome as Outcome'};
 ghost use Rattle.lr_layers.specs.Layers.{frame_in, is_fill};
-ghost use Rattle.lr_layers.specs.Standing.{LayersStandFor, AreLayersSpent, AddsFiles, AreFew, numbers};
+ghost use Rattle.lr_mend.specs.declared.mender.TheConstants.{MOST_FILLERS};
+ghost use Rattle.lr_layers.specs.Standing.{AddsFound, AddsMarked, AddsMended, AreFew, AreLayersSpent, LayersStandFor};
+ghost use Rattle.lr_layers.specs.Standing.{MendingLayersStandFor, numbers};
+ghost use Rattle.lr_layers.specs.Starts.{found};
 
 use crate::counts::Counts;
 use crate::frames::{FrameLayers, push_frame, read_frame};
 use crate::packets::Joiner;
 use crate::starts::{Now, Start, Starts};
 use lr_bits::{BLOCK_BYTES, Corrected, NoMemory, Outcome, Placed};
-use lr_file::Files;
+use lr_mend::MendedFiles;
 use lr_vc::{Channels, MOST_ENDING_PACKETS};
 use std::alloc::Global;
 use std::marker::Model;
 
 /// The mission files of outcomes, which are pushed one after another.
 ///
-/// It keeps what `Channels` and `Files` keep, and its counts. After `NoMemory` it is spent, and every later call
+/// It keeps what `Channels` and `MendedFiles` keep, and its counts. After `NoMemory` it is spent, and every later call
 /// answers `NoMemory`.
 #[derive(Drop)]
 pub struct Layers {
+    alloc: Global,
     frames: FrameLayers,
     /// How many bytes were changed in all outcomes so far.
     corrected: u64,
@@ -45,7 +50,8 @@ impl Model for Layers {
       numbers = numbers l.counts;
     } };
 
-    ghost invariant = { λ l. AreFew (numbers l.counts) × (l.corrected ≤ BLOCK_BYTES * (numbers l.counts).restored) };
+    ghost invariant = { λ l. AreFew l.frames.joiner.files.images.most (numbers l.counts)
+        × (l.corrected ≤ BLOCK_BYTES * (numbers l.counts).restored) };
 }
 
 /// How many bytes were changed in the four words of a block.
@@ -58,15 +64,24 @@ fn changed_bytes(corrected: &Corrected) -> u64
 }
 
 impl Layers {
-    /// No outcomes yet. This takes no memory.
+    /// No outcomes yet, and no packets are mended. This takes no memory.
     pub fn new(alloc: Global) -> Self
         ensures { LayersStandFor result [] }
     {
+        Layers::mending(alloc, 0)
+    }
+
+    /// No outcomes yet, and images that may have so many fillers; with 0 no packets are mended. This takes no memory.
+    pub fn mending(alloc: Global, most: u16) -> Self
+        requires { most ≤ MOST_FILLERS }
+        ensures { MendingLayersStandFor most result [] }
+    {
         let joiner = Joiner {
-            files: Files::new(alloc),
+            files: MendedFiles::new(alloc, most),
             starts: Starts::new(alloc),
         };
         Layers {
+            alloc,
             frames: FrameLayers {
                 channels: Channels::new(alloc),
                 packets: Vec::new(alloc),
@@ -107,35 +122,33 @@ impl Layers {
     /// outcome that was taken.
     pub fn counts(&self) -> Counts
         ensures value { numbers result ≡ self.now.numbers }
-        ensures few { AreFew (numbers result) }
+        ensures few { AreFew self.now.files.images.most (numbers result) }
     {
         self.counts
     }
 
-    /// Appends the files that end with this outcome, the next one of those for which the object stands. Fewer than 2^48
-    /// outcomes were pushed before. Each file comes with its origin: the places of the outcomes in which its first
-    /// packet and its last one end, and the changed bytes of all restored outcomes from the first of them to the last.
-    ///
-    /// `NoMemory`: memory was wanting in this call or in an earlier one. The files are as they were.
-    pub fn push_outcome(
+    /// Appends the files that end with this outcome, and how many fillers each has, if that is counted.
+    fn take(
         &mut self,
         outcome: &Outcome,
+        counted: bool,
         files: &mut Vec<Placed>,
+        fillers: &mut Vec<u16>,
     ) -> Result<(), NoMemory>
         requires { self.old.numbers.restored + self.old.numbers.lost < 2 ^ 48 }
-        ensures stands { (outcomes : List Outcome') → LayersStandFor self.old outcomes →
-            OnOk result (LayersStandFor self.new (outcomes ++ outcome.now ∷ [])) }
-        ensures files { (outcomes : List Outcome') → LayersStandFor self.old outcomes →
-            OnOk result (AddsFiles outcomes outcome.now files.old.items files.new.items) }
-        // A frame ends at most 885 packets.
-        ensures few { OnOk result (length files.new.items ≤ length files.old.items + MOST_ENDING_PACKETS) }
-
-        // A lost block, and a frame of another version, take no memory; nor does one of fill.
+        ensures stands { (mend : ℕ) (outcomes : List Outcome') → MendingLayersStandFor mend self.old outcomes →
+            OnOk result (MendingLayersStandFor mend self.new (outcomes ++ outcome.now ∷ [])) }
+        ensures files { (mend : ℕ) (outcomes : List Outcome') → MendingLayersStandFor mend self.old outcomes →
+            OnOk result (AddsFound mend counted outcomes outcome.now
+            (found files.old.items fillers.old.items) (found files.new.items fillers.new.items)) }
+        ensures few { OnOk result (length files.new.items ≤ length files.old.items + 2 * MOST_ENDING_PACKETS) }
+        ensures few_plain { self.old.files.images.most ≡ 0
+            → OnOk result (length files.new.items ≤ length files.old.items + MOST_ENDING_PACKETS) }
         ensures succeeds { self.old.spent ≡ false → frame_in outcome.now ≡ None → IsOk result }
-        ensures fill { (outcomes : List Outcome') → LayersStandFor self.old outcomes → IsTrue (is_fill outcome.now)
-            → IsOk result }
-
+        ensures fill { (mend : ℕ) (outcomes : List Outcome') → MendingLayersStandFor mend self.old outcomes
+            → IsTrue (is_fill outcome.now) → IsOk result }
         ensures refused { OnErr result (files.new.items ≡ files.old.items) }
+        ensures refused_fillers { OnErr result (fillers.new.items ≡ fillers.old.items) }
         ensures counts_stay { OnErr result (self.new.numbers ≡ self.old.numbers) }
         ensures spends { OnErr result (AreLayersSpent self.new) }
         ensures stays_spent { AreLayersSpent self.old → IsErr result × AreLayersSpent self.new }
@@ -160,7 +173,8 @@ impl Layers {
             return Ok(());
         };
         let before = files.len();
-        match push_frame(&frame, now, &mut self.frames, files) {
+        let fillers_before = fillers.len();
+        match push_frame(&frame, now, &mut self.frames, counted, files, fillers) {
             Ok(gained) => {
                 counts.packets += gained.packets;
                 counts.files += gained.files;
@@ -171,8 +185,77 @@ impl Layers {
             Err(NoMemory) => {
                 self.spent = true;
                 files.truncate(before);
+                fillers.truncate(fillers_before);
                 Err(NoMemory)
             }
         }
+    }
+
+    /// Appends the files that end with this outcome, the next one of those for which the object stands. Fewer than 2^48
+    /// outcomes were pushed before. Each file comes with its origin: the places of the outcomes in which its first
+    /// packet and its last one end, and the changed bytes of all restored outcomes from the first of them to the last.
+    ///
+    /// `NoMemory`: memory was wanting in this call or in an earlier one. The files are as they were.
+    pub fn push_outcome(
+        &mut self,
+        outcome: &Outcome,
+        files: &mut Vec<Placed>,
+    ) -> Result<(), NoMemory>
+        requires { self.old.numbers.restored + self.old.numbers.lost < 2 ^ 48 }
+        ensures stands { (mend : ℕ) (outcomes : List Outcome') → MendingLayersStandFor mend self.old outcomes →
+            OnOk result (MendingLayersStandFor mend self.new (outcomes ++ outcome.now ∷ [])) }
+        ensures files { (mend : ℕ) (outcomes : List Outcome') → MendingLayersStandFor mend self.old outcomes →
+            OnOk result (AddsMended mend outcomes outcome.now files.old.items files.new.items) }
+
+        // A frame ends at most 885 packets, and each of them one file, or with the fillers before it two.
+        ensures few { OnOk result (length files.new.items ≤ length files.old.items + 2 * MOST_ENDING_PACKETS) }
+        ensures few_plain { self.old.files.images.most ≡ 0
+            → OnOk result (length files.new.items ≤ length files.old.items + MOST_ENDING_PACKETS) }
+
+        // A lost block, and a frame of another version, take no memory; nor does one of fill.
+        ensures succeeds { self.old.spent ≡ false → frame_in outcome.now ≡ None → IsOk result }
+        ensures fill { (mend : ℕ) (outcomes : List Outcome') → MendingLayersStandFor mend self.old outcomes
+            → IsTrue (is_fill outcome.now) → IsOk result }
+
+        ensures refused { OnErr result (files.new.items ≡ files.old.items) }
+        ensures counts_stay { OnErr result (self.new.numbers ≡ self.old.numbers) }
+        ensures spends { OnErr result (AreLayersSpent self.new) }
+        ensures stays_spent { AreLayersSpent self.old → IsErr result × AreLayersSpent self.new }
+    {
+        let mut uncounted = Vec::new(self.alloc);
+        self.take(outcome, false, files, &mut uncounted)
+    }
+
+    /// The same, and for each file that is appended its number of fillers, which is 0 for one that came whole.
+    ///
+    /// `NoMemory`: memory was wanting in this call or in an earlier one. Files and numbers are as they were.
+    pub fn push_mended(
+        &mut self,
+        outcome: &Outcome,
+        files: &mut Vec<Placed>,
+        fillers: &mut Vec<u16>,
+    ) -> Result<(), NoMemory>
+        requires { self.old.numbers.restored + self.old.numbers.lost < 2 ^ 48 }
+        ensures stands { (mend : ℕ) (outcomes : List Outcome') → MendingLayersStandFor mend self.old outcomes →
+            OnOk result (MendingLayersStandFor mend self.new (outcomes ++ outcome.now ∷ [])) }
+        ensures files { (mend : ℕ) (outcomes : List Outcome') → MendingLayersStandFor mend self.old outcomes →
+            OnOk result (AddsMarked mend outcomes outcome.now
+            (found files.old.items fillers.old.items) (found files.new.items fillers.new.items)) }
+        ensures few { OnOk result (length files.new.items ≤ length files.old.items + 2 * MOST_ENDING_PACKETS) }
+        ensures few_plain { self.old.files.images.most ≡ 0
+            → OnOk result (length files.new.items ≤ length files.old.items + MOST_ENDING_PACKETS) }
+
+        // A lost block, and a frame of another version, take no memory; nor does one of fill.
+        ensures succeeds { self.old.spent ≡ false → frame_in outcome.now ≡ None → IsOk result }
+        ensures fill { (mend : ℕ) (outcomes : List Outcome') → MendingLayersStandFor mend self.old outcomes
+            → IsTrue (is_fill outcome.now) → IsOk result }
+
+        ensures refused { OnErr result (files.new.items ≡ files.old.items) }
+        ensures refused_fillers { OnErr result (fillers.new.items ≡ fillers.old.items) }
+        ensures counts_stay { OnErr result (self.new.numbers ≡ self.old.numbers) }
+        ensures spends { OnErr result (AreLayersSpent self.new) }
+        ensures stays_spent { AreLayersSpent self.old → IsErr result × AreLayersSpent self.new }
+    {
+        self.take(outcome, true, files, fillers)
     }
 }

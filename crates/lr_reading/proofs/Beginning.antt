@@ -28,8 +28,8 @@ fed_begun source line limit now is fresh s = record {
   told = λ t. t;
   untold = λ t. t;
   moved = λ t. refl;
-  asked = inl refl;
-  going_on = λ e. came_none source s;
+  asked = inl (refl, refl);
+  going_on = λ e. (came_none source s, λ short. fresh.short);
   ended = λ e. absurd cc;
 }
 
@@ -71,7 +71,7 @@ may_begin source consumer job_source fresh few ready =
         full = λ none. absurd (omega (arith, none, fresh.some, fresh.all));
       };
       close = tt;
-      in_time = inl refl;
+      in_time = inl (refl, refl);
       taken = λ c none. none;
     }
 

@@ -15,8 +15,8 @@ use Rattle.lr_lock.specs.Symbols.{symbols_of}
 use Rattle.lr_lock.specs.Thresholds.{lock_symbols}
 use Rattle.lr_lock.specs.declared.frame.Frame.{Frame}
 use Rattle.lr_lock.proofs.Bytes.{length-symbols_of}
-use Rattle.lr_reading.specs.Feeding.{EndsWithin, StaysNear}
-use Rattle.lr_reading.specs.Readers.{ahead_with, most_kept}
+use Rattle.lr_reading.specs.Feeding.{most_kept, EndsWithin, StaysNear}
+use Rattle.lr_reading.specs.Readers.{leeway_with}
 use Rattle.lr_reading.specs.WindowSources.{AreClose}
 
 -- ---- the last frame
@@ -153,7 +153,7 @@ gains_close IsUnderWay first given bytes all within under near frame whole ahead
 is_near : (windows spare kept : ℕ) (given : List Frame) (bytes : List ℕ) → spare + length given ≡ windows + kept
     → AreClose (drop kept given) (length bytes) → (spare ≡ 0 → EndsWithin most_kept given bytes)
     → (frame : Frame) (frames : List Frame) → drop kept given ≡ frame ∷ frames
-    → length bytes ≤ place_after_frame frame + ahead_with windows
+    → length bytes < place_after_frame frame + (leeway_with windows).ahead
 is_near windows spare kept given bytes all close full frame frames is =
     let count : 1 + length frames ≡ length given - kept =
     omega (arith, ap (λ (l : List Frame). length l) is, length-drop kept given) in
@@ -201,11 +201,12 @@ of_oldest P kept count given rest frame frames before within is all =
 pub not_ended : (windows spare kept count : ℕ) (given rest : List Frame) (bytes : List ℕ)
     → spare + length given ≡ windows + kept → AreClose (drop kept given) (length bytes)
     → (spare ≡ 0 → EndsWithin most_kept given bytes) → kept < length given → kept < count
-    → All (λ (frame : Frame). place_after_frame frame + ahead_with windows < length bytes)
+    → All (λ (frame : Frame). place_after_frame frame + (leeway_with windows).ahead ≤ length bytes)
     (take count (given ++ rest)) → (frames : List Frame) → drop kept given ≡ frames → ⊥
 not_ended windows spare kept count given rest bytes all close full some before ended [] is =
     omega (arith, some, length-drop kept given, ap (λ (l : List Frame). length l) is)
 not_ended windows spare kept count given rest bytes all close full some before ended (frame ∷ frames) is =
-    let so = of_oldest (λ (f : Frame). place_after_frame f + ahead_with windows < length bytes) kept count given rest
-    frame frames before (omega (arith, some)) is ended in
+    let so = of_oldest
+    (λ (f : Frame). place_after_frame f + (leeway_with windows).ahead ≤ length bytes) kept count given
+    rest frame frames before (omega (arith, some)) is ended in
     omega (arith, so, is_near windows spare kept given bytes all close full frame frames is)

@@ -1,28 +1,33 @@
 -- What comes of the input, piece by piece.
-use Rattle.std.proofs.Common.{◌≡◌, ℕ, ℤ, ◌+◌, ◌*◌, ◌≤◌, ◌<◌, List, [], ◌∷◌, ◌++◌, length, map, ap}
-use Rattle.std.proofs.Common.{◌∙◌, refl, Option, false, None, append_assoc, subst, arith, All}
+use Rattle.std.proofs.Common.{◌≡◌, ℕ, ℤ, ◌+◌, ◌-◌, ◌*◌, ◌/◌, ◌≤◌, ◌<◌, List, [], ◌∷◌, ◌++◌, length, map, take, ap}
+use Rattle.std.proofs.Common.{◌∙◌, refl, sym, Option, Bool, true, false, None, append_assoc, length-append, length-drop}
+use Rattle.std.proofs.Common.{subst, arith, All, ⊎_elim}
+use Rattle.std.specs.List.{range_with_len}
 use Rattle.std.specs.Prelude.{is_none}
+use Rattle.std.proofs.lemmas.Bool.{cases_lt}
+use Rattle.std.proofs.lemmas.List.FromFn.{length-range_with_len}
 use Rattle.std.proofs.lemmas.List.{length-map, map-append}
 use Rattle.lr_bits.specs.declared.outcome.Outcome.{Outcome}
 use Rattle.lr_conv.proofs.Tails.{tail_size}
 use Rattle.lr_conv.specs.Marker.{tail_of}
 use Rattle.lr_conv.specs.declared.line.LineCode.{LineCode}
-use Rattle.lr_lock.specs.Frames.{AreNext, AreFrames}
+use Rattle.lr_lock.specs.Frames.{AreNext, AreFrames, place_after_frame}
 use Rattle.lr_lock.specs.FramesOf.{frames_of}
 use Rattle.lr_lock.specs.Standing.{LockState, LockStandsFor}
 use Rattle.lr_lock.specs.Symbols.{symbols_of}
 use Rattle.lr_lock.specs.declared.frame.Frame.{Frame}
 use Rattle.lr_bits.specs.declared.sizes.TheConstants.{FRAME_SYMBOLS}
 use Rattle.lr_lock.specs.declared.sizes.TheConstants.{WINDOW_END}
-use Rattle.lr_lock.proofs.Bytes.{symbols_of-append}
+use Rattle.lr_lock.proofs.Bytes.{symbols_of-append, length-symbols_of}
 use Rattle.lr_lock.proofs.Existing.{frames_of-are, frames_once, given_are_prefix, prefix_stays}
 use Rattle.lr_frame.specs.Outcomes.{outcome_in, outcomes_of_symbols}
 use Rattle.lr_frame.proofs.Given.{outcomes_stay}
 use Rattle.lr_reading.specs.Arrivals.{arrival_in, arrival_of, arrivals_of_units, arrivals_of}
 use Rattle.lr_reading.specs.Arrivals.{outcomes_of_arrivals}
-use Rattle.lr_reading.specs.Feeding.{arrivals_given, EndsInFrame, HasOneMore, MayAsk}
+use Rattle.lr_reading.specs.Feeding.{arrivals_given, EndsInFrame, HaveGivenAll, MayAsk}
 use Rattle.lr_reading.specs.Inputs.{unit_bytes, outcome_of_unit, outcomes_of_units, outcomes_of_bytes}
-use Rattle.lr_reading.specs.Reading.{units_of}
+use Rattle.lr_reading.specs.Readers.{EndShort, HaveCome}
+use Rattle.lr_reading.specs.Reading.{unit_of, units_of}
 use Rattle.lr_reading.specs.declared.arrival.Arrival.{Arrival}
 use Rattle.lr_forms.specs.declared.forms.Input.{Input}
 use Rattle.lr_forms.specs.declared.forms.Input.TheVariants.{Symbols, Units}
@@ -30,7 +35,7 @@ use Rattle.lr_forms.specs.declared.forms.UnitForm.{UnitForm}
 use Rattle.lr_forms.specs.declared.forms.UnitForm.TheVariants.{Blocks, Frames}
 use Rattle.lr_reading.proofs.Close.{ends_after}
 use Rattle.lr_reading.proofs.Feeding.{same_arrivals}
-use Rattle.lr_reading.proofs.Waiting.{few_in_lock}
+use Rattle.lr_reading.proofs.Waiting.{at_next, few_in_lock, next_begins}
 
 -- ---- their outcomes
 
@@ -129,13 +134,47 @@ arrivals_few line bytes given lock stands line_is =
       omega (arith, few.2, length-map few.0 (arrival_in line symbols)),
     )
 
--- and no more than one, where no whole window is kept
-pub one_more : (line : LineCode) (bytes : List ℕ) (given : List Frame) (lock : LockState)
+-- each whose window has come was given, where no whole window is kept
+none_left : (line : LineCode) (bytes : List ℕ) (given : List Frame) (lock : LockState)
+    → LockStandsFor lock (symbols_of bytes) given → lock.line ≡ line → length lock.kept < WINDOW_END → (count : ℕ)
+    → HaveCome (Symbols line) (WINDOW_END - FRAME_SYMBOLS) bytes count → (rest : List Frame)
+    → frames_of (tail_of line) (symbols_of bytes) ≡ given ++ rest → count ≤ length given
+none_left line bytes given lock stands line_is looked count come [] split =
+    omega (arith, come.0, ap (λ (l : List Frame). length l) split, length-append given [])
+none_left line bytes given lock stands line_is looked count come (frame ∷ more) split = ⊎_elim (λ (few : count
+    < length given). omega (arith, few)) (λ (many : length given ≤ count). ⊎_elim (λ (past : length given < count).
+    let HasCome : Frame → Type 0 =
+    λ (f : Frame). place_after_frame f + (WINDOW_END - FRAME_SYMBOLS) ≤ length bytes in
+    let here : HasCome frame = at_next HasCome given more frame count past
+    (subst (λ (l : List Frame). All HasCome (take count l)) split come.1) in
+    absurd (omega (
+      arith,
+      here,
+      looked,
+      next_begins lock (symbols_of bytes) given more frame stands
+          (subst (λ (l : LineCode). frames_of (tail_of l) (symbols_of bytes) ≡ given ++ frame ∷ more) (sym line_is)
+          split),
+      ap (λ (l : List ℤ). length l) stands.rest,
+      length-drop lock.place (symbols_of bytes),
+      length-symbols_of bytes,
+    ))) (λ (all : count ≤ length given). all) (cases_lt (length given) count)) (cases_lt count (length given))
+
+given_all : (line : LineCode) (bytes : List ℕ) (given : List Frame) (lock : LockState)
     → LockStandsFor lock (symbols_of bytes) given → lock.line ≡ line → length lock.kept < WINDOW_END
-    → HasOneMore line (arrivals_given line bytes given) bytes
-one_more line bytes given lock stands line_is looked =
+    → HaveGivenAll line (arrivals_given line bytes given) bytes
+given_all line bytes given lock stands line_is looked =
     let few = arrivals_few line bytes given lock stands line_is in
-    (few.0, few.1, omega (arith, few.2, looked))
+    let front = given_are_prefix (tail_of line) (symbols_of bytes) given (tail_size line)
+    (subst (λ (l : LineCode). AreNext (tail_of l) (symbols_of bytes) None given) line_is stands.frames) in
+    record {
+      rest = few.0;
+      split = few.1;
+      all = λ count come. omega (
+        arith,
+        none_left line bytes given lock stands line_is looked count come front.0 front.1,
+        arrivals_given-counted line bytes given,
+      );
+    }
 
 -- where the lock doesn't search, it stands right after the last frame
 stands_after : (line : LineCode) (bytes : List ℕ) (given : List Frame) (lock : LockState) (held : Option Frame)
@@ -157,11 +196,16 @@ stands_after line bytes given lock held is some stands line_is looked =
 
 -- so the source may be asked
 pub may_ask : (IsUnderWay : Type 0) (line : LineCode) (bytes : List ℕ) (given : List Frame) (lock : LockState)
+    (short : Bool) (pieces : List (List ℕ))
     → LockStandsFor lock (symbols_of bytes) given → lock.line ≡ line → length lock.kept < WINDOW_END
-    → (IsUnderWay → is_none lock.held ≡ false) → MayAsk line IsUnderWay bytes given bytes
-may_ask IsUnderWay line bytes given lock stands line_is looked calm = (
-  one_more line bytes given lock stands line_is looked,
-  λ under_way. stands_after line bytes given lock lock.held refl (calm under_way) stands line_is looked,
+    → (EndShort pieces → short ≡ true) → (IsUnderWay → (is_none lock.held ≡ false) × (short ≡ false))
+    → MayAsk line IsUnderWay bytes given bytes pieces
+may_ask IsUnderWay line bytes given lock short pieces stands line_is looked said calm = (
+  given_all line bytes given lock stands line_is looked,
+  λ under_way. (
+    stands_after line bytes given lock lock.held refl (calm under_way).0 stands line_is looked,
+    λ ends. let clash : true ≡ false = sym (said ends) ∙ (calm under_way).1 in cc,
+  ),
 )
 
 -- it is the first of what comes of more bytes too, where the windows are there
@@ -199,6 +243,34 @@ arrivals_all line bytes given every =
     (frames_of-are (tail_of line) (symbols_of bytes)) every)
 
 -- ---- whatever the form is
+
+-- no more have come than come of the bytes
+fits_units : (form : UnitForm) (beyond count total : ℕ) → count * unit_bytes form + beyond ≤ total
+    → count ≤ total / unit_bytes form
+fits_units Blocks beyond count total fits = omega (arith, fits)
+fits_units Frames beyond count total fits = omega (arith, fits)
+
+units_counted : (n : ℕ) (bytes : List ℕ) → length (units_of n bytes) ≡ length bytes / n
+unfolding units_of
+units_counted n bytes = length-map (range_with_len 0 (length bytes / n)) (unit_of n bytes)
+    ∙ length-range_with_len 0 (length bytes / n)
+
+pub frames_counted : (line : LineCode) (bytes : List ℕ)
+    → length (arrivals_of (Symbols line) bytes) ≡ length (frames_of (tail_of line) (symbols_of bytes))
+unfolding arrivals_of
+frames_counted line bytes =
+    length-map (frames_of (tail_of line) (symbols_of bytes)) (arrival_in line (symbols_of bytes))
+
+pub come_within : (input : Input) (beyond : ℕ) (bytes : List ℕ) (count : ℕ) → HaveCome input beyond bytes count
+    → count ≤ length (arrivals_of input bytes)
+unfolding arrivals_of
+come_within (Symbols line) beyond bytes count come = omega (arith, come.0, frames_counted line bytes)
+come_within (Units form) beyond bytes count come = omega (
+  arith,
+  fits_units form beyond count (length bytes) come,
+  arrivals_of_units-counted form (units_of (unit_bytes form) bytes),
+  units_counted (unit_bytes form) bytes,
+)
 
 -- there is an outcome for each arrival
 pub outcomes_counted : (input : Input) (bytes : List ℕ)

@@ -24,12 +24,13 @@ use Rattle.lr_reading.specs.declared.arrival.Arrival.{Arrival}
 use Rattle.lr_reading.specs.Arrivals.{arrival_in}
 use Rattle.lr_forms.specs.declared.forms.Stop.{Stop}
 use Rattle.lr_forms.specs.declared.forms.Stop.TheVariants.{End, Limit, Fault}
+use Rattle.lr_reading.specs.Readers.{EndShort}
 use Rattle.lr_reading.specs.Reading.{CameInPieces, EndsFor, AtSource, StopsAsking, at_source, within}
-use Rattle.lr_reading.proofs.Asking.{came_on, came_once, last_one, last_too, none_failed}
+use Rattle.lr_reading.proofs.Asking.{came_last, last_one, last_too, none_failed, short_last}
 use Rattle.lr_reading.proofs.Close.{ends_after, ends_weaker}
 use Rattle.lr_reading.proofs.Waiting.{next_ahead}
 use Rattle.lr_reading.specs.Feeding.{FeedState, SymbolSource, arrivals_given, FeedsPiece, FeedsNone}
-use Rattle.lr_reading.specs.Feeding.{FeedsNoneFor, FedSoFar, FeedsOn, HasOneMore, MayAsk, StaysNear}
+use Rattle.lr_reading.specs.Feeding.{FeedsNoneFor, FedSoFar, FeedsOn, HaveGivenAll, MayAsk, StaysNear}
 use Rattle.lr_reading.specs.Feeding.{LooksFirst, GivesFrame, EndsFrames, Taken}
 
 -- a lock that is finished stands for what it stood for
@@ -80,12 +81,12 @@ module _ {S : Type 0} (symbols : SymbolSource S) where
   -- what was taken before the lock is fed once more, which isn't finished
   module _ (IsUnderWay : Type 0) {so_far : Taken S} {before : AtSource FeedState S}
       (so : FedSoFar symbols so_far before) (unfinished : before.state.lock.finished ≡ false)
-      (one : MayAsk line IsUnderWay so_far.bytes so_far.given so_far.bytes) where
+      (one : MayAsk line IsUnderWay so_far.bytes so_far.given so_far.bytes (so.going_on unfinished).0.0) where
     abbrev bytes : List ℕ
     bytes = so_far.bytes
 
-    came : CameInPieces source bytes so_far.first before.source
-    came = so.going_on unfinished
+    abbrev came : CameInPieces source bytes so_far.first before.source
+    came = (so.going_on unfinished).0
 
     -- a piece is fed
     pub piece_fed : {now : AtSource FeedState S} → (IsUnderWay → is_none before.state.lock.held ≡ false)
@@ -109,10 +110,12 @@ module _ {S : Type 0} (symbols : SymbolSource S) where
         untold = λ told. so.untold (fed.untold told);
         moved = λ told. so.moved told ∙ ap (λ (l : List ℕ). bytes ++ l) (fed.moved (so.told told))
             ∙ sym (append_assoc bytes fed.piece (source.left now.source));
-        asked = inr (last_one source (λ given. Unit {0}) bytes fed.piece (bytes ++ fed.piece) so_far.first
+        asked = inr (last_one source (λ given pieces. Unit {0}) bytes fed.piece (bytes ++ fed.piece) so_far.first
             before.source now.source so.moved came fed.asked refl tt);
-        going_on = λ e. came_on source bytes fed.piece so_far.first before.source now.source came
-            (came_once source fed.piece before.source now.source fed.asked fed.some fed.kept);
+        going_on = λ e.
+            let all = came_last source bytes fed.piece so_far.first before.source now.source came fed.asked fed.some
+            fed.kept in
+            (all.0, λ short. fed.short (short_last came.0 fed.piece (subst EndShort all.1 short)));
         ended = λ e. absurd (open_still e);
       };
       looks = inr (last_one source (MayAsk line IsUnderWay bytes so_far.given) bytes fed.piece (bytes ++ fed.piece)
@@ -173,7 +176,8 @@ module _ {S : Type 0} (symbols : SymbolSource S) where
       where
         asked : StopsAsking source bytes so_far.first now.source
         asked = ⊎_elim (λ same. subst (λ (x : S). StopsAsking source bytes so_far.first x) (sym same) so.asked)
-            (λ once. inr (last_one source (λ given. Unit {0}) bytes [] bytes so_far.first before.source now.source
+            (λ once. inr (last_one source (λ given pieces. Unit {0}) bytes [] bytes so_far.first before.source
+            now.source
             so.moved came once (sym (append-nil bytes)) tt)) fed.asked
 
         looks : LooksFirst symbols IsUnderWay (at_source so_far before.source) bytes now.source
@@ -289,6 +293,6 @@ module _ {S : Type 0} (symbols : SymbolSource S) where
     same = on.same ∙ same;
   }
     where
-      may : (some : List ℕ) → MayAsk line IsUnderWay all before.state.given some
-          → MayAsk line IsUnderWay before.state.bytes before.state.given some
-      may some asks = (subst (λ (l : List Arrival). HasOneMore line l some) same asks.0, asks.1)
+      may : (some : List ℕ) (pieces : List (List ℕ)) → MayAsk line IsUnderWay all before.state.given some pieces
+          → MayAsk line IsUnderWay before.state.bytes before.state.given some pieces
+      may some pieces asks = (subst (λ (l : List Arrival). HaveGivenAll line l some) same asks.0, asks.1)

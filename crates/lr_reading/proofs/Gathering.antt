@@ -27,7 +27,7 @@ module _ {S : Type 0} (source : SourceOf S) (n : ℕ) where
   -- the source wasn't asked for more of this piece, or only while what was held and came of it was no whole unit
   abbrev NeedsPiece : List ℕ → List ℕ → S → S → Type 0
   NeedsPiece held piece s s' =
-      ((piece ≡ []) × (s' ≡ s)) ⊎ LastCall source (λ given. length (held ++ given) < n) piece s s'
+      ((piece ≡ []) × (s' ≡ s)) ⊎ LastCall source (λ given pieces. length (held ++ given) < n) piece s s'
 
   -- a piece was written after the bytes that were held
   module _ (s s' : S) (before : UnitState) (buffer into : List ℕ) (filled room count taken most : ℕ)
@@ -51,7 +51,7 @@ module _ {S : Type 0} (source : SourceOf S) (n : ℕ) where
       told = told;
       untold = untold;
       moved = moved;
-      in_need = inr (last_one source (λ given. length (before.held ++ given) < n) [] (take count into)
+      in_need = inr (last_one source (λ given pieces. length (before.held ++ given) < n) [] (take count into)
           (take count into) s s s' (λ told. refl) (came_none source s) asked refl
           (omega (arith, length-append before.held [], short)));
     }
@@ -125,9 +125,9 @@ module _ {S : Type 0} (source : SourceOf S) (n : ℕ) where
           (sym (ap (λ (l : List ℕ). first.piece ++ l) none.0 ∙ append-nil first.piece))
           (subst (λ (x : S). NeedsPiece before.state.held first.piece before.source x) (sym none.1) first.in_need)
 
-      later : LastCall source (λ given. length (between.state.held ++ given) < n) second.piece between.source
+      later : LastCall source (λ given pieces. length (between.state.held ++ given) < n) second.piece between.source
           now.source
-          → LastCall source (λ given. length (before.state.held ++ given) < n) (first.piece ++ second.piece)
+          → LastCall source (λ given pieces. length (before.state.held ++ given) < n) (first.piece ++ second.piece)
           before.source now.source
       later last = record {
         last = last.last;

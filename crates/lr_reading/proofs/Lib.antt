@@ -5,6 +5,7 @@ pub mod Coming
 pub mod Feeding
 pub mod Fronts
 pub mod Gathering
+pub mod Leeways
 pub mod WindowJobs
 pub mod WindowGiving
 pub mod WindowLeading

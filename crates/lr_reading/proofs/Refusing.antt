@@ -3,7 +3,7 @@ use Rattle.std.proofs.Common.{◌<◌, List, [], ◌++◌, length, ap, refl, inl
 use Rattle.lr_reading.specs.Arrivals.{arrivals_of}
 use Rattle.lr_reading.specs.Runs.{Course, Lent, TakesSome}
 use Rattle.lr_reading.specs.declared.arrival.Arrival.{Arrival}
-use Rattle.lr_reading.proofs.Coming.{no_arrivals}
+use Rattle.lr_reading.proofs.Coming.{come_within, no_arrivals}
 
 -- nothing was read, and the consumer stops before the first arrival
 pub stops_at_once : {S C Cause : Type 0} (course : Course S C) → 0 < course.leeway.at_end
@@ -13,19 +13,19 @@ pub stops_at_once : {S C Cause : Type 0} (course : Course S C) → 0 < course.le
     → TakesSome course stopped cause now now
 stops_at_once course some stopped cause now stops = record {
   bytes = [];
-  read = record { told = λ t. t; untold = λ t. t; moved = λ t. refl; few = omega arith; asked = inl refl };
+  read = record { told = λ t. t; untold = λ t. t; moved = λ t. refl; few = omega arith; asked = inl (refl, refl) };
   passed = [];
   rest = [];
   split = no_arrivals course.input;
   near = some;
-  close = λ count least le ended. absurd (omega (
+  close = λ count least come. absurd (omega (
     arith,
     least,
-    le,
+    come_within course.input course.leeway.ahead [] count come,
     ap (λ (l : List Arrival). length l)
         (no_arrivals course.input),
   ));
-  in_time = inl refl;
+  in_time = inl (refl, refl);
   stops = λ c taken. stops c [] taken;
   first = λ line is tells few calm. (arrivals_of course.input ([] ++ course.source.left now.source), refl);
 }

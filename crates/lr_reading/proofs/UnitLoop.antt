@@ -1,8 +1,9 @@
 -- A consumer is led through what comes of units.
 use Rattle.std.proofs.Common.{◌≡◌, ℕ, ◌+◌, ◌*◌, ◌%◌, ◌<◌, ◌≤◌, List, [], ◌∷◌, ◌++◌, length, ap, ◌∙◌}
-use Rattle.std.proofs.Common.{sym, refl, subst, arith, append-nil, append_assoc, length-append}
+use Rattle.std.proofs.Common.{sym, refl, subst, arith, append-nil, append_assoc, length-append, take, drop}
 use Rattle.std.specs.List.{concat}
 use Rattle.std.specs.Prelude.{All}
+use Rattle.std.proofs.lemmas.List.{take-append-drop}
 use Rattle.std.proofs.lemmas.List.Elements.{All-push}
 use Rattle.lr_bits.specs.declared.sizes.TheConstants.{FRAME_BYTES}
 use Rattle.lr_io.specs.declared.source.Source.{Ghosts as SourceOf}
@@ -13,7 +14,7 @@ use Rattle.lr_reading.specs.Gathering.{ReadsUnits, EndsUnits}
 use Rattle.lr_reading.specs.Inputs.{unit_bytes, outcome_of_unit}
 use Rattle.lr_reading.specs.Reading.{EndsFor, at_source, units_of, within}
 use Rattle.lr_reading.specs.Readers.{leeway_for}
-use Rattle.lr_reading.specs.Runs.{ComesFirstBut, TakesAll, TakesSome, course_of, lent}
+use Rattle.lr_reading.specs.Runs.{ComeInTime, TakesAll, TakesSome, course_of, lent}
 use Rattle.lr_reading.specs.declared.arrival.Arrival.{Arrival}
 use Rattle.lr_forms.specs.declared.forms.Input.TheVariants.{Units}
 use Rattle.lr_forms.specs.declared.forms.UnitForm.{UnitForm}
@@ -44,7 +45,7 @@ rest_of Blocks n count rest total is all short = omega (arith, is, all, ap (λ k
 rest_of Frames n count rest total is all short = omega (arith, is, all, ap (λ k. k * count) is, short)
 
 -- of fewer bytes than these come fewer units
-fewer : (form : UnitForm) (n count many total : ℕ) → n ≡ unit_bytes form → count * unit_bytes form + 0 < total
+fewer : (form : UnitForm) (n count many total : ℕ) → n ≡ unit_bytes form → count * unit_bytes form + 1 ≤ total
     → total ≡ n * many → count < many
 fewer Blocks n count many total is few all = omega (arith, is, few, all, ap (λ k. k * many) is)
 fewer Frames n count many total is few all = omega (arith, is, few, all, ap (λ k. k * many) is)
@@ -147,16 +148,18 @@ module _ {S C : Type 0} (source : SourceOf S) (took : C → List Arrival → C �
           untold = reads_now.untold;
           moved = reads_now.moved;
           few = omega (arith, reads_now.few, reads_now.taken);
-          asked = stops_asking source (IsShortOfOne n so.units) (concat so.units ++ next.held) s s' reads_now.in_need;
+          asked = stops_asking source (λ given pieces. IsShortOfOne n so.units given)
+              (concat so.units ++ next.held) s s'
+              reads_now.in_need;
         };
         passed = arrivals_of_units form so.units ++ arrival ∷ [];
         rest = [];
         split = units_come form (concat so.units ++ next.held) (so.units ++ next.held ∷ []) units_there
             ∙ one_more ∙ sym (append-nil (arrivals_of_units form so.units ++ arrival ∷ []));
         near = omega arith;
-        close = λ count some le ended. omega (
+        close = λ count some come. omega (
           arith,
-          fewer form n count (length so.units + 1) (length (concat so.units ++ next.held)) size ended (omega (
+          fewer form n count (length so.units + 1) (length (concat so.units ++ next.held)) size come (omega (
             arith,
             length-append (concat so.units) next.held,
             length-concat n so.units reads_now.whole,
@@ -165,17 +168,21 @@ module _ {S C : Type 0} (source : SourceOf S) (took : C → List Arrival → C �
           length-append (arrivals_of_units form so.units) (arrival ∷ []),
           arrivals_of_units-counted form so.units,
         );
-        in_time = when_too source (IsShortOfOne n so.units) (ComesFirstBut (Units form) 0 1
-            (arrivals_of_units form so.units ++ arrival ∷ [])) (concat so.units ++ next.held) s s'
-            (λ given short. came given short) reads_now.in_need;
+        in_time = when_too source (λ given pieces. IsShortOfOne n so.units given)
+            (ComeInTime (Units form) (leeway_for (Units form) 1) 1 (arrivals_of_units form so.units ++ arrival ∷ []))
+            (concat so.units ++ next.held) s s' (λ given pieces short. came given pieces short) reads_now.in_need;
         stops = λ c none. stops c (arrivals_of_units form so.units) (so.taken c none);
         first = λ line symbols told few calm. cc (symbols);
       }
         where
-          came : (given : List ℕ) → IsShortOfOne n so.units given
-              → ComesFirstBut (Units form) 0 1 (arrivals_of_units form so.units ++ arrival ∷ []) given
-          came given short worked waiting split many =
-              let front = come_first so.units reads_now.whole given short worked waiting split in (
+          came : (given : List ℕ) (pieces : List (List ℕ)) → IsShortOfOne n so.units given
+              → ComeInTime (Units form) (leeway_for (Units form) 1) 1 (arrivals_of_units form so.units ++ arrival ∷ [])
+              given pieces
+          came given pieces short count few wait come =
+              let worked : List Arrival = take count (arrivals_of (Units form) given) in
+              let front = come_first so.units reads_now.whole given short worked
+              (drop count (arrivals_of (Units form) given))
+              (sym (take-append-drop count (arrivals_of (Units form) given))) in (
                 front.0 ++ arrival ∷ [],
                 ap (λ (l : List Arrival). l ++ arrival ∷ []) front.1
                     ∙ append_assoc worked front.0 (arrival ∷ []),
@@ -243,14 +250,18 @@ module _ {S C : Type 0} (source : SourceOf S) (took : C → List Arrival → C �
         left = rest_of form n (length so.units) totals.left (length (concat so.units ++ end.held)) size
             (omega (arith, left, all_bytes, end.long)) (omega (arith, left, end.long, end.short));
       };
-      in_time = when_too source (IsShortOfOne n so.units) (ComesFirstBut (Units form) 0 0
-          (arrivals_of (Units form) (concat so.units ++ end.held))) (concat so.units ++ end.held) s s'
-          (λ given short. came given short) end.in_need;
+      in_time = when_too source (λ given pieces. IsShortOfOne n so.units given)
+          (ComeInTime (Units form) (leeway_for (Units form) 1) 0 (arrivals_of (Units form)
+          (concat so.units ++ end.held))) (concat so.units ++ end.held) s s'
+          (λ given pieces short. came given pieces short) end.in_need;
       taken = λ c none. subst (λ (l : List Arrival). took c l after) (sym come) (so.taken c none);
     }
       where
-        came : (given : List ℕ) → IsShortOfOne n so.units given
-            → ComesFirstBut (Units form) 0 0 (arrivals_of (Units form) (concat so.units ++ end.held)) given
-        came given short worked waiting split many =
-            let front = come_first so.units end.whole given short worked waiting split in
+        came : (given : List ℕ) (pieces : List (List ℕ)) → IsShortOfOne n so.units given
+            → ComeInTime (Units form) (leeway_for (Units form) 1) 0
+            (arrivals_of (Units form) (concat so.units ++ end.held)) given pieces
+        came given pieces short count few wait have =
+            let front = come_first so.units end.whole given short (take count (arrivals_of (Units form) given))
+            (drop count (arrivals_of (Units form) given))
+            (sym (take-append-drop count (arrivals_of (Units form) given))) in
             (front.0, come ∙ front.1, omega arith)

@@ -35,7 +35,7 @@ module _ {S : Type 0} (source : SourceOf S) (sizes : UnitSizes) where
     untold = λ t. t;
     moved = λ t. refl;
     going_on = came_none source s;
-    in_need = inl refl;
+    in_need = inl (refl, refl);
   }
 
   -- more of a unit was gathered
@@ -62,17 +62,18 @@ module _ {S : Type 0} (source : SourceOf S) (sizes : UnitSizes) where
         ∙ sym (append_assoc old more.piece (source.left now.source)) ∙ ap (λ l. l ++ source.left now.source) same
 
     -- the last call is one that gathers more of a unit, if that makes any
-    needed : WhenLastAsked source (IsShortOfOne n units) bytes s now.source
+    needed : WhenLastAsked source (λ given pieces. IsShortOfOne n units given) bytes s now.source
     needed = ⊎_elim no_more (λ last. inr (later last)) more.in_need
       where
         no_more : (more.piece ≡ []) × (now.source ≡ before.source)
-            → WhenLastAsked source (IsShortOfOne n units) bytes s now.source
-        no_more none = subst (λ (l : List ℕ). WhenLastAsked source (IsShortOfOne n units) l s now.source)
-            (sym (append-nil old) ∙ ap (λ (l : List ℕ). old ++ l) (sym none.0) ∙ same)
-            (subst (λ (x : S). WhenLastAsked source (IsShortOfOne n units) old s x) (sym none.1) reads.in_need)
+            → WhenLastAsked source (λ given pieces. IsShortOfOne n units given) bytes s now.source
+        no_more none = subst (λ (l : List ℕ). WhenLastAsked source (λ given pieces. IsShortOfOne n units given) l s
+            now.source) (sym (append-nil old) ∙ ap (λ (l : List ℕ). old ++ l) (sym none.0) ∙ same)
+            (subst (λ (x : S). WhenLastAsked source (λ given pieces. IsShortOfOne n units given) old s x)
+            (sym none.1) reads.in_need)
 
-        later : LastCall source (λ given. length (held ++ given) < n) more.piece before.source now.source
-            → LastCall source (IsShortOfOne n units) bytes s now.source
+        later : LastCall source (λ given pieces. length (held ++ given) < n) more.piece before.source now.source
+            → LastCall source (λ given pieces. IsShortOfOne n units given) bytes s now.source
         later last = record {
           last = last.last;
           given = old ++ last.given;
@@ -105,7 +106,7 @@ module _ {S : Type 0} (source : SourceOf S) (sizes : UnitSizes) where
         untold = λ tells. reads.untold (more.untold tells);
         moved = moved;
         few = omega (arith, all, more.few, more.most, reads.most);
-        asked = stops_asking source (IsShortOfOne n units) bytes s now.source needed;
+        asked = stops_asking source (λ given pieces. IsShortOfOne n units given) bytes s now.source needed;
       };
       in_need = needed;
       reason = reason_of stop why;
@@ -158,9 +159,11 @@ module _ {S : Type 0} (source : SourceOf S) (sizes : UnitSizes) where
     untold = reads.untold;
     moved = λ tells. reads.moved tells ∙ ap (λ l. l ++ source.left now.source) is;
     going_on = subst (λ (l : List ℕ). CameInPieces source l s now.source) is reads.going_on;
-    in_need = subst (λ (l : List ℕ). WhenLastAsked source (IsShortOfOne n (units ++ now.state.held ∷ [])) l s
-        now.source) is (when_too source (IsShortOfOne n units) (IsShortOfOne n (units ++ now.state.held ∷ []))
-        (concat units ++ now.state.held) s now.source (λ given short. one_more given short) reads.in_need);
+    in_need = subst (λ (l : List ℕ). WhenLastAsked source
+        (λ given pieces. IsShortOfOne n (units ++ now.state.held ∷ []) given) l s now.source) is
+        (when_too source (λ given pieces. IsShortOfOne n units given)
+        (λ given pieces. IsShortOfOne n (units ++ now.state.held ∷ []) given) (concat units ++ now.state.held) s
+        now.source (λ given pieces short. one_more given short) reads.in_need);
   }
     where
       is : concat units ++ now.state.held ≡ concat (units ++ now.state.held ∷ []) ++ []

@@ -1,7 +1,9 @@
 -- After the frames given no more frames come of the symbols fed than stand whole in the lock.
-use Rattle.std.proofs.Common.{◌≡◌, ℕ, ◌-◌, ◌*◌, ◌<◌, ◌≤◌, inl, inr, Bool, ℤ, None, Some, Option}
-use Rattle.std.proofs.Common.{List, [], ◌∷◌, ◌++◌, length, refl, sym, ◌∙◌, ap, subst, arith}
+use Rattle.std.proofs.Common.{◌≡◌, ℕ, zero, suc, ◌-◌, ◌*◌, ◌<◌, ◌≤◌, inl, inr, Bool, ℤ, None, Some, Option}
+use Rattle.std.proofs.Common.{List, [], ◌∷◌, ◌++◌, length, take, refl, sym, ◌∙◌, ap, subst, arith}
 use Rattle.std.proofs.Common.{length-drop}
+use Rattle.std.specs.Prelude.{All}
+use Rattle.std.proofs.lemmas.List.Elements.{All-head, All-tail}
 use Rattle.lr_bits.specs.declared.sizes.TheConstants.{FRAME_SYMBOLS}
 use Rattle.lr_conv.specs.Marker.{tail_of}
 use Rattle.lr_conv.proofs.Tails.{tail_size}
@@ -68,6 +70,27 @@ fit_behind tail symbols last held place (frame ∷ more) at next =
       next_ahead tail symbols last held place frame at next.0,
       next_whole tail symbols last frame next.0,
     )
+
+-- the next frame begins no earlier than what the lock keeps
+pub next_begins : (lock : LockState) (symbols : List ℤ) (given more : List Frame) (frame : Frame)
+    → LockStandsFor lock symbols given → frames_of (tail_of lock.line) symbols ≡ given ++ frame ∷ more
+    → lock.place ≤ frame.place
+next_begins lock symbols given more frame stands split =
+    let tail = tail_of lock.line in
+    let all : AreFrames tail symbols (frames_of tail symbols) = frames_of-are tail symbols in
+    let next : AreNext tail symbols None (given ++ frame ∷ more) =
+    subst (λ (l : List Frame). AreNext tail symbols None l) split all.next in
+    next_ahead tail symbols (last_of None given) lock.held lock.place frame stands.stands
+    (frames_behind tail symbols None given (frame ∷ more) next).0
+
+-- what holds of the first ones of all frames holds of the one after those given, where it is among them
+pub at_next : (P : Frame → Type 0) (given more : List Frame) (frame : Frame) (count : ℕ) → length given < count
+    → All P (take count (given ++ frame ∷ more)) → P frame
+at_next P [] more frame zero lt all = absurd (omega (arith, lt))
+at_next P [] more frame (suc count) lt all = All-head P frame (take count more) all
+at_next P (first ∷ given) more frame zero lt all = absurd (omega (arith, lt))
+at_next P (first ∷ given) more frame (suc count) lt all = at_next P given more frame count (omega (arith, lt))
+    (All-tail P first (take count (given ++ frame ∷ more)) all)
 
 pub few_in_lock : (lock : LockState) (symbols : List ℤ) (given : List Frame) → LockStandsFor lock symbols given
     → (rest : List Frame) × (frames_of (tail_of lock.line) symbols ≡ given ++ rest)

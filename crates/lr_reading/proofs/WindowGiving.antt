@@ -6,13 +6,13 @@ use Rattle.std.proofs.lemmas.List.Elements.{All-push}
 use Rattle.lr_bits.specs.declared.sizes.TheConstants.{FRAME_SYMBOLS}
 use Rattle.lr_conv.specs.declared.line.LineCode.{LineCode}
 use Rattle.lr_lock.specs.declared.sizes.TheConstants.{WINDOW_END}
-use Rattle.lr_reading.specs.Readers.{most_kept}
 use Rattle.lr_lock.specs.Symbols.{symbols_of}
 use Rattle.lr_lock.specs.Windows.{WindowView}
 use Rattle.lr_lock.specs.declared.frame.Frame.{Frame}
 use Rattle.lr_forms.specs.declared.forms.Stop.{Stop}
 use Rattle.lr_reading.specs.Arrivals.{arrival_in}
-use Rattle.lr_reading.specs.Feeding.{SymbolSource, arrivals_given, FeedsOn, MayAsk, LooksFirst, GivesFrame, EndsFrames}
+use Rattle.lr_reading.specs.Feeding.{SymbolSource, arrivals_given, most_kept, FeedsOn, MayAsk, LooksFirst}
+use Rattle.lr_reading.specs.Feeding.{GivesFrame, EndsFrames}
 use Rattle.lr_reading.specs.Reading.{AtSource, at_source}
 use Rattle.lr_reading.specs.WindowSources.{arrival_of_window, AreOfLine, LooksForSpare, IsGiven, GivesMore}
 use Rattle.lr_reading.specs.WindowSources.{IsOver, Progress, stream_of}
@@ -51,7 +51,7 @@ module _ {S : Type 0} (symbols : SymbolSource S) (limit : ℕ) {so_far : Progres
     looked all looks = ⊎_elim (λ none. inl none) (λ last. inr (
       spare,
       last_too symbols.source (MayAsk line (vec_len old.state.spare < vec_capacity old.state.spare) bytes given)
-          (λ some asks. (asks.0, λ under_way. asks.1 (says under_way))) last,
+          (λ some pieces asks. (asks.0, λ under_way. asks.1 (says under_way))) last,
     )) looks
 
     pub gives_window : (window : WindowView)

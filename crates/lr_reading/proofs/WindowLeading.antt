@@ -1,12 +1,12 @@
 -- A consumer is led through what becomes of windows.
-use Rattle.std.proofs.Common.{◌≡◌, ◌<◌, ◌≤◌, ◌+◌, ℕ, IsSome, List, [], ◌∷◌, ◌++◌, length, length-append, append_assoc}
+use Rattle.std.proofs.Common.{◌≡◌, ◌<◌, ◌≤◌, ◌+◌, ◌-◌, ℕ, IsSome, List, [], ◌∷◌, ◌++◌, length, length-append}
+use Rattle.std.proofs.Common.{append_assoc}
 use Rattle.std.proofs.Common.{take, drop, sym, ap, ◌∙◌, subst, arith, vec_len, vec_capacity, inr, ⊎_elim, ◌^◌, Bool}
 use Rattle.std.proofs.Common.{Option, Some, Result, Ok, Err, OnOk, IfErr, refl}
 use Rattle.std.specs.Prelude.{All}
-use Rattle.std.proofs.Math.Seq.{drop-append_seam}
 use Rattle.std.proofs.lemmas.Bool.{cases_lt}
 use Rattle.std.proofs.lemmas.List.{take-append-le, take-append-drop, length-take}
-use Rattle.std.proofs.lemmas.List.Elements.{All-drop, All-head, All-push}
+use Rattle.std.proofs.lemmas.List.Elements.{All-push}
 use Rattle.lr_conv.specs.Marker.{tail_of}
 use Rattle.lr_conv.specs.declared.line.LineCode.{LineCode}
 use Rattle.lr_io.specs.declared.source.Source.{Ghosts as SourceOf}
@@ -27,14 +27,15 @@ use Rattle.lr_gatecore.proofs.Lists.{at_length}
 use Rattle.lr_forms.specs.declared.forms.Stop.{Stop}
 use Rattle.lr_rounds.specs.declared.drive_fault.DriveFault.{DriveFault}
 use Rattle.lr_rounds.specs.declared.drive_fault.DriveFault.TheVariants.{NoMemory, Stopped}
-use Rattle.lr_reading.specs.Readers.{AreAllThatWait, EndsInNoise}
+use Rattle.lr_reading.specs.Arrivals.{arrivals_of}
+use Rattle.lr_reading.specs.Readers.{EndShort, HaveCome, MayWait}
 use Rattle.lr_reading.specs.Feeding.{symbols_from, taken_since, arrivals_given, EndsInFrame, MayAsk}
 use Rattle.lr_reading.specs.Feeding.{FeedState, FedSoFar}
 use Rattle.lr_reading.specs.Reading.{WhenLastAsked, at_source}
-use Rattle.lr_reading.specs.Runs.{ComesFirstBut, TakesSome, lent}
+use Rattle.lr_reading.specs.Runs.{ComeInTime, TakesSome, lent}
 use Rattle.lr_reading.specs.WindowSources.{HasWindows, first_arrivals, GivesMore, HasNextJob, stream_of}
 use Rattle.lr_reading.specs.WindowSources.{LeavesFewer, StandsAt, progress, arrival_of_window, AreOfLine, IsOver}
-use Rattle.lr_reading.specs.WindowSources.{left_to_feed, course_from, lent_in, MayHandOver, StopsAt, ComesTo}
+use Rattle.lr_reading.specs.WindowSources.{leeway_in, left_to_feed, course_from, lent_in, MayHandOver, StopsAt, ComesTo}
 use Rattle.lr_reading.specs.WindowSources.{WindowStream, window_terms}
 use Rattle.lr_reading.specs.declared.arrival.Arrival.{Arrival}
 use Rattle.lr_reading.specs.declared.consumer.Consumer.{Ghosts as ConsumerOf}
@@ -42,11 +43,12 @@ use Rattle.lr_reading.specs.declared.window_source.WindowSource.{WindowSource}
 use Rattle.lr_reading.specs.declared.arrival.Position.{Position}
 use Rattle.lr_reading.specs.declared.read_counts.ReadCounts.{ReadCounts}
 use Rattle.lr_reading.proofs.Asking.{last_too}
-use Rattle.lr_reading.proofs.Fronts.{front_of}
+use Rattle.lr_reading.proofs.Coming.{frames_counted}
 use Rattle.lr_reading.proofs.WindowJobs.{as_many, oldest_line, handed_more}
 use Rattle.lr_reading.proofs.WindowLed.{few_windows, frames_given, in_time_on, led_some, led_all}
 use Rattle.lr_reading.proofs.Close.{close_later}
 use Rattle.lr_reading.proofs.Refusing.{stops_at_once}
+use Rattle.lr_reading.proofs.Waiting.{at_next}
 
 abbrev pub arrival_at : Position → Outcome → Arrival
 arrival_at position outcome = record { position = Some position; outcome = outcome }
@@ -63,16 +65,19 @@ arrival_is j position done is place positive =
 
 -- there is no noise after a frame
 no_noise : (line : LineCode) (given : List Frame) (bytes : List ℕ) → EndsInFrame line given bytes
-    → EndsInNoise (Symbols line) bytes → ⊥
+    → HaveCome (Symbols line) WINDOW_END bytes (length (arrivals_of (Symbols line) bytes)) → ⊥
 no_noise line given bytes ends noise =
     let Ends : Frame → Type 0 = λ frame. place_after_frame frame + WINDOW_END ≤ length bytes in
     let all : frames_of (tail_of line) (symbols_of bytes) ≡ ends.before ++ (ends.frame ∷ ends.others) =
     ends.come ∙ ap (λ (l : List Frame). l ++ ends.others) ends.last
     ∙ append_assoc ends.before (ends.frame ∷ []) ends.others in
-    let these : All Ends (ends.frame ∷ ends.others) = subst (All Ends)
-    (ap (drop (length ends.before)) all ∙ drop-append_seam ends.before (ends.frame ∷ ends.others))
-    (All-drop Ends (length ends.before) (frames_of (tail_of line) (symbols_of bytes)) noise) in
-    let this = All-head Ends ends.frame ends.others these in
+    let count : ℕ = length (arrivals_of (Symbols line) bytes) in
+    let this : Ends ends.frame = at_next Ends ends.before ends.others ends.frame count (omega (
+      arith,
+      frames_counted line bytes,
+      ap (λ (l : List Frame). length l) all,
+      length-append ends.before (ends.frame ∷ ends.others),
+    )) (subst (λ (l : List Frame). All Ends (take count l)) all noise.1) in
     omega (arith, this, ends.near)
 
 -- ---- the job source
@@ -130,63 +135,78 @@ module _ {S C Cause : Type 0} (source : SourceOf S) (consumer : ConsumerOf C Cau
         IsUnderWay : Type 0
         IsUnderWay = vec_len before.intake.now.spare < vec_capacity before.intake.now.spare
 
-        -- of the windows under way none waits where there is noise, and with those that are spare no more than all
-        few_wait : 0 < vec_len before.intake.now.spare → (given : List ℕ) (count : ℕ)
-            → (IsUnderWay → EndsInFrame line at.given given)
-            → AreAllThatWait (Symbols line) (vec_capacity start.intake.now.spare) given count
-            → length windows + 1 ≤ kept + count
-        few_wait spare given count calm waits = ⊎_elim
-            (λ (many : vec_capacity start.intake.now.spare ≤ count). omega (
+        -- where no window is under way what became of all was kept
+        all_kept : (IsUnderWay → ⊥) → (count : ℕ) → count ≤ length windows → count ≤ kept
+        all_kept none count within = ⊎_elim (λ (under_way : IsUnderWay). absurd (none under_way))
+            (λ (idle : vec_capacity before.intake.now.spare ≤ vec_len before.intake.now.spare). omega (
+              arith,
+              idle,
+              within,
+              at.has_windows.all,
+            )) (cases_lt (vec_len before.intake.now.spare) (vec_capacity before.intake.now.spare))
+
+        -- and else of all but as many as may wait, since one window is spare
+        few_wait : 0 < vec_len before.intake.now.spare → (given : List ℕ) (pieces : List (List ℕ)) (count few : ℕ)
+            → (IsUnderWay → EndsInFrame line at.given given × (EndShort pieces → ⊥))
+            → MayWait (Symbols line) (leeway_in start.intake.now) given pieces few → count + few ≤ length windows
+            → count ≤ kept
+        few_wait spare given pieces count few calm wait within = ⊎_elim
+            (λ (many : vec_capacity start.intake.now.spare - 1 ≤ few). omega (
               arith,
               many,
               spare,
+              within,
               at.has_windows.all,
               at.same_room,
             ))
-            (λ (noise : EndsInNoise (Symbols line) given × (1 ≤ count)). ⊎_elim
-            (λ (under_way : IsUnderWay). absurd (no_noise line at.given given (calm under_way) noise.0))
-            (λ (none : vec_capacity before.intake.now.spare ≤ vec_len before.intake.now.spare). omega (
+            (λ rest. ⊎_elim
+            (λ (short : EndShort pieces). all_kept (λ under_way. (calm under_way).1 short) count (omega (
               arith,
-              noise.1,
-              none,
-              at.has_windows.all,
-            )) (cases_lt (vec_len before.intake.now.spare) (vec_capacity before.intake.now.spare)))
-            waits
+              within,
+            )))
+            (λ (noise : HaveCome (Symbols line) WINDOW_END given (length (arrivals_of (Symbols line) given))).
+            all_kept (λ under_way. no_noise line at.given given (calm under_way).0 noise) count (omega (
+              arith,
+              within,
+            ))) rest)
+            wait
 
-        due : 0 < vec_len before.intake.now.spare → (given : List ℕ) → MayAsk line IsUnderWay at.bytes at.given given
-            → ComesFirstBut (Symbols line) (vec_capacity start.intake.now.spare) 0 first given
-        due spare given asks worked waiting split many =
-            let one = asks.0 in
+        due : 0 < vec_len before.intake.now.spare → (given : List ℕ) (pieces : List (List ℕ))
+            → MayAsk line IsUnderWay at.bytes at.given given pieces
+            → ComeInTime (Symbols line) (leeway_in start.intake.now) 0 first given pieces
+        due spare given pieces asks count few wait come =
             let arrivals : List Arrival = arrivals_given line at.bytes at.given in
-            let both : worked ++ waiting ≡ first ++ (drop kept arrivals ++ one.0) =
-            sym split ∙ one.1 ∙ ap (λ (l : List Arrival). l ++ one.0) (sym (take-append-drop kept arrivals))
-            ∙ append_assoc first (drop kept arrivals) one.0 in
-            let le : length worked ≤ length first = omega (
+            let le : count ≤ length first = omega (
               arith,
-              ap (λ (l : List Arrival). length l) (sym split ∙ one.1),
-              length-append worked waiting,
-              length-append arrivals one.0,
+              few_wait spare given pieces count few asks.1 wait (omega (
+                arith,
+                asks.0.all (count + few) come,
+                as_many at.is_given.jobs,
+              )),
               length-take kept arrivals,
               as_many at.is_given.jobs,
               at.behind,
-              few_wait spare given (length waiting) asks.1 many,
-              one.2,
-            ) in (
-              drop (length worked) first,
-              sym (front_of worked waiting first (drop kept arrivals ++ one.0) both le),
+            ) in
+            let these : take count (arrivals_of (Symbols line) given) ≡ take count first =
+            ap (take count) (asks.0.split
+            ∙ ap (λ (l : List Arrival). l ++ asks.0.rest) (sym (take-append-drop kept arrivals))
+            ∙ append_assoc first (drop kept arrivals) asks.0.rest)
+            ∙ take-append-le count first (drop kept arrivals ++ asks.0.rest) le in (
+              drop count first,
+              sym (take-append-drop count first) ∙ ap (λ (l : List Arrival). l ++ drop count first) (sym these),
               omega arith,
             )
 
-        in_time : WhenLastAsked source (ComesFirstBut (Symbols line) (vec_capacity start.intake.now.spare) 0
+        in_time : WhenLastAsked source (ComeInTime (Symbols line) (leeway_in start.intake.now) 0
             (first_arrivals line more.all more.every kept)) more.all start.source.now now.source.now
-        in_time = subst (λ (l : List Arrival). WhenLastAsked source (ComesFirstBut (Symbols line)
-            (vec_capacity start.intake.now.spare) 0 l) more.all start.source.now now.source.now) (sym same)
-            (⊎_elim (λ none. subst (λ (l : List ℕ). WhenLastAsked source (ComesFirstBut (Symbols line)
-            (vec_capacity start.intake.now.spare) 0 first) l start.source.now now.source.now) (sym none.0)
-            (subst (λ (s : S). WhenLastAsked source (ComesFirstBut (Symbols line)
-            (vec_capacity start.intake.now.spare) 0 first) at.bytes start.source.now s) (sym none.1) at.in_time))
-            (λ last. inr (last_too source (ComesFirstBut (Symbols line) (vec_capacity start.intake.now.spare) 0
-            first) (due last.0) last.1)) more.looks)
+        in_time = subst (λ (l : List Arrival). WhenLastAsked source (ComeInTime (Symbols line)
+            (leeway_in start.intake.now) 0 l) more.all start.source.now now.source.now) (sym same)
+            (⊎_elim (λ none. subst (λ (l : List ℕ). WhenLastAsked source (ComeInTime (Symbols line)
+            (leeway_in start.intake.now) 0 first) l start.source.now now.source.now) (sym none.0)
+            (subst (λ (s : S). WhenLastAsked source (ComeInTime (Symbols line)
+            (leeway_in start.intake.now) 0 first) at.bytes start.source.now s) (sym none.1) at.in_time))
+            (λ last. inr (last_too source (ComeInTime (Symbols line) (leeway_in start.intake.now) 0 first)
+            (due last.0) last.1)) more.looks)
 
     pub gives : (offer : NextJob WindowView)
         → HasNextJob stream offer
@@ -323,8 +343,8 @@ module _ {S C Cause : Type 0} (source : SourceOf S) (consumer : ConsumerOf C Cau
             ));
           };
           close = close_later kept at.given (length at.bytes) at.close;
-          in_time = subst (λ (s : S). WhenLastAsked source (ComesFirstBut (Symbols line)
-              (vec_capacity start.intake.now.spare) 0 (first_arrivals line at.bytes at.given (kept + 1))) at.bytes
+          in_time = subst (λ (s : S). WhenLastAsked source (ComeInTime (Symbols line)
+              (leeway_in start.intake.now) 0 (first_arrivals line at.bytes at.given (kept + 1))) at.bytes
               start.source.now s) (sym source_is) (in_time_on source consumer at (kept + 1) 0 (omega arith)
               (omega (arith, below)));
           taken = λ c none. subst (λ (l : List Arrival). consumer.took c l now.consumer.now) (sym handed)

@@ -15,7 +15,7 @@ use Rattle.lr_io.specs.declared.source.Source.{Ghosts as SourceOf}
 use Rattle.lr_lock.specs.Frames.{AreNext, place_after_frame}
 use Rattle.lr_lock.proofs.Existing.{given_are_prefix}
 use Rattle.lr_rounds.specs.JobSources.{led}
-use Rattle.lr_reading.specs.Readers.{ahead_with}
+use Rattle.lr_reading.specs.Readers.{leeway_with}
 use Rattle.lr_lock.specs.Symbols.{symbols_of}
 use Rattle.lr_lock.specs.Windows.{WindowView}
 use Rattle.lr_lock.specs.declared.frame.Frame.{Frame}
@@ -25,8 +25,8 @@ use Rattle.lr_forms.specs.declared.forms.Stop.TheVariants.{End, Limit, Fault}
 use Rattle.lr_reading.specs.Arrivals.{arrivals_of}
 use Rattle.lr_reading.specs.Feeding.{symbols_from, arrivals_given}
 use Rattle.lr_reading.specs.Reading.{EndsFor, WhenLastAsked, within}
-use Rattle.lr_reading.specs.Runs.{ComesFirstBut, TakesAll, TakesSome, lent}
-use Rattle.lr_reading.specs.WindowSources.{IsOver, first_arrivals, course_from, lent_in, StandsAt}
+use Rattle.lr_reading.specs.Runs.{ComeInTime, TakesAll, TakesSome, lent}
+use Rattle.lr_reading.specs.WindowSources.{IsOver, first_arrivals, course_from, leeway_in, lent_in, StandsAt}
 use Rattle.lr_reading.specs.declared.arrival.Arrival.{Arrival}
 use Rattle.lr_reading.specs.declared.consumer.Consumer.{Ghosts as ConsumerOf}
 use Rattle.lr_reading.specs.declared.read_counts.ReadCounts.{ReadCounts}
@@ -120,17 +120,17 @@ module _ {S C Cause : Type 0} (source : SourceOf S) (consumer : ConsumerOf C Cau
   )
 
   -- what was first among the arrivals that were kept is so among more of them
-  longer : (n after : ℕ) → kept + after ≤ n → n ≤ length windows → (given : List ℕ)
-      → ComesFirstBut (Symbols line) (vec_capacity start.intake.now.spare) 0 first given
-      → ComesFirstBut (Symbols line) (vec_capacity start.intake.now.spare) after
-      (first_arrivals line at.bytes at.given n) given
-  longer n after past enough given due worked waiting split many =
+  longer : (n after : ℕ) → kept + after ≤ n → n ≤ length windows → (given : List ℕ) (pieces : List (List ℕ))
+      → ComeInTime (Symbols line) (leeway_in start.intake.now) 0 first given pieces
+      → ComeInTime (Symbols line) (leeway_in start.intake.now) after (first_arrivals line at.bytes at.given n) given
+      pieces
+  longer n after past enough given pieces due count few wait come =
       let arrivals : List Arrival = arrivals_given line at.bytes at.given in
       let others : List Arrival = take (n - kept) (drop kept arrivals) in
-      let then = due worked waiting split many in (
+      let then = due count few wait come in (
         then.0 ++ others,
         take_on arrivals kept n (omega (arith, past)) ∙ ap (λ (l : List Arrival). l ++ others) then.1
-            ∙ append_assoc worked then.0 others,
+            ∙ append_assoc (take count (arrivals_of (Symbols line) given)) then.0 others,
         omega (
           arith,
           length-append then.0 others,
@@ -143,11 +143,11 @@ module _ {S C Cause : Type 0} (source : SourceOf S) (consumer : ConsumerOf C Cau
       )
 
   pub in_time_on : (n after : ℕ) → kept + after ≤ n → n ≤ length windows
-      → WhenLastAsked source (ComesFirstBut (Symbols line) (vec_capacity start.intake.now.spare) after
+      → WhenLastAsked source (ComeInTime (Symbols line) (leeway_in start.intake.now) after
       (first_arrivals line at.bytes at.given n)) at.bytes start.source.now before.source.now
   in_time_on n after past enough = when_too source
-      (ComesFirstBut (Symbols line) (vec_capacity start.intake.now.spare) 0 first)
-      (ComesFirstBut (Symbols line) (vec_capacity start.intake.now.spare) after
+      (ComeInTime (Symbols line) (leeway_in start.intake.now) 0 first)
+      (ComeInTime (Symbols line) (leeway_in start.intake.now) after
       (first_arrivals line at.bytes at.given n)) at.bytes start.source.now before.source.now
       (longer n after past enough) at.in_time
 
@@ -186,7 +186,7 @@ module _ {S C Cause : Type 0} (source : SourceOf S) (consumer : ConsumerOf C Cau
           at.has_windows.some,
           at.same_room,
         );
-        close = λ count some le ended. ⊎_elim (λ (fewer : count < n). omega (
+        close = λ count some come. ⊎_elim (λ (fewer : count < n). omega (
           arith,
           fewer,
           enough,
@@ -200,7 +200,8 @@ module _ {S C Cause : Type 0} (source : SourceOf S) (consumer : ConsumerOf C Cau
               frames_given,
             )) at.close at.is_given.full (omega (arith, past, enough, frames_given)) (omega (arith, past, more))
             (subst (λ (l : List Frame). All (λ (frame : Frame). place_after_frame frame
-            + ahead_with (vec_capacity start.intake.now.spare) < length at.bytes) (take count l)) frames.1 ended)
+            + (leeway_with (vec_capacity start.intake.now.spare)).ahead ≤ length at.bytes) (take count l)) frames.1
+            come.1)
             (drop kept at.given) refl)) (cases_lt count n);
         in_time = in_time_on n 1 (omega (arith, past)) enough;
         stops = stops;
@@ -231,8 +232,8 @@ module _ {S C Cause : Type 0} (source : SourceOf S) (consumer : ConsumerOf C Cau
           ∙ ap (λ (l : List Arrival). length l) (sym come);
       left = left;
     };
-    in_time = subst (λ (l : List Arrival). WhenLastAsked source (ComesFirstBut (Symbols line)
-        (vec_capacity start.intake.now.spare) 0 l) at.bytes start.source.now before.source.now) (whole ∙ sym come)
+    in_time = subst (λ (l : List Arrival). WhenLastAsked source (ComeInTime (Symbols line)
+        (leeway_in start.intake.now) 0 l) at.bytes start.source.now before.source.now) (whole ∙ sym come)
         at.in_time;
     taken = λ c none. subst (λ (l : List Arrival). consumer.took c l before.consumer.now) (whole ∙ sym come)
         (at.taken c none);

@@ -1,5 +1,5 @@
 -- How the lock is fed with the symbols of the input. No clause of a public call cites this.
-use Rattle.std.specs.Prelude.{◌≡◌, ◌⊎◌, ◌<◌, ◌≤◌, ◌+◌, ◌-◌, ◌*◌, ℕ, ℤ, true, false, Option, Some}
+use Rattle.std.specs.Prelude.{◌≡◌, ◌⊎◌, ◌<◌, ◌≤◌, ◌+◌, ◌-◌, ◌*◌, ℕ, ℤ, Bool, true, false, Option, Some}
 use Rattle.std.specs.Prelude.{None, List, [], ◌∷◌, ◌++◌, length, map, cond}
 use Rattle.lr_bits.specs.Faults.{Rose}
 use Rattle.lr_bits.specs.declared.sizes.TheConstants.{FRAME_SYMBOLS}
@@ -20,15 +20,21 @@ use Rattle.lr_forms.specs.declared.forms.Stop.TheVariants.{End, Limit, Fault}
 use Rattle.lr_reading.specs.declared.next.Found.{Found}
 use Rattle.lr_reading.specs.declared.next.Found.TheVariants.{Whole, Noise, Ended}
 use Rattle.lr_reading.specs.Arrivals.{arrival_in, arrivals_of}
-use Rattle.lr_reading.specs.Readers.{most_kept}
+use Rattle.lr_reading.specs.Readers.{EndShort, HaveCome}
 use Rattle.lr_reading.specs.Reading.{AsksOnce, CameInPieces, LastCall, AtSource, StopsAsking, EndsFor, within}
 use Rattle.lr_reading.specs.declared.arrival.Arrival.{Arrival}
 
--- the lock, how many bytes were taken and the most that may be, and why no more are taken
+-- how many symbols the lock keeps at most after it gave a window: that window's frame stood in it too
+abbrev pub most_kept : ℕ
+most_kept = lock_symbols - FRAME_SYMBOLS
+
+-- the lock, how many bytes were taken and the most that may be, whether the last call gave fewer than a frame has or
+-- there was none yet, and why no more are taken
 pub record FeedState : Type 0 where
   pub lock : LockState
   pub taken : ℕ
   pub most : ℕ
+  pub short : Bool
   pub stop : Stop
 
 -- the lock stands for some symbols and frames
@@ -49,15 +55,17 @@ pub record IsFreshFeed (most : ℕ) (now : FeedState) : Type 0 where
   pub unfinished : now.lock.finished ≡ false
   pub taken : now.taken ≡ 0
   pub most_is : now.most ≡ most
+  pub short : now.short ≡ true
 
 -- what comes of these frames of the bytes
 unfoldable pub arrivals_given : LineCode → List ℕ → List Frame → List Arrival
 arrivals_given line bytes given = map (arrival_in line (symbols_of bytes)) given
 
--- what comes of these bytes are these arrivals, and one more at most
-abbrev pub HasOneMore : LineCode → List Arrival → List ℕ → Type 0
-HasOneMore line first bytes =
-    (rest : List Arrival) × (arrivals_of (Symbols line) bytes ≡ first ++ rest) × (length rest ≤ 1)
+-- what comes of these bytes begins with these arrivals, and each whose window has come is among them
+pub record HaveGivenAll (line : LineCode) (first : List Arrival) (bytes : List ℕ) : Type 0 where
+  pub rest : List Arrival
+  pub split : arrivals_of (Symbols line) bytes ≡ first ++ rest
+  pub all : (count : ℕ) → HaveCome (Symbols line) (WINDOW_END - FRAME_SYMBOLS) bytes count → count ≤ length first
 
 -- the last one of these frames ends less than a window before the end of these bytes, of which all the frames come
 pub record EndsInFrame (line : LineCode) (given : List Frame) (bytes : List ℕ) : Type 0 where
@@ -79,11 +87,11 @@ pub record EndsWithin (most : ℕ) (given : List Frame) (bytes : List ℕ) : Typ
 abbrev pub StaysNear : List ℕ → List Frame → List ℕ → Type 0
 StaysNear bytes given all = (all ≡ bytes) ⊎ EndsWithin lock_symbols given all
 
--- The source may be asked after some bytes: one frame more came of them than those given, at most; and where windows
--- are under way the lock doesn't search
-abbrev pub MayAsk : LineCode → Type 0 → List ℕ → List Frame → List ℕ → Type 0
-MayAsk line IsUnderWay bytes given some = HasOneMore line (arrivals_given line bytes given) some
-    × (IsUnderWay → EndsInFrame line given some)
+-- The source may be asked after some bytes, which came in these pieces: each frame whose window has come is given; and
+-- where windows are under way the lock doesn't search, and the last piece wasn't short
+abbrev pub MayAsk : LineCode → Type 0 → List ℕ → List Frame → List ℕ → List (List ℕ) → Type 0
+MayAsk line IsUnderWay bytes given some pieces = HaveGivenAll line (arrivals_given line bytes given) some
+    × (IsUnderWay → EndsInFrame line given some × (EndShort pieces → ⊥))
 
 -- a source of symbols: what is said of it, and the line code of what it gives
 pub record SymbolSource (S : Type 0) : Type 1 where
@@ -112,6 +120,7 @@ module _ {S : Type 0} (source : SourceOf S) where
     pub stands : (fed : List ℤ) (given : List Frame) → LockStandsFor before.state.lock fed given
         → LockStandsFor now.state.lock (fed ++ symbols_of piece) given
     pub taken : now.state.taken ≡ before.state.taken + length piece
+    pub short : length piece < FRAME_SYMBOLS → now.state.short ≡ true
     pub most_stays : now.state.most ≡ before.state.most
     pub few : now.state.taken ≤ now.state.most
     pub fits : length now.state.lock.kept ≤ lock_symbols
@@ -155,7 +164,8 @@ module _ {S : Type 0} (symbols : SymbolSource S) where
         → symbols.source.left so_far.first ≡ so_far.bytes ++ symbols.source.left now.source
     pub asked : StopsAsking symbols.source so_far.bytes so_far.first now.source
     pub going_on : now.state.lock.finished ≡ false
-        → CameInPieces symbols.source so_far.bytes so_far.first now.source
+        → (came : CameInPieces symbols.source so_far.bytes so_far.first now.source)
+        × (EndShort came.0 → now.state.short ≡ true)
     pub ended : now.state.lock.finished ≡ true
         → EndsFor symbols.source now.state.stop (within now.state.most so_far.bytes) so_far.first now.source
 

@@ -63,7 +63,7 @@ module _ {S : Type 0} (source : SourceOf S) where
     pub untold : source.tells now.source → source.tells before.source
     pub moved : source.tells before.source → source.left before.source ≡ piece ++ source.left now.source
     pub in_need : ((piece ≡ []) × (now.source ≡ before.source))
-        ⊎ LastCall source (λ given. length (before.state.held ++ given) < n) piece before.source now.source
+        ⊎ LastCall source (λ given pieces. length (before.state.held ++ given) < n) piece before.source now.source
 
   -- and each call gave some bytes
   abbrev pub GathersOn : (n : ℕ) → AtSource UnitState S → AtSource UnitState S → Type 0
@@ -85,7 +85,8 @@ module _ {S : Type 0} (source : SourceOf S) where
     pub untold : source.tells now.source → source.tells s
     pub moved : source.tells s → source.left s ≡ (concat units ++ now.state.held) ++ source.left now.source
     pub going_on : CameInPieces source (concat units ++ now.state.held) s now.source
-    pub in_need : WhenLastAsked source (IsShortOfOne sizes.unit units) (concat units ++ now.state.held) s now.source
+    pub in_need : WhenLastAsked source (λ given pieces. IsShortOfOne sizes.unit units given)
+        (concat units ++ now.state.held) s now.source
 
   -- these units were read, and then a rest that is none
   pub record EndsUnits (sizes : UnitSizes) (ended : UnitsEnd) (s s' : S) : Type 0 where
@@ -94,5 +95,6 @@ module _ {S : Type 0} (source : SourceOf S) where
     pub short : length held < sizes.unit
     pub whole : All (λ unit. length unit ≡ sizes.unit) ended.units
     pub read : IsRead source sizes.limit (concat ended.units ++ held) s s'
-    pub in_need : WhenLastAsked source (IsShortOfOne sizes.unit ended.units) (concat ended.units ++ held) s s'
+    pub in_need : WhenLastAsked source (λ given pieces. IsShortOfOne sizes.unit ended.units given)
+        (concat ended.units ++ held) s s'
     pub reason : EndsFor source ended.stop (within sizes.limit (concat ended.units ++ held)) s s'

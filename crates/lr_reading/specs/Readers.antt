@@ -1,6 +1,6 @@
 -- What a reader shows: the form of the input that it reads, how many work on its windows, the caller among them, the
 -- most bytes that it takes of it, and what those who work share.
-use Rattle.std.specs.Prelude.{ℕ, ◌⊎◌, ◌<◌, ◌≤◌, ◌+◌, ◌-◌, ◌*◌, ◌==◌, if◌then◌else◌, List, length}
+use Rattle.std.specs.Prelude.{ℕ, ◌⊎◌, ◌<◌, ◌≤◌, ◌+◌, ◌-◌, ◌*◌, ◌==◌, if◌then◌else◌, List, [], ◌∷◌, length}
 use Rattle.std.specs.Prelude.{take, All}
 use Rattle.lr_bits.specs.declared.sizes.TheConstants.{FRAME_SYMBOLS}
 use Rattle.lr_conv.specs.Marker.{tail_of}
@@ -12,6 +12,7 @@ use Rattle.lr_lock.specs.declared.frame.Frame.{Frame}
 use Rattle.lr_lock.specs.declared.sizes.TheConstants.{WINDOW_END}
 use Rattle.lr_forms.specs.declared.forms.Input.{Input}
 use Rattle.lr_forms.specs.declared.forms.Input.TheVariants.{Symbols, Units}
+use Rattle.lr_reading.specs.Arrivals.{arrivals_of}
 use Rattle.lr_reading.specs.Inputs.{unit_bytes}
 
 -- how many seats there are beside the caller's, how many cells the ring has, and how many windows go through it
@@ -32,66 +33,55 @@ shared_by (Symbols line) workers =
     record { seats = workers - 1; cells = 2 * workers + 2; windows = windows_for workers }
 shared_by (Units form) workers = record { seats = 0; cells = 0; windows = 0 }
 
--- How many frames of the bytes taken may wait for the consumer at most, the one that it is handed among them, where
--- this many work: of symbols those in the windows, and three that stand whole in the lock. No block or frame waits
--- after another.
-abbrev pub most_waiting : Input → ℕ → ℕ
-most_waiting (Symbols line) workers = windows_for workers + 3
-most_waiting (Units form) workers = 1
-
--- How many frames may wait for the consumer at most, of those that the source had given when it was last asked, where
--- this many work: of symbols those in the windows but for one that is spare, and one that lacks the last twelve symbols
--- of its window, which are the next marker's. No block or frame waits for another call.
-abbrev pub most_when_asked : Input → ℕ → ℕ
-most_when_asked (Symbols line) workers = windows_for workers
-most_when_asked (Units form) workers = 0
-
--- how many symbols the lock keeps at most after it gave a window: that window's frame stood in it too
-abbrev pub most_kept : ℕ
-most_kept = lock_symbols - FRAME_SYMBOLS
-
--- how many symbols are taken at most past the end of the oldest frame whose window is under way, where there are this
--- many windows: what the lock keeps, and for each window but one what the lock can hold
-abbrev pub ahead_with : ℕ → ℕ
-ahead_with windows = (windows - 1) * lock_symbols + most_kept
-
--- How many bytes are taken at most past the end of the frame at which the consumer stops, where this many work. No byte
--- is taken past the block or frame of bytes at which it stops.
-abbrev pub most_ahead : Input → ℕ → ℕ
-most_ahead (Symbols line) workers = ahead_with (windows_for workers)
-most_ahead (Units form) workers = 0
-
--- Of the frames that come of these bytes the first ones, this many, each ended more than `ahead` symbols before the end
--- of the bytes. Or as many blocks or frames of bytes did.
-abbrev pub HaveEnded : Input → (ahead : ℕ) → List ℕ → (count : ℕ) → Type 0
-HaveEnded (Symbols line) ahead bytes count =
-    All (λ (frame : Frame). place_after_frame frame + ahead < length bytes)
+-- Of the frames, or of the blocks or frames of bytes, that come of these bytes the first ones, this many, have come,
+-- and after each of them this many symbols or bytes more.
+abbrev pub HaveCome : Input → (beyond : ℕ) → List ℕ → (count : ℕ) → Type 0
+HaveCome (Symbols line) beyond bytes count =
+    (count ≤ length (frames_of (tail_of line) (symbols_of bytes)))
+    × All (λ (frame : Frame). place_after_frame frame + beyond ≤ length bytes)
     (take count (frames_of (tail_of line) (symbols_of bytes)))
-HaveEnded (Units form) ahead bytes count = count * unit_bytes form + ahead < length bytes
+HaveCome (Units form) beyond bytes count = count * unit_bytes form + beyond ≤ length bytes
 
--- there is noise after the last frame: each frame ended a window before the end of these symbols, or earlier
-abbrev pub EndsInNoise : Input → List ℕ → Type 0
-EndsInNoise (Symbols line) bytes = All (λ (frame : Frame). place_after_frame frame + WINDOW_END ≤ length bytes)
-    (frames_of (tail_of line) (symbols_of bytes))
-EndsInNoise (Units form) bytes = ⊥
+-- The last one of these pieces is short, or there is none: it has fewer symbols than a frame. A source of symbols is
+-- asked for as many as a frame has, but for the limit, so one that gave fewer may have nothing at hand.
+abbrev pub EndShort : List (List ℕ) → Type 0
+EndShort [] = Unit {0}
+EndShort (piece ∷ []) = length piece < FRAME_SYMBOLS
+EndShort (piece ∷ next ∷ pieces) = EndShort (next ∷ pieces)
 
--- The last ones of the frames that come of these bytes, this many, are all that may wait when the source is asked for
--- more: they are `most` at least; or there is noise after them, and then one is enough.
-abbrev pub AreAllThatWait : Input → ℕ → List ℕ → ℕ → Type 0
-AreAllThatWait input most bytes count = (most ≤ count) ⊎ (EndsInNoise input bytes × (1 ≤ count))
-
--- these three: how many frames may wait at the end, and when the source was last asked, and how far ahead it is read
+-- how many frames may wait for the consumer
 pub record Leeway : Type 0 where
-  pub at_end : ℕ
+  -- how many symbols or bytes have to follow a frame before it counts
+  pub tail : ℕ
+  -- how many that count may wait when the source is asked, where the last piece was not short
   pub when_asked : ℕ
+  -- how many of all may wait at the end, the one that the consumer is handed among them
+  pub at_end : ℕ
+  -- how many symbols or bytes have to follow a frame before it doesn't wait at the end
   pub ahead : ℕ
 
-abbrev pub leeway_for : Input → ℕ → Leeway
-leeway_for input workers = record {
-  at_end = most_waiting input workers;
-  when_asked = most_when_asked input workers;
-  ahead = most_ahead input workers;
+-- Where there are this many windows: a frame counts once the symbols after it have come that are the last ones of its
+-- window, the next marker's first twelve. As the source is asked one window is spare. At the end three more frames may
+-- stand whole in the lock. The lock keeps a frame less than it can hold after the last one whose window is given, and
+-- takes at most what it can hold for each window before.
+abbrev pub leeway_with : (windows : ℕ) → Leeway
+leeway_with windows = record {
+  tail = WINDOW_END - FRAME_SYMBOLS;
+  when_asked = windows - 1;
+  at_end = windows + 3;
+  ahead = windows * lock_symbols - FRAME_SYMBOLS + 1;
 }
+
+-- where this many work; no block or frame of bytes waits for another call, or after another
+abbrev pub leeway_for : Input → (workers : ℕ) → Leeway
+leeway_for (Symbols line) workers = leeway_with (windows_for workers)
+leeway_for (Units form) workers = record { tail = 0; when_asked = 0; at_end = 1; ahead = 1 }
+
+-- At most this many frames may wait as the source is asked, which gave these bytes in these pieces: none where the last
+-- piece is short, or where all frames ended a window ago, as in noise.
+abbrev pub MayWait : Input → Leeway → List ℕ → List (List ℕ) → (few : ℕ) → Type 0
+MayWait input leeway bytes pieces few = (leeway.when_asked ≤ few)
+    ⊎ (EndShort pieces ⊎ HaveCome input WINDOW_END bytes (length (arrivals_of input bytes)))
 
 pub record ReaderView : Type 0 where
   pub input : Input

@@ -44,9 +44,9 @@ module _ {S : Type 0} (source : SourceOf S) where
   abbrev pub CameInPieces : List ℕ → S → S → Type 0
   CameInPieces bytes s s' = (pieces : List (List ℕ)) × (bytes ≡ concat pieces) × HaveGiven pieces s s'
 
-  -- The last call on the source: some of the bytes had been given before it, of which this was so; it gave the others.
-  -- It follows no call that failed or found the end
-  pub record LastCall (IsSo : List ℕ → Type 0) (bytes : List ℕ) (s s' : S) : Type 0 where
+  -- The last call on the source: some of the bytes had been given before it, in some pieces, and of both this was so;
+  -- it gave the others. It follows no call that failed or found the end
+  pub record LastCall (IsSo : List ℕ → List (List ℕ) → Type 0) (bytes : List ℕ) (s s' : S) : Type 0 where
     pub last : S
     pub given : List ℕ
     pub piece : List ℕ
@@ -54,16 +54,17 @@ module _ {S : Type 0} (source : SourceOf S) where
     pub asked : AsksOnce last piece s'
     pub moved : source.tells s → source.left s ≡ given ++ source.left last
     pub before : CameInPieces given s last
-    pub so : IsSo given
+    pub so : IsSo given before.0
 
-  -- the source wasn't asked; or when it was last asked, this was so of the bytes that it had given
-  abbrev pub WhenLastAsked : (List ℕ → Type 0) → List ℕ → S → S → Type 0
-  WhenLastAsked IsSo bytes s s' = (s' ≡ s) ⊎ LastCall IsSo bytes s s'
+  -- the source wasn't asked, and gave nothing; or when it was last asked, this was so of the bytes that it had given
+  -- and of their pieces
+  abbrev pub WhenLastAsked : (List ℕ → List (List ℕ) → Type 0) → List ℕ → S → S → Type 0
+  WhenLastAsked IsSo bytes s s' = ((bytes ≡ []) × (s' ≡ s)) ⊎ LastCall IsSo bytes s s'
 
   -- No call followed one that had failed, or had found the end: each one but the last gave some bytes, and left the
   -- count of failures as it was.
   abbrev pub StopsAsking : List ℕ → S → S → Type 0
-  StopsAsking bytes s s' = WhenLastAsked (λ given. Unit {0}) bytes s s'
+  StopsAsking bytes s s' = WhenLastAsked (λ given pieces. Unit {0}) bytes s s'
 
   -- these bytes were taken, at most this many, up to the first call that gave none
   pub record IsRead (limit : ℕ) (bytes : List ℕ) (s s' : S) : Type 0 where

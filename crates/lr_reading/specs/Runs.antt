@@ -1,11 +1,11 @@
 -- How far a consumer was led through what comes of the input.
-use Rattle.std.specs.Prelude.{◌≡◌, ◌<◌, ◌≤◌, ℕ, List, [], ◌++◌, length, Result, Ok, Err}
+use Rattle.std.specs.Prelude.{◌≡◌, ◌<◌, ◌≤◌, ◌+◌, ℕ, List, [], ◌++◌, length, take, Result, Ok, Err}
 use Rattle.lr_bits.specs.Faults.{Rose}
 use Rattle.lr_conv.specs.declared.line.LineCode.{LineCode}
 use Rattle.lr_io.specs.declared.source.Source.{Ghosts as SourceOf}
 use Rattle.lr_reading.specs.Arrivals.{arrivals_of}
 use Rattle.lr_reading.specs.Inputs.{bytes_left_over}
-use Rattle.lr_reading.specs.Readers.{Leeway, AreAllThatWait, HaveEnded}
+use Rattle.lr_reading.specs.Readers.{HaveCome, Leeway, MayWait}
 use Rattle.lr_reading.specs.Reading.{IsRead, EndsFor, WhenLastAsked, within}
 use Rattle.lr_reading.specs.declared.arrival.Arrival.{Arrival}
 use Rattle.lr_forms.specs.declared.forms.Input.{Input}
@@ -30,13 +30,12 @@ pub record ReadsInput {S : Type 0} (source : SourceOf S) (taken : InputRead) (to
   pub frames : totals.frames ≡ length (arrivals_of taken.input taken.bytes)
   pub left : totals.left ≡ bytes_left_over taken.input taken.bytes
 
--- Of what comes of the bytes given all but the last ones, those that may wait, stands first among these arrivals, and
--- this many at least come after it
-abbrev pub ComesFirstBut : Input → (most after : ℕ) → List Arrival → List ℕ → Type 0
-ComesFirstBut input most after arrivals given =
-    (worked waiting : List Arrival) → arrivals_of input given ≡ worked ++ waiting
-    → AreAllThatWait input most given (length waiting)
-    → (later : List Arrival) × (arrivals ≡ worked ++ later) × (after ≤ length later)
+-- As the source is asked, which gave these bytes in these pieces: of what comes of them the first ones that count, but
+-- for the few that may wait, stand first among these arrivals, and this many at least come after them
+abbrev pub ComeInTime : Input → Leeway → (after : ℕ) → List Arrival → List ℕ → List (List ℕ) → Type 0
+ComeInTime input leeway after arrivals given pieces =
+    (count few : ℕ) → MayWait input leeway given pieces few → HaveCome input leeway.tail given (count + few)
+    → (later : List Arrival) × (arrivals ≡ take count (arrivals_of input given) ++ later) × (after ≤ length later)
 
 -- What is led: what is said of the source, what the consumer says of the arrivals that it took, the form of the input,
 -- the most bytes, and how few arrivals may wait
@@ -66,14 +65,13 @@ module _ {S C : Type 0} (course : Course S C) where
     pub bytes : List ℕ
     pub ends : ReadsInput course.source (input_read course.input course.limit bytes) totals before.source now.source
     pub in_time : WhenLastAsked course.source
-        (ComesFirstBut course.input course.leeway.when_asked 0 (arrivals_of course.input bytes)) bytes
-        before.source now.source
+        (ComeInTime course.input course.leeway 0 (arrivals_of course.input bytes)) bytes before.source now.source
     pub taken : (c : C) → course.took c [] before.consumer
         → course.took c (arrivals_of course.input bytes) now.consumer
 
   -- The consumer stopped at the last one of these arrivals, which are the first ones of the bytes read. The source was
-  -- read no further ahead than that this one, and those after it, are few. When it was last asked, all but a few of
-  -- what had come of the bytes that it had given were taken, before the consumer stopped.
+  -- read no further ahead than that this one, and those after it, are few. What counted when it was last asked was
+  -- taken before that, but for the few that may wait.
   pub record TakesSome {Cause : Type 0} (stopped : C → List Arrival → Cause → C → Type 0) (cause : Cause)
       (before now : Lent S C) : Type 0 where
     pub bytes : List ℕ
@@ -82,11 +80,11 @@ module _ {S C : Type 0} (course : Course S C) where
     pub rest : List Arrival
     pub split : arrivals_of course.input bytes ≡ passed ++ rest
     pub near : length rest < course.leeway.at_end
-    -- and it had taken all those that ended so long before the last byte
-    pub close : (count : ℕ) → 0 < count → count ≤ length (arrivals_of course.input bytes)
-        → HaveEnded course.input course.leeway.ahead bytes count → count < length passed
-    pub in_time : WhenLastAsked course.source (ComesFirstBut course.input course.leeway.when_asked 1 passed) bytes
-        before.source now.source
+    -- and it had taken all those after which so much came
+    pub close : (count : ℕ) → 0 < count → HaveCome course.input course.leeway.ahead bytes count
+        → count < length passed
+    pub in_time : WhenLastAsked course.source (ComeInTime course.input course.leeway 1 passed) bytes before.source
+        now.source
     pub stops : (c : C) → course.took c [] before.consumer → stopped c passed cause now.consumer
     -- of symbols they are the first ones of all that the source gives, where it had not failed nor reached the limit
     pub first : (line : LineCode) → course.input ≡ Symbols line → course.source.tells before.source

@@ -19,10 +19,10 @@ use Rattle.lr_rounds.specs.JobSources.{Led, SourceTerms}
 use Rattle.lr_rounds.specs.declared.job_source.NextJob.{NextJob}
 use Rattle.lr_rounds.specs.declared.job_source.NextJob.TheVariants.{Job, NotYet, Finished}
 use Rattle.lr_reading.specs.Feeding.{FeedState, SymbolSource, Taken, symbols_from, symbols_left}
-use Rattle.lr_reading.specs.Feeding.{taken_since, arrivals_given, EndsWithin, MayAsk, FedSoFar}
-use Rattle.lr_reading.specs.Readers.{Leeway, ahead_with, most_kept}
+use Rattle.lr_reading.specs.Feeding.{taken_since, arrivals_given, most_kept, EndsWithin, MayAsk, FedSoFar}
+use Rattle.lr_reading.specs.Readers.{Leeway, leeway_with}
 use Rattle.lr_reading.specs.Reading.{LastCall, AtSource, WhenLastAsked, at_source}
-use Rattle.lr_reading.specs.Runs.{ComesFirstBut, Course, Lent, TakesSome, IsLed, course_of, lent}
+use Rattle.lr_reading.specs.Runs.{ComeInTime, Course, Lent, TakesSome, IsLed, course_of, lent}
 use Rattle.lr_reading.specs.declared.arrival.Arrival.{Arrival}
 use Rattle.lr_reading.specs.declared.consumer.Consumer.{Ghosts as ConsumerOf}
 use Rattle.lr_reading.specs.declared.intake.Intake.{Intake}
@@ -72,14 +72,8 @@ left_to_feed (Some stop) feed = 0
 abbrev pub windows_left : Intake → ℕ
 windows_left intake = left_to_feed intake.ended intake.feed
 
--- As many frames may wait as there are windows, and three more that stand whole in the lock. As the source is asked one
--- window is spare, and one frame may lack the last symbols of its window
 abbrev pub leeway_in : Intake → Leeway
-leeway_in intake = record {
-  at_end = vec_capacity intake.spare + 3;
-  when_asked = vec_capacity intake.spare;
-  ahead = ahead_with (vec_capacity intake.spare);
-}
+leeway_in intake = leeway_with (vec_capacity intake.spare)
 
 -- where the first of these frames ends, or else this place
 abbrev pub end_before : List Frame → ℕ → ℕ
@@ -210,9 +204,8 @@ module _ {S C Cause : Type 0} (source : SourceOf S) (consumer : ConsumerOf C Cau
         (progress (taken_since led.start.source.now bytes given) led.jobs led.kept)
         (at_source now.intake.now now.source.now)
     pub close : AreClose (drop led.kept given) (length bytes)
-    pub in_time : WhenLastAsked source (ComesFirstBut (Symbols (line_in led.start))
-        (vec_capacity led.start.intake.now.spare) 0 (first_arrivals (line_in led.start) bytes given led.kept))
-        bytes led.start.source.now now.source.now
+    pub in_time : WhenLastAsked source (ComeInTime (Symbols (line_in led.start)) (leeway_in led.start.intake.now) 0
+        (first_arrivals (line_in led.start) bytes given led.kept)) bytes led.start.source.now now.source.now
     pub taken : (c : C) → consumer.took c [] led.start.consumer.now
         → consumer.took c (first_arrivals (line_in led.start) bytes given led.kept) now.consumer.now
 

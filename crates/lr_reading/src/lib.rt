@@ -1,4 +1,4 @@
-//! From the input to what comes of it: one road for all commands that read.
+//! From the input to what comes of it: one road for all commands that read but `downlinks`.
 //!
 //! What comes of the input is a list of arrivals (`Arrivals` in specs/): of symbols the outcome of the window of each
 //! frame, of blocks and frames that of each whole unit. A `Reader` takes all memory that reading needs when it is made.

@@ -1,32 +1,30 @@
 //! The symbols of the input are taken to the windows of its frames, however its reads are cut.
 ghost use Rattle.std.specs.Prelude.{◌≡◌, ◌↔◌, ◌<◌, ◌≤◌, ◌++◌, [], length, take, IfOk, OnErr};
-ghost use Rattle.lr_lock.specs.Thresholds.{lock_symbols};
 ghost use Rattle.lr_bits.specs.Faults.{HasCause};
 ghost use Rattle.lr_lock.specs.declared.sizes.TheConstants.{WINDOW_END};
-ghost use Rattle.lr_reading.specs.Readers.{most_kept};
+ghost use Rattle.lr_reading.specs.Feeding.{most_kept};
 ghost use Rattle.lr_reading.specs.Reading.{AsksOnce};
 
 use crate::next::Found;
-use lr_bits::{Failed, NoMemory};
+use lr_bits::{FRAME_SYMBOLS, Failed, NoMemory};
 use lr_conv::LineCode;
 use lr_forms::Stop;
 use lr_io::Source;
-use lr_lock::{LOCK_SYMBOLS, Lock, Step, Window};
+use lr_lock::{Lock, Step, Window};
 use std::alloc::Global;
 use std::marker::Model;
 
-/// How many bytes are taken at a time.
-fn size_within(left: u64, room: usize) -> usize
+/// How many bytes are asked for at a time: those of a frame. Where more were asked for, a pipe would seldom have them.
+fn size_within(left: u64) -> usize
     requires left { 0 < left }
-    requires room { 0 < room }
     ensures some { 0 < result }
     ensures left { result ≤ left }
-    ensures room { result ≤ room }
+    ensures most { result ≤ FRAME_SYMBOLS }
 {
-    if left < room as u64 {
+    if left < FRAME_SYMBOLS as u64 {
         left as usize
     } else {
-        room
+        FRAME_SYMBOLS
     }
 }
 
@@ -48,27 +46,36 @@ fn take_within<S: Source>(source: &mut S, into: &mut [u8], size: usize) -> Resul
     source.take(&mut into[..size])
 }
 
-/// The lock, and a buffer for what is taken at a time: as many bytes as the lock has room for at most.
+/// The lock, and a buffer for what is taken at a time.
 #[derive(Drop)]
 pub(crate) struct SymbolFeed {
     lock: Lock,
     buffer: Vec<u8>,
     taken: u64,
     most: u64,
+    /// Whether the last call of the source gave fewer symbols than a frame has, or there was none yet.
+    short: bool,
     /// Why no more is taken, once the lock is finished.
     stop: Stop,
 }
 
 impl Model for SymbolFeed {
     ghost use Rattle.std.specs.Prelude.{◌≡◌, ◌≤◌, ◌+◌, ◌^◌, length};
+    ghost use Rattle.lr_bits.specs.declared.sizes.TheConstants.{FRAME_SYMBOLS as frame_symbols};
     ghost use Rattle.lr_lock.specs.Thresholds.{lock_symbols};
     ghost use Rattle.lr_reading.specs.Feeding.{FeedState};
 
     ghost Value = { FeedState };
 
-    ghost view = { λ f. record { lock = f.lock; taken = f.taken; most = f.most; stop = f.stop } };
+    ghost view = { λ f. record {
+      lock = f.lock;
+      taken = f.taken;
+      most = f.most;
+      short = f.short;
+      stop = f.stop;
+    } };
 
-    ghost invariant = { λ f. (length f.buffer.items ≡ lock_symbols) × (f.taken ≤ f.most) × (f.most ≤ 2 ^ 61)
+    ghost invariant = { λ f. (length f.buffer.items ≡ frame_symbols) × (f.taken ≤ f.most) × (f.most ≤ 2 ^ 61)
         × (f.lock.place + length f.lock.kept ≤ f.taken) × (length f.lock.kept ≤ lock_symbols) };
 }
 
@@ -110,12 +117,13 @@ impl SymbolFeed {
         ensures line { IfOk result (λ feed. feed.lock.line ≡ line) }
     {
         let lock = Lock::new(alloc, line)?;
-        let buffer = vec![in alloc; 0; LOCK_SYMBOLS]?;
+        let buffer = vec![in alloc; 0; FRAME_SYMBOLS]?;
         Ok(SymbolFeed {
             lock,
             buffer,
             taken: 0,
             most,
+            short: true,
             stop: Stop::End,
         })
     }
@@ -127,23 +135,24 @@ impl SymbolFeed {
         self.taken
     }
 
-    /// Feeds the lock what the source gives, as much as there is room for. Answers why there is nothing to feed, if so.
+    /// Feeds the lock what the source gives, a frame's symbols at most. Answers why there is nothing to feed, if so.
     fn take<S: Source>(&mut self, source: &mut S) -> Option<Stop>
         requires unfinished { self.old.lock.finished ≡ false }
-        requires room { length self.old.lock.kept < lock_symbols }
+        requires looked { length self.old.lock.kept < WINDOW_END }
         ensures takes { FeedsOrStops S.Source result (at_source self.old source.old) (at_source self.new source.new) }
     {
         let left = self.most - self.taken;
         if left == 0 {
             return Some(Stop::Limit);
         }
-        let size = size_within(left, self.lock.room());
+        let size = size_within(left);
         match take_within(source, &mut self.buffer, size) {
             Err(Failed) => Some(Stop::Fault),
             Ok(0) => Some(Stop::End),
             Ok(count) => {
                 self.lock.feed_bytes(&self.buffer[..count]);
                 self.taken += count as u64;
+                self.short = count < FRAME_SYMBOLS;
                 None
             }
         }
@@ -163,7 +172,7 @@ impl SymbolFeed {
         requires looked { length self.old.lock.kept < WINDOW_END }
         ensures feeds { (line : LineCode) (so_far : Taken _) (under_way : Bool)
             → FedSoFar (symbols_from S.Source line) so_far (at_source self.old source.old)
-            → (under_way ≡ true → is_none self.old.lock.held ≡ false)
+            → (under_way ≡ true → (is_none self.old.lock.held ≡ false) × (self.old.short ≡ false))
             → FeedsOn (symbols_from S.Source line) (under_way ≡ true) (at_source so_far source.old)
             (at_source self.new source.new) }
         ensures standing { IsStanding self.old.lock → IsStanding self.new.lock }
@@ -177,12 +186,14 @@ impl SymbolFeed {
         }
     }
 
-    /// Whether the source isn't asked before what is under way was taken: while the lock searches.
+    /// Whether the source isn't asked before what is under way was taken: while the lock searches, and where the source
+    /// has just given fewer symbols than a frame has, since it may have nothing at hand.
     fn holds_back(&self, under_way: bool) -> bool
         ensures waits { result ≡ true → under_way ≡ true }
-        ensures calm { result ≡ false → under_way ≡ true → is_none self.now.lock.held ≡ false }
+        ensures calm { result ≡ false → under_way ≡ true
+            → (is_none self.now.lock.held ≡ false) × (self.now.short ≡ false) }
     {
-        under_way && self.lock.searches()
+        under_way && (self.short || self.lock.searches())
     }
 
     /// Takes bytes until the next frame is shown in the window, or there is none. Where windows are under way it takes

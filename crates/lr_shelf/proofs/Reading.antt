@@ -1,9 +1,8 @@
 -- Runs of calls that read a disk alone, with the answers of a shelf.
-use Rattle.std.proofs.Common.{◌≡◌, ℕ, Result, Ok, Err, subst}
+use Rattle.std.proofs.Common.{◌≡◌, Result, Ok, Err}
 use Rattle.lr_bits.specs.declared.refusals.Failed.{Failed}
 use Rattle.lr_disk.specs.Reads.{OnlyReads}
 use Rattle.lr_disk.specs.declared.disk.Disk.{Ghosts as DiskOf}
-use Rattle.lr_disk.proofs.Moments.{unwritten_joined}
 use Rattle.lr_shelf.specs.Calls.{IsFaultCounted, ReadsDisk}
 use Rattle.lr_shelf.specs.declared.error.ShelfError.{ShelfError}
 use Rattle.lr_shelf.specs.declared.error.ShelfError.TheVariants.{Disk}
@@ -15,7 +14,7 @@ module _ {D : Type 0} (disk : DiskOf D) where
       → OnlyReads disk d d' (Ok answer) → ReadsDisk disk d d' r
   run_ended d d' answer r counted reads = record {
     calls = record { told = reads.told; untold = reads.untold; counted = counted reads.cause.kept };
-    unwritten = reads.unwritten;
+    only_read = reads.only_read;
     images = reads.kept;
   }
 
@@ -24,19 +23,6 @@ module _ {D : Type 0} (disk : DiskOf D) where
       → ReadsDisk disk {A = A} d d' (Err Disk)
   run_failed d d' failed reads = record {
     calls = record { told = reads.told; untold = reads.untold; counted = (reads.cause.later, reads.cause.rose) };
-    unwritten = reads.unwritten;
+    only_read = reads.only_read;
     images = reads.kept;
-  }
-
-  -- calls of the disk, and then one of these
-  pub run_joined : {S A : Type 0} (d mid d' : D) (answer : S) (r : Result A ShelfError)
-      → OnlyReads disk d mid (Ok answer) → ReadsDisk disk mid d' r → ReadsDisk disk d d' r
-  run_joined d mid d' answer r one two = record {
-    calls = record {
-      told = λ t. two.calls.told (one.told t);
-      untold = λ t. one.untold (two.calls.untold t);
-      counted = subst (λ (n : ℕ). IsFaultCounted n (disk.faults d') r) one.cause.kept two.calls.counted;
-    };
-    unwritten = λ t. unwritten_joined disk d mid d' (one.unwritten t) (two.unwritten (one.told t));
-    images = λ t c image. two.images (one.told t) c (one.kept t c image);
   }

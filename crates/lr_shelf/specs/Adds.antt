@@ -11,7 +11,6 @@ use Rattle.lr_shelf.specs.Kept.{KeptShelf, ShelfOn, kept_on, kept_with}
 use Rattle.lr_shelf.specs.Shelf.{HasEitherWay, IsSettled, KeepsWay, StandsForEither}
 use Rattle.lr_shelf.specs.declared.error.ShelfError.{ShelfError}
 use Rattle.lr_shelf.specs.declared.error.ShelfError.TheVariants.{Disk}
-use Rattle.lr_shelf.specs.declared.shelf.Shelf.{Shelf}
 
 -- where the shelf would end with the item
 abbrev pub new_end : Item → KeptShelf → ℕ

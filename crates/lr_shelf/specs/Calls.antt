@@ -2,7 +2,7 @@
 use Rattle.std.specs.Prelude.{◌≡◌, ◌≤◌, ℕ, Result, Ok, Err}
 use Rattle.lr_bits.specs.Faults.{Rose}
 use Rattle.lr_disk.specs.Disk.{KeepsImages}
-use Rattle.lr_disk.specs.Reads.{IsUnwritten}
+use Rattle.lr_disk.specs.Reads.{IsOnlyRead}
 use Rattle.lr_disk.specs.declared.disk.Disk.{Ghosts as DiskOf}
 use Rattle.lr_shelf.specs.declared.error.ShelfError.{ShelfError}
 use Rattle.lr_shelf.specs.declared.error.ShelfError.TheVariants.{Disk}
@@ -22,5 +22,5 @@ module _ {D : Type 0} (disk : DiskOf D) {A : Type 0} (d d' : D) (result : Result
   -- a call that asks for the length or reads, and does nothing else
   pub record ReadsDisk : Type 0 where
     pub calls : Calls
-    pub unwritten : disk.tells d → IsUnwritten disk d d'
+    pub only_read : IsOnlyRead disk d d'
     pub images : disk.tells d → KeepsImages (disk.may_leave d) (disk.may_leave d')

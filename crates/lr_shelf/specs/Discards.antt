@@ -7,7 +7,6 @@ use Rattle.lr_shelf.specs.Asked.{IsAskable, IsEntryRefusal, entry_of}
 use Rattle.lr_shelf.specs.Kept.{KeptShelf, ShelfOn, kept_on}
 use Rattle.lr_shelf.specs.declared.error.ShelfError.{ShelfError}
 use Rattle.lr_shelf.specs.declared.error.ShelfError.TheVariants.{Disk, Capacity, NoSuchFile, Failed, Discarded}
-use Rattle.lr_shelf.specs.declared.shelf.Shelf.{Shelf}
 
 -- the refusals of `discard`, each with what it says of the shelf that it found
 abbrev pub IsDiscardError : ℕ → KeptShelf → ShelfError → Type 0

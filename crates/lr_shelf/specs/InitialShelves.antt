@@ -1,5 +1,5 @@
 -- What files come onto, and what stands there with them.
-use Rattle.std.specs.Prelude.{◌≡◌, ◌⊎◌, ◌<◌, ◌≤◌, ◌++◌, ◌∷◌, ℕ, false, min, List, [], length, map}
+use Rattle.std.specs.Prelude.{◌≡◌, ◌⊎◌, ◌≤◌, ◌++◌, ◌∷◌, ℕ, false, min, List, [], length, map}
 use Rattle.lr_bits.specs.declared.placed.Placed.{Placed}
 use Rattle.lr_bits.specs.Sizes.{most_u64}
 use Rattle.lr_disk.specs.declared.disk.Disk.{Ghosts as DiskOf}

@@ -13,7 +13,6 @@ use Rattle.lr_shelf.specs.Shelf.{IsSettled}
 use Rattle.lr_shelf.specs.declared.error.ShelfError.{ShelfError}
 use Rattle.lr_shelf.specs.declared.error.ShelfError.TheVariants.{Disk, NotAShelf, NoSuchFile, Crc}
 use Rattle.lr_shelf.specs.declared.error.ShelfError.TheVariants.{NoMemory, Failed, Discarded}
-use Rattle.lr_shelf.specs.declared.shelf.Shelf.{Shelf}
 
 module _ {D : Type 0} (disk : DiskOf D) (entry : Entry) (d : D) where
   -- this stands at the entry, on a disk that tells its contents

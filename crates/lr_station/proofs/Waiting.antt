@@ -1,74 +1,39 @@
 -- Where few frames may wait, more may.
-use Rattle.std.proofs.Common.{◌≤◌, ◌+◌, ◌*◌, ◌==◌, if◌then◌else◌, ℕ, Bool, true, false, List}
-use Rattle.std.proofs.Common.{Option, Some, None, arith, inl, inr, ⊎_elim, length}
+use Rattle.std.proofs.Common.{◌+◌, ℕ, List, Option, Some, None}
 use Rattle.lr_causes.specs.Outside.{Outside, World, outlets_in, world_outlets, world_pipe, pipe_in}
-use Rattle.lr_printing.specs.Decode.{decode_text, decode_due, decode_last}
-use Rattle.lr_printing.proofs.DecodeText.{fewer_due}
-use Rattle.lr_printing.proofs.Lines.{prints_fewer}
+use Rattle.lr_cmd_print.specs.Decode.{decode_printed}
+use Rattle.lr_cmd_print.proofs.Lines.{prints_loosely}
 use Rattle.lr_causes.specs.declared.cause.Cause.{Cause}
 use Rattle.lr_forms.specs.declared.forms.Input.{Input}
-use Rattle.lr_forms.specs.declared.forms.Input.TheVariants.{Symbols, Units}
-use Rattle.lr_reading.specs.Readers.{HaveEnded, most_ahead, most_waiting, most_when_asked}
+use Rattle.lr_reading.specs.Readers.{leeway_for}
 use Rattle.lr_reading.proofs.Asking.{when_too}
-use Rattle.lr_receiving.specs.Inputs.{files_of_bytes}
-use Rattle.lr_receiving.specs.Receive.{AreWorkedBut, PutsNoFileOff, ReceiveRun, waiting_of, taken_by, receive_query}
+use Rattle.lr_reading.proofs.Leeways.{IsStricter, ahead_too, at_end_too, stricter_alone, tail_too, wait_too}
+use Rattle.lr_cmd_receive.specs.Inputs.{files_of_bytes}
+use Rattle.lr_cmd_receive.specs.Receive.{AreInTime, PutsNoFileOff, ReceiveRun, taken_by, receive_query}
 use Rattle.lr_shelf.specs.InitialShelves.{InitialShelf}
 use Rattle.lr_station.specs.Effects.{IsKnownAlone, alone}
 use Rattle.lr_station.specs.Runs.{Runs}
 use Rattle.lr_words.specs.Commands.{IsInRange}
 use Rattle.lr_words.specs.declared.command.Command.{Command}
 use Rattle.lr_words.specs.declared.command.Command.TheVariants.{Downlinks, Intake}
-use Rattle.lr_receiving.specs.Shelving.{files_onto}
+use Rattle.lr_cmd_receive.specs.Shelving.{FilesOnto, files_onto}
 use Rattle.lr_words.specs.declared.command.IntakeAction.TheVariants.{Decode, Receive}
 
--- where more work
-four_at_least : (alone : Bool) (workers : ℕ) → 1 ≤ workers → 4 ≤ (if alone then 1 else 2 * workers + 2) + 3
-four_at_least true workers some = omega arith
-four_at_least false workers some = omega (arith, some)
-
-pub more_wait : (input : Input) (workers : ℕ) → 1 ≤ workers → most_waiting input 1 ≤ most_waiting input workers
-more_wait (Symbols line) workers some = four_at_least (workers == 1) workers some
-more_wait (Units form) workers some = omega arith
-
-one_at_least : (alone : Bool) (workers : ℕ) → 1 ≤ workers → 1 ≤ (if alone then 1 else 2 * workers + 2)
-one_at_least true workers some = omega arith
-one_at_least false workers some = omega (arith, some)
-
-pub more_wait_when_asked : (input : Input) (workers : ℕ) → 1 ≤ workers
-    → most_when_asked input 1 ≤ most_when_asked input workers
-more_wait_when_asked (Symbols line) workers some = one_at_least (workers == 1) workers some
-more_wait_when_asked (Units form) workers some = omega arith
-
-pub more_ahead : (input : Input) (workers : ℕ) → 1 ≤ workers → most_ahead input 1 ≤ most_ahead input workers
-more_ahead (Symbols line) workers some = omega (arith, one_at_least (workers == 1) workers some)
-more_ahead (Units form) workers some = omega arith
-
--- what ended so long ago ended less long ago
-ended_less : (input : Input) (few many : ℕ) (bytes : List ℕ) (count : ℕ) → few ≤ many
-    → HaveEnded input many bytes count → HaveEnded input few bytes count
-ended_less (Symbols line) few many bytes count le ended = λ k frame within. omega (arith, le, ended k frame within)
-ended_less (Units form) few many bytes count le ended = omega (arith, le, ended)
-
 module _ {S D O : Type 0} {world : World S D O} {input : Input} {w w' : Outside S D O} {few many : ℕ}
-    (le : most_waiting input few ≤ most_waiting input many)
-    (le_asked : most_when_asked input few ≤ most_when_asked input many)
-    (le_ahead : most_ahead input few ≤ most_ahead input many) where
+    (is : IsStricter (leeway_for input few) (leeway_for input many)) where
   fewer_wait : {initial : InitialShelf} {bytes : List ℕ} → PutsNoFileOff world (taken_by input few bytes) initial w w'
       → PutsNoFileOff world (taken_by input many bytes) initial w w'
-  fewer_wait {initial} {bytes} keeps = record {
-    timely = λ worked waiting split enough. keeps.timely worked waiting split (omega (arith, le, enough));
-    timely_in_bytes = λ worked waiting split ended. keeps.timely_in_bytes worked waiting split
-        (ended_less input (most_ahead input few) (most_ahead input many) bytes (length worked) le_ahead ended);
-    in_time = when_too world.source
-        (AreWorkedBut (world_outlets world) (files_onto initial (files_of_bytes input bytes))
-        (waiting_of input (most_when_asked input few)) (outlets_in w) (outlets_in w'))
-        (AreWorkedBut (world_outlets world) (files_onto initial (files_of_bytes input bytes))
-        (waiting_of input (most_when_asked input many)) (outlets_in w) (outlets_in w')) bytes w.source
-        w'.source (λ given due worked waiting split enough. due worked waiting split (⊎_elim
-        (λ (all : most_when_asked input many ≤ length waiting). inl (omega (arith, le_asked, all)))
-        (λ noise. inr noise) enough))
-        keeps.in_time;
-  }
+  fewer_wait {initial} {bytes} keeps =
+      let all : FilesOnto = files_onto initial (files_of_bytes input bytes) in
+      record {
+        timely = λ count come. keeps.timely count (at_end_too input is bytes count come);
+        timely_in_bytes = λ count come. keeps.timely_in_bytes count (ahead_too input is bytes count come);
+        in_time = when_too world.source
+            (AreInTime (world_outlets world) all input (leeway_for input few) (outlets_in w) (outlets_in w'))
+            (AreInTime (world_outlets world) all input (leeway_for input many) (outlets_in w) (outlets_in w')) bytes
+            w.source w'.source (λ given pieces due count wait may have. due count wait
+            (wait_too input is given pieces wait may) (tail_too input is given (count + wait) have)) keeps.in_time;
+      }
 
   pub run_within : {limit : ℕ} {cause : Cause} → ReceiveRun world (receive_query input few limit) cause w w'
       → ReceiveRun world (receive_query input many limit) cause w w'
@@ -108,12 +73,11 @@ module _ {S D O : Type 0} (world : World S D O) (cause : Cause) (w w' : Outside 
     by : (command : Command) → IsKnownAlone (Some command) → IsInRange (Some command)
         → Runs world (alone (Some command)) cause w w' → Runs world (Some command) cause w w'
     by (Downlinks line) known range run = absurd known
-    by (Intake Receive input workers most) known range run = run_within (more_wait input workers range.1.0)
-        (more_wait_when_asked input workers range.1.0) (more_ahead input workers range.1.0) run
+    by (Intake Receive input workers most) known range run =
+        run_within (stricter_alone input workers range.1.0) run
     by (Intake Decode input workers most) known range run = (
       run.0,
-      prints_fewer (world_pipe world) (decode_text input) (decode_due input 1) (decode_due input workers)
-          (decode_last input) most (fewer_due input 1 workers (more_wait_when_asked input workers range.1.0))
-          (pipe_in w) (pipe_in w') cause run.1,
+      prints_loosely (world_pipe world) (decode_printed input 1 most) (leeway_for input workers)
+          (stricter_alone input workers range.1.0) (pipe_in w) (pipe_in w') cause run.1,
     )
     by _ known range run = run

@@ -1,20 +1,20 @@
 -- What a command does to the outside. Several commands do the same, with other texts.
 use Rattle.std.specs.Prelude.{ℕ, List, Option, Some, None}
-use Rattle.lr_commands.specs.Queries.{Query}
-use Rattle.lr_commands.specs.Assemble.{assemble_query}
-use Rattle.lr_commands.specs.Export.{export_query}
-use Rattle.lr_commands.specs.Extract.{extract_query}
-use Rattle.lr_commands.specs.List.{list_query}
-use Rattle.lr_commands.specs.Show.{show_query}
-use Rattle.lr_commands.specs.Verify.{verify_query}
+use Rattle.lr_cmd_shelf.specs.Queries.{Query}
+use Rattle.lr_cmd_shelf.specs.Assemble.{assemble_query}
+use Rattle.lr_cmd_shelf.specs.Export.{export_query}
+use Rattle.lr_cmd_shelf.specs.Extract.{extract_query}
+use Rattle.lr_cmd_shelf.specs.List.{list_query}
+use Rattle.lr_cmd_shelf.specs.Show.{show_query}
+use Rattle.lr_cmd_shelf.specs.Verify.{verify_query}
 use Rattle.lr_forms.specs.declared.forms.Output.TheVariants.{Symbols}
-use Rattle.lr_printing.specs.Decode.{decode_printed}
-use Rattle.lr_printing.specs.Frames.{frames_printed}
-use Rattle.lr_printing.specs.Packets.{packets_printed}
-use Rattle.lr_printing.specs.Printing.{Printed}
-use Rattle.lr_receiving.specs.Made.{made_bytes, test_frames}
-use Rattle.lr_receiving.specs.Receive.{ReceiveQuery, receive_query}
-use Rattle.lr_sending.specs.Transmit.{Sending, sending}
+use Rattle.lr_cmd_print.specs.Decode.{decode_printed}
+use Rattle.lr_cmd_print.specs.Frames.{frames_printed}
+use Rattle.lr_cmd_print.specs.Packets.{packets_printed}
+use Rattle.lr_cmd_print.specs.Printing.{Printed}
+use Rattle.lr_cmd_receive.specs.Made.{made_bytes, test_frames}
+use Rattle.lr_cmd_receive.specs.Receive.{ReceiveQuery, receive_query}
+use Rattle.lr_cmd_transmit.specs.Transmit.{Sending, sending}
 use Rattle.lr_conv.specs.declared.line.LineCode.{LineCode}
 use Rattle.lr_words.specs.declared.command.Command.{Command}
 use Rattle.lr_words.specs.declared.command.Command.TheVariants.{Init, Frames, Intake, Downlinks}
@@ -40,7 +40,7 @@ pub data Effect : Type 0 where
   Draws : Effect
   -- the files of these entries are put as symbols
   Sends : (asked : Sending) → Effect
-  -- the entry of this number is closed
+  -- the entry of this number is discarded
   DiscardsEntry : (number : ℕ) → Effect
   -- the image of the file of this number is coded anew in blocks of this many samples, and the new file is added
   Repacks : (number block : ℕ) → Effect

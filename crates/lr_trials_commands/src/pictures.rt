@@ -2,7 +2,7 @@
 use crate::image_files::{file_of, plain_header};
 use crate::shared::{add, is_end, with_room};
 use lr_causes::Cause;
-use lr_commands::export::export;
+use lr_cmd_shelf::export::export;
 use lr_disk::{Disk, MemDisk};
 use lr_io::Sink;
 use lr_shelf::Shelf;

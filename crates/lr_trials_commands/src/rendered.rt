@@ -8,9 +8,9 @@ use crate::image_files::{
 use crate::shared::add;
 use lr_bits::MissionFile;
 use lr_causes::{Cause, line_for};
+use lr_cmd_render::{render, render_alone};
 use lr_disk::MemDisk;
 use lr_io::MemSink;
-use lr_rendering::{render, render_alone};
 use lr_shelf::Shelf;
 use lr_trials_wanted::{is_status, is_text, lines};
 use std::alloc::Global;

@@ -1,11 +1,11 @@
 //! Shelves, sinks and runs that the tests share.
 use lr_bits::{Bytes, Lengths, MissionFile, Origin, Placed};
 use lr_causes::Cause;
-use lr_commands::discard::discard;
-use lr_commands::extract::extract;
-use lr_commands::list::list;
-use lr_commands::show::show;
-use lr_commands::verify::verify;
+use lr_cmd_shelf::discard::discard;
+use lr_cmd_shelf::extract::extract;
+use lr_cmd_shelf::list::list;
+use lr_cmd_shelf::show::show;
+use lr_cmd_shelf::verify::verify;
 use lr_disk::{Disk, MemDisk};
 use lr_io::{MemSink, Sink};
 use lr_shelf::Shelf;

@@ -7,6 +7,12 @@
 #[cfg(test)]
 mod files;
 #[cfg(test)]
+mod mended_files;
+#[cfg(test)]
+mod mended_gaps;
+#[cfg(test)]
+mod mended_packets;
+#[cfg(test)]
 mod packets;
 #[cfg(test)]
 mod sent_drawn;

@@ -56,9 +56,15 @@ impl Disk for Counting {
 
     ghost left_since = { λ _ _ _. ⊥ };
 
+    ghost only_read = { λ _ _. Unit {0} };
+
     ghost leaves_contents = { λ _ told. told };
 
     ghost counts_now = { λ _ _ _ told _ _. told };
+
+    ghost reads_none = { λ _. tt };
+
+    ghost reads_on = { λ _ _ _ _ _. tt };
 
     ghost only_now = { λ _ _ told _. told };
 

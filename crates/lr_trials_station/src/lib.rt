@@ -1,10 +1,12 @@
-//! Trials of the station: calls of `station` over sources, disks and sinks in memory, and over real files. `call`,
-//! `sessions`, `shelves`, `short` and `stated` are what other crates of trials share.
+//! Trials of the station: calls of `station` over sources, disks and sinks in memory, and over real files; and what a
+//! contract says of a run over one source (`cut`). `call`, `sessions`, `shelves`, `short` and `stated` are what other
+//! crates of trials share.
 #![tactic(auto)]
 
 #[cfg(test)]
 mod blocks;
 pub mod call;
+pub mod cut;
 #[cfg(test)]
 mod discards;
 #[cfg(test)]

@@ -518,16 +518,29 @@ fn may_write(alloc: Global, line: &str) -> Result<bool, Fail> {
 }
 
 /// First words of commands that may write.
-static WRITES: [&str; 5] = ["init 20", "receive", "trial", "discard x", "repack"];
+static WRITES: [&str; 6] = [
+    "init 20",
+    "receive",
+    "downlinks",
+    "trial",
+    "discard x",
+    "repack",
+];
 
 /// And those of words that may not.
-static READS: [&str; 9] = [
+static READS: [&str; 15] = [
     "",
     "frames",
+    "packets",
+    "decode",
+    "list",
+    "show 0",
     "extract 0",
     "export 0",
     "render",
     "assemble",
+    "verify",
+    "transmit",
     "make init",
     "Init",
     "init5",

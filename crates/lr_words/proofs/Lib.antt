@@ -3,3 +3,4 @@ pub mod Covered
 pub mod Digits
 pub mod OneThread
 pub mod Taken
+pub mod Writing

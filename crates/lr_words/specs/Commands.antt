@@ -1,5 +1,5 @@
 -- Which command the words give, if they give one.
-use Rattle.std.specs.Prelude.{◌-◌, ◌≡◌, ◌⊎◌, ◌≤◌, ◌^◌, ◌==◌, ℕ, Bool, false, List, [], ◌∷◌, Option}
+use Rattle.std.specs.Prelude.{◌-◌, ◌≡◌, ◌⊎◌, ◌≤◌, ◌^◌, ◌==◌, ℕ, Bool, true, false, List, [], ◌∷◌, Option}
 use Rattle.std.specs.Prelude.{Some, None, IsSome, if◌then◌else◌, option_map, option_and_then, codes}
 use Rattle.clap.specs.Words.{Text}
 use Rattle.lr_bits.specs.Sizes.{most_u64}
@@ -17,6 +17,7 @@ use Rattle.lr_words.specs.declared.shape.Shape.{Shape}
 use Rattle.lr_words.specs.declared.shape.Shape.TheVariants.{Capacity, Nothing, Number, Symbols}
 use Rattle.lr_words.specs.declared.shape.Shape.TheVariants.{Intake as IntakeWords, Line, Workers}
 use Rattle.lr_words.specs.declared.shape.Shape.TheVariants.{Segments, Sent, Block, Made, Tried}
+use Rattle.lr_words.specs.declared.command.FileAction.TheVariants.{Discard}
 use Rattle.lr_words.specs.declared.command.IntakeAction.{IntakeAction}
 use Rattle.lr_words.specs.declared.command.IntakeAction.TheVariants.{Decode, Receive}
 use Rattle.lr_words.specs.declared.command.Command.{Command}
@@ -138,6 +139,21 @@ writes_when (Some shape) = can_write shape
 abbrev pub writes_shelf : List Text → Bool
 writes_shelf [] = false
 writes_shelf (name ∷ rest) = writes_when (shape_named name)
+
+-- whether this command may change the shelf
+abbrev pub may_write : Command → Bool
+may_write (Init capacity) = true
+may_write (Intake Receive input workers most) = true
+may_write (Downlinks line) = true
+may_write (OnFile Discard number) = true
+may_write (Repack number block) = true
+may_write (Trial start frames wrong workers) = true
+may_write command = false
+
+-- words by which the shelf isn't written give no command that may change it
+abbrev pub OnlyWritersMayWrite : Type 0
+OnlyWritersMayWrite = (words : List Text) → writes_shelf words ≡ false
+    → (command : Command) → command_of words ≡ Some command → may_write command ≡ false
 
 -- this many may work on windows, the caller among them
 abbrev pub IsWorkerCount : ℕ → Type 0

@@ -108,6 +108,6 @@ pub enum FileAction {
     Show,
     /// Puts its image as PGM.
     Export,
-    /// Closes its entry.
+    /// Discards its entry.
     Discard,
 }

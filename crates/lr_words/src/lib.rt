@@ -11,6 +11,7 @@
 mod arguments;
 mod command;
 mod given;
+mod laws;
 mod numbers;
 mod parsing;
 mod read;
@@ -18,4 +19,5 @@ mod shape;
 mod values;
 
 pub use command::{Command, FileAction, FrameLines, IntakeAction, ShelfAction};
+pub use laws::only_writers_may_write;
 pub use read::{read_words, runs_alone, writes_shelf};

@@ -37,8 +37,8 @@ windows-preserved c =
           (c.in-Some.ensures.shows c.args.line is.given is.is_fed) c.outcome-outcome.result c.outcome-outcome.ensures
           c.push_outcome.new.self c.push_outcome.new.files.items
           (λ outcomes stand. (
-            c.in_ok-push_outcome.ensures.stands outcomes stand,
-            c.in_ok-push_outcome.ensures.files outcomes stand,
+            c.in_ok-push_outcome.ensures.stands 0 outcomes stand,
+            c.in_ok-push_outcome.ensures.files 0 outcomes stand,
           ));
       window_line = c.show_next.ensures.line;
     }

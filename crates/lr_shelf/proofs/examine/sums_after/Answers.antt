@@ -41,9 +41,9 @@ returns-clause-found g c told =
     let first = c.add_up.ensures.reads in
     let second = c.checksum_of.ensures.reads in
     let told2 = first.told told in
-    let same2 = (first.unwritten told).contents in
+    let same2 = (first.only_read.unwritten told).contents in
     let told3 = second.told told2 in
-    let same3 = (second.unwritten told2).contents ∙ same2 in
+    let same3 = (second.only_read.unwritten told2).contents ∙ same2 in
     let computed : IsChecksumAt b item size (Some c.in-Some-2.computed) =
     subst (λ (n : ℕ). IsChecksumAt b item (n - 2) (Some c.in-Some-2.computed)) long
     (subst (λ (l : List ℕ). IsChecksumAt l item (c.from-2.result - 2) (Some c.in-Some-2.computed)) same2

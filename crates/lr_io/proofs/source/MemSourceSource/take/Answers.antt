@@ -55,3 +55,11 @@ returns-then-contains-clause-untouched c = refl
 
 pub returns-then-contains-clause-spent : goal.returns-then-contains-clause-spent
 returns-then-contains-clause-spent c = search (rules, arith)
+
+pub returns-clause-asked : goal.returns-clause-asked
+returns-clause-asked c = record {
+  same = record { bytes = refl; cuts = refl };
+  same_failing = refl;
+  moved = refl;
+  stops = (returns-clause-most c).stops;
+}

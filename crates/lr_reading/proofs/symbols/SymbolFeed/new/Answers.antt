@@ -4,7 +4,7 @@ use Rattle.lr_reading.proofs.symbols.SymbolFeed.new.Goals as goal
 pub returns-clause-fresh : goal.returns-clause-fresh
 returns-clause-fresh c =
     let lock = c.in_ok-lock.ensures in
-    record { stands = lock.stands; unfinished = lock.unfinished; taken = refl; most_is = refl }
+    record { stands = lock.stands; unfinished = lock.unfinished; taken = refl; most_is = refl; short = refl }
 
 pub invariant_of-result : goal.invariant_of-result
 invariant_of-result c =

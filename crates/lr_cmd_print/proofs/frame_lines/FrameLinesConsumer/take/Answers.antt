@@ -1,0 +1,25 @@
+use Rattle.std.proofs.Common.{◌∷◌, [], arith, length-append}
+use Rattle.std.proofs.lemmas.Result.{err_from_is_err_and}
+use Rattle.lr_cmd_print.specs.FrameLines.{frame_text, text_of_frames}
+use Rattle.lr_cmd_print.proofs.Lines.{all_but_one}
+use Rattle.lr_cmd_print.proofs.FramesGoOn.{text_put, text_stopped}
+use Rattle.lr_cmd_print.proofs.frame_lines.FrameLinesConsumer.take.Goals as goal
+
+pub returns-in_err-put_frame-clause-stops : goal.returns-in_err-put_frame-clause-stops
+returns-in_err-put_frame-clause-stops g c = λ before arrivals took.
+    let p = err_from_is_err_and c.from_residual.result c.from_residual.ensures.1 in
+    rw (p.1, p.2)
+    (record {
+      same_out = took.same_out;
+      stops = text_stopped g.O.Sink took c.args.arrival.now c.put_frame.new.out _ c.in_err-put_frame.ensures.stopped;
+      others = all_but_one g.O.Sink (λ l. text_of_frames l) arrivals before.out.now c.args.arrival.now
+          (frame_text c.args.self.now.frames c.args.arrival.now.outcome) c.args.self.now.out.now c.put_frame.new.out
+          took.put _ c.in_err-put_frame.ensures.stopped;
+    })
+
+pub returns-clause-takes : goal.returns-clause-takes
+returns-clause-takes g c = λ before arrivals took. record {
+  same_out = took.same_out;
+  count = omega (arith, took.count, length-append arrivals (c.args.arrival.now ∷ []));
+  put = text_put g.O.Sink took c.args.arrival.now c.put_frame.new.out c.in_ok-put_frame.ensures.put;
+}

@@ -1,0 +1,195 @@
+-- What comes of a disk from which no shelf was loaded, and of one from which it was.
+use Rattle.std.proofs.Common.{◌≡◌, ◌⊎◌, inl, inr, ℕ, List, [], ◌∷◌, ◌++◌, refl, sym, ◌∙◌, ap, subst, arith}
+use Rattle.std.proofs.Common.{Result, Err, MatchResult}
+use Rattle.lr_bits.specs.declared.placed.Placed.{Placed}
+use Rattle.lr_io.specs.declared.source.Source.{Ghosts as SourceOf}
+use Rattle.lr_disk.specs.declared.disk.Disk.{Ghosts as DiskOf}
+use Rattle.lr_disk.specs.Pending.{NothingPending}
+use Rattle.lr_disk.proofs.Moments.{weaker, stays, only_read_yet}
+use Rattle.lr_shelf.specs.Load.{IsLoadRefusal, MayRefuseAt}
+use Rattle.lr_shelf.specs.declared.shelf.Shelf.{Shelf}
+use Rattle.lr_shelf.specs.declared.error.ShelfError.{ShelfError}
+use Rattle.lr_shelf.specs.declared.error.ShelfError.TheVariants.{Disk as Disk'}
+use Rattle.lr_shelf.specs.declared.error.ShelfError.TheVariants.{NotAShelf as NotAShelf'}
+use Rattle.lr_shelf.specs.declared.error.ShelfError.TheVariants.{NoMemory as NoMemory'}
+use Rattle.lr_causes.specs.declared.cause.Cause.{Cause}
+use Rattle.lr_causes.specs.declared.cause.Cause.TheVariants.{Done, Failed, NoMemory, Refused}
+use Rattle.lr_causes.specs.declared.cause.Party.TheVariants.{Source, Disk, Output}
+use Rattle.lr_causes.specs.declared.cause.Refusal.TheVariants.{NotAShelf, Capacity}
+use Rattle.lr_causes.specs.Causes.{MayEndBefore}
+use Rattle.lr_refusals.specs.Errors.{cause_of}
+use Rattle.lr_causes.specs.Outside.{counts_in, outlets, outlets_in, world_outlets, World, Outside}
+use Rattle.lr_reading.specs.Readers.{Leeway, leeway_for}
+use Rattle.lr_cmd_receive.proofs.Causing.{first_stays}
+use Rattle.lr_cmd_receive.proofs.Changing.{no_change}
+use Rattle.lr_forms.specs.declared.forms.Input.{Input}
+use Rattle.lr_causes.specs.Counts.{CountsTell}
+use Rattle.lr_cmd_receive.specs.First.{SourceBesides}
+use Rattle.lr_cmd_receive.specs.Inputs.{files_of_bytes}
+use Rattle.lr_reading.specs.Reading.{IsRead}
+use Rattle.lr_shelf.specs.InitialShelves.{InitialShelf, OfItems, OfWay, HoldsStill, StandsWith}
+use Rattle.lr_shelf.specs.InitialShelves.{LeavesPrefixes, next_number}
+use Rattle.lr_cmd_receive.specs.Shelved.{MayStop}
+use Rattle.lr_cmd_receive.specs.Receive.{Receives, IsReceiveCause, IsWorkDone, ReceiveRun, run_onto, receive_query}
+use Rattle.lr_cmd_receive.specs.Reception.{FewWait, taken_bytes}
+use Rattle.lr_cmd_receive.specs.Shelving.{shelved_lines}
+use Rattle.lr_cmd_receive.proofs.Acknowledging.{all_worked, lines_alone}
+use Rattle.lr_cmd_receive.proofs.Growing.{some, none_in}
+use Rattle.lr_cmd_receive.proofs.Headline.{receives}
+use Rattle.lr_cmd_receive.proofs.ReceiveEnding.{got_none}
+use Rattle.lr_cmd_receive.proofs.Taking.{no_bytes}
+use Rattle.lr_cmd_receive.proofs.Timely.{none_put_off}
+use Rattle.lr_reading.specs.Runs.{input_read}
+use Rattle.lr_shelf.proofs.InitialPrefixes.{front_none, begun_items, begun_way}
+
+-- ---- the causes of what `load` refuses
+
+-- it ends the call before any byte is read
+pub ended_before : (e : ShelfError) (at : ℕ) → MayRefuseAt at e → MayEndBefore at (cause_of e)
+ended_before Disk' at may = tt
+ended_before (NotAShelf' at') at may = may
+ended_before NoMemory' at may = tt
+ended_before _ at may = absurd may
+
+pub may_refuse : (at : ℕ) (r : Result Shelf ShelfError) (e : ShelfError) → r ≡ Err e
+    → MatchResult r (λ _. ⊥) (MayRefuseAt at) → MayRefuseAt at e
+may_refuse at r e is match =
+    subst (λ (x : Result Shelf ShelfError). MatchResult x (λ _. ⊥) (MayRefuseAt at)) is match
+
+module _ {D : Type 0} (disk : DiskOf D) (d : D) where
+  pub load_cause : (e : ShelfError) → IsLoadRefusal disk d e → IsReceiveCause (cause_of e)
+  load_cause Disk' refusal = tt
+  load_cause (NotAShelf' at) refusal = tt
+  load_cause NoMemory' refusal = tt
+  load_cause _ refusal = absurd refusal
+
+  -- it is never the capacity
+  pub load_room : (e : ShelfError) → IsLoadRefusal disk d e → (needed most : ℕ)
+      → cause_of e ≡ Refused (Capacity needed most) → ⊥
+  load_room Disk' refusal needed most is = cc (is)
+  load_room (NotAShelf' at) refusal needed most is =
+      let same : NotAShelf at ≡ Capacity needed most = cc (is) in cc (same)
+  load_room NoMemory' refusal needed most is = cc (is)
+  load_room _ refusal needed most is = absurd refusal
+
+  -- and the work isn't done
+  pub load_work : (e : ShelfError) → IsLoadRefusal disk d e → IsWorkDone (cause_of e) → ⊥
+  load_work Disk' refusal done = done
+  load_work (NotAShelf' at) refusal done = done
+  load_work NoMemory' refusal done = done
+  load_work _ refusal done = absurd refusal
+
+-- ---- the causes of a run
+
+stop_cause : (cause : Cause) → MayStop cause → IsReceiveCause cause
+stop_cause (Failed Disk) may = tt
+stop_cause (Failed Output) may = tt
+stop_cause NoMemory may = tt
+stop_cause (Refused (Capacity needed most)) may = tt
+stop_cause _ may = absurd may
+
+work_cause : (cause : Cause) → IsWorkDone cause → IsReceiveCause cause
+work_cause Done done = tt
+work_cause (Failed Source) done = tt
+work_cause _ done = absurd done
+
+pub run_cause : (cause : Cause) → MayStop cause ⊎ IsWorkDone cause → IsReceiveCause cause
+run_cause cause (inl may) = stop_cause cause may
+run_cause cause (inr done) = work_cause cause done
+
+-- a run that read was onto a shelf
+pub run_kind : (cause : Cause) → MayStop cause ⊎ IsWorkDone cause → (at : ℕ) → cause ≡ Refused (NotAShelf at) → ⊥
+run_kind cause (inl may) at is = subst (λ (c : Cause). MayStop c) is may
+run_kind cause (inr done) at is = subst (λ (c : Cause). IsWorkDone c) is done
+
+-- ---- no bytes have no files
+
+-- a full shelf has read some
+pub full_reads : {S : Type 0} (source : SourceOf S) (input : Input) (limit : ℕ) (bytes : List ℕ) (s s' : S)
+    → IsRead source limit bytes s s' → source.tells s → source.left s ≡ []
+    → (done : List Placed) (next : Placed) (rest : List Placed) → files_of_bytes input bytes ≡ done ++ next ∷ rest
+    → ⊥
+full_reads source input limit bytes s s' read tells empty done next rest split =
+    let none : bytes ≡ [] = (none_in bytes (source.left s') (sym (read.moved tells) ∙ empty)).0 in
+    some done next rest (sym split ∙ ap (files_of_bytes input) none ∙ no_bytes input)
+
+-- and where none were taken nothing waits
+pub nothing_waits : {S D O : Type 0} (world : World S D O) (initial : InitialShelf) (input : Input) (leeway : Leeway)
+    (w w' : Outside S D O) (d : D) → HoldsStill initial [] world.disk d
+    → FewWait (world_outlets world) initial (taken_bytes input leeway []) (outlets_in w) (outlets d w.out)
+nothing_waits world initial input leeway w w' d still =
+    all_worked (world_outlets world) initial input leeway [] (outlets_in w) (outlets d w.out)
+    (subst (λ (l : List Placed). HoldsStill initial l world.disk d) (sym (no_bytes input)) still)
+    (lines_alone (world_outlets world) initial (files_of_bytes input []) (outlets_in w) (outlets d w.out)
+    (λ t. got_none world.out initial w.out t ∙ ap (λ (l : List Placed). world.out.contents w.out
+    ++ shelved_lines (next_number initial) l) (sym (no_bytes input))))
+
+-- ---- memory for reading was refused, before anything was called
+
+module _ {S D O : Type 0} (world : World S D O)
+    (only_now : (d : D) (c : List ℕ) → world.disk.tells d → world.disk.left_since d (world.disk.moment d) c
+    → world.disk.may_leave d c)
+    (input : Input) (workers limit : ℕ) (w : Outside S D O) (none : world.disk.only_read w.disk w.disk) where
+  -- nobody failed
+  none_failed : CountsTell SourceBesides NoMemory (counts_in world w) (counts_in world w)
+  none_failed = first_stays NoMemory (world.source.faults w.source) (world.source.faults w.source)
+      (world.disk.faults w.disk) (world.disk.faults w.disk) (world.out.faults w.out) (world.out.faults w.out) tt tt
+      refl refl
+
+  nothing_made : (initial : InitialShelf) → world.disk.tells w.disk
+      → StandsWith initial [] (world.disk.contents w.disk)
+      → NothingPending world.disk w.disk
+      → Receives world (run_onto initial (input_read input limit [])) NoMemory w w
+  nothing_made initial told stands only =
+      receives world input initial limit [] w w NoMemory
+      (subst (λ (l : List Placed). LeavesPrefixes world.disk initial l w.disk w.disk) (sym (no_bytes input))
+      (weaker world.disk.moment world.disk.left_since w.disk w.disk _ _ (front_none initial)
+      (stays world.disk only_now w.disk (StandsWith initial []) told
+      (λ c left. subst (StandsWith initial []) (sym (only c left)) stands))))
+      (record {
+        done = [];
+        rest = [];
+        split = no_bytes input;
+        durable = record { stands = stands; durable = only };
+        got = got_none world.out initial w.out;
+      })
+      none_failed
+
+  pub not_made : ReceiveRun world (receive_query input workers limit) NoMemory w w
+  not_made = record {
+    causes = tt;
+    first = none_failed;
+    bytes = [];
+    read = record { told = λ t. t; untold = λ t. t; moved = λ t. refl; few = omega arith; asked = inl (refl, refl) };
+    told_by_disk = λ t. t;
+    untold_by_disk = λ t. t;
+    told_by_out = λ t. t;
+    untold_by_out = λ t. t;
+    onto_shelf = λ capacity items told durable.
+        nothing_made (OfItems capacity items) told
+        (begun_items capacity items (world.disk.contents w.disk) durable.stands) durable.durable;
+    onto_way = λ way told is only.
+        nothing_made (OfWay way (world.disk.contents w.disk)) told (begun_way way (world.disk.contents w.disk) is)
+        only;
+    keeps_up = λ initial told stands only.
+        none_put_off world input workers initial [] w w w.disk
+        (nothing_waits world initial input (leeway_for input workers) w w w.disk
+        (record { stands = stands; durable = only refl })) (inl (refl, refl));
+    refused = λ at is. cc (is);
+    broken = λ at told no. (
+      tt,
+      record { only_read = only_read_yet world.disk only_now w.disk none; source_stays = refl; out_stays = refl },
+    );
+    full = λ needed most is. cc (is);
+    nothing_fits = λ needed most is. cc (is);
+    room = λ done. absurd done;
+    only_read = λ files. only_read_yet world.disk only_now w.disk none;
+    silent = λ none early. refl;
+    unasked = λ none failed. refl;
+    ended = λ done. absurd done;
+    outside = λ way told is.
+        no_change way (files_of_bytes input []) (world.disk.contents w.disk) (world.disk.contents w.disk) refl;
+    outside_any_moment = λ way told is only.
+        stays world.disk only_now w.disk _ told
+        (λ c image. no_change way (files_of_bytes input []) (world.disk.contents w.disk) c (only c image));
+  }

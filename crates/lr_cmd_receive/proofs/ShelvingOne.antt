@@ -1,0 +1,305 @@
+-- What the shelving of one outcome comes to: its file is appended and told, or why not.
+use Rattle.std.proofs.Common.{◌≡◌, inl, inr, ◌+◌, ◌-◌, ◌≤◌, ◌<◌, ℕ, List, [], ◌∷◌, ◌++◌, length, min, refl, sym}
+use Rattle.std.proofs.Common.{◌∙◌, ap, subst, arith, append_assoc, append-nil, length-append}
+use Rattle.std.proofs.Common.{⊎_elim, Result, Ok, Err, OnOk}
+use Rattle.std.proofs.lemmas.Bool.{cases_lt}
+use Rattle.lr_bits.specs.File.{IsFile}
+use Rattle.lr_bits.specs.declared.placed.Placed.{Placed}
+use Rattle.lr_bits.specs.Sizes.{most_u64}
+use Rattle.lr_io.specs.declared.sink.Sink.{Ghosts as SinkOf}
+use Rattle.lr_disk.specs.declared.disk.Disk.{Ghosts as DiskOf}
+use Rattle.lr_disk.specs.Pending.{EachImageSince}
+use Rattle.lr_disk.proofs.Moments.{weaker}
+use Rattle.lr_shelf.specs.Adding.{StaysOutside}
+use Rattle.lr_shelf.specs.Adds.{new_end}
+use Rattle.lr_shelf.specs.Append.{Appends, IsAppendRefusal, item_for}
+use Rattle.lr_shelf.specs.Calls.{IsFaultCounted}
+use Rattle.lr_shelf.specs.Kept.{KeptShelf, kept_by, shelf_on}
+use Rattle.lr_shelf.specs.declared.shelf.Shelf.{Shelf}
+use Rattle.lr_shelf.specs.declared.error.ShelfError.{ShelfError}
+use Rattle.lr_shelf.specs.declared.error.ShelfError.TheVariants.{Disk as Disk'}
+use Rattle.lr_shelf.specs.declared.error.ShelfError.TheVariants.{Capacity as Capacity'}
+use Rattle.lr_shelf.specs.declared.error.ShelfError.TheVariants.{NoMemory as NoMemory'}
+use Rattle.lr_shelf.specs.declared.error.ShelfError.TheVariants.{Failed as Failed'}
+use Rattle.lr_catalog.specs.Files.{shelved_line}
+use Rattle.lr_causes.specs.declared.cause.Cause.TheVariants.{Failed, NoMemory}
+use Rattle.lr_causes.specs.declared.cause.Party.TheVariants.{Disk, Output}
+use Rattle.lr_refusals.specs.Errors.{cause_of}
+use Rattle.lr_causes.specs.Puts.{Puts, PutFails}
+use Rattle.lr_shelf.specs.InitialShelves.{InitialShelf, IsSettledOn, next_number, StandsWith, StandsWithEither}
+use Rattle.lr_shelf.specs.Prefixes.{HasRoom, end_with}
+use Rattle.lr_cmd_receive.specs.Onto.{ChangesImagesFor}
+use Rattle.lr_cmd_receive.specs.Shelving.{shelved_lines}
+use Rattle.lr_cmd_receive.specs.Shelved.{ShelvesSoFar, HasShelved, StopsShelving, Grows, GrowsNoMore, shelf_in}
+use Rattle.lr_cmd_receive.proofs.Acknowledging.{either_acknowledged, lines_alone, still_acknowledged}
+use Rattle.lr_cmd_receive.proofs.Causing.{append_works, first_out, first_refused, first_stays}
+use Rattle.lr_cmd_receive.proofs.Changing.{change_for, no_change}
+use Rattle.lr_shelf.proofs.InitialShelves.{left_on, moments_on, now_on, settled_on}
+use Rattle.lr_cmd_receive.proofs.Growing.{grows_one, stops_at_one, stops_for_memory}
+use Rattle.lr_cmd_receive.proofs.ShelvedLines.{shelved_lines-cons, shelved_lines-none}
+use Rattle.lr_causes.specs.Outside.{outlets, outlets_of, Outlets, OutletsOf}
+use Rattle.lr_cmd_receive.proofs.Shelving.{append_kind, out_of_memory, append_stopped, line_put, line_stopped}
+
+-- ---- the append itself
+
+-- the disk's count stayed at `Ok`
+pub same_of : {D A : Type 0} (disk : DiskOf D) (d d' : D) (result : Result A ShelfError) (answer : A)
+    → result ≡ Ok answer → IsFaultCounted (disk.faults d) (disk.faults d') result → disk.faults d' ≡ disk.faults d
+same_of {D = D} {A = A} disk d d' result answer is counted =
+    subst (λ (r : Result A ShelfError). IsFaultCounted (disk.faults d) (disk.faults d') r) is counted
+
+module _ {D O : Type 0} (disk : DiskOf D) (placed : Placed) (shelf shelf' : Shelf) (d d' : D) (o : O)
+    (result : Result ℕ ShelfError) (appends : Appends disk placed (shelf_on shelf d) (shelf_on shelf' d') result) where
+  -- the file had room
+  pub appended : (answer : ℕ) → result ≡ Ok answer → (o' : O)
+      → Grows (placed ∷ []) (shelf_in shelf (outlets d o)) (shelf_in shelf' (outlets d' o'))
+  appended answer is o' =
+      grows_one placed shelf shelf' (outlets d o) (outlets d' o') (at_ok appends.adds.kept)
+      (⊎_elim (λ over. absurd (refused over)) (λ fits. omega (arith, fits))
+      (cases_lt (kept_by shelf).way.capacity (new_end (item_for placed) (kept_by shelf))))
+    where
+      at_ok : {P : Type 0} → OnOk result P → P
+      at_ok {P} p = subst (λ (r : Result ℕ ShelfError). OnOk r P) is p
+
+      refused : (kept_by shelf).way.capacity < new_end (item_for placed) (kept_by shelf) → ⊥
+      refused over =
+          let no = appends.full (at_ok appends.adds.working) over in
+          cc (is, no)
+
+  -- it had none, or the append stopped for another cause
+  pub not_appended : (e : ShelfError) → IsAppendRefusal (item_for placed) (kept_by shelf) e
+      → GrowsNoMore (cause_of e) (placed ∷ []) (shelf_in shelf (outlets d o)) (outlets d' o)
+  not_appended (Capacity' needed most) refusal = record {
+    full = λ needed' most' is.
+        let same_needed : needed ≡ needed' = cc (is) in
+        let same_most : most ≡ most' = cc (is) in
+        let there : end_with (kept_by shelf).way.end (placed ∷ []) ≡ new_end (item_for placed) (kept_by shelf) =
+        omega arith in
+        record {
+          done = [];
+          next = placed;
+          rest = [];
+          split = refl;
+          room = inl refl;
+          over = omega (arith, there, refusal.1);
+          needs = sym same_needed ∙ refusal.2 ∙ ap (λ (n : ℕ). min n most_u64) (sym there);
+          of = sym same_most ∙ refusal.3;
+        };
+    none = λ is. cc (is);
+  }
+  not_appended Disk' refusal =
+      stops_at_one (Failed Disk) placed shelf (outlets d o) (outlets d' o) (λ needed most is. cc (is))
+  not_appended NoMemory' refusal =
+      stops_at_one NoMemory placed shelf (outlets d o) (outlets d' o) (λ needed most is. cc (is))
+  not_appended Failed' refusal =
+      stops_at_one (Failed Disk) placed shelf (outlets d o) (outlets d' o) (λ needed most is. cc (is))
+  not_appended _ refusal = absurd refusal
+
+-- ---- one file
+
+-- what stays outside of its item
+outside_one : (placed : Placed) (shelf : Shelf) (old new : List ℕ)
+    → StaysOutside ((kept_by shelf).way.end - 1) (new_end (item_for placed) (kept_by shelf)) old new
+    → StaysOutside ((kept_by shelf).way.end - 1) (end_with (kept_by shelf).way.end (placed ∷ [])) old new
+outside_one placed shelf old new stays =
+    let there : new_end (item_for placed) (kept_by shelf) ≡ end_with (kept_by shelf).way.end (placed ∷ []) =
+    omega arith in
+    subst (λ (n : ℕ). StaysOutside ((kept_by shelf).way.end - 1) n old new) there stays
+
+-- the same at each moment, where there is room for it
+images_one : {D : Type 0} (disk : DiskOf D) (placed : Placed) (shelf : Shelf) (d d' : D)
+    → HasRoom (kept_by shelf).way (placed ∷ [])
+    → EachImageSince disk d d'
+    (StaysOutside ((kept_by shelf).way.end - 1) (new_end (item_for placed) (kept_by shelf)) (disk.contents d))
+    → ChangesImagesFor disk (kept_by shelf).way (placed ∷ []) d d'
+images_one disk placed shelf d d' room run =
+    weaker disk.moment disk.left_since d d' _ _
+    (λ c stays.
+    change_for (kept_by shelf).way (placed ∷ []) (disk.contents d) c room
+    (outside_one placed shelf (disk.contents d) c stays)) run
+
+-- there was no memory for its line
+pub no_line : {D O : Type 0} (world : OutletsOf D O) (files : List Placed) (shelf : Shelf) (w : Outlets D O)
+    → StopsShelving world NoMemory files (shelf_in shelf w) w
+no_line world files shelf w = record {
+  kind = tt;
+  told_by_disk = λ t. t;
+  untold_by_disk = λ t. t;
+  told_by_out = λ t. t;
+  untold_by_out = λ t. t;
+  first = λ works. first_stays NoMemory 0 0 (world.disk.faults w.disk) (world.disk.faults w.disk)
+      (world.out.faults w.out) (world.out.faults w.out) tt tt refl refl;
+  stops = λ initial done before so_far. out_of_memory world initial done shelf before w so_far files;
+  keeps = λ initial done before so_far. still_acknowledged world initial done files before w so_far.settled.on_disk
+      (lines_alone world initial done before w so_far.put.put);
+  grown = stops_for_memory files shelf w;
+  outside = λ t.
+      no_change (kept_by shelf).way files (world.disk.contents w.disk) (world.disk.contents w.disk) refl;
+  moments = λ t only. inl refl;
+}
+
+module _ {D O : Type 0} (disk : DiskOf D)
+    (leaves_contents : (d : D) → disk.tells d → disk.may_leave d (disk.contents d))
+    (counts_now : (d : D) (t : ℕ) (c : List ℕ) → disk.tells d → t ≤ disk.moment d → disk.may_leave d c
+    → disk.left_since d t c)
+    (out : SinkOf O) (placed : Placed) (shelf shelf' : Shelf) (d d' : D) (o : O) where
+  -- it wasn't appended
+  pub one_refused : (e : ShelfError) → IsFile placed.file
+      → Appends disk placed (shelf_on shelf d) (shelf_on shelf' d') (Err e)
+      → StopsShelving (outlets_of disk out) (cause_of e) (placed ∷ []) (shelf_in shelf (outlets d o)) (outlets d' o)
+  one_refused e is appends =
+      let adds = appends.adds in
+      record {
+        kind = append_kind (item_for placed) (kept_by shelf) e appends.refused;
+        told_by_disk = adds.calls.told;
+        untold_by_disk = adds.calls.untold;
+        told_by_out = λ t. t;
+        untold_by_out = λ t. t;
+        first = λ works. first_refused {A = ℕ} e (Err e) 0 0 (disk.faults d) (disk.faults d') (out.faults o) refl
+            (append_works (item_for placed) (kept_by shelf) e appends.refused works) adds.calls.counted;
+        stops = λ initial done before so_far.
+            let settled = so_far.settled in
+            append_stopped (outlets_of disk out) initial done shelf before (outlets d o) so_far placed d'
+            (moments_on disk leaves_contents counts_now done placed shelf shelf' d d' (Err e) adds initial settled)
+            e is
+            (now_on disk leaves_contents counts_now done placed shelf shelf' d d' (Err e) adds initial settled)
+            (left_on disk leaves_contents counts_now done placed shelf shelf' d d' (Err e) adds initial settled)
+            (λ other. ⊎_elim (λ is. absurd (other is)) (λ same. same.0) adds.untouched)
+            appends.refused;
+        keeps = λ initial done before so_far.
+            let settled = so_far.settled in
+            either_acknowledged (outlets_of disk out) initial done placed before (outlets d' o)
+            (now_on disk leaves_contents counts_now done placed shelf shelf' d d' (Err e) adds initial settled)
+            (left_on disk leaves_contents counts_now done placed shelf shelf' d d' (Err e) adds initial settled)
+            (lines_alone (outlets_of disk out) initial done before (outlets d' o) so_far.put.put);
+        grown = not_appended disk placed shelf shelf' d d' o (Err e) appends e appends.refused;
+        outside = λ t. ⊎_elim
+            (λ failed.
+            let refusal : IsAppendRefusal (item_for placed) (kept_by shelf) Disk' =
+            subst (IsAppendRefusal (item_for placed) (kept_by shelf)) failed appends.refused in
+            change_for (kept_by shelf).way (placed ∷ []) (disk.contents d) (disk.contents d')
+            (inr (omega (arith, refusal.1))) (outside_one placed shelf (disk.contents d) (disk.contents d')
+            (adds.outside t)))
+            (λ same.
+            no_change (kept_by shelf).way (placed ∷ []) (disk.contents d) (disk.contents d')
+            (ap disk.contents same.0))
+            adds.untouched;
+        moments = λ t only. ⊎_elim
+            (λ failed.
+            let refusal : IsAppendRefusal (item_for placed) (kept_by shelf) Disk' =
+            subst (IsAppendRefusal (item_for placed) (kept_by shelf)) failed appends.refused in
+            inr (images_one disk placed shelf d d' (inr (omega (arith, refusal.1)))
+            (adds.outside_any_moment t only)))
+            (λ same. inl same.0)
+            adds.untouched;
+      }
+
+  -- it was
+  module _ (number : ℕ) (appends : Appends disk placed (shelf_on shelf d) (shelf_on shelf' d') (Ok number)) (n : ℕ)
+      (text : List ℕ)
+      (place : n ≡ length (kept_by shelf).way.entries) (is : text ≡ shelved_line n placed.file) (o' : O) where
+    module _ (initial : InitialShelf) (done : List Placed) (before : Outlets D O)
+        (so_far : ShelvesSoFar (outlets_of disk out) initial done before (shelf_in shelf (outlets d o))) where
+      settled_now : IsSettledOn initial (done ++ placed ∷ []) disk shelf' d'
+      settled_now =
+          settled_on disk leaves_contents counts_now done placed shelf shelf' d d' number appends.adds initial
+          so_far.settled
+
+      run : EachImageSince disk d d' (StandsWithEither initial done placed)
+      run =
+          moments_on disk leaves_contents counts_now done placed shelf shelf' d d' (Ok number) appends.adds initial
+          so_far.settled
+
+    -- and its line was put
+    pub one_shelved : Puts out text o o'
+        → HasShelved (outlets_of disk out) (placed ∷ []) (shelf_in shelf (outlets d o))
+        (shelf_in shelf' (outlets d' o'))
+    one_shelved put = record {
+      told_by_disk = appends.adds.calls.told;
+      untold_by_disk = appends.adds.calls.untold;
+      told_by_out = put.told;
+      untold_by_out = put.untold;
+      working = λ works. ap (λ (k : KeptShelf). k.failed) appends.adds.kept ∙ works;
+      disk_count = appends.adds.calls.counted;
+      out_count = put.kept;
+      shelved = λ initial done before so_far.
+          line_put (outlets_of disk out) initial done shelf before (outlets d o) so_far placed
+          d' (run initial done before so_far) shelf'
+          (settled_now initial done before so_far) n text place is o' appends.adds.calls.counted put;
+      grown = appended disk placed shelf shelf' d d' o (Ok number) appends number refl o';
+      count = ap (λ (k : KeptShelf). length k.way.entries) appends.adds.kept
+          ∙ length-append (kept_by shelf).way.entries (_ ∷ []);
+      put = λ t. put.put t ∙ ap (λ (l : List ℕ). out.contents o ++ l) one_line;
+      outside = λ t.
+          outside_one placed shelf (disk.contents d) (disk.contents d') (appends.adds.outside t);
+      moments = λ t only. (
+        appends.adds.durable t,
+        inr (images_one disk placed shelf d d'
+            (appended disk placed shelf shelf' d d' o (Ok number) appends number refl o').room
+            (appends.adds.outside_any_moment t only)),
+      );
+    }
+      where
+        one_line : text ≡ shelved_lines (length (kept_by shelf).way.entries) (placed ∷ [])
+        one_line =
+            is ∙ ap (λ (k : ℕ). shelved_line k placed.file) place
+            ∙ sym (append-nil (shelved_line (length (kept_by shelf).way.entries) placed.file))
+            ∙ ap (λ (l : List ℕ). shelved_line (length (kept_by shelf).way.entries) placed.file ++ l)
+            (sym (shelved_lines-none (length (kept_by shelf).way.entries + 1)))
+            ∙ sym (shelved_lines-cons (length (kept_by shelf).way.entries) placed [])
+
+    -- and a part of its line
+    pub one_cut : PutFails out text o o'
+        → StopsShelving (outlets_of disk out) (Failed Output) (placed ∷ []) (shelf_in shelf (outlets d o))
+        (outlets d' o')
+    one_cut fails = record {
+      kind = tt;
+      told_by_disk = appends.adds.calls.told;
+      untold_by_disk = appends.adds.calls.untold;
+      told_by_out = fails.told;
+      untold_by_out = fails.untold;
+      first = λ works. first_out 0 0 (disk.faults d) (disk.faults d') (out.faults o) (out.faults o') fails.rose
+          appends.adds.calls.counted;
+      stops = λ initial done before so_far.
+          line_stopped (outlets_of disk out) initial done shelf before (outlets d o) so_far
+          placed d' (run initial done before so_far) shelf'
+          (settled_now initial done before so_far) n text place is o' fails;
+      keeps = λ initial done before so_far.
+          let both = done ++ placed ∷ [] in
+          let lines = shelved_lines (next_number initial) done in
+          let still = (settled_now initial done before so_far).on_disk in record {
+            others = placed ∷ [];
+            split = refl;
+            held = record {
+              contents = record {
+                first = both;
+                rest = [];
+                split = sym (append-nil both);
+                enough = omega (arith, length-append done (placed ∷ []));
+                stands = still.stands;
+              };
+              images = λ c image. record {
+                first = both;
+                rest = [];
+                split = sym (append-nil both);
+                enough = omega (arith, length-append done (placed ∷ []));
+                stands = subst (StandsWith initial both) (sym (still.durable c image)) still.stands;
+              };
+            };
+            told = λ t.
+                let cut = fails.part (so_far.put.told t) in (
+                  cut.part,
+                  cut.put ∙ ap (λ (l : List ℕ). l ++ cut.part) (so_far.put.put t)
+                      ∙ append_assoc (out.contents before.out) lines cut.part,
+                );
+          };
+      grown = stops_at_one (Failed Output) placed shelf (outlets d o) (outlets d' o') (λ needed most is. cc (is));
+      outside = λ t.
+          change_for (kept_by shelf).way (placed ∷ []) (disk.contents d) (disk.contents d')
+          (appended disk placed shelf shelf' d d' o (Ok number) appends number refl o').room
+          (outside_one placed shelf (disk.contents d) (disk.contents d') (appends.adds.outside t));
+      moments = λ t only.
+          inr (images_one disk placed shelf d d'
+          (appended disk placed shelf shelf' d d' o (Ok number) appends number refl o').room
+          (appends.adds.outside_any_moment t only));
+    }

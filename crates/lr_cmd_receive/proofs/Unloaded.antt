@@ -1,0 +1,356 @@
+-- What `receive` comes to where the shelf was not loaded.
+use Rattle.std.proofs.Common.{◌≡◌, inl, inr, false, ℕ, List, [], refl, sym, ◌∙◌, ap, subst, arith}
+use Rattle.std.proofs.Common.{Result, Ok, Err, IfOk, MatchResult, OnOk, append-nil, length, ⊎_elim}
+use Rattle.lr_bits.specs.declared.placed.Placed.{Placed}
+use Rattle.lr_disk.specs.Reads.{IsOnlyRead}
+use Rattle.lr_disk.specs.Pending.{EachImageSince, NothingPending}
+use Rattle.lr_disk.proofs.Moments.{joined, weaker, stays}
+use Rattle.lr_shelf_format.specs.Items.{Item}
+use Rattle.lr_shelf_format.specs.ShelfBytes.{StandsForShelf}
+use Rattle.lr_shelf_format.specs.Way.{IsWay, IsNoShelfAt, Way}
+use Rattle.lr_shelf_format.proofs.WayLemmas.{has_one_way, has_way}
+use Rattle.lr_shelf.specs.Kept.{kept_by}
+use Rattle.lr_shelf.specs.Load.{Loads, IsLoadRefusal, MayRefuseAt}
+use Rattle.lr_shelf.specs.Shelf.{IsDurable, IsSettled, KeepsWay}
+use Rattle.lr_shelf.specs.declared.shelf.Shelf.{Shelf}
+use Rattle.lr_shelf.specs.declared.error.ShelfError.{ShelfError}
+use Rattle.lr_shelf.specs.declared.error.ShelfError.TheVariants.{Disk as Disk'}
+use Rattle.lr_shelf.specs.declared.error.ShelfError.TheVariants.{NotAShelf as NotAShelf'}
+use Rattle.lr_shelf.specs.declared.error.ShelfError.TheVariants.{NoMemory as NoMemory'}
+use Rattle.lr_causes.specs.declared.cause.Cause.{Cause}
+use Rattle.lr_causes.specs.declared.cause.Cause.TheVariants.{Done, Failed, NoMemory, Refused}
+use Rattle.lr_causes.specs.declared.cause.Party.TheVariants.{Source, Disk}
+use Rattle.lr_causes.specs.declared.cause.Refusal.TheVariants.{NotAShelf}
+use Rattle.lr_refusals.specs.Errors.{cause_of}
+use Rattle.lr_causes.specs.Outside.{counts_in, outlets, outside, outlets_in, world_outlets, World, Outside}
+use Rattle.lr_reading.specs.Readers.{leeway_for}
+use Rattle.lr_cmd_receive.proofs.Causing.{first_later, first_refused}
+use Rattle.lr_cmd_receive.proofs.Changing.{no_change}
+use Rattle.lr_forms.specs.declared.forms.Input.{Input}
+use Rattle.lr_causes.specs.Counts.{CountsTell}
+use Rattle.lr_cmd_receive.specs.First.{SourceBesides}
+use Rattle.lr_cmd_receive.specs.Inputs.{files_of_bytes}
+use Rattle.lr_shelf.specs.InitialShelves.{InitialShelf, OfItems, OfWay, HoldsStill, IsSettledOn, StandsWith}
+use Rattle.lr_shelf.specs.InitialShelves.{LeavesPrefixes}
+use Rattle.lr_cmd_receive.specs.Onto.{ChangesFor, ChangesImagesFor}
+use Rattle.lr_cmd_receive.specs.Shelved.{ShelvesSoFar, shelf_in}
+use Rattle.lr_cmd_receive.specs.Receive.{Ends, Receives, IsWorkDone, EndsWork, IsUntouched}
+use Rattle.lr_cmd_receive.specs.Receive.{PutsNoFileOff, ReceiveRun, run_onto, taken_by, receive_query}
+use Rattle.lr_cmd_receive.specs.Reception.{EndsRun, reception}
+use Rattle.lr_cmd_receive.proofs.Headline.{receives}
+use Rattle.lr_cmd_receive.proofs.ReceiveEnding.{got_none, loaded}
+use Rattle.lr_cmd_receive.proofs.ShelvingOne.{same_of}
+use Rattle.lr_cmd_receive.proofs.Taking.{no_bytes}
+use Rattle.lr_cmd_receive.proofs.Timely.{none_put_off}
+use Rattle.lr_shelf.proofs.InitialPrefixes.{front_none, begun_items, begun_way, still_holds}
+use Rattle.lr_shelf.proofs.InitialPrefixes.{still_left, settled_on_items}
+use Rattle.lr_cmd_receive.proofs.Loading.{ended_before, may_refuse, load_cause, load_room, load_work, run_cause}
+use Rattle.lr_reading.specs.Runs.{input_read}
+use Rattle.lr_cmd_receive.proofs.Loading.{run_kind, full_reads, nothing_waits}
+
+-- ---- the shelf was to be loaded
+
+module _ {S D O : Type 0} (world : World S D O) (input : Input) (workers limit : ℕ) (w : Outside S D O) (d1 : D)
+    (result : Result Shelf ShelfError) (loads : Loads world.disk w.disk d1 result) where
+  -- the disk was only read
+  abbrev read_only : Outside S D O
+  read_only = outside w.source d1 w.out
+
+  -- the first event decides
+  first_of : (e : ShelfError) → result ≡ Err e → IsLoadRefusal world.disk w.disk e
+      → CountsTell SourceBesides (cause_of e) (counts_in world w) (counts_in world read_only)
+  first_of e is refusal =
+      first_refused e result (world.source.faults w.source) (world.source.faults w.source)
+      (world.disk.faults w.disk) (world.disk.faults d1) (world.out.faults w.out)
+      is (λ failed. subst (λ (x : ShelfError). IsLoadRefusal world.disk w.disk x) failed refusal)
+      loads.calls.counted
+
+  module _ (initial : InitialShelf) (told : world.disk.tells w.disk)
+      (stands : StandsWith initial [] (world.disk.contents w.disk))
+      (only : NothingPending world.disk w.disk) where
+    still : HoldsStill initial [] world.disk d1
+    still = still_holds world.disk initial w.disk d1 (loads.only_read.unwritten told) stands only
+
+    loading : EachImageSince world.disk w.disk d1 (StandsWith initial [])
+    loading = still_left world.disk initial w.disk d1 (loads.only_read.unwritten told) stands only
+
+    none : (cause : Cause) → Ends world (run_onto initial (input_read input limit [])) cause w read_only
+        → CountsTell SourceBesides cause (counts_in world w) (counts_in world read_only)
+        → Receives world (run_onto initial (input_read input limit [])) cause w read_only
+    none cause ends first =
+        receives world input initial limit [] w read_only cause
+        (subst (λ (l : List Placed). LeavesPrefixes world.disk initial l w.disk d1) (sym (no_bytes input))
+        (weaker world.disk.moment world.disk.left_since w.disk d1 _ _ (front_none initial) loading))
+        ends first
+
+    nothing : (e : ShelfError) → result ≡ Err e → IsLoadRefusal world.disk w.disk e
+        → ((at : ℕ) → IsNoShelfAt (world.disk.contents w.disk) at → ⊥)
+        → Receives world (run_onto initial (input_read input limit [])) (cause_of e) w read_only
+    nothing Disk' is refusal shelf = none (Failed Disk) (record {
+      done = [];
+      rest = [];
+      split = no_bytes input;
+      contents = inl still.stands;
+      images = λ c image. inl (subst (StandsWith initial []) (sym (still.durable c image)) still.stands);
+      got = got_none world.out initial w.out;
+    }) (first_of Disk' is refusal)
+    nothing (NotAShelf' at) is refusal shelf = absurd (shelf at (refusal told))
+    nothing NoMemory' is refusal shelf = none NoMemory (record {
+      done = [];
+      rest = [];
+      split = no_bytes input;
+      durable = still;
+      got = got_none world.out initial w.out;
+    }) (first_of NoMemory' is refusal)
+    nothing _ is refusal shelf = absurd refusal
+
+  -- nothing is written while it is loaded
+  loading_images : (way : Way) (files : List Placed) → world.disk.tells w.disk → NothingPending world.disk w.disk
+      → ChangesImagesFor world.disk way files w.disk d1
+  loading_images way files told only =
+      weaker world.disk.moment world.disk.left_since w.disk d1 _ _
+      (λ c image. no_change way files (world.disk.contents w.disk) c (only c image))
+      (loads.only_read.unwritten told).any_moment
+
+  only_read : IsUntouched world w read_only
+  only_read = record { only_read = loads.only_read; source_stays = refl; out_stays = refl }
+
+  refused : (e : ShelfError) (at : ℕ) → IsLoadRefusal world.disk w.disk e → cause_of e ≡ Refused (NotAShelf at)
+      → world.disk.tells w.disk → IsNoShelfAt (world.disk.contents w.disk) at
+  refused Disk' at refusal is = cc (is)
+  refused (NotAShelf' at') at refusal is =
+      let same : at' ≡ at = cc (is) in
+      λ t. subst (λ (k : ℕ). IsNoShelfAt (world.disk.contents w.disk) k) same (refusal t)
+  refused NoMemory' at refusal is = cc (is)
+  refused _ at refusal is = absurd refusal
+
+  -- it wasn't
+  pub not_loaded : (e : ShelfError) → result ≡ Err e → IsLoadRefusal world.disk w.disk e
+      → ReceiveRun world (receive_query input workers limit) (cause_of e) w read_only
+  not_loaded e is refusal = record {
+    causes = load_cause world.disk w.disk e refusal;
+    first = first_of e is refusal;
+    bytes = [];
+    read = record { told = λ t. t; untold = λ t. t; moved = λ t. refl; few = omega arith; asked = inl (refl, refl) };
+    told_by_disk = loads.calls.told;
+    untold_by_disk = loads.calls.untold;
+    told_by_out = λ t. t;
+    untold_by_out = λ t. t;
+    onto_shelf = λ capacity items told durable.
+        nothing (OfItems capacity items) told
+        (begun_items capacity items (world.disk.contents w.disk) durable.stands)
+        durable.durable e is refusal
+        (λ at no. (has_one_way (world.disk.contents w.disk)).none _ at
+        (has_way (world.disk.contents w.disk) capacity items durable.stands)
+        no);
+    onto_way = λ way told way_is only.
+        nothing (OfWay way (world.disk.contents w.disk)) told (begun_way way (world.disk.contents w.disk) way_is)
+        only e is refusal
+        (λ at no. (has_one_way (world.disk.contents w.disk)).none way at way_is no);
+    keeps_up = λ initial told stands only.
+        none_put_off world input workers initial [] w read_only w.disk
+        (nothing_waits world initial input (leeway_for input workers) w w d1
+        (still initial told stands (only refl))) (inl (refl, refl));
+    refused = λ at named. (refused e at refusal named, only_read);
+    broken = λ at told no. (ended_before e at (may_refuse at result e is (loads.broken at told no)), only_read);
+    full = λ needed most named. absurd (load_room world.disk w.disk e refusal needed most named);
+    nothing_fits = λ needed most named. absurd (load_room world.disk w.disk e refusal needed most named);
+    room = λ done. absurd (load_work world.disk w.disk e refusal done);
+    only_read = λ none. loads.only_read;
+    silent = λ none early. refl;
+    unasked = λ none failed. refl;
+    ended = λ done. absurd (load_work world.disk w.disk e refusal done);
+    outside = λ way told is.
+        no_change way (files_of_bytes input []) (world.disk.contents w.disk) (world.disk.contents d1)
+        (loads.only_read.unwritten told).contents;
+    outside_any_moment = λ way told is only. loading_images way (files_of_bytes input []) told only;
+  }
+
+  -- it was
+  module _ (only_now : (d : D) (c : List ℕ) → world.disk.tells d → world.disk.left_since d (world.disk.moment d) c
+      → world.disk.may_leave d c)
+      (shelf : Shelf) (is : result ≡ Ok shelf) (w' : Outside S D O) (cause : Cause)
+      (run : EndsRun world (reception input limit (leeway_for input workers)) cause (shelf_in shelf read_only) w')
+    where
+      if_ok : (P : Shelf → Type 0) → IfOk result P → P shelf
+      if_ok P holds = subst (λ (r : Result Shelf ShelfError). IfOk r P) is holds
+
+      same_count : world.disk.faults d1 ≡ world.disk.faults w.disk
+      same_count = same_of world.disk w.disk d1 result shelf is loads.calls.counted
+
+      working : (kept_by shelf).failed ≡ false
+      working = if_ok (λ x. (kept_by x).failed ≡ false) loads.working
+
+      is_way : world.disk.tells w.disk → IsWay (world.disk.contents w.disk) (kept_by shelf).way
+      is_way told =
+          subst (λ (l : List ℕ). IsWay l (kept_by shelf).way) (loads.only_read.unwritten told).contents
+          (if_ok (KeepsWay (world.disk.contents d1)) (loads.way told))
+
+      -- the first event decides
+      first_run : CountsTell SourceBesides cause (counts_in world w) (counts_in world w')
+      first_run = first_later cause (world.source.faults w.source) (world.source.faults w'.source)
+          (world.disk.faults w.disk) (world.disk.faults d1) (world.disk.faults w'.disk)
+          (world.out.faults w.out) (world.out.faults w.out) (world.out.faults w'.out) same_count
+          refl (run.first working)
+
+      -- on an initial shelf that the shelf was loaded from
+      onto : (initial : InitialShelf) (told : world.disk.tells w.disk)
+          → StandsWith initial [] (world.disk.contents w.disk)
+          → NothingPending world.disk w.disk
+          → IsSettledOn initial [] world.disk shelf d1
+          → Receives world (run_onto initial (input_read input limit run.bytes)) cause w w'
+      onto initial told stands only settled =
+          let begun = loaded (world_outlets world) initial (outlets_in w) d1 shelf settled
+          (loading initial told stands only) same_count in
+          let all = run.ends initial (outlets_in w) begun in
+          receives world input initial limit run.bytes w w' cause all.0 all.1 first_run
+
+      onto_shelf : (capacity : ℕ) (items : List Item) → world.disk.tells w.disk
+          → IsDurable world.disk capacity items w.disk
+          → Receives world (run_onto (OfItems capacity items) (input_read input limit run.bytes)) cause w w'
+      onto_shelf capacity items told durable =
+          onto (OfItems capacity items) told (begun_items capacity items (world.disk.contents w.disk) durable.stands)
+          durable.durable
+          (settled_on_items world.disk capacity items shelf d1
+          (if_ok (λ x. IsSettled world.disk capacity items x d1) (loads.settled capacity items told durable.stands)))
+
+      onto_way : (way : Way) → world.disk.tells w.disk → IsWay (world.disk.contents w.disk) way
+          → NothingPending world.disk w.disk
+          → Receives world (run_onto (OfWay way (world.disk.contents w.disk)) (input_read input limit run.bytes)) cause
+          w w'
+      onto_way way told way_is only =
+          let begins = begun_way way (world.disk.contents w.disk) way_is in
+          let same : (kept_by shelf).way ≡ way =
+          (has_one_way (world.disk.contents w.disk)).way (kept_by shelf).way way (is_way told) way_is in
+          onto (OfWay way (world.disk.contents w.disk)) told begins only
+          (record {
+            told = loads.calls.told told;
+            kept = record { way = same; working = working };
+            on_disk = still (OfWay way (world.disk.contents w.disk)) told begins only;
+          })
+
+      -- also where something was pending on the disk: it was synced first
+      settled_after : (initial : InitialShelf) → world.disk.tells w.disk
+          → StandsWith initial [] (world.disk.contents w.disk)
+          → IsSettledOn initial [] world.disk shelf d1
+      settled_after (OfItems capacity items) told stands =
+          settled_on_items world.disk capacity items shelf d1
+          (if_ok (λ x. IsSettled world.disk capacity items x d1) (loads.settled capacity items told
+          (subst (StandsForShelf (world.disk.contents w.disk) capacity) (append-nil items) stands)))
+      settled_after (OfWay way old) told stands = record {
+        told = loads.calls.told told;
+        kept = record {
+          way = (has_one_way (world.disk.contents w.disk)).way (kept_by shelf).way way (is_way told) stands.is_way;
+          working = working;
+        };
+        on_disk = record {
+          stands = subst (StandsWith (OfWay way old) []) (sym (loads.only_read.unwritten told).contents) stands;
+          durable = subst (λ (r : Result Shelf ShelfError). OnOk r (NothingPending world.disk d1)) is
+              (loads.synced told);
+        };
+      }
+
+      still_after : (initial : InitialShelf) (c : Cause) (before : Outside S D O) → IsWorkDone c
+          → Ends world (run_onto initial (input_read input limit run.bytes)) c before w'
+          → HoldsStill initial (files_of_bytes input run.bytes) world.disk w'.disk
+      still_after initial Done before done (inl ends) = ends.durable
+      still_after initial Done before done (inr ends) = ends.durable
+      still_after initial (Failed Source) before done ends = ends.durable
+      still_after initial _ before done ends = absurd done
+
+      -- from the disk as it was loaded
+      begun_after : (initial : InitialShelf) → world.disk.tells w.disk
+          → StandsWith initial [] (world.disk.contents w.disk)
+          → ShelvesSoFar (world_outlets world) initial [] (outlets d1 w.out) (shelf_in shelf (outlets d1 w.out))
+      begun_after initial told stands =
+          let settled = settled_after initial told stands in
+          loaded (world_outlets world) initial (outlets d1 w.out) d1 shelf settled
+          (stays world.disk only_now d1 (StandsWith initial []) settled.told
+          (λ c left. subst (StandsWith initial []) (sym (settled.on_disk.durable c left)) settled.on_disk.stands))
+          refl
+
+      keeps_up_run : (initial : InitialShelf) → world.disk.tells w.disk
+          → StandsWith initial [] (world.disk.contents w.disk)
+          → PutsNoFileOff world (taken_by input workers run.bytes) initial w w'
+      keeps_up_run initial told stands =
+          let all = run.ends initial (outlets d1 w.out) (begun_after initial told stands) in
+          none_put_off world input workers initial run.bytes w w' d1 all.2 all.3
+
+      ended_run : IsWorkDone cause → EndsWork world (input_read input limit run.bytes) cause w w'
+      ended_run done =
+          let there = run.ended done in
+          record {
+            stop = there.0;
+            is = there.1;
+            number = length (kept_by shelf).way.entries;
+            work = record { reason = there.2.reason; got = there.2.got };
+            numbered = λ way told has.
+                ap (λ (x : Way). length x.entries)
+                ((has_one_way (world.disk.contents w.disk)).way (kept_by shelf).way way (is_way told) has);
+            stand = λ initial told stands.
+                still_after initial cause (outside w.source d1 w.out) done
+                (run.ends initial (outlets d1 w.out) (begun_after initial told stands)).1;
+          }
+
+      changes_run : (way : Way) → world.disk.tells w.disk → IsWay (world.disk.contents w.disk) way
+          → ChangesFor way (files_of_bytes input run.bytes) (world.disk.contents w.disk)
+          (world.disk.contents w'.disk)
+      changes_run way told has =
+          let files = files_of_bytes input run.bytes in
+          subst (λ (x : Way). ChangesFor x files (world.disk.contents w.disk) (world.disk.contents w'.disk))
+          ((has_one_way (world.disk.contents w.disk)).way (kept_by shelf).way way (is_way told) has)
+          (subst (λ (l : List ℕ). ChangesFor (kept_by shelf).way files l (world.disk.contents w'.disk))
+          (loads.only_read.unwritten told).contents (run.outside (loads.calls.told told)))
+
+      images_run : (way : Way) → world.disk.tells w.disk → IsWay (world.disk.contents w.disk) way
+          → NothingPending world.disk w.disk
+          → ChangesImagesFor world.disk way (files_of_bytes input run.bytes) w.disk w'.disk
+      images_run way told has only =
+          let files = files_of_bytes input run.bytes in
+          let read = loads.only_read.unwritten told in
+          let old = world.disk.contents w.disk in
+          let loading = loading_images way files told only in
+          let same_way : (kept_by shelf).way ≡ way =
+          (has_one_way old).way (kept_by shelf).way way (is_way told) has in
+          ⊎_elim
+          (λ same. subst (λ (x : D). ChangesImagesFor world.disk way files w.disk x) (sym same) loading)
+          (λ then.
+          joined world.disk.moment world.disk.left_since w.disk d1 w'.disk _ loading
+          (weaker world.disk.moment world.disk.left_since d1 w'.disk _ _
+          (λ c changes.
+          subst (λ (x : Way). ChangesFor x files old c) same_way
+          (subst (λ (l : List ℕ). ChangesFor (kept_by shelf).way files l c) read.contents changes)) then))
+          (run.moments (loads.calls.told told) (λ c image. only c (read.images c image) ∙ sym read.contents))
+
+      pub loaded_run : ReceiveRun world (receive_query input workers limit) cause w w'
+      loaded_run = record {
+        causes = run_cause cause run.kind;
+        first = first_run;
+        bytes = run.bytes;
+        read = run.read;
+        told_by_disk = λ t. run.told_by_disk (loads.calls.told t);
+        untold_by_disk = λ t. loads.calls.untold (run.untold_by_disk t);
+        told_by_out = run.told_by_out;
+        untold_by_out = run.untold_by_out;
+        onto_shelf = onto_shelf;
+        onto_way = onto_way;
+        keeps_up = λ initial told stands only. keeps_up_run initial told stands;
+        refused = λ at named. absurd (run_kind cause run.kind at named);
+        broken = λ at told no.
+            absurd (subst (λ (r : Result Shelf ShelfError). MatchResult r (λ _. ⊥) (MayRefuseAt at)) is
+            (loads.broken at told no));
+        full = λ needed most named told.
+            record { way = (kept_by shelf).way; is_way = is_way told; full = run.over.full needed most named };
+        nothing_fits = λ needed most named tells empty.
+            let full = run.over.full needed most named in
+            full_reads world.source input limit run.bytes w.source w'.source run.read tells
+            empty full.done full.next full.rest full.split;
+        room = λ done told. record { way = (kept_by shelf).way; is_way = is_way told; room = run.over.room done };
+        only_read = λ none.
+            subst (λ (x : D). IsOnlyRead world.disk w.disk x) (sym (run.over.same_disk none)) loads.only_read;
+        silent = run.over.silent;
+        unasked = λ none failed. absurd (run.over.kind none failed);
+        ended = ended_run;
+        outside = changes_run;
+        outside_any_moment = images_run;
+      }

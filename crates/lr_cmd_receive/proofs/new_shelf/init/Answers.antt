@@ -1,0 +1,14 @@
+use Rattle.std.proofs.Common.{rules, OnErr, subst}
+use Rattle.lr_shelf.specs.Init.{IsLeftByInit}
+use Rattle.lr_cmd_receive.proofs.new_shelf.init.Goals as goal
+
+-- src/new_shelf.rt:33:1
+pub returns-in-Err-init-clause-run : goal.returns-in-Err-init-clause-run
+returns-in-Err-init-clause-run g c = record {
+  ends = search rules;
+  first = search rules;
+  taken = search rules;
+  left = λ t failed. subst (λ r. OnErr r (IsLeftByInit c.args.capacity (g.D.Disk.contents c.args.disk.now)
+      (g.D.Disk.contents c.init.new.disk))) c.in-Err-init.is (c.init.ensures.left t);
+  any_moment = search rules;
+}

@@ -1,0 +1,214 @@
+//! `receive`: the mission files of the input go onto the shelf.
+ghost use Rattle.std.specs.Prelude.{◌≡◌, ◌≤◌, ◌^◌, ℕ, [], IfOk, IfErr};
+ghost use Rattle.lr_cmd_receive.specs.Shelved.{shelf_in};
+ghost use Rattle.lr_causes.specs.Outside.{outside, world_of, outlets_of};
+ghost use Rattle.lr_forms.specs.declared.forms.Input.{Input as Input'};
+ghost use Rattle.lr_reading.specs.Leading.{MayLead, Leads};
+ghost use Rattle.lr_reading.specs.Readers.{Leeway, leeway_for};
+ghost use Rattle.lr_reading.specs.Runs.{IsLed, course_of, lent};
+ghost use Rattle.lr_cmd_receive.specs.Receive.{ReceiveRun, receive_query};
+ghost use Rattle.lr_cmd_receive.specs.Reception.{ReadsAll, ReadsSome, EndsRun, PutsLast, LastStops, reception};
+ghost use Rattle.lr_cmd_receive.specs.ShelverTaken.{ShelverTook, ShelverStopped};
+
+use crate::receive_counts::ReceiveCounts;
+use crate::shelver::Shelver;
+use lr_bits::{Bytes, NoMemory};
+use lr_catalog::{ReceiveSums, Summary, summary_line};
+use lr_causes::{Cause, cause_at, put_text};
+use lr_disk::Disk;
+use lr_forms::{Input, MOST_WORKERS};
+use lr_frame::{FrameWork, Hand};
+use lr_io::{Sink, Source};
+use lr_layers::Layers;
+use lr_reading::{ReadCounts, Reader};
+use lr_refusals::shelf_cause;
+use lr_shelf::Shelf;
+use std::alloc::Global;
+use std::sync::Wait;
+use std::thread::Threads;
+
+/// Shelves all files of the input through which the call `read` leads.
+pub(crate) fn receive_all<
+    S: Source,
+    D: Disk,
+    O: Sink,
+    F: FnOnce(&mut S, &mut Shelver<'_, D, O>) -> Result<ReadCounts, Cause>,
+>(
+    shelf: &mut Shelf,
+    source: &mut S,
+    disk: &mut D,
+    out: &mut O,
+    read: F,
+) -> Result<ReceiveCounts, Cause>
+    requires ready { MayLead (F.pre read) (ShelverTook (outlets_of D.Disk O.Sink)) }
+    ensures all { (input : Input') (most : ℕ) (leeway : Leeway) → Leads (F.post read)
+        (course_of S.Source (ShelverTook (outlets_of D.Disk O.Sink)) input most leeway)
+        (ShelverStopped (outlets_of D.Disk O.Sink))
+        → IfOk result (λ sums. ReadsAll (world_of S.Source D.Disk O.Sink) (reception input most leeway) sums
+        (shelf_in shelf.old (outside source.old disk.old out.old))
+        (shelf_in shelf.new (outside source.new disk.new out.new))) }
+    ensures some { (input : Input') (most : ℕ) (leeway : Leeway) → Leads (F.post read)
+        (course_of S.Source (ShelverTook (outlets_of D.Disk O.Sink)) input most leeway)
+        (ShelverStopped (outlets_of D.Disk O.Sink))
+        → IfErr result
+        (λ cause. ReadsSome (world_of S.Source D.Disk O.Sink) (reception input most leeway) cause
+        (shelf_in shelf.old (outside source.old disk.old out.old)) (outside source.new disk.new out.new)) }
+{
+    let alloc = shelf.allocator();
+    let mut layers = Layers::new(alloc);
+    let mut files = Vec::new(alloc);
+    let mut shelver = Shelver {
+        counts: layers.counts(),
+        layers: &mut layers,
+        files: &mut files,
+        shelf,
+        disk,
+        out,
+    };
+    let totals = read(source, &mut shelver)?;
+    Ok(ReceiveCounts {
+        totals,
+        counts: shelver.counts,
+    })
+}
+
+/// Puts the last line.
+pub(crate) fn put_last<O: Sink>(
+    alloc: Global,
+    sums: &ReceiveCounts,
+    out: &mut O,
+) -> Result<(), Cause>
+    ensures told { O.tells out.old → O.tells out.new }
+    ensures untold { O.tells out.new → O.tells out.old }
+    ensures put { IfOk result (λ _. PutsLast O.Sink sums.now out.old out.new) }
+    ensures stopped { IfErr result (λ cause. LastStops O.Sink sums.now cause out.old out.new) }
+{
+    let mut line = Bytes::new(alloc);
+    let summary = Summary::Receive(ReceiveSums {
+        symbols: sums.totals.symbols,
+        frames: sums.totals.frames,
+        restored: sums.counts.restored,
+        lost: sums.counts.lost,
+        packets: sums.counts.packets,
+        files: sums.counts.files,
+        left: sums.totals.left,
+    });
+    summary_line(alloc, &summary, sums.totals.stop, &mut line)?;
+    put_text(line.as_slice(), out)
+}
+
+/// Shelves all files of the input onto a shelf that is loaded, and puts the last line.
+fn receive_onto<
+    S: Source,
+    D: Disk,
+    O: Sink,
+    F: FnOnce(&mut S, &mut Shelver<'_, D, O>) -> Result<ReadCounts, Cause>,
+>(shelf: &mut Shelf, source: &mut S, disk: &mut D, out: &mut O, read: F) -> Cause
+    requires ready { MayLead (F.pre read) (ShelverTook (outlets_of D.Disk O.Sink)) }
+    ensures { (input : Input') (most : ℕ) (leeway : Leeway) → Leads (F.post read)
+        (course_of S.Source (ShelverTook (outlets_of D.Disk O.Sink)) input most leeway)
+        (ShelverStopped (outlets_of D.Disk O.Sink))
+        → EndsRun (world_of S.Source D.Disk O.Sink) (reception input most leeway) result
+        (shelf_in shelf.old (outside source.old disk.old out.old)) (outside source.new disk.new out.new) }
+{
+    let alloc = shelf.allocator();
+    let sums = match receive_all(shelf, source, disk, out, read) {
+        Ok(sums) => sums,
+        Err(cause) => return cause,
+    };
+    match put_last(alloc, &sums, out) {
+        Ok(()) => cause_at(sums.totals.stop),
+        Err(cause) => cause,
+    }
+}
+
+/// What `receive` does once there is memory for reading: the shelf is loaded, and then the call `read` leads through
+/// the input.
+fn receive_with<
+    S: Source,
+    D: Disk,
+    O: Sink,
+    F: FnOnce(&mut S, &mut Shelver<'_, D, O>) -> Result<ReadCounts, Cause>,
+>(alloc: Global, source: &mut S, disk: &mut D, out: &mut O, read: F) -> Cause
+    requires ready { MayLead (F.pre read) (ShelverTook (outlets_of D.Disk O.Sink)) }
+    ensures { (input : Input') (workers most : ℕ) → Leads (F.post read)
+        (course_of S.Source (ShelverTook (outlets_of D.Disk O.Sink)) input most (leeway_for input workers))
+        (ShelverStopped (outlets_of D.Disk O.Sink))
+        → ReceiveRun (world_of S.Source D.Disk O.Sink) (receive_query input workers most) result
+        (outside source.old disk.old out.old) (outside source.new disk.new out.new) }
+{
+    match Shelf::load(alloc, disk) {
+        Ok(mut shelf) => receive_onto(&mut shelf, source, disk, out, read),
+        Err(error) => shelf_cause(error),
+    }
+}
+
+/// Takes at most `most` bytes, and puts their mission files onto the shelf that the disk holds, all on the caller's
+/// thread. What reading takes of memory is taken first, then the shelf is loaded, and then the source is read.
+pub fn receive_alone<S: Source, D: Disk, O: Sink>(
+    alloc: Global,
+    input: Input,
+    most: u64,
+    source: &mut S,
+    disk: &mut D,
+    out: &mut O,
+) -> Cause
+    requires few { most ≤ 2 ^ 48 }
+    ensures { ReceiveRun (world_of S.Source D.Disk O.Sink) (receive_query input 1 most) result
+        (outside source.old disk.old out.old) (outside source.new disk.new out.new) }
+{
+    let reader = match Reader::<FrameWork>::new(alloc, input, 1, most, &()) {
+        Ok(reader) => reader,
+        Err(NoMemory) => return Cause::NoMemory,
+    };
+    receive_with(
+        alloc,
+        source,
+        disk,
+        out,
+        |source, shelver| -> Result<ReadCounts, Cause>
+            requires { ((reader.workers ≡ 1) × (reader.most ≤ 2 ^ 48))
+                × ((first : _) × ShelverTook (outlets_of D.Disk O.Sink) first [] shelver.old) }
+            ensures { IsLed (course_of S.Source (ShelverTook (outlets_of D.Disk O.Sink)) reader.input reader.most
+                (leeway_for reader.input reader.workers)) (ShelverStopped (outlets_of D.Disk O.Sink)) result
+                (lent source.old shelver.old) (lent source.new shelver.new) }
+        { reader.read_alone(source, shelver) },
+    )
+}
+
+/// What `receive_alone` does, where this many work on windows of symbols, the caller among them. The memory for their
+/// ring and their hands is taken with that for reading.
+pub fn receive<R: Threads + Wait + Sync, H: Hand, S: Source, D: Disk, O: Sink>(
+    rt: &R,
+    alloc: Global,
+    tools: &H::Tools,
+    input: Input,
+    workers: u32,
+    most: u64,
+    source: &mut S,
+    disk: &mut D,
+    out: &mut O,
+) -> Cause
+    requires few { most ≤ 2 ^ 48 }
+    requires workers { (1 ≤ workers) × (workers ≤ MOST_WORKERS) }
+    ensures { ReceiveRun (world_of S.Source D.Disk O.Sink) (receive_query input workers most) result
+        (outside source.old disk.old out.old) (outside source.new disk.new out.new) }
+{
+    let reader = match Reader::<H>::new(alloc, input, workers, most, tools) {
+        Ok(reader) => reader,
+        Err(NoMemory) => return Cause::NoMemory,
+    };
+    receive_with(
+        alloc,
+        source,
+        disk,
+        out,
+        |source, shelver| -> Result<ReadCounts, Cause>
+            requires { (reader.most ≤ 2 ^ 48) × ((first : _)
+                × ShelverTook (outlets_of D.Disk O.Sink) first [] shelver.old) }
+            ensures { IsLed (course_of S.Source (ShelverTook (outlets_of D.Disk O.Sink)) reader.input reader.most
+                (leeway_for reader.input reader.workers)) (ShelverStopped (outlets_of D.Disk O.Sink)) result
+                (lent source.old shelver.old) (lent source.new shelver.new) }
+        { reader.read(rt, source, shelver) },
+    )
+}

@@ -1,0 +1,79 @@
+//! The one loop over the entries of a shelf.
+ghost use Rattle.std.specs.Prelude.{◌≡◌, ◌++◌, ℕ, List, false, [], IfErr, IfOk, OnOk};
+ghost use Rattle.lr_cmd_shelf.specs.Queries.{query_on};
+ghost use Rattle.lr_shelf.specs.Kept.{kept_by};
+ghost use Rattle.lr_causes.specs.Causes.{done_with};
+ghost use Rattle.lr_causes.specs.Outside.{outlets, outlets_of};
+ghost use Rattle.lr_cmd_shelf.specs.Read.{GathersOver, HasGathered, IsDone};
+ghost use Rattle.lr_cmd_shelf.specs.Runs.{RunsOn, RunsOver};
+
+use crate::reads::ReadsEntries;
+use lr_causes::{Cause, Note, Refusal};
+use lr_disk::Disk;
+use lr_io::Sink;
+use lr_refusals::shelf_cause;
+use lr_shelf::Shelf;
+use std::alloc::Global;
+
+/// Takes the entries of a shelf that was loaded, and then puts the last text. It answers what is told beside it.
+fn take_entries<C: ReadsEntries, D: Disk, O: Sink>(
+    alloc: Global,
+    command: &C,
+    gathered: C::Gathered,
+    shelf: &mut Shelf,
+    disk: &mut D,
+    out: &mut O,
+) -> Result<Option<Note>, Cause>
+    requires fresh { C.gathers command.now gathered [] }
+    requires working { (kept_by shelf.old).failed ≡ false }
+    ensures takes { IfOk result (λ note. RunsOn (outlets_of D.Disk O.Sink)
+        (query_on (C.query command.now) (kept_by shelf.old).way) (done_with note)
+        (outlets disk.old out.old) (outlets disk.new out.new)) }
+    ensures stops { IfErr result (λ cause. RunsOn (outlets_of D.Disk O.Sink)
+        (query_on (C.query command.now) (kept_by shelf.old).way) cause
+        (outlets disk.old out.old) (outlets disk.new out.new)) }
+    ensures undone { IfErr result (λ cause. IsDone cause → ⊥) }
+    ensures gathers { OnOk result (O.tells out.old → (put : List ℕ)
+        × (O.contents out.new ≡ O.contents out.old ++ put)
+        × HasGathered D.Disk disk.old (query_on (C.query command.now) (kept_by shelf.old).way)
+        (C.gathers command.now) put) }
+{
+    let count = shelf.len();
+    let Some(range) = command.range(count) else {
+        return Err(Cause::Refused(Refusal::NoSuchFile { count }));
+    };
+    let mut gathered = gathered;
+    for number in range.from..range.to {
+        command.entry(number, &mut gathered, shelf, disk, out)?;
+    }
+    command.last(alloc, gathered, shelf, out)
+}
+
+/// Runs a command over the shelf on the disk: takes the memory at opening, loads the shelf, compares the numbers, takes
+/// the entries in order, and puts the last text. The first event decides. Where it is done, what was gathered is that
+/// of all entries that were read.
+pub fn run_entries<C: ReadsEntries, D: Disk, O: Sink>(
+    alloc: Global,
+    command: &C,
+    disk: &mut D,
+    out: &mut O,
+) -> Cause
+    ensures runs { RunsOver (outlets_of D.Disk O.Sink) (C.query command.now) result
+        (outlets disk.old out.old) (outlets disk.new out.new) }
+    ensures gathers { IsDone result → O.tells out.old → (put : List ℕ)
+        × (O.contents out.new ≡ O.contents out.old ++ put)
+        × GathersOver D.Disk disk.old (C.query command.now) (C.gathers command.now) put }
+{
+    let gathered = match command.start(alloc) {
+        Ok(gathered) => gathered,
+        Err(error) => return Cause::from(error),
+    };
+    let mut shelf = match Shelf::load(alloc, disk) {
+        Ok(shelf) => shelf,
+        Err(error) => return shelf_cause(error),
+    };
+    match take_entries(alloc, command, gathered, &mut shelf, disk, out) {
+        Ok(note) => Cause::done_with(note),
+        Err(cause) => cause,
+    }
+}

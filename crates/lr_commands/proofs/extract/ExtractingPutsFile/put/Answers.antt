@@ -1,8 +1,0 @@
-use Rattle.std.proofs.Common.{rules, arith}
-use Rattle.lr_commands.proofs.extract.ExtractingPutsFile.put.Goals as goal
-
-pub returns-clause-puts : goal.returns-clause-puts
-returns-clause-puts g c = search (rules, arith)
-
-pub returns-clause-stops : goal.returns-clause-stops
-returns-clause-stops g c = search (rules, arith)

@@ -1,8 +1,0 @@
-use Rattle.std.proofs.Common.{rules, arith}
-use Rattle.lr_commands.proofs.gone.put_gone.Goals as goal
-
-pub returns-clause-put : goal.returns-clause-put
-returns-clause-put g c = search (rules, arith)
-
-pub returns-clause-stopped : goal.returns-clause-stopped
-returns-clause-stopped g c = search (rules, arith)

@@ -1,5 +1,0 @@
-use Rattle.lr_commands.proofs.Answering.{begun_front}
-use Rattle.lr_commands.proofs.laws.begun_texts_come_first.Goals as goal
-
-pub returns : goal.returns
-returns c = begun_front

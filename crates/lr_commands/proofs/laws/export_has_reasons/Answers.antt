@@ -1,5 +1,0 @@
-use Rattle.lr_commands.proofs.Reasons.{has_export_reasons}
-use Rattle.lr_commands.proofs.laws.export_has_reasons.Goals as goal
-
-pub returns : goal.returns
-returns c = has_export_reasons

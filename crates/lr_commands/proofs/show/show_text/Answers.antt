@@ -1,5 +1,0 @@
-use Rattle.std.proofs.Common.{rules, arith}
-use Rattle.lr_commands.proofs.show.show_text.Goals as goal
-
-pub returns : goal.returns
-returns c = search (rules, arith)

@@ -1,0 +1,6 @@
+use Rattle.std.proofs.lemmas.Result.{on_ok_weaker}
+use Rattle.lr_layers.proofs.Pushing.{adds_marked}
+use Rattle.lr_layers.proofs.layers.Layers.push_mended.Goals as goal
+
+pub returns-clause-files : goal.returns-clause-files
+returns-clause-files c mend outcomes h = on_ok_weaker c.take.result adds_marked (c.take.ensures.files mend outcomes h)

@@ -1,0 +1,5 @@
+pub mod MarkedHeaders
+pub mod MarkedImages
+pub mod MarkedShapes
+pub mod OnlyImages
+pub mod WholeImages

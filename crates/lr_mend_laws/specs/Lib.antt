@@ -1,0 +1,4 @@
+pub mod MarkedHeaders
+pub mod MarkedImages
+pub mod OnlyImages
+pub mod WholeImages

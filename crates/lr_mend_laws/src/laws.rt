@@ -1,0 +1,26 @@
+//! Laws of marked files.
+
+ghost use Rattle.lr_mend_laws.specs.MarkedHeaders.{MarkedHeaders};
+ghost use Rattle.lr_mend_laws.specs.MarkedImages.{MarkedImages};
+ghost use Rattle.lr_mend_laws.specs.OnlyImages.{OnlyImages};
+ghost use Rattle.lr_mend_laws.specs.WholeImages.{MadeEnds};
+
+/// The header of a marked file is that of the file, with one record more at its end: an ancillary text with the mark.
+pub fn a_marked_file_has_one_record_more()
+    ensures { MarkedHeaders }
+{}
+
+/// A marked file has the image that the file has: the same pixels, though its header is longer.
+pub fn a_marked_file_has_the_image_of_the_file()
+    ensures { MarkedImages }
+{}
+
+/// Only a file that has the header of an image that can be read has fillers.
+pub fn only_images_have_fillers()
+    ensures { OnlyImages }
+{}
+
+/// An image whose lines aren't coded, and whose end fillers make, has all its pixels.
+pub fn made_ends_are_whole()
+    ensures { MadeEnds }
+{}

@@ -1,0 +1,9 @@
+//! Laws of mended files that speak of their headers and images. Nothing stands on this crate.
+#![tactic(auto)]
+
+mod laws;
+
+pub use laws::{
+    a_marked_file_has_one_record_more, a_marked_file_has_the_image_of_the_file,
+    made_ends_are_whole, only_images_have_fillers,
+};

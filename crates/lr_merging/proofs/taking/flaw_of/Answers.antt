@@ -1,5 +1,0 @@
-use Rattle.std.proofs.Common.{arith, rules}
-use Rattle.lr_merging.proofs.taking.flaw_of.Goals as goal
-
-pub returns-in-Rest : goal.returns-in-Rest
-returns-in-Rest c = search (rules, arith)

@@ -1,6 +1,0 @@
-use Rattle.std.proofs.Common.{◌≡◌, ◌++◌, take}
-use Rattle.lr_printing.specs.Packets.{lines_from}
-use Rattle.lr_printing.proofs.packet_lines.compose.Given as goal
-
-abbrev pub invariant-loop-place : goal.invariant-loop-place
-invariant-loop-place l = l.lines ≡ l.fn.lines ++ lines_from l.first (take l.place l.packets)

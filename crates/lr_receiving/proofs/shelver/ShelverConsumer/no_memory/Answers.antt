@@ -1,5 +1,0 @@
-use Rattle.lr_receiving.proofs.Taking.{shelver_refused}
-use Rattle.lr_receiving.proofs.shelver.ShelverConsumer.no_memory.Goals as goal
-
-pub returns : goal.returns
-returns g c c' arrivals took = shelver_refused g.D.Disk g.O.Sink took
