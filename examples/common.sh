@@ -71,3 +71,30 @@ is_number() {
     '' | 0* | *[!0-9]*) return 1 ;;
     esac
 }
+
+say() { echo "${0##*/}: $1" >&2; }
+
+# form OPTIONS: what the input is by these options of `receive`: symbols, blocks or frames
+form() {
+    case " $1 " in
+    *" --input frames "* | *" --input=frames "*) echo frames ;;
+    *" --input blocks "* | *" --input=blocks "*) echo blocks ;;
+    *) echo symbols ;;
+    esac
+}
+
+# reason STATUS: what a status says, in words
+reason() {
+    case $1 in
+    1) echo "it can't be opened, or another process writes to it" ;;
+    2) echo "the words are wrong" ;;
+    3) echo "the input failed" ;;
+    4) echo "the disk failed, or is full" ;;
+    5) echo "the output couldn't be written" ;;
+    6) echo "it is no shelf, or its items break off" ;;
+    9) echo "memory was refused" ;;
+    10) echo "it is full" ;;
+    126 | 127) echo "the program can't be run" ;;
+    *) echo "docs/FORMATS.md says what that is" ;;
+    esac
+}

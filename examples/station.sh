@@ -1,36 +1,49 @@
 #!/bin/sh
-# A station at work: receives what a command brings onto a shelf for each day, and keeps the last line of the quality in
-# FOLDER/quality.
+# A station at work: receives what a command brings onto a shelf for each day, and keeps the quality, in FOLDER/quality
+# and FOLDER/minutes.
 # Usage: station.sh FOLDER, with these in the environment (station.conf is an example):
-#   SOURCE    the command that writes soft symbols to its standard output, as the shell takes it
+#   SOURCE    the command that writes soft symbols, blocks or frames to its standard output, as the shell takes it
 #   RATE      symbols a second
 #   CAPACITY  bytes that a shelf may have
-#   OPTIONS   --line and --g2 of `receive`
-# The program is $LRITSTATION, or else `lritstation` on the path. Each file and each minute has a line, on standard
-# output and on standard error. It ends when the reception does, with its status, and ends the command then. Where the
-# quality side ends, or can't write, the reception goes on.
+#   OPTIONS   --line, --g2 and --input of `receive`
+# The program is $LRITSTATION, or else `lritstation` on the path, and the quality is told by `gomtasil`. Each file and
+# each minute has a line, on standard output and on standard error. It ends when the reception does, with its status,
+# and ends the command then; with 2 where the command can't be run. Where the quality side ends, or can't write, the
+# reception goes on.
 set -u
 here=$(dirname -- "$0")
 # shellcheck source-path=SCRIPTDIR source=common.sh
 . "$here/common.sh"
 program=${LRITSTATION:-lritstation}
 
-# Each line of the quality goes to standard error, and the newest one is what FOLDER/quality has.
-keep_quality() {
-    part=$1/.quality.part
-    while read -r line; do
-        echo "$line" >&2
-        { echo "$line" > "$part" && mv "$part" "$1/quality"; } || rm -f "$part"
-    done
+# (in a checkout it stands beside this folder)
+tool() {
+    if [ -n "${GOMTASIL-}" ] || command -v gomtasil > /dev/null; then
+        "${GOMTASIL:-gomtasil}" "$@"
+    else
+        "$here/../tools/bin/gomtasil" "$@"
+    fi
 }
 
-# feed FOLDER COPY: the symbols to standard output, and by the FIFO of this name their quality to the folder. This runs
+# lines: what the program says of each frame of standard input. (Of frames the code is gone, and their counters are left.)
+lines() {
+    if [ "$(form "${OPTIONS-}")" = frames ]; then
+        "$program" - frames
+    else
+        # shellcheck disable=SC2086 # (they are several words)
+        "$program" - decode ${OPTIONS-}
+    fi
+}
+
+# feed FOLDER SCRATCH: what SOURCE brings to standard output, and by the FIFO there its quality to the folder. This runs
 # in a session of its own, so that all of it can be ended together.
 feed() {
-    # shellcheck disable=SC2086 # (they are several words)
-    "$program" - decode ${OPTIONS-} < "$2" 2> /dev/null | "$here/quality.sh" "$RATE" | keep_quality "$1" > /dev/null &
+    lines < "$2/copy" 2> /dev/null | tool quality --rate "$RATE" --keep "$1" >&2 &
     # (-p: it goes on with one side where the other one ends)
-    sh -c "$SOURCE" < /dev/null | tee -p "$2"
+    {
+        sh -c "$SOURCE" < /dev/null
+        echo $? > "$2/source"
+    } | tee -p "$2/copy"
     exec > /dev/null
     wait
 }
@@ -41,6 +54,17 @@ end() {
     # (the latter before it has a session)
     [ -z "$feeding" ] || stop "$feeding" "-$feeding"
     leave "$1"
+}
+
+# told STATUS: how SOURCE ended, where that isn't 0; this status, or 2 where SOURCE can't be run
+told() {
+    ended=0
+    [ ! -s "$scratch/source" ] || read -r ended < "$scratch/source"
+    [ "$ended" = 0 ] || say "SOURCE ended with $ended: $SOURCE"
+    case "$1 $ended" in
+    "0 126" | "0 127") return 2 ;;
+    esac
+    return "$1"
 }
 
 if [ "${1-}" = --feed ]; then
@@ -57,7 +81,7 @@ receiving=
 scratch_folder
 mkfifo "$scratch/copy" "$scratch/symbols" || exit 1
 defer
-setsid "$here/${0##*/}" --feed "$folder" "$scratch/copy" > "$scratch/symbols" &
+setsid "$here/${0##*/}" --feed "$folder" "$scratch" > "$scratch/symbols" &
 feeding=$!
 # shellcheck disable=SC2086
 "$here/roll.sh" "$folder" "$CAPACITY" "$RATE" ${OPTIONS-} < "$scratch/symbols" &
@@ -68,4 +92,5 @@ status=$?
 receiving=
 # (0: the symbols have ended, and their quality is still to be told)
 [ "$status" != 0 ] || wait "$feeding"
-end "$status"
+told "$status"
+end "$?"

@@ -1,25 +1,26 @@
-#!/usr/bin/env python3
 """Draws some minutes of a downlink like that of GOES, as frames for `lritstation SHELF receive --input frames`.
-
-Usage: sample.py [MINUTES] > frames, with 1 to 60 minutes; 2 where the word is missing
 
 There is an earth in four segments, a bulletin and a zip with a bulletin in it, and fill between them. Nothing of it
 comes from a satellite: coasts are a few hundred corners, and the clouds are sums of waves. A frame has 892 bytes, as
 16,384 symbols carry it.
 """
 
+from __future__ import annotations
+
 import datetime
 import io
 import math
 import struct
-import sys
 import zipfile
+from collections.abc import Iterator
 
-import shelf as shelves
+from . import segments, xrit
+from .quality import COUNTER_MODULUS
+from .quality import FRAME_SYMBOLS as SYMBOLS_A_FRAME
+from .shelf import checksum
 
 # ---- the downlink
 SYMBOLS_A_SECOND = 927_000
-SYMBOLS_A_FRAME = 16_384
 SPACECRAFT = 7
 IMAGE_CHANNEL, TEXT_CHANNEL, FILL_CHANNEL = 13, 20, 63
 IMAGE_APPLICATION, TEXT_APPLICATION = 313, 614
@@ -32,7 +33,6 @@ IDLE_APPLICATION = 2047
 FIRST, GOING_ON, LAST, ONLY = 1, 0, 2, 3  # sequence flags
 NO_START, IDLE_ONLY = 2047, 2046  # pointers
 COUNT_MODULUS = 1 << 14
-COUNTER_MODULUS = 1 << 24
 BODY_BYTES = 8000
 
 # ---- the image
@@ -96,15 +96,17 @@ CARIBBEAN: EAST 4, SEA 1.2 METERS, FAIR.\r\r
 
 # ---- the earth
 
+Corner = tuple[float, float]  # latitude and longitude
 
-def polygons_of(text):
+
+def polygons_of(text: str) -> Iterator[list[Corner]]:
     """Lists of corners; a line that begins with spaces goes on with the one before."""
     for line in text.strip().replace("\n ", " ").splitlines():
         numbers = list(map(float, line.split()))
         yield list(zip(numbers[0::2], numbers[1::2]))
 
 
-def crossings(corners, latitude):
+def crossings(corners: list[Corner], latitude: float) -> list[float]:
     """The longitudes at which a parallel crosses the sides, from west to east."""
     found = []
     for (one, west), (other, east) in zip(corners, corners[1:] + corners[:1]):
@@ -118,7 +120,7 @@ class Ground:
 
     STEPS = 2  # a degree
 
-    def __init__(self, text):
+    def __init__(self, text: str):
         self.rows = [bytearray(360 * self.STEPS + 1) for _ in range(180 * self.STEPS + 1)]
         for corners in polygons_of(text):
             for place, row in enumerate(self.rows):
@@ -127,7 +129,7 @@ class Ground:
                     first, last = (round((it + 180) * self.STEPS) for it in (west, east))
                     row[first:last] = b"\1" * (last - first)
 
-    def at(self, latitude, longitude):
+    def at(self, latitude: float, longitude: float) -> float:
         """From 0, none, to 1, in between by the four corners around."""
         y, x = (latitude + 90) * self.STEPS, (longitude + 180) * self.STEPS
         line, column = int(y), int(x)
@@ -139,7 +141,7 @@ class Ground:
         ) * y
 
 
-def clouds_at(latitude, longitude):
+def clouds_at(latitude: float, longitude: float) -> float:
     """How much cloud there is, from 0 to 1: waves that other waves bend, most near the equator and in the middle
     latitudes."""
     bent_latitude = latitude + 0.12 * math.sin(4 * longitude + 6 * latitude)
@@ -149,7 +151,7 @@ def clouds_at(latitude, longitude):
     return min(1.0, max(0.0, (height - CLOUDS_FROM) * 0.9))
 
 
-def place_of(column, line):
+def place_of(column: int, line: int) -> Corner | None:
     """The latitude and longitude, in radians, that a pixel of the whole image sees, or None beside the earth (a
     sphere here)."""
     x = math.radians((column + 1 - OFFSET) * 65536 / FACTOR)
@@ -164,7 +166,7 @@ def place_of(column, line):
     return math.asin(point[2]), math.radians(LONGITUDE) + math.atan2(point[1], point[0])
 
 
-def light_at(latitude, longitude):
+def light_at(latitude: float, longitude: float) -> float:
     """The cosine of the sun's height above a place; 0 at night."""
     sun_latitude, sun_longitude = map(math.radians, SUN)
     height = math.sin(latitude) * math.sin(sun_latitude) + math.cos(latitude) * math.cos(sun_latitude) * math.cos(
@@ -173,7 +175,7 @@ def light_at(latitude, longitude):
     return max(0.0, height)
 
 
-def grey_at(place, land, ice):
+def grey_at(place: Corner | None, land: Ground, ice: Ground) -> int:
     """The grey level, 0 to 255, of a place as `place_of` gives it."""
     if place is None:
         return 0
@@ -182,10 +184,10 @@ def grey_at(place, land, ice):
     level = WATER + (LAND - WATER) * land.at(*degrees)
     level += (ICE - level) * ice.at(*degrees)
     level += (CLOUD - level) * clouds_at(latitude, longitude)
-    return round(TWILIGHT + (level - TWILIGHT) * light_at(latitude, longitude) ** 0.6)
+    return round(TWILIGHT + (level - TWILIGHT) * math.pow(light_at(latitude, longitude), 0.6))
 
 
-def earth():
+def earth() -> bytes:
     """The pixels of the whole image, line by line."""
     land, ice = Ground(COASTS), Ground(ICE_COASTS)
     return bytes(grey_at(place_of(column, line), land, ice) for line in range(SIZE) for column in range(SIZE))
@@ -194,46 +196,30 @@ def earth():
 # ---- mission files
 
 
-def record(kind, contents):
-    return shelves.RECORD.pack(kind, len(contents) + shelves.RECORD.size) + contents
+def structure(bits: int, columns: int, lines: int) -> bytes:
+    return xrit.record(xrit.STRUCTURE_KIND, xrit.STRUCTURE.pack(bits, columns, lines, xrit.NOT_COMPRESSED))
 
 
-def mission_file(file_type, records, data, bits=None):
-    """A mission file without its transport header; `bits` of the data field, where they aren't 8 a byte."""
-    size = shelves.PRIMARY.size + sum(map(len, records))
-    bits = 8 * len(data) if bits is None else bits
-    return (
-        shelves.PRIMARY.pack(shelves.PRIMARY_KIND, shelves.PRIMARY.size, file_type, size, bits)
-        + b"".join(records)
-        + data
-    )
-
-
-def structure(bits, columns, lines):
-    return record(shelves.STRUCTURE_KIND, shelves.STRUCTURE.pack(bits, columns, lines, 0))
-
-
-def navigation(name, *numbers):
+def navigation(name: str, *numbers: int) -> bytes:
     """Column and line factor, column and line offset."""
-    return record(shelves.NAVIGATION_KIND, name.ljust(32).encode() + struct.pack(">iiii", *numbers))
+    return xrit.record(xrit.NAVIGATION_KIND, xrit.NAVIGATION.pack(name.ljust(32).encode(), *numbers))
 
 
-def annotation(name):
-    return record(shelves.ANNOTATION_KIND, name.encode())
+def annotation(name: str) -> bytes:
+    return xrit.record(xrit.ANNOTATION_KIND, name.encode())
 
 
-def stamp(when):
-    since = when - datetime.datetime(1958, 1, 1)
-    return record(
-        shelves.STAMP_KIND, shelves.STAMP.pack(0x40, since.days, since.seconds * 1000 + since.microseconds // 1000)
-    )
+def stamp(when: datetime.datetime) -> bytes:
+    since = when - xrit.STAMP_BEGIN
+    milliseconds = since.seconds * 1000 + since.microseconds // 1000
+    return xrit.record(xrit.STAMP_KIND, xrit.STAMP.pack(xrit.STAMP_FORM, since.days, milliseconds))
 
 
-def segment(image, number, first_line, segments, columns, lines):
-    return record(shelves.SEGMENT_KIND, struct.pack(">7H", image, number, 0, first_line, segments, columns, lines))
+def segment(image: int, number: int, first_line: int, count: int, columns: int, lines: int) -> bytes:
+    return xrit.record(xrit.SEGMENT_KIND, segments.NOAA.pack(image, number, 0, first_line, count, columns, lines))
 
 
-def segments_of_earth():
+def segments_of_earth() -> Iterator[bytes]:
     pixels, lines = earth(), SIZE // SEGMENTS
     for number in range(SEGMENTS):
         records = [
@@ -243,29 +229,32 @@ def segments_of_earth():
             stamp(WHEN),
             segment(1, number, number * lines, SEGMENTS, SIZE, SIZE),
         ]
-        yield mission_file(shelves.IMAGE_TYPE, records, pixels[number * lines * SIZE : (number + 1) * lines * SIZE])
+        strip = pixels[number * lines * SIZE : (number + 1) * lines * SIZE]
+        yield xrit.mission_file(xrit.IMAGE_TYPE, b"".join(records), strip)
 
 
-def bulletin(text, number):
+def bulletin(text: str, number: int) -> bytes:
     """A text as it is sent between start and end of text, in a file of its own."""
     records = [annotation(f"A_TTAA00KWBC291700_C_KWIN_{WHEN:%Y%m%d%H%M%S}_{number:06d}-2-SAMPLE.TXT.lrit"), stamp(WHEN)]
-    return mission_file(shelves.TEXT_TYPE, records, framed(text))
+    return xrit.mission_file(xrit.TEXT_TYPE, b"".join(records), framed(text))
 
 
-def framed(text):
+def framed(text: str) -> bytes:
     return b"\x01\r\r\n" + text.encode("ascii") + b"\x03"
 
 
-def zip_of(name, data):
+def zip_of(name: str, data: bytes) -> bytes:
     out = io.BytesIO()
     with zipfile.ZipFile(out, "w", zipfile.ZIP_DEFLATED) as archive:
-        archive.writestr(zipfile.ZipInfo(name, WHEN.timetuple()[:6]), data)
+        archive.writestr(
+            zipfile.ZipInfo(name, (WHEN.year, WHEN.month, WHEN.day, WHEN.hour, WHEN.minute, WHEN.second)), data
+        )
     return out.getvalue()
 
 
-def zipped_bulletin(text):
+def zipped_bulletin(text: str) -> bytes:
     records = [annotation(f"Z_EMWIN_{WHEN:%Y%m%d%H%M%S}.ZIS.lrit"), stamp(WHEN)]
-    return mission_file(shelves.TEXT_TYPE, records, zip_of("SEASTATE.TXT", framed(text)))
+    return xrit.mission_file(xrit.TEXT_TYPE, b"".join(records), zip_of("SEASTATE.TXT", framed(text)))
 
 
 # ---- packets and frames
@@ -274,37 +263,35 @@ def zipped_bulletin(text):
 class Sender:
     """Frames of files. Each file begins a new frame of its channel; counters go on from file to file."""
 
-    def __init__(self):
+    def __init__(self) -> None:
         self.files = 0
-        self.counts = {}
-        self.counters = {}
+        self.counts: dict[tuple[int, ...], int] = {}
+        self.counters: dict[tuple[int, ...], int] = {}
 
-    def next_of(self, counters, key, modulus):
+    def next_of(self, counters: dict[tuple[int, ...], int], key: tuple[int, ...], modulus: int) -> int:
         number = counters.get(key, 0)
         counters[key] = (number + 1) % modulus
         return number
 
-    def packet(self, channel, application, flags, body):
+    def packet(self, channel: int, application: int, flags: int, body: bytes) -> bytes:
         count = self.next_of(self.counts, (channel, application), COUNT_MODULUS)
-        data = body + shelves.checksum(body).to_bytes(2, "big")
+        data = body + checksum(body).to_bytes(2, "big")
         return PACKET_HEAD.pack(application, flags << 14 | count, len(data) - 1) + data
 
-    def packets(self, channel, application, proper):
-        content = shelves.TRANSPORT.pack(self.files % 65536, 8 * len(proper)) + proper
+    def packets(self, channel: int, application: int, proper: bytes) -> Iterator[bytes]:
+        content = xrit.TRANSPORT.pack(self.files % 65536, 8 * len(proper)) + proper
         self.files += 1
         bodies = [content[at : at + BODY_BYTES] for at in range(0, len(content), BODY_BYTES)]
         for place, body in enumerate(bodies):
-            flags = (
-                ONLY if len(bodies) == 1 else FIRST if place == 0 else LAST if place == len(bodies) - 1 else GOING_ON
-            )
+            flags = (FIRST if place == 0 else GOING_ON) + (LAST if place == len(bodies) - 1 else GOING_ON)
             yield self.packet(channel, application, flags, body)
 
-    def frame(self, channel, pointer, zone):
-        counter = self.next_of(self.counters, channel, COUNTER_MODULUS)
+    def frame(self, channel: int, pointer: int, zone: bytes) -> bytes:
+        counter = self.next_of(self.counters, (channel,), COUNTER_MODULUS)
         head = (1 << 14 | SPACECRAFT << 6 | channel).to_bytes(2, "big") + counter.to_bytes(3, "big") + b"\0"
         return head + pointer.to_bytes(2, "big") + zone
 
-    def file(self, channel, application, proper):
+    def file(self, channel: int, application: int, proper: bytes) -> Iterator[bytes]:
         """The frames of a file; an idle packet fills the last one."""
         stream, starts = b"", []
         for packet in self.packets(channel, application, proper):
@@ -321,11 +308,11 @@ class Sender:
             pointer = next((start - first for start in starts if first <= start < first + ZONE_BYTES), NO_START)
             yield self.frame(channel, pointer, stream[first : first + ZONE_BYTES])
 
-    def fill(self):
+    def fill(self) -> bytes:
         return self.frame(FILL_CHANNEL, IDLE_ONLY, bytes(ZONE_BYTES))
 
 
-def downlink(minutes):
+def downlink(minutes: int) -> Iterator[bytes]:
     """The frames of so many minutes: the files at equal distances, and fill between them."""
     sender = Sender()
     files = [(IMAGE_CHANNEL, IMAGE_APPLICATION, it) for it in segments_of_earth()]
@@ -342,18 +329,3 @@ def downlink(minutes):
             sent += 1
     for _ in range(sent, total):
         yield sender.fill()
-
-
-def main():
-    words = sys.argv[1:]
-    minutes = int(words[0]) if len(words) == 1 and words[0].isdecimal() and words[0].isascii() else 2
-    if (words and words != [str(minutes)]) or not 1 <= minutes <= MOST_MINUTES:
-        print("Usage: sample.py [MINUTES] > frames, with 1 to 60 minutes", file=sys.stderr)
-        return 2
-    for frame in downlink(minutes):
-        sys.stdout.buffer.write(frame)
-    return 0
-
-
-if __name__ == "__main__":
-    sys.exit(main())

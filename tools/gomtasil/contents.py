@@ -1,0 +1,50 @@
+"""What is inside each file, as people open it: what becomes of a file where `contents` takes it."""
+
+from __future__ import annotations
+
+from . import folder as folders
+from . import images, program, texts
+from .shelf import StoredFile
+
+MOST_MEMBER_CHARACTERS = 40  # of a member's name that joins the name of its zip
+
+
+def product_of(path: str, file: StoredFile) -> folders.Product:
+    """What a file becomes."""
+    header, what = file.header, f"file {file.number} of {path}"
+    if header is None or header.is_encrypted:
+        return whole(file)
+    if header.is_image:
+        return product_of_image(file, what)
+    if file.data.startswith(texts.ZIP_SIGNATURE):
+        return product_of_zip(file.data, what)
+    return folders.Product(*texts.opened(file.data, texts.is_declared_text(header)))
+
+
+def whole(file: StoredFile) -> folders.Product:
+    """The file as it is, where nothing in it can be opened."""
+    return folders.Product(folders.WHOLE_ENDING, file.proper, False)
+
+
+def product_of_zip(data: bytes, what: str) -> folders.Product:
+    try:
+        files = texts.unzipped(data)
+    except texts.BadZip as fault:
+        program.tell(f"{what} stays a zip: {fault}")
+        return folders.Product(texts.ZIP_ENDING, data)
+    if len(files) > 1:
+        return folders.Product("", files)
+    ((name, inside),) = files.items()
+    return folders.Product("-" + name[-MOST_MEMBER_CHARACTERS:], inside)
+
+
+def product_of_image(file: StoredFile, what: str) -> folders.Product:
+    ending = texts.ending_of(file.data)
+    if ending:
+        return folders.Product(ending, file.data)
+    picture = images.picture_of(file)
+    if picture:
+        return folders.Product(".png", images.png_of(picture))
+    if file.header and file.header.is_lossless:
+        program.tell(f"{what} stays as it is: the program {program.name()} exports no image of it")
+    return whole(file)

@@ -1,0 +1,283 @@
+"""Takes each file off a shelf once, as it comes, also beside a receiver that writes to the shelf."""
+
+from __future__ import annotations
+
+import fnmatch
+import os
+import subprocess
+import sys
+import time
+from collections.abc import Callable, Iterable, Iterator
+from dataclasses import dataclass
+
+from . import folder as folders
+from . import journal, program
+from . import shelf as shelves
+from .shelf import Head, Shelf, StoredFile
+
+POLL_SECONDS = 1
+KEEP_SECONDS = 3600  # between two looks for days that are old
+MOST_BATCH_BYTES = 128 * 1024 * 1024
+
+ProductOf = Callable[[str, StoredFile], folders.Product]
+
+
+def whole_file(_path: str, file: StoredFile) -> folders.Product:
+    """The mission file as it was sent, without its transport header."""
+    return folders.Product("", file.proper, False)
+
+
+@dataclass(frozen=True)
+class Wishes:
+    """Which files are taken, and what is done with them."""
+
+    product_of: ProductOf = whole_file
+    patterns: tuple[str, ...] = ()  # of annotations; where there is none, all files
+    applications: tuple[int, ...] = ()
+    prefix: str = ""  # of the label
+    command: tuple[str, ...] = ()  # that is run for each file; {} stands for its path
+    keep_days: int | None = None  # after which the folder of a day goes
+
+    def wants(self, file: StoredFile) -> bool:
+        name = folders.annotation_of(file)
+        is_named = not self.patterns or any(fnmatch.fnmatchcase(name, it) for it in self.patterns)
+        return is_named and (not self.applications or file.fields.application in self.applications)
+
+
+def batches(heads: Iterable[Head]) -> Iterator[list[Head]]:
+    """The heads in runs of files of a bounded size, and each discard by itself."""
+    run: list[Head] = []
+    size = 0
+    for head in shelves.sound(heads):
+        is_full = len(run) == journal.MOST_BATCH_FILES or size + head.extent > MOST_BATCH_BYTES
+        if run and (head.is_discard or is_full):
+            yield run
+            run, size = [], 0
+        if head.is_discard:
+            yield [head]
+        else:
+            run.append(head)
+            size += head.extent
+    if run:
+        yield run
+
+
+class Follower:
+    """Takes the files of one shelf into a folder.
+
+    A file is written as a part; the log then says that it was taken and which name it gets; then it gets the name.
+    After a kill a part of which the log has a line gets its name, and any other part is removed. So each file is taken
+    once.
+    """
+
+    def __init__(self, shelf: Shelf, folder: folders.Folder, wishes: Wishes):
+        self.folder = folder
+        self.wishes = wishes
+        self.path = shelf.path
+        self.label, self.log = journal.log_of(folder.state, shelf, wishes.prefix)
+        self.parts = folders.Parts(os.path.join(folder.state, self.label + ".parts"))
+        self.faults = 0
+        self.mark = self.mark_on(shelf)
+
+    def mark_on(self, shelf: Shelf) -> bytes:
+        """Some bytes of the last item that was taken, by which another shelf in the same place is known."""
+        last = self.log.end_of()
+        return shelf.mark(last) if last else b""
+
+    def close(self) -> None:
+        self.parts.keep(self.log.noted)
+        self.log.close()
+
+    def mend(self) -> None:
+        """Ends what a kill or a full disk interrupted."""
+        self.parts.keep(self.log.noted)
+        names = self.log.noted(self.parts.numbers())
+        for number in names:
+            self.place(number, names)
+
+    def heads(self, shelf: Shelf) -> Iterator[Head]:
+        last = self.log.last
+        return shelf.heads(last.gate + 1 + last.extent, last.files) if last else shelf.heads()
+
+    def take_all(self, shelf: Shelf) -> None:
+        """Takes what stands on the shelf and wasn't taken. It ends early where a signal is pending."""
+        self.mend()
+        gone = {head.number for head in shelves.sound(self.heads(shelf)) if head.is_discard}
+        for batch in batches(self.heads(shelf)):
+            if program.pending_signal():
+                break
+            if batch[0].is_discard:
+                self.discard(shelf, batch[0])
+            else:
+                self.take(shelf, batch, gone)
+        self.mark = self.mark_on(shelf)
+        # (where the items break off, this raises the fault)
+        next(self.heads(shelf), None)
+
+    def take(self, shelf: Shelf, heads: list[Head], gone: set[int]) -> None:
+        """Takes a run of files, up to where a signal is pending."""
+        lines: list[journal.Line] = []
+        fault = None
+        try:
+            for head in heads:
+                if program.pending_signal():
+                    break
+                lines.append(self.prepare(head, shelf.item(head), gone))
+        except OSError as it:
+            # (the disk may be full; what was written before gets its names)
+            self.parts.remove(head.number)
+            fault = it
+        try:
+            if lines:
+                self.finish(lines)
+            if fault:
+                raise fault
+        finally:
+            self.folder.taken.clear()
+            self.parts.keep(self.log.noted)
+
+    def prepare(self, head: Head, item: bytes, gone: set[int]) -> journal.Line:
+        """Writes the part of a file. The line that says so."""
+        what, name, file_sum = "left", "discarded", journal.NO_SUM
+        if head.number not in gone:
+            if not shelves.has_its_checksum(item):
+                name = "damaged"
+                self.faults += 1
+                program.tell(f"file {head.number} of {self.path} has a bad checksum and is left out")
+            elif not self.wishes.wants(file := shelves.file_of(head, item)):
+                name = "unwanted"
+            else:
+                what, name, file_sum = "file", self.write(file), journal.sum_of(file.proper)
+        sum_ = journal.sum_of(item)
+        return journal.Line(what, head.number, head.number + 1, head.gate, head.extent, sum_, name, file_sum)
+
+    def write(self, file: StoredFile) -> str:
+        """Writes a part. The name that it gets."""
+        product = self.wishes.product_of(self.path, file)
+        self.parts.write(file.number, product.contents)
+        return self.folder.name_for(self.label, file, product)
+
+    def finish(self, lines: list[journal.Line]) -> None:
+        """Makes parts durable, notes them, and gives them their names."""
+        names = {line.number: line.name for line in lines if line.what == "file"}
+        if names:
+            os.sync()
+        self.log.note(lines)
+        for number in list(names):
+            self.place(number, names)
+        print("".join(f"{number} {name}\n" for number, name in names.items()), end="", flush=True)
+        for name in names.values() if self.wishes.command else ():
+            self.run(name)
+
+    def place(self, number: int, names: dict[int, str]) -> None:
+        """Gives a part the name of which the log tells, or a further one where that has been taken meanwhile."""
+        while not self.folder.place(self.parts.of(number), names[number]):
+            names[number] = self.folder.free([names[number]])
+            self.log.rename(number, names[number])
+
+    def run(self, name: str) -> None:
+        """Runs the command for a file that stands whole."""
+        path = self.folder.full(name)
+        words = [path if word == "{}" else word for word in self.wishes.command]
+        if "{}" not in self.wishes.command:
+            words.append(path)
+        try:
+            done = subprocess.run(
+                words, stdin=subprocess.DEVNULL, stdout=2, preexec_fn=program.let_signals, check=False
+            )
+            said = f"ended with {done.returncode}" if done.returncode else ""
+        except OSError as fault:
+            said = program.reason(fault)
+        if said:
+            self.faults += 1
+            program.tell(f"{words[0]} for {name}: {said}")
+
+    def discard(self, shelf: Shelf, head: Head) -> None:
+        """Moves a file that was taken, and was discarded later."""
+        name = self.log.name_of(head.number)
+        aside = self.folder.set_aside(name) if name else None
+        if aside:
+            print(head.number, aside, flush=True)
+        files = self.log.last.files if self.log.last else 0
+        sum_ = journal.sum_of(shelf.item(head))
+        self.log.note([journal.Line("discard", head.number, files, head.gate, head.extent, sum_, "-")])
+
+
+class Station:
+    """All shelves that are followed into one folder."""
+
+    def __init__(self, path: str, folder: folders.Folder, wishes: Wishes):
+        self.path = path
+        self.folder = folder
+        self.wishes = wishes
+        self.followers: dict[str, Follower] = {}
+        self.told: dict[str, str] = {}  # what was said last of each shelf
+        self.failed = False
+        self.next_clearing = 0.0
+
+    def take_all(self) -> None:
+        """One look at every shelf."""
+        paths = shelves.paths_of(self.path)
+        for path in set(self.followers) - set(paths):
+            self.followers.pop(path).close()
+        for path in paths:
+            try:
+                self.look_at(path)
+                self.told.pop(path, None)
+            except BrokenPipeError:
+                raise
+            except (OSError, shelves.ShelfError, journal.Refusal) as fault:
+                self.failed = True
+                self.tell_once(path, fault)
+        self.clear_away()
+
+    def clear_away(self) -> None:
+        """Removes old days, once an hour."""
+        if self.wishes.keep_days is not None and time.monotonic() >= self.next_clearing:
+            self.next_clearing = time.monotonic() + KEEP_SECONDS
+            for name in self.folder.remove_days(self.wishes.keep_days):
+                program.tell(f"removed {self.folder.full(name)}")
+
+    def look_at(self, path: str) -> None:
+        with Shelf(path) as shelf:
+            follower = self.follower_of(shelf)
+            try:
+                follower.take_all(shelf)
+            finally:
+                self.failed = self.failed or follower.faults > 0
+
+    def follower_of(self, shelf: Shelf) -> Follower:
+        """The follower of a shelf; a new one where another shelf has come to stand at its path."""
+        follower = self.followers.get(shelf.path)
+        if follower and follower.mark != follower.mark_on(shelf):
+            self.followers.pop(shelf.path).close()
+            follower = None
+        if not follower:
+            follower = self.followers[shelf.path] = Follower(shelf, self.folder, self.wishes)
+        return follower
+
+    def tell_once(self, path: str, fault: BaseException) -> None:
+        words = f"{path}: {program.reason(fault)}"
+        if self.told.get(path) != words:
+            program.tell(words)
+        self.told[path] = words
+
+    def close(self) -> None:
+        for follower in self.followers.values():
+            follower.close()
+
+
+def run(path: str, folder: folders.Folder, wishes: Wishes, does_watch: bool) -> int:
+    """Takes what stands there, or with `does_watch` goes on until a signal comes. The status."""
+    station = Station(path, folder, wishes)
+    try:
+        station.take_all()
+        while does_watch and not program.wait(POLL_SECONDS):
+            station.take_all()
+    except BrokenPipeError:
+        os.dup2(os.open(os.devnull, os.O_WRONLY), sys.stdout.fileno())
+        return 1
+    finally:
+        station.close()
+    ended_by = program.pending_signal()
+    return 128 + ended_by if ended_by and not does_watch else 1 if station.failed and not does_watch else 0

@@ -1,0 +1,226 @@
+"""Where the pixels of an image lie: its navigation record, the GEOS projection of CGMS 03 (section 4.4.3.2), and the
+GeoTIFF of TIFF 6.0 and GeoTIFF 1.0."""
+
+from __future__ import annotations
+
+import math
+import re
+import struct
+import zlib
+from typing import NamedTuple
+
+from . import images, segments, xrit
+from .images import Picture
+from .shelf import Shelf, ShelfError, StoredFile
+
+# ---- the earth and the satellite of the projection, by CGMS 03 (metres)
+EQUATOR_RADIUS = 6_378_169.0
+POLE_RADIUS = 6_356_583.8
+HEIGHT = 35_785_831.0
+DISTANCE = HEIGHT + EQUATOR_RADIUS  # of the satellite from the centre
+FLATNESS = (POLE_RADIUS / EQUATOR_RADIUS) ** 2
+FACTOR_ONE = 65536  # a factor of this size is one pixel a degree
+
+# ---- TIFF and GeoTIFF
+HEAD = struct.Struct(">2sHI")
+ENTRY = struct.Struct(">HHI4s")
+SHORT, LONG, ASCII, DOUBLE = 3, 4, 2, 12
+FORMATS = {SHORT: "H", LONG: "I", DOUBLE: "d"}
+WIDTH, LENGTH, BITS, COMPRESSION, PHOTOMETRIC, STRIPS, SAMPLES, ROWS, COUNTS = (
+    256,
+    257,
+    258,
+    259,
+    262,
+    273,
+    277,
+    278,
+    279,
+)
+PIXEL_SCALE, TIE_POINT, GEO_KEYS, GEO_TEXTS = 33550, 33922, 34735, 34737
+DEFLATE, BLACK_IS_ZERO = 8, 1
+MODEL_TYPE, RASTER_TYPE, PROJECTED_CITATION, LINEAR_UNIT = 1024, 1025, 3073, 3076
+USER_DEFINED, PIXEL_IS_AREA, METRE = 32767, 1, 9001
+
+
+class Placement(NamedTuple):
+    """Where the pixels of an image lie. Columns and lines are counted from 1, as the record counts."""
+
+    longitude: float  # degrees, below the satellite
+    column_factor: int
+    line_factor: int
+    column_offset: int
+    line_offset: int
+    first_line: int  # lines of the whole image before those of this one
+
+    @property
+    def column_metres(self) -> float:
+        return HEIGHT * math.radians(FACTOR_ONE / self.column_factor)
+
+    @property
+    def line_metres(self) -> float:
+        return HEIGHT * math.radians(FACTOR_ONE / self.line_factor)
+
+    @property
+    def left(self) -> float:
+        # the upper left pixel is column 1 and begins at 0.5
+        return (0.5 - self.column_offset) * self.column_metres
+
+    @property
+    def top(self) -> float:
+        return (self.line_offset - self.first_line - 0.5) * self.line_metres
+
+    def pixel_of(self, longitude: float, latitude: float) -> tuple[float, float] | None:
+        """The column and line, counted from 0 at the middle of the first pixel, at which a place on the ellipsoid is
+        seen; None behind the limb."""
+        east = math.radians(longitude - self.longitude)
+        centric = math.atan(FLATNESS * math.tan(math.radians(latitude)))
+        radius = POLE_RADIUS / math.sqrt(1 - (1 - FLATNESS) * math.cos(centric) ** 2)
+        from_centre = radius * math.cos(centric) * math.cos(east)
+        towards = DISTANCE - from_centre
+        across = radius * math.cos(centric) * math.sin(east)
+        up = radius * math.sin(centric)
+        # (the line of sight meets the ellipsoid from outside)
+        if towards * from_centre - across**2 - up**2 / FLATNESS <= 0:
+            return None
+        x = math.degrees(math.atan(across / towards))
+        y = math.degrees(math.asin(up / math.sqrt(towards**2 + across**2 + up**2)))
+        column = self.column_offset + x * self.column_factor / FACTOR_ONE - 1
+        line = self.line_offset - y * self.line_factor / FACTOR_ONE - 1 - self.first_line
+        return column, line
+
+
+def placement_of(header: xrit.Header | None, is_whole: bool = False) -> Placement:
+    """Where an image lies, or the whole one of which it is a segment. ShelfError where its header doesn't say it."""
+    found = header.navigation if header else None
+    if not header or not found:
+        raise ShelfError("the file has no navigation record")
+    match = re.fullmatch(rb"GEOS\(([-+]?\d{1,3}(?:\.\d+)?)\)", found.name.strip(b"\0 "), re.IGNORECASE)
+    if not match:
+        raise ShelfError("the navigation record names no GEOS projection")
+    if min(found.column_factor, found.line_factor) <= 0:
+        raise ShelfError("the image has its north below or its east to the left")
+    first_line = 0 if is_whole else segments.first_line_of(header)
+    return Placement(float(match[1]), *found[1:], first_line)
+
+
+def is_counted_within(header: xrit.Header) -> bool:
+    """Whether the line offset of a segment counts in the segment, and not in the whole image."""
+    return len(header.first(xrit.SEGMENT_KIND) or b"") == segments.PLANNED.size
+
+
+def whole_image(shelf: Shelf, number: int) -> tuple[Picture, Placement, segments.Group]:
+    """The image to which a file belongs, its segments put together, and where it lies. ShelfError where it can't be
+    had."""
+    file = shelf.file(number)
+    group = group_with(shelf, file)
+    first = min(group.parts, key=lambda part: part.segment.number if part.segment else 0)
+    leading = shelf.load(first.head) or file
+    picture = images.group_picture(shelf, group)
+    if picture is None:
+        raise ShelfError(f"file {number} has no image that can be had here")
+    header = leading.header
+    if header and first.segment and is_counted_within(header):
+        # (such an offset counts from the segment's first line, which is that of the whole image where it is the first
+        # one)
+        lines = header.structure.lines if header.structure else 0
+        placed = placement_of(header, True)
+        return picture, placed._replace(line_offset=placed.line_offset + first.segment.number * lines), group
+    return picture, placement_of(header, bool(group.segments)), group
+
+
+def group_with(shelf: Shelf, file: StoredFile) -> segments.Group:
+    """The group of files in which this one is."""
+    wanted = segments.segment_of(file)
+    heads = (
+        [it.head for it in shelf.fronts(gone=shelf.gone()) if it.file_type == xrit.IMAGE_TYPE]
+        if wanted
+        else [file.head]
+    )
+    groups = [it for it in segments.groups_of(shelf, heads) if isinstance(it, segments.Group)]
+    found = [it for it in groups if file.number in it.numbers]
+    if not found:  # (a mended segment in whose place a whole one has come)
+        found = [it for it in segments.groups_of(shelf, [file.head]) if isinstance(it, segments.Group)]
+    return found[0]
+
+
+# ---- GeoTIFF
+
+
+def projection_of(longitude: float) -> str:
+    """The projection as text. The standard of GeoTIFF has no code for it; this is how GDAL writes and reads it in a
+    citation."""
+    flattening = EQUATOR_RADIUS / (EQUATOR_RADIUS - POLE_RADIUS)
+    return (
+        'ESRI PE String = PROJCS["Geostationary",GEOGCS["GCS_CGMS",DATUM["D_CGMS",'
+        f'SPHEROID["CGMS",{EQUATOR_RADIUS},{flattening!r}]],PRIMEM["Greenwich",0.0],UNIT["Degree",0.0174532925199433]],'
+        f'PROJECTION["Geostationary_Satellite"],PARAMETER["Longitude_Of_Center",{longitude}],'
+        f'PARAMETER["Height",{HEIGHT}],'
+        'PARAMETER["False_Easting",0.0],PARAMETER["False_Northing",0.0],PARAMETER["Option",0.0],UNIT["Meter",1.0]]'
+    )
+
+
+def geo_keys(text: str) -> tuple[list[int], str]:
+    """The directory of keys, and the texts that it names."""
+    keys = [
+        (MODEL_TYPE, 0, 1, USER_DEFINED),
+        (RASTER_TYPE, 0, 1, PIXEL_IS_AREA),
+        (PROJECTED_CITATION, GEO_TEXTS, len(text) + 1, 0),
+        (LINEAR_UNIT, 0, 1, METRE),
+    ]
+    return [1, 1, 0, len(keys)] + [number for key in keys for number in key], text + "|"
+
+
+def tiff_of(picture: Picture, placement: Placement) -> bytes:
+    """The bytes of a GeoTIFF of one strip, most significant byte first."""
+    keys, texts = geo_keys(projection_of(placement.longitude))
+    strip = zlib.compress(picture.pixels)
+    fields: list[tuple[int, int, list[int] | list[float] | str]] = [
+        (WIDTH, LONG, [picture.columns]),
+        (LENGTH, LONG, [picture.lines]),
+        (BITS, SHORT, [images.BYTE_BITS * picture.width]),
+        (COMPRESSION, SHORT, [DEFLATE]),
+        (PHOTOMETRIC, SHORT, [BLACK_IS_ZERO]),
+        (STRIPS, LONG, [HEAD.size]),
+        (SAMPLES, SHORT, [1]),
+        (ROWS, LONG, [picture.lines]),
+        (COUNTS, LONG, [len(strip)]),
+        (PIXEL_SCALE, DOUBLE, [placement.column_metres, placement.line_metres, 0.0]),
+        (TIE_POINT, DOUBLE, [0.0, 0.0, 0.0, placement.left, placement.top, 0.0]),
+        (GEO_KEYS, SHORT, keys),
+        (GEO_TEXTS, ASCII, texts),
+    ]
+    data = strip + bytes(-len(strip) % 2)
+    return HEAD.pack(b"MM", 42, HEAD.size + len(data)) + data + directory_of(fields, HEAD.size + len(data))
+
+
+def directory_of(fields: list[tuple[int, int, list[int] | list[float] | str]], at: int) -> bytes:
+    """The directory of a TIFF that stands at a place, with the values that don't fit into it after it."""
+    after = at + 2 + ENTRY.size * len(fields) + 4
+    entries, values = b"", b""
+    for tag, kind, numbers in fields:
+        if isinstance(numbers, str):
+            count, value = len(numbers) + 1, numbers.encode("ascii") + b"\0"
+        else:
+            count, value = len(numbers), struct.pack(f">{len(numbers)}{FORMATS[kind]}", *numbers)
+        if len(value) > 4:
+            place = struct.pack(">I", after + len(values))
+            values += value + bytes(len(value) % 2)
+        else:
+            place = value.ljust(4, b"\0")
+        entries += ENTRY.pack(tag, kind, count, place)
+    return struct.pack(">H", len(fields)) + entries + bytes(4) + values
+
+
+def geo(path: str, number: int, is_alone: bool = False) -> bytes:
+    """The GeoTIFF of the image to which a file belongs, or of the file alone."""
+    with Shelf(path) as shelf:
+        if not is_alone:
+            picture, placement, _ = whole_image(shelf, number)
+            return tiff_of(picture, placement)
+        file = shelf.file(number)
+        placement = placement_of(file.header)
+        alone = images.picture_of(file)
+        if alone is None:
+            raise ShelfError(f"file {number} has no image that can be had here")
+        return tiff_of(alone, placement)

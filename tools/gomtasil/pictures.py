@@ -1,0 +1,270 @@
+"""Every image of a shelf as a picture in a folder: the segments of one are put together, and the others are as they
+are.
+
+A picture is called STAMP-NAME@SHELF.N: the time stamp and the annotation of the file (of the first one that came, for
+segments), the name of the shelf, and the number of the file there. Where segments are missing -lacks-COUNT follows, and
+where packets are -mended-COUNT, until a later run has more of them. What stands there already is left as it is.
+"""
+
+from __future__ import annotations
+
+import fnmatch
+import json
+import os
+import re
+from collections.abc import Iterator
+from dataclasses import dataclass
+from typing import TYPE_CHECKING, Any, NamedTuple
+
+from . import colours, folder as folders
+from . import images, products, program, segments, texts, xrit
+from . import shelf as shelves
+from .segments import Group
+from .shelf import Shelf
+
+if TYPE_CHECKING:
+    from PIL.Image import Image
+
+STATE = ".pictures"
+LATEST = "latest"
+MOST_SHELF_CHARACTERS = 60  # of the shelf's name in that of a picture
+ENDING = r"(-[a-z]+)?\.(png|jpg|gif)"
+LESS = re.compile(rf"(?P<stem>.*@[^@]*\.[0-9]+)(?=-lacks-|-mended-)(-lacks-\d+)?(-mended-\d+)?{ENDING}")
+
+
+class Enhancement(NamedTuple):
+    """Colours for the pictures whose names fit a pattern."""
+
+    pattern: str
+    table: str
+
+
+@dataclass(frozen=True)
+class Wishes:
+    """What is drawn besides the pictures themselves."""
+
+    patterns: tuple[str, ...] = ()  # of annotations; where there is none, all
+    enhancements: tuple[Enhancement, ...] = ()
+    false_colour: tuple[str, str] | None = None  # patterns of the visible and of the infrared picture
+    has_latest: bool = True
+
+
+class Drawn(NamedTuple):
+    """A picture that stands in the folder."""
+
+    name: str
+    group: Group
+
+
+class Drawer:
+    """Draws the images of one shelf."""
+
+    def __init__(self, shelf: Shelf, folder: str, wishes: Wishes):
+        self.shelf = shelf
+        self.folder = folder
+        self.wishes = wishes
+        self.label = folders.safe(shelves.label_of(shelf.path))[:MOST_SHELF_CHARACTERS]
+        self.failed = False
+        self.newest: dict[str, str] = {}  # the pictures of each kind that came last
+
+    def full(self, name: str) -> str:
+        return os.path.join(self.folder, name)
+
+    def groups(self) -> Iterator[Group]:
+        """The images of the shelf. Of a file that can't be read there is a word."""
+        fronts = self.shelf.fronts(gone=self.shelf.gone())
+        for group in segments.groups_of(self.shelf, (it.head for it in fronts if it.file_type == xrit.IMAGE_TYPE)):
+            if not isinstance(group, Group):
+                self.failed = True
+                program.tell(f"file {group.number} of {self.shelf.path} has a bad checksum and is left out")
+            elif group.file.header and group.file.header.structure and self.wants(group):
+                yield group
+
+    def wants(self, group: Group) -> bool:
+        name = folders.annotation_of(group.file)
+        return not self.wishes.patterns or any(fnmatch.fnmatchcase(name, it) for it in self.wishes.patterns)
+
+    def stem_of(self, group: Group) -> str:
+        stamp = group.file.header.stamp if group.file.header else None
+        name = folders.annotation_of(group.file).removesuffix(folders.WHOLE_ENDING) or "image"
+        return f"{f'{stamp:%Y%m%dT%H%M%SZ}-' if stamp else ''}{name}@{self.label}.{group.file.number}"
+
+    def name_of(self, group: Group) -> str:
+        """The name of a picture without its ending."""
+        fillers = sum(part.mended.fillers for part in group.parts if part.mended)
+        lacks = f"-lacks-{len(group.missing)}" if group.missing else ""
+        return self.stem_of(group) + lacks + (f"-mended-{fillers}" if fillers else "")
+
+    def draw_all(self) -> list[Drawn]:
+        """Draws what doesn't stand there yet. What stands there then."""
+        groups = list(self.groups())
+        for group in groups:
+            if group.note:
+                program.tell(f"{self.name_of(group)}: {group.note}")
+        wanted = [it for it in groups if not self.standing(self.name_of(it)) and not self.put_as_sent(it)]
+        for group, picture in zip(wanted, images.group_pictures(self.shelf, wanted)):
+            self.put_picture(group, picture)
+        drawn = [Drawn(name, it) for it in groups if (name := self.standing(self.name_of(it)))]
+        for it in drawn:
+            self.enhance(it)
+        self.forget(drawn)
+        return drawn
+
+    def standing(self, name: str) -> str | None:
+        """The picture of a name, with its ending, if it stands there."""
+        found = (name + ending for ending in (".png", ".jpg", ".gif"))
+        return next((it for it in found if os.path.exists(self.full(it))), None)
+
+    def put_as_sent(self, group: Group) -> bool:
+        """Writes a JPEG, GIF or PNG that is no segment. Whether it is one."""
+        file = self.shelf.load(group.parts[0].head) if not group.segments or group.segments[0].total == 1 else None
+        ending = texts.ending_of(file.data) if file else None
+        if not file or not ending or (file.header and file.header.is_encrypted):
+            return False
+        self.put(self.name_of(group) + ending, file.data)
+        return True
+
+    def put_picture(self, group: Group, picture: images.Picture | None) -> None:
+        if picture:
+            self.put(self.name_of(group) + ".png", images.png_of(picture))
+            return
+        numbers = segments.in_words(sorted(group.numbers))
+        program.tell(f"{group.name}: file {numbers} of {self.shelf.path} has no image that can be had here")
+
+    def put(self, name: str, data: bytes) -> None:
+        try:
+            folders.write_whole(self.full(name), data)
+            print(name, flush=True)
+        except OSError as fault:
+            program.tell(f"{name}: {program.reason(fault)}")
+            self.failed = True
+
+    def forget(self, drawn: list[Drawn]) -> None:
+        """Takes away the pictures of an image that lack more than the one that stands."""
+        names = {self.stem_of(it.group): self.name_of(it.group) for it in drawn}
+        for other in os.listdir(self.folder):
+            less = LESS.fullmatch(other)
+            name = names.get(less["stem"]) if less else None
+            if name and not re.fullmatch(re.escape(name) + ENDING, other):
+                os.unlink(self.full(other))
+
+    # ---- colours
+
+    def enhance(self, drawn: Drawn) -> None:
+        for it in self.wishes.enhancements:
+            stem = drawn.name.rsplit(".", 1)[0]
+            name = f"{stem}-{it.table}.png"
+            if fnmatch.fnmatchcase(folders.annotation_of(drawn.group.file), it.pattern) and not os.path.exists(
+                self.full(name)
+            ):
+                image = self.read(drawn.name)
+                if image:
+                    self.put(name, colours.png_of(colours.enhanced(image, it.table)))
+
+    def read(self, name: str) -> Image | None:
+        with open(self.full(name), "rb") as it:
+            image = images.read_image(it.read())
+        return colours.grey_of(image) if image else None
+
+    def colour(self, drawn: list[Drawn]) -> None:
+        """Draws the false colours of each pair of a visible and an infrared picture of the same time."""
+        if not self.wishes.false_colour:
+            return
+        visible, infrared = (self.by_time(drawn, pattern) for pattern in self.wishes.false_colour)
+        for when in sorted(set(visible) & set(infrared)):
+            name = visible[when].name.rsplit(".", 1)[0] + "-colours.png"
+            if not os.path.exists(self.full(name)):
+                one, other = self.read(visible[when].name), self.read(infrared[when].name)
+                if one and other:
+                    self.put(name, colours.png_of(colours.false_colours(one, other)))
+
+    @staticmethod
+    def by_time(drawn: list[Drawn], pattern: str) -> dict[str, Drawn]:
+        """The pictures whose names fit, by their minutes."""
+        found = {}
+        for it in drawn:
+            stamp = it.group.file.header.stamp if it.group.file.header else None
+            if stamp and fnmatch.fnmatchcase(folders.annotation_of(it.group.file), pattern):
+                found[f"{stamp:%Y%m%d%H%M}"] = it
+        return found
+
+    # ---- the latest of each kind
+
+    def link_latest(self, drawn: list[Drawn]) -> None:
+        """Writes latest/KIND.png: the newest picture of each kind that lacks nothing, or else the newest one."""
+        newest: dict[str, Drawn] = {}
+        for it in sorted(drawn, key=lambda it: (not it.group.missing, stamp_of(it.group), it.group.file.number)):
+            newest[products.product_of(it.group.name).short] = it
+        if newest:
+            os.makedirs(self.full(LATEST), exist_ok=True)
+        for kind, it in newest.items():
+            final = os.path.join(LATEST, kind + os.path.splitext(it.name)[1])
+            if not folders.is_same(self.full(final), self.full(it.name)):
+                renamed_over(self.full(it.name), self.full(final))
+
+
+def stamp_of(group: Group) -> str:
+    stamp = group.file.header.stamp if group.file.header else None
+    return f"{stamp:%Y%m%dT%H%M%S%f}" if stamp else ""
+
+
+def renamed_over(one: str, other: str) -> None:
+    """Gives a file a second name, over what has it, so that there is always one of this name."""
+    part = f"{other}.{os.getpid()}.part"
+    try:
+        os.link(one, part)
+    except OSError:  # (where there are no links)
+        with open(one, "rb") as it:
+            folders.write_new(part, it.read())
+    os.rename(part, other)
+
+
+# ---- what was drawn
+
+
+def noted(path: str, identity: list[Any], folder: str) -> bool:
+    """Whether all of a shelf was drawn, by the note of the last run."""
+    try:
+        with open(path, encoding="utf-8") as it:
+            kept = json.load(it)
+        return bool(kept["identity"] == identity) and all(
+            os.path.exists(os.path.join(folder, it)) for it in kept["names"]
+        )
+    except (OSError, ValueError, KeyError, TypeError):
+        return False
+
+
+def draw_shelf(path: str, folder: str, wishes: Wishes) -> bool:
+    """Draws the images of a shelf. Whether it was all done."""
+    with Shelf(path) as shelf:
+        about = os.fstat(shelf.descriptor)
+        identity = [1, os.path.realpath(path), about.st_ino, about.st_size, about.st_mtime_ns, repr(wishes)]
+        note = os.path.join(folder, STATE, folders.safe(shelves.label_of(path)) + ".json")
+        if noted(note, identity, folder):
+            return True
+        drawer = Drawer(shelf, folder, wishes)
+        drawn = drawer.draw_all()
+        drawer.colour(drawn)
+        if wishes.has_latest:
+            drawer.link_latest(drawn)
+    if not drawer.failed:
+        os.makedirs(os.path.dirname(note), exist_ok=True)
+        folders.write_whole(note, json.dumps({"identity": identity, "names": [it.name for it in drawn]}).encode())
+    return not drawer.failed
+
+
+def draw(path: str, folder: str, wishes: Wishes) -> int:
+    """Draws the images of a shelf, or of all shelves of a folder. The status."""
+    os.makedirs(folder, exist_ok=True)
+    status = 0
+    paths = shelves.paths_of(path)
+    if not paths:
+        program.tell(f"{path}: there is no shelf")
+        status = 1
+    for it in paths:
+        try:
+            status = status if draw_shelf(it, folder, wishes) else 1
+        except (OSError, shelves.ShelfError) as fault:
+            program.tell(f"{it}: {program.reason(fault)}")
+            status = 1
+    return status

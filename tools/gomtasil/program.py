@@ -1,0 +1,89 @@
+"""What all commands share: the words that they say, the signals that end them, and calls of the proved program."""
+
+from __future__ import annotations
+
+import os
+import signal
+import subprocess
+import sys
+from collections.abc import Sequence
+
+from . import shelf as shelves
+
+SIGNALS = (signal.SIGTERM, signal.SIGINT, signal.SIGHUP)
+EXPORT_SECONDS = 600
+
+
+class Missing(Exception):
+    """A package or a program that is needed isn't there."""
+
+
+def tell(words: object) -> None:
+    print(f"gomtasil: {words}", file=sys.stderr, flush=True)
+
+
+def reason(fault: BaseException) -> str:
+    """What went wrong, without the number of the system's error."""
+    return str(getattr(fault, "strerror", None) or fault)
+
+
+# ---- signals
+
+
+def end_by_signals() -> None:
+    """Makes the signals that ask for an end raise SystemExit, so that what is half done is removed."""
+
+    def end(number: int, _: object) -> None:
+        sys.exit(128 + number)
+
+    for it in SIGNALS:
+        signal.signal(it, end)
+
+
+def hold_signals() -> None:
+    """Blocks the signals that ask for an end, so that none ends anything in its middle."""
+    signal.pthread_sigmask(signal.SIG_BLOCK, SIGNALS)
+
+
+def pending_signal() -> signal.Signals | None:
+    """The signal that asks for an end, if one has come."""
+    return next((it for it in SIGNALS if it in signal.sigpending()), None)
+
+
+def wait(seconds: float) -> bool:
+    """Waits so long, or until a signal that is held asks for an end. Whether one does."""
+    return signal.sigtimedwait(SIGNALS, seconds) is not None
+
+
+def let_signals() -> None:
+    """For a process that is started: what is held here isn't there."""
+    signal.pthread_sigmask(signal.SIG_UNBLOCK, SIGNALS)
+
+
+# ---- the proved program
+
+
+def name() -> str:
+    return os.environ.get("LRITSTATION", "lritstation")
+
+
+def called(items: Sequence[bytes], *words: str) -> bytes | None:
+    """What the program prints for these words, over a shelf in memory that has these items; None where it doesn't end
+    well."""
+    descriptor = os.memfd_create("shelf")
+    try:
+        with open(descriptor, "wb", closefd=False) as it:
+            it.write(shelves.shelf_of(items))
+        done = subprocess.run(
+            [name(), f"/proc/self/fd/{descriptor}", *words],
+            stdin=subprocess.DEVNULL,
+            capture_output=True,
+            timeout=EXPORT_SECONDS,
+            check=True,
+            pass_fds=[descriptor],
+        )
+    except (OSError, subprocess.SubprocessError):
+        return None
+    finally:
+        os.close(descriptor)
+    return done.stdout

@@ -1,0 +1,194 @@
+"""Which files are parts of one picture: the segment records of NOAA, of Himawari and GK-2A, and of ELEKTRO. Which form
+a record has, its length says."""
+
+from __future__ import annotations
+
+import re
+import struct
+from collections.abc import Iterable, Iterator
+from dataclasses import dataclass, field
+from typing import NamedTuple
+
+from . import texts, xrit
+from .shelf import Head, Shelf, StoredFile
+
+NOAA = struct.Struct(">7H")  # image, number from 0, start column, start line, segments, columns, lines
+NUMBERED = struct.Struct(">BBH")  # number from 1, segments, start line from 1
+PLANNED = struct.Struct(">hBHHHb")  # spacecraft, channel, number, first and last of the image, form of the field
+MOST_SEGMENTS = 255  # of the two latter forms
+MOST_PIXELS = 134_217_728  # of an image that is put together
+MOST_RUNS = 20  # of missing numbers that are told
+
+
+class Segment(NamedTuple):
+    """Which part of which picture a file is."""
+
+    key: tuple[object, ...]  # the same for all segments of a picture
+    number: int  # from 0
+    total: int
+    left: int  # of the whole picture, in pixels
+    top: int | None  # None: by its number, as all segments have as many lines
+    columns: int | None  # of the whole picture; None: those of the segment
+    lines: int | None
+    first: int = 0  # what the sender counts from
+
+
+def segment_of(file: StoredFile) -> Segment | None:
+    """The segment that a file is, by any of the three forms of record, or None."""
+    header = file.header
+    found = header and header.first(xrit.SEGMENT_KIND)
+    structure = header and header.structure
+    if not found or not header or not structure or not header.is_image:
+        return None
+    whose = (file.fields.channel, file.fields.application)
+    if len(found) == NOAA.size:
+        image, number, left, top, count, columns, lines = NOAA.unpack(found)
+        return (
+            Segment((*whose, image, count, columns, lines), number, count, left, top, columns, lines) if count else None
+        )
+    band = 0
+    if len(found) == NUMBERED.size:
+        number, last, _ = NUMBERED.unpack(found)
+        first = 1
+    elif len(found) == PLANNED.size:
+        _, band, number, first, last, _ = PLANNED.unpack(found)
+    else:
+        return None
+    count = last - first + 1
+    pixels = structure.columns * structure.lines * count
+    if not first <= number <= last or count > MOST_SEGMENTS or pixels > MOST_PIXELS:
+        return None
+    name = unnumbered(texts.name_of(file), number)
+    key = (*whose, structure.bits, structure.columns, count, band, name)
+    return Segment(key, number - first, count, 0, None, None, None, first)
+
+
+def first_line_of(header: xrit.Header) -> int:
+    """How many lines of the whole image stand before those of this file, as its line offset counts."""
+    found = header.first(xrit.SEGMENT_KIND) or b""
+    if len(found) == NOAA.size:
+        return int(NOAA.unpack(found)[3])
+    if len(found) == NUMBERED.size:
+        return int(NUMBERED.unpack(found)[2]) - 1
+    return 0
+
+
+def unnumbered(name: str, number: int) -> str:
+    """A name without its last run of digits that says this number, so that all segments of a picture have the same."""
+    runs = [it for it in re.finditer(r"[0-9]+", name) if int(it[0]) == number]
+    return name[: runs[-1].start()] + name[runs[-1].end() :] if runs else name
+
+
+def in_words(numbers: Iterable[int]) -> str:
+    """Numbers with their runs drawn together, and at most so many of these."""
+    runs: list[list[int]] = []
+    for it in numbers:
+        if runs and it == runs[-1][1] + 1:
+            runs[-1][1] = it
+        else:
+            runs.append([it, it])
+    words = [str(a) if a == b else f"{a} to {b}" for a, b in runs]
+    rest = [f"and {len(words) - MOST_RUNS} more"] if len(words) > MOST_RUNS else []
+    return " ".join(words[:MOST_RUNS] + rest)
+
+
+# ---- groups
+
+
+class Part(NamedTuple):
+    """A file of a group, without its bytes."""
+
+    head: Head
+    mark: bytes
+    segment: Segment | None
+    mended: xrit.Mended | None
+
+
+@dataclass
+class Group:
+    """A file, or the segments of one picture."""
+
+    file: StoredFile  # the first one that came; of an image without its pixels
+    name: str
+    parts: list[Part] = field(default_factory=list)
+
+    @property
+    def segments(self) -> list[Segment]:
+        return [part.segment for part in self.parts if part.segment]
+
+    @property
+    def area(self) -> int:
+        """The pixels of the whole picture."""
+        structure = self.file.header.structure if self.file.header else None
+        if not structure:
+            return 0
+        if not self.segments:
+            return structure.columns * structure.lines
+        one = self.segments[0]
+        return (one.columns or structure.columns) * (one.lines or structure.lines * one.total)
+
+    @property
+    def numbers(self) -> list[int]:
+        """The numbers of its files on the shelf."""
+        return [part.head.number for part in self.parts]
+
+    @property
+    def missing(self) -> list[int]:
+        """The numbers of the segments that aren't there, as the sender counts, but from 1 where that is from 0."""
+        if not self.segments:
+            return []
+        first = self.segments[0].first or 1
+        here = {it.number for it in self.segments}
+        return [first + it for it in range(self.segments[0].total) if it not in here]
+
+    @property
+    def note(self) -> str:
+        """What is wrong with it, in words."""
+        mended = [part.mended for part in self.parts if part.mended]
+        words = [f"segments missing: {in_words(self.missing)}"] if self.missing else []
+        if mended:
+            packets = xrit.Mended(sum(it.fillers for it in mended), sum(it.packets for it in mended))
+            words.append(f"{packets} packets")
+        return "; ".join(words)
+
+    def add(self, part: Part) -> bool:
+        """Takes a file. False where it belongs to another picture, as this one has its number already. A segment that
+        is whole takes the place of a mended one."""
+        old = next(
+            (it for it in self.parts if it.segment and part.segment and it.segment.number == part.segment.number), None
+        )
+        if old is None:
+            self.parts.append(part)
+        elif old.mended and not part.mended:
+            self.parts[self.parts.index(old)] = part
+        elif not (part.mended and not old.mended):
+            return False
+        return True
+
+
+def groups_of(shelf: Shelf, heads: Iterable[Head]) -> Iterator[Group | Head]:
+    """Files in groups, in the order in which the first ones came: the segments of one picture are one group, until one
+    of them comes again. The head of a file that has a bad checksum comes as it is."""
+    groups: list[Group | Head] = []
+    opened: dict[tuple[object, ...], Group] = {}
+    for head in heads:
+        file = shelf.load(head)
+        if not file:
+            groups.append(head)
+            continue
+        segment = segment_of(file)
+        part = Part(head, shelf.mark(head), segment, file.header.mended if file.header else None)
+        group = opened.get(segment.key) if segment else None
+        if not group or not group.add(part):
+            group = Group(shortened(file), texts.name_of(file), [part])
+            groups.append(group)
+            if segment:
+                opened[segment.key] = group
+    return iter(groups)
+
+
+def shortened(file: StoredFile) -> StoredFile:
+    """The file without the pixels of an image, of which many are kept."""
+    if not file.header or not file.header.is_image:
+        return file
+    return StoredFile(file.head, file.fields, file.counter, file.proper[: file.header.size], b"")

@@ -1,0 +1,309 @@
+"""Whether a station is well: its shelves, its disk and its quality; old shelves that go; and what is told of a
+trouble."""
+
+from __future__ import annotations
+
+import fcntl
+import json
+import os
+import re
+import stat
+import time
+from collections.abc import Iterator
+from dataclasses import dataclass, field
+from typing import Any
+
+from . import folder as folders
+from . import program, quality
+from . import shelf as shelves
+from .metrics import Metrics, Totals
+from .shelf import Shelf
+
+QUIET_SECONDS = 300  # after which the quality is too old
+FEWEST_FRAMES = 100  # of a minute whose losses are judged
+DAY_SECONDS = 86_400
+STATE = ".state"  # in a station's folder
+
+
+@dataclass(frozen=True)
+class Bounds:
+    """From where on something is a trouble, and what goes."""
+
+    minutes: int = 30  # without a file
+    lost: int = 5  # per cent of a minute's frames
+    full: int = 90  # per cent of the disk or of the newest shelf
+    remove_days: int | None = None
+    keep_free: int | None = None  # per cent of the disk
+
+
+@dataclass
+class State:
+    """What is so in a folder of shelves: troubles by their kinds, and facts."""
+
+    folder: str
+    troubles: dict[str, str] = field(default_factory=dict)
+    facts: list[str] = field(default_factory=list)
+    is_again: bool = False  # whether a trouble that was told is over
+
+    @property
+    def line(self) -> str:
+        facts = ", ".join(self.facts)
+        if not self.troubles:
+            return f"{self.folder}: well{' again' if self.is_again else ''}: {facts}"
+        return f"{self.folder}: trouble: {'; '.join(self.troubles.values())}" + (f" ({facts})" if facts else "")
+
+
+# ---- shelves
+
+
+@dataclass(frozen=True)
+class Found:
+    """A shelf's file in a folder."""
+
+    path: str
+    size: int
+    changed: float  # seconds since 1970
+    capacity: int
+
+    @property
+    def has_files(self) -> bool:
+        return self.size > shelves.FIRST_GATE + 1
+
+    @property
+    def full(self) -> int:
+        return 100 * self.size // self.capacity if self.capacity else 100
+
+
+def found_in(folder: str) -> list[Found]:
+    """The shelves of a folder by the time of their last change, the newest one last. Other files and links are none."""
+    return sorted(looked_for(folder), key=lambda it: (it.changed, it.path))
+
+
+def looked_for(folder: str) -> Iterator[Found]:
+    for path in shelves.paths_of(folder):
+        try:
+            about = os.lstat(path)
+            if stat.S_ISREG(about.st_mode):
+                with Shelf(path) as shelf:
+                    yield Found(path, about.st_size, about.st_mtime, shelf.capacity)
+        except (OSError, shelves.ShelfError):
+            continue
+
+
+def minutes_since(changed: float) -> int:
+    return max(0, int(time.time() - changed) // 60)
+
+
+def look_at_shelves(state: State, bounds: Bounds, metrics: Metrics) -> None:
+    found = found_in(state.folder)
+    if not found:
+        state.troubles["shelf"] = "no shelf"
+        return
+    newest = found[-1]
+    filled = [it for it in found if it.has_files]
+    age = minutes_since(filled[-1].changed if filled else newest.changed)
+    name = os.path.basename(newest.path)
+    if filled:
+        metrics.add("last_file_age_seconds", max(0, int(time.time() - filled[-1].changed)), folder=state.folder)
+    metrics.add("shelf_used_percent", newest.full, folder=state.folder, shelf=name)
+    state.facts += [f"last file {age} minutes ago" if filled else "no file yet", f"{name} {newest.full} % full"]
+    if age > bounds.minutes:
+        state.troubles["quiet"] = f"no file for {age} minutes"
+    if newest.full > bounds.full:
+        state.troubles["full"] = f"{name} is {newest.full} % full"
+
+
+def used_percent(folder: str) -> int:
+    """How full the disk is, as `df` says it."""
+    about = os.statvfs(folder)
+    used = about.f_blocks - about.f_bfree
+    return -(-100 * used // (used + about.f_bavail)) if used + about.f_bavail else 100
+
+
+def look_at_disk(state: State, bounds: Bounds, metrics: Metrics) -> None:
+    full = used_percent(state.folder)
+    metrics.add("disk_used_percent", full, folder=state.folder)
+    state.facts.append(f"disk {full} % full")
+    if full > bounds.full:
+        state.troubles["disk"] = f"the disk is {full} % full"
+
+
+def look_at_quality(state: State, bounds: Bounds, metrics: Metrics) -> None:
+    """The quality is the last line of `gomtasil quality`."""
+    path = os.path.join(state.folder, quality.QUALITY)
+    if not os.path.isfile(path):
+        return
+    age = time.time() - os.stat(path).st_mtime
+    if age > QUIET_SECONDS:
+        state.troubles["quality"] = f"no word of the quality for {int(age) // 60} minutes"
+        return
+    with open(path, encoding="ascii", errors="replace") as it:
+        line = it.read(1000)
+    told = re.fullmatch(r"minute \d+ frames (\d+) lost (\d+)(?: corrected ([0-9.]+))?\n", line)
+    frames, lost = (int(told[1]), int(told[2])) if told else (0, 0)
+    if not told or frames == lost:
+        metrics.add("frames", 0, folder=state.folder)
+        state.troubles["locks"] = "nothing locks"
+        return
+    metrics.add("frames", frames, folder=state.folder)
+    metrics.add("frames_lost", lost, folder=state.folder)
+    if told[3]:
+        metrics.add("corrected_bytes", float(told[3]), folder=state.folder)
+    state.facts.append(f"{lost} of {frames} frames lost")
+    if frames >= FEWEST_FRAMES and 100 * lost > bounds.lost * frames:
+        state.troubles["lost"] = f"{lost} of {frames} frames lost, {100 * lost // frames} %"
+
+
+# ---- old shelves
+
+
+def is_of_this_week(found: Found) -> bool:
+    """By the week or the day in its name, or by its time."""
+    now = time.gmtime()
+    week = time.strftime("%G-%V", now)
+    label = shelves.label_of(found.path)
+    if re.match(rf"{week}(-|$)", label):
+        return True
+    try:
+        day = time.strptime(label[:10], "%Y-%m-%d")
+        if time.strftime("%G-%V", day) == week:
+            return True
+    except ValueError:
+        pass
+    return time.strftime("%G-%V", time.gmtime(found.changed)) == week
+
+
+def removed(found: Found) -> bool:
+    """Removes a shelf, if no process writes to it. The lock is held while it goes."""
+    try:
+        descriptor = os.open(found.path, os.O_RDONLY | os.O_NOFOLLOW)
+    except OSError:
+        return False
+    try:
+        fcntl.flock(descriptor, fcntl.LOCK_EX | fcntl.LOCK_NB)
+        os.unlink(found.path)
+    except OSError:
+        return False
+    finally:
+        os.close(descriptor)
+    program.tell(f"removed {found.path}")
+    return True
+
+
+def remove_old(state: State, bounds: Bounds) -> None:
+    """Removes shelves by their age, and then the oldest ones until enough of the disk is free; never the newest one,
+    nor one that is in use."""
+    count = 0
+    found = found_in(state.folder)[:-1]
+    for it in found:
+        is_old = bounds.remove_days is not None and time.time() - it.changed > bounds.remove_days * DAY_SECONDS
+        is_needed = bounds.keep_free is not None and 100 - used_percent(state.folder) < bounds.keep_free
+        if (is_needed or (is_old and not is_of_this_week(it))) and removed(it):
+            count += 1
+    if count:
+        state.facts.append(f"{count} old shelves removed")
+
+
+# ---- what is told
+
+
+class Memory:
+    """What a folder's state keeps from call to call: the totals, and which troubles were told when."""
+
+    def __init__(self, folder: str):
+        self.path = os.path.join(folder, STATE, "state.json")
+        kept = self.read()
+        try:
+            self.totals = Totals(kept.get("totals", {}))
+            self.told = {str(kind) for kind in kept.get("told", [])}
+            self.told_at = float(kept.get("told_at", 0))
+        except (TypeError, ValueError, AttributeError):
+            program.tell(f"{self.path} can't be read, so it begins anew")
+            self.totals, self.told, self.told_at = Totals({}), set(), 0.0
+
+    def read(self) -> dict[str, Any]:
+        try:
+            with open(self.path, encoding="utf-8") as it:
+                kept = json.load(it)
+            return kept if isinstance(kept, dict) else {}
+        except (OSError, ValueError):
+            return {}
+
+    def write(self) -> None:
+        kept = {"totals": self.totals.kept(), "told": sorted(self.told), "told_at": self.told_at}
+        os.makedirs(os.path.dirname(self.path), exist_ok=True)
+        folders.write_whole(self.path, json.dumps(kept).encode())
+
+    def is_news(self, state: State) -> bool:
+        """Whether a trouble is to be told: one that is new, or after a day."""
+        kinds = set(state.troubles)
+        is_news = bool(kinds - self.told) or (bool(kinds) and time.time() - self.told_at >= DAY_SECONDS)
+        self.told = kinds
+        self.told_at = time.time() if is_news else self.told_at
+        return is_news
+
+
+def look_at(folder: str, bounds: Bounds, metrics: Metrics | None = None) -> State:
+    """What is so in a folder. It changes nothing."""
+    state, metrics = State(folder), metrics or Metrics()
+    if not os.path.isdir(folder):
+        state.troubles["folder"] = "no folder"
+        return state
+    look_at_shelves(state, bounds, metrics)
+    look_at_disk(state, bounds, metrics)
+    look_at_quality(state, bounds, metrics)
+    return state
+
+
+def count_on(memory: Memory, folder: str) -> None:
+    """Brings the totals of a folder up to now."""
+    memory.totals.add_minutes(folder)
+    found = found_in(folder)
+    memory.totals.forget([it.path for it in found])
+    for it in found:
+        with Shelf(it.path) as shelf:
+            memory.totals.add_shelf(shelf)
+
+
+def watch(folders_: list[str], bounds: Bounds, prometheus: str | None, once: bool) -> int:
+    """Looks at each folder, and prints a line of it. 1 where there is a trouble; with `once` where it is news."""
+    metrics, status = Metrics(), 0
+    for folder in folders_:
+        state = State(folder)
+        if os.path.isdir(folder):
+            remove_old(state, bounds)
+        gone = state.facts
+        state = look_at(folder, bounds, metrics)
+        state.facts += gone
+        metrics.add("trouble", int(bool(state.troubles)), folder=folder)
+        is_trouble = bool(state.troubles)
+        if (once or prometheus) and os.path.isdir(folder):
+            is_news = keep(folder, state, metrics, bool(prometheus))
+            is_trouble = is_news if once else is_trouble
+        print(state.line, flush=True)
+        status = status or int(is_trouble)
+    if prometheus:
+        try:
+            folders.write_whole(prometheus, metrics.text().encode())
+            os.chmod(prometheus, 0o644)
+        except OSError as fault:
+            program.tell(f"{prometheus} can't be written: {program.reason(fault)}")
+            return 1
+    return status
+
+
+def keep(folder: str, state: State, metrics: Metrics, counts: bool) -> bool:
+    """Keeps what is needed in the next call. Whether a trouble is news."""
+    memory = Memory(folder)
+    was_told = bool(memory.told)
+    is_news = memory.is_news(state)
+    state.is_again = was_told and not state.troubles
+    try:
+        if counts:
+            count_on(memory, folder)
+            memory.totals.put(metrics, folder)
+        memory.write()
+    except (OSError, shelves.ShelfError) as fault:
+        program.tell(f"{folder}: the state can't be kept: {program.reason(fault)}")
+        return bool(state.troubles)
+    return is_news

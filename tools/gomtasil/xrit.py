@@ -1,0 +1,165 @@
+"""The headers of mission files, by CGMS 03 and the documents of the services: records, names, stamps, and the mark of a
+file that lacks packets. docs/FORMATS.md has a table of the records."""
+
+from __future__ import annotations
+
+import datetime
+import re
+import struct
+from typing import NamedTuple
+
+TRANSPORT = struct.Struct(">HQ")  # file counter, declared bits
+PRIMARY = struct.Struct(">BHBIQ")  # kind, length, file type, bytes of the header, bits of the data field
+TYPE_PLACE = 3  # of the file type in it
+RECORD = struct.Struct(">BH")  # kind, length
+STRUCTURE = struct.Struct(">BHHB")  # bits a pixel, columns, lines, compression
+STAMP = struct.Struct(">BHI")  # form, days since 1958, milliseconds of the day
+STAMP_FORM = 0x40
+STAMP_BEGIN = datetime.datetime(1958, 1, 1)
+DAY_MILLISECONDS = 86_400_000
+PRIMARY_KIND, STRUCTURE_KIND, NAVIGATION_KIND, ANNOTATION_KIND, STAMP_KIND, TEXT_KIND, KEY_KIND = 0, 1, 2, 4, 5, 6, 7
+SEGMENT_KIND, LOSSLESS_KIND = 128, 131
+LOSSLESS_BYTES = 7
+NAVIGATION = struct.Struct(">32siiii")  # name, column factor, line factor, column offset, line offset
+FIXED_LENGTHS = {STRUCTURE_KIND: 9, NAVIGATION_KIND: 51, STAMP_KIND: 10}
+IMAGE_TYPE, GTS_TYPE, TEXT_TYPE = 0, 1, 2
+NOT_COMPRESSED, LOSSLESS = 0, 1
+RUN = rb"\d{1,7}(?:-\d{1,7})?"  # the place of a packet that stands in, or the first and the last of several
+MENDED = re.compile(rb"gomtasil mended (" + RUN + rb"(?: " + RUN + rb"){0,1022}) of (\d{1,7})")
+MOST_FILLERS = 1023
+
+
+class Structure(NamedTuple):
+    """Record 1, of an image."""
+
+    bits: int
+    columns: int
+    lines: int
+    compression: int  # 0 none, 1 lossless, 2 lossy
+
+
+class Navigation(NamedTuple):
+    """Record 2, of an image: how its columns and lines lead to angles."""
+
+    name: bytes
+    column_factor: int
+    line_factor: int
+    column_offset: int
+    line_offset: int
+
+
+class Mended(NamedTuple):
+    """How many packets of a file stand in for some that were lost."""
+
+    fillers: int
+    packets: int  # all of them
+
+    def __str__(self) -> str:
+        return f"mended {self.fillers} of {self.packets}"
+
+
+class Header(NamedTuple):
+    """The header of a mission file: its type, its bytes, and the kinds and contents of its records after the first."""
+
+    file_type: int
+    size: int
+    records: list[tuple[int, bytes]]
+
+    def first(self, kind: int) -> bytes | None:
+        """The contents of the first record of a kind, or None."""
+        return next((contents for found, contents in self.records if found == kind), None)
+
+    @property
+    def structure(self) -> Structure | None:
+        contents = self.first(STRUCTURE_KIND)
+        return None if contents is None else Structure(*STRUCTURE.unpack(contents))
+
+    @property
+    def navigation(self) -> Navigation | None:
+        contents = self.first(NAVIGATION_KIND)
+        return None if contents is None else Navigation(*NAVIGATION.unpack(contents))
+
+    @property
+    def annotation(self) -> bytes:
+        """The name that the file is given, or nothing."""
+        return self.first(ANNOTATION_KIND) or b""
+
+    @property
+    def is_image(self) -> bool:
+        return self.file_type == IMAGE_TYPE
+
+    @property
+    def is_lossless(self) -> bool:
+        """Whether a record says how lines are coded without loss."""
+        return any(is_lossless_record(*it) for it in self.records)
+
+    @property
+    def is_encrypted(self) -> bool:
+        """Whether a key record has a byte that isn't 0."""
+        return any(kind == KEY_KIND and any(contents) for kind, contents in self.records)
+
+    @property
+    def stamp(self) -> datetime.datetime | None:
+        found = self.first(STAMP_KIND)
+        if not found:
+            return None
+        form, days, milliseconds = STAMP.unpack(found)
+        if form != STAMP_FORM or milliseconds >= DAY_MILLISECONDS:
+            return None
+        return STAMP_BEGIN + datetime.timedelta(days=days, milliseconds=milliseconds)
+
+    @property
+    def mended(self) -> Mended | None:
+        """What the last record of that text says, or None where no packet was missing."""
+        texts = [contents for kind, contents in self.records if kind == TEXT_KIND]
+        found = [mended for mended in map(mended_of, texts) if mended]
+        return found[-1] if found else None
+
+
+def mended_of(text: bytes) -> Mended | None:
+    """What a text says that names the places of the packets which stand in, as `gomtasil mended 2 8-9 of 13`."""
+    match = MENDED.fullmatch(text)
+    if not match:
+        return None
+    packets, before, fillers = int(match[2]), -1, 0
+    for run in match[1].split():
+        first, _, last = run.partition(b"-")
+        begin, end = int(first), int(last or first)
+        if not before < begin <= end < packets:
+            return None
+        before, fillers = end, fillers + end - begin + 1
+    return Mended(fillers, packets) if fillers <= MOST_FILLERS else None
+
+
+def is_lossless_record(kind: int, contents: bytes) -> bool:
+    return kind == LOSSLESS_KIND and RECORD.size + len(contents) == LOSSLESS_BYTES
+
+
+def header_of(proper: bytes) -> Header | None:
+    """The header of a mission file, or None where it has a fault ("Header records")."""
+    if len(proper) < PRIMARY.size:
+        return None
+    kind, length, file_type, size, _ = PRIMARY.unpack_from(proper)
+    if kind != PRIMARY_KIND or length != PRIMARY.size or not PRIMARY.size <= size <= len(proper):
+        return None
+    records, at = [], PRIMARY.size
+    while at < size:
+        if at + RECORD.size > size:
+            return None
+        kind, length = RECORD.unpack_from(proper, at)
+        if length < RECORD.size or at + length > size or FIXED_LENGTHS.get(kind, length) != length:
+            return None
+        records.append((kind, proper[at + RECORD.size : at + length]))
+        at += length
+    return Header(file_type, size, records)
+
+
+def record(kind: int, contents: bytes) -> bytes:
+    return RECORD.pack(kind, len(contents) + RECORD.size) + contents
+
+
+def mission_file(file_type: int, records: bytes, data: bytes, bits: int | None = None) -> bytes:
+    """A mission file without its transport header; `bits` of the data field, where they aren't 8 a byte."""
+    size = PRIMARY.size + len(records)
+    primary = PRIMARY.pack(PRIMARY_KIND, PRIMARY.size, file_type, size, 8 * len(data) if bits is None else bits)
+    return primary + records + data

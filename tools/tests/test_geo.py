@@ -1,0 +1,181 @@
+"""Where pixels lie: GeoTIFFs by their own tags and as GDAL reads them, and coasts over an image."""
+
+import math
+import os
+import shutil
+import struct
+import subprocess
+import zlib
+
+from .support import (
+    Case,
+    added,
+    image,
+    navigation,
+    needs_pillow,
+    noaa,
+    packed_bits,
+    planned,
+    read,
+    record,
+    shelf_of,
+    write,
+)
+
+FACTOR = 2_000_000
+METRES = 35785831.0 * math.pi / 180 * 65536 / FACTOR
+
+
+def tags_of(path):
+    """The tags of a TIFF, and what its one strip has."""
+    data = read(path)
+    (at,) = struct.unpack(">I", data[4:8])
+    (count,) = struct.unpack(">H", data[at : at + 2])
+    tags = {}
+    for place in range(at + 2, at + 2 + 12 * count, 12):
+        tag, kind, number = struct.unpack(">HHI", data[place : place + 8])
+        letter, size = {2: ("s", 1), 3: ("H", 2), 4: ("I", 4), 12: ("d", 8)}[kind]
+        start = place + 8 if size * number <= 4 else int.from_bytes(data[place + 8 : place + 12], "big")
+        tags[tag] = struct.unpack_from(f">{number}{letter}", data, start)
+    return tags, zlib.decompress(data[tags[273][0] : tags[273][0] + tags[279][0]])
+
+
+class Placed(Case):
+    def setUp(self):
+        super().setUp()
+        self.values = bytes(range(40))
+        longitude = navigation(-75.2, FACTOR, 4, 3)
+        segment = noaa(1, 1, 5, 2, 8, 10)
+        files = [
+            image(8, 8, 5, self.values, 0, [longitude]),
+            image(10, 8, 5, packed_bits([it * 25 for it in self.values], 10), 0, [longitude, segment]),
+            image(8, 8, 5, self.values),
+            image(8, 8, 5, self.values, 0, [record(2, b"polar".ljust(32) + bytes(16))]),
+            image(8, 8, 5, self.values, 0, [record(2, b"geos(0)".ljust(32) + struct.pack(">iiii", 0, 5, 0, 0))]),
+            image(8, 8, 5, b"short", 0, [longitude]),
+        ]
+        write("places.shelf", shelf_of([added(number, it) for number, it in enumerate(files)]))
+
+    def near(self, tags, left, top):
+        found = [tags[33550][0], tags[33922][3], tags[33922][4]]
+        self.assertTrue(all(abs(a - b) < 1e-6 for a, b in zip(found, (METRES, left * METRES, top * METRES))), found)
+
+    def test_files_alone(self):
+        for number in (0, 1):
+            self.call("geo", "places.shelf", str(number), f"{number}.tif", "--alone")
+            tags, data = tags_of(f"{number}.tif")
+            pixels = [int.from_bytes(data[at : at + 1 + number], "big") for at in range(0, len(data), 1 + number)]
+            self.assertEqual(pixels, [it * (25 if number else 1) for it in self.values])
+            self.near(tags, -3.5, 2.5 - 5 * number)
+        for number in (2, 3, 4, 5, 6):
+            for words in ((), ("--alone",)):
+                self.call("geo", "places.shelf", str(number), "none.tif", *words, status=1)
+        self.assertFalse(os.path.exists("none.tif"), "nothing stands after a refusal")
+        self.call("geo", "places.shelf", "x", "none.tif", status=2)
+        if not shutil.which("gdalinfo"):
+            self.skipTest("gdalinfo is missing")
+        for number in (0, 1):
+            told = subprocess.run(["gdalinfo", "-proj4", f"{number}.tif"], capture_output=True, text=True).stdout
+            self.assertIn("+proj=geos +lon_0=-75.2 +h=35785831", told)
+            self.assertIn("+rf=295.488065897", told)
+            self.assertIn("Size is 8, 5", told)
+            words = ["gdal_translate", "-q", "-of", "ENVI", f"{number}.tif", f"{number}.raw"]
+            subprocess.run(words, check=True, capture_output=True)
+            pixels = [it for (it,) in struct.iter_unpack("<H" if number else "B", read(f"{number}.raw"))]
+            self.assertEqual(pixels, [it * (25 if number else 1) for it in self.values])
+
+    def test_the_joined_image(self):
+        """Of any of its segments, whether the line offset counts in the whole image or in the segment."""
+        parts = [bytes(range(40)), bytes(range(40, 80))]
+        whole = [
+            image(8, 8, 5, part, 0, [navigation(-75.2, FACTOR, 4, 3), noaa(1, it, 5 * it, 2, 8, 10)])
+            for it, part in enumerate(parts)
+        ]
+        within = [
+            image(
+                8,
+                8,
+                5,
+                part,
+                0,
+                [record(4, b"E_%d" % (5 + it)), navigation(76, FACTOR, 4, 3 - 5 * it), planned(1, 5 + it, 5, 6)],
+            )
+            for it, part in enumerate(parts)
+        ]
+        for name, files in (("whole", whole), ("within", within)):
+            write(f"{name}.shelf", shelf_of([added(number, it) for number, it in enumerate(files)]))
+            for number in (0, 1):
+                self.call("geo", f"{name}.shelf", str(number), "joined.tif")
+                tags, data = tags_of("joined.tif")
+                self.assertEqual((tags[256][0], tags[257][0], data), (8, 10, b"".join(parts)))
+                self.near(tags, -3.5, 2.5)
+
+
+@needs_pillow
+class Overlay(Case):
+    """Lines over an image lie where its GeoTIFF says, by GDAL's own projection."""
+
+    def setUp(self):
+        super().setUp()
+        side, self.factor = 400, round(400 / 17.8 * 65536)
+        pixels = bytes(side * side)
+        half = side // 2
+        parts = [pixels[: len(pixels) // 2], pixels[len(pixels) // 2 :]]
+        files = [
+            image(
+                8,
+                side,
+                half,
+                part,
+                0,
+                [navigation(-75.2, self.factor, half, half), noaa(1, it, half * it, 2, side, side)],
+            )
+            for it, part in enumerate(parts)
+        ]
+        write("globe.shelf", shelf_of([added(it, file) for it, file in enumerate(files)]))
+
+    def test_a_line_lies_where_gdal_puts_it(self):
+        from PIL import Image
+
+        places = [(-75.2, 0), (-75.2, 40), (-40, 10), (-110, -30), (-20, 5), (-60, -55)]
+        marks = "".join(f"> mark\n{x} {y}\n{x} {y + 0.01}\n" for x, y in places)
+        write("lines.txt", (marks + "> behind\n104 0\n105 1\n> none\nx y\n").encode())
+        self.call("overlay", "globe.shelf", "1", "globe.png", "--lines", "lines.txt")
+        picture = Image.open("globe.png")
+        self.assertEqual((picture.size, picture.mode), ((400, 400), "RGB"))
+        drawn = [(x, y) for x in range(400) for y in range(400) if picture.getpixel((x, y)) != (0, 0, 0)]
+        if not shutil.which("gdaltransform"):
+            self.skipTest("gdaltransform is missing")
+        self.call("geo", "globe.shelf", "0", "globe.tif")
+        done = subprocess.run(
+            ["gdaltransform", "-t_srs", "+proj=longlat +a=6378169 +b=6356583.8 +no_defs", "-i", "globe.tif"],
+            input="\n".join(f"{x} {y}" for x, y in places),
+            capture_output=True,
+            text=True,
+        )
+        self.assertEqual(done.returncode, 0, done.stderr)
+        wanted = [tuple(map(float, line.split()[:2])) for line in done.stdout.splitlines()]
+        self.assertEqual(len(wanted), len(places))
+        for x, y in wanted:
+            # (a pixel's middle is at a half, for GDAL)
+            near = [it for it in drawn if abs(it[0] + 0.5 - x) <= 1.5 and abs(it[1] + 0.5 - y) <= 1.5]
+            self.assertTrue(near, f"something is drawn at {x} {y}")
+        self.assertLessEqual(len(drawn), 4 * len(places), "nothing is drawn behind the limb")
+
+    def test_coasts_of_gmt(self):
+        from PIL import Image
+
+        if not shutil.which("gmt"):
+            self.skipTest("gmt is missing")
+        self.call("overlay", "globe.shelf", "0", "coasts.png")
+        picture = Image.open("coasts.png")
+        drawn = {(x, y) for x in range(400) for y in range(400) if picture.getpixel((x, y)) != (0, 0, 0)}
+        self.assertGreater(len(drawn), 2000)
+        self.assertTrue(
+            all((x - 199) ** 2 + (y - 199) ** 2 < 198**2 for x, y in drawn), "nothing lies beside the earth"
+        )
+
+    def test_without_gmt(self):
+        _, said = self.call("overlay", "globe.shelf", "0", "x.png", status=1, env={**os.environ, "PATH": "/nowhere"})
+        self.assertIn("apt-get install gmt", said)
+        self.assertFalse(os.path.exists("x.png"))
