@@ -18,15 +18,35 @@ scratch_folder() {
     scratch=$(mktemp -d) || exit 1
 }
 
-# begin TOOL..: looks for the tools and for both programs, and sets $version, and the time of all files: the commit's
+# for_processor WORD: sets $architecture as Debian calls it, amd64 where the word is none, and $processor as GNU does
+for_processor() {
+    architecture=${1:-amd64}
+    case $architecture in
+    amd64) processor=x86_64 ;;
+    arm64) processor=aarch64 ;;
+    *) fail "there is no program for $architecture: amd64 or arm64" ;;
+    esac
+    export ARCHITECTURE="$architecture"
+}
+
+# look_for_programs: those of the architecture are there
+look_for_programs() {
+    program=${LRITSTATION:-$top/crates/lr_program/out/lr_program}
+    if [ "$architecture" = arm64 ]; then
+        [ -x "$program-arm64" ] || fail "$program-arm64 is missing: packaging/arm64.sh makes it"
+        return
+    fi
+    for built in "$program" "$program-v3"; do
+        [ -x "$built" ] || fail "$built is missing: a first run of ./lritstation makes both on a newer processor"
+    done
+}
+
+# begin TOOL..: looks for the tools and for the programs, and sets $version, and the time of all files: the commit's
 begin() {
     for tool; do
         command -v "$tool" > /dev/null || fail "$tool is missing"
     done
-    program=${LRITSTATION:-$top/crates/lr_program/out/lr_program}
-    for built in "$program" "$program-v3"; do
-        [ -x "$built" ] || fail "$built is missing: a first run of ./lritstation makes both on a newer processor"
-    done
+    look_for_programs
     SOURCE_DATE_EPOCH=${SOURCE_DATE_EPOCH:-$(git -C "$top" log -1 --format=%ct)}
     [ -n "$SOURCE_DATE_EPOCH" ] || fail "there is no commit here, and no SOURCE_DATE_EPOCH"
     export SOURCE_DATE_EPOCH
@@ -40,17 +60,41 @@ begin() {
 put() { mkdir -p "$tree/${3%/*}" && install -m "$1" "$2" "$tree/$3"; }
 
 # page NAME: one of the pages that are made from others
-page() { python3 "$top/packaging/pages.py" "$1" "$top" "$version"; }
+page() { python3 "$top/packaging/pages.py" "$1" "$top" "$version" "${prefix-}"; }
 
 # made NAME PLACE: such a page in $tree
 made() { mkdir -p "$tree/${2%/*}" && page "$1" > "$tree/$2"; }
+
+# tool_page NAME PLACE: one that is made from the parser of gomtasil
+tool_page() { mkdir -p "$tree/${2%/*}" && python3 "$top/packaging/tool_pages.py" "$1" "$top" "$version" > "$tree/$2"; }
+
+# The tool: its launcher, its package, its manual page and its completions; ZSH as below.
+fill_tool() {
+    sed "1s,.*,#!/usr/bin/python3," "$top/tools/bin/gomtasil" > "$scratch/launcher" || return 1
+    put 755 "$scratch/launcher" bin/gomtasil || return 1
+    for module in "$top/tools/gomtasil/"*.py "$top/tools/gomtasil/"*.html; do
+        put 644 "$module" "share/gomtasil/gomtasil/${module##*/}" || return 1
+    done
+    tool_page man share/man/man1/gomtasil.1 && gzip -9n "$tree/share/man/man1/gomtasil.1" || return 1
+    tool_page bash share/bash-completion/completions/gomtasil || return 1
+    tool_page zsh "share/zsh/$1/_gomtasil" || return 1
+    tool_page fish share/fish/vendor_completions.d/gomtasil.fish
+}
+
+# The programs of the architecture, as bin/lritstation starts them.
+fill_programs() {
+    if [ "$architecture" = arm64 ]; then
+        put 755 "$program-arm64" lib/gomtasil/lritstation-arm64
+    else
+        put 755 "$program" lib/gomtasil/lritstation-v2 && put 755 "$program-v3" lib/gomtasil/lritstation-v3
+    fi
+}
 
 # fill TREE ZSH: what both packages have, under the folder TREE; ZSH is the folder of zsh's functions there
 fill() {
     tree=$1
     put 755 "$top/packaging/lritstation" bin/lritstation || return 1
-    put 755 "$program" lib/gomtasil/lritstation-v2 || return 1
-    put 755 "$program-v3" lib/gomtasil/lritstation-v3 || return 1
+    fill_programs || return 1
     for example in "$top/examples/"*.sh "$top/examples/"*.py; do
         # (what others read is no program of its own, and has no `#!`)
         mode=755
@@ -58,14 +102,17 @@ fill() {
         put $mode "$example" "share/gomtasil/${example##*/}" || return 1
     done
     put 644 "$top/examples/station.conf" share/gomtasil/station.conf || return 1
-    made help share/gomtasil/help || return 1
+    put 644 "$top/packaging/words.sh" share/gomtasil/words.sh || return 1
+    fill_tool "$2" || return 1
+    made help share/gomtasil/help && made commands share/gomtasil/commands || return 1
     made man share/man/man1/lritstation.1 && gzip -9n "$tree/share/man/man1/lritstation.1" || return 1
     made bash share/bash-completion/completions/lritstation || return 1
     made zsh "share/zsh/$2/_lritstation" || return 1
     made fish share/fish/vendor_completions.d/lritstation.fish || return 1
-    for document in README.md docs/earth.png docs/FORMATS.md docs/OPERATING.md docs/CLAIMS.md docs/STREAM.md; do
+    (cd "$top" && ls README.md CONTRIBUTING.md docs/*.md docs/*.png trials/README.md bench/README.md) > "$scratch/documents"
+    while read -r document; do
         put 644 "$top/$document" "share/doc/gomtasil/$document" || return 1
-    done
+    done < "$scratch/documents"
     put 644 "$top/packaging/copyright" share/doc/gomtasil/copyright
 }
 

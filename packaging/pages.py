@@ -1,5 +1,7 @@
 """Writes a page of the package from what stands in README, docs/FORMATS.md, CHANGELOG and the wrapper's help, so that
-nothing is written twice. Usage: pages.py help|man|bash|zsh|fish|changelog TOP VERSION, with SOURCE_DATE_EPOCH."""
+nothing is written twice. Usage: pages.py help|commands|man|bash|zsh|fish|changelog TOP VERSION [PREFIX], with SOURCE_DATE_EPOCH
+and the folder under which the package stands, as /usr/. Where ARCHITECTURE in the environment is arm64, nothing is said
+of other processors."""
 
 import calendar
 import email.utils
@@ -13,8 +15,15 @@ import time
 MAINTAINER = "Gomtasil maintainers <maintainers@users.noreply.gomtasil.example>"
 UNPROVED = "--unproved"  # (what a checkout alone can do)
 MANUAL = "The manual page lritstation(1) has every input, printed line and status."
-DOCUMENTS = """In share/doc/gomtasil README.md leads from symbols to a picture, and docs/OPERATING.md has a station
-that runs day and night."""
+DOCUMENTS = """PREFIXshare/doc/gomtasil/README.md leads from symbols to a picture, and
+docs/OPERATING.md has a station that runs day and night."""
+
+
+def placed(text):
+    """The text with the paths of what is installed in place of those of a checkout."""
+    text = re.sub(r"(?<![\w/])examples/", f"{PREFIX}share/gomtasil/", text)
+    text = re.sub(r"(?<![\w/])docs/", f"{PREFIX}share/doc/gomtasil/docs/", text)
+    return text.replace("PREFIX", PREFIX)
 
 
 def text_of(name):
@@ -26,11 +35,12 @@ def help_text():
     """The wrapper's help without what only a checkout has, and with what an installed one has."""
     wrapper = [os.path.join(TOP, "lritstation"), "--help"]
     said = subprocess.run(wrapper, capture_output=True, text=True, check=True).stdout
-    paragraphs = [part for part in said.strip().split("\n\n") if not part.startswith("README.md leads")]
-    paragraphs.append(MANUAL + "\n" + DOCUMENTS)
+    others = ("README.md leads", *(["Where the processor"] if os.environ.get("ARCHITECTURE") == "arm64" else []))
+    paragraphs = [part for part in said.strip().split("\n\n") if not part.startswith(others)]
+    paragraphs.insert(-1, MANUAL + "\n" + DOCUMENTS)
     lines = [line for line in "\n\n".join(paragraphs).split("\n") if UNPROVED not in line]
     lines[0] = re.sub(r"^Gomtasil [^:]*", f"Gomtasil {VERSION}", lines[0])
-    return "\n".join(lines).replace("./lritstation", "lritstation")
+    return placed("\n".join(lines).replace("./lritstation", "lritstation"))
 
 
 def summaries():
@@ -49,12 +59,17 @@ def rows_of(lines):
     return [[cell.strip().replace("\\|", "|") for cell in row] for place, row in enumerate(rows) if place != 1]
 
 
+def command_table():
+    """The table of the commands, as FORMATS has it."""
+    part = text_of("docs/FORMATS.md").split("\n## Commands\n")[1].split("\n## ")[0]
+    return next(block for block in part.split("\n\n") if block.startswith("| command |"))
+
+
 def commands():
     """The commands of FORMATS: name, options with their values, the words, and what it does."""
-    part = text_of("docs/FORMATS.md").split("\n## Commands\n")[1].split("\n## ")[0]
     values = {}
     found = []
-    for call, does in rows_of([line for line in part.split("\n") if line.startswith("|")])[1:]:
+    for call, does in rows_of(command_table().split("\n"))[1:]:
         for words in re.findall(r"`([^`]+)`", call):
             name = words.split()[0]
             options = re.findall(r"\[(--[\w-]+) ([^\]]+)\]", words)
@@ -125,6 +140,40 @@ def roff(markdown):
     return written
 
 
+def term(head, said):
+    return [".TP", bold(head), in_line(placed(said))]
+
+
+def options():
+    """The options of the commands, from the help, and those that stand in place of words."""
+    lines = re.findall(r"(?m)^  (--\S+ \S+) +(.*)$", help_text())
+    said = next(part for part in help_text().split("\n\n") if part.startswith("N of --symbols"))
+    written = ['.SH "OPTIONS"', ".PP", "Each option stands once, in any place after the command.", in_line(said)]
+    for option, names in lines:
+        written += term(option, f"of {names}")
+    written += [".PP", "These stand in place of all words:"]
+    written += term("--help [COMMAND]", "prints the commands, or the form of one")
+    return written + term("--version", "prints the version")
+
+
+def environment():
+    if os.environ.get("ARCHITECTURE") == "arm64":
+        return ['.SH "ENVIRONMENT"', ".PP", "None is read."]
+    said = "where it is x86-64-v2, the program for that is started, whatever the processor has beyond"
+    return ['.SH "ENVIRONMENT"', *term("LRITSTATION_CPU", said)]
+
+
+def files():
+    """What is installed, and the shelf."""
+    programs = ["arm64"] if os.environ.get("ARCHITECTURE") == "arm64" else ["v2", "v3"]
+    written = ['.SH "FILES"']
+    written += term("SHELF", "a shelf: one file, which a command that may write it locks meanwhile")
+    for name in programs:
+        written += term(f"{PREFIX}lib/gomtasil/lritstation-{name}", "a program, for the processors of this name")
+    written += term(f"{PREFIX}share/gomtasil/", "the scripts of a station, and its settings, station.conf")
+    return written + term(f"{PREFIX}share/doc/gomtasil/", "README.md, and the other documents in docs")
+
+
 def man():
     paragraphs = help_text().split("\n\n")
     name = paragraphs[0].split(": ", 1)[1]
@@ -133,13 +182,16 @@ def man():
     written += [".SH NAME", f"lritstation \\- {escaped(name)}", ".SH SYNOPSIS"]
     for line in paragraphs[1].split("\n"):
         written += [".PP" if line.startswith("usage") else ".br", bold(line.replace("usage:", "").strip())]
-    written += [".SH DESCRIPTION", *roff(text_of("README.md").split("\n\n")[1])]
+    written += [".SH DESCRIPTION", *roff(placed(text_of("README.md").split("\n\n")[1]))]
     for part in paragraphs[2:]:
-        if not part.startswith(("  ", MANUAL)):
+        if part.startswith(("SHELF", "Where the processor")):
             written += [".PP", *[in_line(line) for line in part.split("\n")]]
     # (its title and what stands before the first heading say what the page is)
-    written += roff("## " + text_of("docs/FORMATS.md").split("\n## ", 1)[1])
-    written += [".SH SEE ALSO", *DOCUMENTS.split("\n")]
+    commands_, *others = text_of("docs/FORMATS.md").replace("\n## Statuses\n", "\n## Exit status\n").split("\n## ")[1:]
+    written += [*roff(placed("## " + commands_)), *options()]
+    for part in others:
+        written += roff(placed("## " + part))
+    written += [*environment(), *files(), ".SH SEE ALSO", "\\fBgomtasil\\fR(1)", ".PP", *placed(DOCUMENTS).split("\n")]
     return "\n".join(written) + "\n"
 
 
@@ -245,9 +297,18 @@ def changelog():
     return "\n".join(written)
 
 
-PAGES = {"help": lambda: help_text() + "\n", "man": man, "bash": bash, "zsh": zsh, "fish": fish, "changelog": changelog}
-if len(sys.argv) != 4 or sys.argv[1] not in PAGES:
+PAGES = {
+    "help": lambda: help_text() + "\n",
+    "commands": lambda: placed(command_table()) + "\n",
+    "man": man,
+    "bash": bash,
+    "zsh": zsh,
+    "fish": fish,
+    "changelog": changelog,
+}
+if len(sys.argv) not in (4, 5) or sys.argv[1] not in PAGES:
     sys.exit(__doc__)
-TOP, VERSION = sys.argv[2:]
+TOP, VERSION = sys.argv[2:4]
+PREFIX = "".join(sys.argv[4:])
 EPOCH = int(os.environ["SOURCE_DATE_EPOCH"])
 sys.stdout.write(PAGES[sys.argv[1]]())

@@ -1,0 +1,69 @@
+#!/bin/sh
+# Makes the station as a library for C, and for all that can call C: FOLDER/liblritstation.a and .so.1 with the link .so,
+# lritstation.h and lritstation.pc, and says the folder. As ./lritstation does, it has rt ci prove a copy of the crates
+# below, which keeps what it proved, and proves lr_embed; what was proved is compiled and linked by the kit's tools. The
+# archive has what it needs of the kit in it. The same commit gives the same bytes.
+# Usage: packaging/library.sh [FOLDER], by default the folder out/library. Needs rt and glibc.
+# shellcheck disable=SC2034,SC2154 # (some are set in what is read, and some used there)
+top=$(cd -- "$(dirname -- "$0")/.." && pwd) || exit 1
+called=library.sh
+crate=lr_embed
+root=src/lib.rt
+product=library
+mkdir -p -- "${1:-$top/out/library}" || exit 1
+folder=$(cd -- "${1:-$top/out/library}" && pwd) || exit 1
+program=$folder/liblritstation
+# shellcheck source-path=SCRIPTDIR source=proving.sh
+. "$top/packaging/proving.sh" || exit 1
+
+fail() {
+    echo "$called: $1" >&2
+    exit 1
+}
+
+# Proves the crate, and compiles what was proved as $made/station.a.
+compile() {
+    with_words "$kit/toolchain" "$kit/bin/rattle" build --crate-type staticlib -o "$made/station.a"
+    if [ ! -f "$made/station.a" ] || ! grep -q '^logic=proved ' "$scratch/log"; then
+        cat "$scratch/log" >&2
+        return 1
+    fi
+    grep '^logic=proved ' "$scratch/log" >&2
+}
+
+# Links both libraries. The one to load shows lr_run alone.
+link_both() {
+    tools=$kit/toolchain/bin
+    heap=$kit/c/liblibc_c.a
+    cp "$made/station.a" "$made/liblritstation.a" && "$tools/llvm-ar" qL "$made/liblritstation.a" "$heap" || return 1
+    echo '{ global: lr_run; local: *; };' > "$made/shown"
+    "$tools/ld.lld" -shared -soname liblritstation.so.1 --version-script="$made/shown" -z now -z relro --gc-sections \
+        --whole-archive "$made/station.a" --no-whole-archive "$heap" "$(libc)" -o "$made/liblritstation.so.1"
+}
+
+# The C library that is loaded here.
+libc() { ldd /bin/sh | sed -n 's/^.*libc\.so\.6 => \([^ ]*\) .*$/\1/p'; }
+
+# A file for pkg-config, which finds the library in its own folder.
+describe() {
+    cat << END
+prefix=\${pcfiledir}
+Name: lritstation
+Description: The software half of a weather satellite ground station
+Version: $(sed -n 's/^## \([0-9][0-9.]*\) .*/\1/p' "$top/CHANGELOG.md" | head -n 1)
+Libs: -L\${prefix} -llritstation
+Cflags: -I\${prefix}
+END
+}
+
+command -v rt > /dev/null || fail "rt is missing: it comes with the kit"
+[ -n "$(libc)" ] || fail "the C library isn't found"
+scratch_folder
+find_kit || fail "rt doc doesn't say where the kit is"
+prove_below && compile || exit 1
+link_both || fail "the library can't be linked"
+for name in liblritstation.a liblritstation.so.1; do
+    cp "$made/$name" "$folder/$name.new" && mv "$folder/$name.new" "$folder/$name" || exit 1
+done
+ln -sfn liblritstation.so.1 "$folder/liblritstation.so" && cp "$top/packaging/lritstation.h" "$folder/" || exit 1
+describe > "$folder/lritstation.pc" && echo "$folder"

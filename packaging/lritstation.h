@@ -1,0 +1,50 @@
+/* The station in a program that isn't Rattle: one command over bytes that the caller lends. */
+#ifndef LRITSTATION_H
+#define LRITSTATION_H
+
+#include <stddef.h>
+#include <stdint.h>
+
+#ifdef __cplusplus
+extern "C" {
+#endif
+
+/* How many bytes a call put into each of the three rooms. */
+struct lr_counts {
+    uint64_t out, err, shelf;
+};
+
+/* The answers that are no status: memory was refused, the words are no UTF-8, the shelf is longer than its room. */
+enum { LR_NO_MEMORY = 256, LR_NO_TEXT = 257, LR_NO_ROOM = 258 };
+
+/*
+ * Runs one command of the station. Its words are lines of UTF-8 with a line feed between two of them, as "init\n100000";
+ * there is no line feed after the last word. `input` is what the command reads, and `shelf` the bytes of the shelf.
+ * What it puts out, the line that says why it ended, and the bytes of the shelf afterwards go to the fronts of `out`,
+ * `err` and `kept`, and `counts` says how many. `calls` is how many calls of the shelf there may be, and `kept_room` also
+ * how many bytes may be written to it in all; memory for both is taken at once. A call starts no thread.
+ *
+ * It answers the command's status, 0 to 13. A room for what is put that fills up is status 5; a shelf whose room or
+ * whose calls are used up is status 4. Run it again then from the same bytes, with twice of each.
+ *
+ * Three answers are no status, and leave the rooms as they were. LR_NO_TEXT comes exactly where the words are no UTF-8.
+ * Else LR_NO_ROOM comes exactly where `shelf` is longer than `kept_room`; `counts->shelf` is then how many bytes the room
+ * needs at least. Else LR_NO_MEMORY may come, where memory was refused.
+ *
+ * What the caller owes:
+ * Each pointer points to that number of bytes, or to more; it is not null, even where the number is 0.
+ * The bytes that are given may be read, and the rooms and `counts` written, until the call returns.
+ * The rooms and `counts` lie apart from each other and from the bytes that are given.
+ * `counts` is aligned as a `uint64_t` is.
+ * No other thread writes what is given, or touches the rooms or `counts`, until the call returns.
+ * Several calls may run at once, on several threads, each with rooms of its own.
+ */
+uint32_t lr_run(const uint8_t *words, size_t words_length, const uint8_t *input, size_t input_length,
+                const uint8_t *shelf, size_t shelf_length, uint64_t calls, uint8_t *out, size_t out_room,
+                uint8_t *err, size_t err_room, uint8_t *kept, size_t kept_room, struct lr_counts *counts);
+
+#ifdef __cplusplus
+}
+#endif
+
+#endif
