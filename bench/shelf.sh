@@ -40,13 +40,11 @@ awk -v n="$appends" -v shelf="$shelf" -v plain="$plain" 'BEGIN {
 
 # puts a shelf of this many files into `shelf.bench`
 make_shelf() {
-    python3 - "$1" <<'PYTHON'
-import binascii, struct, sys
-def crc(b): return struct.pack('>H', binascii.crc_hqx(b, 0xFFFF))
-name = b'LRSHELF\x01' + struct.pack('>Q', 1 << 40)
-content = struct.pack('>BHIIH', 0, 100, 1, 26, 26) + b'\xA5' * 26
+    PYTHONPATH=$top/reference python3 - "$1" <<'PYTHON'
+import sys
+from shelf import header, old
 with open('shelf.bench', 'wb') as f:
-    f.write(b'\x5A' + name + crc(name) + (b'\x01' + content + crc(content)) * int(sys.argv[1]) + b'\x00')
+    f.write(header(1, 1 << 40) + (b'\x01' + old((0, 100, [b'\xA5' * 26]))) * int(sys.argv[1]) + b'\x00')
 PYTHON
 }
 

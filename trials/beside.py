@@ -1,13 +1,16 @@
 #!/usr/bin/env python3
 """Readers of a shelf beside those who write it; see beside.sh.
 
-Usage: beside.py PROGRAM FOLDER CALLS"""
+Usage: beside.py PROGRAM FOLDER CALLS [plain]: no reader is slowed then, and strace isn't needed"""
 import os
 import random
 import subprocess
 import sys
 import threading
 import time
+
+sys.path.insert(0, os.path.join(os.path.dirname(os.path.abspath(__file__)), "..", "reference"))
+from uplink import checksum, packet  # noqa: E402
 
 PROGRAM, FOLDER, CALLS = sys.argv[1], sys.argv[2], int(sys.argv[3])
 SHELF = os.path.join(FOLDER, "shelf")
@@ -16,15 +19,7 @@ READERS = 6
 WIDTH = 8
 # each read of the shelf waits for 2 milliseconds first
 SLOWED = ["strace", "-f", "-o", "/dev/null", "-e", "trace=pread64", "-e", "inject=pread64:delay_enter=2000"]
-
-
-def crc(data):
-    rest = 0xFFFF
-    for byte in data:
-        rest ^= byte << 8
-        for _ in range(8):
-            rest = (rest << 1 ^ 0x1021 if rest & 0x8000 else rest << 1) & 0xFFFF
-    return rest
+IS_PLAIN = sys.argv[4:] == ["plain"]
 
 
 def lines_of(number):
@@ -42,15 +37,11 @@ def proper(number):
     return bytes([0, 0, 16, 0]) + sizes + structure + pixels(number)
 
 
-def packet(apid, count, data):
-    return bytes([apid >> 8, apid & 255, 0xC0 | count >> 8 & 63, count & 255]) + (len(data) - 1).to_bytes(2, "big") + data
-
-
 def frame(number):
     content = proper(number)
     body = (number & 0xFFFF).to_bytes(2, "big") + (8 * len(content)).to_bytes(8, "big") + content
-    good = packet(100, number & 0x3FFF, body + crc(body).to_bytes(2, "big"))
-    zone = good + packet(2047, 0, bytes(884 - len(good) - 6))
+    good = packet(100, 3, number & 0x3FFF, body + checksum(body))
+    zone = good + packet(2047, 3, 0, bytes(884 - len(good) - 6))
     return bytes([0x40, 0x40]) + (number & 0xFFFFFF).to_bytes(3, "big") + bytes(3) + zone
 
 
@@ -83,7 +74,7 @@ class Readers:
         draw = random.Random(seed)
         while self.going:
             # the last reader is slowed, and the one before it now and then
-            slowed = seed == READERS - 1 or seed == READERS - 2 and draw.random() < 0.2
+            slowed = not IS_PLAIN and (seed == READERS - 1 or seed == READERS - 2 and draw.random() < 0.2)
             kind = draw.choice(("list", "show", "extract", "export", "show", "extract", "export", "verify"))
             if kind in ("list", "verify") and self.known > 4000 and draw.random() < 0.8:
                 kind = "show"

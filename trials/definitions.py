@@ -21,7 +21,7 @@ PAGE = "docs/DEFINITIONS.md"
 
 # the page's headings, each with the files where its part begins
 PARTS = {
-    "The files of a recording": ["crates/lr_receiving/specs/Inputs.antt"],
+    "The files of a recording": ["crates/lr_cmd_receive/specs/Inputs.antt"],
     "The shelf": [
         "crates/lr_shelf_format/specs/ShelfBytes.antt",
         "crates/lr_shelf_format/specs/Way.antt",
@@ -34,7 +34,7 @@ CODE_HEADING = "Types and constants of the code"
 SIZES_HEADING = "How much there is to read"
 # what is counted and not listed: all that the contract of a call rests on
 WHOLE = {
-    "All that `receive` promises": ["crates/lr_receiving/specs/Receive.antt"],
+    "All that `receive` promises": ["crates/lr_cmd_receive/specs/Receive.antt"],
     "All that the top call promises": ["crates/lr_station/specs/Runs.antt"],
 }
 

@@ -89,6 +89,50 @@ def look_at(document):
                     faults.append(f"{place}: nothing is called {word}")
 
 
+def look_at_edits():
+    """An edit that CLAIMS names stands in one crate, or its crate is named with it."""
+    for token in re.findall(r"`([\w/.-]+\.edit)`", text_of("docs/CLAIMS.md")):
+        if len(found := glob.glob(f"crates/*/must-fail/{token}" if "/" not in token else f"crates/{token}")) > 1:
+            faults.append(f"docs/CLAIMS.md: `{token}` stands in {len(found)} crates: say in which")
+
+
+def commands():
+    """The commands of FORMATS: of each name its options, each with its values."""
+    found, known = {}, {}
+    for row in re.findall(r"(?m)^\| (`.*`) \| ", text_of("docs/FORMATS.md").split("\n| word |")[0]):
+        for words in re.findall(r"`([^`]+)`", row.replace("\\|", "|").split(" | ")[0]):
+            options = dict(re.findall(r"\[(--\w+) ([^\]]+)\]", words))
+            known.update((name, values) for name, values in options.items() if values != "..")
+            found[words.split()[0]] = {name: known[name] if values == ".." else values for name, values in options.items()}
+    return found
+
+
+def look_at_help():
+    """The options in the help of the wrapper are those of FORMATS, and the commands there those of the help."""
+    text, found = text_of("lritstation"), commands()
+    told = {}
+    for option, values, names in re.findall(r"(?m)^  (--\w+) (\S+) +(.*)$", text):
+        for name in names.split(", "):
+            told.setdefault(name, {})[option] = values
+    for name in sorted(found.keys() | told.keys()):
+        if found.get(name, {}) != told.get(name, {}):
+            faults.append(f"lritstation: the help gives {name} {told.get(name, {})}, and docs/FORMATS.md {found.get(name, {})}")
+    named = re.findall(r"(?m)^  ([a-z]+(?:, [a-z]+)*) (?:.*? )??  +\w", text.split("usage: ")[1])
+    if sorted(" ".join(named).replace(",", "").split()) != sorted(found):
+        faults.append(f"lritstation: the help has the commands {' '.join(named)}, and docs/FORMATS.md {' '.join(found)}")
+
+
+def look_at_writers():
+    """The commands that the wrappers take for such as write are those of which the definition says so."""
+    text = text_of("crates/lr_words/specs/Shapes.antt")
+    shapes = dict(re.findall(r'\(codes "(\w+)"\)\s+then Some \(?([\w ]+?)\)?\s*$', text, re.M))
+    writing = set(re.findall(r"(?m)^can_write \(?([\w ]+?)\)? = true", text))
+    wanted = {name for name, shape in shapes.items() if shape in writing}
+    told = set(re.search(r"(?m)^    ([a-z |]+)\) return 0 ;;$", text_of("packaging/words.sh"))[1].split(" | "))
+    if told != wanted:
+        faults.append(f"packaging/words.sh: the commands that may write are {' '.join(sorted(wanted))}")
+
+
 def crates():
     """The crates with what each stands on, as crates.txt has them."""
     found = {}
@@ -137,6 +181,14 @@ def below(name, found, seen):
     return seen
 
 
+def tests():
+    """The tests of each crate that has some."""
+    for crate in sorted(glob.glob("crates/*/src")):
+        found = [it for path in glob.glob(f"{crate}/*.rt") for it in re.findall(r"(?m)^\s*#\[test\]$", text_of(path))]
+        if found:
+            yield found
+
+
 def look_at_numbers(found):
     needed = len(below("lr_program", found, {"lr_program"}))
     for document, shape, true, what in (
@@ -144,6 +196,9 @@ def look_at_numbers(found):
         ("docs/CI.md", r"(\d+) crates of the program", needed, "the crates of the program"),
         ("docs/CI.md", r"(\d+) edits", len(glob.glob("crates/*/must-fail/*.edit")), "the edits"),
         ("docs/CLAIMS.md", r"(\d+) edits", len(glob.glob("crates/*/must-fail/*.edit")), "the edits"),
+        ("CHANGELOG.md", r"(\d+) edits must fail", len(glob.glob("crates/*/must-fail/*.edit")), "the edits"),
+        ("CHANGELOG.md", r"The (\d+) tests stand", sum(map(len, tests())), "the tests"),
+        ("CHANGELOG.md", r"tests stand in (\d+) crates", len(list(tests())), "the crates with tests"),
     ):
         for told in re.findall(shape, text_of(document) if os.path.exists(document) else ""):
             if int(told) != true:
@@ -165,10 +220,12 @@ def look_at_comments():
 
 
 def look_at_columns():
-    """No line of a source or of prose has more than 120 columns. Tables and examples of documents may."""
+    """No line of a source or of prose has more than 120 columns. Tables and examples of documents may, and a line of a
+    proof with the name of a goal that fills it."""
     for path in FILES:
         if re.fullmatch(r"crates/\w+/(src|specs|proofs)/.*\.(rt|antt)", path):
-            long = [number for number, line in enumerate(text_of(path).splitlines(), 1) if len(line) > 120]
+            long = [number for number, line in enumerate(text_of(path).splitlines(), 1)
+                    if len(line) > 120 and max(map(len, line.split())) <= 100]
             faults.extend(f"{path}:{number}: more than 120 columns" for number in long)
     for document in DOCUMENTS:
         if document != "docs/INDEX.md":
@@ -177,8 +234,32 @@ def look_at_columns():
                     faults.append(f"{document}:{number}: more than 120 columns")
 
 
+def anchors_of(document):
+    """The anchors of a page's headings, as they are made of the heading's words."""
+    headings = re.findall(r"(?m)^#+ (.*)$", text_of(document))
+    return {re.sub(r"[^\w\- ]", "", heading.lower()).replace(" ", "-") for heading in headings}
+
+
+def look_at_links(document):
+    """Each link of a page leads to a file that is here, and to a heading that it has."""
+    text = re.sub(r"(?s)```.*?```|`[^`\n]*`", "", text_of(document))
+    for target in re.findall(r"\]\(([^)\s]+)\)", text):
+        if re.match(r"\w+:", target):
+            continue
+        path, _, anchor = target.partition("#")
+        page = os.path.normpath(os.path.join(os.path.dirname(document), path)) if path else document
+        if not os.path.exists(page):
+            faults.append(f"{document}: the link to {target} leads nowhere")
+        elif anchor and anchor not in anchors_of(page):
+            faults.append(f"{document}: {page} has no heading for the link to {target}")
+
+
 for document in DOCUMENTS:
     look_at(document)
+    look_at_links(document)
+look_at_edits()
+look_at_help()
+look_at_writers()
 look_at_columns()
 look_at_layers(crates())
 look_at_numbers(crates())

@@ -5,8 +5,8 @@ Usage: trials/index.py [--write]
 
 The page has a line for each public function of the libraries: its name, the first sentence of its doc comment, the
 labels of its clauses, the definitions that these cite, and the edits that change its body and must be refused. A
-function is public where the crate's `lib.rt` hands out it, its type or its trait. Edits of private functions stand
-after the table of their crate.
+function is public where the crate's `lib.rt` hands out it, its type or its trait. An edit that changes another
+function, a constant or a type has a row after the table of its crate. `index_test.py` counts again.
 
 It prints a line for each difference, and ends with status 1 where there is one; `--write` writes the page anew.
 """
@@ -20,14 +20,19 @@ PAGE = "docs/INDEX.md"
 HEAD = """# Index
 
 Each public function of the libraries, by crate: what it does, the labels of its clauses, the definitions that they
-cite, and the edits under `must-fail/` that change its body and that the proof refuses. `trials/index.py --write` makes
-this page from the sources, and the gate compares the two.
+cite, and the edits under `must-fail/` that change its body and that the proof refuses. An edit of a private function, a
+constant or a type has a row after the table of its crate: what it changes, in which file, and the clauses of that. A
+method of an `impl` of a trait has the clauses of the trait's method too. `trials/index.py --write` makes this page from
+the sources. The gate compares the two, and `trials/index_test.py` counts clauses and edits once more, another way.
 """
 
-FUNCTION = re.compile(r"^( *)(pub )?(?:const )?(?:unsafe )?fn (\w+)")
-OWNER = re.compile(r"^(?:pub )?(?:unsafe )?(impl|trait)\b(.*)$")
-CLAUSE = re.compile(r"^\s*ensures (?:(\w+) )?\{(.*)$")
-USE = re.compile(r"ghost use Rattle\.lr_\w+\.specs\.((?:\w+\.)+)\{([^}]*)\};")
+FUNCTION = re.compile(r"^( *)(pub )?(?:pub\(\w+\) )?(?:const )?(?:unsafe )?(?:extern \S+ )?fn (\w+)")
+OWNER = re.compile(r"^(?:pub(?:\(\w+\))? )?(?:unsafe )?(impl|trait)\b(.*)$")
+ITEM = re.compile(
+    r"^(?:pub(?:\(\w+\))? )?(?:struct|enum|trait|const|static|macro_rules!|impl)(?:<[^>]*>)? (?:\w+ for )?(\w+)"
+)
+CLAUSE = re.compile(r"^\s*ensures\*? (?:(\w+) )?\{(.*)$")
+USE = re.compile(r"ghost use Rattle\.(lr_\w+)\.specs\.((?:\w+\.)+)\{([^}]*)\};")
 
 
 def text_of(path):
@@ -55,16 +60,15 @@ def handed_out(crate):
 
 
 def owner_of(line):
-    """The type or trait whose block begins with this line, and whether it is an impl of a trait; or None."""
-    if not (found := OWNER.match(line)):
-        return None
-    words = found[2]
+    """What the block that begins with this line is of: `trait` or `impl` or `impl of TRAIT`, and the trait's or type's
+    name."""
+    kind, words = OWNER.match(line).groups()
     while re.search(r"<[^<>]*>", words):
         words = re.sub(r"<[^<>]*>", "", words)
-    words = words.lstrip("> ")
-    if " for " in words or not re.match(r"\w", words):
-        return None
-    return found[1], re.match(r"\w+", words)[0]
+    before, _, after = words.lstrip("> ").partition(" for ")
+    if after:
+        return f"impl of {before.split('::')[-1]}", re.search(r"(\w+)\W*$", after.split(" where ")[0])[1]
+    return kind, re.match(r"\w+", before)[0]
 
 
 def sentence_of(comment):
@@ -78,6 +82,7 @@ class Function:
 
     def __init__(self, name, owner, is_public, comment, lines, imports):
         self.name = f"{owner[1]}::{name}" if owner else name
+        self.of_trait = owner[0].partition(" of ")[2] if owner else ""
         self.is_public = is_public
         self.comment = comment
         self.lines = lines
@@ -94,96 +99,148 @@ class Function:
             elif re.match(r"^\s*(requires|ghost|//|\{$)", line):
                 inside = False
             if inside:
-                cited += [f"{self.imports[word]}.{word}" for word in re.findall(r"\w+", line) if word in self.imports]
+                cited += [self.imports[word] for word in re.findall(r"\w+", line) if word in self.imports]
             if line.strip() == "{":
                 break
         return labels, list(dict.fromkeys(cited))
 
 
 def imports_of(text):
-    """The definitions of the repository that a source file names, each with the module that has it."""
+    """The definitions of the repository that a source file names, by what it calls them: each with its module, and with
+    its crate where several have such a module."""
     found = {}
-    for module, group in USE.findall(text):
+    for crate, module, group in USE.findall(text):
         if not module.startswith("declared."):
-            found.update({word.split(" as ")[-1]: module.rstrip(".") for word in re.split(r",\s*", group.strip().rstrip(","))})
+            several = len(glob.glob(f"crates/*/specs/{module[:-1].replace('.', '/')}.antt")) > 1
+            for word in re.split(r",\s*", group.strip().rstrip(",")):
+                found[word.split(" as ")[-1]] = f"`{module}{word.split(' as ')[0]}`" + several * f" ({crate})"
     return found
 
 
-def functions_of(crate, path, names):
+def end_of(lines, start, indent):
+    """The last line of the function that begins at this one: of a body its closing brace, of a method of a trait, which
+    has none, the semicolon after its clauses."""
+    depth = 0
+    for at in range(start, len(lines)):
+        line = lines[at].split("//")[0].rstrip()
+        if depth == 0 and line == indent + "{}":
+            return at
+        is_clause = re.match(r"\s*(ensures|requires|ghost)\b", line)
+        if depth == 0 and not is_clause and line.endswith("{"):
+            return next(end for end in range(at + 1, len(lines)) if lines[end] == indent + "}")
+        if depth == 0 and not is_clause and line.endswith("{}"):
+            return at
+        depth += line.count("{") - line.count("}")
+        if depth == 0 and line.endswith(";"):
+            return at
+    return start
+
+
+def is_handed_out(name, owner, is_marked, path, names):
+    """Whether a function is public: a marked one of a type or module handed out, or a method of such a trait."""
+    module = os.path.basename(path)[:-3]
+    if owner and owner[0] != "impl":
+        return owner[0] == "trait" and owner[1] in names
+    if owner:
+        return is_marked and owner[1] in names
+    return is_marked and (name in names or module in names or f"{module}::*" in names or path.endswith("/lib.rt"))
+
+
+def functions_of(path, names):
     """All functions of a file, in order."""
     lines = text_of(path).splitlines()
     imports = imports_of(text_of(path))
-    module = os.path.basename(path)[:-3]
     owner, comment, found = None, [], []
     for number, line in enumerate(lines):
         if line.startswith("#[cfg(test)]"):
             break
-        if line.startswith(("impl", "pub trait", "trait")):
-            owner = owner_of(line) or ("impl of a trait", "")
+        if OWNER.match(line):
+            owner = owner_of(" ".join(lines[number:number + 4]).split("{")[0])
         elif line.startswith("}"):
             owner = None
         if line.strip().startswith("///"):
             comment.append(line.strip()[3:].strip())
             continue
         if match := FUNCTION.match(line):
-            indent = match[1]
-            end = next((at for at in range(number + 1, len(lines))
-                        if lines[at] == indent + "}" or lines[at].startswith(indent) and lines[at].endswith(";")
-                        and not lines[at].startswith(indent + " ")), number)
-            inside = owner if indent else None
-            is_public = inside[0] == "trait" and inside[1] in names if inside and inside[0] != "impl" else bool(match[2]) and (
-                inside[1] in names if inside else match[3] in names or module in names or f"{module}::*" in names or path.endswith("/lib.rt"))
-            if not inside or inside[1]:
-                found.append(Function(match[3], inside, is_public, comment, lines[number:end + 1], imports))
-            else:
-                found.append(Function(match[3], None, False, comment, lines[number:end + 1], imports))
+            inside = owner if match[1] else None
+            is_public = is_handed_out(match[3], inside, bool(match[2]), path, names)
+            whole = lines[number:end_of(lines, number, match[1]) + 1]
+            found.append(Function(match[3], inside, is_public, comment, whole, imports))
         if line.strip() and not line.strip().startswith("#["):
             comment = []
     return found
 
 
+def item_at(path, old):
+    """The type, constant or other item of a file in which this line stands."""
+    name = ""
+    for line in text_of(path).splitlines():
+        if match := ITEM.match(line):
+            name = match[1]
+        if old in line:
+            return name
+    return name
+
+
+def changed_by(edit, crate, by_path):
+    """The functions that an edit changes, by the lines that it takes away, and the items that are no functions."""
+    text = text_of(edit)
+    path = f"crates/{crate}/" + re.search(r"^file: *(\S+)", text, re.M)[1]
+    changed = []
+    for old in re.findall(r"^old: (.*)$", text, re.M):
+        found = [it for it in by_path.get(path, []) if any(old in line for line in it.lines)]
+        changed.append(found[0] if found else item_at(path, old))
+    # (an import that an edit adds or takes away stands in no item)
+    return path, [it for it in dict.fromkeys(changed) if it]
+
+
 def place_edits(crate, by_path):
-    """Gives each edit to the function that has its first changed line."""
-    lost = []
+    """Gives each edit to the public functions that it changes, and answers the rows of all others."""
+    rows = []
     for edit in sorted(glob.glob(f"crates/{crate}/must-fail/*.edit")):
         name = os.path.basename(edit)[:-5]
-        text = text_of(edit)
-        path = f"crates/{crate}/" + re.search(r"^file: *(\S+)", text, re.M)[1]
-        old = re.search(r"^old: (.*)$", text, re.M)[1]
-        for function in by_path.get(path, []):
-            if any(old in line for line in function.lines):
-                function.edits.append(name)
-                break
-        else:
-            lost.append(name)
-    return lost
+        path, changed = changed_by(edit, crate, by_path)
+        public = [it for it in changed if isinstance(it, Function) and it.is_public]
+        for function in public:
+            function.edits.append(name)
+        if not public:
+            rows += [row_of_edit(name, path.split("/", 2)[2], it) for it in changed]
+    return rows
+
+
+def row_of_edit(edit, file, changed):
+    """The row of an edit after the table of its crate."""
+    if not isinstance(changed, Function):
+        return f"| `{edit}` | `{changed}` | `{file}` |  |  |"
+    of = f", as `{changed.of_trait}` asks" if changed.of_trait else ""
+    labels, cited = changed.clauses()
+    return f"| `{edit}` | `{changed.name}`{of} | `{file}` | {cell(labels)} | {', '.join(cited)} |"
 
 
 def cell(words):
     return ", ".join(f"`{word}`" for word in words if word)
 
 
+def row_of(function):
+    """The row of a public function."""
+    labels, cited = function.clauses()
+    said = sentence_of(function.comment).replace("|", "\\|")
+    return f"| `{function.name}` | {said} | {cell(labels)} | {', '.join(cited)} | {cell(function.edits)} |"
+
+
 def section_of(crate):
     names = handed_out(crate)
-    by_path = {path: functions_of(crate, path, names) for path in sorted(glob.glob(f"crates/{crate}/src/*.rt"))}
-    lost = place_edits(crate, by_path)
-    rows, private = [], []
-    for path in by_path:
-        for function in by_path[path]:
-            if not function.is_public:
-                private += function.edits
-                continue
-            labels, cited = function.clauses()
-            rows.append(f"| `{function.name}` | {sentence_of(function.comment).replace('|', chr(92) + '|')} | {cell(labels)} | {cell(cited)} |"
-                        f" {cell(function.edits)} |")
+    by_path = {path: functions_of(path, names) for path in sorted(glob.glob(f"crates/{crate}/src/*.rt"))}
+    others = place_edits(crate, by_path)
+    rows = [row_of(it) for functions in by_path.values() for it in functions if it.is_public]
     said = [f"\n## {crate}\n"]
     head = re.search(r"^//! (.*(?:\n//! .*)*)", text_of(f"crates/{crate}/src/lib.rt"))
     if head:
         said.append(sentence_of(re.sub(r"\n//! ", " ", head[1]).split("  ")) + "\n")
     if rows:
         said += ["| call | what it does | clauses | cites | edits |", "|---|---|---|---|---|", *rows]
-    if private or lost:
-        said.append(("\n" if rows else "") + "Edits of private functions and of types: " + cell(sorted(private + lost)) + ".")
+    if others:
+        said += ["", "| edit | what it changes | file | clauses | cites |", "|---|---|---|---|---|", *others]
     return "\n".join(said)
 
 
@@ -197,7 +254,7 @@ def main():
     kept = text_of(PAGE).splitlines() if os.path.exists(PAGE) else []
     wanted = page.splitlines()
     if kept == wanted:
-        print(f"trials/index.py: {sum(line.startswith('| `') for line in wanted)} calls, 0 faults")
+        print(f"trials/index.py: {sum(line.startswith('| `') for line in wanted)} rows, 0 faults")
         return 0
     for line in sorted(set(kept) ^ set(wanted)):
         print(f"{PAGE}: {'lacks' if line in set(wanted) else 'has'} {line[:100]}")

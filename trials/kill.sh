@@ -2,7 +2,7 @@
 # The program over a real file: many small files are received, verified and extracted. Then rounds in which `receive` is
 # killed (SIGKILL) at a drawn moment: each file whose line was printed must be on the shelf, with its bytes. Then as many
 # rounds over one shelf, which goes on from each kill to the next. Then as many rounds in which `downlinks` of two recordings is killed:
-# the shelf has a front of the files of each, in their order.
+# the shelf has the first ones of the files of each, in their order.
 # A kill leaves what the system was handed, so this tries the order of the writes, and not what a disk keeps of them.
 # Usage: trials/kill.sh [ROUNDS [FRAMES]] (20 rounds of 4,000 frames, each with one file). It takes as long as the disk takes for
 # 4 syncs of each frame in each round: two minutes for 20 rounds of 600 frames, and some 15 by default. Needs rt and python3.
@@ -21,21 +21,10 @@ cp "$LRITSTATION" "$scratch/lritstation"
 cat > "$scratch/kill.py" <<'PYTHON'
 import os, random, subprocess, sys, time
 
+from uplink import checksum, packet
+
 scratch, rounds, frames = sys.argv[1], int(sys.argv[2]), int(sys.argv[3])
 program, shelf, stream, out = (os.path.join(scratch, name) for name in ("lritstation", "shelf", "stream", "out"))
-
-
-def crc(data):
-    rest = 0xFFFF
-    for byte in data:
-        rest ^= byte << 8
-        for _ in range(8):
-            rest = (rest << 1 ^ 0x1021 if rest & 0x8000 else rest << 1) & 0xFFFF
-    return rest
-
-
-def packet(apid, count, data):
-    return bytes([apid >> 8, apid & 255, 0xC0 | count >> 8 & 63, count & 255]) + (len(data) - 1).to_bytes(2, "big") + data
 
 
 # the file of this number after its transport header: 1 to 300 bytes
@@ -46,8 +35,8 @@ def proper(number):
 def frame(number):
     content = proper(number)
     body = (number & 0xFFFF).to_bytes(2, "big") + (8 * len(content)).to_bytes(8, "big") + content
-    good = packet(100, number & 0x3FFF, body + crc(body).to_bytes(2, "big"))
-    zone = good + packet(2047, 0, bytes(884 - len(good) - 6))
+    good = packet(100, 3, number & 0x3FFF, body + checksum(body))
+    zone = good + packet(2047, 3, 0, bytes(884 - len(good) - 6))
     return bytes([0x40, 0x40]) + (number & 0xFFFFFF).to_bytes(3, "big") + bytes(3) + zone
 
 
@@ -190,7 +179,7 @@ def merge(after=None):
     return running.returncode, time.monotonic() - begin
 
 
-# whether these are fronts of the files of both recordings, one among the other
+# whether these are the first ones of the files of both recordings, one among the other
 def is_merge(files, first, second):
     at, other = 0, 0
     for file in files:
@@ -222,4 +211,4 @@ if killed + ended == 0:
     print("no run was killed: nothing was tried")
 sys.exit(0 if passed and good == rounds and kept and killed + ended > 0 else 1)
 PYTHON
-python3 "$scratch/kill.py" "$scratch" "$rounds" "$frames"
+PYTHONPATH=$top/reference python3 "$scratch/kill.py" "$scratch" "$rounds" "$frames"

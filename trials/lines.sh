@@ -5,7 +5,7 @@
 # Usage: trials/lines.sh. Needs rt and python3.
 set -e
 top=$(cd "$(dirname "$0")/.." && pwd)
-if ! command -v aec > /dev/null; then echo "aec isn't installed: nothing was tried"; exit 0; fi
+if ! command -v aec > /dev/null; then echo "aec isn't installed: nothing was tried"; exit 77; fi
 scratch=$(mktemp -d)
 trap 'rm -rf "$scratch"' EXIT
 (cd "$top/crates/lr_bench" && rt run -- none 1 > "$scratch/build.log" 2>&1) || { cat "$scratch/build.log"; exit 1; }

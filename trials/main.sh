@@ -11,7 +11,7 @@ if [ -z "${LRITSTATION-}" ]; then
 fi
 station=$LRITSTATION
 cd "$scratch" || exit 1
-cases=0
+cases=0 skipped=0
 
 # ends STATUS WORDS: the program, on input `in`, ends with this status; what it prints is in `out` and `err`
 ends() {
@@ -49,6 +49,7 @@ if command -v python3 > /dev/null; then
     says 'station: usage: SHELF COMMAND [WORDS]\n'
 else
     echo "python3 is missing: no word that isn't UTF-8 was tried"
+    skipped=$((skipped + 1))
 fi
 
 # a shelf is made, and is there after further starts
@@ -95,6 +96,7 @@ if [ -w /dev/full ]; then
     [ "$status" = 5 ] || fail "a full output ended with $status"
 else
     echo "/dev/full is missing: no full output was tried"
+    skipped=$((skipped + 1))
 fi
 "$station" shelf verify < in >&- 2> err; status=$?
 [ "$status" = 5 ] || fail "a closed output ended with $status"
@@ -116,6 +118,8 @@ ends 1 shelf receive; prints ''; says ''
 ends 1 shelf init 100
 ends 1 shelf discard 0
 ends 1 shelf trial 1 1 0
+ends 1 shelf downlinks
+ends 1 shelf repack 0 8
 ends 0 shelf verify
 exec 3>&-
 wait "$holder" || fail "the process that held the shelf"
@@ -130,6 +134,7 @@ if [ "$(id -u)" = 0 ] && command -v losetup > /dev/null && head -c 1048576 /dev/
     head -c 1048576 /dev/zero | cmp -s - image || fail "init wrote onto a device"
 else
     echo "no loop device can be had here: no device was tried"
+    skipped=$((skipped + 1))
 fi
 # a bundle of as many bytes as one can have, and of one more
 "$station" many init 1000 > out || fail "init"
@@ -140,4 +145,4 @@ printf '\0' >> in
 ends 14 many downlinks; prints ''; says 'station: bad bundle: too-long\n'
 : > in
 
-echo "trials/main.sh: $cases cases and more are as wanted"
+echo "trials/main.sh: $cases cases and more are as wanted, $skipped skipped"

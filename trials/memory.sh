@@ -1,12 +1,15 @@
 #!/bin/sh
 # Refused memory: each command of the program does its work on a real shelf again and again, and in each run one request for
 # memory is refused, the first, the second, and so on, until the command makes no more. The command must do its work, or end with
-# 9, its line and a front of what it prints; or, where the path's name finds no memory, with 1 and nothing printed. Then
+# 9, its line and the beginning of what it prints; or, where the path's name finds no memory, with 1 and nothing printed. Then
 # the shelf must hold what was acknowledged and nothing else. Usage: trials/memory.sh. Needs rt, gcc and python3.
+# REFUSE_LIBRARY in the environment names a built refuse.c, for a program of another processor, and LOADED_AS the variable
+# from which what starts that program takes the library.
 set -e
 top=$(cd "$(dirname "$0")/.." && pwd)
-for tool in gcc python3; do
-    command -v "$tool" > /dev/null || { echo "trials/memory.sh: skipped, $tool isn't here"; exit 0; }
+[ -n "${REFUSE_LIBRARY-}" ] && gcc= || gcc=gcc
+for tool in $gcc python3; do
+    command -v "$tool" > /dev/null || { echo "trials/memory.sh: skipped, $tool isn't here"; exit 77; }
 done
 scratch=$(mktemp -d)
 trap 'rm -rf "$scratch"' EXIT
@@ -15,7 +18,11 @@ if [ -z "${LRITSTATION-}" ]; then
     LRITSTATION=$top/crates/lr_program/out/lr_program
 fi
 cp "$LRITSTATION" "$scratch/lritstation"
-gcc -O2 -shared -fPIC "$top/trials/refuse.c" -o "$scratch/refuse.so"
+if [ -n "${REFUSE_LIBRARY-}" ]; then
+    cp "$REFUSE_LIBRARY" "$scratch/refuse.so"
+else
+    gcc -O2 -shared -fPIC "$top/trials/refuse.c" -o "$scratch/refuse.so"
+fi
 cd "$scratch"
 HELP=$("$top/lritstation" --help)
 export HELP
@@ -23,6 +30,7 @@ python3 - <<'PYTHON'
 import os, re, subprocess, sys
 
 NO_MEMORY = b"station: no memory\n"
+LOADED_AS = os.environ.get("LOADED_AS", "LD_PRELOAD")
 
 def run(words, stdin=b"", refuse=0):
     """Status, output, error line, and whether a request was refused."""
@@ -30,7 +38,7 @@ def run(words, stdin=b"", refuse=0):
     if os.path.exists("refused"):
         os.remove("refused")
     if refuse:
-        environment.update(LD_PRELOAD="./refuse.so", REFUSE=str(refuse), REFUSED="refused")
+        environment.update({LOADED_AS: "./refuse.so", "REFUSE": str(refuse), "REFUSED": "refused"})
     done = subprocess.run(["./lritstation", "shelf"] + words.split(), input=stdin, capture_output=True, env=environment)
     return done.returncode, done.stdout, done.stderr, os.path.exists("refused")
 
@@ -121,5 +129,5 @@ for words, stdin, before in JOBS:
     told = ", ".join(f"{count} ended with {status}" for status, count in sorted(counts.items()))
     print(f"{words}: {number - 1} requests; {told}")
 print(f"trials/memory.sh: {runs} runs, failed {failed}")
-sys.exit(failed != 0)
+sys.exit(failed != 0 or runs == 0)
 PYTHON

@@ -9,7 +9,7 @@ top=$(cd "$(dirname "$0")/.." && pwd)
 symbols=${1:-86400000000}
 if [ ! -r /proc/self/status ] || [ ! -r /dev/urandom ]; then
     echo "/proc or /dev/urandom is missing: no noise was tried"
-    exit 0
+    exit 77
 fi
 scratch=$(mktemp -d) || exit 1
 trap 'rm -rf "$scratch"' EXIT

@@ -1,24 +1,34 @@
 #!/bin/sh
 # The Debian package and the archive of packaging/: two runs and another clone give the same bytes, the installed
-# `lritstation` starts the program that fits the processor and changes nothing else, and the pages name every command.
+# `lritstation` starts the program that fits the processor, refuses mistyped words and makes no file for a command that
+# only reads, and the pages name every command and no path that isn't installed.
 # Then a fresh Debian system: the package is installed there, README's example runs as a user without rights, the shelf
 # is that of the built program, systemd takes the units, and after the removal nothing is left.
-# Usage: trials/package.sh [SUITE], bookworm by default. Needs dpkg-deb, git, python3, xz, and both built programs: that
-# of $LRITSTATION, or else of this folder, and the one beside it with -v3 after its name. Root, mmdebstrap and the
-# network for the system, and lintian, zsh, fish and man for some cases. It takes a minute.
+# Usage: trials/package.sh [SUITE [ARCHITECTURE]], bookworm and amd64 by default. Needs dpkg-deb, git, python3, xz, and
+# both built programs: that of $LRITSTATION, or else of this folder, and the one beside it with -v3 after its name. Root,
+# mmdebstrap and the network for the system, and lintian, zsh, fish and man for some cases. It takes a minute. For arm64
+# it needs the program with -arm64 after its name instead, and that this machine starts programs for arm64 by qemu
+# (binfmt_misc with flag F, as Debian's qemu-user-static sets it up). The system is one for arm64 then, for which
+# mmdebstrap needs arch-test; where there is none the status is 77.
 # shellcheck disable=SC2012,SC2016 # (the names are those that are made here; a variable is one of an inner shell)
 top=$(cd "$(dirname "$0")/.." && pwd)
-suite=${1:-bookworm}
+suite=${1:-bookworm} architecture=${2:-amd64}
 for tool in dpkg-deb git python3 xz; do
-    command -v "$tool" > /dev/null || { echo "trials/package.sh: $tool is missing, so nothing was tried"; exit 0; }
+    command -v "$tool" > /dev/null || { echo "trials/package.sh: $tool is missing, so nothing was tried"; exit 77; }
 done
 if [ -z "${LRITSTATION-}" ]; then
     "$top/lritstation" - frames < /dev/null > /dev/null || exit 1
     LRITSTATION=$top/crates/lr_program/out/lr_program
 fi
-if [ ! -x "$LRITSTATION-v3" ]; then
+if [ "$architecture" = arm64 ]; then
+    if [ ! -x "$LRITSTATION-arm64" ] || ! grep -q '^flags: .*F' /proc/sys/fs/binfmt_misc/qemu-aarch64 2> /dev/null; then
+        echo "trials/package.sh: there is no program for arm64, or this machine starts none, so nothing was tried"
+        exit 77
+    fi
+    export QEMU_LD_PREFIX=/usr/aarch64-linux-gnu
+elif [ ! -x "$LRITSTATION-v3" ]; then
     echo "trials/package.sh: there is no program for x86-64-v3, so nothing was tried"
-    exit 0
+    exit 77
 fi
 export LRITSTATION
 unset SOURCE_DATE_EPOCH LRITSTATION_CPU
@@ -26,7 +36,7 @@ scratch=$(mktemp -d) || exit 1
 trap 'rm -rf --one-file-system "$scratch"' EXIT
 trap 'exit 130' HUP INT TERM
 cd "$scratch" || exit 1
-cases=0
+cases=0 installed_there=
 
 fail() {
     echo "trials/package.sh: $1"
@@ -53,8 +63,8 @@ lacks() {
 
 # make_packages TOP FOLDER: both packages of this clone
 make_packages() {
-    "$1/packaging/debian.sh" "$2" > made 2> said || fail "debian.sh: $(cat said)"
-    "$1/packaging/archive.sh" "$2" > made 2> said || fail "archive.sh: $(cat said)"
+    "$1/packaging/debian.sh" "$2" "$architecture" > made 2> said || fail "debian.sh: $(cat said)"
+    "$1/packaging/archive.sh" "$2" "$architecture" > made 2> said || fail "archive.sh: $(cat said)"
 }
 
 try_bytes() {
@@ -94,10 +104,16 @@ try_choice() {
     xz -dc first/*.tar.xz | tar -C "un packed" -xf - || fail "the archive"
     installed=$(echo "$PWD/un packed/"gomtasil-*)
     cp -R "$installed" away
-    for name in v2 v3; do
+    for name in v2 v3 arm64; do
+        [ -x "away/lib/gomtasil/lritstation-$name" ] || continue
         printf '#!/bin/sh\necho "%s $*" $(cat)\necho error >&2\nexit 7\n' $name > away/lib/gomtasil/lritstation-$name
     done
     sed -i "s,^loader=.*,loader=$PWD/loader," away/bin/lritstation
+    if [ "$architecture" = arm64 ]; then
+        is "the programs there" "$(ls away/lib/gomtasil)" lritstation-arm64
+        starts "the processor is arm64" arm64
+        return
+    fi
     loader "x86-64-v3 (supported, searched)"
     starts "the processor is a new one" v3
     LRITSTATION_CPU=x86-64-v2 starts "the environment says so" v2
@@ -109,6 +125,18 @@ try_choice() {
     starts "there is no loader" v2
 }
 
+# ends WHAT STATUS WORDS: the installed `lritstation` ends so with these words; what it says is in ../out and ../err
+ends() {
+    what=$1
+    wanted=$2
+    shift 2
+    "$station" "$@" > ../out 2> ../err < /dev/null
+    is "the status with $what" "$?" "$wanted"
+}
+
+# The paths of the installed help as those of a checkout.
+placed() { sed 's,share/doc/gomtasil/docs/,docs/,g; s,share/gomtasil/,examples/,g'; }
+
 # What is answered at once, and the true program: its statuses, a signal, and a link to it.
 try_installed() {
     station=$installed/bin/lritstation
@@ -117,13 +145,26 @@ try_installed() {
     is "the first line of the help" "$("$station" --help | head -n 1 | cut -d : -f 1)" "Gomtasil $version"
     is "what -h says" "$("$station" -h)" "$("$station" --help)"
     is "the files that are there then" "$(ls -A)" ""
-    "$station" > ../out 2> ../err
-    is "the status with no word" "$?" 2
-    is "what is said then" "$(cat ../err)" "station: usage: SHELF COMMAND [WORDS]"
-    "$station" nowhere/shelf verify > ../out 2> ../err
-    is "the status with a path that isn't there" "$?" 1
-    "$station" - nothing > ../out 2> ../err
-    is "the status with a word that is no command" "$?" 2
+    is "the last line of the help" "$("$station" --help | tail -n 1)" "$("$top/lritstation" --help | tail -n 1)"
+    ends "no word" 2
+    is "what is said then" "$(cat ../err)" "$("$station" --help)"
+    for words in "shelf" "shelf nothing" "list shelf" "nowhere/shelf nothing" "- list," "--help nothing"; do
+        # shellcheck disable=SC2086 # (they are several words)
+        ends "$words" 2 $words
+        is "what is said of $words" "$(cat ../out ../err)" "station: usage: SHELF COMMAND [WORDS]"
+    done
+    ends "a folder that isn't there" 1 nowhere/shelf verify
+    for word in list verify "show 0" render "transmit 0 1 0"; do
+        # shellcheck disable=SC2086 # (they are several words)
+        ends "$word of a shelf that isn't there" 6 ./missing.shelf $word
+        is "what is said of $word" "$(cat ../out ../err)" "station: not a shelf at 0"
+    done
+    is "the files that are there still" "$(ls -A)" ""
+    ends "init of a shelf that isn't there" 0 ./missing.shelf init 1000
+    is "the file that it makes" "$(ls -A)" missing.shelf
+    for word in $("$station" --help | awk '/^  [a-z]/ { sub(/,.*/, "", $1); print $1 }'); do
+        is "the help of $word" "$("$station" --help "$word" | placed)" "$("$top/lritstation" --help "$word")"
+    done
     ln -s "$station" ../link
     is "what a link to it does" "$(../link - trial 1 1 0 | cut -d ' ' -f 4)" 1
     cd ..
@@ -133,7 +174,7 @@ try_installed() {
     receiving=$!
     exec 9> hold
     sleep 1
-    is "which program has the process" "$(basename "$(readlink "/proc/$receiving/exe")")" "lritstation-$fits"
+    is "which program has the process" "$(basename "$(readlink "/proc/$receiving/exe")")" "$process"
     kill "$receiving"
     wait "$receiving" 2> said
     is "the status after TERM" "$?" 143
@@ -153,14 +194,34 @@ try_pages() {
             cases=$((cases + 1))
         done
     done
-    is "the statuses on the manual page" "$(sed -n '/^.SH "STATUSES"/,/^.SH "THE/p' plain | grep -cx '[0-9]*')" \
+    for heading in COMMANDS OPTIONS "EXIT STATUS" ENVIRONMENT FILES; do
+        is "headings $heading of the manual page" "$(grep -c "^.SH \"$heading\"" plain)" 1
+    done
+    for path in $(grep -oE '(^|[ `(])share/[A-Za-z0-9./_-]*[A-Za-z0-9/]|(^|[ `(])lib/[A-Za-z0-9./_-]*[A-Za-z0-9/]' plain | tr -d '`( '); do
+        [ -e "$installed/$path" ] || fail "the manual page names $path, which isn't installed"
+        cases=$((cases + 1))
+    done
+    is "the statuses on the manual page" "$(sed -n '/^.SH "EXIT STATUS"/,/^.SH "THE/p' plain | grep -cx '[0-9]*')" \
         "$(sed -n '/^## Statuses/,/^## The/p' "$top/docs/FORMATS.md" | grep -c '^| [0-9]')"
-    lacks man "the manual page was only read" || is "what man says" "$(man --warnings -l page 2>&1 > /dev/null)" ""
+    is "paths of a checkout on the manual page" "$(grep -cE '(^|[^/])(examples|docs)/' page)" 0
+    gzip -dc "$share/man/man1/gomtasil.1.gz" > tool-page || fail "the manual page of gomtasil"
+    for word in $("$top/tools/bin/gomtasil" --help | sed -n 's/^    \([a-z]*\)  .*/\1/p'); do
+        for file in tool-page "$share/bash-completion/completions/gomtasil" "$share/zsh/site-functions/_gomtasil" \
+            "$share/fish/vendor_completions.d/gomtasil.fish"; do
+            grep -qiw "$word" "$file" || fail "${file##*/} doesn't name $word"
+            cases=$((cases + 1))
+        done
+    done
+    for page in page tool-page; do
+        lacks man "the manual pages were only read" || is "what man says" "$(man --warnings -l $page 2>&1 > /dev/null)" ""
+    done
     lacks bash "its completions were only read" ||
         is "what bash completes" "$(completed)" "receive render repack symbols blocks "
-    lacks zsh "its completions were only read" || zsh -n "$share/zsh/site-functions/_lritstation" || fail "zsh"
-    lacks fish "its completions were only read" || fish -n "$share/fish/vendor_completions.d/lritstation.fish" ||
-        fail "fish"
+    for name in lritstation gomtasil; do
+        lacks zsh "its completions were only read" || zsh -n "$share/zsh/site-functions/_$name" || fail "zsh"
+        lacks fish "its completions were only read" || fish -n "$share/fish/vendor_completions.d/$name.fish" || fail "fish"
+    done
+    is "what the archive's tool says" "$("$installed/bin/gomtasil" --help | head -n 1)" "usage: gomtasil [-h] [--version] COMMAND ..."
 }
 
 completed() {
@@ -184,15 +245,14 @@ try_lintian() {
 make_root() {
     mirror=$(cat /etc/apt/sources.list.d/debian.sources /etc/apt/sources.list 2> /dev/null |
         awk '$1 == "URIs:" || $1 == "deb" { print $2; exit }')
-    mmdebstrap --quiet --variant=apt --include=netcat-openbsd,netpbm,python3,systemd "$suite" root \
+    mmdebstrap --quiet --variant=apt --architectures="$architecture" --include=netcat-openbsd,python3-jinja2,python3-pil,systemd "$suite" root \
         "${mirror:-http://deb.debian.org/debian}" > said 2>&1 && return
     tail -n 3 said
     echo "no Debian system can be had here (is there a network?): nothing was installed"
     return 1
 }
 
-# example: a script that runs README's example with the installed names; where a command has lines after it, it printed
-# them
+# example: a script that runs README's example word for word; where a command has lines after it, it printed them
 example() {
     cat << 'EXAMPLE'
 run() {
@@ -207,8 +267,7 @@ EXAMPLE
         /^## / { on = 0 }
         on && /^    \$ / { end(); command = substr($0, 7); lines = ""; next }
         on && /^    / { lines = lines (lines == "" ? "" : "\n") substr($0, 5) }
-        END { end() }' "$top/README.md" |
-        sed 's,\$PWD/lrit,/usr/bin/lrit,; s,\./lrit,lrit,; s,examples/,/usr/share/gomtasil/,'
+        END { end() }' "$top/README.md"
 }
 
 # files: what stands in the system, without what lasts no start, and what apt and dpkg note for themselves
@@ -233,27 +292,39 @@ try_system() {
     "$LRITSTATION" my.shelf init 1000000 > out || fail "init"
     "$LRITSTATION" my.shelf receive --line nrz-m --g2 plain < root/example/recording > out || fail "receive"
     same my.shelf root/example/my.shelf
-    is "the page and the picture" "$(ls root/example/page/index.html root/example/earth.pgm | wc -l)" 2
+    is "the page and the pictures" "$(ls root/example/page/index.html root/example/earth.pgm root/example/pictures/*.png | wc -l)" 3
+    for file in root/usr/share/doc/gomtasil/docs/GLOSSARY.md root/usr/share/doc/gomtasil/CONTRIBUTING.md; do
+        [ -f "$file" ] || fail "README names $file"
+        cases=$((cases + 1))
+    done
     is "the version there" "$(chroot root lritstation --version)" "Gomtasil $version"
+    is "the version of the tool there" "$(chroot root gomtasil --version)" "Gomtasil $version"
     rm -rf root/example root/tmp/said
     try_units
     apt purge gomtasil
     files > after
     is "what is new after the removal" "$(diff before after)" ""
+    installed_there=yes
 }
 
 # The units of the package, as systemd reads them.
 try_units() {
-    for unit in station.service station@.service station-failed@.service watch.service watch.timer; do
+    for unit in $(cd "$top/examples" && ls ./*.service ./*.timer); do
+        unit=${unit#./}
         is "what systemd says of $unit" "$(chroot root systemd-analyze verify "/usr/lib/systemd/system/$unit" 2>&1)" ""
     done
 }
 
-fits=v2
-! /lib64/ld-linux-x86-64.so.2 --help | grep -q 'x86-64-v3 (supported' || fits=v3
+process=lritstation-v2
+! /lib64/ld-linux-x86-64.so.2 --help | grep -q 'x86-64-v3 (supported' || process=lritstation-v3
+if [ "$architecture" = arm64 ]; then
+    process=$(basename "$(realpath "$(sed -n 's/^interpreter //p' /proc/sys/fs/binfmt_misc/qemu-aarch64)")")
+fi
 try_bytes
 version=$(dpkg-deb --field first/*.deb Version)
 for part in choice installed pages lintian system; do
     try_$part
 done
-echo "trials/package.sh: $cases cases"
+echo "trials/package.sh: $cases cases${installed_there:+, with an installation in $suite}"
+# (for arm64 the installation is what it is about)
+[ "$architecture" = amd64 ] || [ -n "$installed_there" ] || exit 77

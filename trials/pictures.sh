@@ -4,7 +4,7 @@
 # Usage: trials/pictures.sh. Needs rt and python3.
 top=$(cd "$(dirname "$0")/.." && pwd)
 for tool in pnmfile pamtable pnmsplit; do
-    command -v $tool > /dev/null || { echo "$tool isn't installed: nothing was tried"; exit 0; }
+    command -v $tool > /dev/null || { echo "$tool isn't installed: nothing was tried"; exit 77; }
 done
 scratch=$(mktemp -d) || exit 1
 trap 'rm -rf "$scratch"' EXIT

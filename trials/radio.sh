@@ -7,7 +7,7 @@ top=$(cd "$(dirname "$0")/.." && pwd)
 for python in python3 /usr/bin/python3 none; do
     "$python" -c 'import gnuradio' 2> /dev/null && break
 done
-[ "$python" != none ] || { echo "GNU Radio isn't installed: nothing was tried"; exit 0; }
+[ "$python" != none ] || { echo "GNU Radio isn't installed: nothing was tried"; exit 77; }
 scratch=$(mktemp -d) || exit 1
 trap 'rm -rf "$scratch"' EXIT
 if [ -z "${LRITSTATION-}" ]; then

@@ -5,7 +5,7 @@
 # Usage: trials/read-only.sh. Needs rt, and root with setpriv for the other user, and mkfs.ext4 and a loop device for the file system; what is
 # missing is skipped, with a word. LRITSTATION names another program to try.
 top=$(cd "$(dirname "$0")/.." && pwd)
-[ "$(id -u)" = 0 ] && command -v setpriv > /dev/null || { echo "trials/read-only.sh: this needs root and setpriv, so nothing was tried"; exit 0; }
+[ "$(id -u)" = 0 ] && command -v setpriv > /dev/null || { echo "trials/read-only.sh: this needs root and setpriv, so nothing was tried"; exit 77; }
 scratch=$(mktemp -d) || exit 1
 mounted=
 trap '[ -z "$mounted" ] || umount "$mounted"; rm -rf "$scratch"' EXIT

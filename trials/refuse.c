@@ -4,11 +4,10 @@
 #include <dlfcn.h>
 #include <errno.h>
 #include <fcntl.h>
-#include <stdatomic.h>
 #include <stdlib.h>
 #include <unistd.h>
 
-static atomic_long requests;
+static long requests;
 
 static int refuses(void)
 {
@@ -17,7 +16,7 @@ static int refuses(void)
         const char *text = getenv("REFUSE");
         wanted = text ? atol(text) : 0;
     }
-    if (atomic_fetch_add(&requests, 1) + 1 != wanted)
+    if (__atomic_add_fetch(&requests, 1, __ATOMIC_SEQ_CST) != wanted)
         return 0;
     const char *path = getenv("REFUSED");
     if (path) {

@@ -11,7 +11,7 @@ top=$(cd "$(dirname "$0")/.." && pwd)
 root=$1
 if [ -z "$root" ]; then
     echo "trials/satdump.sh: skipped, as no folder with SatDump is named"
-    exit 0
+    exit 77
 fi
 scratch=$(mktemp -d "$root/tmp/satdump-trial.XXXXXX") || exit 1
 trap 'rm -rf "$scratch"' EXIT

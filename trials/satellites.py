@@ -1,6 +1,6 @@
 """What `satpy.sh` draws and compares. Usage: satellites.py draw FOLDER > FRAMES, which keeps the pixels in the
 folder; satellites.py compare FOLDER FILES, of the files that came; satellites.py placed FILES TIFF. Files and frames
-are made by the maker of examples/sample.py, and ELEKTRO's prologue by satpy's own types."""
+are made by the maker of `gomtasil sample`, and ELEKTRO's prologue by satpy's own types."""
 
 import datetime
 import glob
@@ -11,9 +11,9 @@ import warnings
 
 import numpy
 
-sys.path.append(os.path.join(os.path.dirname(os.path.dirname(os.path.abspath(__file__))), "examples"))
+sys.path.append(os.path.join(os.path.dirname(os.path.dirname(os.path.abspath(__file__))), "tools"))
 warnings.filterwarnings("ignore")
-import sample
+from gomtasil import sample, segments, xrit
 
 SINCE = datetime.datetime(1958, 1, 1)
 MODIFIED_JULIAN = datetime.datetime(1858, 11, 17)
@@ -58,19 +58,19 @@ def himawari(folder):
             sample.navigation(
                 "GEOS(140.70)", HIMAWARI_FACTOR, HIMAWARI_FACTOR, HIMAWARI_COLUMNS // 2, HIMAWARI_COLUMNS // 2
             ),
-            sample.record(
+            xrit.record(
                 3, b"$HALFTONE:=16\r_NAME:=INFRARED\r_UNIT:=KELVIN\r0:=329.93\r1023:=130.02\r65535:=130.02\r"
             ),
             sample.annotation(name),
             sample.stamp(HIMAWARI_WHEN),
-            sample.record(7, bytes(4)),
-            sample.record(128, struct.pack(">BBH", number, HIMAWARI_SEGMENTS, first + 1)),
-            sample.record(130, b"COFF:=275.5\rLOFF:=275.5\r"),
-            sample.record(131, times.encode()),
-            sample.record(132, b"NO ERROR\r"),
+            xrit.record(7, bytes(4)),
+            xrit.record(128, segments.NUMBERED.pack(number, HIMAWARI_SEGMENTS, first + 1)),
+            xrit.record(130, b"COFF:=275.5\rLOFF:=275.5\r"),
+            xrit.record(131, times.encode()),
+            xrit.record(132, b"NO ERROR\r"),
         ]
         keep(folder, name, pixels)
-        yield 1, 110, sample.mission_file(0, records, packed(pixels, 16))
+        yield 1, 110, xrit.mission_file(0, b"".join(records), packed(pixels, 16))
 
 
 def himawari_time(line):
@@ -98,7 +98,7 @@ def elektro(folder):
 
 def elektro_part(file_type, part, contents):
     records = [sample.annotation(ELEKTRO_NAME.format("_________", part)), sample.stamp(ELEKTRO_WHEN)]
-    return sample.mission_file(file_type, records, contents.tobytes())
+    return xrit.mission_file(file_type, b"".join(records), contents.tobytes())
 
 
 def elektro_segment(folder, number):
@@ -116,11 +116,11 @@ def elektro_segment(folder, number):
         sample.navigation("GEOS(+076.0)", ELEKTRO_FACTOR, ELEKTRO_FACTOR, middle, middle - first),
         sample.annotation(name),
         sample.stamp(ELEKTRO_WHEN),
-        sample.record(128, struct.pack(">hbHHHb", 19002, 0, number, 1, ELEKTRO_SEGMENTS, 3)),
-        sample.record(129, b"".join(lines)),
+        xrit.record(128, segments.PLANNED.pack(19002, 0, number, 1, ELEKTRO_SEGMENTS, 3)),
+        xrit.record(129, b"".join(lines)),
     ]
     keep(folder, name, pixels)
-    return sample.mission_file(0, records, packed(pixels, 10), 10 * pixels.size)
+    return xrit.mission_file(0, b"".join(records), packed(pixels, 10), 10 * pixels.size)
 
 
 def goes(folder):
@@ -132,17 +132,17 @@ def goes(folder):
         records = [
             sample.structure(8, GOES_COLUMNS, GOES_LINES),
             sample.navigation("geos(-75.2)", 3283000, 3283000, GOES_COLUMNS // 2, GOES_COLUMNS // 2),
-            sample.record(
+            xrit.record(
                 3, b"$HALFTONE:=8\r\n_NAME:=toa_brightness_temperature\r\n_UNIT:=K\r\n255:=173.15\r\n0:=330.0\r\n"
             ),
             sample.annotation(name),
             sample.stamp(GOES_WHEN),
-            sample.record(6, b"Time of frame start = 2020-10-27T13:40:17.3Z;Satellite = G16;Channel = 13;"),
+            xrit.record(6, b"Time of frame start = 2020-10-27T13:40:17.3Z;Satellite = G16;Channel = 13;"),
             sample.segment(1, number, first, GOES_SEGMENTS, GOES_COLUMNS, GOES_SEGMENTS * GOES_LINES),
-            sample.record(129, b"NOAA" + struct.pack(">HHHB", 16, 13, 3, 0)),
+            xrit.record(129, b"NOAA" + struct.pack(">HHHB", 16, 13, 3, 0)),
         ]
         keep(folder, name, pixels)
-        yield 13, 313, sample.mission_file(0, records, packed(pixels, 8))
+        yield 13, 313, xrit.mission_file(0, b"".join(records), packed(pixels, 8))
 
 
 def keep(folder, name, pixels):
@@ -254,10 +254,10 @@ def placed(files, tiff):
     scene.load(["B14"], calibration="counts")
     left, _, right, top = scene["B14"].attrs["area"].area_extent
     scale, tie = tags_of(tiff, 33550), tags_of(tiff, 33922)
-    same("geo.py, the left edge in metres", abs(tie[3] - left) < 0.01, True)
-    same("geo.py, the size of a pixel", abs(scale[0] - (right - left) / HIMAWARI_COLUMNS) < 1e-3, True)
+    same("geo, the left edge in metres", abs(tie[3] - left) < 0.01, True)
+    same("geo, the size of a pixel", abs(scale[0] - (right - left) / HIMAWARI_COLUMNS) < 1e-3, True)
     # (satpy counts lines from the south here, so its edge may be off by a pixel)
-    same("geo.py, the upper edge within a pixel", abs(tie[4] - top) <= scale[1] * 1.001, True)
+    same("geo, the upper edge within a pixel", abs(tie[4] - top) <= scale[1] * 1.001, True)
 
 
 def tags_of(path, wanted):

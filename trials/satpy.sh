@@ -1,7 +1,7 @@
 #!/bin/sh
 # Sets of files as Himawari, ELEKTRO-L and GOES send them, drawn here, through the whole station and into satpy's own readers: as frames, sent
-# by `transmit` with wrong bytes in each word, received, taken off the shelf by follow.py, and read: all pixels, platforms and times are those
-# that were drawn. Images that are coded without loss are made plain by plain.py, and geo.py places an image where satpy does.
+# by `transmit` with wrong bytes in each word, received, taken off the shelf by `gomtasil follow`, and read: all pixels, platforms and times are those
+# that were drawn. Images that are coded without loss are made plain by `plain`, and `geo` places an image where satpy does.
 # Usage: trials/satpy.sh. Needs rt, or LRITSTATION set to the built program, and python3 with satpy (Debian's package python3-satpy);
 # without it nothing is tried.
 top=$(cd "$(dirname "$0")/.." && pwd)
@@ -9,7 +9,7 @@ python=
 for one in python3 /usr/bin/python3; do
     [ -n "$python" ] || { "$one" -c 'import satpy' 2> /dev/null && python=$one; }
 done
-[ -n "$python" ] || { echo "trials/satpy.sh: satpy is missing, so nothing was tried"; exit 0; }
+[ -n "$python" ] || { echo "trials/satpy.sh: satpy is missing, so nothing was tried"; exit 77; }
 scratch=$(mktemp -d) || exit 1
 trap 'rm -rf "$scratch"' EXIT
 trap 'exit 130' HUP INT TERM
@@ -33,8 +33,9 @@ count=$(grep -c '^shelved' log)
 "$LRITSTATION" sent.shelf transmit 0 "$count" 8 --line nrz-m --g2 plain |
     "$LRITSTATION" received.shelf receive --line nrz-m --g2 plain > log || fail "receive, of symbols"
 tail -n 1 log
-python3 "$top/examples/follow.py" received.shelf files --flat > log || fail "follow.py"
-echo "files: $count sent, $(wc -l < log | tr -d ' ') taken by follow.py"
+tool="$top/tools/bin/gomtasil"
+"$tool" follow received.shelf files --flat > log || fail "follow"
+echo "files: $count sent, $(wc -l < log | tr -d ' ') taken by follow"
 "$python" "$top/trials/satellites.py" compare drawn files || fail "satpy reads something else"
 
 # coded without loss, and plain again (Himawari's line times are of the kind that repack leaves out, so its files stay as they are)
@@ -43,8 +44,8 @@ while read -r number name; do
     case $name in
     L-000*-00_6_* | OR_ABI*)
         coded=$("$LRITSTATION" received.shelf repack "$number" 16 | cut -d ' ' -f 4) || fail "repack"
-        python3 "$top/examples/plain.py" received.shelf "$coded" "plain/$name" || fail "plain.py"
-        cmp -s "plain/$name" "files/$name" || fail "plain.py gives another $name"
+        "$tool" plain received.shelf "$coded" "plain/$name" || fail "plain"
+        cmp -s "plain/$name" "files/$name" || fail "plain gives another $name"
         ;;
     *)
         cp "files/$name" plain/ || fail "cp"
@@ -56,5 +57,5 @@ echo "plain files of coded ones: the same in satpy"
 
 # an image of Himawari's, where satpy places it
 number=$(awk '$2 ~ /^IMG_DK01B14.*_001$/ { print $1 }' log)
-python3 "$top/examples/geo.py" received.shelf "$number" placed.tif || fail "geo.py"
-"$python" "$top/trials/satellites.py" placed files placed.tif || fail "geo.py places the image elsewhere"
+"$tool" geo received.shelf "$number" placed.tif --alone || fail "geo"
+"$python" "$top/trials/satellites.py" placed files placed.tif || fail "geo places the image elsewhere"

@@ -4,8 +4,8 @@
 # strips on its first thread fails, also where it starts others. The pictures are the same. The coded lines are made by reference/lines.py.
 # Usage: trials/strips.sh. Needs rt, python3 and Linux, and two processors.
 top=$(cd "$(dirname "$0")/.." && pwd)
-[ -e /proc/self/task ] || { echo "there is no /proc/self/task: nothing was tried"; exit 0; }
-[ "$(getconf _NPROCESSORS_ONLN)" -gt 1 ] || { echo "there is one processor: nothing was tried"; exit 0; }
+[ -e /proc/self/task ] || { echo "there is no /proc/self/task: nothing was tried"; exit 77; }
+[ "$(getconf _NPROCESSORS_ONLN)" -gt 1 ] || { echo "there is one processor: nothing was tried"; exit 77; }
 scratch=$(mktemp -d) || exit 1
 trap 'rm -rf "$scratch"' EXIT
 if [ -z "${LRITSTATION-}" ]; then

@@ -10,7 +10,7 @@ scratch=$(mktemp -d)
 trap 'rm -rf "$scratch"' EXIT
 if ! strace -o "$scratch/log" true 2> "$scratch/strace.log"; then
     echo "trials/syncs.sh: strace is missing or can't trace: nothing was tried"
-    exit 0
+    exit 77
 fi
 if [ -z "${LRITSTATION-}" ]; then
     "$top/lritstation" - frames < /dev/null > "$scratch/build.log" 2>&1 || { cat "$scratch/build.log"; exit 1; }

@@ -1,0 +1,149 @@
+#!/bin/sh
+# The program for arm64 as a board would use it, but under qemu: it agrees with the programs for x86-64-v2 and
+# x86-64-v3 on drawn recordings and sessions (arm64.py), its kernel works on eight halfwords at once (arm64_loops.py),
+# the trials of real paths, kills, readers, refused memory, closed streams and scripts pass with it, and its package
+# does in an arm64 root of Debian 12 and of Debian 13. The functions of packaging/arm64/edge.c are tried on both
+# processors first.
+# Usage: trials/arm64.sh [PART..], by default all of these: edge first lanes drawn main streams memory kill beside
+# examples bookworm trixie. Or trials/arm64.sh short: edge, first, and twenty drawn recordings and sessions.
+# RECORDINGS, SESSIONS and SEED in the environment change what is drawn (500, 200 and 1). Needs rt, python3, qemu, and
+# the packages that packaging/arm64.sh names; a part may need more and says so where that is missing. Where something
+# was skipped, the last line names it, and the status is 77, which is no pass. $LRITSTATION may name the built
+# program; those with -v3 and -arm64 after its name stand beside it.
+top=$(cd "$(dirname "$0")/.." && pwd)
+# shellcheck source-path=SCRIPTDIR source=../packaging/arm64/tools.sh
+. "$top/packaging/arm64/tools.sh"
+
+nothing() {
+    echo "trials/arm64.sh: $1, so nothing was tried"
+    exit 77
+}
+
+qemu=$(command -v qemu-aarch64-static || command -v qemu-aarch64) ||
+    nothing "qemu is missing (apt-get install qemu-user-static)"
+for tool in rt python3; do
+    command -v $tool > /dev/null || nothing "$tool is missing"
+done
+missing=$(missing_packages | xargs echo)
+[ -z "$missing" ] || nothing "the C library for arm64 is missing (apt-get install $missing)"
+kit=$(rt doc) && kit=${kit%/*} || exit 1
+scratch=$(mktemp -d) || exit 1
+trap 'rm -rf "$scratch"' EXIT
+trap 'exit 130' HUP INT TERM
+
+fail() {
+    echo "trials/arm64.sh: $1"
+    exit 1
+}
+
+# Both kinds of programs, made where they aren't named and aren't there, or are older.
+find_programs() {
+    if [ -z "${LRITSTATION-}" ]; then
+        "$top/lritstation" - frames < /dev/null > "$scratch/said" 2>&1 || fail "$(cat "$scratch/said")"
+        LRITSTATION=$top/crates/lr_program/out/lr_program
+        [ -n "$(find "$LRITSTATION-arm64" -newer "$LRITSTATION" 2> /dev/null)" ] ||
+            "$top/packaging/arm64.sh" > "$scratch/said" 2>&1 || fail "$(cat "$scratch/said")"
+    fi
+    usual=$LRITSTATION
+    [ -x "$usual-arm64" ] || fail "$usual-arm64 is missing: packaging/arm64.sh makes it"
+    export LRITSTATION="$scratch/under-qemu"
+    under_qemu "$usual-arm64" > "$LRITSTATION" && chmod +x "$LRITSTATION"
+}
+
+# under_qemu PROGRAM: a script that starts this program for arm64, with a library before the others where PRELOADED
+# names one
+under_qemu() {
+    cat << SCRIPT
+#!/bin/sh
+exec "$qemu" -L "$cross" \${PRELOADED:+-E "LD_PRELOAD=\$PRELOADED"} "$1" "\$@"
+SCRIPT
+}
+
+# The functions of C, on both processors, and the kit's own ones.
+try_edge() {
+    cd "$scratch" || return 1
+    long=$(printf '\303%.0s' $(seq 300))
+    make_toolchain toolchain && compile_c edge.c "$PWD/edge.o" && compile_c edge_test.c "$PWD/edge_test.o" || return 1
+    link toolchain edge-arm64 edge_test.o edge.o || return 1
+    under_qemu "$PWD/edge-arm64" > edge-qemu && chmod +x edge-qemu
+    printf 'edge.c on arm64: ' && "$qemu" -L "$cross" "$PWD/edge-arm64" one '' "$long" || return 1
+    if ! command -v gcc > /dev/null; then
+        echo "gcc is missing: edge.c wasn't tried on x86-64"
+        return 77
+    fi
+    gcc -O2 -Wall -Wextra -Werror -o edge-ours "$top/packaging/arm64/edge.c" "$top/packaging/arm64/edge_test.c" &&
+        gcc -O2 -o edge-kit "$top/packaging/arm64/edge_test.c" "$kit/c/liblibc_c.a" "$kit/c/libos_c.a" || return 1
+    printf 'edge.c on x86-64: ' && ./edge-ours one '' "$long" &&
+        printf 'the functions of the kit: ' && ./edge-kit one '' "$long"
+}
+
+try_first() {
+    said=$("$LRITSTATION" - trial 1 64 0) || return 1
+    echo "$said"
+    [ "$said" = "symbols 1048576 frames 64 restored 64 lost 0 packets 452 files 63 left 0 stop end" ] || return 1
+    newest=$(grep -ao 'GLIBC_2\.[0-9]*' "$usual-arm64" | sort -Vu | tail -n 1)
+    echo "the newest of what it needs of the C library is of $newest"
+    [ "$(printf '%s\nGLIBC_2.34\n' "$newest" | sort -V | tail -n 1)" = GLIBC_2.34 ]
+}
+
+try_lanes() {
+    for reader in aarch64-linux-gnu-objdump llvm-objdump; do
+        command -v $reader > /dev/null || continue
+        $reader -d "$usual-arm64" | python3 "$top/trials/arm64_loops.py"
+        return
+    done
+    echo "no objdump for arm64 is here (apt-get install binutils-aarch64-linux-gnu)"
+    return 77
+}
+
+# drawn RECORDINGS SESSIONS: these many, on all programs that this processor can start
+drawn() {
+    mkdir -p "$scratch/drawn" || return 1
+    set -- "$scratch/drawn" "${SEED:-1}" "$1" "$2" "$usual"
+    if [ -x "$usual-v3" ] && /lib64/ld-linux-x86-64.so.2 --help | grep -q '^ *x86-64-v3 (supported'; then
+        set -- "$@" "$usual-v3"
+    else
+        echo "no program for x86-64-v3 can be started here: two are compared"
+    fi
+    python3 "$top/trials/arm64.py" "$@" "$LRITSTATION"
+}
+
+try_drawn() { drawn "${RECORDINGS:-500}" "${SESSIONS:-200}"; }
+try_few() { drawn 20 20; }
+
+try_main() { sh "$top/trials/main.sh"; }
+try_streams() { sh "$top/trials/streams.sh"; }
+try_kill() { sh "$top/trials/kill.sh" 6 300; }
+try_beside() { sh "$top/trials/beside.sh" short; }
+
+# The library that refuses memory is one for arm64.
+try_memory() {
+    compile_c "$top/trials/refuse.c" "$scratch/refuse.o" &&
+        "$kit/toolchain/bin/ld.lld" -shared -z defs -o "$scratch/refuse.so" "$scratch/refuse.o" \
+            "$cross/lib/libc.so.6" "$(gcc_cross)/libgcc.a" || return 1
+    REFUSE_LIBRARY=$scratch/refuse.so LOADED_AS=PRELOADED sh "$top/trials/memory.sh"
+}
+
+# (which program the wrapper makes and starts is about loaders of x86-64, and the form of scripts about none)
+try_examples() {
+    sh "$top/trials/examples.sh" days weeks full_shelves full_disk bundle ways_in station station_of_frames \
+        signals units
+}
+
+try_bookworm() { LRITSTATION=$usual sh "$top/trials/package.sh" bookworm arm64; }
+try_trixie() { LRITSTATION=$usual sh "$top/trials/package.sh" trixie arm64; }
+
+find_programs
+parts=${*:-edge first lanes drawn main streams memory kill beside examples bookworm trixie}
+[ "$parts" != short ] || parts="edge first few"
+passed=0 skipped=
+for part in $parts; do
+    (try_"$part")
+    case $? in
+    0) passed=$((passed + 1)) ;;
+    77) skipped="$skipped $part" ;;
+    *) fail "$part failed" ;;
+    esac
+done
+echo "trials/arm64.sh: $passed parts passed; skipped:${skipped:- none}"
+[ -z "$skipped" ] || exit 77
